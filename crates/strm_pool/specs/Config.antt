@@ -1,0 +1,69 @@
+-- When a configuration is lawful, and the first fault where it is not.
+use Rattle.std.specs.Prelude.{ℕ, ◌≤◌, Bool, true, false, not, ◌&&◌, ◌||◌, ◌==◌, nat_lt, nat_le, List, [], ◌∷◌, length, sum_by, count_by, Option, Some, None, is_some, if◌then◌else◌, codes}
+use Rattle.std.specs.List.{list_all, list_any, enumerate_from}
+use Rattle.strm_pool.specs.declared.class_spec.ClassSpec.{ClassSpec}
+use Rattle.strm_pool.specs.declared.queue_spec.QueueSpec.{QueueSpec}
+use Rattle.strm_pool.specs.declared.config.Config.{Config}
+use Rattle.strm_pool.specs.declared.config.Which.{Which}
+use Rattle.strm_pool.specs.declared.config.Which.TheVariants.{Mblks, Classes, ClassSize, ClassTotal, Queues, Marks, Next, Bufcalls, FirstId}
+
+abbrev pub name_of : Which → List ℕ
+name_of Mblks = codes "Mblks"
+name_of Classes = codes "Classes"
+name_of ClassSize = codes "ClassSize"
+name_of ClassTotal = codes "ClassTotal"
+name_of Queues = codes "Queues"
+name_of Marks = codes "Marks"
+name_of Next = codes "Next"
+name_of Bufcalls = codes "Bufcalls"
+name_of FirstId = codes "FirstId"
+
+-- each size is above the one before, the first above this, and none is above 4,096
+abbrev pub sizes_rise : ℕ → List ClassSpec → Bool
+sizes_rise below [] = true
+sizes_rise below (c ∷ cs) = nat_lt below c.size && (nat_le c.size 4096 && sizes_rise c.size cs)
+
+-- no count is 0
+abbrev pub each_has_blocks : List ClassSpec → Bool
+each_has_blocks cs = list_all (λ c. nat_lt 0 c.count) cs
+
+-- the number of all data blocks
+abbrev pub total_of : List ClassSpec → ℕ
+total_of cs = sum_by (λ c. c.count) cs
+
+-- some low water mark isn't below the high one
+abbrev pub marks_meet : List QueueSpec → Bool
+marks_meet qs = list_any (λ q. nat_le q.hiwat q.lowat) qs
+
+-- whether this is the number
+abbrev pub is_number : ℕ → Option ℕ → Bool
+is_number n None = false
+is_number n (Some m) = m == n
+
+-- how many queues name this one as their next
+abbrev pub times_next : List QueueSpec → ℕ → ℕ
+times_next qs n = count_by (λ q. is_number n q.next) qs
+
+-- a next queue stands behind its queue, is there, and is named once
+abbrev pub next_fits : List QueueSpec → ℕ → Option ℕ → Bool
+next_fits qs q None = true
+next_fits qs q (Some n) = nat_lt q n && (nat_lt n (length qs) && nat_le (times_next qs n) 1)
+
+abbrev pub nexts_fit : List QueueSpec → Bool
+nexts_fit qs = list_all (λ p. next_fits qs p.0 p.1.next) (enumerate_from 0 qs)
+
+abbrev pub is_nil : {X : Type 0} → List X → Bool
+is_nil xs = length xs == 0
+
+-- the first fault of a configuration, in the order of `Which`
+abbrev pub fault_of : Config → Option Which
+fault_of c =
+    if not (nat_le 1 c.mblks && nat_le c.mblks 4095) then Some Mblks
+    else (if is_nil c.classes then Some Classes
+    else (if not (sizes_rise 0 c.classes) then Some ClassSize
+    else (if not (each_has_blocks c.classes) || nat_lt 4095 (total_of c.classes) then Some ClassTotal
+    else (if is_nil c.queues then Some Queues
+    else (if marks_meet c.queues then Some Marks
+    else (if not (nexts_fit c.queues) then Some Next
+    else (if nat_lt 64 c.bufcalls then Some Bufcalls
+    else (if c.first_id == 0 then Some FirstId else None))))))))

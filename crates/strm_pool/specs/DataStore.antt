@@ -1,0 +1,85 @@
+-- Data blocks by number, which of them are free, and which one a size takes.
+use Rattle.std.specs.Prelude.{ℕ, ◌+◌, Bool, not, nat_le, List, [], ◌∷◌, ◌++◌, length, take, drop, replicate, Option, Result, Ok, Err, ok_or, slice_get, slice_index_or, slice_set, if◌then◌else◌}
+use Rattle.std.specs.List.{flat_map, list_any, zip, enumerate_from, range_with_len}
+use Rattle.strm_pool.specs.declared.class_spec.ClassSpec.{ClassSpec}
+use Rattle.strm_pool.specs.declared.msg_type.MsgType.{MsgType}
+use Rattle.strm_pool.specs.declared.msg_type.MsgType.TheVariants.{MData}
+use Rattle.strm_pool.specs.declared.refusal.Refusal.{Refusal}
+use Rattle.strm_pool.specs.declared.refusal.Refusal.TheVariants.{TooLarge, NoData}
+
+-- a data block: the number of its size class, its type, and its bytes, as many as its capacity
+pub record DataBlock : Type 0 where
+  pub class : ℕ
+  pub kind : MsgType
+  pub bytes : List ℕ
+
+-- the size classes, the data blocks by number, and of each class the free ones, the next to be taken first
+pub record DataStore : Type 0 where
+  pub classes : List ClassSpec
+  pub blocks : List DataBlock
+  pub free : List (List ℕ)
+
+abbrev pub no_data_block : DataBlock
+no_data_block = record { class = 0; kind = MData; bytes = [] }
+
+abbrev pub data_block_at : DataStore → ℕ → DataBlock
+data_block_at s d = slice_index_or s.blocks d no_data_block
+
+abbrev pub class_of : DataStore → ℕ → ℕ
+class_of s d = (data_block_at s d).class
+
+abbrev pub capacity_of : DataStore → ℕ → ℕ
+capacity_of s d = length (data_block_at s d).bytes
+
+abbrev pub free_of : DataStore → ℕ → List ℕ
+free_of s c = slice_index_or s.free c []
+
+-- whether no class has blocks of this size
+abbrev pub is_too_large : ℕ → DataStore → Bool
+is_too_large size s = not (list_any (λ c. nat_le size c.size) s.classes)
+
+-- the free data blocks of the classes that fit, in order of class
+abbrev pub fitting : ℕ → DataStore → List ℕ
+fitting size s = flat_map (λ p. if nat_le size p.0.size then p.1 else []) (zip s.classes s.free)
+
+-- which data block a size takes: the first free one of the smallest class that fits and has one
+abbrev pub take_data : ℕ → DataStore → Result ℕ Refusal
+take_data size s = if is_too_large size s then Err TooLarge else ok_or (slice_get (fitting size s) 0) NoData
+
+-- the store once d, the first free one of its class, is taken: it is of type M_DATA, and its bytes stay
+abbrev pub taken : ℕ → DataStore → DataStore
+taken d s = record s {
+  blocks = slice_set s.blocks d (record (data_block_at s d) { kind = MData });
+  free = slice_set s.free (class_of s d) (drop 1 (free_of s (class_of s d)));
+}
+
+-- the store once d is free again, at the front of its class's list
+abbrev pub released : ℕ → DataStore → DataStore
+released d s = record s { free = slice_set s.free (class_of s d) (d ∷ free_of s (class_of s d)) }
+
+-- bytes with others written over them from a place on
+abbrev pub overwritten : ℕ → List ℕ → List ℕ → List ℕ
+overwritten at new old = take at old ++ (new ++ drop (at + length new) old)
+
+-- the store once these bytes stand in d from a place on
+abbrev pub written : ℕ → ℕ → List ℕ → DataStore → DataStore
+written d at bytes s = record s {
+  blocks = slice_set s.blocks d (record (data_block_at s d) { bytes = overwritten at bytes (data_block_at s d).bytes });
+}
+
+-- a data block of a class before its first use
+abbrev pub fresh_data_block : ℕ → ClassSpec → DataBlock
+fresh_data_block number c = record { class = number; kind = MData; bytes = replicate c.size 0 }
+
+-- the numbers of each class's blocks, class by class from this one on
+abbrev pub numbers_from : ℕ → List ClassSpec → List (List ℕ)
+numbers_from first [] = []
+numbers_from first (c ∷ cs) = range_with_len first c.count ∷ numbers_from (first + c.count) cs
+
+-- the store of a new pool: all blocks are free, in rising order
+abbrev pub opening_store : List ClassSpec → DataStore
+opening_store cs = record {
+  classes = cs;
+  blocks = flat_map (λ p. replicate p.1.count (fresh_data_block p.0 p.1)) (enumerate_from 0 cs);
+  free = numbers_from 0 cs;
+}

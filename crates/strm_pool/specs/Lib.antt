@@ -1,0 +1,9 @@
+pub mod Refusal
+pub mod MsgType
+pub mod Config
+pub mod TokenValue
+pub mod Registers
+pub mod DataStore
+pub mod Arena
+pub mod PoolValue
+pub mod Step

@@ -1,0 +1,162 @@
+//! What a pool is made with, and what may be wrong with it.
+ghost use Rattle.std.specs.Prelude.{◌≡◌, ◌≤◌, length};
+ghost use Rattle.strm_pool.specs.Config.{sizes_rise, each_has_blocks, total_of, marks_meet, times_next, nexts_fit};
+
+use crate::class_spec::{ClassSpec, ClassSpecs};
+use crate::queue_spec::{QueueSpec, QueueSpecs};
+use thiserror::Error;
+
+/// What a pool is made with. The limits are this project's own choice.
+#[derive(Debug, Drop)]
+pub struct Config {
+    /// The pool's id, which its tokens carry. Pools whose tokens can meet want different ids.
+    pub id: u32,
+    /// The number of message blocks, 1 to 4,095.
+    pub mblks: u32,
+    /// The size classes: sizes rise and are 1 to 4,096, counts are above 0 and at most 4,095 in all.
+    pub classes: ClassSpecs,
+    /// The queues: a low water mark is below the high one; a next queue has a greater number than its own
+    /// queue, is one of these and is named once.
+    pub queues: QueueSpecs,
+    /// How many `bufcall` wishes may be recorded at one time, at most 64.
+    pub bufcalls: u32,
+    /// The id of the first wish, above 0.
+    pub first_id: u32,
+}
+
+/// What is wrong with a configuration.
+#[derive(Clone, Copy, Debug, PartialEq, Eq)]
+pub enum Which {
+    Mblks,
+    Classes,
+    ClassSize,
+    ClassTotal,
+    Queues,
+    Marks,
+    Next,
+    Bufcalls,
+    FirstId,
+}
+
+/// Why a pool was not made.
+#[derive(Clone, Copy, Debug, PartialEq, Eq, Error)]
+pub enum NewFault {
+    /// The configuration is not lawful: the first fault, in the order of `Which`.
+    #[error("bad config: {which}", which = .0.name())]
+    BadConfig(Which),
+    /// There is not enough memory.
+    #[error("out of memory")]
+    Memory,
+}
+
+impl Which {
+    ghost use Rattle.strm_pool.specs.Config.{name_of};
+
+    /// The fault's name.
+    pub fn name(self) -> &'static str
+        ensures { result.now ≡ name_of self }
+    {
+        match self {
+            Which::Mblks => "Mblks",
+            Which::Classes => "Classes",
+            Which::ClassSize => "ClassSize",
+            Which::ClassTotal => "ClassTotal",
+            Which::Queues => "Queues",
+            Which::Marks => "Marks",
+            Which::Next => "Next",
+            Which::Bufcalls => "Bufcalls",
+            Which::FirstId => "FirstId",
+        }
+    }
+}
+
+// Whether each size is above the one before it and in range.
+fn sizes_rise(classes: &[ClassSpec]) -> bool
+    ensures { result ≡ sizes_rise 0 classes.now }
+{
+    let mut below = 0;
+    for class in classes {
+        if class.size <= below || class.size > 4096 {
+            return false;
+        }
+        below = class.size;
+    }
+    true
+}
+
+// Whether no class is empty.
+fn each_has_blocks(classes: &[ClassSpec]) -> bool
+    ensures { result ≡ each_has_blocks classes.now }
+{
+    classes.iter().all(|class| class.count > 0)
+}
+
+// The number of all data blocks.
+fn total_of(classes: &[ClassSpec]) -> u64
+    requires { length classes.now ≤ 8 }
+    ensures { result ≡ total_of classes.now }
+{
+    classes.iter().map(|class| u64::from(class.count)).sum()
+}
+
+// Whether some queue's low water mark is not below the high one.
+fn marks_meet(queues: &[QueueSpec]) -> bool
+    ensures { result ≡ marks_meet queues.now }
+{
+    queues.iter().any(|spec| spec.lowat >= spec.hiwat)
+}
+
+// How many queues name this one as their next.
+fn names_of(queues: &[QueueSpec], queue: u8) -> usize
+    ensures { result ≡ times_next queues.now queue }
+{
+    queues.iter().filter(|spec| spec.next == Some(queue)).count()
+}
+
+// Whether each next queue stands behind its queue and is no other queue's next.
+fn nexts_fit(queues: &[QueueSpec]) -> bool
+    ensures { result ≡ nexts_fit queues.now }
+{
+    for (number, spec) in queues.iter().enumerate() {
+        if let Some(next) = spec.next {
+            let behind = usize::from(next);
+            if behind <= number || behind >= queues.len() || names_of(queues, next) > 1 {
+                return false;
+            }
+        }
+    }
+    true
+}
+
+impl Config {
+    ghost use Rattle.strm_pool.specs.Config.{fault_of};
+
+    /// The first fault, in the order of `Which`, or none where the configuration is lawful.
+    pub fn fault(&self) -> Option<Which>
+        ensures { result ≡ fault_of self.now }
+    {
+        let classes = self.classes.items();
+        let queues = self.queues.items();
+        if !(1..=4095).contains(&self.mblks) {
+            Some(Which::Mblks)
+        } else if classes.is_empty() {
+            Some(Which::Classes)
+        } else if !sizes_rise(classes) {
+            Some(Which::ClassSize)
+        } else if !each_has_blocks(classes) || total_of(classes) > 4095 {
+            Some(Which::ClassTotal)
+        } else if queues.is_empty() {
+            Some(Which::Queues)
+        } else if marks_meet(queues) {
+            Some(Which::Marks)
+        } else if !nexts_fit(queues) {
+            Some(Which::Next)
+        } else if self.bufcalls > 64 {
+            Some(Which::Bufcalls)
+        } else if self.first_id == 0 {
+            Some(Which::FirstId)
+        } else {
+            None
+        }
+    }
+}

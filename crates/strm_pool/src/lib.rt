@@ -1,0 +1,26 @@
+//! The buffer pool of STREAMS for one thread: message blocks over data blocks, held as tokens or put on queues.
+#![tactic(auto)]
+
+mod call;
+mod census;
+mod class_spec;
+mod config;
+mod msg_type;
+mod octets;
+mod queue_spec;
+mod refusal;
+mod regs;
+mod reply;
+mod token;
+
+pub use call::Call;
+pub use census::Census;
+pub use class_spec::{ClassSpec, ClassSpecs};
+pub use config::{Config, NewFault, Which};
+pub use msg_type::MsgType;
+pub use octets::Octets;
+pub use queue_spec::{QueueSpec, QueueSpecs};
+pub use refusal::Refusal;
+pub use regs::{Reg, Regs};
+pub use reply::Reply;
+pub use token::Token;

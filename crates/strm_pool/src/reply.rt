@@ -1,0 +1,19 @@
+//! Replies as data.
+use crate::census::Census;
+use crate::refusal::Refusal;
+
+/// The reply to a call.
+#[derive(Clone, Copy, Debug, PartialEq, Eq)]
+pub enum Reply {
+    /// The call was done.
+    Done,
+    /// The call was done, and there was nothing to give.
+    Nothing,
+    /// A register that the call takes from holds no token, and nothing was done.
+    Empty,
+    /// A register that the call puts into holds a token, and nothing was done.
+    Taken,
+    Census(Census),
+    /// The call was refused, and nothing was done.
+    Refused(Refusal),
+}
