@@ -1,11 +1,12 @@
 -- Message blocks, and the messages that they make: held as tokens, or standing on shelves.
-use Rattle.std.specs.Prelude.{◌≡◌, ℕ, ◌+◌, ◌<◌, ◌≤◌, Bool, ◌&&◌, ◌==◌, nat_lt, List, [], ◌∷◌, ◌++◌, length, map, take, drop, replicate, sum_by, count_by, Option, None, Some, IfSome, unwrap_or, Result, Ok, Err, slice_get, slice_index_or, slice_set, if◌then◌else◌}
+use Rattle.std.specs.Prelude.{◌≡◌, ℕ, ◌+◌, ◌<◌, ◌≤◌, Bool, false, ◌&&◌, ◌==◌, nat_lt, List, [], ◌∷◌, ◌++◌, length, map, take, drop, sum_by, count_by, Option, None, Some, IfSome, unwrap_or, Result, Ok, Err, slice_get, slice_index_or, slice_set, if◌then◌else◌}
 use Rattle.std.specs.List.{flat_map, All}
 use Rattle.strm_pool.specs.declared.census.Census.{Census}
 use Rattle.strm_pool.specs.declared.msg_type.MsgType.{MsgType}
 use Rattle.strm_pool.specs.declared.refusal.Refusal.{Refusal}
 use Rattle.strm_pool.specs.declared.refusal.Refusal.TheVariants.{TooLarge, NoMblk, NoSuchBlock, Shared, NoRoom}
-use Rattle.strm_pool.specs.DataStore.{DataStore, data_block_at, class_of, capacity_of, free_of, is_too_large, take_data, taken, released, written}
+use Rattle.strm_pool.specs.DataStore.{DataStore, data_block_at, class_of, capacity_of, free_of, fits_a_class, take_data, with_data_taken, with_data_freed, with_bytes_written}
+use Rattle.strm_pool.specs.declared.token.TokenValue.{TokenValue}
 
 -- a message block: its number, the data block that it names, its read place, how many bytes stand from
 -- there up to its write place, and its band
@@ -20,9 +21,10 @@ pub record Block : Type 0 where
 abbrev pub Message : Type 0
 Message = List Block
 
--- the data blocks; the free message blocks, the next to be taken first; for each block number the held
--- message that begins with it, if there is one; and the messages on each shelf, front to back
+-- the pool's id; the data blocks; the free message blocks, the next to be taken first; for each block number
+-- the held message that begins with it, if there is one; and the messages on each shelf, front to back
 pub record Arena : Type 0 where
+  pub id : ℕ
   pub store : DataStore
   pub free : List ℕ
   pub held : List (Option Message)
@@ -87,18 +89,22 @@ census_of a = record { free = length a.free; queued = length (shelved_blocks a);
 
 -- ---- freeing
 
--- the arena once a block is free that stands in no message of it any more; `rest` are other such blocks.
--- Its number goes to the front of the free list, and its data block is free where nothing names it now.
-abbrev pub with_block_freed : Block → Message → Arena → Arena
-with_block_freed b rest a = record a {
-  free = b.number ∷ a.free;
-  store = if names_of a b.data_number + count_by (is_naming b.data_number) rest == 0 then released b.data_number a.store else a.store;
+-- Blocks that have been taken out of all messages, and are not free yet, still name their data: they are `loose`.
+
+-- the arena once data block d has lost a name: it is free where no message and no loose block names it
+abbrev pub with_name_dropped : ℕ → List Block → Arena → Arena
+with_name_dropped d loose a = record a {
+  store = if names_of a d + count_by (is_naming d) loose == 0 then with_data_freed d a.store else a.store;
 }
 
--- the arena once all blocks are free, first to last, of a message that stands in it no more
-abbrev pub with_message_freed : Message → Arena → Arena
-with_message_freed [] a = a
-with_message_freed (b ∷ rest) a = with_message_freed rest (with_block_freed b rest a)
+-- the arena once a block is free: its number goes to the front of the free list, and its data loses a name
+abbrev pub with_block_freed : Block → List Block → Arena → Arena
+with_block_freed b loose a = with_name_dropped b.data_number loose (record a { free = b.number ∷ a.free })
+
+-- the arena once all these blocks are free, first to last
+abbrev pub with_blocks_freed : List Block → Arena → Arena
+with_blocks_freed [] a = a
+with_blocks_freed (b ∷ loose) a = with_blocks_freed loose (with_block_freed b loose a)
 
 -- ---- the calls on blocks
 
@@ -122,7 +128,7 @@ Given X = Result (X × Arena) Refusal
 -- a message of one block over a data block, held: n is the first free number, and ns are the others
 abbrev pub held_new : ℕ → List ℕ → Arena → Result ℕ Refusal → Given ℕ
 held_new n ns a (Err why) = Err why
-held_new n ns a (Ok d) = Ok (n, with_held (new_block n d ∷ []) (record a { free = ns; store = taken d a.store }))
+held_new n ns a (Ok d) = Ok (n, with_held (new_block n d ∷ []) (record a { free = ns; store = with_data_taken d a.store }))
 
 abbrev pub allocb_from : List ℕ → ℕ → Arena → Given ℕ
 allocb_from [] size a = Err NoMblk
@@ -130,7 +136,7 @@ allocb_from (n ∷ ns) size a = held_new n ns a (take_data size a.store)
 
 -- a message of one new block over what the size takes; the answer is its number
 abbrev pub allocb : ℕ → Arena → Given ℕ
-allocb size a = if is_too_large size a.store then Err TooLarge else allocb_from a.free size a
+allocb size a = if fits_a_class size a.store.classes then allocb_from a.free size a else Err TooLarge
 
 -- the bytes behind the write place of b, which is block k of the message m, held at h
 abbrev pub write_block : ℕ → ℕ → List ℕ → Arena → Message → Option Block → Given (Unit {0})
@@ -138,10 +144,13 @@ write_block h k bytes a m None = Err NoSuchBlock
 write_block h k bytes a m (Some b) =
     if nat_lt 1 (names_of a b.data_number) then Err Shared
     else (if nat_lt (capacity_of a.store b.data_number) (b.offset + b.len + length bytes) then Err NoRoom
-    else Ok (tt, record a {
-      store = written b.data_number (b.offset + b.len) bytes a.store;
-      held = slice_set a.held h (Some (slice_set m k (record b { len = b.len + length bytes })));
-    }))
+    else Ok (
+      tt,
+      record a {
+        store = with_bytes_written b.data_number (b.offset + b.len) bytes a.store;
+        held = slice_set a.held h (Some (slice_set m k (record b { len = b.len + length bytes })));
+      },
+    ))
 
 -- bytes behind the write place of block k of the message held at h, and the write place behind them
 abbrev pub write : ℕ → ℕ → List ℕ → Arena → Given (Unit {0})
@@ -149,7 +158,25 @@ write h k bytes a = write_block h k bytes a (blocks_of (held_at a h)) (slice_get
 
 -- all blocks of the message held at h are free
 abbrev pub freemsg : ℕ → Arena → Arena
-freemsg h a = with_message_freed (blocks_of (held_at a h)) (without_held h a)
+freemsg h a = with_blocks_freed (blocks_of (held_at a h)) (without_held h a)
+
+-- ---- tokens
+
+abbrev pub is_of_length : ℕ → Option Message → Bool
+is_of_length n None = false
+is_of_length n (Some m) = length m == n
+
+-- whether the token carries this id, and a held message has its head and its number of blocks
+abbrev pub has : Arena → TokenValue → Bool
+has a t = t.pool == a.id && is_of_length t.blocks (held_at a t.head)
+
+-- the token of the message held at h
+abbrev pub token_of : Arena → ℕ → TokenValue
+token_of a h = record { pool = a.id; head = h; blocks = length (blocks_of (held_at a h)) }
+
+-- the arena once a token is spent: its message is free, where there is one
+abbrev pub spent : Arena → TokenValue → Arena
+spent a t = if has a t then freemsg t.head a else a
 
 -- ---- parted
 

@@ -1,5 +1,5 @@
 -- When a configuration is lawful, and the first fault where it is not.
-use Rattle.std.specs.Prelude.{ℕ, ◌≤◌, Bool, true, false, not, ◌&&◌, ◌||◌, ◌==◌, nat_lt, nat_le, List, [], ◌∷◌, length, sum_by, count_by, Option, Some, None, is_some, if◌then◌else◌, codes}
+use Rattle.std.specs.Prelude.{ℕ, Bool, true, false, not, ◌&&◌, ◌||◌, ◌==◌, nat_lt, nat_le, List, [], ◌∷◌, length, sum_by, count_by, Option, Some, None, if◌then◌else◌, codes}
 use Rattle.std.specs.List.{list_all, list_any, enumerate_from}
 use Rattle.strm_pool.specs.declared.class_spec.ClassSpec.{ClassSpec}
 use Rattle.strm_pool.specs.declared.queue_spec.QueueSpec.{QueueSpec}
@@ -44,7 +44,7 @@ is_number n (Some m) = m == n
 abbrev pub times_next : List QueueSpec → ℕ → ℕ
 times_next qs n = count_by (λ q. is_number n q.next) qs
 
--- a next queue stands behind its queue, is there, and is named once
+-- a next queue has a greater number than its queue, is there, and is named once
 abbrev pub next_fits : List QueueSpec → ℕ → Option ℕ → Bool
 next_fits qs q None = true
 next_fits qs q (Some n) = nat_lt q n && (nat_lt n (length qs) && nat_le (times_next qs n) 1)

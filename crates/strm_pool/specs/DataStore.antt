@@ -1,5 +1,5 @@
 -- Data blocks by number, which of them are free, and which one a size takes.
-use Rattle.std.specs.Prelude.{ℕ, ◌+◌, Bool, not, nat_le, List, [], ◌∷◌, ◌++◌, length, take, drop, replicate, Option, Result, Ok, Err, ok_or, slice_get, slice_index_or, slice_set, if◌then◌else◌}
+use Rattle.std.specs.Prelude.{◌≡◌, ℕ, ◌+◌, ◌<◌, Bool, nat_le, List, [], ◌∷◌, ◌++◌, length, take, drop, replicate, Result, Ok, Err, ok_or, slice_get, slice_index_or, slice_set, if◌then◌else◌}
 use Rattle.std.specs.List.{flat_map, list_any, zip, enumerate_from, range_with_len}
 use Rattle.strm_pool.specs.declared.class_spec.ClassSpec.{ClassSpec}
 use Rattle.strm_pool.specs.declared.msg_type.MsgType.{MsgType}
@@ -31,12 +31,13 @@ class_of s d = (data_block_at s d).class
 abbrev pub capacity_of : DataStore → ℕ → ℕ
 capacity_of s d = length (data_block_at s d).bytes
 
+-- the free data blocks of a class
 abbrev pub free_of : DataStore → ℕ → List ℕ
 free_of s c = slice_index_or s.free c []
 
--- whether no class has blocks of this size
-abbrev pub is_too_large : ℕ → DataStore → Bool
-is_too_large size s = not (list_any (λ c. nat_le size c.size) s.classes)
+-- whether some class has blocks of this size or more
+abbrev pub fits_a_class : ℕ → List ClassSpec → Bool
+fits_a_class size cs = list_any (λ c. nat_le size c.size) cs
 
 -- the free data blocks of the classes that fit, in order of class
 abbrev pub fitting : ℕ → DataStore → List ℕ
@@ -44,26 +45,31 @@ fitting size s = flat_map (λ p. if nat_le size p.0.size then p.1 else []) (zip 
 
 -- which data block a size takes: the first free one of the smallest class that fits and has one
 abbrev pub take_data : ℕ → DataStore → Result ℕ Refusal
-take_data size s = if is_too_large size s then Err TooLarge else ok_or (slice_get (fitting size s) 0) NoData
+take_data size s = if fits_a_class size s.classes then ok_or (slice_get (fitting size s) 0) NoData else Err TooLarge
+
+-- the size takes from this class, which has a free block
+pub record IsTakenFrom (size : ℕ) (s : DataStore) (c : ℕ) : Type 0 where
+  pub some : 0 < length (free_of s c)
+  pub front : take_data size s ≡ Ok (slice_index_or (free_of s c) 0 0)
 
 -- the store once d, the first free one of its class, is taken: it is of type M_DATA, and its bytes stay
-abbrev pub taken : ℕ → DataStore → DataStore
-taken d s = record s {
+abbrev pub with_data_taken : ℕ → DataStore → DataStore
+with_data_taken d s = record s {
   blocks = slice_set s.blocks d (record (data_block_at s d) { kind = MData });
   free = slice_set s.free (class_of s d) (drop 1 (free_of s (class_of s d)));
 }
 
 -- the store once d is free again, at the front of its class's list
-abbrev pub released : ℕ → DataStore → DataStore
-released d s = record s { free = slice_set s.free (class_of s d) (d ∷ free_of s (class_of s d)) }
+abbrev pub with_data_freed : ℕ → DataStore → DataStore
+with_data_freed d s = record s { free = slice_set s.free (class_of s d) (d ∷ free_of s (class_of s d)) }
 
 -- bytes with others written over them from a place on
 abbrev pub overwritten : ℕ → List ℕ → List ℕ → List ℕ
 overwritten at new old = take at old ++ (new ++ drop (at + length new) old)
 
 -- the store once these bytes stand in d from a place on
-abbrev pub written : ℕ → ℕ → List ℕ → DataStore → DataStore
-written d at bytes s = record s {
+abbrev pub with_bytes_written : ℕ → ℕ → List ℕ → DataStore → DataStore
+with_bytes_written d at bytes s = record s {
   blocks = slice_set s.blocks d (record (data_block_at s d) { bytes = overwritten at bytes (data_block_at s d).bytes });
 }
 

@@ -1,9 +1,12 @@
 pub mod Refusal
 pub mod MsgType
 pub mod Config
-pub mod TokenValue
 pub mod Registers
 pub mod DataStore
 pub mod Arena
+pub mod Queue
 pub mod PoolValue
 pub mod Step
+pub mod CountedStore
+pub mod DataLayout
+pub mod PoolLayout

@@ -8,7 +8,8 @@ use crate::regs::Reg;
 pub enum Call {
     /// `allocb` of a size, into a register.
     Allocb(Reg, u32),
-    /// Bytes written behind a block of the message in a register.
+    /// Bytes at the write place of a block of the message in a register: the register, the block's place in the
+    /// message, and the bytes.
     Write(Reg, u32, Octets),
     /// `putq` on a queue, of the message in a register.
     Putq(u8, Reg),

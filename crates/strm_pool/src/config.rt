@@ -92,7 +92,7 @@ fn each_has_blocks(classes: &[ClassSpec]) -> bool
 }
 
 // The number of all data blocks.
-fn total_of(classes: &[ClassSpec]) -> u64
+pub(crate) fn total_of(classes: &[ClassSpec]) -> u64
     requires { length classes.now ≤ 8 }
     ensures { result ≡ total_of classes.now }
 {
@@ -107,20 +107,23 @@ fn marks_meet(queues: &[QueueSpec]) -> bool
 }
 
 // How many queues name this one as their next.
-fn names_of(queues: &[QueueSpec], queue: u8) -> usize
+fn times_next(queues: &[QueueSpec], queue: u8) -> usize
     ensures { result ≡ times_next queues.now queue }
 {
-    queues.iter().filter(|spec| spec.next == Some(queue)).count()
+    queues
+        .iter()
+        .filter(|spec| spec.next == Some(queue))
+        .count()
 }
 
-// Whether each next queue stands behind its queue and is no other queue's next.
+// Whether each next queue has a greater number than its queue, is there, and is named once.
 fn nexts_fit(queues: &[QueueSpec]) -> bool
     ensures { result ≡ nexts_fit queues.now }
 {
     for (number, spec) in queues.iter().enumerate() {
         if let Some(next) = spec.next {
-            let behind = usize::from(next);
-            if behind <= number || behind >= queues.len() || names_of(queues, next) > 1 {
+            let ahead = usize::from(next);
+            if ahead <= number || ahead >= queues.len() || times_next(queues, next) > 1 {
                 return false;
             }
         }

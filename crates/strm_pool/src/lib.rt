@@ -1,16 +1,21 @@
 //! The buffer pool of STREAMS for one thread: message blocks over data blocks, held as tokens or put on queues.
 #![tactic(auto)]
 
+mod apply;
 mod call;
 mod census;
 mod class_spec;
 mod config;
+mod data;
 mod msg_type;
 mod octets;
+mod pool;
 mod queue_spec;
 mod refusal;
 mod regs;
 mod reply;
+#[cfg(test)]
+mod tests;
 mod token;
 
 pub use call::Call;
@@ -19,6 +24,7 @@ pub use class_spec::{ClassSpec, ClassSpecs};
 pub use config::{Config, NewFault, Which};
 pub use msg_type::MsgType;
 pub use octets::Octets;
+pub use pool::{Pool, Rejected};
 pub use queue_spec::{QueueSpec, QueueSpecs};
 pub use refusal::Refusal;
 pub use regs::{Reg, Regs};

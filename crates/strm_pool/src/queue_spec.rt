@@ -9,7 +9,8 @@ use std::marker::Model;
 pub struct QueueSpec {
     /// The high water mark of each band, in bytes: a band with as many is full.
     pub hiwat: u32,
-    /// The low water mark of each band, in bytes: a full band opens again at so many.
+    /// The low water mark of each band, in bytes: a band that was found full back-enables once it has as many or
+    /// fewer.
     pub lowat: u32,
     /// Whether the queue has a service procedure.
     pub service: bool,

@@ -1,9 +1,9 @@
 //! Registers that hold tokens.
-ghost use Rattle.std.specs.Prelude.{◌≡◌, ◌<◌, None, Some, IsNone, IsSome, is_some, replicate, slice_set};
-ghost use Rattle.std.specs.Option.{SomeIff, option_copied};
+ghost use Rattle.std.specs.Prelude.{◌≡◌, ◌<◌, None, Some, IsNone, IsSome, is_some, length, replicate, slice_set};
+ghost use Rattle.std.specs.Option.{SomeIff};
 ghost use Rattle.strm_pool.specs.Registers.{register};
 
-use crate::token::Token;
+use crate::token::{Token, TokenValue};
 use std::marker::Model;
 
 /// The name of a register, a to z, by its place in the alphabet from 0.
@@ -44,18 +44,19 @@ impl Reg {
     }
 }
 
-/// Twenty-six registers, a to z, each of which holds a token or none. Registers must be spent, as tokens must.
+/// Twenty-six registers, a to z, each of which holds a token or none. Registers must be spent, as tokens must:
+/// they can be neither cloned nor dropped.
 pub struct Regs {
-    tokens: [Option<Token>; 26],
+    slots: [Option<TokenValue>; 26],
 }
 
 impl Model for Regs {
     ghost use Rattle.std.specs.Prelude.{List, Option};
-    ghost use Rattle.strm_pool.specs.TokenValue.{TokenValue};
+    ghost use Rattle.strm_pool.specs.declared.token.TokenValue.{TokenValue};
 
     ghost Value = { List (Option TokenValue) };
 
-    ghost view = { λ a. a.tokens };
+    ghost view = { λ a. a.slots };
 }
 
 impl Regs {
@@ -63,19 +64,15 @@ impl Regs {
     pub fn new() -> Regs
         ensures { result ≡ replicate 26 None }
     {
-        Regs {
-            tokens: [
-                None, None, None, None, None, None, None, None, None, None, None, None, None,
-                None, None, None, None, None, None, None, None, None, None, None, None, None,
-            ],
-        }
+        Regs { slots: [None; 26] }
     }
 
     /// Whether a register holds a token.
     pub fn holds(&self, reg: Reg) -> bool
-        ensures { result ≡ is_some (register self.now reg) }
+        ensures value { result ≡ is_some (register self.now reg) }
+        ensures there { reg < length self.now }
     {
-        self.tokens[reg.index()].is_some()
+        self.slots[reg.index()].is_some()
     }
 
     /// Puts a token into a register, or gives it back where the register holds one.
@@ -86,7 +83,8 @@ impl Regs {
         if self.holds(reg) {
             Some(token)
         } else {
-            self.tokens[reg.index()].replace(token)
+            self.hold(reg, token);
+            None
         }
     }
 
@@ -95,24 +93,33 @@ impl Regs {
         requires { IsNone (register self.old reg) }
         ensures { self.new ≡ slice_set self.old reg (Some token) }
     {
-        match self.tokens[reg.index()].replace(token) {
-            None => {}
-            Some(_) => unreachable!(),
-        }
-    }
-
-    // The token that a register holds.
-    pub(crate) fn token(&self, reg: Reg) -> Option<&Token>
-        ensures { option_copied result ≡ register self.now reg }
-    {
-        self.tokens[reg.index()].as_ref()
+        self.slots[reg.index()] = Some(token.spend());
     }
 
     /// Takes the token out of a register, or nothing where it holds none.
     pub fn take(&mut self, reg: Reg) -> Option<Token>
         ensures token { result ≡ register self.old reg }
         ensures empty { self.new ≡ slice_set self.old reg None }
+        ensures there { reg < length self.old }
     {
-        self.tokens[reg.index()].take()
+        match self.slots[reg.index()].take() {
+            Some(value) => Some(Token::of(value)),
+            None => None,
+        }
+    }
+
+    // What the registers hold, a to z.
+    pub(crate) fn slots(&self) -> &[Option<TokenValue>]
+        ensures { result.now ≡ self.now }
+    {
+        &self.slots
+    }
+
+    // Spends the registers: what they held, a to z.
+    pub(crate) fn spend(self) -> [Option<TokenValue>; 26]
+        ensures { result ≡ self }
+    {
+        let Regs { slots } = self;
+        slots
     }
 }

@@ -3,7 +3,7 @@ use crate::census::Census;
 use crate::refusal::Refusal;
 
 /// The reply to a call.
-#[derive(Clone, Copy, Debug, PartialEq, Eq)]
+#[derive(Debug, Drop, PartialEq, Eq)]
 pub enum Reply {
     /// The call was done.
     Done,
@@ -13,6 +13,7 @@ pub enum Reply {
     Empty,
     /// A register that the call puts into holds a token, and nothing was done.
     Taken,
+    /// How many message blocks are where.
     Census(Census),
     /// The call was refused, and nothing was done.
     Refused(Refusal),

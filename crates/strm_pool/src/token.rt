@@ -3,7 +3,18 @@ ghost use Rattle.std.specs.Prelude.{◌≡◌};
 
 use std::marker::Model;
 
-/// The right to one message of a pool that is on no queue.
+/// What a token says.
+#[derive(Clone, Copy, Debug)]
+pub struct TokenValue {
+    /// The id of the pool that gave it.
+    pub pool: u32,
+    /// The number of the message's first block.
+    pub head: u32,
+    /// How many blocks the message has.
+    pub blocks: u32,
+}
+
+/// The right to one message that stands on no queue of its pool.
 ///
 /// A token is given by the call that makes a message or takes it off a queue, and must be spent: it can be
 /// neither cloned nor dropped, so no message is lost and none is freed twice. A token carries the id of the
@@ -11,38 +22,51 @@ use std::marker::Model;
 #[must_use]
 #[derive(Debug)]
 pub struct Token {
-    pub(crate) pool: u32,
-    pub(crate) head: u32,
-    pub(crate) blocks: u32,
+    value: TokenValue,
 }
 
 impl Model for Token {
-    ghost use Rattle.strm_pool.specs.TokenValue.{TokenValue};
+    ghost use Rattle.strm_pool.specs.declared.token.TokenValue.{TokenValue};
 
     ghost Value = { TokenValue };
 
-    ghost view = { λ t. record { pool = t.pool; head = t.head; blocks = t.blocks } };
+    ghost view = { λ t. t.value };
 }
 
 impl Token {
+    // The token that says so. Only a call that gives a message makes one, and registers that held one.
+    pub(crate) fn of(value: TokenValue) -> Token
+        ensures { result ≡ value }
+    {
+        Token { value }
+    }
+
+    // Spends the token.
+    pub(crate) fn spend(self) -> TokenValue
+        ensures { result ≡ self }
+    {
+        let Token { value } = self;
+        value
+    }
+
     /// The id of the pool that gave the token.
     pub fn pool(&self) -> u32
         ensures { result ≡ self.now.pool }
     {
-        self.pool
+        self.value.pool
     }
 
     /// The number of the message's first block.
     pub fn head(&self) -> u32
         ensures { result ≡ self.now.head }
     {
-        self.head
+        self.value.head
     }
 
     /// How many blocks the message has.
     pub fn blocks(&self) -> u32
         ensures { result ≡ self.now.blocks }
     {
-        self.blocks
+        self.value.blocks
     }
 }

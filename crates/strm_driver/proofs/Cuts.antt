@@ -1,0 +1,35 @@
+-- A text cut at its first separator.
+use Rattle.std.proofs.Common.{◌≡◌, ℕ, ◌+◌, ◌-◌, ◌≤◌, Bool, true, false, not, cond, List, [], ◌∷◌, ◌++◌, length, take, drop, None, Some, refl, sym, ap, ◌∙◌, arith}
+use Rattle.std.specs.List.{slice_split, onto_first, position, position_or_len, prefix_len}
+use Rattle.std.proofs.lemmas.Bool.{ltb-true, ltb-false}
+use Rattle.std.proofs.lemmas.List.{take_rest, take_at}
+use Rattle.std.proofs.lemmas.List.Splits.{slice_split_first}
+use Rattle.std.proofs.lemmas.Option.{cond_some}
+
+slice_split-uncut : {X : Type 0} (p : X → Bool) (xs : List X) → length xs ≤ position_or_len p xs → slice_split p xs ≡ xs ∷ []
+slice_split-uncut p [] none = refl
+slice_split-uncut p (x ∷ xs) none =
+    (elim (p x) as (λ b. length (x ∷ xs) ≤ cond (not b) (1 + prefix_len (λ y. not (p y)) xs) 0 → cond b ([] ∷ slice_split p xs) (onto_first x (slice_split p xs)) ≡ (x ∷ xs) ∷ []) [
+      | true ↦ λ few. absurd (omega arith)
+      | false ↦ λ few. ap (onto_first x) (slice_split-uncut p xs (omega arith))
+    ])
+    none
+
+cond_none : {X : Type 0} (b : Bool) (x : X) → cond b (Some x) None ≡ None → b ≡ false
+cond_none true x e = cc
+cond_none false x e = refl
+
+-- where no element is a separator
+pub slice_split-None : {X : Type 0} (p : X → Bool) (xs : List X) → position p xs ≡ None → slice_split p xs ≡ xs ∷ []
+slice_split-None p xs none = slice_split-uncut p xs (ltb-false _ _ (cond_none _ _ none))
+
+-- where the first separator stands at this index
+pub slice_split-Some : {X : Type 0} (p : X → Bool) (xs : List X) (at : ℕ) (d : X) → position p xs ≡ Some at → slice_split p xs ≡ take at xs ∷ slice_split p (take (length xs - (at + 1)) (drop (at + 1) xs))
+slice_split-Some p xs at d found =
+    let place = cond_some _ _ _ found in
+    let first = slice_split_first p xs d (ltb-true _ _ place.0) in
+    let rest = take_rest xs (at + 1) in
+    rw (rest, ← place.1) first
+
+pub take-front : {X : Type 0} (n : ℕ) (xs ys all : List X) → xs ++ ys ≡ all → length xs ≡ n → xs ≡ take n all
+take-front n xs ys all joined count = sym (ap (take n) (sym joined) ∙ take_at xs ys n count)

@@ -1,0 +1,11 @@
+use Rattle.std.proofs.Common.{◌++◌, arith, take, length-append, length-take}
+use Rattle.std.proofs.KnownBytes.{Consumes-trans}
+use Rattle.strm_driver.proofs.input.read_input.Goals as goal
+
+pub returns-then-is_err-clause-taken : goal.returns-then-is_err-clause-taken
+returns-then-is_err-clause-taken g c =
+    let read = take c.in-Ok.count c.read.new.buf in (
+      c.loop-chunk.input.items ++ read,
+      Consumes-trans _ _ _ _ _ c.loop-chunk.invariant.read c.in-Ok.ensures.bytes.0,
+      simp (length-append, length-take) (omega (arith, c.in-Ok.ensures.bound, c.min-room.ensures, c.read.auto.buf, length-take c.min-room.result c.loop-chunk.chunk)),
+    )

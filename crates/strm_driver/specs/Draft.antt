@@ -1,0 +1,87 @@
+-- What a script that is being read stands for. No clause of `parse` cites this.
+use Rattle.std.specs.Prelude.{◌≡◌, ◌≢◌, ℕ, ◌<◌, true, List, [], ◌∷◌, ◌++◌, length, Option, None, Some, Result, Ok, Err}
+use Rattle.strm_pool.specs.declared.call.Call.{Call}
+use Rattle.strm_pool.specs.declared.call.Call.TheVariants as calls
+use Rattle.strm_driver.specs.declared.draft.Draft.{Draft}
+use Rattle.strm_driver.specs.declared.fault.Kind.{Kind}
+use Rattle.strm_driver.specs.declared.fault.ParseFault.{ParseFault}
+use Rattle.strm_driver.specs.declared.fault.ParseFault.TheVariants as faults
+use Rattle.strm_driver.specs.declared.line.Entry.{Entry}
+use Rattle.strm_driver.specs.declared.line.Entry.TheVariants.{Pool, Class, Queue, Bufcalls, Worker, Command}
+use Rattle.strm_driver.specs.declared.line.Line.{Line}
+use Rattle.strm_driver.specs.declared.script.Stage.{Stage}
+use Rattle.strm_driver.specs.declared.script.Stage.TheVariants as stages
+use Rattle.strm_driver.specs.declared.word.Word.{Word}
+use Rattle.strm_driver.specs.declared.word.Word.TheVariants as words
+use Rattle.strm_driver.specs.Script.{Numbered, pool_line, class_line, queue_line, bufcalls_line, said, parts_of, stage_of, may_stand}
+
+-- what the pool line says, from its stage on
+abbrev pub pool_at : Stage → ℕ × ℕ → List (ℕ × ℕ)
+pool_at stages.Start numbers = []
+pool_at _ numbers = numbers ∷ []
+
+-- what the bufcalls line says, from its stage on
+abbrev pub wishes_at : Stage → ℕ × ℕ → List (ℕ × ℕ)
+wishes_at stages.Bufcalls numbers = numbers ∷ []
+wishes_at stages.Body numbers = numbers ∷ []
+wishes_at _ numbers = []
+
+-- the one section, once it has begun
+abbrev pub parts_at : Stage → List Line → List (List Line)
+parts_at stages.Body lines = lines ∷ []
+parts_at _ lines = []
+
+-- the lines that are there too early
+abbrev pub early_at : Stage → List Line → List Line
+early_at stages.Body lines = []
+early_at _ lines = lines
+
+-- a draft has what these entries say
+pub record StandsFor (d : Draft) (es : List Numbered) : Type 0 where
+  pub stage : stage_of es ≡ d.stage
+  pub pool : said pool_line es ≡ pool_at d.stage (d.id, d.mblks)
+  pub classes : said class_line es ≡ d.classes.items
+  pub queues : said queue_line es ≡ d.queues.items
+  pub wishes : said bufcalls_line es ≡ wishes_at d.stage (d.bufcalls, d.first_id)
+  pub parts : parts_of es ≡ parts_at d.stage d.lines.items
+  pub idle : early_at d.stage d.lines.items ≡ []
+
+abbrev pub word_of_call : Call → Word
+word_of_call (calls.Allocb reg size) = words.Allocb
+word_of_call (calls.Write reg place bytes) = words.Write
+word_of_call (calls.Putq queue reg) = words.Putq
+word_of_call (calls.Getq queue reg) = words.Getq
+word_of_call (calls.Freemsg reg) = words.Freemsg
+word_of_call calls.Census = words.Census
+
+-- the first word of the line that says this
+abbrev pub first_word : Entry → Word
+first_word (Pool id mblks) = words.Pool
+first_word (Class spec) = words.Class
+first_word (Queue spec) = words.Queue
+first_word (Bufcalls wishes first_id) = words.Bufcalls
+first_word Worker = words.Worker
+first_word (Command call) = word_of_call call
+
+-- there is room for what a line says that begins so
+abbrev pub HasRoom : Draft → Word → Type 0
+HasRoom d words.Class = length d.classes.items < 8
+HasRoom d words.Queue = length d.queues.items < 16
+HasRoom d words.Worker = d.stage ≢ stages.Body
+HasRoom d _ = Unit {0}
+
+pub record Takes (d : Draft) (word : Word) : Type 0 where
+  pub stands : may_stand d.stage word ≡ true
+  pub room : HasRoom d word
+
+-- the entries with what line n says, or its fault
+abbrev pub with_said : List Numbered → ℕ → Result (Option Entry) Kind → Result (List Numbered) Kind
+with_said es n (Ok None) = Ok es
+with_said es n (Ok (Some entry)) = Ok (es ++ record { number = n; entry = entry } ∷ [])
+with_said es n (Err kind) = Err kind
+
+-- reading line n gave a draft of these entries, or the line's fault, unless memory ran out
+abbrev pub Reads : ℕ → Draft → Result (Unit {0}) ParseFault → Result (List Numbered) Kind → Type 0
+Reads n new (Ok done) read = (es : List Numbered) × (read ≡ Ok es) × StandsFor new es
+Reads n new (Err (faults.Script found)) read = (read ≡ Err found.kind) × (found.line ≡ n)
+Reads n new (Err faults.Memory) read = Unit {0}

@@ -1,0 +1,12 @@
+pub mod Fault
+pub mod Word
+pub mod Form
+pub mod Cut
+pub mod Entry
+pub mod Script
+pub mod Parsed
+pub mod Draft
+pub mod Merge
+pub mod Text
+pub mod Outcome
+pub mod Told

@@ -1,0 +1,22 @@
+-- What a run gives for its input.
+use Rattle.std.specs.Prelude.{ℕ, nat_lt, List, length, Option, None, Some, Result, Ok, Err, if◌then◌else◌}
+use Rattle.strm_pool.specs.declared.config.Which.{Which}
+use Rattle.strm_pool.specs.Config.{fault_of}
+use Rattle.strm_driver.specs.declared.fault.Fault.{Fault}
+use Rattle.strm_driver.specs.declared.fault.RunFault.{RunFault}
+use Rattle.strm_driver.specs.declared.fault.RunFault.TheVariants.{TooLong, Script, Config}
+use Rattle.strm_driver.specs.Merge.{serial_merge}
+use Rattle.strm_driver.specs.Script.{ScriptValue, script_of}
+use Rattle.strm_driver.specs.Text.{text_of}
+
+abbrev pub outcome_of_config : ScriptValue → Option Which → Result (List ℕ) RunFault
+outcome_of_config script None = Ok (text_of script (serial_merge script.parts))
+outcome_of_config script (Some which) = Err (Config which)
+
+abbrev pub outcome_of_script : Result ScriptValue Fault → Result (List ℕ) RunFault
+outcome_of_script (Ok script) = outcome_of_config script (fault_of script.config)
+outcome_of_script (Err found) = Err (Script found)
+
+-- the text, or the first fault: an input longer than `most` bytes, then the script's, then its configuration's
+abbrev pub outcome_of : ℕ → List ℕ → Result (List ℕ) RunFault
+outcome_of most input = if nat_lt most (length input) then Err TooLong else outcome_of_script (script_of input)

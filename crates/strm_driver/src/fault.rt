@@ -1,0 +1,151 @@
+//! What is wrong with a script, and why a run fails.
+ghost use Rattle.std.specs.Prelude.{◌≡◌};
+ghost use Rattle.strm_driver.specs.Fault.{kind_text};
+
+use std::alloc::{AllocError, AllocFailed};
+use std::fmt;
+use strm_pool::{NewFault, Which};
+use thiserror::Error;
+
+/// What is wrong with a line of a script. On one line the kinds are looked for in this order, and the last
+/// four of a line's kinds, from `Number` to `Hex`, from its first word to its last.
+#[derive(Clone, Copy, Debug, PartialEq, Eq)]
+pub enum Kind {
+    /// The last line has no line end.
+    Cut,
+    /// The first word is none of a script's.
+    Unknown,
+    /// The line may not stand here.
+    Order,
+    /// There are as many such lines already as there may be.
+    Toomany,
+    /// The line has another number of words than its form.
+    Shape,
+    /// A word is not a number, or not one in range.
+    Number,
+    /// A word is not a register.
+    Register,
+    /// A word is none of those that may stand there.
+    Word,
+    /// A word is not a string of bytes.
+    Hex,
+    /// The script ends before its first worker section.
+    Missing,
+}
+
+/// The first fault of a script: its line, counted from 1, and what is wrong there.
+#[derive(Clone, Copy, Debug, PartialEq, Eq)]
+pub struct Fault {
+    pub line: u32,
+    pub kind: Kind,
+}
+
+/// Why a script was not read.
+#[derive(Clone, Copy, Debug, PartialEq, Eq, Error)]
+pub enum ParseFault {
+    #[error("{0}")]
+    Script(Fault),
+    #[error("memory")]
+    Memory,
+}
+
+/// Why a run failed. After `Write` a prefix of the text was written, after any other fault nothing.
+#[derive(Clone, Copy, Debug, PartialEq, Eq, Error)]
+pub enum RunFault {
+    /// The reader failed.
+    #[error("read fault")]
+    Read,
+    /// The input is longer than it may be.
+    #[error("input too long")]
+    TooLong,
+    /// The writer failed, or took nothing.
+    #[error("write fault")]
+    Write,
+    /// The script has a fault.
+    #[error("{0}")]
+    Script(Fault),
+    /// The script's configuration has a fault.
+    #[error("bad config: {which}", which = .0.name())]
+    Config(Which),
+    /// There is not enough memory.
+    #[error("memory")]
+    Memory,
+}
+
+impl Kind {
+    /// The kind's name.
+    pub fn name(self) -> &'static str
+        ensures { result.now ≡ kind_text self }
+    {
+        match self {
+            Kind::Cut => "cut",
+            Kind::Unknown => "unknown",
+            Kind::Order => "order",
+            Kind::Toomany => "toomany",
+            Kind::Shape => "shape",
+            Kind::Number => "number",
+            Kind::Register => "register",
+            Kind::Word => "word",
+            Kind::Hex => "hex",
+            Kind::Missing => "missing",
+        }
+    }
+}
+
+impl fmt::Display for Fault {
+    ghost use Rattle.std.specs.Prelude.{Some, ◌++◌, codes, decimal};
+
+    ghost output = { λ fault. Some (codes "line " ++ (decimal fault.line ++ (codes ": " ++ kind_text fault.kind))) };
+
+    fn fmt<W: fmt::Write>(&self, f: &mut fmt::Formatter<W>) -> fmt::Result {
+        let line = self.line;
+        let kind = self.kind.name();
+        write!(f, "line {line}: {kind}")
+    }
+}
+
+impl From<AllocError> for ParseFault {
+    ghost use Rattle.strm_driver.specs.declared.fault.ParseFault.TheVariants.{Memory};
+
+    ghost from_gives = { λ _ e. e ≡ Memory };
+
+    fn from(_error: AllocError) -> ParseFault {
+        ParseFault::Memory
+    }
+}
+
+impl<T: Drop> From<AllocFailed<T>> for ParseFault {
+    ghost use Rattle.strm_driver.specs.declared.fault.ParseFault.TheVariants.{Memory};
+
+    ghost from_gives = { λ _ e. e ≡ Memory };
+
+    fn from(_error: AllocFailed<T>) -> ParseFault {
+        ParseFault::Memory
+    }
+}
+
+impl From<ParseFault> for RunFault {
+    ghost use Rattle.strm_driver.specs.Told.{run_fault_of_parse};
+
+    ghost from_gives = { λ fault e. e ≡ run_fault_of_parse fault };
+
+    fn from(fault: ParseFault) -> RunFault {
+        match fault {
+            ParseFault::Script(found) => RunFault::Script(found),
+            ParseFault::Memory => RunFault::Memory,
+        }
+    }
+}
+
+impl From<NewFault> for RunFault {
+    ghost use Rattle.strm_driver.specs.Told.{run_fault_of_new};
+
+    ghost from_gives = { λ fault e. e ≡ run_fault_of_new fault };
+
+    fn from(fault: NewFault) -> RunFault {
+        match fault {
+            NewFault::BadConfig(which) => RunFault::Config(which),
+            NewFault::Memory => RunFault::Memory,
+        }
+    }
+}

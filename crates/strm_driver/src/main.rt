@@ -1,0 +1,97 @@
+//! The program `strm`: a script on standard input, its transcript and report on standard output.
+#![tactic(auto)]
+
+ghost use Rattle.std.specs.Prelude.{◌≤◌};
+
+mod cut;
+mod draft;
+mod fault;
+#[cfg(test)]
+mod faulty;
+mod form;
+mod input;
+mod line;
+mod output;
+mod run;
+mod script;
+mod text;
+mod word;
+mod words;
+
+use clap::error::ErrorKind;
+use fault::RunFault;
+use run::run;
+use std::process::ExitCode;
+use std::rt::Env;
+use std::{env, io};
+use words::{Options, options_of};
+
+// The exit status where the words are refused.
+const USAGE: u8 = 64;
+
+// The exit status after a fault.
+fn status_of(fault: RunFault) -> u8 {
+    match fault {
+        RunFault::Read | RunFault::Write | RunFault::TooLong => 1,
+        RunFault::Script(_) | RunFault::Config(_) => 2,
+        RunFault::Memory => 3,
+    }
+}
+
+// Says what went wrong. There is nobody to tell where that fails.
+fn failed(rt: &impl Eprint, fault: RunFault) -> ExitCode {
+    let _ = eprintln!(rt; "strm: {fault}");
+    ExitCode::from(status_of(fault))
+}
+
+// Shows the help, or what is wrong with the words.
+fn answered(rt: &(impl Print + Eprint), error: &clap::Error) -> ExitCode {
+    if error.kind() == ErrorKind::OutOfMemory {
+        return failed(rt, RunFault::Memory);
+    }
+    let shown = error.print(rt);
+    if error.use_stderr() {
+        return ExitCode::from(USAGE);
+    }
+    match shown {
+        Ok(()) => ExitCode::SUCCESS,
+        Err(_) => failed(rt, RunFault::Write),
+    }
+}
+
+// Runs the script on standard input.
+fn served(rt: &(impl AllocGlobal + Input + Print + Eprint), options: Options) -> ExitCode
+    requires least { 1 ≤ options.max }
+    requires most { options.max ≤ 16777216 }
+{
+    let mut reader = rt.reader();
+    let mut writer = io::writer(rt);
+    match run(rt, options.mode, options.max, &mut reader, &mut writer) {
+        Ok(()) => ExitCode::SUCCESS,
+        Err(fault) => failed(rt, fault),
+    }
+}
+
+// The words that the program was started with.
+fn arguments(rt: &(impl AllocGlobal + Env)) -> io::Result<Vec<String>> {
+    Ok(env::args(rt)?.collect(rt.alloc())?)
+}
+
+// Why the words were not read: want of memory, or one that is not UTF-8.
+fn unread(rt: &impl Eprint, error: &io::Error) -> ExitCode {
+    if error.kind() == io::ErrorKind::OutOfMemory {
+        return failed(rt, RunFault::Memory);
+    }
+    let _ = eprintln!(rt; "error: invalid UTF-8 was detected in one or more arguments");
+    ExitCode::from(USAGE)
+}
+
+fn main(rt: HostRuntime) -> ExitCode {
+    match arguments(&rt) {
+        Ok(words) => match options_of(rt.alloc(), &words) {
+            Ok(options) => served(&rt, options),
+            Err(error) => answered(&rt, &error),
+        },
+        Err(error) => unread(&rt, &error),
+    }
+}

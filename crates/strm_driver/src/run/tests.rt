@@ -1,0 +1,86 @@
+ghost use Rattle.std.specs.Prelude.{◌≤◌};
+
+use super::{Mode, run};
+use crate::fault::{Fault, Kind, RunFault};
+use crate::faulty::{choppy_writer, slow_reader};
+use std::test::Fail;
+use strm_pool::Which;
+
+const SCRIPT: &[u8] =
+    b"pool 1 8\nclass 16 4\nqueue 10 4 s -\nbufcalls 2 1\nworker\nallocb a 3\nwrite a 0 616263\nputq 0 a\ncensus\nallocb b 17\ngetq 0 c\n";
+
+// The message got from the queue is still held when the script ends.
+const TEXT: &[u8] =
+    b"0:6 ok\n0:7 ok\n0:8 ok\n0:9 census 7 1 0\n0:10 refused 1 TooLarge\n0:11 ok\nblocks free=7 queued=0 held=1 total=8\n";
+
+const MAX: u32 = 1_048_576;
+
+#[test]
+fn goes_byte_by_byte(rt: HostRuntime) -> Result<(), Fail> {
+    for mode in [Mode::Serial, Mode::Workers] {
+        let mut reader = slow_reader(SCRIPT, None);
+        let mut writer = choppy_writer(rt.alloc(), 1, None, true);
+        run(&rt, mode, MAX, &mut reader, &mut writer)?;
+        assert_eq!(rt; writer.got.as_slice(), TEXT);
+    }
+    Ok(())
+}
+
+#[test]
+fn a_failing_reader_leaves_nothing_written(rt: HostRuntime) {
+    for cut in [0, 9, SCRIPT.len()] {
+        let mut reader = slow_reader(SCRIPT, Some(cut));
+        let mut writer = choppy_writer(rt.alloc(), 100, None, true);
+        assert!(rt;
+            run(&rt, Mode::Serial, MAX, &mut reader, &mut writer).err() == Some(RunFault::Read),
+            "at {cut}"
+        );
+        assert!(rt; writer.got.is_empty());
+    }
+}
+
+#[test]
+fn a_failing_writer_has_the_beginning(rt: HostRuntime) {
+    for cut in [0, 7, 14] {
+        let mut writer = choppy_writer(rt.alloc(), 7, Some(cut), true);
+        let fault = run(
+            &rt,
+            Mode::Serial,
+            MAX,
+            &mut slow_reader(SCRIPT, None),
+            &mut writer,
+        )
+        .err();
+        assert!(rt; fault == Some(RunFault::Write));
+        assert_eq!(rt; writer.got.as_slice(), &TEXT[..cut]);
+    }
+}
+
+// Why a run of this script fails, where it has written nothing.
+fn fault_of(rt: &HostRuntime, max: u32, script: &[u8]) -> Option<RunFault>
+    requires least { 1 ≤ max }
+    requires most { max ≤ 16777216 }
+{
+    let mut writer = choppy_writer(rt.alloc(), 100, None, true);
+    let fault = run(
+        rt,
+        Mode::Serial,
+        max,
+        &mut slow_reader(script, None),
+        &mut writer,
+    )
+    .err();
+    if writer.got.is_empty() { fault } else { None }
+}
+
+#[test]
+fn tells_the_first_fault(rt: HostRuntime) {
+    assert!(rt; fault_of(&rt, 40, SCRIPT) == Some(RunFault::TooLong));
+    let unknown = Fault {
+        line: 2,
+        kind: Kind::Unknown,
+    };
+    assert!(rt; fault_of(&rt, MAX, b"pool 1 0\nalloc a 3\n") == Some(RunFault::Script(unknown)));
+    let unlawful = b"pool 1 0\nclass 16 4\nqueue 10 4 s -\nbufcalls 2 0\nworker\n";
+    assert!(rt; fault_of(&rt, MAX, unlawful) == Some(RunFault::Config(Which::Mblks)));
+}

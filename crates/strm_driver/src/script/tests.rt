@@ -1,0 +1,207 @@
+//! Scripts that are read, and the first faults of scripts that are not.
+use super::*;
+use std::process::Abort;
+use std::test::Fail;
+use strm_pool::{ClassSpec, QueueSpec};
+
+// Five lines, behind which commands may stand.
+const OPEN: &str = "pool 1 4\nclass 8 2\nqueue 2 1 s -\nbufcalls 1 1\nworker\n";
+
+// Two lines, behind which a queue may stand.
+const CLASSES: &str = "pool 1 4\nclass 8 2\n";
+
+// Three lines, behind which the bufcalls line may stand.
+const QUEUES: &str = "pool 1 4\nclass 8 2\nqueue 2 1 s -\n";
+
+fn class(size: u32, count: u32) -> ClassSpec {
+    ClassSpec { size, count }
+}
+
+fn queue(hiwat: u32, lowat: u32, service: bool, next: Option<u8>) -> QueueSpec {
+    QueueSpec {
+        hiwat,
+        lowat,
+        service,
+        next,
+    }
+}
+
+// The first fault of a text of two parts is this one.
+fn expect(
+    rt: &(impl Abort + AllocGlobal),
+    start: &str,
+    end: &str,
+    line: u32,
+    kind: Kind,
+) -> Result<(), Fail> {
+    let text = format!(in rt.alloc(); "{start}{end}")?;
+    assert!(rt; text.len() <= 16_777_216);
+    let found = parse(rt.alloc(), text.as_bytes()).err();
+    assert_eq!(rt;
+        found,
+        Some(ParseFault::Script(Fault { line, kind })),
+        "of {text:?}"
+    );
+    Ok(())
+}
+
+#[test]
+fn reads_a_script(rt: HostRuntime) -> Result<(), Fail> {
+    let text = b"# a pool\npool 7 20\nclass 64 4\nclass 4096 2\n\nqueue 100 50 s 1\nqueue 9 0 n -\n\
+        bufcalls 3 4294967295\nworker\nallocb a 10\nwrite b 0 68656aff\n# more\n\nputq 0 a\ngetq 255 z\n\
+        freemsg c\ncensus\nwrite d 4294967295 -\n";
+    let script = parse(rt.alloc(), text)?;
+    let config = &script.config;
+    assert_eq!(rt;
+        (config.id, config.mblks, config.bufcalls, config.first_id),
+        (7, 20, 3, u32::MAX)
+    );
+    assert_eq!(rt;
+        config.classes.items(),
+        [class(64, 4), class(4096, 2)].as_slice()
+    );
+    assert_eq!(rt;
+        config.queues.items(),
+        [queue(100, 50, true, Some(1)), queue(9, 0, false, None)].as_slice()
+    );
+    let calls = [
+        (10, "Allocb(Reg { place: 0 }, 10)"),
+        (
+            11,
+            "Write(Reg { place: 1 }, 0, Octets { bytes: [104, 101, 106, 255] })",
+        ),
+        (14, "Putq(0, Reg { place: 0 })"),
+        (15, "Getq(255, Reg { place: 25 })"),
+        (16, "Freemsg(Reg { place: 2 })"),
+        (17, "Census"),
+        (
+            18,
+            "Write(Reg { place: 3 }, 4294967295, Octets { bytes: [] })",
+        ),
+    ];
+    assert_eq!(rt; script.lines.len(), calls.len());
+    for (line, (number, call)) in script.lines.iter().zip(calls) {
+        assert_eq!(rt; line.number, number);
+        let found = format!(in rt.alloc(); "{:?}", line.call)?;
+        assert_eq!(rt; found.as_str(), call);
+    }
+    Ok(())
+}
+
+#[test]
+fn finds_the_first_fault(rt: HostRuntime) -> Result<(), Fail> {
+    let faults = [
+        ("", "pool 1 4", 1, Kind::Cut),
+        ("", "# x", 1, Kind::Cut),
+        (OPEN, "census", 6, Kind::Cut),
+        (OPEN, "\n#\nx y", 8, Kind::Cut),
+        (OPEN, "x\ncensus", 6, Kind::Unknown),
+        ("", "Pool 1 4\n", 1, Kind::Unknown),
+        ("", "pools 1 4\n", 1, Kind::Unknown),
+        ("", " pool 1 4\n", 1, Kind::Unknown),
+        ("", "pool\t1 4\n", 1, Kind::Unknown),
+        ("", " \n", 1, Kind::Unknown),
+        ("", " # x\n", 1, Kind::Unknown),
+        (OPEN, "census\r\n", 6, Kind::Unknown),
+        ("", "class\n", 1, Kind::Order),
+        ("", "worker\n", 1, Kind::Order),
+        ("", "census\n", 1, Kind::Order),
+        ("", "pool 1 4\npool 1 4\n", 2, Kind::Order),
+        ("", "pool 1 4\nqueue 2 1 s -\n", 2, Kind::Order),
+        (CLASSES, "bufcalls 1 1\n", 3, Kind::Order),
+        (QUEUES, "class 9 1\n", 4, Kind::Order),
+        (QUEUES, "worker\n", 4, Kind::Order),
+        (QUEUES, "bufcalls 1 1\nbufcalls 1 1\n", 5, Kind::Order),
+        (QUEUES, "bufcalls 1 1\nqueue 2 1 s -\n", 5, Kind::Order),
+        (QUEUES, "bufcalls 1 1\ncensus\n", 5, Kind::Order),
+        (OPEN, "bufcalls 1 1\n", 6, Kind::Order),
+        (OPEN, "pool\n", 6, Kind::Order),
+        (OPEN, "class 16 4\n", 6, Kind::Order),
+        (OPEN, "\n# x\nworker\n", 8, Kind::Toomany),
+        (OPEN, "worker x\n", 6, Kind::Toomany),
+        ("", "", 1, Kind::Missing),
+        ("", "\n# x\n", 3, Kind::Missing),
+        (CLASSES, "\n\n# x\n", 6, Kind::Missing),
+    ];
+    for (start, end, line, kind) in faults {
+        expect(&rt, start, end, line, kind)?;
+    }
+    Ok(())
+}
+
+#[test]
+fn finds_the_first_fault_of_a_form(rt: HostRuntime) -> Result<(), Fail> {
+    let faults = [
+        ("", "pool 1\n", 1, Kind::Shape),
+        ("", "pool x y z\n", 1, Kind::Shape),
+        (OPEN, "census \n", 6, Kind::Shape),
+        (OPEN, "allocb  a 4\n", 6, Kind::Shape),
+        (OPEN, "write a 0 00 1 2 3 4 5\n", 6, Kind::Shape),
+        ("", "pool  4\n", 1, Kind::Number),
+        ("", "pool 01 4\n", 1, Kind::Number),
+        ("", "pool 00 4\n", 1, Kind::Number),
+        ("", "pool - 4\n", 1, Kind::Number),
+        ("", "pool 4294967296 4\n", 1, Kind::Number),
+        ("", "pool 1 99999999999999999999999999\n", 1, Kind::Number),
+        (CLASSES, "queue 2 1 s 256\n", 3, Kind::Number),
+        (CLASSES, "queue 2 x x x\n", 3, Kind::Number),
+        (OPEN, "allocb a \n", 6, Kind::Number),
+        (OPEN, "allocb a 01\n", 6, Kind::Number),
+        (OPEN, "putq 256 A\n", 6, Kind::Number),
+        (OPEN, "write a x 0\n", 6, Kind::Number),
+        (OPEN, "allocb A 4\n", 6, Kind::Register),
+        (OPEN, "freemsg ab\n", 6, Kind::Register),
+        (OPEN, "freemsg \n", 6, Kind::Register),
+        (OPEN, "getq 0 {\n", 6, Kind::Register),
+        (OPEN, "write 1 x 0\n", 6, Kind::Register),
+        (CLASSES, "queue 2 1 S x\n", 3, Kind::Word),
+        (CLASSES, "queue 2 1  -\n", 3, Kind::Word),
+        (OPEN, "write a 0 0\n", 6, Kind::Hex),
+        (OPEN, "write a 0 0A\n", 6, Kind::Hex),
+        (OPEN, "write a 0 --\n", 6, Kind::Hex),
+        (OPEN, "write a 0 \n", 6, Kind::Hex),
+    ];
+    for (start, end, line, kind) in faults {
+        expect(&rt, start, end, line, kind)?;
+    }
+    Ok(())
+}
+
+#[test]
+fn reads_as_many_as_there_may_be(rt: HostRuntime) -> Result<(), Fail> {
+    let mut classes = String::from_str(rt.alloc(), "pool 0 4294967295\n")?;
+    for _ in 0..8 {
+        classes.push_str("class 1 1\n")?;
+    }
+    expect(&rt, &classes, "class 1 1\n", 10, Kind::Toomany)?;
+    let mut queues = classes.clone()?;
+    for _ in 0..16 {
+        queues.push_str("queue 2 1 n 255\n")?;
+    }
+    expect(&rt, &queues, "queue 2 1 n 255\n", 26, Kind::Toomany)?;
+    let mut digits = String::new(rt.alloc());
+    for _ in 0..64 {
+        digits.push_str("0f")?;
+    }
+    expect(
+        &rt,
+        OPEN,
+        &format!(in rt.alloc(); "write a 0 {digits}\n0")?,
+        7,
+        Kind::Cut,
+    )?;
+    expect(
+        &rt,
+        OPEN,
+        &format!(in rt.alloc(); "write a 0 {digits}0\n")?,
+        6,
+        Kind::Hex,
+    )?;
+    expect(
+        &rt,
+        OPEN,
+        &format!(in rt.alloc(); "write a 0 {digits}0f\n")?,
+        6,
+        Kind::Hex,
+    )
+}

@@ -1,0 +1,54 @@
+//! The program's words.
+ghost use Rattle.std.specs.Prelude.{◌≤◌, IfOk};
+
+use crate::run::Mode;
+use clap::{Arg, ArgAction, Command, Error, value_parser};
+use std::alloc::Global;
+
+// How many bytes the input may have where no word says so.
+const DEFAULT_MAX: u32 = 1_048_576;
+
+// The greatest number of bytes that a word may allow.
+const GREATEST_MAX: u32 = 16_777_216;
+
+/// What the words ask for.
+#[derive(Clone, Copy, Debug, PartialEq, Eq)]
+pub struct Options {
+    /// How the lines of a script are served.
+    pub mode: Mode,
+    /// How many bytes the input may have.
+    pub max: u32,
+}
+
+/// What words ask for, the first of which is the program's name. The error is a mistake in the words, a request
+/// for help, or want of memory.
+pub fn options_of(alloc: Global, words: &[String]) -> Result<Options, Error>
+    ensures { IfOk result (λ options. (1 ≤ options.max) × (options.max ≤ 16777216)) }
+{
+    let serial = Arg::new(alloc, "serial")
+        .long("serial")
+        .help("Serve all lines on one thread, worker by worker")
+        .action(ArgAction::SetTrue);
+    let max = Arg::new(alloc, "max")
+        .long("max")
+        .value_name("N")
+        .help("Take at most N bytes of input, 1 to 16777216 [default: 1048576]")
+        .value_parser(value_parser!(u32).range(1..=i64::from(GREATEST_MAX)));
+    let command = Command::new(alloc, "strm")
+        .bin_name("strm")?
+        .about("Serves a script of STREAMS calls, from standard input to standard output")
+        .arg(serial)?
+        .arg(max)?;
+    let matches = command.try_get_matches_from(words)?;
+    let mode = if matches.get_flag("serial") {
+        Mode::Serial
+    } else {
+        Mode::Workers
+    };
+    let max = matches.get_one("max").unwrap_or(DEFAULT_MAX);
+    Ok(Options {
+        mode,
+        // The parser of `--max` has refused every other number.
+        max: max.clamp(1, GREATEST_MAX),
+    })
+}

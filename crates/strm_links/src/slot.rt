@@ -1,0 +1,64 @@
+//! A number or none, in one word.
+ghost use Rattle.std.specs.Prelude.{◌≡◌, ◌-◌, ◌^◌, ◌<◌, is_none, if◌then◌else◌};
+
+use std::marker::Model;
+
+/// The number of a node or of a list, or none.
+///
+/// One 32-bit word: `u32::MAX`, which numbers no node and no list, stands for none.
+#[derive(Clone, Copy)]
+pub struct Slot {
+    word: u32,
+}
+
+impl Model for Slot {
+    ghost use Rattle.std.specs.Prelude.{ℕ, Option};
+
+    ghost Value = { Option ℕ };
+
+    ghost use Rattle.strm_links.specs.Slot.{slot_value, slot_word, slot_word-slot_value};
+
+    ghost view = { λ s. slot_value s.word };
+
+    ghost inverse = { λ o. record { word = slot_word o } };
+
+    ghost inverse_ok = { λ s h. λ i. record { word = slot_word-slot_value s.word i } };
+}
+
+impl Slot {
+    /// No number.
+    pub fn none() -> Slot
+        ensures { result ≡ None }
+    {
+        Slot { word: u32::MAX }
+    }
+
+    /// This number, which is below `u32::MAX`.
+    pub fn some(number: u32) -> Slot
+        requires { number < 2 ^ 32 - 1 }
+        ensures { result ≡ Some number }
+    {
+        Slot { word: number }
+    }
+
+    /// The number, if there is one.
+    pub fn get(self) -> Option<u32>
+        ensures { result ≡ self }
+    {
+        if self.word == u32::MAX {
+            None
+        } else {
+            Some(self.word)
+        }
+    }
+
+    /// This number, or else the other.
+    pub fn or(self, otherwise: Slot) -> Slot
+        ensures { result ≡ (if is_none self then otherwise else self) }
+    {
+        match self.get() {
+            Some(_) => self,
+            None => otherwise,
+        }
+    }
+}

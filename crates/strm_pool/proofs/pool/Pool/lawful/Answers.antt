@@ -1,0 +1,22 @@
+use Rattle.std.proofs.Common.{subst}
+use Rattle.std.specs.Prelude.{◌≡◌, ◌+◌, length, IsTrue}
+use Rattle.strm_pool.specs.Arena.{IsParted, census_of, shelf_at}
+use Rattle.strm_pool.specs.PoolLayout.{arena_of}
+use Rattle.strm_pool.specs.PoolValue.{PoolValue}
+use Rattle.strm_pool.specs.Queue.{rank_of, is_ordered}
+use Rattle.strm_pool.proofs.Laws.{law_parted, law_ordered}
+use Rattle.strm_pool.proofs.Moves.{makes_arena}
+use Rattle.strm_pool.proofs.PoolMoves.{counted_by}
+use Rattle.strm_pool.proofs.pool.Pool.lawful.Goals as goal
+
+pub returns-clause-parted : goal.returns-clause-parted
+returns-clause-parted c = subst (λ (v : PoolValue). IsParted v.arena) c.self.view_is (law_parted c.self.inside c.self.invariant)
+
+pub returns-clause-whole : goal.returns-clause-whole
+returns-clause-whole c =
+    subst (λ (v : PoolValue). (census_of v.arena).free + (census_of v.arena).queued + (census_of v.arena).held ≡ length v.arena.held) c.self.view_is
+    (makes_arena (arena_of c.self.inside) c.self.inside.store (counted_by c.self.inside c.self.invariant))
+
+pub returns-clause-ordered : goal.returns-clause-ordered
+returns-clause-ordered c =
+    λ q. subst (λ (v : PoolValue). IsTrue (is_ordered (rank_of v.arena.store) (shelf_at v.arena q))) c.self.view_is (law_ordered c.self.inside c.self.invariant q)

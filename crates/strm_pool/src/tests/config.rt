@@ -1,0 +1,126 @@
+use super::{CLASSES, QUEUES, classes, queues};
+use crate::{Census, Config, NewFault, Pool, Which};
+
+type Row<'a> = (
+    u32,
+    &'a [(u32, u32)],
+    &'a [(u32, u32, Option<u8>)],
+    u32,
+    u32,
+    Option<Which>,
+);
+
+// Message blocks, classes, queues, wishes, first id, and the fault.
+const ROWS: [Row<'static>; 31] = [
+    (1, &[(1, 1)], &[(1, 0, None)], 0, 1, None),
+    (4095, &[(4096, 4095)], &QUEUES, 64, u32::MAX, None),
+    (4, &CLASSES, &[(u32::MAX, 0, None)], 64, 1, None),
+    // Each fault, with all that come later.
+    (0, &[], &[], 65, 0, Some(Which::Mblks)),
+    (4096, &[], &[], 65, 0, Some(Which::Mblks)),
+    (4, &[], &[], 65, 0, Some(Which::Classes)),
+    (4, &[(0, 0)], &[], 65, 0, Some(Which::ClassSize)),
+    (4, &[(1, 0)], &[], 65, 0, Some(Which::ClassTotal)),
+    (4, &[(1, 1)], &[], 65, 0, Some(Which::Queues)),
+    (4, &[(1, 1)], &[(4, 4, Some(0))], 65, 0, Some(Which::Marks)),
+    (4, &[(1, 1)], &[(5, 4, Some(0))], 65, 0, Some(Which::Next)),
+    (4, &[(1, 1)], &[(5, 4, None)], 65, 0, Some(Which::Bufcalls)),
+    (4, &[(1, 1)], &[(5, 4, None)], 64, 0, Some(Which::FirstId)),
+    (u32::MAX, &CLASSES, &QUEUES, 0, 1, Some(Which::Mblks)),
+    (4, &[(4097, 1)], &QUEUES, 0, 1, Some(Which::ClassSize)),
+    (4, &[(4, 1), (4, 1)], &QUEUES, 0, 1, Some(Which::ClassSize)),
+    (4, &[(4, 0), (3, 1)], &QUEUES, 0, 1, Some(Which::ClassSize)),
+    (4, &[(4, 0), (0, 0)], &QUEUES, 0, 1, Some(Which::ClassSize)),
+    (4, &[(4, 1), (8, 0)], &QUEUES, 0, 1, Some(Which::ClassTotal)),
+    (4, &[(4, 4096)], &QUEUES, 0, 1, Some(Which::ClassTotal)),
+    (
+        4,
+        &[(4, 4000), (8, 96)],
+        &QUEUES,
+        0,
+        1,
+        Some(Which::ClassTotal),
+    ),
+    // The counts add up to 2^32 + 1.
+    (
+        4,
+        &[(4, u32::MAX), (8, 2)],
+        &QUEUES,
+        0,
+        1,
+        Some(Which::ClassTotal),
+    ),
+    (4, &CLASSES, &[(0, 0, None)], 0, 1, Some(Which::Marks)),
+    (
+        4,
+        &CLASSES,
+        &[(5, 4, Some(9)), (4, 5, None)],
+        0,
+        1,
+        Some(Which::Marks),
+    ),
+    // Itself, one that is not there, one behind, one named twice.
+    (
+        4,
+        &CLASSES,
+        &[(5, 4, Some(0)), (5, 4, None)],
+        0,
+        1,
+        Some(Which::Next),
+    ),
+    (
+        4,
+        &CLASSES,
+        &[(5, 4, Some(2)), (5, 4, None)],
+        0,
+        1,
+        Some(Which::Next),
+    ),
+    (4, &CLASSES, &[(5, 4, Some(255))], 0, 1, Some(Which::Next)),
+    (
+        4,
+        &CLASSES,
+        &[(5, 4, None), (5, 4, Some(0))],
+        0,
+        1,
+        Some(Which::Next),
+    ),
+    (
+        4,
+        &CLASSES,
+        &[(5, 4, Some(2)), (5, 4, Some(2)), (5, 4, None)],
+        0,
+        1,
+        Some(Which::Next),
+    ),
+    (4, &CLASSES, &QUEUES, u32::MAX, 1, Some(Which::Bufcalls)),
+    (4, &CLASSES, &QUEUES, 0, 0, Some(Which::FirstId)),
+];
+
+#[test]
+fn answers_the_first_fault(rt: HostRuntime) {
+    for (mblks, sizes, marks, bufcalls, first_id, fault) in ROWS {
+        let config = Config {
+            id: 7,
+            mblks,
+            classes: classes(&rt, sizes),
+            queues: queues(&rt, marks),
+            bufcalls,
+            first_id,
+        };
+        assert_eq!(rt; config.fault(), fault);
+        match Pool::new(rt.alloc(), config) {
+            Ok(pool) => {
+                let opening = Census {
+                    free: mblks,
+                    queued: 0,
+                    held: 0,
+                };
+                assert_eq!(rt; pool.census(), opening);
+                assert_eq!(rt; fault, None);
+            }
+            Err(NewFault::BadConfig(which)) => assert_eq!(rt; fault, Some(which)),
+            Err(NewFault::Memory) => panic!(rt; "out of memory"),
+        }
+    }
+}
