@@ -7,7 +7,7 @@ use Rattle.std.specs.Global.{Vec}
 use Rattle.arrayvec.specs.ArrayVec.{ArrayVec}
 use Rattle.strm_pool.specs.declared.call.Call.{Call}
 use Rattle.strm_pool.specs.declared.call.Call.TheVariants as calls
-use Rattle.strm_pool.specs.declared.class_spec.ClassSpec.{ClassSpec}
+use Rattle.strm_data.specs.declared.class_spec.ClassSpec.{ClassSpec}
 use Rattle.strm_pool.specs.declared.queue_spec.QueueSpec.{QueueSpec}
 use Rattle.strm_driver.specs.declared.draft.Draft.{Draft}
 use Rattle.strm_driver.specs.declared.line.Entry.{Entry}

@@ -4,4 +4,6 @@ pub mod Entries
 pub mod Drafts
 pub mod Lines
 pub mod Scripts
+pub mod Merges
 pub mod Serving
+pub mod Reports

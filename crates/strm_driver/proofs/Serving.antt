@@ -1,11 +1,9 @@
 -- Serving lines one by one gives the text of all of them.
 use Rattle.std.proofs.Common.{◌≡◌, ℕ, zero, suc, ◌+◌, ◌<◌, ◌≤◌, List, [], ◌∷◌, ◌++◌, Option, None, Some, replicate, length, drop, get_or, sym, ap, ◌∙◌, append_assoc, append-nil, Ok}
 use Rattle.std.proofs.lemmas.List.{at_drop_more, at_drop_all}
-use Rattle.strm_pool.specs.declared.census.Census.{Census}
 use Rattle.strm_pool.specs.declared.config.Config.{Config}
 use Rattle.strm_pool.specs.declared.reply.Reply.{Reply}
 use Rattle.strm_pool.specs.declared.token.TokenValue.{TokenValue}
-use Rattle.strm_pool.specs.Arena.{census_of}
 use Rattle.strm_pool.specs.Config.{fault_of}
 use Rattle.strm_pool.specs.PoolValue.{PoolValue, opening}
 use Rattle.strm_pool.specs.Registers.{RegisterTable, register, table_of, AreDistinct}
@@ -15,7 +13,7 @@ use Rattle.strm_driver.specs.declared.line.Line.{Line}
 use Rattle.strm_driver.specs.Merge.{by_worker, serial_merge}
 use Rattle.strm_driver.specs.Outcome.{outcome_of_script, outcome_of_config}
 use Rattle.strm_driver.specs.Script.{ScriptValue, script_of}
-use Rattle.strm_driver.specs.Text.{reply_line, blocks_text, text_after, text_of, turns_of}
+use Rattle.strm_driver.specs.Text.{reply_line, report_text, text_after, text_of, turns_of}
 
 -- what is written for worker 0's lines from here on
 abbrev pub rest_text : PoolValue → RegisterTable → List Line → List ℕ
@@ -39,10 +37,10 @@ rest_text-next so_far more all v w t u lines i line reply inside at is grown bef
     ∙ before
 
 -- once all lines are served, only the report is left
-pub rest_text-end : (so_far all : List ℕ) (v : PoolValue) (t : RegisterTable) (lines : List Line) (i : ℕ) (census : Census)
-    → length lines ≤ i → census ≡ census_of v.arena → so_far ++ rest_text v t (drop i lines) ≡ all → so_far ++ blocks_text census ≡ all
-rest_text-end so_far all v t lines i census past is before =
-    ap (λ n. so_far ++ blocks_text n) is ∙ ap (λ bs. so_far ++ bs) (sym (at_drop_all (rest_text v t) lines i past)) ∙ before
+pub rest_text-end : (so_far all : List ℕ) (v : PoolValue) (t : RegisterTable) (lines : List Line) (i : ℕ)
+    → length lines ≤ i → so_far ++ rest_text v t (drop i lines) ≡ all → so_far ++ report_text v ≡ all
+rest_text-end so_far all v t lines i past before =
+    ap (λ bs. so_far ++ bs) (sym (at_drop_all (rest_text v t) lines i past)) ∙ before
 
 -- ---- one section, from the pool that its configuration opens
 

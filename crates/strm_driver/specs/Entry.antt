@@ -1,5 +1,6 @@
 -- What a line of a script says, by its words.
 use Rattle.std.specs.Prelude.{ℕ, ◌-◌, ◌^◌, List, [], ◌∷◌, Result, Ok, Err}
+use Rattle.strm_pool.specs.declared.call.Call.{Call}
 use Rattle.strm_pool.specs.declared.call.Call.TheVariants as calls
 use Rattle.strm_driver.specs.declared.fault.Kind.{Kind}
 use Rattle.strm_driver.specs.declared.fault.Kind.TheVariants.{Shape}
@@ -22,6 +23,31 @@ u32_of word = number_of (2 ^ 32 - 1) word
 abbrev pub u8_of : List ℕ → Result ℕ Kind
 u8_of word = number_of 255 word
 
+-- the call of a command line that begins with this word and goes on with these
+abbrev pub call_of : Word → List (List ℕ) → Result Call Kind
+call_of Allocb (reg ∷ size ∷ []) = do
+  reg ← register_of reg
+  size ← u32_of size
+  Ok (calls.Allocb reg size)
+call_of Write (reg ∷ place ∷ bytes ∷ []) = do
+  reg ← register_of reg
+  place ← u32_of place
+  bytes ← octets_of bytes
+  Ok (calls.Write reg place bytes)
+call_of Putq (queue ∷ reg ∷ []) = do
+  queue ← u8_of queue
+  reg ← register_of reg
+  Ok (calls.Putq queue reg)
+call_of Getq (queue ∷ reg ∷ []) = do
+  queue ← u8_of queue
+  reg ← register_of reg
+  Ok (calls.Getq queue reg)
+call_of Freemsg (reg ∷ []) = do
+  reg ← register_of reg
+  Ok (calls.Freemsg reg)
+call_of Census [] = Ok calls.Census
+call_of _ _ = Err Shape
+
 -- what a line says that begins with this word and goes on with these
 abbrev pub entry_of : Word → List (List ℕ) → Result Entry Kind
 entry_of Pool (id ∷ mblks ∷ []) = do
@@ -43,25 +69,6 @@ entry_of Bufcalls (wishes ∷ first_id ∷ []) = do
   first_id ← u32_of first_id
   Ok (entries.Bufcalls wishes first_id)
 entry_of Worker [] = Ok entries.Worker
-entry_of Allocb (reg ∷ size ∷ []) = do
-  reg ← register_of reg
-  size ← u32_of size
-  Ok (entries.Command (calls.Allocb reg size))
-entry_of Write (reg ∷ place ∷ bytes ∷ []) = do
-  reg ← register_of reg
-  place ← u32_of place
-  bytes ← octets_of bytes
-  Ok (entries.Command (calls.Write reg place bytes))
-entry_of Putq (queue ∷ reg ∷ []) = do
-  queue ← u8_of queue
-  reg ← register_of reg
-  Ok (entries.Command (calls.Putq queue reg))
-entry_of Getq (queue ∷ reg ∷ []) = do
-  queue ← u8_of queue
-  reg ← register_of reg
-  Ok (entries.Command (calls.Getq queue reg))
-entry_of Freemsg (reg ∷ []) = do
-  reg ← register_of reg
-  Ok (entries.Command (calls.Freemsg reg))
-entry_of Census [] = Ok (entries.Command calls.Census)
-entry_of _ _ = Err Shape
+entry_of word arguments = do
+  call ← call_of word arguments
+  Ok (entries.Command call)

@@ -2,7 +2,7 @@
 use Rattle.std.specs.Prelude.{ℕ, ◌+◌, ◌-◌, Bool, true, false, not, ◌==◌, nat_le, sum_by, List, [], ◌∷◌, ◌++◌, length, Option, None, Some, Result, Ok, Err, unwrap_or, slice_get, if◌then◌else◌}
 use Rattle.std.specs.List.{slice_split, filter_map}
 use Rattle.std.specs.Option.{option_map_or}
-use Rattle.strm_pool.specs.declared.class_spec.ClassSpec.{ClassSpec}
+use Rattle.strm_data.specs.declared.class_spec.ClassSpec.{ClassSpec}
 use Rattle.strm_pool.specs.declared.config.Config.{Config}
 use Rattle.strm_pool.specs.declared.queue_spec.QueueSpec.{QueueSpec}
 use Rattle.strm_driver.specs.declared.fault.Fault.{Fault}
@@ -13,7 +13,6 @@ use Rattle.strm_driver.specs.declared.line.Entry.TheVariants.{Pool, Class, Queue
 use Rattle.strm_driver.specs.declared.line.Line.{Line}
 use Rattle.strm_driver.specs.declared.script.Stage.{Stage}
 use Rattle.strm_driver.specs.declared.script.Stage.TheVariants as stages
-use Rattle.strm_driver.specs.declared.script.TheConstants.{MAX_SECTIONS, MAX_COMMANDS}
 use Rattle.strm_driver.specs.declared.word.Word.{Word}
 use Rattle.strm_driver.specs.declared.word.Word.TheVariants as words
 use Rattle.strm_driver.specs.Entry.{entry_of}
@@ -116,14 +115,14 @@ may_stand stages.Body words.Bufcalls = false
 may_stand stages.Body _ = true
 may_stand _ _ = false
 
--- whether there are as many lines already that begin so as there may be
+-- whether there are as many lines already that begin so as there may be; commands are counted over all sections
 abbrev pub is_full : List Numbered → Word → Bool
 is_full es words.Pool = false
 is_full es words.Class = nat_le 8 (length (said class_line es))
 is_full es words.Queue = nat_le 16 (length (said queue_line es))
 is_full es words.Bufcalls = false
-is_full es words.Worker = nat_le MAX_SECTIONS (length (parts_of es))
-is_full es _ = nat_le MAX_COMMANDS (sum_by length (parts_of es))
+is_full es words.Worker = nat_le 1 (length (parts_of es))
+is_full es _ = nat_le 1048576 (sum_by length (parts_of es))
 
 -- ---- lines
 

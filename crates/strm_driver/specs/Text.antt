@@ -1,13 +1,15 @@
 -- What is written for a script: a line for each reply, and then the report of the pool.
 use Rattle.std.specs.Prelude.{ℕ, ◌+◌, List, ◌++◌, length, map, codes, decimal}
 use Rattle.std.specs.List.{flat_map, zip}
+use Rattle.strm_data.specs.declared.class_info.ClassInfo.{ClassInfo}
+use Rattle.strm_data.specs.DataStore.{class_infos}
 use Rattle.strm_pool.specs.declared.census.Census.{Census}
 use Rattle.strm_pool.specs.declared.reply.Reply.{Reply}
 use Rattle.strm_pool.specs.declared.reply.Reply.TheVariants.{Done, Nothing, Empty, Taken, Refused}
 use Rattle.strm_pool.specs.declared.reply.Reply.TheVariants as replies
 use Rattle.strm_pool.specs.Arena.{census_of}
 use Rattle.strm_pool.specs.PoolValue.{PoolValue, opening}
-use Rattle.strm_pool.specs.Refusal.{number_of, name_of}
+use Rattle.strm_data.specs.Refusal.{number_of, name_of}
 use Rattle.strm_pool.specs.Step.{Turn, Replay, replay}
 use Rattle.strm_driver.specs.Merge.{Served}
 use Rattle.strm_driver.specs.Script.{ScriptValue}
@@ -36,8 +38,13 @@ blocks_text c =
     codes "blocks free=" ++ (decimal c.free ++ (codes " queued=" ++ (decimal c.queued ++ (codes " held=" ++ (decimal c.held
     ++ (codes " total=" ++ (decimal (c.free + c.queued + c.held) ++ codes "\n")))))))
 
+abbrev pub class_text : ClassInfo → List ℕ
+class_text i =
+    codes "data size=" ++ (decimal i.size ++ (codes " free=" ++ (decimal i.free ++ (codes " total=" ++ (decimal i.total ++ codes "\n")))))
+
+-- the line on message blocks, and one on each size class
 abbrev pub report_text : PoolValue → List ℕ
-report_text v = blocks_text (census_of v.arena)
+report_text v = blocks_text (census_of v.arena) ++ flat_map class_text (class_infos v.arena.store)
 
 abbrev pub turns_of : List Served → List Turn
 turns_of served = map (λ s. record { desk = s.worker; call = s.line.call }) served

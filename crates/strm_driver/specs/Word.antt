@@ -1,8 +1,7 @@
 -- The words that a line may begin with.
-use Rattle.std.specs.Prelude.{ℕ, List, Option, bytes_eq, find, codes}
+use Rattle.std.specs.Prelude.{ℕ, List, [], ◌∷◌, Option, bytes_eq, find, codes}
 use Rattle.strm_driver.specs.declared.word.Word.{Word}
 use Rattle.strm_driver.specs.declared.word.Word.TheVariants.{Pool, Class, Queue, Bufcalls, Worker, Allocb, Write, Putq, Getq, Freemsg, Census}
-use Rattle.strm_driver.specs.declared.word.TheConstants.{WORDS}
 
 abbrev pub name_of : Word → List ℕ
 name_of Pool = codes "pool"
@@ -17,6 +16,10 @@ name_of Getq = codes "getq"
 name_of Freemsg = codes "freemsg"
 name_of Census = codes "census"
 
+-- the words that there are
+abbrev pub all_words : List Word
+all_words = Pool ∷ Class ∷ Queue ∷ Bufcalls ∷ Worker ∷ Allocb ∷ Write ∷ Putq ∷ Getq ∷ Freemsg ∷ Census ∷ []
+
 -- the word that a text is, byte for byte, or none
 abbrev pub word_of : List ℕ → Option Word
-word_of text = find (λ w. bytes_eq (name_of w) text) WORDS
+word_of text = find (λ w. bytes_eq (name_of w) text) all_words

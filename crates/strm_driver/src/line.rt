@@ -1,6 +1,6 @@
 //! The lines of a script.
 ghost use Rattle.std.specs.Prelude.{◌≡◌, map};
-ghost use Rattle.strm_driver.specs.Entry.{entry_of};
+ghost use Rattle.strm_driver.specs.Entry.{call_of, entry_of};
 
 use crate::fault::Kind;
 use crate::form::{next_of, octet_of, octets_of, register_of, service_of, u32_of};
@@ -28,6 +28,25 @@ pub enum Entry {
     Command(Call),
 }
 
+// The call of a command line that begins with this word and goes on with these.
+fn call_of(word: Word, arguments: &[&[u8]]) -> Result<Call, Kind>
+    ensures { result ≡ call_of word (map (λ argument. argument.now) arguments.now) }
+{
+    match (word, arguments) {
+        (Word::Allocb, [reg, size]) => Ok(Call::Allocb(register_of(reg)?, u32_of(size)?)),
+        (Word::Write, [reg, place, bytes]) => Ok(Call::Write(
+            register_of(reg)?,
+            u32_of(place)?,
+            octets_of(bytes)?,
+        )),
+        (Word::Putq, [queue, reg]) => Ok(Call::Putq(octet_of(queue)?, register_of(reg)?)),
+        (Word::Getq, [queue, reg]) => Ok(Call::Getq(octet_of(queue)?, register_of(reg)?)),
+        (Word::Freemsg, [reg]) => Ok(Call::Freemsg(register_of(reg)?)),
+        (Word::Census, []) => Ok(Call::Census),
+        _ => Err(Kind::Shape),
+    }
+}
+
 /// What a line says that begins with this word and goes on with these.
 pub fn entry_of(word: Word, arguments: &[&[u8]]) -> Result<Entry, Kind>
     ensures { result ≡ entry_of word (map (λ argument. argument.now) arguments.now) }
@@ -49,25 +68,6 @@ pub fn entry_of(word: Word, arguments: &[&[u8]]) -> Result<Entry, Kind>
             u32_of(first_id)?,
         )),
         (Word::Worker, []) => Ok(Entry::Worker),
-        (Word::Allocb, [reg, size]) => Ok(Entry::Command(Call::Allocb(
-            register_of(reg)?,
-            u32_of(size)?,
-        ))),
-        (Word::Write, [reg, place, bytes]) => Ok(Entry::Command(Call::Write(
-            register_of(reg)?,
-            u32_of(place)?,
-            octets_of(bytes)?,
-        ))),
-        (Word::Putq, [queue, reg]) => Ok(Entry::Command(Call::Putq(
-            octet_of(queue)?,
-            register_of(reg)?,
-        ))),
-        (Word::Getq, [queue, reg]) => Ok(Entry::Command(Call::Getq(
-            octet_of(queue)?,
-            register_of(reg)?,
-        ))),
-        (Word::Freemsg, [reg]) => Ok(Entry::Command(Call::Freemsg(register_of(reg)?))),
-        (Word::Census, []) => Ok(Entry::Command(Call::Census)),
-        _ => Err(Kind::Shape),
+        _ => Ok(Entry::Command(call_of(word, arguments)?)),
     }
 }

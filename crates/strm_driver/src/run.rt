@@ -5,7 +5,7 @@ ghost use Rattle.strm_pool.specs.PoolValue.{owns};
 ghost use Rattle.strm_pool.specs.Registers.{table_of, AreDistinct};
 ghost use Rattle.strm_pool.specs.Step.{replay_from};
 ghost use Rattle.strm_driver.specs.Merge.{by_worker};
-ghost use Rattle.strm_driver.specs.Outcome.{outcome_of, outcome_of_script};
+ghost use Rattle.strm_driver.specs.Outcome.{outcome_of, outcome_of_script, IsTextOfInput};
 ghost use Rattle.strm_driver.specs.Script.{script_of};
 ghost use Rattle.strm_driver.specs.Text.{text_after, turns_of};
 ghost use Rattle.strm_driver.specs.Told.{TellsFault};
@@ -15,7 +15,7 @@ use crate::input::read_input;
 use crate::line::Line;
 use crate::output::write_text;
 use crate::script::{Script, parse};
-use crate::text::{blocks_text, reply_text};
+use crate::text::{reply_text, report_text};
 use std::alloc::{AllocError, Global};
 use std::io::{Read, Write};
 use strm_pool::{Pool, Regs};
@@ -45,7 +45,7 @@ fn serve(
         let reply = pool.apply(regs, &line.call);
         reply_text(text, 0, line.number, &reply)?;
     }
-    blocks_text(text, pool.census())
+    report_text(text, pool)
 }
 
 // The text of a script, all of whose lines are served on one thread, or the script's or its configuration's
@@ -81,6 +81,9 @@ pub fn run<E: AllocGlobal, R: Read, W: Write>(
     // Where it is Ok, the text of the script that the bytes read are was written, and nothing else.
     ensures text { OnOk result (IfSome (R.remaining reader.old) (λ input.
         IsOkAnd (outcome_of max input) (Appends (W.contents writer.old) (W.contents writer.new)))) }
+    // The lines were served in some order that keeps each worker's own.
+    ensures merged { OnOk result (IfSome (R.remaining reader.old) (λ input.
+        (text : List ℕ) × IsTextOfInput max input text × Appends (W.contents writer.old) (W.contents writer.new) text)) }
     // An input too long, a script or a configuration is refused where it is at fault, and for its first fault.
     ensures refused { IfErr result (λ fault. IfSome (R.remaining reader.old) (λ input.
         TellsFault fault (outcome_of max input))) }

@@ -11,9 +11,6 @@ use crate::word::Word;
 use std::alloc::Global;
 use strm_pool::Config;
 
-/// How many worker sections a script may have.
-pub const MAX_SECTIONS: usize = 1;
-
 /// How many command lines a script may have, over all its sections.
 pub const MAX_COMMANDS: usize = 1_048_576;
 

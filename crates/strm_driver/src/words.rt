@@ -52,3 +52,6 @@ pub fn options_of(alloc: Global, words: &[String]) -> Result<Options, Error>
         max: max.clamp(1, GREATEST_MAX),
     })
 }
+
+#[cfg(test)]
+mod tests;

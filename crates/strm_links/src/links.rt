@@ -22,13 +22,13 @@ use std::mem::size_of;
 /// Only `new` takes memory, 12 bytes for a node and 12 for a list, and every call takes constant time
 /// but for `new` and `append`. Callers see `Rows`: how many nodes there are, and the nodes of each
 /// list from front to back.
-#[derive(Drop)]
+#[derive(Debug, Drop)]
 pub struct Links {
     nodes: Vec<Node>,
     ends: Vec<Ends>,
 }
 
-#[derive(Clone, Copy)]
+#[derive(Clone, Copy, Debug)]
 struct Node {
     // The list that the node is in, and its neighbours there.
     list: Slot,
@@ -36,7 +36,7 @@ struct Node {
     next: Slot,
 }
 
-#[derive(Clone, Copy)]
+#[derive(Clone, Copy, Debug)]
 struct Ends {
     len: u32,
     front: Slot,

@@ -6,7 +6,7 @@ use std::marker::Model;
 /// The number of a node or of a list, or none.
 ///
 /// One 32-bit word: `u32::MAX`, which numbers no node and no list, stands for none.
-#[derive(Clone, Copy)]
+#[derive(Clone, Copy, Debug)]
 pub struct Slot {
     word: u32,
 }

@@ -7,14 +7,16 @@ use Rattle.std.specs.Global.{Vec}
 use Rattle.std.proofs.lemmas.Bool.{cases_eq, cases_lt, eq-eqb}
 use Rattle.std.proofs.lemmas.Bool.Decides.{eqb_tells}
 use Rattle.std.proofs.lemmas.List.{length-map, set_past}
-use Rattle.strm_pool.specs.declared.msg_type.MsgType.TheVariants.{MData}
+use Rattle.strm_data.specs.declared.msg_type.MsgType.TheVariants.{MData}
 use Rattle.strm_pool.specs.declared.pool.Block.{Block}
 use Rattle.strm_pool.specs.declared.pool.Pool.TheInside.{Inside}
-use Rattle.strm_pool.specs.declared.refusal.Refusal.{Refusal}
-use Rattle.strm_pool.specs.declared.refusal.Refusal.TheVariants.{TooLarge}
-use Rattle.strm_pool.specs.Arena.{Arena, held_at, times, new_block, with_held, held_new, allocb_from}
-use Rattle.strm_pool.specs.CountedStore.{CountedStore, IsKept, IsUnused, count_of, after_take}
-use Rattle.strm_pool.specs.DataStore.{DataStore, DataBlock, no_data_block, data_block_at, fits_a_class, take_data, with_data_taken}
+use Rattle.strm_data.specs.declared.refusal.Refusal.{Refusal}
+use Rattle.strm_data.specs.declared.refusal.Refusal.TheVariants.{TooLarge}
+use Rattle.strm_pool.specs.Arena.{Arena, held_at, new_block, with_held, held_new, allocb_from}
+use Rattle.strm_data.specs.DataStore.{times}
+use Rattle.strm_data.specs.CountedStore.{CountedStore, IsKept, IsUnused, count_of, after_take}
+use Rattle.strm_data.specs.DataStore.{DataStore, DataBlock, no_data_block, data_block_at, take_data, with_data_taken}
+use Rattle.strm_data.specs.Classes.{fits_a_class}
 use Rattle.strm_pool.specs.PoolLayout.{message_of, arena_of, pool_value, IsSound}
 use Rattle.strm_pool.specs.PoolValue.{PoolValue, on_arena, allocb}
 use Rattle.strm_pool.proofs.Moves.{one_if, times_front, within, not_held, allocated}

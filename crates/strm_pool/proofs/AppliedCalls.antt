@@ -7,7 +7,7 @@ use Rattle.std.specs.List.{list_any}
 use Rattle.std.proofs.lemmas.Option.{same_Some}
 use Rattle.std.proofs.lemmas.List.{set-set, set-get_or}
 use Rattle.strm_pool.specs.declared.call.Call.TheVariants.{Allocb, Write, Putq, Getq, Freemsg}
-use Rattle.strm_pool.specs.declared.refusal.Refusal.{Refusal}
+use Rattle.strm_data.specs.declared.refusal.Refusal.{Refusal}
 use Rattle.strm_pool.specs.declared.reply.Reply.TheVariants.{Done, Refused}
 use Rattle.strm_pool.specs.declared.token.TokenValue.{TokenValue}
 use Rattle.strm_pool.specs.Arena as arena

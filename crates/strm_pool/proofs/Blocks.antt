@@ -3,7 +3,8 @@ use Rattle.std.proofs.Common.{◌≡◌, ℕ, zero, suc, ◌+◌, ◌<◌, Bool,
 use Rattle.std.specs.Prelude.{count_by}
 use Rattle.std.specs.List.{flat_map}
 use Rattle.std.proofs.lemmas.List.Sums.{sum_by-append}
-use Rattle.strm_pool.specs.Arena.{Arena, Block, Message, blocks_of, held_at, shelf_at, shelved_blocks, held_blocks, blocks_in, times, numbers_of, with_shelf}
+use Rattle.strm_pool.specs.Arena.{Arena, Block, Message, blocks_of, held_at, shelf_at, shelved_blocks, held_blocks, blocks_in, numbers_of, with_shelf}
+use Rattle.strm_data.specs.DataStore.{times}
 
 -- a number of a list that adds up over its parts
 pub record IsAdditive {X : Type 0} (m : List X → ℕ) : Type 0 where

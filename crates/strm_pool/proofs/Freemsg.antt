@@ -10,8 +10,8 @@ use Rattle.std.proofs.lemmas.List.{length-map, get_or_past}
 use Rattle.strm_pool.specs.declared.pool.Block.{Block}
 use Rattle.strm_pool.specs.declared.pool.Pool.TheInside.{Inside}
 use Rattle.strm_pool.specs.Arena.{Arena, Message, has, held_at, blocks_of, names_of, is_naming, without_held, with_blocks_freed, freemsg}
-use Rattle.strm_pool.specs.CountedStore.{CountedStore, IsKept, IsInUse, count_of, without_name}
-use Rattle.strm_pool.specs.DataStore.{DataStore, with_data_freed}
+use Rattle.strm_data.specs.CountedStore.{CountedStore, IsKept, IsInUse, count_of, without_name}
+use Rattle.strm_data.specs.DataStore.{DataStore, with_data_freed}
 use Rattle.strm_pool.specs.PoolLayout.{message_of, arena_of, pool_value, IsSound}
 use Rattle.strm_pool.specs.PoolValue.{PoolValue, spent}
 use Rattle.strm_pool.specs.declared.token.TokenValue.{TokenValue}

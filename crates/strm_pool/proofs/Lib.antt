@@ -1,8 +1,3 @@
-pub mod Fitting
-pub mod Times
-pub mod Kept
-pub mod Laid
-pub mod Opening
 pub mod Blocks
 pub mod Moves
 pub mod PoolMoves

@@ -5,9 +5,10 @@ use Rattle.std.specs.List.{flat_map}
 use Rattle.std.specs.Option.{IfSome}
 use Rattle.std.proofs.lemmas.Bool.{cases_eq, cases_lt, eq-eqb}
 use Rattle.std.proofs.lemmas.List.{get_or_past, length-map}
-use Rattle.strm_pool.specs.Arena.{Arena, Block, Message, blocks_of, held_at, shelf_at, head_of, shelved_blocks, held_blocks, blocks_in, is_naming, names_of, times, numbers_of, with_held, without_held, with_shelf, new_block}
-use Rattle.strm_pool.specs.CountedStore.{CountedStore, count_of}
-use Rattle.strm_pool.proofs.Times.{as_many}
+use Rattle.strm_pool.specs.Arena.{Arena, Block, Message, blocks_of, held_at, shelf_at, head_of, shelved_blocks, held_blocks, blocks_in, is_naming, names_of, numbers_of, with_held, without_held, with_shelf, new_block}
+use Rattle.strm_data.specs.DataStore.{times}
+use Rattle.strm_data.specs.CountedStore.{CountedStore, count_of}
+use Rattle.strm_data.proofs.Times.{as_many}
 use Rattle.strm_pool.proofs.Blocks.{count_adds, length_adds, held_moves, shelf_moves, blocks_in_adds, flat_map-set_adds, times-all}
 
 abbrev pub number_is : ℕ → Block → Bool

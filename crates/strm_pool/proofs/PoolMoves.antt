@@ -10,13 +10,13 @@ use Rattle.std.proofs.lemmas.List.{map-set, map_push, length-map, get_or_past, g
 use Rattle.std.proofs.lemmas.List as lists
 use Rattle.std.proofs.lemmas.Bool.{lt-ltb, cases_lt, and_parts, and_from, eq-eqb, false≢true}
 use Rattle.std.proofs.lemmas.List.Elements.{All-set}
-use Rattle.strm_pool.specs.declared.msg_type.MsgType.TheVariants.{MData}
+use Rattle.strm_data.specs.declared.msg_type.MsgType.TheVariants.{MData}
 use Rattle.strm_pool.specs.declared.pool.Block.{Block}
 use Rattle.strm_pool.specs.declared.pool.Pool.TheInside.{Inside}
-use Rattle.strm_pool.specs.declared.refusal.Refusal.{Refusal}
+use Rattle.strm_data.specs.declared.refusal.Refusal.{Refusal}
 use Rattle.strm_pool.specs.Arena.{Arena, Message, has, is_of_length, held_at, shelf_at, blocks_of, token_of, without_held, with_shelf}
-use Rattle.strm_pool.specs.CountedStore.{IsKept, count_of}
-use Rattle.strm_pool.specs.DataStore.{DataStore, data_block_at}
+use Rattle.strm_data.specs.CountedStore.{IsKept, count_of}
+use Rattle.strm_data.specs.DataStore.{DataStore, data_block_at}
 use Rattle.strm_pool.specs.Queue.{rank_of, as_queued, put_behind, put_on}
 use Rattle.strm_pool.specs.PoolLayout.{message_of, arena_of, pool_value, IsSound}
 use Rattle.strm_pool.specs.PoolValue.{PoolValue, Given, after, answer_of, putq}

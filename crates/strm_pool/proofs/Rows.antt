@@ -3,24 +3,25 @@
 use Rattle.std.specs.Prelude.{◌≡◌, ℕ, true, false, List, [], ◌∷◌, ◌++◌, map, replicate, Option, None, Some, Result, Ok, Err, slice_set}
 use Rattle.std.specs.List.{range_with_len}
 use Rattle.std.proofs.Common.{refl}
-use Rattle.strm_pool.specs.declared.class_spec.ClassSpec.{ClassSpec}
+use Rattle.strm_data.specs.declared.class_spec.ClassSpec.{ClassSpec}
 use Rattle.strm_pool.specs.declared.queue_spec.QueueSpec.{QueueSpec}
 use Rattle.strm_pool.specs.declared.config.Config.{Config}
 use Rattle.strm_pool.specs.declared.config.Which.TheVariants.{Mblks, Classes, ClassSize, ClassTotal, Queues, Marks, Next, Bufcalls, FirstId}
 use Rattle.strm_pool.specs.declared.call.Call.{Call}
 use Rattle.strm_pool.specs.declared.call.Call.TheVariants.{Allocb, Write, Putq, Getq, Freemsg, Census}
-use Rattle.strm_pool.specs.declared.msg_type.MsgType.TheVariants.{MData, MPcproto}
+use Rattle.strm_data.specs.declared.msg_type.MsgType.TheVariants.{MData, MPcproto}
 use Rattle.strm_pool.specs.declared.reply.Reply.{Reply}
 use Rattle.strm_pool.specs.declared.reply.Reply.TheVariants.{Done, Nothing, Empty, Taken, Refused}
 use Rattle.strm_pool.specs.declared.reply.Reply.TheVariants as replies
-use Rattle.strm_pool.specs.declared.refusal.Refusal.{Refusal}
-use Rattle.strm_pool.specs.declared.refusal.Refusal.TheVariants.{TooLarge, NoMblk, NoData, NoSuchBlock, Shared, NoRoom, NoSuchQueue}
+use Rattle.strm_data.specs.declared.refusal.Refusal.{Refusal}
+use Rattle.strm_data.specs.declared.refusal.Refusal.TheVariants.{TooLarge, NoMblk, NoData, NoSuchBlock, Shared, NoRoom, NoSuchQueue}
 use Rattle.strm_pool.specs.declared.token.TokenValue.{TokenValue}
 use Rattle.strm_pool.specs.Config.{fault_of}
 use Rattle.strm_pool.specs.Registers.{table_of}
-use Rattle.strm_pool.specs.DataStore.{DataStore, data_block_at, free_of, take_data, with_data_taken, with_data_freed, overwritten, with_bytes_written, opening_store}
-use Rattle.strm_pool.specs.CountedStore.{opening_counted, after_take, without_name}
-use Rattle.strm_pool.specs.Arena.{Arena, Block, Message, head_of, bytes_of, size_of, names_of, held_at, blocks_of, shelf_at, blocks_in, numbers_of, times, with_blocks_freed, new_block, is_free_in, has, token_of}
+use Rattle.strm_data.specs.DataStore.{DataStore, data_block_at, free_of, take_data, with_data_taken, with_data_freed, overwritten, with_bytes_written, opening_store}
+use Rattle.strm_data.specs.CountedStore.{opening_counted, after_take, without_name}
+use Rattle.strm_pool.specs.Arena.{Arena, Block, Message, head_of, bytes_of, size_of, names_of, held_at, blocks_of, shelf_at, blocks_in, numbers_of, with_blocks_freed, new_block, is_free_in, has, token_of}
+use Rattle.strm_data.specs.DataStore.{times}
 use Rattle.strm_pool.specs.Arena as arena
 use Rattle.strm_pool.specs.Queue.{rank_of, is_ordered, as_queued, put_behind, has_queue}
 use Rattle.strm_pool.specs.PoolValue.{PoolValue, opening, answer_of, owns, spent, drained, rejecting}

@@ -4,13 +4,14 @@ use Rattle.std.specs.Prelude.{option_map, is_some, is_none, not, ◌||◌, unwra
 use Rattle.std.specs.Result.{result_map_both, result_err}
 use Rattle.std.proofs.lemmas.Option.{same_Some}
 use Rattle.strm_pool.specs.declared.call.Call.TheVariants.{Allocb, Write, Putq, Getq, Freemsg}
-use Rattle.strm_pool.specs.declared.refusal.Refusal.{Refusal}
-use Rattle.strm_pool.specs.declared.refusal.Refusal.TheVariants.{TooLarge, NoSuchQueue, Shared, NoRoom}
+use Rattle.strm_data.specs.declared.refusal.Refusal.{Refusal}
+use Rattle.strm_data.specs.declared.refusal.Refusal.TheVariants.{TooLarge, NoSuchQueue, Shared, NoRoom}
 use Rattle.strm_pool.specs.declared.reply.Reply.TheVariants.{Done, Empty, Taken, Refused}
 use Rattle.strm_pool.specs.declared.token.TokenValue.{TokenValue}
 use Rattle.strm_pool.specs.Arena.{Arena, Block, Message, held_at, blocks_of, head_of, token_of, with_blocks_freed}
 use Rattle.strm_pool.specs.Arena as arena
-use Rattle.strm_pool.specs.DataStore.{fits_a_class, take_data, capacity_of, with_data_taken, with_bytes_written}
+use Rattle.strm_data.specs.DataStore.{take_data, capacity_of, with_data_taken, with_bytes_written}
+use Rattle.strm_data.specs.Classes.{fits_a_class}
 use Rattle.strm_pool.specs.PoolValue.{PoolValue, Given, answer_of, on_arena, allocb, write, putq, getq, freemsg, rejecting}
 use Rattle.strm_pool.specs.Queue.{has_queue, got_from}
 use Rattle.strm_pool.specs.Queue as queue

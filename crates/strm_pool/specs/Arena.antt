@@ -2,10 +2,11 @@
 use Rattle.std.specs.Prelude.{◌≡◌, ℕ, ◌+◌, ◌<◌, ◌≤◌, Bool, false, ◌&&◌, ◌==◌, nat_lt, List, [], ◌∷◌, ◌++◌, length, map, take, drop, sum_by, count_by, Option, None, Some, IfSome, unwrap_or, Result, Ok, Err, slice_get, slice_index_or, slice_set, if◌then◌else◌}
 use Rattle.std.specs.List.{flat_map, All}
 use Rattle.strm_pool.specs.declared.census.Census.{Census}
-use Rattle.strm_pool.specs.declared.msg_type.MsgType.{MsgType}
-use Rattle.strm_pool.specs.declared.refusal.Refusal.{Refusal}
-use Rattle.strm_pool.specs.declared.refusal.Refusal.TheVariants.{TooLarge, NoMblk, NoSuchBlock, Shared, NoRoom}
-use Rattle.strm_pool.specs.DataStore.{DataStore, data_block_at, class_of, capacity_of, free_of, fits_a_class, take_data, with_data_taken, with_data_freed, with_bytes_written}
+use Rattle.strm_data.specs.declared.msg_type.MsgType.{MsgType}
+use Rattle.strm_data.specs.declared.refusal.Refusal.{Refusal}
+use Rattle.strm_data.specs.declared.refusal.Refusal.TheVariants.{TooLarge, NoMblk, NoSuchBlock, Shared, NoRoom}
+use Rattle.strm_data.specs.Classes.{fits_a_class}
+use Rattle.strm_data.specs.DataStore.{DataStore, times, data_block_at, class_of, capacity_of, free_of, take_data, with_data_taken, with_data_freed, with_bytes_written}
 use Rattle.strm_pool.specs.declared.token.TokenValue.{TokenValue}
 
 -- a message block: its number, the data block that it names, its read place, how many bytes stand from
@@ -179,10 +180,6 @@ abbrev pub spent : Arena → TokenValue → Arena
 spent a t = if has a t then freemsg t.head a else a
 
 -- ---- parted
-
--- how often a number stands in a list
-abbrev pub times : ℕ → List ℕ → ℕ
-times n xs = count_by (λ x. x == n) xs
 
 abbrev pub numbers_of : List Block → List ℕ
 numbers_of bs = map (λ b. b.number) bs

@@ -1,7 +1,7 @@
 -- When a configuration is lawful, and the first fault where it is not.
-use Rattle.std.specs.Prelude.{ℕ, Bool, true, false, not, ◌&&◌, ◌||◌, ◌==◌, nat_lt, nat_le, List, [], ◌∷◌, length, sum_by, count_by, Option, Some, None, if◌then◌else◌, codes}
+use Rattle.std.specs.Prelude.{ℕ, Bool, true, false, not, ◌&&◌, ◌||◌, ◌==◌, nat_lt, nat_le, List, length, count_by, Option, Some, None, if◌then◌else◌, codes}
 use Rattle.std.specs.List.{list_all, list_any, enumerate_from}
-use Rattle.strm_pool.specs.declared.class_spec.ClassSpec.{ClassSpec}
+use Rattle.strm_data.specs.Classes.{sizes_rise, each_has_blocks, total_of}
 use Rattle.strm_pool.specs.declared.queue_spec.QueueSpec.{QueueSpec}
 use Rattle.strm_pool.specs.declared.config.Config.{Config}
 use Rattle.strm_pool.specs.declared.config.Which.{Which}
@@ -17,19 +17,6 @@ name_of Marks = codes "Marks"
 name_of Next = codes "Next"
 name_of Bufcalls = codes "Bufcalls"
 name_of FirstId = codes "FirstId"
-
--- each size is above the one before, the first above this, and none is above 4,096
-abbrev pub sizes_rise : ℕ → List ClassSpec → Bool
-sizes_rise below [] = true
-sizes_rise below (c ∷ cs) = nat_lt below c.size && (nat_le c.size 4096 && sizes_rise c.size cs)
-
--- no count is 0
-abbrev pub each_has_blocks : List ClassSpec → Bool
-each_has_blocks cs = list_all (λ c. nat_lt 0 c.count) cs
-
--- the number of all data blocks
-abbrev pub total_of : List ClassSpec → ℕ
-total_of cs = sum_by (λ c. c.count) cs
 
 -- some low water mark isn't below the high one
 abbrev pub marks_meet : List QueueSpec → Bool

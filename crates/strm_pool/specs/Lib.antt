@@ -1,12 +1,7 @@
-pub mod Refusal
-pub mod MsgType
 pub mod Config
 pub mod Registers
-pub mod DataStore
 pub mod Arena
 pub mod Queue
 pub mod PoolValue
 pub mod Step
-pub mod CountedStore
-pub mod DataLayout
 pub mod PoolLayout

@@ -3,12 +3,12 @@ use Rattle.std.specs.Prelude.{◌≡◌, ℕ, ◌<◌, ◌≤◌, nat_lt, [], �
 use Rattle.std.specs.List.{All}
 use Rattle.std.specs.Option.{IfSome}
 use Rattle.std.specs.VecDeque.{deque_capacity}
-use Rattle.strm_pool.specs.declared.msg_type.MsgType.TheVariants.{MData}
+use Rattle.strm_data.specs.declared.msg_type.MsgType.TheVariants.{MData}
 use Rattle.strm_pool.specs.declared.pool.Block.{Block}
 use Rattle.strm_pool.specs.declared.pool.Pool.TheInside.{Inside}
-use Rattle.strm_pool.specs.Arena.{Arena, Message, head_of, held_at, blocks_in, names_of, times, numbers_of}
-use Rattle.strm_pool.specs.CountedStore.{count_of, IsKept}
-use Rattle.strm_pool.specs.DataStore.{data_block_at}
+use Rattle.strm_pool.specs.Arena.{Arena, Message, head_of, held_at, blocks_in, names_of, numbers_of}
+use Rattle.strm_data.specs.CountedStore.{count_of, IsKept}
+use Rattle.strm_data.specs.DataStore.{times, data_block_at}
 use Rattle.strm_pool.specs.PoolValue.{PoolValue}
 
 -- each message is one block; no call of this crate raises a read place or gives a band

@@ -2,14 +2,14 @@
 use Rattle.std.specs.Prelude.{◌≡◌, ℕ, Bool, true, fold, List, [], length, replicate, Option, None, Some, Result, Ok, Err}
 use Rattle.std.specs.List.{list_all, range_with_len}
 use Rattle.std.specs.Option.{option_map_or}
-use Rattle.strm_pool.specs.declared.class_spec.ClassSpec.{ClassSpec}
+use Rattle.strm_data.specs.declared.class_spec.ClassSpec.{ClassSpec}
 use Rattle.strm_pool.specs.declared.config.Config.{Config}
 use Rattle.strm_pool.specs.declared.config.NewFault.{NewFault}
 use Rattle.strm_pool.specs.declared.config.NewFault.TheVariants.{BadConfig, Memory}
 use Rattle.strm_pool.specs.declared.pool.Rejected.{Rejected}
-use Rattle.strm_pool.specs.declared.refusal.Refusal.{Refusal}
+use Rattle.strm_data.specs.declared.refusal.Refusal.{Refusal}
 use Rattle.strm_pool.specs.Config.{fault_of}
-use Rattle.strm_pool.specs.DataStore.{opening_store}
+use Rattle.strm_data.specs.DataStore.{opening_store}
 use Rattle.strm_pool.specs.Arena.{Arena}
 use Rattle.strm_pool.specs.Arena as arena
 use Rattle.strm_pool.specs.Queue as queue

@@ -1,9 +1,9 @@
 -- Queues, by the rank of their messages. Shelf q of an arena holds the messages of queue q.
 use Rattle.std.specs.Prelude.{ℕ, Bool, true, ◌&&◌, nat_lt, nat_le, List, [], ◌∷◌, length, Option, None, Some, Ok, Err, if◌then◌else◌}
 use Rattle.std.specs.List.{list_any, list_all}
-use Rattle.strm_pool.specs.declared.refusal.Refusal.TheVariants.{NoSuchQueue}
-use Rattle.strm_pool.specs.MsgType.{is_high_priority}
-use Rattle.strm_pool.specs.DataStore.{DataStore}
+use Rattle.strm_data.specs.declared.refusal.Refusal.TheVariants.{NoSuchQueue}
+use Rattle.strm_data.specs.MsgType.{is_high_priority}
+use Rattle.strm_data.specs.DataStore.{DataStore}
 use Rattle.strm_pool.specs.Arena.{Arena, Given, Message, head_of, kind_of, held_at, blocks_of, shelf_at, with_held, without_held, with_shelf}
 
 -- ---- rank, and where a message goes

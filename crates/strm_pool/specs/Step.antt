@@ -4,7 +4,7 @@ use Rattle.std.specs.List.{list_any}
 use Rattle.std.specs.Option.{option_map_or}
 use Rattle.strm_pool.specs.declared.call.Call.{Call}
 use Rattle.strm_pool.specs.declared.call.Call.TheVariants.{Allocb, Write, Putq, Getq, Freemsg, Census}
-use Rattle.strm_pool.specs.declared.refusal.Refusal.TheVariants.{NoSuchQueue}
+use Rattle.strm_data.specs.declared.refusal.Refusal.TheVariants.{NoSuchQueue}
 use Rattle.strm_pool.specs.declared.reply.Reply.{Reply}
 use Rattle.strm_pool.specs.declared.reply.Reply.TheVariants.{Done, Nothing, Empty, Taken, Refused}
 use Rattle.strm_pool.specs.declared.reply.Reply.TheVariants as replies

@@ -5,9 +5,9 @@ ghost use Rattle.strm_pool.specs.declared.call.Call.TheVariants as calls;
 use crate::call::Call;
 use crate::octets::Octets;
 use crate::pool::{Pool, Rejected};
-use crate::refusal::Refusal;
 use crate::regs::{Reg, Regs};
 use crate::reply::Reply;
+use strm_data::Refusal;
 
 impl Pool {
     ghost use Rattle.strm_pool.specs.PoolValue.{owns};

@@ -1,20 +1,9 @@
-//! The size classes of data blocks.
+//! The size classes of a configuration.
 ghost use Rattle.std.specs.Prelude.{◌≡◌, ◌≤◌, length};
 
 use arrayvec::ArrayVec;
 use std::marker::Model;
-
-/// One size class: `count` data blocks of `size` bytes each.
-///
-/// Size classes stand for the sizes that `allocb` of STREAMS rounds a request up to; how many there are of
-/// each is this project's own choice.
-#[derive(Clone, Copy, Debug, Default, PartialEq, Eq)]
-pub struct ClassSpec {
-    /// The capacity of each data block, in bytes.
-    pub size: u32,
-    /// How many data blocks there are.
-    pub count: u32,
-}
+use strm_data::ClassSpec;
 
 /// At most eight size classes, in order.
 #[derive(Debug, Drop)]
@@ -24,7 +13,7 @@ pub struct ClassSpecs {
 
 impl Model for ClassSpecs {
     ghost use Rattle.std.specs.Prelude.{List};
-    ghost use Rattle.strm_pool.specs.declared.class_spec.ClassSpec.{ClassSpec};
+    ghost use Rattle.strm_data.specs.declared.class_spec.ClassSpec.{ClassSpec};
 
     ghost Value = { List ClassSpec };
 

@@ -1,9 +1,11 @@
 //! What a pool is made with, and what may be wrong with it.
 ghost use Rattle.std.specs.Prelude.{◌≡◌, ◌≤◌, length};
-ghost use Rattle.strm_pool.specs.Config.{sizes_rise, each_has_blocks, total_of, marks_meet, times_next, nexts_fit};
+ghost use Rattle.strm_data.specs.Classes.{sizes_rise, each_has_blocks, total_of};
+ghost use Rattle.strm_pool.specs.Config.{marks_meet, times_next, nexts_fit};
 
-use crate::class_spec::{ClassSpec, ClassSpecs};
+use crate::class_spec::ClassSpecs;
 use crate::queue_spec::{QueueSpec, QueueSpecs};
+use strm_data::ClassSpec;
 use thiserror::Error;
 
 /// What a pool is made with. The limits are this project's own choice.
@@ -92,7 +94,7 @@ fn each_has_blocks(classes: &[ClassSpec]) -> bool
 }
 
 // The number of all data blocks.
-pub(crate) fn total_of(classes: &[ClassSpec]) -> u64
+fn total_of(classes: &[ClassSpec]) -> u64
     requires { length classes.now ≤ 8 }
     ensures { result ≡ total_of classes.now }
 {

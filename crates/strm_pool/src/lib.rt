@@ -6,12 +6,11 @@ mod call;
 mod census;
 mod class_spec;
 mod config;
-mod data;
-mod msg_type;
 mod octets;
+#[cfg(test)]
+mod plain;
 mod pool;
 mod queue_spec;
-mod refusal;
 mod regs;
 mod reply;
 #[cfg(test)]
@@ -20,13 +19,12 @@ mod token;
 
 pub use call::Call;
 pub use census::Census;
-pub use class_spec::{ClassSpec, ClassSpecs};
+pub use class_spec::ClassSpecs;
 pub use config::{Config, NewFault, Which};
-pub use msg_type::MsgType;
 pub use octets::Octets;
 pub use pool::{Pool, Rejected};
 pub use queue_spec::{QueueSpec, QueueSpecs};
-pub use refusal::Refusal;
 pub use regs::{Reg, Regs};
 pub use reply::Reply;
+pub use strm_data::{ClassInfo, ClassSpec, MsgType, Refusal};
 pub use token::Token;

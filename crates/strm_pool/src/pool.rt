@@ -1,31 +1,32 @@
 //! The pool: messages held as tokens or put on queues.
-ghost use Rattle.std.specs.Prelude.{◌≡◌, ◌+◌, ◌≤◌, ℕ, true, [], length, map, replicate, None, IfOk, IfSome, IsTrue, sum_by};
-ghost use Rattle.std.specs.List.{All};
+ghost use Rattle.std.specs.Prelude.{◌≡◌, ◌+◌, ◌≤◌, ℕ, true, [], length, map, replicate, None, IfOk, IfSome, IsTrue, slice_get, sum_by};
+ghost use Rattle.std.specs.List.{All, range_with_len};
 ghost use Rattle.std.specs.VecDeque.{deque_len, deque_capacity};
-ghost use Rattle.strm_pool.specs.Config.{total_of};
+ghost use Rattle.strm_data.specs.Classes.{are_lawful};
 ghost use Rattle.std.specs.Option.{option_map, option_map_or};
 ghost use Rattle.std.specs.Result.{result_map_both};
 ghost use Rattle.strm_pool.specs.Arena.{IsParted, census_of};
 
+#[cfg(test)]
+mod beside;
+
 use crate::call::Call;
 use crate::census::Census;
-use crate::class_spec::ClassSpecs;
 use crate::config::{Config, NewFault};
-use crate::data::{DataBlocks, free_list};
-use crate::refusal::Refusal;
 use crate::regs::{Reg, Regs};
 use crate::reply::Reply;
 use crate::token::{Token, TokenValue};
 use std::alloc::{AllocError, Global};
 use std::collections::VecDeque;
 use std::marker::Model;
+use strm_data::{ClassInfo, ClassSpec, Data, Refusal};
 
 /// A pool of message blocks over data blocks, with its queues. A message is held as a token by the caller, or
 /// stands on a queue. No call but `new` takes memory.
 #[derive(Debug, Drop)]
 pub struct Pool {
     id: u32,
-    store: DataBlocks,
+    store: Data,
     // The free message blocks, the next to be taken first.
     free: VecDeque<u32>,
     // At each number the message block, where it is a held message.
@@ -63,6 +64,18 @@ impl Model for Pool {
     ghost invariant = { IsSound };
 }
 
+// The numbers of so many blocks, in rising order.
+fn free_list(alloc: Global, count: u32) -> Result<VecDeque<u32>, AllocError>
+    ensures numbers { IfOk result (λ list. list.items ≡ range_with_len 0 count) }
+    ensures room { IfOk result (λ list. count ≤ deque_capacity list) }
+{
+    let mut list = VecDeque::with_capacity(alloc, count as usize)?;
+    for number in 0..count {
+        list.push_back_reserved(number);
+    }
+    Ok(list)
+}
+
 // So many empty queues, with room for so many messages each.
 fn empty_queues(
     alloc: Global,
@@ -90,6 +103,7 @@ fn queued_in(queues: &[VecDeque<Block>]) -> usize
 impl Pool {
     ghost use Rattle.strm_pool.specs.PoolValue.{Opens, opening_arena, after, answer_of, owns, spent, drained, rejecting};
     ghost use Rattle.strm_pool.specs.Arena.{has, held_at, is_of_length, shelf_at, token_of};
+    ghost use Rattle.strm_data.specs.DataStore.{class_infos};
     ghost use Rattle.strm_pool.specs.Queue.{has_queue, rank_of, is_ordered};
     ghost use Rattle.strm_pool.specs.PoolValue as model;
 
@@ -103,7 +117,13 @@ impl Pool {
             return Err(NewFault::BadConfig(which));
         }
         let queues = config.queues.items().len();
-        match Pool::build(alloc, config.id, config.mblks, config.classes, queues) {
+        match Pool::build(
+            alloc,
+            config.id,
+            config.mblks,
+            config.classes.items(),
+            queues,
+        ) {
             Ok(pool) => Ok(pool),
             Err(_) => Err(NewFault::Memory),
         }
@@ -114,18 +134,18 @@ impl Pool {
         alloc: Global,
         id: u32,
         mblks: u32,
-        classes: ClassSpecs,
+        classes: &[ClassSpec],
         queues: usize,
     ) -> Result<Pool, AllocError>
         requires blocks { mblks ≤ 4095 }
-        requires data_blocks { total_of classes ≤ 4095 }
-        ensures { IfOk result (λ v. v.arena ≡ opening_arena id mblks classes queues) }
+        requires classes { IsTrue (are_lawful classes.now) }
+        ensures { IfOk result (λ v. v.arena ≡ opening_arena id mblks classes.now queues) }
     {
         let room = mblks as usize;
         Ok(Pool {
             id,
-            store: DataBlocks::new(alloc, classes)?,
-            free: free_list(alloc, 0, mblks, room)?,
+            store: Data::new(alloc, classes)?,
+            free: free_list(alloc, mblks)?,
             held: vec![in alloc; None; room]?,
             queues: empty_queues(alloc, queues, room)?,
         })
@@ -143,7 +163,7 @@ impl Pool {
         ensures had { IfOk result (λ token. IsTrue (has self.new.arena token)) }
         ensures unheld { IfOk result (λ token. held_at self.old.arena token.head ≡ None) }
     {
-        if !self.store.fits(size) {
+        if !self.store.has_class_for(size) {
             return Err(Refusal::TooLarge);
         }
         if self.free.is_empty() {
@@ -182,10 +202,11 @@ impl Pool {
         if self.store.count(written.data_number) > 1 {
             return Err(Refusal::Shared);
         }
-        let capacity = self.store.capacity(written.data_number);
+        let capacity = self.store.cap(written.data_number) as usize;
         match written.len.checked_add(bytes.len()) {
             Some(len) if len <= capacity => {
-                self.store.write(written.data_number, written.len, bytes);
+                self.store
+                    .write(written.data_number, written.len as u32, bytes);
                 self.held[head] = Some(Block { len, ..written });
                 Ok(())
             }
@@ -302,6 +323,8 @@ impl Pool {
         ensures parted { IsParted self.now.arena }
         // Free blocks, queued and held ones make the pool.
         ensures whole { (census_of self.now.arena).free + (census_of self.now.arena).queued + (census_of self.now.arena).held ≡ length self.now.arena.held }
+        // There are eight size classes at most.
+        ensures few_classes { length (class_infos self.now.arena.store) ≤ 8 }
         // Each queue is in order: ranks never rise from front to back.
         ensures ordered { (queue : ℕ) → IsTrue (is_ordered (rank_of self.now.arena.store) (shelf_at self.now.arena queue)) }
     {
@@ -327,6 +350,14 @@ impl Pool {
             Some(Some(_)) => blocks == 1,
             _ => false,
         }
+    }
+
+    /// The size of a class, how many of its data blocks are free, and how many it has; none where there is no
+    /// such class. Classes are counted from 0, the smallest first.
+    pub fn class_info(&self, class: u8) -> Option<ClassInfo>
+        ensures { result ≡ slice_get (class_infos self.now.arena.store) class }
+    {
+        self.store.class_info(class)
     }
 
     /// How many message blocks are free, in messages on queues, and in messages held as tokens.

@@ -1,6 +1,6 @@
 //! Replies as data.
 use crate::census::Census;
-use crate::refusal::Refusal;
+use strm_data::Refusal;
 
 /// The reply to a call.
 #[derive(Debug, Drop, PartialEq, Eq)]

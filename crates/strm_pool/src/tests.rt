@@ -1,4 +1,4 @@
-use crate::{ClassSpec, ClassSpecs, Config, Pool, QueueSpec, QueueSpecs, Reg, Regs, Token};
+use crate::{ClassSpec, ClassSpecs, Config, Octets, Pool, QueueSpec, QueueSpecs, Reg, Regs, Token};
 use arrayvec::ArrayVec;
 use std::alloc::Global;
 use std::process::Abort;
@@ -8,6 +8,7 @@ mod config;
 mod names;
 mod pool;
 mod regs;
+mod rows;
 
 const CLASSES: [(u32, u32); 2] = [(4, 1), (16, 2)];
 
@@ -52,6 +53,13 @@ fn opened(rt: &impl Abort, alloc: Global, id: u32, mblks: u32) -> Pool {
         first_id: 1,
     };
     Pool::new(alloc, config).expect(rt, "a lawful configuration")
+}
+
+// These bytes, at most 64.
+fn octets(rt: &impl Abort, bytes: &[u8]) -> Octets {
+    let mut list = ArrayVec::new();
+    assert!(rt; list.try_extend_from_slice(bytes).is_ok());
+    Octets::of(list)
 }
 
 // The register of a letter.

@@ -46,10 +46,9 @@ fn expect(
 }
 
 #[test]
-fn reads_a_script(rt: HostRuntime) -> Result<(), Fail> {
+fn reads_a_configuration(rt: HostRuntime) -> Result<(), Fail> {
     let text = b"# a pool\npool 7 20\nclass 64 4\nclass 4096 2\n\nqueue 100 50 s 1\nqueue 9 0 n -\n\
-        bufcalls 3 4294967295\nworker\nallocb a 10\nwrite b 0 68656aff\n# more\n\nputq 0 a\ngetq 255 z\n\
-        freemsg c\ncensus\nwrite d 4294967295 -\n";
+        bufcalls 3 4294967295\nworker\n";
     let script = parse(rt.alloc(), text)?;
     let config = &script.config;
     assert_eq!(rt;
@@ -64,20 +63,28 @@ fn reads_a_script(rt: HostRuntime) -> Result<(), Fail> {
         config.queues.items(),
         [queue(100, 50, true, Some(1)), queue(9, 0, false, None)].as_slice()
     );
+    assert!(rt; script.lines.is_empty());
+    Ok(())
+}
+
+#[test]
+fn reads_commands(rt: HostRuntime) -> Result<(), Fail> {
+    let commands =
+        "allocb a 10\nwrite b 0 68656aff\n# more\n\nputq 0 a\ngetq 255 z\nfreemsg c\ncensus\n\
+        write d 4294967295 -\n";
+    let text = format!(in rt.alloc(); "{OPEN}{commands}")?;
+    assert!(rt; text.len() <= 16_777_216);
+    let script = parse(rt.alloc(), text.as_bytes())?;
+    let write = "Write(Reg { place: 1 }, 0, Octets { bytes: [104, 101, 106, 255] })";
+    let write_nothing = "Write(Reg { place: 3 }, 4294967295, Octets { bytes: [] })";
     let calls = [
-        (10, "Allocb(Reg { place: 0 }, 10)"),
-        (
-            11,
-            "Write(Reg { place: 1 }, 0, Octets { bytes: [104, 101, 106, 255] })",
-        ),
-        (14, "Putq(0, Reg { place: 0 })"),
-        (15, "Getq(255, Reg { place: 25 })"),
-        (16, "Freemsg(Reg { place: 2 })"),
-        (17, "Census"),
-        (
-            18,
-            "Write(Reg { place: 3 }, 4294967295, Octets { bytes: [] })",
-        ),
+        (6, "Allocb(Reg { place: 0 }, 10)"),
+        (7, write),
+        (10, "Putq(0, Reg { place: 0 })"),
+        (11, "Getq(255, Reg { place: 25 })"),
+        (12, "Freemsg(Reg { place: 2 })"),
+        (13, "Census"),
+        (14, write_nothing),
     ];
     assert_eq!(rt; script.lines.len(), calls.len());
     for (line, (number, call)) in script.lines.iter().zip(calls) {

@@ -1,6 +1,6 @@
-use super::{blocks_text, reply_text};
+use super::{blocks_text, class_text, reply_text};
 use std::test::Fail;
-use strm_pool::{Census, Refusal, Reply};
+use strm_pool::{Census, ClassInfo, Refusal, Reply};
 
 const CENSUS: Census = Census {
     free: 4095,
@@ -28,9 +28,12 @@ fn writes_a_line_for_each_reply(rt: HostRuntime) -> Result<(), Fail> {
 fn writes_the_report_behind_the_transcript(rt: HostRuntime) -> Result<(), Fail> {
     let mut text = "0:7 ok\n".to_string(rt.alloc())?;
     blocks_text(&mut text, CENSUS)?;
+    for (size, free, total) in [(16, 0, 4), (4096, 4095, 4095)] {
+        class_text(&mut text, ClassInfo { size, free, total })?;
+    }
     assert_eq!(rt;
         text.as_str(),
-        "0:7 ok\nblocks free=4095 queued=0 held=12 total=4107\n"
+        "0:7 ok\nblocks free=4095 queued=0 held=12 total=4107\ndata size=16 free=0 total=4\ndata size=4096 free=4095 total=4095\n"
     );
     Ok(())
 }

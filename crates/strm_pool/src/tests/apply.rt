@@ -1,17 +1,9 @@
-use super::{opened, reg};
-use crate::{Call, Census, Octets, Pool, Refusal, Regs, Reply};
-use arrayvec::ArrayVec;
+use super::{octets, opened, reg};
+use crate::{Call, Census, Pool, Refusal, Regs, Reply};
 use std::process::Abort;
 
 const fn census(free: u32, queued: u32, held: u32) -> Reply {
     Reply::Census(Census { free, queued, held })
-}
-
-// These bytes, at most 64.
-fn octets(rt: &impl Abort, bytes: &[u8]) -> Octets {
-    let mut list = ArrayVec::new();
-    assert!(rt; list.try_extend_from_slice(bytes).is_ok());
-    Octets::of(list)
 }
 
 // Applies the calls, and compares each reply.
@@ -54,7 +46,7 @@ fn first_run(rt: HostRuntime) {
 fn refuses_in_order(rt: HostRuntime) {
     let mut pool = opened(&rt, rt.alloc(), 7, 4);
     let mut regs = Regs::new();
-    let (a, b, c) = (reg(&rt, b'a'), reg(&rt, b'b'), reg(&rt, b'z'));
+    let a = reg(&rt, b'a');
     let calls = [
         (Call::Allocb(a, 17), Reply::Refused(Refusal::TooLarge)),
         (Call::Write(a, 1, octets(&rt, b"0")), Reply::Empty),
@@ -76,6 +68,19 @@ fn refuses_in_order(rt: HostRuntime) {
             Call::Write(a, 0, octets(&rt, b"01234")),
             Reply::Refused(Refusal::NoRoom),
         ),
+        (Call::Census, census(3, 0, 1)),
+    ];
+    replies(&rt, &mut pool, &mut regs, &calls);
+    pool.drain(regs);
+}
+
+#[test]
+fn runs_out_of_data_blocks(rt: HostRuntime) {
+    let mut pool = opened(&rt, rt.alloc(), 7, 4);
+    let mut regs = Regs::new();
+    let (a, b, c) = (reg(&rt, b'a'), reg(&rt, b'b'), reg(&rt, b'z'));
+    let calls = [
+        (Call::Allocb(a, 4), Reply::Done),
         (Call::Allocb(b, 4), Reply::Done),
         (Call::Allocb(c, 4), Reply::Done),
         (Call::Putq(1, a), Reply::Done),

@@ -2,7 +2,7 @@ use Rattle.std.proofs.Common.{◌++◌, arith}
 use Rattle.std.specs.Prelude.{string_bytes}
 use Rattle.std.proofs.lemmas.Result.{IfOk-equal}
 use Rattle.strm_pool.specs.Registers.{table_of}
-use Rattle.strm_driver.specs.Text.{blocks_text}
+use Rattle.strm_driver.specs.Text.{report_text}
 use Rattle.strm_driver.proofs.Serving.{rest_text-next, rest_text-end}
 use Rattle.strm_driver.proofs.run.serve.Goals as goal
 
@@ -18,5 +18,5 @@ loop-line-preserved c =
 
 pub returns : goal.returns
 returns c =
-    IfOk-equal c.blocks_text.result (string_bytes c.blocks_text.new.text) (string_bytes c.loop-line.text ++ blocks_text c.census.result) _ c.blocks_text.ensures
-    (rest_text-end (string_bytes c.loop-line.text) _ c.loop-line.pool (table_of c.loop-line.regs) c.args.lines.now c.loop-line.line-index c.census.result (omega (arith, c.loop-line-test.false)) c.census.ensures c.loop-line.invariant.text)
+    IfOk-equal c.report_text.result (string_bytes c.report_text.new.text) (string_bytes c.loop-line.text ++ report_text c.loop-line.pool) _ c.report_text.ensures
+    (rest_text-end (string_bytes c.loop-line.text) _ c.loop-line.pool (table_of c.loop-line.regs) c.args.lines.now c.loop-line.line-index (omega (arith, c.loop-line-test.false)) c.loop-line.invariant.text)

@@ -1,5 +1,5 @@
 use Rattle.std.proofs.Common.{◌≡◌, drop}
-use Rattle.strm_pool.specs.Config.{sizes_rise}
+use Rattle.strm_data.specs.Classes.{sizes_rise}
 use Rattle.strm_pool.proofs.config.sizes_rise.Given as goal
 
 -- the sizes that are left rise from the last one seen as all do from 0

@@ -1,9 +1,9 @@
 use Rattle.std.proofs.Common.{Some, Ok, refl, sym, ap, ◌∙◌, arith}
 use Rattle.std.specs.Result.{result_map_both}
 use Rattle.std.specs.Vec.{with_item}
-use Rattle.strm_pool.specs.declared.refusal.Refusal.{Refusal}
+use Rattle.strm_data.specs.declared.refusal.Refusal.{Refusal}
 use Rattle.strm_pool.specs.Arena.{has, held_at, token_of}
-use Rattle.strm_pool.specs.CountedStore.{after_take}
+use Rattle.strm_data.specs.CountedStore.{after_take}
 use Rattle.strm_pool.specs.PoolLayout.{arena_of}
 use Rattle.strm_pool.specs.PoolValue.{PoolValue, allocb}
 use Rattle.strm_pool.specs.declared.token.TokenValue.{TokenValue}
@@ -22,13 +22,13 @@ invariant_of-self-2 c =
 pub returns-clause-pool : goal.returns-clause-pool
 returns-clause-pool c =
     let given = alloc_value c.self.inside c.self.invariant c.in-Some.number c.pop_front.new.self c.in-Some.ensures.items
-    c.in_ok-data_number.data_number c.take.new.self (with_item c.self.inside.held c.in-Some.number (Some (record { number = c.in-Some.number; data_number = c.in_ok-data_number.data_number; len = 0 }))) c.in_ok-data_number.ensures.unused c.in_ok-data_number.ensures.kept (c.in_ok-data_number.ensures.after ∙ ap (after_take c.self.inside.store) (sym c.in_ok-data_number.ensures.answer)) refl c.args.size (sym c.fits.ensures ∙ c.if-not-fits.false) (sym c.in_ok-data_number.ensures.answer) in
+    c.in_ok-data_number.data_number c.take.new.self (with_item c.self.inside.held c.in-Some.number (Some (record { number = c.in-Some.number; data_number = c.in_ok-data_number.data_number; len = 0 }))) c.in_ok-data_number.ensures.unused c.in_ok-data_number.ensures.kept (c.in_ok-data_number.ensures.after ∙ ap (after_take c.self.inside.store) (sym c.in_ok-data_number.ensures.answer)) refl c.args.size (sym c.has_class_for.ensures ∙ c.if-not-has_class_for.false) (sym c.in_ok-data_number.ensures.answer) in
     (settles (allocb c.args.size) c.self.view_is given).0
 
 pub returns-clause-token : goal.returns-clause-token
 returns-clause-token c =
     let given = alloc_value c.self.inside c.self.invariant c.in-Some.number c.pop_front.new.self c.in-Some.ensures.items
-    c.in_ok-data_number.data_number c.take.new.self (with_item c.self.inside.held c.in-Some.number (Some (record { number = c.in-Some.number; data_number = c.in_ok-data_number.data_number; len = 0 }))) c.in_ok-data_number.ensures.unused c.in_ok-data_number.ensures.kept (c.in_ok-data_number.ensures.after ∙ ap (after_take c.self.inside.store) (sym c.in_ok-data_number.ensures.answer)) refl c.args.size (sym c.fits.ensures ∙ c.if-not-fits.false) (sym c.in_ok-data_number.ensures.answer) in
+    c.in_ok-data_number.data_number c.take.new.self (with_item c.self.inside.held c.in-Some.number (Some (record { number = c.in-Some.number; data_number = c.in_ok-data_number.data_number; len = 0 }))) c.in_ok-data_number.ensures.unused c.in_ok-data_number.ensures.kept (c.in_ok-data_number.ensures.after ∙ ap (after_take c.self.inside.store) (sym c.in_ok-data_number.ensures.answer)) refl c.args.size (sym c.has_class_for.ensures ∙ c.if-not-has_class_for.false) (sym c.in_ok-data_number.ensures.answer) in
     let there = alloc_token c.self.inside c.self.invariant c.in-Some.number c.pop_front.new.self c.in-Some.ensures.items
     c.in_ok-data_number.data_number c.take.new.self (with_item c.self.inside.held c.in-Some.number (Some (record { number = c.in-Some.number; data_number = c.in_ok-data_number.data_number; len = 0 }))) c.in_ok-data_number.ensures.unused c.in_ok-data_number.ensures.kept (c.in_ok-data_number.ensures.after ∙ ap (after_take c.self.inside.store) (sym c.in_ok-data_number.ensures.answer)) refl in
     let new = arena_of (alloc_fields c.self.inside c.self.invariant c.in-Some.number c.pop_front.new.self c.in-Some.ensures.items

@@ -6,7 +6,7 @@ use Rattle.strm_pool.specs.Arena.{has, held_at, token_of}
 use Rattle.strm_pool.specs.PoolLayout.{arena_of, pool_value}
 use Rattle.strm_pool.specs.PoolValue.{PoolValue, getq}
 use Rattle.strm_pool.specs.declared.token.TokenValue.{TokenValue}
-use Rattle.strm_pool.specs.declared.refusal.Refusal.{Refusal}
+use Rattle.strm_data.specs.declared.refusal.Refusal.{Refusal}
 use Rattle.strm_pool.proofs.PoolMoves.{settles, token_is, token_had}
 use Rattle.strm_pool.proofs.Getq.{get_fields, get_room, get_absent, get_sound, get_value, get_token}
 use Rattle.strm_pool.proofs.pool.Pool.getq.Goals as goal

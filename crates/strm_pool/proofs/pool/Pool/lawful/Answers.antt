@@ -1,5 +1,7 @@
-use Rattle.std.proofs.Common.{subst}
+use Rattle.std.proofs.Common.{◌≤◌, subst, arith}
 use Rattle.std.specs.Prelude.{◌≡◌, ◌+◌, length, IsTrue}
+use Rattle.strm_data.specs.DataStore.{class_infos}
+use Rattle.strm_data.proofs.Kept.{length-class_infos}
 use Rattle.strm_pool.specs.Arena.{IsParted, census_of, shelf_at}
 use Rattle.strm_pool.specs.PoolLayout.{arena_of}
 use Rattle.strm_pool.specs.PoolValue.{PoolValue}
@@ -16,6 +18,11 @@ pub returns-clause-whole : goal.returns-clause-whole
 returns-clause-whole c =
     subst (λ (v : PoolValue). (census_of v.arena).free + (census_of v.arena).queued + (census_of v.arena).held ≡ length v.arena.held) c.self.view_is
     (makes_arena (arena_of c.self.inside) c.self.inside.store (counted_by c.self.inside c.self.invariant))
+
+pub returns-clause-few_classes : goal.returns-clause-few_classes
+returns-clause-few_classes c =
+    let few : length (class_infos (arena_of c.self.inside).store) ≤ 8 = omega (arith, length-class_infos c.self.inside.store c.self.invariant.kept, c.self.invariant.kept.few_classes) in
+    subst (λ (v : PoolValue). length (class_infos v.arena.store) ≤ 8) c.self.view_is few
 
 pub returns-clause-ordered : goal.returns-clause-ordered
 returns-clause-ordered c =

@@ -1,0 +1,10 @@
+pub mod Fitting
+pub mod Times
+pub mod Kept
+pub mod Opening
+pub mod Tables
+pub mod Laid
+pub mod Alterations
+pub mod Members
+pub mod Filling
+pub mod Opened

@@ -1,0 +1,141 @@
+-- How often a number stands in a list: a list made longer or shorter, and lists of the numbers below a bound.
+use Rattle.std.proofs.Common.{◌≡◌, ◌≢◌, ℕ, zero, suc, ◌+◌, zero-add, ◌<◌, ◌≤◌, Bool, not, ◌&&◌, ◌==◌, List, [], ◌∷◌, ◌++◌, length, get_or, drop, refl, sym, ap, ◌∙◌, inl, inr, arith, if◌then◌else◌}
+use Rattle.std.specs.Prelude.{nat_lt, nat_le, filter}
+use Rattle.std.specs.List.{range_with_len}
+use Rattle.std.proofs.lemmas.Bool.{cases_eq, cond-true, cond-false, eq-eqb, ne_eqb, not_from_true, not_from_false, lt-ltb, le-ltb}
+use Rattle.std.proofs.lemmas.Bool.Decides.{nat_tests}
+use Rattle.std.proofs.lemmas.List.{map-id}
+use Rattle.std.proofs.lemmas.List.FromFn.{map-range_with_len_more}
+use Rattle.std.proofs.lemmas.List.Filters.{length-filter_both}
+use Rattle.std.proofs.lemmas.List.Sums.{sum_by-cons, sum_by-append, length-filter}
+use Rattle.strm_data.specs.DataStore.{times}
+
+abbrev one_if : Bool → ℕ
+one_if b = if b then 1 else 0
+
+-- ---- a list made longer or shorter
+
+pub times-cons : (n x : ℕ) (xs : List ℕ) → times n (x ∷ xs) ≡ (if x == n then 1 else 0) + times n xs
+times-cons n x xs = sum_by-cons (λ y. if y == n then 1 else 0) x xs
+
+pub times-append : (n : ℕ) (xs ys : List ℕ) → times n (xs ++ ys) ≡ times n xs + times n ys
+times-append n xs ys = sum_by-append (λ y. if y == n then 1 else 0) xs ys
+
+pub times_here : (n x : ℕ) (xs : List ℕ) → x ≡ n → times n (x ∷ xs) ≡ 1 + times n xs
+times_here n x xs same = times-cons n x xs ∙ ap (λ m. m + times n xs) (cond-true _ 1 0 (eq-eqb x n same))
+
+pub times_other : (n x : ℕ) (xs : List ℕ) → x ≢ n → times n (x ∷ xs) ≡ times n xs
+times_other n x xs other = times-cons n x xs ∙ ap (λ m. m + times n xs) (cond-false _ 1 0 (ne_eqb x n other)) ∙ zero-add (times n xs)
+
+-- the first number, and the others
+pub times_first : (n : ℕ) (xs : List ℕ) → 0 < length xs → times n xs ≡ (if get_or xs 0 0 == n then 1 else 0) + times n (drop 1 xs)
+times_first n [] some = absurd (omega arith)
+times_first n (x ∷ xs) some = times-cons n x xs
+
+pub times_rest_same : (n : ℕ) (xs : List ℕ) → 0 < length xs → get_or xs 0 0 ≡ n → times n xs ≡ 1 + times n (drop 1 xs)
+times_rest_same n xs some same = times_first n xs some ∙ ap (λ m. m + times n (drop 1 xs)) (cond-true _ 1 0 (eq-eqb _ n same))
+
+pub times_rest_other : (n : ℕ) (xs : List ℕ) → 0 < length xs → get_or xs 0 0 ≢ n → times n (drop 1 xs) ≡ times n xs
+times_rest_other n xs some other =
+    sym (times_first n xs some ∙ ap (λ m. m + times n (drop 1 xs)) (cond-false _ 1 0 (ne_eqb _ n other)) ∙ zero-add (times n (drop 1 xs)))
+
+-- a number that stands in no place
+pub times_none : (n : ℕ) (xs : List ℕ) → ((k : ℕ) → k < length xs → get_or xs k 0 ≢ n) → times n xs ≡ 0
+times_none n [] absent = refl
+times_none n (x ∷ xs) absent = times_other n x xs (absent 0 (omega arith)) ∙ times_none n xs (λ k within. absent (suc k) (omega arith))
+
+-- a number that stands in some place
+pub times_some : (xs : List ℕ) (k : ℕ) → k < length xs → 0 < times (get_or xs k 0) xs
+times_some [] k within = absurd (omega arith)
+times_some (x ∷ xs) zero within = omega (arith, times_here x x xs refl)
+times_some (x ∷ xs) (suc k) within = omega (arith, times_some xs k (omega arith), times-cons (get_or xs k 0) x xs)
+
+-- ---- the numbers from one on
+
+pub range_with_len_more : (a n k : ℕ) → a + n ≡ k → range_with_len a (n + 1) ≡ range_with_len a n ++ k ∷ []
+range_with_len_more a n k last =
+    sym (map-id (range_with_len a (n + 1))) ∙ map-range_with_len_more (λ (j : ℕ). j) a n k last ∙ ap (λ xs. xs ++ k ∷ []) (map-id (range_with_len a n))
+
+more_of_range : (k a n : ℕ) → one_if (a == k) + one_if (nat_le (a + 1) k && nat_lt k (a + 1 + n)) ≡ one_if (nat_le a k && nat_lt k (a + suc n))
+more_of_range k a n = grind (arith, nat_tests)
+
+none_of_range : (k a : ℕ) → one_if (nat_le a k && nat_lt k (a + zero)) ≡ zero
+none_of_range k a = grind (arith, nat_tests)
+
+pub times-range_with_len : (k a n : ℕ) → times k (range_with_len a n) ≡ (if nat_le a k && nat_lt k (a + n) then 1 else 0)
+times-range_with_len k a zero = sym (none_of_range k a)
+times-range_with_len k a (suc n) =
+    times-cons k a (range_with_len (a + 1) n) ∙ ap (λ m. (if a == k then 1 else 0) + m) (times-range_with_len k (a + 1) n)
+    ∙ more_of_range k a n
+
+from_zero : (k n : ℕ) → one_if (nat_le 0 k && nat_lt k (0 + n)) ≡ one_if (nat_lt k n)
+from_zero k n = grind (arith, nat_tests)
+
+pub times_below : (k n : ℕ) → times k (range_with_len 0 n) ≡ (if nat_lt k n then 1 else 0)
+times_below k n = times-range_with_len k 0 n ∙ from_zero k n
+
+-- ---- how long a list of numbers below a bound is
+
+-- the numbers other than this one
+abbrev without : ℕ → List ℕ → List ℕ
+without n xs = filter (λ x. not (x == n)) xs
+
+length-without : (n : ℕ) (xs : List ℕ) → times n xs + length (without n xs) ≡ length xs
+length-without n xs =
+    ap (λ m. m + length (without n xs)) (sym (length-filter (λ x. x == n) xs)) ∙ length-filter_both (λ x. x == n) (λ x. not (x == n)) (λ x. refl) xs
+
+without_first : (n x : ℕ) (xs : List ℕ) → x ≡ n → without n (x ∷ xs) ≡ without n xs
+without_first n x xs same = cond-false _ _ _ (not_from_true _ (eq-eqb x n same))
+
+without_other : (n x : ℕ) (xs : List ℕ) → x ≢ n → without n (x ∷ xs) ≡ x ∷ without n xs
+without_other n x xs other = cond-true _ _ _ (not_from_false _ (ne_eqb x n other))
+
+times-without_same : (n : ℕ) (xs : List ℕ) → times n (without n xs) ≡ 0
+times-without_same n [] = refl
+times-without_same n (x ∷ xs) =
+    elim (cases_eq x n) [
+      | inl same ↦ ap (times n) (without_first n x xs same) ∙ times-without_same n xs
+      | inr other ↦ ap (times n) (without_other n x xs other) ∙ times_other n x (without n xs) other ∙ times-without_same n xs
+    ]
+
+times-without_other : (k n : ℕ) (xs : List ℕ) → k ≢ n → times k (without n xs) ≡ times k xs
+times-without_other k n [] differs = refl
+times-without_other k n (x ∷ xs) differs =
+    elim (cases_eq x n) [
+      | inl same ↦
+          ap (times k) (without_first n x xs same) ∙ times-without_other k n xs differs ∙ sym (times_other k x xs (λ is. differs (sym is ∙ same)))
+      | inr other ↦
+          ap (times k) (without_other n x xs other) ∙ times-cons k x (without n xs) ∙ ap (λ m. (if x == k then 1 else 0) + m) (times-without_other k n xs differs)
+          ∙ sym (times-cons k x xs)
+    ]
+
+one_less : (k n : ℕ) → k ≢ n → one_if (nat_lt k (suc n)) ≡ one_if (nat_lt k n)
+one_less k n other = grind (arith, nat_tests)
+
+-- each of them once at most: no more than there are numbers
+pub few : (n : ℕ) (xs : List ℕ) → ((k : ℕ) → times k xs ≤ 1) → ((k : ℕ) → 0 < times k xs → k < n) → length xs ≤ n
+few zero [] once below = omega arith
+few zero (x ∷ xs) once below = absurd (omega (arith, below x (omega (arith, times_here x x xs refl))))
+few (suc n) xs once below =
+    let fewer = few n (without n xs)
+    (λ k. elim (cases_eq k n) [
+      | inl same ↦ omega (arith, ap (λ j. times j (without n xs)) same, times-without_same n xs)
+      | inr other ↦ omega (arith, times-without_other k n xs other, once k)
+    ])
+    (λ k some. elim (cases_eq k n) [
+      | inl same ↦ absurd (omega (arith, ap (λ j. times j (without n xs)) same, times-without_same n xs))
+      | inr other ↦ omega (arith, below k (omega (arith, times-without_other k n xs other)))
+    ]) in
+    omega (arith, fewer, once n, length-without n xs)
+
+-- each of them once, and no other number: as many as there are numbers
+pub as_many : (n : ℕ) (xs : List ℕ) → ((k : ℕ) → times k xs ≡ (if nat_lt k n then 1 else 0)) → length xs ≡ n
+as_many zero [] each = refl
+as_many zero (x ∷ xs) each = absurd (omega (arith, each x ∙ cond-false _ 1 0 (le-ltb x 0 (omega arith)), times_here x x xs refl))
+as_many (suc n) xs each =
+    let fewer = as_many n (without n xs)
+    (λ k. elim (cases_eq k n) [
+      | inl same ↦ ap (λ j. times j (without n xs)) same ∙ times-without_same n xs ∙ sym (cond-false _ 1 0 (le-ltb k n (omega (arith, same))))
+      | inr other ↦ times-without_other k n xs other ∙ each k ∙ one_less k n other
+    ]) in
+    omega (arith, fewer, each n ∙ cond-true _ 1 0 (lt-ltb n (suc n) (omega arith)), length-without n xs)

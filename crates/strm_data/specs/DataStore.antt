@@ -1,0 +1,106 @@
+-- Data blocks by number, which of them are free, and which one a size takes.
+use Rattle.std.specs.Prelude.{◌≡◌, ℕ, ◌+◌, ◌<◌, Bool, ◌==◌, nat_le, List, [], ◌∷◌, ◌++◌, length, take, drop, replicate, count_by, map, Result, Ok, Err, ok_or, slice_get, slice_index_or, slice_set, if◌then◌else◌}
+use Rattle.std.specs.List.{flat_map, zip, enumerate_from, range_with_len}
+use Rattle.std.specs.Result.{is_ok}
+use Rattle.strm_data.specs.Classes.{fits_a_class}
+use Rattle.strm_data.specs.declared.class_info.ClassInfo.{ClassInfo}
+use Rattle.strm_data.specs.declared.class_spec.ClassSpec.{ClassSpec}
+use Rattle.strm_data.specs.declared.msg_type.MsgType.{MsgType}
+use Rattle.strm_data.specs.declared.msg_type.MsgType.TheVariants.{MData}
+use Rattle.strm_data.specs.declared.refusal.Refusal.{Refusal}
+use Rattle.strm_data.specs.declared.refusal.Refusal.TheVariants.{TooLarge, NoData}
+
+-- a data block: the number of its size class, its type, and its bytes, as many as its capacity
+pub record DataBlock : Type 0 where
+  pub class : ℕ
+  pub kind : MsgType
+  pub bytes : List ℕ
+
+-- how often a number stands in a list
+abbrev pub times : ℕ → List ℕ → ℕ
+times n xs = count_by (λ x. x == n) xs
+
+-- the size classes, the data blocks by number, and of each class the free ones, the next to be taken first
+pub record DataStore : Type 0 where
+  pub classes : List ClassSpec
+  pub blocks : List DataBlock
+  pub free : List (List ℕ)
+
+abbrev pub no_data_block : DataBlock
+no_data_block = record { class = 0; kind = MData; bytes = [] }
+
+abbrev pub data_block_at : DataStore → ℕ → DataBlock
+data_block_at s d = slice_index_or s.blocks d no_data_block
+
+abbrev pub class_of : DataStore → ℕ → ℕ
+class_of s d = (data_block_at s d).class
+
+abbrev pub capacity_of : DataStore → ℕ → ℕ
+capacity_of s d = length (data_block_at s d).bytes
+
+-- the free data blocks of a class
+abbrev pub free_of : DataStore → ℕ → List ℕ
+free_of s c = slice_index_or s.free c []
+
+-- the free data blocks of the classes that fit, in order of class
+abbrev pub fitting : ℕ → DataStore → List ℕ
+fitting size s = flat_map (λ p. if nat_le size p.0.size then p.1 else []) (zip s.classes s.free)
+
+-- which data block a size takes: the first free one of the smallest class that fits and has one
+abbrev pub take_data : ℕ → DataStore → Result ℕ Refusal
+take_data size s = if fits_a_class size s.classes then ok_or (slice_get (fitting size s) 0) NoData else Err TooLarge
+
+-- whether a data block can be taken for this size now
+abbrev pub fits : ℕ → DataStore → Bool
+fits size s = is_ok (take_data size s)
+
+-- the size takes from this class, which has a free block
+pub record IsTakenFrom (size : ℕ) (s : DataStore) (c : ℕ) : Type 0 where
+  pub some : 0 < length (free_of s c)
+  pub front : take_data size s ≡ Ok (slice_index_or (free_of s c) 0 0)
+
+-- the store once d, the first free one of its class, is taken: it is of type M_DATA, and its bytes stay
+abbrev pub with_data_taken : ℕ → DataStore → DataStore
+with_data_taken d s = record s {
+  blocks = slice_set s.blocks d (record (data_block_at s d) { kind = MData });
+  free = slice_set s.free (class_of s d) (drop 1 (free_of s (class_of s d)));
+}
+
+-- the store once d is free again, at the front of its class's list
+abbrev pub with_data_freed : ℕ → DataStore → DataStore
+with_data_freed d s = record s { free = slice_set s.free (class_of s d) (d ∷ free_of s (class_of s d)) }
+
+-- the store once d is of this type
+abbrev pub with_kind : ℕ → MsgType → DataStore → DataStore
+with_kind d kind s = record s { blocks = slice_set s.blocks d (record (data_block_at s d) { kind = kind }) }
+
+-- bytes with others written over them from a place on
+abbrev pub overwritten : ℕ → List ℕ → List ℕ → List ℕ
+overwritten at new old = take at old ++ (new ++ drop (at + length new) old)
+
+-- the store once these bytes stand in d from a place on
+abbrev pub with_bytes_written : ℕ → ℕ → List ℕ → DataStore → DataStore
+with_bytes_written d at bytes s = record s {
+  blocks = slice_set s.blocks d (record (data_block_at s d) { bytes = overwritten at bytes (data_block_at s d).bytes });
+}
+
+-- of each class the size, how many of its data blocks are free, and how many there are
+abbrev pub class_infos : DataStore → List ClassInfo
+class_infos s = map (λ p. record { size = p.0.size; free = length p.1; total = p.0.count }) (zip s.classes s.free)
+
+-- a data block of a class before its first use
+abbrev pub fresh_data_block : ℕ → ClassSpec → DataBlock
+fresh_data_block number c = record { class = number; kind = MData; bytes = replicate c.size 0 }
+
+-- the numbers of each class's blocks, class by class from this one on
+abbrev pub numbers_from : ℕ → List ClassSpec → List (List ℕ)
+numbers_from first [] = []
+numbers_from first (c ∷ cs) = range_with_len first c.count ∷ numbers_from (first + c.count) cs
+
+-- the store of a new pool: all blocks are free, in rising order
+abbrev pub opening_store : List ClassSpec → DataStore
+opening_store cs = record {
+  classes = cs;
+  blocks = flat_map (λ p. replicate p.1.count (fresh_data_block p.0 p.1)) (enumerate_from 0 cs);
+  free = numbers_from 0 cs;
+}

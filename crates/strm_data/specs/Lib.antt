@@ -1,0 +1,6 @@
+pub mod Refusal
+pub mod MsgType
+pub mod Classes
+pub mod DataStore
+pub mod CountedStore
+pub mod DataLayout

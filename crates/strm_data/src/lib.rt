@@ -1,0 +1,17 @@
+//! Data blocks in size classes, each with its type, its bytes and a count of the message blocks that name it.
+#![tactic(auto)]
+
+mod class_info;
+mod class_spec;
+mod data;
+mod msg_type;
+mod refusal;
+
+pub use class_info::ClassInfo;
+pub use class_spec::ClassSpec;
+pub use data::{Data, DataNo};
+pub use msg_type::MsgType;
+pub use refusal::Refusal;
+
+#[cfg(test)]
+mod tests;

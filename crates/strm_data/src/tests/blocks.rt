@@ -1,0 +1,119 @@
+use super::class;
+use crate::{ClassInfo, Data, MsgType, Refusal};
+use std::test::Fail;
+
+// What is free of a class.
+const fn info(size: u32, free: u32, total: u32) -> Option<ClassInfo> {
+    Some(ClassInfo { size, free, total })
+}
+
+#[test]
+fn takes_and_frees(rt: HostRuntime) -> Result<(), Fail> {
+    let mut data = Data::new(rt.alloc(), &[class(16, 1), class(64, 1)])?;
+    assert_eq!(rt; data.take(0), Ok(0));
+    assert_eq!(rt; data.cap(0), 16);
+    assert_eq!(rt; data.take(0), Ok(1));
+    assert_eq!(rt; data.cap(1), 64);
+    assert_eq!(rt; data.take(0), Err(Refusal::NoData));
+    assert_eq!(rt; data.take(65), Err(Refusal::TooLarge));
+    assert!(rt; !data.fits(1));
+    assert_eq!(rt; data.count(0), 1);
+    data.name(0);
+    assert_eq!(rt; data.count(0), 2);
+    data.drop_name(0);
+    assert_eq!(rt; data.count(0), 1);
+    assert!(rt; !data.fits(16));
+    data.drop_name(0);
+    assert_eq!(rt; data.count(0), 0);
+    assert!(rt; data.fits(16));
+    assert!(rt; !data.fits(17));
+    assert_eq!(rt; data.class_info(0), info(16, 1, 1));
+    assert_eq!(rt; data.class_info(1), info(64, 0, 1));
+    assert_eq!(rt; data.class_info(2), None);
+    Ok(())
+}
+
+#[test]
+fn opens_with_all_free(rt: HostRuntime) -> Result<(), Fail> {
+    let mut data = Data::new(rt.alloc(), &[class(4, 2), class(8, 1)])?;
+    for (number, cap) in [(0, 4), (1, 4), (2, 8)] {
+        let mut bytes = vec![in rt.alloc(); 1; cap as usize]?;
+        assert_eq!(rt; data.count(number), 0);
+        assert_eq!(rt; data.kind(number), MsgType::MData);
+        assert_eq!(rt; data.cap(number), cap);
+        data.read(number, 0, &mut bytes);
+        assert!(rt; bytes.iter().all(|byte| *byte == 0));
+    }
+    assert_eq!(rt; data.class_info(0), info(4, 2, 2));
+    assert_eq!(rt; data.class_info(1), info(8, 1, 1));
+    assert_eq!(rt; data.take(4), Ok(0));
+    assert_eq!(rt; data.take(4), Ok(1));
+    assert_eq!(rt; data.take(4), Ok(2));
+    Ok(())
+}
+
+#[test]
+fn has_classes_up_to_the_largest(rt: HostRuntime) -> Result<(), Fail> {
+    let mut data = Data::new(rt.alloc(), &[class(1, 1), class(4096, 1)])?;
+    assert_eq!(rt; data.take(2), Ok(1));
+    for (size, has, fits) in [
+        (0, true, true),
+        (1, true, true),
+        (2, true, false),
+        (4096, true, false),
+        (4097, false, false),
+        (u32::MAX, false, false),
+    ] {
+        assert_eq!(rt; data.has_class_for(size), has);
+        assert_eq!(rt; data.fits(size), fits);
+    }
+    Ok(())
+}
+
+#[test]
+fn writes_to_the_ends_of_a_block(rt: HostRuntime) -> Result<(), Fail> {
+    let mut data = Data::new(rt.alloc(), &[class(4, 3)])?;
+    data.write(1, 0, &[1, 2]);
+    data.write(1, 3, &[4]);
+    data.write(0, 4, &[]);
+    let mut bytes = [9; 4];
+    data.read(0, 0, &mut bytes);
+    assert!(rt; bytes == [0, 0, 0, 0]);
+    data.read(1, 0, &mut bytes);
+    assert!(rt; bytes == [1, 2, 0, 4]);
+    data.read(2, 0, &mut bytes);
+    assert!(rt; bytes == [0, 0, 0, 0]);
+    data.write(0, 0, &[5, 5, 5, 5]);
+    data.write(2, 0, &[6, 6, 6, 6]);
+    data.read(1, 0, &mut bytes);
+    assert!(rt; bytes == [1, 2, 0, 4]);
+    let mut last = [9];
+    data.read(1, 3, &mut last);
+    assert!(rt; last == [4]);
+    data.read(1, 4, &mut []);
+    Ok(())
+}
+
+#[test]
+fn takes_the_last_freed_as_it_was_left(rt: HostRuntime) -> Result<(), Fail> {
+    let mut data = Data::new(rt.alloc(), &[class(2, 3)])?;
+    assert_eq!(rt; data.take(2), Ok(0));
+    assert_eq!(rt; data.take(2), Ok(1));
+    data.set_kind(0, MsgType::MCtl);
+    assert_eq!(rt; data.kind(0), MsgType::MCtl);
+    assert_eq!(rt; data.kind(1), MsgType::MData);
+    data.write(0, 0, &[7, 8]);
+    assert!(rt; data.count(1) > 0);
+    data.drop_name(1);
+    assert!(rt; data.count(0) > 0);
+    data.drop_name(0);
+    assert_eq!(rt; data.kind(0), MsgType::MCtl);
+    assert_eq!(rt; data.take(2), Ok(0));
+    assert_eq!(rt; data.kind(0), MsgType::MData);
+    let mut bytes = [9; 2];
+    data.read(0, 0, &mut bytes);
+    assert!(rt; bytes == [7, 8]);
+    assert_eq!(rt; data.take(2), Ok(1));
+    assert_eq!(rt; data.take(2), Ok(2));
+    Ok(())
+}

@@ -1,0 +1,249 @@
+//! A long run beside plain vectors.
+ghost use Rattle.std.specs.Prelude.{◌≡◌, ◌<◌, length};
+
+use super::class;
+use crate::{Data, MsgType, Refusal};
+use std::alloc::{AllocError, Global};
+use std::process::Abort;
+use std::test::Fail;
+
+const SIZES: [u32; 3] = [4, 16, 40];
+
+const COUNTS: [u32; 3] = [3, 5, 4];
+
+const BLOCKS: u32 = 12;
+
+const KINDS: [MsgType; 4] = [
+    MsgType::MData,
+    MsgType::MProto,
+    MsgType::MPcproto,
+    MsgType::MIocdata,
+];
+
+// The same data blocks twice: in size classes, and as plain vectors.
+#[derive(Drop)]
+struct Twin {
+    data: Data,
+    blocks: Vec<Plain>,
+    // Of each class the free data blocks, the next to be taken first.
+    free: Vec<Vec<u32>>,
+    ghost block_count: { length data.store.blocks ≡ 12 },
+}
+
+#[derive(Drop)]
+struct Plain {
+    class: usize,
+    kind: MsgType,
+    count: u8,
+    bytes: Vec<u8>,
+}
+
+impl Twin {
+    fn new(alloc: Global) -> Result<Self, AllocError> {
+        let data = Data::new(alloc, &[class(4, 3), class(16, 5), class(40, 4)])?;
+        let mut blocks = Vec::new(alloc);
+        let mut free = Vec::new(alloc);
+        let mut number = 0u32;
+        for (class, count) in COUNTS.iter().enumerate() {
+            let mut list = Vec::new(alloc);
+            for _block in 0..*count {
+                let bytes = vec![in alloc; 0; SIZES[class] as usize]?;
+                list.push(number)?;
+                blocks.push(Plain {
+                    class,
+                    kind: MsgType::MData,
+                    count: 0,
+                    bytes,
+                })?;
+                number = number.saturating_add(1);
+            }
+            free.push(list)?;
+        }
+        Ok(Twin { data, blocks, free })
+    }
+
+    // The data block that the plain vectors give for a size.
+    fn plain_take(&mut self, size: u32) -> Result<u32, Refusal> {
+        for (list, room) in self.free.iter_mut().zip(SIZES) {
+            if room >= size && !list.is_empty() {
+                return Ok(list.remove(0));
+            }
+        }
+        Err(if size > 40 {
+            Refusal::TooLarge
+        } else {
+            Refusal::NoData
+        })
+    }
+
+    // Takes a data block.
+    fn take(&mut self, rt: &impl Abort, size: u32) -> Result<(), Fail> {
+        let fits = self.data.fits(size);
+        let wanted = self.plain_take(size);
+        assert_eq!(rt; fits, wanted.is_ok());
+        assert_eq!(rt; self.data.has_class_for(size), size <= 40);
+        assert_eq!(rt; self.data.take(size), wanted);
+        if let Ok(number) = wanted {
+            let plain = self.blocks.get_mut(number as usize).ok_or("no block")?;
+            plain.kind = MsgType::MData;
+            plain.count = 1;
+        }
+        Ok(())
+    }
+
+    // Names a data block once more, where it is in use and can be.
+    fn name(&mut self, rt: &impl Abort, number: u32) -> Result<(), Fail> {
+        assert!(rt; number < BLOCKS);
+        let plain = self.blocks.get_mut(number as usize).ok_or("no block")?;
+        if plain.count > 0 && plain.count < 255 {
+            let count = self.data.count(number);
+            assert!(rt; count > 0 && count < 255);
+            self.data.name(number);
+            plain.count = plain.count.saturating_add(1);
+        }
+        Ok(())
+    }
+
+    // Names a data block once less, where it is in use.
+    fn drop_name(&mut self, rt: &impl Abort, number: u32) -> Result<(), Fail> {
+        assert!(rt; number < BLOCKS);
+        let plain = self.blocks.get_mut(number as usize).ok_or("no block")?;
+        if plain.count > 0 {
+            assert!(rt; self.data.count(number) > 0);
+            self.data.drop_name(number);
+            plain.count = plain.count.saturating_sub(1);
+            if plain.count == 0 {
+                let list = self.free.get_mut(plain.class).ok_or("no class")?;
+                list.insert(0, number)?;
+            }
+        }
+        Ok(())
+    }
+
+    // Gives a data block another type.
+    fn set_kind(&mut self, rt: &impl Abort, number: u32, kind: MsgType) -> Result<(), Fail> {
+        assert!(rt; number < BLOCKS);
+        self.data.set_kind(number, kind);
+        let plain = self.blocks.get_mut(number as usize).ok_or("no block")?;
+        plain.kind = kind;
+        Ok(())
+    }
+
+    // Writes a few bytes, from a place on that is drawn too, where there is room.
+    fn write(&mut self, rt: &impl Abort, number: u32, draw: &mut u32) -> Result<(), Fail> {
+        assert!(rt; number < BLOCKS);
+        let bytes = [below(draw, 256) as u8, below(draw, 256) as u8, 255];
+        let bytes = &bytes[..below(draw, 4) as usize];
+        let at = below(draw, 41);
+        let room = self.data.cap(number);
+        if at.saturating_add(bytes.len() as u32) <= room {
+            self.data.write(number, at, bytes);
+            let plain = self.blocks.get_mut(number as usize).ok_or("no block")?;
+            for (old, new) in plain.bytes.iter_mut().skip(at as usize).zip(bytes) {
+                *old = *new;
+            }
+        }
+        Ok(())
+    }
+
+    // The next call of the long run, drawn at random.
+    fn step(&mut self, rt: &impl Abort, draw: &mut u32) -> Result<(), Fail> {
+        let number = below(draw, BLOCKS);
+        match below(draw, 16) {
+            0..5 => self.take(rt, below(draw, 44))?,
+            5..7 => self.name(rt, number)?,
+            7..12 => self.drop_name(rt, number)?,
+            12 => self.set_kind(rt, number, KINDS[below(draw, 4) as usize])?,
+            13 => self.compare_bytes(rt, number, below(draw, 5))?,
+            _ => self.write(rt, number, draw)?,
+        }
+        self.compare_block(rt, number)?;
+        self.compare_classes(rt)
+    }
+
+    // A data block is as its plain one says.
+    fn compare_block(&self, rt: &impl Abort, number: u32) -> Result<(), Fail> {
+        assert!(rt; number < BLOCKS);
+        let plain = self.blocks.get(number as usize).ok_or("no block")?;
+        assert_eq!(rt; self.data.kind(number), plain.kind);
+        assert_eq!(rt; self.data.count(number), plain.count);
+        assert_eq!(rt; self.data.cap(number) as usize, plain.bytes.len());
+        self.compare_bytes(rt, number, 0)
+    }
+
+    // The bytes of a data block from a place on are those of its plain one.
+    fn compare_bytes(&self, rt: &impl Abort, number: u32, at: u32) -> Result<(), Fail> {
+        assert!(rt; number < BLOCKS);
+        let plain = self.blocks.get(number as usize).ok_or("no block")?;
+        let cap = self.data.cap(number);
+        assert!(rt; at <= cap && cap <= 40);
+        let mut bytes = [0; 40];
+        let read = &mut bytes[..(cap - at) as usize];
+        self.data.read(number, at, read);
+        assert!(rt; read.iter().eq(plain.bytes.iter().skip(at as usize)));
+        Ok(())
+    }
+
+    // Each class has as many free data blocks as its plain list.
+    fn compare_classes(&self, rt: &impl Abort) -> Result<(), Fail> {
+        for class in 0..3 {
+            let list = self.free.get(usize::from(class)).ok_or("no class")?;
+            let info = self.data.class_info(class).ok_or("no class")?;
+            assert_eq!(rt; info.size, SIZES[usize::from(class)]);
+            assert_eq!(rt; info.free as usize, list.len());
+            assert_eq!(rt; info.total, COUNTS[usize::from(class)]);
+        }
+        assert_eq!(rt; self.data.class_info(3), None);
+        assert_eq!(rt; self.data.class_info(255), None);
+        Ok(())
+    }
+
+    // Everything is as the plain vectors say.
+    fn compare_all(&self, rt: &impl Abort) -> Result<(), Fail> {
+        for number in 0..BLOCKS {
+            self.compare_block(rt, number)?;
+        }
+        self.compare_classes(rt)
+    }
+}
+
+// The next number below `limit` of a fixed sequence.
+fn below(draw: &mut u32, limit: u32) -> u32
+    requires { 0 < limit }
+    ensures { result < limit }
+{
+    *draw = draw.wrapping_mul(1_664_525).wrapping_add(1_013_904_223);
+    (*draw >> 8) % limit
+}
+
+#[test]
+fn long_run_beside_vectors(rt: HostRuntime) -> Result<(), Fail> {
+    let mut twin = Twin::new(rt.alloc())?;
+    twin.compare_all(&rt)?;
+    let mut draw = 1;
+    for _ in 0..40 {
+        for _ in 0..100 {
+            twin.step(&rt, &mut draw)?;
+        }
+        twin.compare_all(&rt)?;
+    }
+    Ok(())
+}
+
+#[test]
+fn names_a_block_255_times(rt: HostRuntime) -> Result<(), Fail> {
+    let mut twin = Twin::new(rt.alloc())?;
+    twin.take(&rt, 5)?;
+    for _ in 0..254 {
+        twin.name(&rt, 3)?;
+    }
+    assert_eq!(rt; twin.data.count(3), 255);
+    twin.compare_all(&rt)?;
+    for _ in 0..254 {
+        twin.drop_name(&rt, 3)?;
+    }
+    assert_eq!(rt; twin.data.count(3), 1);
+    twin.compare_all(&rt)?;
+    twin.drop_name(&rt, 3)?;
+    twin.compare_all(&rt)
+}

@@ -1,0 +1,60 @@
+use crate::{MsgType, Refusal};
+
+#[test]
+fn refusals_have_their_numbers(rt: HostRuntime) {
+    for (refusal, number, name) in [
+        (Refusal::TooLarge, 1, "TooLarge"),
+        (Refusal::NoMblk, 2, "NoMblk"),
+        (Refusal::NoData, 3, "NoData"),
+        (Refusal::RefMax, 4, "RefMax"),
+        (Refusal::NoSuchBlock, 5, "NoSuchBlock"),
+        (Refusal::Shared, 6, "Shared"),
+        (Refusal::NoRoom, 7, "NoRoom"),
+        (Refusal::Short, 8, "Short"),
+        (Refusal::NoSuchPlace, 9, "NoSuchPlace"),
+        (Refusal::BadOrder, 10, "BadOrder"),
+        (Refusal::NoSuchQueue, 11, "NoSuchQueue"),
+        (Refusal::Full, 12, "Full"),
+        (Refusal::IdsSpent, 13, "IdsSpent"),
+        (Refusal::NotPending, 14, "NotPending"),
+        (Refusal::Stranger, 16, "Stranger"),
+        (Refusal::TraceFull, 17, "TraceFull"),
+        (Refusal::Worn, 18, "Worn"),
+        (Refusal::DeskMissing, 19, "DeskMissing"),
+        (Refusal::BadShared, 21, "BadShared"),
+    ] {
+        assert_eq!(rt; refusal.number(), number);
+        assert_eq!(rt; refusal.name(), name);
+    }
+}
+
+#[test]
+fn types_have_their_names(rt: HostRuntime) {
+    for (kind, name, high) in [
+        (MsgType::MData, "M_DATA", false),
+        (MsgType::MProto, "M_PROTO", false),
+        (MsgType::MBreak, "M_BREAK", false),
+        (MsgType::MPassfp, "M_PASSFP", false),
+        (MsgType::MSig, "M_SIG", false),
+        (MsgType::MDelay, "M_DELAY", false),
+        (MsgType::MCtl, "M_CTL", false),
+        (MsgType::MIoctl, "M_IOCTL", false),
+        (MsgType::MSetopts, "M_SETOPTS", false),
+        (MsgType::MIocack, "M_IOCACK", true),
+        (MsgType::MIocnak, "M_IOCNAK", true),
+        (MsgType::MPcproto, "M_PCPROTO", true),
+        (MsgType::MPcsig, "M_PCSIG", true),
+        (MsgType::MRead, "M_READ", true),
+        (MsgType::MFlush, "M_FLUSH", true),
+        (MsgType::MStop, "M_STOP", true),
+        (MsgType::MStart, "M_START", true),
+        (MsgType::MHangup, "M_HANGUP", true),
+        (MsgType::MError, "M_ERROR", true),
+        (MsgType::MCopyin, "M_COPYIN", true),
+        (MsgType::MCopyout, "M_COPYOUT", true),
+        (MsgType::MIocdata, "M_IOCDATA", true),
+    ] {
+        assert_eq!(rt; kind.name(), name);
+        assert_eq!(rt; kind.is_high_priority(), high);
+    }
+}
