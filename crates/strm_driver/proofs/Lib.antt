@@ -7,3 +7,4 @@ pub mod Scripts
 pub mod Merges
 pub mod Serving
 pub mod Reports
+pub mod Rows

@@ -1,0 +1,81 @@
+-- Whole scripts, computed by the definitions alone: the texts that they give, and their first faults. Nothing else
+-- rests on these rows.
+use Rattle.std.proofs.Common.{◌≡◌, ℕ, List, ◌++◌, Result, Ok, Err, refl}
+use Rattle.std.specs.Prelude.{codes}
+use Rattle.std.specs.Fmt.{digits}
+use Rattle.strm_pool.specs.declared.config.Which.TheVariants.{Mblks}
+use Rattle.strm_driver.specs.declared.fault.Kind.{Kind}
+use Rattle.strm_driver.specs.declared.fault.Kind.TheVariants.{Cut, Unknown, Order, Toomany, Shape, Number, Register, Word, Hex, Missing}
+use Rattle.strm_driver.specs.declared.fault.RunFault.{RunFault}
+use Rattle.strm_driver.specs.declared.fault.RunFault.TheVariants.{Script, Config, TooLong}
+use Rattle.strm_driver.specs.Outcome.{outcome_of}
+
+abbrev run : List ℕ → Result (List ℕ) RunFault
+run input = outcome_of 1048576 input
+
+-- the header of most rows, so that commands start on line 7
+abbrev H : List ℕ
+H = codes "pool 1 8\nclass 16 4\nclass 64 2\nqueue 10 4 s -\nbufcalls 2 1\nworker\n"
+
+-- a script that is refused
+abbrev faulty : ℕ → Kind → Result (List ℕ) RunFault
+faulty line kind = Err (Script (record { line = line; kind = kind }))
+
+-- ---- texts
+
+pub first-run : run (H ++ codes "allocb a 3\nwrite a 0 616263\nputq 0 a\ngetq 0 b\ncensus\nfreemsg b\ncensus\n")
+    ≡ Ok (codes "0:7 ok\n0:8 ok\n0:9 ok\n0:10 ok\n0:11 census 7 0 1\n0:12 ok\n0:13 census 8 0 0\nblocks free=8 queued=0 held=0 total=8\ndata size=16 free=4 total=4\ndata size=64 free=2 total=2\n")
+unfolding digits
+first-run = refl
+
+pub empty-pool : run H ≡ Ok (codes "blocks free=8 queued=0 held=0 total=8\ndata size=16 free=4 total=4\ndata size=64 free=2 total=2\n")
+unfolding digits
+empty-pool = refl
+
+pub empty-register : run (H ++ codes "allocb a 1\nputq 0 a\nputq 0 a\n")
+    ≡ Ok (codes "0:7 ok\n0:8 ok\n0:9 empty\nblocks free=7 queued=1 held=0 total=8\ndata size=16 free=3 total=4\ndata size=64 free=2 total=2\n")
+unfolding digits
+empty-register = refl
+
+pub first-refusals : run (codes "pool 1 2\nclass 16 1\nclass 64 1\nqueue 10 4 s -\nbufcalls 2 1\nworker\nallocb a 65\nallocb a 16\nallocb a 16\nwrite a 1 00\nallocb b 16\nallocb c 65\nallocb c 1\nfreemsg a\ncensus\n")
+    ≡ Ok (codes "0:7 refused 1 TooLarge\n0:8 ok\n0:9 taken\n0:10 refused 5 NoSuchBlock\n0:11 ok\n0:12 refused 1 TooLarge\n0:13 refused 2 NoMblk\n0:14 ok\n0:15 census 1 0 1\nblocks free=1 queued=0 held=1 total=2\ndata size=16 free=1 total=1\ndata size=64 free=0 total=1\n")
+unfolding digits
+first-refusals = refl
+
+-- ---- faults
+
+pub cut : run (H ++ codes "allocb a 1") ≡ faulty 7 Cut
+cut = refl
+
+pub unknown : run (H ++ codes "alocb a 1\n") ≡ faulty 7 Unknown
+unknown = refl
+
+pub order : run (H ++ codes "class 16 4\n") ≡ faulty 7 Order
+order = refl
+
+pub toomany : run (H ++ codes "worker\n") ≡ faulty 7 Toomany
+toomany = refl
+
+pub shape : run (H ++ codes "allocb  a 1\n") ≡ faulty 7 Shape
+shape = refl
+
+pub number : run (H ++ codes "allocb a 01\n") ≡ faulty 7 Number
+number = refl
+
+pub register : run (H ++ codes "allocb A x\n") ≡ faulty 7 Register
+register = refl
+
+pub word : run (codes "pool 1 8\nclass 16 4\nqueue 10 4 x -\n") ≡ faulty 3 Word
+word = refl
+
+pub hex : run (H ++ codes "write a 0 0A\n") ≡ faulty 7 Hex
+hex = refl
+
+pub missing : run (codes "") ≡ faulty 1 Missing
+missing = refl
+
+pub bad-config : run (codes "pool 1 4096\nclass 16 4\nqueue 10 4 s -\nbufcalls 2 1\nworker\n") ≡ Err (Config Mblks)
+bad-config = refl
+
+pub too-long : outcome_of 10 H ≡ Err TooLong
+too-long = refl
