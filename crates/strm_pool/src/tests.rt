@@ -1,4 +1,9 @@
-use crate::{ClassSpec, ClassSpecs, Config, Octets, Pool, QueueSpec, QueueSpecs, Reg, Regs, Token};
+ghost use Rattle.std.specs.Prelude.{IsTrue};
+ghost use Rattle.strm_pool.specs.Arena.{has};
+
+use crate::{
+    Census, ClassSpec, ClassSpecs, Config, Octets, Pool, QueueSpec, QueueSpecs, Reg, Regs, Token,
+};
 use arrayvec::ArrayVec;
 use std::alloc::Global;
 use std::process::Abort;
@@ -65,6 +70,29 @@ fn octets(rt: &impl Abort, bytes: &[u8]) -> Octets {
 // The register of a letter.
 fn reg(rt: &impl Abort, letter: u8) -> Reg {
     Reg::new(letter.wrapping_sub(b'a')).expect(rt, "a letter")
+}
+
+// A new message.
+fn allocated(rt: &impl Abort, pool: &mut Pool, size: u32) -> Token
+    ensures { IsTrue (has pool.new.arena result) }
+{
+    let Ok(token) = pool.allocb(size) else {
+        panic!(rt; "refused");
+    };
+    token
+}
+
+// So many message blocks are free, on queues and held.
+fn assert_census(rt: &impl Abort, pool: &Pool, free: u32, queued: u32, held: u32) {
+    assert_eq!(rt; pool.census(), Census { free, queued, held });
+}
+
+// The token is that of a message of one block.
+fn assert_token(rt: &impl Abort, token: &Token, pool: u32, head: u32) {
+    assert_eq!(rt;
+        (token.pool(), token.head(), token.blocks()),
+        (pool, head, 1)
+    );
 }
 
 // Puts a token into a free register.

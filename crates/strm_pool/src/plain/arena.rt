@@ -1,12 +1,12 @@
 //! Message blocks, and the messages that they make: held, or standing on shelves.
-ghost use Rattle.std.specs.Prelude.{◌≡◌, ◌+◌, ◌≤◌, ◌==◌, count_by, length, nat_lt, slice_get, slice_set, IfOk};
+ghost use Rattle.std.specs.Prelude.{◌≡◌, ◌+◌, ◌≤◌, ◌==◌, count_by, length, nat_lt, slice_get, slice_set, IfOk, if◌then◌else◌};
 ghost use Rattle.std.specs.List.{flat_map};
 ghost use Rattle.strm_pool.specs.Arena as model;
 ghost use Rattle.strm_pool.specs.Arena.{held_at, names_of};
-ghost use Rattle.strm_data.specs.DataStore.{capacity_of, with_bytes_written};
+ghost use Rattle.strm_data.specs.DataStore.{capacity_of, with_bytes_written, with_data_freed};
 
 use super::block::{Block, Message, head_of, is_naming, new_block};
-use super::list::{List, Twin};
+use super::list::{List, Twin, beside};
 use super::store::DataStore;
 use crate::census::Census;
 use std::alloc::{AllocError, Global};
@@ -34,12 +34,16 @@ impl Model for Arena {
 
 impl Twin for Arena {
     fn twin(&self, alloc: Global) -> Result<Arena, AllocError> {
+        let (free, held) = beside(self.free.twin(alloc)?, self.held.twin(alloc))?;
+        let (lists, shelves) = beside((free, held), self.shelves.twin(alloc))?;
+        let ((free, held), store) = beside(lists, self.store.twin(alloc))?;
+        let id = self.id;
         Ok(Arena {
-            id: self.id,
-            store: self.store.twin(alloc)?,
-            free: self.free.twin(alloc)?,
-            held: self.held.twin(alloc)?,
-            shelves: self.shelves.twin(alloc)?,
+            id,
+            store,
+            free,
+            held,
+            shelves,
         })
     }
 }
@@ -209,6 +213,22 @@ impl Arena {
         Ok(names == 0 && count_naming(number, loose) == 0)
     }
 
+    // The data blocks once a data block has lost a name.
+    fn store_with_name_dropped(
+        &self,
+        alloc: Global,
+        number: u32,
+        loose: &[Block],
+    ) -> Result<DataStore, AllocError>
+        ensures { IfOk result (λ store. store ≡ (if names_of self.now number + count_by (model.is_naming number) loose.now == 0 then with_data_freed number self.now.store else self.now.store)) }
+    {
+        if self.is_unnamed(alloc, number, loose)? {
+            self.store().with_data_freed(alloc, number)
+        } else {
+            self.store().twin(alloc)
+        }
+    }
+
     fn with_name_dropped(
         self,
         alloc: Global,
@@ -217,12 +237,9 @@ impl Arena {
     ) -> Result<Arena, AllocError>
         ensures { IfOk result (λ arena. arena ≡ model.with_name_dropped number loose.now self) }
     {
-        if self.is_unnamed(alloc, number, loose)? {
-            let store = self.store().with_data_freed(alloc, number)?;
-            Ok(self.with_store(store))
-        } else {
-            Ok(self)
-        }
+        let store = self.store_with_name_dropped(alloc, number, loose);
+        let (arena, store) = beside(self, store)?;
+        Ok(arena.with_store(store))
     }
 
     fn with_block_freed(
@@ -233,11 +250,12 @@ impl Arena {
     ) -> Result<Arena, AllocError>
         ensures { IfOk result (λ arena. arena ≡ model.with_block_freed block loose.now self) }
     {
-        let free = List::chain(alloc, block.number(), self.free())?;
-        let arena = self
+        let free = List::chain(alloc, block.number(), self.free());
+        let (arena, free) = beside(self, free)?;
+        let freed = arena
             .with_free(free)
             .with_name_dropped(alloc, block.data_number(), loose)?;
-        Ok(arena)
+        Ok(freed)
     }
 
     fn with_blocks_freed(self, alloc: Global, blocks: &[Block]) -> Result<Arena, AllocError>
@@ -282,6 +300,14 @@ impl Arena {
         self
     }
 
+    // A copy with other data blocks.
+    fn over(&self, alloc: Global, store: DataStore) -> Result<Arena, AllocError>
+        ensures { IfOk result (λ arena. arena ≡ record self.now { store = store }) }
+    {
+        let (store, arena) = beside(store, self.twin(alloc))?;
+        Ok(arena.with_store(store))
+    }
+
     // The arena with a message of one new block over a data block, held: the block has the first free number, and
     // `rest` are the others.
     fn held_new(
@@ -293,10 +319,10 @@ impl Arena {
     ) -> Result<Arena, AllocError>
         ensures { IfOk result (λ arena. Ok (number, arena) ≡ model.held_new number rest.now self.now (Ok data_number)) }
     {
-        let message = List::chain(alloc, new_block(number, data_number), &[])?;
         let store = self.store().with_data_taken(alloc, data_number)?;
-        let free = List::of(alloc, rest)?;
-        let arena = self.twin(alloc)?.with_store(store).with_free(free);
+        let (arena, free) = beside(self.over(alloc, store)?, List::of(alloc, rest))?;
+        let message = List::chain(alloc, new_block(number, data_number), &[]);
+        let (arena, message) = beside(arena.with_free(free), message)?;
         Ok(arena.with_held(message))
     }
 
@@ -343,12 +369,11 @@ impl Arena {
           held = slice_set self.now.held head (Some (slice_set (model.blocks_of (held_at self.now head)) place block));
         }) }
     {
-        let message = List::of(alloc, self.held_at(head))?.with(place as usize, block);
-        let store = self
-            .store()
-            .with_bytes_written(alloc, block.data_number(), at, bytes)?;
-        let arena = self.twin(alloc)?.with_store(store);
-        Ok(arena.with_held_at(head, message))
+        let number = block.data_number();
+        let store = self.store().with_bytes_written(alloc, number, at, bytes)?;
+        let arena = self.over(alloc, store)?;
+        let (arena, message) = beside(arena, List::of(alloc, self.held_at(head)))?;
+        Ok(arena.with_held_at(head, message.with(place as usize, block)))
     }
 
     fn block_at(&self, head: u32, place: u32) -> Option<Block>

@@ -1,5 +1,5 @@
 //! Lists by value, and copies of values.
-ghost use Rattle.std.specs.Prelude.{◌≡◌, [], ◌∷◌, ◌++◌, drop, replicate, IfOk, slice_set};
+ghost use Rattle.std.specs.Prelude.{◌≡◌, [], ◌∷◌, ◌++◌, drop, replicate, IfOk, Ok, slice_set};
 ghost use Rattle.std.specs.List.{flat_map};
 
 use std::alloc::{AllocError, Global};
@@ -18,6 +18,18 @@ impl<T> Model for List<T> {
     ghost Value = { prelude.List T };
 
     ghost view = { λ a. a.items.items };
+}
+
+// A value, and what was made beside it. Where that failed, the value is let go here: a function that had to let go
+// of values of deep types on many ways out would be slow to prove.
+pub(crate) fn beside<A: Drop, B>(
+    first: A,
+    second: Result<B, AllocError>,
+) -> Result<(A, B), AllocError>
+    ensures { IfOk result (λ both. (both.0 ≡ first) × (second ≡ Ok both.1)) }
+{
+    let second = second?;
+    Ok((first, second))
 }
 
 // A value that can be copied where there is memory.

@@ -1,9 +1,10 @@
 //! A pool, and its calls.
-ghost use Rattle.std.specs.Prelude.{◌≡◌, IfOk};
+ghost use Rattle.std.specs.Prelude.{◌≡◌, [], replicate, None, IfOk};
 ghost use Rattle.strm_pool.specs.PoolValue as model;
 
 use super::arena::Arena;
-use super::list::{List, Twin};
+use super::block::Message;
+use super::list::{List, Twin, beside};
 use super::store::{DataStore, numbers};
 use crate::config::Config;
 use std::alloc::{AllocError, Global};
@@ -45,6 +46,25 @@ fn on_arena<T>(given: Result<(T, Arena), Refusal>) -> Result<(T, PlainPool), Ref
     }
 }
 
+// No held message for so many numbers, and so many empty shelves.
+fn no_messages(
+    alloc: Global,
+    numbers: usize,
+    shelves: usize,
+) -> Result<(List<Option<Message>>, List<List<Message>>), AllocError>
+    ensures { IfOk result (λ messages. (messages.0 ≡ replicate numbers None) × (messages.1 ≡ replicate shelves [])) }
+{
+    let held = List::repeated(alloc, &None, numbers)?;
+    beside(held, empty_shelves(alloc, shelves))
+}
+
+fn empty_shelves(alloc: Global, shelves: usize) -> Result<List<List<Message>>, AllocError>
+    ensures { IfOk result (λ list. list ≡ replicate shelves []) }
+{
+    let shelf = List::empty(alloc);
+    List::repeated(alloc, &shelf, shelves)
+}
+
 impl PlainPool {
     ghost use Rattle.strm_pool.specs.PoolValue as model;
 
@@ -58,10 +78,9 @@ impl PlainPool {
         ensures { IfOk result (λ pool. pool ≡ model.opening config.now) }
     {
         let store = DataStore::opening(alloc, config.classes.items())?;
-        let free = numbers(alloc, 0, config.mblks)?;
-        let held = List::repeated(alloc, &None, config.mblks as usize)?;
-        let shelf = List::empty(alloc);
-        let shelves = List::repeated(alloc, &shelf, config.queues.items().len())?;
+        let (store, free) = beside(store, numbers(alloc, 0, config.mblks))?;
+        let messages = no_messages(alloc, config.mblks as usize, config.queues.items().len());
+        let ((store, free), (held, shelves)) = beside((store, free), messages)?;
         Ok(PlainPool {
             arena: Arena::of(config.id, store, free, held, shelves),
         })

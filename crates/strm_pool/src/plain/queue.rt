@@ -1,13 +1,13 @@
 //! Queues, by the rank of their messages.
 ghost use Rattle.std.specs.Prelude.{◌≡◌, nat_le, IfOk, if◌then◌else◌};
 ghost use Rattle.std.specs.List.{list_any};
-ghost use Rattle.strm_pool.specs.Arena.{kind_of};
+ghost use Rattle.strm_pool.specs.Arena.{kind_of, shelf_at};
 ghost use Rattle.strm_data.specs.MsgType.{is_high_priority};
 ghost use Rattle.strm_pool.specs.Queue as model;
 
 use super::arena::{Arena, Given};
 use super::block::{Block, Message, head_of};
-use super::list::{List, Twin};
+use super::list::{List, Twin, beside};
 use super::store::DataStore;
 use std::alloc::{AllocError, Global};
 use strm_data::Refusal;
@@ -83,12 +83,26 @@ impl Arena {
         usize::from(queue) < self.shelves().len()
     }
 
-    fn put_on(self, alloc: Global, queue: u8, message: &[Block]) -> Result<Arena, AllocError>
-        ensures { IfOk result (λ arena. arena ≡ model.put_on queue message.now self) }
+    // The messages of a queue once this one has joined them.
+    fn joined(
+        &self,
+        alloc: Global,
+        queue: u8,
+        message: &[Block],
+    ) -> Result<List<Message>, AllocError>
+        ensures { IfOk result (λ messages. messages ≡ model.put_behind (model.rank_of self.now.store) (model.as_queued self.now.store message.now) (shelf_at self.now queue)) }
     {
         let queued = as_queued(alloc, self.store(), message)?;
         let messages = put_behind(alloc, self.store(), queued, self.shelf_at(queue))?;
-        Ok(self.with_shelf(queue, messages))
+        Ok(messages)
+    }
+
+    fn put_on(self, alloc: Global, queue: u8, message: &[Block]) -> Result<Arena, AllocError>
+        ensures { IfOk result (λ arena. arena ≡ model.put_on queue message.now self) }
+    {
+        let messages = self.joined(alloc, queue, message);
+        let (arena, messages) = beside(self, messages)?;
+        Ok(arena.with_shelf(queue, messages))
     }
 
     pub(crate) fn putq(&self, alloc: Global, queue: u8, head: u32) -> Given<()>
@@ -110,9 +124,9 @@ impl Arena {
             [] => Ok(Ok((None, self.twin(alloc)?))),
             [first, rest @ ..] => {
                 let others = List::of(alloc, rest)?;
-                let arena = self.twin(alloc)?.with_shelf(queue, others);
-                let held = arena.with_held(first.twin(alloc)?);
-                Ok(Ok((Some(head_of(first.items())), held)))
+                let (others, arena) = beside(others, self.twin(alloc))?;
+                let (arena, message) = beside(arena.with_shelf(queue, others), first.twin(alloc))?;
+                Ok(Ok((Some(head_of(first.items())), arena.with_held(message))))
             }
         }
     }

@@ -3,7 +3,7 @@ ghost use Rattle.std.specs.Prelude.{◌≡◌, [], ◌∷◌, IfOk};
 ghost use Rattle.strm_pool.specs.Registers.{register};
 ghost use Rattle.strm_pool.specs.Step as model;
 
-use super::list::{List, Twin};
+use super::list::{List, Twin, beside};
 use super::pool::PlainPool;
 use crate::call::Call;
 use crate::regs::Reg;
@@ -116,11 +116,20 @@ fn replying(
 ) -> Result<Stepped, AllocError>
     ensures { IfOk result (λ stepped. stepped ≡ model.replying pool.now table.now reply) }
 {
-    Ok(Stepped {
-        pool: pool.twin(alloc)?,
-        table: List::of(alloc, table)?,
-        reply,
-    })
+    leaving(alloc, pool.twin(alloc)?, table, reply)
+}
+
+// The same, of a pool that is given away.
+fn leaving(
+    alloc: Global,
+    pool: PlainPool,
+    table: &[Option<u32>],
+    reply: Reply,
+) -> Result<Stepped, AllocError>
+    ensures { IfOk result (λ stepped. stepped ≡ model.replying pool table.now reply) }
+{
+    let (pool, table) = beside(pool, List::of(alloc, table))?;
+    Ok(Stepped { pool, table, reply })
 }
 
 // A register holds this head, or nothing.
@@ -134,8 +143,12 @@ fn with_register(
 ) -> Result<Stepped, AllocError>
     ensures { IfOk result (λ stepped. stepped ≡ model.with_register reg head pool table.now reply) }
 {
-    let table = List::of(alloc, table)?.with(reg.index(), head);
-    Ok(Stepped { pool, table, reply })
+    let (pool, table) = beside(pool, List::of(alloc, table))?;
+    Ok(Stepped {
+        pool,
+        table: table.with(reg.index(), head),
+        reply,
+    })
 }
 
 fn head_in(table: &[Option<u32>], reg: Reg) -> u32
@@ -182,7 +195,7 @@ fn holding_any(
             Ok(stepped)
         }
         Ok((None, pool)) => {
-            let stepped = replying(alloc, &pool, table, Reply::Nothing)?;
+            let stepped = leaving(alloc, pool, table, Reply::Nothing)?;
             Ok(stepped)
         }
         Err(why) => {
@@ -203,7 +216,7 @@ fn keeping(
 {
     match given {
         Ok(((), pool)) => {
-            let stepped = replying(alloc, &pool, table, Reply::Done)?;
+            let stepped = leaving(alloc, pool, table, Reply::Done)?;
             Ok(stepped)
         }
         Err(why) => {
@@ -278,6 +291,26 @@ fn act(
     }
 }
 
+// Whether a register that the call takes from holds nothing.
+fn misses_source(alloc: Global, table: &[Option<u32>], call: &Call) -> Result<bool, AllocError>
+    ensures { IfOk result (λ missing. missing ≡ model.misses_token table.now (model.sources call.now)) }
+{
+    let from = sources(alloc, call)?;
+    misses_token(alloc, table, from.items())
+}
+
+// Whether a register that the call puts into holds a token.
+fn is_destination_taken(
+    alloc: Global,
+    table: &[Option<u32>],
+    call: &Call,
+) -> Result<bool, AllocError>
+    ensures { IfOk result (λ taken. taken ≡ model.is_taken table.now (model.destinations call.now)) }
+{
+    let to = destinations(alloc, call)?;
+    Ok(is_taken(table, to.items()))
+}
+
 pub(crate) fn step(
     alloc: Global,
     pool: &PlainPool,
@@ -286,14 +319,13 @@ pub(crate) fn step(
 ) -> Result<Stepped, AllocError>
     ensures { IfOk result (λ stepped. stepped ≡ model.step pool.now table.now call.now) }
 {
-    let (from, to) = (sources(alloc, call)?, destinations(alloc, call)?);
     if misses_queue(pool, call) {
         let stepped = replying(alloc, pool, table, Reply::Refused(Refusal::NoSuchQueue))?;
         Ok(stepped)
-    } else if misses_token(alloc, table, from.items())? {
+    } else if misses_source(alloc, table, call)? {
         let stepped = replying(alloc, pool, table, Reply::Empty)?;
         Ok(stepped)
-    } else if is_taken(table, to.items()) {
+    } else if is_destination_taken(alloc, table, call)? {
         let stepped = replying(alloc, pool, table, Reply::Taken)?;
         Ok(stepped)
     } else {

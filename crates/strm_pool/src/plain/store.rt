@@ -1,10 +1,10 @@
 //! Data blocks by number.
-ghost use Rattle.std.specs.Prelude.{◌≡◌, ◌+◌, ◌≤◌, nat_le, [], length, replicate, IfOk, if◌then◌else◌};
+ghost use Rattle.std.specs.Prelude.{◌≡◌, ◌+◌, ◌≤◌, nat_le, [], length, replicate, slice_set, IfOk, if◌then◌else◌};
 ghost use Rattle.std.specs.List.{flat_map, zip, enumerate_from, range_with_len};
 ghost use Rattle.strm_data.specs.Classes.{fits_a_class};
 ghost use Rattle.strm_data.specs.DataStore as model;
 
-use super::list::{List, Twin};
+use super::list::{List, Twin, beside};
 use std::alloc::{AllocError, Global};
 use std::marker::Model;
 use strm_data::{ClassSpec, MsgType, Refusal};
@@ -217,16 +217,12 @@ impl DataStore {
         })
     }
 
-    pub(crate) fn data_block_at(&self, alloc: Global, number: u32) -> Result<DataBlock, AllocError>
-        ensures { IfOk result (λ block. block ≡ model.data_block_at self.now number) }
+    fn bytes_at(&self, number: u32) -> &[u8]
+        ensures { result.now ≡ (model.data_block_at self.now number).bytes }
     {
         match self.blocks.items().get(number as usize) {
-            Some(block) => block.twin(alloc),
-            None => Ok(DataBlock {
-                class: 0,
-                kind: MsgType::MData,
-                bytes: List::empty(alloc),
-            }),
+            Some(block) => block.bytes.items(),
+            None => &[],
         }
     }
 
@@ -251,10 +247,7 @@ impl DataStore {
     pub(crate) fn capacity_of(&self, number: u32) -> usize
         ensures { result ≡ model.capacity_of self.now number }
     {
-        match self.blocks.items().get(number as usize) {
-            Some(block) => block.bytes.items().len(),
-            None => 0,
-        }
+        self.bytes_at(number).len()
     }
 
     pub(crate) fn free_of(&self, class: usize) -> &[u32]
@@ -264,6 +257,38 @@ impl DataStore {
             Some(numbers) => numbers.items(),
             None => &[],
         }
+    }
+
+    // The free data blocks of a class are these.
+    fn with_free(mut self, class: usize, numbers: List<u32>) -> DataStore
+        ensures { result ≡ record self { free = slice_set self.free class numbers } }
+    {
+        self.free = self.free.with(class, numbers);
+        self
+    }
+
+    fn with_block(mut self, number: u32, block: DataBlock) -> DataStore
+        ensures { result ≡ record self { blocks = slice_set self.blocks number block } }
+    {
+        self.blocks = self.blocks.with(number as usize, block);
+        self
+    }
+
+    // A copy in which a data block has this type and these bytes.
+    fn with_data(
+        &self,
+        alloc: Global,
+        number: u32,
+        kind: MsgType,
+        bytes: List<u8>,
+    ) -> Result<DataStore, AllocError>
+        ensures { IfOk result (λ store. store ≡ record self.now {
+          blocks = slice_set self.now.blocks number (record { class = model.class_of self.now number; kind = kind; bytes = bytes });
+        }) }
+    {
+        let class = self.class_of(number);
+        let (bytes, store) = beside(bytes, self.twin(alloc))?;
+        Ok(store.with_block(number, DataBlock { class, kind, bytes }))
     }
 
     pub(crate) fn fits(&self, size: u32) -> bool
@@ -297,16 +322,10 @@ impl DataStore {
         ensures { IfOk result (λ store. store ≡ model.with_data_taken number self.now) }
     {
         let class = self.class_of(number);
-        let block = DataBlock {
-            kind: MsgType::MData,
-            ..self.data_block_at(alloc, number)?
-        };
-        let rest = List::rest(alloc, self.free_of(class))?;
-        Ok(DataStore {
-            classes: self.classes.twin(alloc)?,
-            blocks: self.blocks.twin(alloc)?.with(number as usize, block),
-            free: self.free.twin(alloc)?.with(class, rest),
-        })
+        let bytes = List::of(alloc, self.bytes_at(number))?;
+        let store = self.with_data(alloc, number, MsgType::MData, bytes)?;
+        let (store, rest) = beside(store, List::rest(alloc, self.free_of(class)))?;
+        Ok(store.with_free(class, rest))
     }
 
     pub(crate) fn with_data_freed(
@@ -318,11 +337,8 @@ impl DataStore {
     {
         let class = self.class_of(number);
         let numbers = List::chain(alloc, number, self.free_of(class))?;
-        Ok(DataStore {
-            classes: self.classes.twin(alloc)?,
-            blocks: self.blocks.twin(alloc)?,
-            free: self.free.twin(alloc)?.with(class, numbers),
-        })
+        let (numbers, store) = beside(numbers, self.twin(alloc))?;
+        Ok(store.with_free(class, numbers))
     }
 
     pub(crate) fn with_bytes_written(
@@ -335,16 +351,8 @@ impl DataStore {
         requires { at + length bytes.now ≤ model.capacity_of self.now number }
         ensures { IfOk result (λ store. store ≡ model.with_bytes_written number at bytes.now self.now) }
     {
-        let old = self.data_block_at(alloc, number)?;
-        let block = DataBlock {
-            class: old.class,
-            kind: old.kind,
-            bytes: overwritten(alloc, at, bytes, old.bytes.items())?,
-        };
-        Ok(DataStore {
-            classes: self.classes.twin(alloc)?,
-            blocks: self.blocks.twin(alloc)?.with(number as usize, block),
-            free: self.free.twin(alloc)?,
-        })
+        let bytes = overwritten(alloc, at, bytes, self.bytes_at(number))?;
+        let store = self.with_data(alloc, number, self.kind_of(number), bytes)?;
+        Ok(store)
     }
 }

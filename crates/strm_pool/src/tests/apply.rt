@@ -1,4 +1,4 @@
-use super::{octets, opened, reg};
+use super::{assert_census, octets, opened, reg};
 use crate::{Call, Census, Pool, Refusal, Regs, Reply};
 use std::process::Abort;
 
@@ -94,12 +94,7 @@ fn runs_out_of_data_blocks(rt: HostRuntime) {
     replies(&rt, &mut pool, &mut regs, &calls);
     assert!(rt; !regs.holds(a) && !regs.holds(b) && regs.holds(c));
     pool.drain(regs);
-    let drained = Census {
-        free: 3,
-        queued: 1,
-        held: 0,
-    };
-    assert_eq!(rt; pool.census(), drained);
+    assert_census(&rt, &pool, 3, 1, 0);
 }
 
 #[test]

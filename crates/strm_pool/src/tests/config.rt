@@ -1,5 +1,7 @@
-use super::{CLASSES, QUEUES, classes, queues};
-use crate::{Census, Config, NewFault, Pool, Which};
+use super::{CLASSES, QUEUES, assert_census, classes, queues};
+use crate::{Config, NewFault, Pool, Which};
+use std::alloc::Global;
+use std::process::Abort;
 
 type Row<'a> = (
     u32,
@@ -11,7 +13,7 @@ type Row<'a> = (
 );
 
 // Message blocks, classes, queues, wishes, first id, and the fault.
-const ROWS: [Row<'static>; 31] = [
+const ROWS: [Row<'static>; 16] = [
     (1, &[(1, 1)], &[(1, 0, None)], 0, 1, None),
     (4095, &[(4096, 4095)], &QUEUES, 64, u32::MAX, None),
     (4, &CLASSES, &[(u32::MAX, 0, None)], 64, 1, None),
@@ -26,7 +28,13 @@ const ROWS: [Row<'static>; 31] = [
     (4, &[(1, 1)], &[(5, 4, Some(0))], 65, 0, Some(Which::Next)),
     (4, &[(1, 1)], &[(5, 4, None)], 65, 0, Some(Which::Bufcalls)),
     (4, &[(1, 1)], &[(5, 4, None)], 64, 0, Some(Which::FirstId)),
+    // All but one thing is right.
     (u32::MAX, &CLASSES, &QUEUES, 0, 1, Some(Which::Mblks)),
+    (4, &CLASSES, &QUEUES, u32::MAX, 1, Some(Which::Bufcalls)),
+    (4, &CLASSES, &QUEUES, 0, 0, Some(Which::FirstId)),
+];
+
+const CLASS_ROWS: [Row<'static>; 8] = [
     (4, &[(4097, 1)], &QUEUES, 0, 1, Some(Which::ClassSize)),
     (4, &[(4, 1), (4, 1)], &QUEUES, 0, 1, Some(Which::ClassSize)),
     (4, &[(4, 0), (3, 1)], &QUEUES, 0, 1, Some(Which::ClassSize)),
@@ -50,6 +58,9 @@ const ROWS: [Row<'static>; 31] = [
         1,
         Some(Which::ClassTotal),
     ),
+];
+
+const QUEUE_ROWS: [Row<'static>; 7] = [
     (4, &CLASSES, &[(0, 0, None)], 0, 1, Some(Which::Marks)),
     (
         4,
@@ -93,34 +104,51 @@ const ROWS: [Row<'static>; 31] = [
         1,
         Some(Which::Next),
     ),
-    (4, &CLASSES, &QUEUES, u32::MAX, 1, Some(Which::Bufcalls)),
-    (4, &CLASSES, &QUEUES, 0, 0, Some(Which::FirstId)),
 ];
+
+// The first fault of the configuration is this; without one its pool opens.
+fn assert_fault(rt: &impl Abort, alloc: Global, config: Config, fault: Option<Which>) {
+    let mblks = config.mblks;
+    assert!(rt; config.fault() == fault);
+    match Pool::new(alloc, config) {
+        Ok(pool) => {
+            assert_census(rt, &pool, mblks, 0, 0);
+            assert!(rt; fault.is_none());
+        }
+        Err(NewFault::BadConfig(which)) => assert!(rt; fault == Some(which)),
+        Err(NewFault::Memory) => panic!(rt; "out of memory"),
+    }
+}
+
+// The configuration of a row.
+fn config(rt: &impl Abort, row: &Row<'_>) -> Config {
+    Config {
+        id: 7,
+        mblks: row.0,
+        classes: classes(rt, row.1),
+        queues: queues(rt, row.2),
+        bufcalls: row.3,
+        first_id: row.4,
+    }
+}
+
+fn assert_faults(rt: &impl Abort, alloc: Global, rows: &[Row<'_>]) {
+    for row in rows {
+        assert_fault(rt, alloc, config(rt, row), row.5);
+    }
+}
 
 #[test]
 fn answers_the_first_fault(rt: HostRuntime) {
-    for (mblks, sizes, marks, bufcalls, first_id, fault) in ROWS {
-        let config = Config {
-            id: 7,
-            mblks,
-            classes: classes(&rt, sizes),
-            queues: queues(&rt, marks),
-            bufcalls,
-            first_id,
-        };
-        assert_eq!(rt; config.fault(), fault);
-        match Pool::new(rt.alloc(), config) {
-            Ok(pool) => {
-                let opening = Census {
-                    free: mblks,
-                    queued: 0,
-                    held: 0,
-                };
-                assert_eq!(rt; pool.census(), opening);
-                assert_eq!(rt; fault, None);
-            }
-            Err(NewFault::BadConfig(which)) => assert_eq!(rt; fault, Some(which)),
-            Err(NewFault::Memory) => panic!(rt; "out of memory"),
-        }
-    }
+    assert_faults(&rt, rt.alloc(), &ROWS);
+}
+
+#[test]
+fn answers_faults_of_classes(rt: HostRuntime) {
+    assert_faults(&rt, rt.alloc(), &CLASS_ROWS);
+}
+
+#[test]
+fn answers_faults_of_queues(rt: HostRuntime) {
+    assert_faults(&rt, rt.alloc(), &QUEUE_ROWS);
 }

@@ -1,5 +1,13 @@
 use crate::{NewFault, Which};
+use std::alloc::Global;
+use std::process::Abort;
 use std::test::Fail;
+
+// The fault's text is this.
+fn assert_told(rt: &impl Abort, alloc: Global, fault: NewFault, text: &str) -> Result<(), Fail> {
+    assert!(rt; format!(in alloc; "{fault}")?.as_str() == text);
+    Ok(())
+}
 
 #[test]
 fn faults_are_told_by_name(rt: HostRuntime) -> Result<(), Fail> {
@@ -14,10 +22,7 @@ fn faults_are_told_by_name(rt: HostRuntime) -> Result<(), Fail> {
         (Which::Bufcalls, "bad config: Bufcalls"),
         (Which::FirstId, "bad config: FirstId"),
     ] {
-        let fault = NewFault::BadConfig(which);
-        assert!(rt; format!(in rt.alloc(); "{fault}")?.as_str() == text);
+        assert_told(&rt, rt.alloc(), NewFault::BadConfig(which), text)?;
     }
-    let memory = NewFault::Memory;
-    assert!(rt; format!(in rt.alloc(); "{memory}")?.as_str() == "out of memory");
-    Ok(())
+    assert_told(&rt, rt.alloc(), NewFault::Memory, "out of memory")
 }

@@ -68,19 +68,51 @@ impl Plain {
     }
 }
 
+// A new pool, and a plain one.
+fn opened(rt: &impl Abort, alloc: Global, config: Config) -> (Plain, Pool) {
+    let plain = Plain::opened(rt, alloc, &config);
+    let pool = Pool::new(alloc, config).expect(rt, "a lawful configuration");
+    (plain, pool)
+}
+
+// Applies a call to a pool, beside a plain one, and answers its reply: both give it, and are the same afterwards.
+fn reply_of_both(
+    rt: &impl Abort,
+    alloc: Global,
+    plain: &mut Plain,
+    pool: &mut Pool,
+    regs: &mut Regs,
+    call: &Call,
+) -> Reply {
+    assert!(rt; pool.owns(regs));
+    let reply = pool.apply(regs, call);
+    assert!(rt; plain.serve(rt, alloc, call) == reply, "{call:?}");
+    plain.assert_is(rt, alloc, pool, regs);
+    reply
+}
+
 // Serves the calls on a new pool and on a plain one: both give the replies of the rows, and are the same after each.
 fn serve(rt: &impl Abort, alloc: Global, config: Config, rows: &[(Call, Reply)]) {
-    let mut plain = Plain::opened(rt, alloc, &config);
-    let mut pool = Pool::new(alloc, config).expect(rt, "a lawful configuration");
+    let (mut plain, mut pool) = opened(rt, alloc, config);
     let mut regs = Regs::new();
     plain.assert_is(rt, alloc, &pool, &regs);
-    for (call, reply) in rows {
-        assert!(rt; pool.owns(&regs));
-        assert!(rt; pool.apply(&mut regs, call) == *reply, "{call:?}");
-        assert!(rt; plain.serve(rt, alloc, call) == *reply, "{call:?}");
-        plain.assert_is(rt, alloc, &pool, &regs);
-    }
+    assert_replies(rt, alloc, &mut plain, &mut pool, &mut regs, rows);
     pool.drain(regs);
+}
+
+// Applies the calls, and compares each reply with that of its row.
+fn assert_replies(
+    rt: &impl Abort,
+    alloc: Global,
+    plain: &mut Plain,
+    pool: &mut Pool,
+    regs: &mut Regs,
+    rows: &[(Call, Reply)],
+) {
+    for (call, reply) in rows {
+        let given = reply_of_both(rt, alloc, plain, pool, regs, call);
+        assert!(rt; given == *reply, "{call:?}");
+    }
 }
 
 #[test]
@@ -235,6 +267,29 @@ fn tally(seen: &mut [u32; 5], reply: &Reply) {
     seen[kind] = seen[kind].wrapping_add(1);
 }
 
+// Each kind of reply came more than 100 times.
+fn assert_often(rt: &impl Abort, seen: &[u32; 5]) {
+    assert!(rt; seen.iter().all(|times| *times > 100), "{seen:?}");
+}
+
+// How often each kind of reply comes to 4,000 calls.
+fn long_tally(
+    rt: &impl Abort,
+    alloc: Global,
+    plain: &mut Plain,
+    pool: &mut Pool,
+    regs: &mut Regs,
+) -> [u32; 5] {
+    let mut draw = 1;
+    let mut seen = [0; 5];
+    for _ in 0..4000 {
+        let call = any_call(rt, &mut draw);
+        let reply = reply_of_both(rt, alloc, plain, pool, regs, &call);
+        tally(&mut seen, &reply);
+    }
+    seen
+}
+
 #[test]
 fn long_run(rt: HostRuntime) {
     let alloc = rt.alloc();
@@ -244,19 +299,9 @@ fn long_run(rt: HostRuntime) {
         &[(4, 2), (16, 2), (32, 1)],
         &[Some(1), Some(2), None],
     );
-    let mut plain = Plain::opened(&rt, alloc, &config);
-    let mut pool = Pool::new(alloc, config).expect(&rt, "a lawful configuration");
+    let (mut plain, mut pool) = opened(&rt, alloc, config);
     let mut regs = Regs::new();
-    let mut draw = 1;
-    let mut seen = [0; 5];
-    for _ in 0..4000 {
-        let call = any_call(&rt, &mut draw);
-        assert!(rt; pool.owns(&regs));
-        let reply = pool.apply(&mut regs, &call);
-        assert!(rt; plain.serve(&rt, alloc, &call) == reply, "{call:?}");
-        plain.assert_is(&rt, alloc, &pool, &regs);
-        tally(&mut seen, &reply);
-    }
-    assert!(rt; seen.iter().all(|times| *times > 100), "{seen:?}");
+    let seen = long_tally(&rt, alloc, &mut plain, &mut pool, &mut regs);
+    assert_often(&rt, &seen);
     pool.drain(regs);
 }

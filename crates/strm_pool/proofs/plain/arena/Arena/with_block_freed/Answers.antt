@@ -12,5 +12,7 @@ freed_by b loose a next n d old free number data_number was first new =
 
 pub returns : goal.returns
 returns c =
-    c.in_ok-arena.ensures
-    ∙ freed_by c.args.block c.args.loose.now c.args.self c.with_free.result c.number.result c.data_number.result c.free.result.now c.in_ok-free.free c.number.ensures c.data_number.ensures c.free.ensures c.in_ok-free.ensures c.with_free.ensures
+    let first = rw c.in_ok-arena.ensures.1 at c.chain-free.ensures in
+    let next = c.with_free.ensures ∙ ap (λ (a : Arena). record a { free = c.in_ok-arena.free }) c.in_ok-arena.ensures.0 in
+    c.in_ok-freed.ensures
+    ∙ freed_by c.args.block c.args.loose.now c.args.self c.with_free.result c.number.result c.data_number.result c.free.result.now c.in_ok-arena.free c.number.ensures c.data_number.ensures c.free.ensures first next
