@@ -10,7 +10,7 @@ use Rattle.strm_data.specs.declared.data.DataBlock.{DataBlock}
 use Rattle.strm_data.specs.declared.msg_type.MsgType.TheVariants.{MData}
 use Rattle.strm_data.specs.CountedStore.{CountedStore, IsKept, IsUnused, count_of, after_take, with_name, without_name}
 use Rattle.strm_data.specs.DataLayout.{block_at, class_at, region_at, start_in, counted, counted_store, IsLaidOut, IsPlaced}
-use Rattle.strm_data.specs.DataStore.{IsTakenFrom, times, take_data, data_block_at, capacity_of, overwritten, with_bytes_written, class_of, free_of, with_kind, with_data_freed}
+use Rattle.strm_data.specs.DataStore.{IsTakenFrom, times, take_data, data_block_at, capacity_of, overwritten, with_bytes_written, class_of, free_of, with_kind, with_data_freed, class_spec_at}
 use Rattle.strm_data.proofs.Kept.{first_unused}
 use Rattle.strm_data.proofs.Members.{first_removed, get_or_first}
 use Rattle.strm_data.proofs.Times.{times_some}
@@ -121,6 +121,10 @@ module _ (a : Inside) (v : CountedStore) (view : counted_store a ≡ v) (laid : 
 
   pub unused : IsUnused v n
   unused = here.1
+
+  -- its class is as wide as the size
+  pub room : size ≤ capacity_of v.store n
+  room = omega (arith, (subst IsKept view laid.kept).sized n unused.there, ap (λ e. (class_spec_at v.store e).size) here.0, found.wide)
 
   pub after_is : after_take v (take_data size v.store) ≡ after_take v (Ok n)
   after_is = ap (after_take v) (found.front ∙ ap Ok front_is)

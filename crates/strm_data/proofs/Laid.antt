@@ -14,8 +14,9 @@ use Rattle.strm_data.specs.declared.data.DataBlock.{DataBlock}
 use Rattle.strm_data.specs.CountedStore.{CountedStore, IsKept, count_of}
 use Rattle.strm_data.specs.DataLayout.{no_class, no_block, class_at, block_at, region_at, start_in, bytes_in, seen_block, tabulated, counted, counted_store, IsPlaced}
 use Rattle.strm_data.specs.DataStore as store
-use Rattle.strm_data.specs.DataStore.{class_infos, no_data_block, data_block_at, class_of, capacity_of, overwritten}
+use Rattle.strm_data.specs.DataStore.{class_infos, no_data_block, data_block_at, class_of, capacity_of, overwritten, class_spec_at, no_class_spec}
 use Rattle.strm_data.proofs.Tables.{length-tabulated, get_or-tabulated, tabulated-set, length-part, length-overwritten, part_before, part_behind, part_over}
+use Rattle.strm_data.proofs.Kept.{free_within}
 
 -- ---- one data block more or less to the right
 
@@ -287,6 +288,12 @@ module _ (a : Inside) (v : CountedStore) (view : counted_store a ≡ v) (kept : 
   pub info_there : (k : Class) → c < length a.classes.items → k ≡ get_or a.classes.items c k → Some (info_of (k.spec, get_or a.free.lists c [])) ≡ slice_get (class_infos v.store) c
   info_there k within read =
       sym (info_is ∙ ap (option_map (λ (x : Class). info_of (x.spec, get_or a.free.lists c []))) (slice_get-get_or a.classes.items c k within ∙ ap Some (sym read)))
+
+  -- no more of it are free than there are
+  pub free_there : (k : Class) → c < length a.classes.items → k ≡ get_or a.classes.items c k → length (get_or a.free.lists c []) ≤ k.spec.count
+  free_there k within read =
+      let spec : class_spec_at (counted_store a).store c ≡ k.spec = get_or-map (λ (x : Class). x.spec) a.classes.items c k no_class_spec within ∙ ap (λ (x : Class). x.spec) (sym read) in
+      omega (arith, free_within (counted_store a) kept c, ap (λ (x : ClassSpec). x.count) spec)
 
   -- and of one that isn't
   pub info_past : length a.classes.items ≤ c → None ≡ slice_get (class_infos v.store) c

@@ -1,3 +1,4 @@
+pub mod Lawful
 pub mod Fitting
 pub mod Times
 pub mod Kept

@@ -1,7 +1,6 @@
 -- Data blocks that are laid out class by class.
 use Rattle.std.proofs.Common.{◌≡◌, ℕ, zero, suc, ◌+◌, ◌-◌, ◌*◌, ◌<◌, ◌≤◌, List, [], ◌∷◌, ◌++◌, length, get_or, map, take, replicate, refl, sym, ap, ◌∙◌, inl, inr, arith, length-append}
-use Rattle.std.specs.Prelude.{IsTrue, nat_le}
-use Rattle.std.proofs.lemmas.Bool.{cases_eq, cases_lt, and_parts, leb-true}
+use Rattle.std.proofs.lemmas.Bool.{cases_eq, cases_lt}
 use Rattle.std.proofs.lemmas.List.{get_or_append_left, get_or-append_right, get_or-replicate, get_or_past, length-replicate, length-map, map_push, map-append, replicate-append-replicate, drop-replicate, take-replicate}
 use Rattle.std.proofs.Math.Nat.{mul-le-mul_right}
 use Rattle.strm_data.specs.declared.class_spec.ClassSpec.{ClassSpec}
@@ -9,7 +8,7 @@ use Rattle.strm_data.specs.declared.data.Class.{Class}
 use Rattle.strm_data.specs.declared.data.DataBlock.{DataBlock}
 use Rattle.strm_data.specs.declared.msg_type.MsgType.TheVariants.{MData}
 use Rattle.strm_data.specs.CountedStore.{opening_counted}
-use Rattle.strm_data.specs.Classes.{total_of, are_lawful, sizes_rise, each_has_blocks}
+use Rattle.strm_data.specs.Classes.{total_of}
 use Rattle.strm_data.specs.DataLayout.{no_class, no_block, class_at, block_at, region_at, start_in, bytes_in, seen_block, tabulated, counted, IsPlaced}
 use Rattle.strm_data.specs.DataStore.{fresh_data_block, numbers_from}
 use Rattle.strm_data.proofs.Opening.{blocks_from, blocks_from-push, length-blocks_from}
@@ -163,16 +162,3 @@ module _ (specs : List ClassSpec) (classes : List Class) (regions : List (List �
   opened_is =
       (λ i. record { store = record { classes = opened.specs_are i; blocks = opened.fresh i; free = numbers_from 0 specs }; counts = opened.unnamed i })
       ∙ ap (λ n. record { store = (opening_counted specs).store; counts = replicate n 0 }) (length_opened ∙ sym (length-blocks_from 0 specs))
-
--- ---- lawful classes
-
-module _ (specs : List ClassSpec) (lawful : IsTrue (are_lawful specs)) where
-  pub lawful_few : length specs ≤ 8
-  lawful_few = leb-true _ 8 (and_parts _ _ (and_parts (nat_le 1 (length specs)) _ lawful).1).0
-
-  pub lawful_total : total_of specs ≤ 4095
-  lawful_total =
-      let some = and_parts (nat_le 1 (length specs)) _ lawful in
-      let few = and_parts (nat_le (length specs) 8) _ some.1 in
-      let rising = and_parts (sizes_rise 0 specs) _ few.1 in
-      leb-true _ 4095 (and_parts (each_has_blocks specs) _ rising.1).1

@@ -1,15 +1,16 @@
 -- The data blocks of a new pool: how many, in which class, and in which free list.
-use Rattle.std.proofs.Common.{◌≡◌, ℕ, zero, suc, ◌+◌, ◌-◌, ◌<◌, ◌≤◌, Bool, true, false, ◌&&◌, ◌==◌, List, [], ◌∷◌, ◌++◌, length, get_or, replicate, refl, sym, ap, ◌∙◌, inl, inr, arith, if◌then◌else◌, append_assoc, length-append, zero-add}
+use Rattle.std.proofs.Common.{◌≡◌, ℕ, zero, suc, ◌+◌, ◌-◌, ◌<◌, ◌≤◌, Bool, true, false, ◌&&◌, ◌==◌, List, [], ◌∷◌, ◌++◌, length, get_or, replicate, refl, sym, ap, ◌∙◌, inl, inr, arith, if◌then◌else◌, append_assoc, length-append, zero-add, count_by, ◌*◌, ◌≢◌, IsTrue}
 use Rattle.std.specs.Prelude.{nat_lt, nat_le}
 use Rattle.std.specs.List.{flat_map, enumerate_from, range_with_len}
-use Rattle.std.proofs.lemmas.Bool.{cases_lt, cond-false, eq-eqb, ne_eqb, lt-ltb, le-ltb, le-leb, lt-leb, and_from, and_left, and_right}
+use Rattle.std.proofs.lemmas.Bool.{cases_lt, cond-false, eq-eqb, ne_eqb, lt-ltb, le-ltb, le-leb, lt-leb, and_from, and_left, and_right, cond-true}
 use Rattle.std.proofs.lemmas.Bool.Decides.{nat_tests}
 use Rattle.std.proofs.lemmas.List.{append-nil, length-replicate, get_or-replicate, get_or_append_left, get_or-append_right, get_or_past}
-use Rattle.std.proofs.lemmas.List.Sums.{sum_by-cons}
+use Rattle.std.proofs.lemmas.List.Sums.{sum_by-cons, sum_by-append}
+use Rattle.std.proofs.lemmas.List.Folds.{sum_by-replicate}
 use Rattle.strm_data.specs.declared.class_spec.ClassSpec.{ClassSpec}
-use Rattle.strm_data.specs.Classes.{total_of}
+use Rattle.strm_data.specs.Classes.{total_of, are_lawful}
 use Rattle.strm_data.specs.CountedStore.{IsKept, opening_counted}
-use Rattle.strm_data.specs.DataStore.{times, DataBlock, no_data_block, fresh_data_block, numbers_from}
+use Rattle.strm_data.specs.DataStore.{times, DataBlock, no_data_block, fresh_data_block, numbers_from, no_class_spec}
 use Rattle.strm_data.proofs.Times.{times-range_with_len}
 
 -- the data blocks of classes that are numbered from this one on
@@ -40,7 +41,7 @@ numbers_from-push first (x ∷ xs) c =
     ap (λ ys. range_with_len first x.count ∷ ys) (numbers_from-push (first + x.count) xs c
     ∙ ap (λ m. numbers_from (first + x.count) xs ++ range_with_len m c.count ∷ []) (omega (arith, total_of-cons x xs)))
 
--- ---- which data block stands in which list
+-- ---- the class of a data block
 
 -- whether e is a data block of class c
 abbrev is_of : List DataBlock → ℕ → ℕ → Bool
@@ -81,6 +82,69 @@ classes_within n (x ∷ xs) e within =
           let later = classes_within (n + 1) xs (e - x.count) (omega (arith, long, length-append first rest)) in
           (omega (arith, is, later.0), omega (arith, is, later.1))
     ]
+
+-- and how many bytes it has
+bytes_within : (n : ℕ) (cs : List ClassSpec) (e : ℕ) → e < length (blocks_from n cs)
+    → length (get_or (blocks_from n cs) e no_data_block).bytes ≡ (get_or cs ((get_or (blocks_from n cs) e no_data_block).class - n) no_class_spec).size
+bytes_within n [] e within = absurd (omega arith)
+bytes_within n (x ∷ xs) e within =
+    let first = replicate x.count (fresh_data_block n x) in
+    let rest = blocks_from (n + 1) xs in
+    let long : length first ≡ x.count = length-replicate x.count (fresh_data_block n x) in
+    let block = get_or (first ++ rest) e no_data_block in
+    elim (cases_lt e x.count) [
+      | inl here ↦
+          let is : block ≡ fresh_data_block n x =
+          get_or_append_left first rest no_data_block e (omega (arith, long)) ∙ get_or-replicate x.count e (fresh_data_block n x) no_data_block here in
+          let place : 0 ≡ block.class - n = omega (arith, ap (λ (b : DataBlock). b.class) is) in
+          ap (λ (b : DataBlock). length b.bytes) is ∙ length-replicate x.size 0 ∙ ap (λ m. (get_or (x ∷ xs) m no_class_spec).size) place
+      | inr past ↦
+          let there : e - x.count < length rest = omega (arith, long, length-append first rest) in
+          let is = get_or-append_right first rest x.count e no_data_block long past in
+          let later = classes_within (n + 1) xs (e - x.count) there in
+          let place : suc ((get_or rest (e - x.count) no_data_block).class - (n + 1)) ≡ block.class - n = omega (arith, ap (λ (b : DataBlock). b.class) is, later.0) in
+          ap (λ (b : DataBlock). length b.bytes) is ∙ bytes_within (n + 1) xs (e - x.count) there ∙ ap (λ m. (get_or (x ∷ xs) m no_class_spec).size) place
+    ]
+
+-- ---- how many data blocks are of a class
+
+-- of the first of these classes
+first_counted : (n m : ℕ) (c : ClassSpec) (cs : List ClassSpec)
+    → count_by (λ (b : DataBlock). b.class == m) (blocks_from n (c ∷ cs)) ≡ c.count * (if n == m then 1 else 0) + count_by (λ (b : DataBlock). b.class == m) (blocks_from (n + 1) cs)
+first_counted n m c cs =
+    let one_if : DataBlock → ℕ = λ b. if b.class == m then 1 else 0 in
+    sum_by-append one_if (replicate c.count (fresh_data_block n c)) (blocks_from (n + 1) cs)
+    ∙ ap (λ k. k + count_by (λ (b : DataBlock). b.class == m) (blocks_from (n + 1) cs)) (sum_by-replicate one_if c.count (fresh_data_block n c))
+
+-- all of them, or none
+first_is : (n m k : ℕ) → n ≡ m → k * (if n == m then 1 else 0) ≡ k
+first_is n m k same = ap (λ v. k * v) (cond-true _ 1 0 (eq-eqb n m same)) ∙ omega arith
+
+first_not : (n m k : ℕ) → n ≢ m → k * (if n == m then 1 else 0) ≡ 0
+first_not n m k other = ap (λ v. k * v) (cond-false _ 1 0 (ne_eqb n m other)) ∙ omega arith
+
+-- none is of an earlier class
+none_before : (n m : ℕ) (cs : List ClassSpec) → m < n → count_by (λ (b : DataBlock). b.class == m) (blocks_from n cs) ≡ 0
+none_before n m [] before = refl
+none_before n m (c ∷ cs) before =
+    omega (arith, first_counted n m c cs, first_not n m c.count (λ is. absurd (omega (arith, is))), none_before (n + 1) m cs (omega arith))
+
+-- each class has as many as it says
+blocks_counted : (n : ℕ) (cs : List ClassSpec) (c : ℕ) → count_by (λ (b : DataBlock). b.class == n + c) (blocks_from n cs) ≡ (get_or cs c no_class_spec).count
+blocks_counted n [] c = refl
+blocks_counted n (x ∷ xs) zero =
+    omega (arith, first_counted n (n + zero) x xs, first_is n (n + zero) x.count (omega arith), none_before (n + 1) (n + zero) xs (omega arith))
+blocks_counted n (x ∷ xs) (suc c) =
+    let class : n + suc c ≡ n + 1 + c = omega arith in
+    omega (
+      arith,
+      first_counted n (n + suc c) x xs,
+      first_not n (n + suc c) x.count (λ is. absurd (omega (arith, is))),
+      ap (λ m. count_by (λ (b : DataBlock). b.class == m) (blocks_from (n + 1) xs)) class,
+      blocks_counted (n + 1) xs c,
+    )
+
+-- ---- which data block stands in which list
 
 -- each number stands in the list of its data block's class, once
 numbers_listed : (first n : ℕ) (cs : List ClassSpec) (c e : ℕ) → times (first + e) (get_or (numbers_from first cs) c []) ≡ (if is_of (blocks_from n cs) (n + c) e then 1 else 0)
@@ -133,14 +197,18 @@ and_true : (x y : Bool) → y ≡ true → (x && y) ≡ x
 and_true true y is = is
 and_true false y is = refl
 
-pub IsKept-opening : (cs : List ClassSpec) → length cs ≤ 8 → IsKept (opening_counted cs)
-IsKept-opening cs few =
+pub IsKept-opening : (cs : List ClassSpec) → IsTrue (are_lawful cs) → IsKept (opening_counted cs)
+IsKept-opening cs lawful =
     let bs = blocks_from 0 cs in
     record {
-      few_classes = few;
+      lawful = lawful;
+      complete = λ c. ap (λ m. count_by (λ (b : DataBlock). b.class == m) bs) (sym (zero-add c)) ∙ blocks_counted 0 cs c;
       lists = length-numbers_from 0 cs;
       counted = length-replicate (length bs) 0;
       classed = λ d within. omega (arith, (classes_within 0 cs d within).1);
+      sized = λ d within.
+          bytes_within 0 cs d within
+          ∙ ap (λ m. (get_or cs m no_class_spec).size) (let e : (get_or bs d no_data_block).class - 0 ≡ (get_or bs d no_data_block).class = omega arith in e);
       few_names = λ d. omega (arith, no_names (length bs) d);
       listed = λ c d.
           ap (λ k. times k (get_or (numbers_from 0 cs) c [])) (sym (zero-add d)) ∙ numbers_listed 0 0 cs c d

@@ -15,6 +15,12 @@ length-tabulated f n = length-map-range_with_len f 0 n
 pub get_or-tabulated : {X : Type 0} (f : ℕ → X) (n i : ℕ) (d : X) → i < n → get_or (tabulated f n) i d ≡ f i
 get_or-tabulated f n i d within = get_or-map-range_with_len f 0 n i i d within (let e : 0 + i ≡ i = omega arith in e)
 
+-- a list is the table of its own entries
+pub tabulated-get_or : {X : Type 0} (xs : List X) (d : X) → tabulated (λ k. get_or xs k d) (length xs) ≡ xs
+tabulated-get_or xs d =
+    ext_get_or d (tabulated (λ k. get_or xs k d) (length xs)) xs (length-tabulated (λ k. get_or xs k d) (length xs))
+    (λ i within. get_or-tabulated (λ k. get_or xs k d) (length xs) i d (omega (arith, length-tabulated (λ k. get_or xs k d) (length xs))))
+
 -- two tables with the same entries
 pub tabulated-same : {X : Type 0} (f g : ℕ → X) (n : ℕ) → ((k : ℕ) → k < n → f k ≡ g k) → tabulated f n ≡ tabulated g n
 tabulated-same f g n same =

@@ -1,11 +1,11 @@
 -- How often a number stands in a list: a list made longer or shorter, and lists of the numbers below a bound.
-use Rattle.std.proofs.Common.{◌≡◌, ◌≢◌, ℕ, zero, suc, ◌+◌, zero-add, ◌<◌, ◌≤◌, Bool, not, ◌&&◌, ◌==◌, List, [], ◌∷◌, ◌++◌, length, get_or, drop, refl, sym, ap, ◌∙◌, inl, inr, arith, if◌then◌else◌}
+use Rattle.std.proofs.Common.{◌≡◌, ◌≢◌, ℕ, zero, suc, ◌+◌, zero-add, ◌<◌, ◌≤◌, Bool, not, ◌&&◌, ◌==◌, List, [], ◌∷◌, ◌++◌, length, get_or, drop, refl, sym, ap, ◌∙◌, inl, inr, arith, if◌then◌else◌, sum_by, map}
 use Rattle.std.specs.Prelude.{nat_lt, nat_le, filter}
 use Rattle.std.specs.List.{range_with_len}
 use Rattle.std.proofs.lemmas.Bool.{cases_eq, cond-true, cond-false, eq-eqb, ne_eqb, not_from_true, not_from_false, lt-ltb, le-ltb}
 use Rattle.std.proofs.lemmas.Bool.Decides.{nat_tests}
 use Rattle.std.proofs.lemmas.List.{map-id}
-use Rattle.std.proofs.lemmas.List.FromFn.{map-range_with_len_more}
+use Rattle.std.proofs.lemmas.List.FromFn.{map-range_with_len_more, sum_by-map-range_with_len_more}
 use Rattle.std.proofs.lemmas.List.Filters.{length-filter_both}
 use Rattle.std.proofs.lemmas.List.Sums.{sum_by-cons, sum_by-append, length-filter}
 use Rattle.strm_data.specs.DataStore.{times}
@@ -109,24 +109,39 @@ times-without_other k n (x ∷ xs) differs =
           ∙ sym (times-cons k x xs)
     ]
 
+-- as many ones as there are numbers
+ones : (n : ℕ) → sum_by (λ (k : ℕ). 1) (map (λ k. k) (range_with_len 0 n)) ≡ n
+ones zero = refl
+ones (suc n) =
+    ap (λ m. sum_by (λ (k : ℕ). 1) (map (λ k. k) (range_with_len 0 m))) (let e : suc n ≡ n + 1 = omega arith in e)
+    ∙ sum_by-map-range_with_len_more (λ (k : ℕ). 1) (λ k. k) 0 n n (zero-add n) ∙ omega (arith, ones n)
+
 one_less : (k n : ℕ) → k ≢ n → one_if (nat_lt k (suc n)) ≡ one_if (nat_lt k n)
 one_less k n other = grind (arith, nat_tests)
 
--- each of them once at most: no more than there are numbers
-pub few : (n : ℕ) (xs : List ℕ) → ((k : ℕ) → times k xs ≤ 1) → ((k : ℕ) → 0 < times k xs → k < n) → length xs ≤ n
-few zero [] once below = omega arith
-few zero (x ∷ xs) once below = absurd (omega (arith, below x (omega (arith, times_here x x xs refl))))
-few (suc n) xs once below =
-    let fewer = few n (without n xs)
+-- no number stands there more often than it may: no more than all together may
+pub few_of : {X : Type 0} (most : X → ℕ) (f : ℕ → X) (n : ℕ) (xs : List ℕ) → ((k : ℕ) → times k xs ≤ most (f k)) → ((k : ℕ) → 0 < times k xs → k < n)
+    → length xs ≤ sum_by most (map f (range_with_len 0 n))
+few_of most f zero [] each below = omega arith
+few_of most f zero (x ∷ xs) each below = absurd (omega (arith, below x (omega (arith, times_here x x xs refl))))
+few_of most f (suc n) xs each below =
+    let fewer = few_of most f n (without n xs)
     (λ k. elim (cases_eq k n) [
       | inl same ↦ omega (arith, ap (λ j. times j (without n xs)) same, times-without_same n xs)
-      | inr other ↦ omega (arith, times-without_other k n xs other, once k)
+      | inr other ↦ omega (arith, times-without_other k n xs other, each k)
     ])
     (λ k some. elim (cases_eq k n) [
       | inl same ↦ absurd (omega (arith, ap (λ j. times j (without n xs)) same, times-without_same n xs))
       | inr other ↦ omega (arith, below k (omega (arith, times-without_other k n xs other)))
     ]) in
-    omega (arith, fewer, once n, length-without n xs)
+    let more : sum_by most (map f (range_with_len 0 (suc n))) ≡ sum_by most (map f (range_with_len 0 n)) + most (f n) =
+    ap (λ m. sum_by most (map f (range_with_len 0 m))) (let e : suc n ≡ n + 1 = omega arith in e)
+    ∙ sum_by-map-range_with_len_more most f 0 n n (zero-add n) in
+    omega (arith, fewer, each n, length-without n xs, more)
+
+-- each of them once at most: no more than there are numbers
+pub few : (n : ℕ) (xs : List ℕ) → ((k : ℕ) → times k xs ≤ 1) → ((k : ℕ) → 0 < times k xs → k < n) → length xs ≤ n
+few n xs once below = omega (arith, few_of (λ (k : ℕ). 1) (λ k. k) n xs once below, ones n)
 
 -- each of them once, and no other number: as many as there are numbers
 pub as_many : (n : ℕ) (xs : List ℕ) → ((k : ℕ) → times k xs ≡ (if nat_lt k n then 1 else 0)) → length xs ≡ n

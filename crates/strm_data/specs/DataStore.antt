@@ -1,5 +1,5 @@
 -- Data blocks by number, which of them are free, and which one a size takes.
-use Rattle.std.specs.Prelude.{◌≡◌, ℕ, ◌+◌, ◌<◌, Bool, ◌==◌, nat_le, List, [], ◌∷◌, ◌++◌, length, take, drop, replicate, count_by, map, Result, Ok, Err, ok_or, slice_get, slice_index_or, slice_set, if◌then◌else◌}
+use Rattle.std.specs.Prelude.{◌≡◌, ℕ, ◌+◌, ◌<◌, ◌≤◌, Bool, ◌==◌, nat_le, List, [], ◌∷◌, ◌++◌, length, take, drop, replicate, count_by, map, Result, Ok, Err, ok_or, slice_get, slice_index_or, slice_set, if◌then◌else◌}
 use Rattle.std.specs.List.{flat_map, zip, enumerate_from, range_with_len}
 use Rattle.std.specs.Result.{is_ok}
 use Rattle.strm_data.specs.Classes.{fits_a_class}
@@ -26,15 +26,31 @@ pub record DataStore : Type 0 where
   pub blocks : List DataBlock
   pub free : List (List ℕ)
 
+-- what is given where there is no such data block
 abbrev pub no_data_block : DataBlock
 no_data_block = record { class = 0; kind = MData; bytes = [] }
 
+-- data block d
 abbrev pub data_block_at : DataStore → ℕ → DataBlock
 data_block_at s d = slice_index_or s.blocks d no_data_block
 
+-- the number of its size class
 abbrev pub class_of : DataStore → ℕ → ℕ
 class_of s d = (data_block_at s d).class
 
+-- what is given where there is no such class
+abbrev pub no_class_spec : ClassSpec
+no_class_spec = record { size = 0; count = 0 }
+
+-- size class c
+abbrev pub class_spec_at : DataStore → ℕ → ClassSpec
+class_spec_at s c = slice_index_or s.classes c no_class_spec
+
+-- how many data blocks are of class c
+abbrev pub blocks_in : DataStore → ℕ → ℕ
+blocks_in s c = count_by (λ b. b.class == c) s.blocks
+
+-- how many bytes it has room for
 abbrev pub capacity_of : DataStore → ℕ → ℕ
 capacity_of s d = length (data_block_at s d).bytes
 
@@ -54,8 +70,9 @@ take_data size s = if fits_a_class size s.classes then ok_or (slice_get (fitting
 abbrev pub fits : ℕ → DataStore → Bool
 fits size s = is_ok (take_data size s)
 
--- the size takes from this class, which has a free block
+-- the size takes from this class, which fits and has a free block
 pub record IsTakenFrom (size : ℕ) (s : DataStore) (c : ℕ) : Type 0 where
+  pub wide : size ≤ (class_spec_at s c).size
   pub some : 0 < length (free_of s c)
   pub front : take_data size s ≡ Ok (slice_index_or (free_of s c) 0 0)
 

@@ -205,6 +205,7 @@ impl Data {
         ensures answer { result ≡ take_data size self.old.store }
         ensures after { self.new ≡ after_take self.old (take_data size self.old.store) }
         ensures unused { IfOk result (IsUnused self.old) }
+        ensures room { IfOk result (λ d. size ≤ capacity_of self.old.store d) }
         ensures kept { IsKept self.new }
     {
         let class = self.class_for(size)?;
@@ -276,7 +277,8 @@ impl Data {
     /// How many bytes a data block has room for, 1 to 4,096. Nothing changes.
     pub fn cap(&self, number: DataNo) -> u32
         requires { number < length self.now.store.blocks }
-        ensures { result ≡ capacity_of self.now.store number }
+        ensures answer { result ≡ capacity_of self.now.store number }
+        ensures range { (1 ≤ result) × (result ≤ 4096) }
     {
         let class = usize::from(self.blocks[number as usize].class);
         self.classes[class].spec.size
@@ -326,7 +328,8 @@ impl Data {
     /// The size of a class, how many of its data blocks are free, and how many it has; none where there is no
     /// such class. Nothing changes.
     pub fn class_info(&self, class: u8) -> Option<ClassInfo>
-        ensures { result ≡ slice_get (class_infos self.now.store) class }
+        ensures answer { result ≡ slice_get (class_infos self.now.store) class }
+        ensures within { IfSome result (λ info. info.free ≤ info.total) }
     {
         let spec = self.classes.get(usize::from(class))?.spec;
         Some(ClassInfo {
@@ -334,5 +337,15 @@ impl Data {
             free: self.free.len(u32::from(class)),
             total: spec.count,
         })
+    }
+
+    /// The law that every data block is accounted for. There are one to eight size classes, and each has as
+    /// many data blocks as it says; each data block is in one of them and as long as that says. Where a message
+    /// block names it, 255 do at most, and it is in no free list; where none does, it stands in its own class's
+    /// list, once. Does nothing.
+    pub fn accounts_for_blocks(&self)
+        ensures kept { IsKept self.now }
+    {
+        let _ = &self.blocks;
     }
 }

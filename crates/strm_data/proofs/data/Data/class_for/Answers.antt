@@ -1,8 +1,8 @@
 use Rattle.std.proofs.Common.{◌≡◌, ◌<◌, length, get_or, ap, sym, ◌∙◌, subst, arith}
 use Rattle.std.proofs.lemmas.List.{length-map, get_or-map}
-use Rattle.strm_data.specs.DataLayout.{counted_store, no_class}
-use Rattle.strm_data.specs.DataStore.{IsTakenFrom, free_of}
 use Rattle.strm_data.specs.declared.data.Class.{Class}
+use Rattle.strm_data.specs.DataLayout.{counted_store, no_class}
+use Rattle.strm_data.specs.DataStore.{IsTakenFrom, free_of, no_class_spec}
 use Rattle.strm_data.proofs.Fitting.{if_fits-small, if_fits-empty, fitting_from_next, IsTakenFrom-found}
 use Rattle.strm_data.proofs.data.Data.class_for.Goals as goal
 use Rattle.strm_data.proofs.data.Data.class_for.Goals.{In-loop-number, else-class-size-via-then-class-size+else-len-gt0, else-class-size-via-else-class-size}
@@ -17,16 +17,16 @@ in_classes c = omega (arith, there c, length-map c.self.inside.classes.items (λ
 in_free : (c : In-loop-number) → c.loop-number.number < length (counted_store c.self.inside).store.free
 in_free c = omega (arith, in_classes c, c.self.invariant.kept.lists)
 
-spec_is : (c : In-loop-number) → get_or (counted_store c.self.inside).store.classes c.loop-number.number no_class.spec ≡ (get_or c.deref-class-items.result.now c.loop-number.number no_class).spec
+spec_is : (c : In-loop-number) → get_or (counted_store c.self.inside).store.classes c.loop-number.number no_class_spec ≡ (get_or c.deref-class-items.result.now c.loop-number.number no_class).spec
 spec_is c =
-    get_or-map (λ (k : Class). k.spec) c.self.inside.classes.items c.loop-number.number no_class no_class.spec (there c)
+    get_or-map (λ (k : Class). k.spec) c.self.inside.classes.items c.loop-number.number no_class no_class_spec (there c)
     ∙ ap (λ ks. (get_or ks c.loop-number.number no_class).spec) (sym c.deref-class-items.ensures.value)
 
 pub returns-then-len-gt0-clause-found : goal.returns-then-len-gt0-clause-found
 returns-then-len-gt0-clause-found c =
     let at = (goal.at.returns-then-len-gt0-clause-found c).In-loop-number in
     subst (λ s. IsTakenFrom c.args.size s.store c.loop-number.number) c.self.view_is
-    (IsTakenFrom-found c.args.size (counted_store c.self.inside).store c.loop-number.number no_class.spec (in_classes at) (in_free at)
+    (IsTakenFrom-found c.args.size (counted_store c.self.inside).store c.loop-number.number (in_classes at) (in_free at)
     (rw (spec_is at) c.if-class-size.true) (omega (arith, c.if-len-gt0.true, c.len.ensures)) c.loop-number.invariant)
 
 pub loop-number-preserved : goal.loop-number-preserved
@@ -36,10 +36,10 @@ loop-number-preserved c =
     let i = c.loop-number.number in
     elim c.else-class-size.branch [
       | else-class-size-via-then-class-size+else-len-gt0 w ↦
-          fitting_from_next c.args.size s i no_class.spec (in_classes at) (in_free at)
-          (if_fits-empty c.args.size (get_or s.classes i no_class.spec) (free_of s i) (omega (arith, w.if-len-gt0.false, w.len.ensures)))
+          fitting_from_next c.args.size s i no_class_spec (in_classes at) (in_free at)
+          (if_fits-empty c.args.size (get_or s.classes i no_class_spec) (free_of s i) (omega (arith, w.if-len-gt0.false, w.len.ensures)))
           c.loop-number.invariant
       | else-class-size-via-else-class-size w ↦
-          fitting_from_next c.args.size s i no_class.spec (in_classes at) (in_free at)
-          (if_fits-small c.args.size (get_or s.classes i no_class.spec) (free_of s i) (rw (spec_is at) w.if-class-size.false)) c.loop-number.invariant
+          fitting_from_next c.args.size s i no_class_spec (in_classes at) (in_free at)
+          (if_fits-small c.args.size (get_or s.classes i no_class_spec) (free_of s i) (rw (spec_is at) w.if-class-size.false)) c.loop-number.invariant
     ]

@@ -1,21 +1,19 @@
 use Rattle.std.proofs.Common.{◌≡◌, ℕ, ◌+◌, ◌∷◌, [], ◌++◌, ◌≤◌, List, Vec, Global, length, get_or, map, take, replicate, sym, ap, ◌∙◌, subst, arith}
 use Rattle.std.proofs.lemmas.List.{map_push, take_all, take_more, length-take-le}
 use Rattle.strm_links.specs.Rows.{Rows}
-use Rattle.strm_data.specs.CountedStore.{IsKept}
-use Rattle.strm_data.specs.DataLayout.{counted}
 use Rattle.strm_data.specs.declared.class_spec.ClassSpec.{ClassSpec}
 use Rattle.strm_data.specs.declared.data.Class.{Class}
 use Rattle.strm_data.specs.declared.data.DataBlock.{DataBlock}
 use Rattle.strm_data.specs.declared.msg_type.MsgType.TheVariants.{MData}
+use Rattle.strm_data.specs.CountedStore.{IsKept}
+use Rattle.strm_data.specs.DataLayout.{counted}
+use Rattle.strm_data.specs.DataStore.{no_class_spec}
 use Rattle.strm_data.proofs.Filling.{total_of_more}
-use Rattle.strm_data.proofs.Opened.{AreOpened, AreOpened-nil, AreOpened-push, length_opened, classes_opened, opened_is, lawful_few, lawful_total}
+use Rattle.strm_data.proofs.Opened.{AreOpened, AreOpened-nil, AreOpened-push, length_opened, classes_opened, opened_is}
+use Rattle.strm_data.proofs.Lawful.{lawful_few, lawful_total}
 use Rattle.strm_data.proofs.Opening.{IsKept-opening}
 use Rattle.strm_data.proofs.data.Data.new.Goals as goal
 use Rattle.strm_data.proofs.data.Data.new.Goals.{After-loop-spec}
-
--- what a read outside the classes gives
-abbrev no_spec : ClassSpec
-no_spec = record { size = 0; count = 0 }
 
 abbrev bytes_of : Vec ℕ Global → List ℕ
 bytes_of r = r.items
@@ -31,7 +29,7 @@ overflow_cast-first c =
     let specs = c.args.specs.now in
     let i = c.loop-spec.spec-index in
     let long = length_opened (take i specs) c.loop-spec.classes.items (map bytes_of c.loop-spec.regions.items) c.loop-spec.blocks.items c.loop-spec.invariant in
-    omega (arith, long, c.len-first.ensures, c.loop-spec.blocks.ok.0, total_of_more specs i no_spec c.loop-spec-test.true, lawful_total specs c.requires)
+    omega (arith, long, c.len-first.ensures, c.loop-spec.blocks.ok.0, total_of_more specs i no_class_spec c.loop-spec-test.true, lawful_total specs c.requires)
 
 pub overflow_cast-len : goal.overflow_cast-len
 overflow_cast-len c =
@@ -44,7 +42,7 @@ pub loop-spec-preserved : goal.loop-spec-preserved
 loop-spec-preserved c =
     let specs = c.args.specs.now in
     let i = c.loop-spec.spec-index in
-    let spec = get_or specs i no_spec in
+    let spec = get_or specs i no_class_spec in
     let region : Vec ℕ Global = c.in_ok-vec.field-0 in
     let pushed = AreOpened-push (take i specs) c.loop-spec.classes.items (map bytes_of c.loop-spec.regions.items) c.loop-spec.blocks.items c.loop-spec.invariant spec in
     let first : length c.loop-spec.blocks.items ≡ c.len-first.result = sym c.loop-spec.blocks.ok.0 ∙ sym c.len-first.ensures in
@@ -55,7 +53,7 @@ loop-spec-preserved c =
     ∙ ap (λ bs. map bytes_of c.loop-spec.regions.items ++ bs ∷ []) (c.in_ok-vec.ensures.items_if_clones_equal (λ y same. same)) in
     let blocks_are = c.in_ok-add_blocks.ensures ∙ ap (λ n. c.loop-spec.blocks.items ++ replicate spec.count (record { class = n; kind = MData; names = 0 })) (sym number) in
     let all : (take (i + 1) specs, (c.push-in-loop-spec.new.self.items, (map bytes_of c.push.new.self.items, c.add_blocks.new.blocks.items))) ≡ _ =
-    λ j. (take_more specs i no_spec c.loop-spec-test.true j, (classes_are j, (regions_are j, blocks_are j))) in
+    λ j. (take_more specs i no_class_spec c.loop-spec-test.true j, (classes_are j, (regions_are j, blocks_are j))) in
     subst (λ (t : List ClassSpec × (List Class × (List (List ℕ) × List DataBlock))). AreOpened t.0 t.1.0 t.1.1.0 t.1.1.1)
     (sym all) pushed
 
@@ -69,7 +67,7 @@ returns-clause-opened c =
     ∙ opened_is c.args.specs.now c.loop-spec.classes.items (map bytes_of c.loop-spec.regions.items) c.loop-spec.blocks.items (all_opened c c.loop-spec-test.false)
 
 pub returns-clause-kept : goal.returns-clause-kept
-returns-clause-kept c = subst IsKept (sym (returns-clause-opened c)) (IsKept-opening c.args.specs.now (lawful_few c.args.specs.now c.requires))
+returns-clause-kept c = subst IsKept (sym (returns-clause-opened c)) (IsKept-opening c.args.specs.now c.requires)
 
 pub invariant_of-result : goal.invariant_of-result
 invariant_of-result c =

@@ -10,7 +10,7 @@ returns-clause-after c = retyped c.self.inside _ c.self.view_is c.self.invariant
 pub returns-clause-kept : goal.returns-clause-kept
 returns-clause-kept c =
     subst IsKept (sym (returns-clause-after c))
-    (IsKept-altered c.args.self.now c.args.number _ refl (kept c.self.inside _ c.self.view_is c.self.invariant c.args.number c.requires c.index_mut.result.now c.index_mut.ensures.value))
+    (IsKept-altered c.args.self.now c.args.number _ refl refl (kept c.self.inside _ c.self.view_is c.self.invariant c.args.number c.requires c.index_mut.result.now c.index_mut.ensures.value))
 
 pub invariant_of-self : goal.invariant_of-self
 invariant_of-self c =

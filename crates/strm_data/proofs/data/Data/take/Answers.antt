@@ -1,7 +1,7 @@
 use Rattle.std.proofs.Common.{◌≡◌, Some, refl, sym, ap, ◌∙◌, subst}
 use Rattle.strm_links.specs.Rows.{Rows, first, list_at}
 use Rattle.strm_data.specs.CountedStore.{IsKept}
-use Rattle.strm_data.proofs.Alterations.{unused, taken, IsLaidOut-altered}
+use Rattle.strm_data.proofs.Alterations.{unused, room, taken, IsLaidOut-altered}
 use Rattle.strm_data.proofs.Kept.{IsKept-take}
 use Rattle.strm_data.proofs.data.Data.take.Goals as goal
 use Rattle.strm_data.proofs.data.Data.take.Goals.{After-unwrap-number}
@@ -14,6 +14,11 @@ pub returns-clause-unused : goal.returns-clause-unused
 returns-clause-unused c =
     unused c.self.inside _ c.self.view_is c.self.invariant c.args.size c.in_ok-class.class c.unwrap-number.result c.in_ok-class.ensures.found
     (is (goal.at.returns-clause-unused c).After-unwrap-number)
+
+pub returns-clause-room : goal.returns-clause-room
+returns-clause-room c =
+    room c.self.inside _ c.self.view_is c.self.invariant c.args.size c.in_ok-class.class c.unwrap-number.result c.in_ok-class.ensures.found
+    (is (goal.at.returns-clause-room c).After-unwrap-number)
 
 pub returns-clause-after : goal.returns-clause-after
 returns-clause-after c =

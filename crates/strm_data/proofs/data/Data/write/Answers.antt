@@ -64,7 +64,7 @@ returns-clause-after c =
 pub returns-clause-kept : goal.returns-clause-kept
 returns-clause-kept c =
     subst IsKept (sym (returns-clause-after c))
-    (IsKept-altered c.args.self.now c.args.number _ refl (kept c.self.inside _ c.self.view_is c.self.invariant c.args.number c.requires.there c.index.result.now c.index.ensures))
+    (IsKept-altered c.args.self.now c.args.number _ refl (length-overwritten c.args.at c.args.bytes.now _ c.requires.room) (kept c.self.inside _ c.self.view_is c.self.invariant c.args.number c.requires.there c.index.result.now c.index.ensures))
 
 pub invariant_of-self : goal.invariant_of-self
 invariant_of-self c =

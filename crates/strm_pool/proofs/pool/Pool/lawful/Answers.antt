@@ -2,6 +2,7 @@ use Rattle.std.proofs.Common.{◌≤◌, subst, arith}
 use Rattle.std.specs.Prelude.{◌≡◌, ◌+◌, length, IsTrue}
 use Rattle.strm_data.specs.DataStore.{class_infos}
 use Rattle.strm_data.proofs.Kept.{length-class_infos}
+use Rattle.strm_data.proofs.Lawful.{lawful_few}
 use Rattle.strm_pool.specs.Arena.{IsParted, census_of, shelf_at}
 use Rattle.strm_pool.specs.PoolLayout.{arena_of}
 use Rattle.strm_pool.specs.PoolValue.{PoolValue}
@@ -21,7 +22,7 @@ returns-clause-whole c =
 
 pub returns-clause-few_classes : goal.returns-clause-few_classes
 returns-clause-few_classes c =
-    let few : length (class_infos (arena_of c.self.inside).store) ≤ 8 = omega (arith, length-class_infos c.self.inside.store c.self.invariant.kept, c.self.invariant.kept.few_classes) in
+    let few : length (class_infos (arena_of c.self.inside).store) ≤ 8 = omega (arith, length-class_infos c.self.inside.store c.self.invariant.kept, lawful_few c.self.inside.store.store.classes c.self.invariant.kept.lawful) in
     subst (λ (v : PoolValue). length (class_infos v.arena.store) ≤ 8) c.self.view_is few
 
 pub returns-clause-ordered : goal.returns-clause-ordered

@@ -41,19 +41,19 @@ returns-then-count-gt1-clause-answer c =
 pub returns-in-Some-checked_add-clause-pool : goal.returns-in-Some-checked_add-clause-pool
 returns-in-Some-checked_add-clause-pool c =
     ap (λ x. let v : PoolValue = record { arena = x } in v) (write_shows c.self.inside c.self.invariant c.head-head.result c.in-Some.written c.args.bytes.now (there (goal.at.returns-in-Some-checked_add-clause-pool c).In-Some) c.write.new.self (with_item c.self.inside.held c.head-head.result (Some (record { number = c.in-Some.written.number; data_number = c.in-Some.written.data_number; len = c.in-Some-checked_add.len }))) c.write.ensures.after (ap (λ n. set c.self.inside.held.items c.head-head.result (Some (let b : Block = record { number = c.in-Some.written.number; data_number = c.in-Some.written.data_number; len = n } in b))) c.in-Some-checked_add.ensures.1))
-    ∙ (settles (λ (v : PoolValue). write c.args.token.now.head c.args.block c.args.bytes.now v) c.self.view_is (at_head c.self.inside c.args.token.now c.args.block c.args.bytes.now c.head-head.ensures c.if-block-ne0.false ∙ write_done (pool_value c.self.inside) c.head-head.result c.in-Some.written c.args.bytes.now (free_held c.self.inside c.self.invariant c.head-head.result c.in-Some.written (there (goal.at.returns-in-Some-checked_add-clause-pool c).In-Some)) (named_few c.self.inside c.self.invariant c.head-head.result c.in-Some.written c.args.bytes.now (there (goal.at.returns-in-Some-checked_add-clause-pool c).In-Some) (omega (arith, c.count.ensures))) (omega (arith, c.in-Some-checked_add.ensures.1, c.cap-capacity.ensures)))).0
+    ∙ (settles (λ (v : PoolValue). write c.args.token.now.head c.args.block c.args.bytes.now v) c.self.view_is (at_head c.self.inside c.args.token.now c.args.block c.args.bytes.now c.head-head.ensures c.if-block-ne0.false ∙ write_done (pool_value c.self.inside) c.head-head.result c.in-Some.written c.args.bytes.now (free_held c.self.inside c.self.invariant c.head-head.result c.in-Some.written (there (goal.at.returns-in-Some-checked_add-clause-pool c).In-Some)) (named_few c.self.inside c.self.invariant c.head-head.result c.in-Some.written c.args.bytes.now (there (goal.at.returns-in-Some-checked_add-clause-pool c).In-Some) (omega (arith, c.count.ensures))) (omega (arith, c.in-Some-checked_add.ensures.1, c.cap-capacity.ensures.answer)))).0
 
 pub returns-in-Some-checked_add-clause-answer : goal.returns-in-Some-checked_add-clause-answer
 returns-in-Some-checked_add-clause-answer c =
-    sym (settles (λ (v : PoolValue). write c.args.token.now.head c.args.block c.args.bytes.now v) c.self.view_is (at_head c.self.inside c.args.token.now c.args.block c.args.bytes.now c.head-head.ensures c.if-block-ne0.false ∙ write_done (pool_value c.self.inside) c.head-head.result c.in-Some.written c.args.bytes.now (free_held c.self.inside c.self.invariant c.head-head.result c.in-Some.written (there (goal.at.returns-in-Some-checked_add-clause-answer c).In-Some)) (named_few c.self.inside c.self.invariant c.head-head.result c.in-Some.written c.args.bytes.now (there (goal.at.returns-in-Some-checked_add-clause-answer c).In-Some) (omega (arith, c.count.ensures))) (omega (arith, c.in-Some-checked_add.ensures.1, c.cap-capacity.ensures)))).1
+    sym (settles (λ (v : PoolValue). write c.args.token.now.head c.args.block c.args.bytes.now v) c.self.view_is (at_head c.self.inside c.args.token.now c.args.block c.args.bytes.now c.head-head.ensures c.if-block-ne0.false ∙ write_done (pool_value c.self.inside) c.head-head.result c.in-Some.written c.args.bytes.now (free_held c.self.inside c.self.invariant c.head-head.result c.in-Some.written (there (goal.at.returns-in-Some-checked_add-clause-answer c).In-Some)) (named_few c.self.inside c.self.invariant c.head-head.result c.in-Some.written c.args.bytes.now (there (goal.at.returns-in-Some-checked_add-clause-answer c).In-Some) (omega (arith, c.count.ensures))) (omega (arith, c.in-Some-checked_add.ensures.1, c.cap-capacity.ensures.answer)))).1
 
 pub returns-in_default-checked_add-clause-answer : goal.returns-in_default-checked_add-clause-answer
 returns-in_default-checked_add-clause-answer c =
-    sym (refuses (λ (v : PoolValue). write c.args.token.now.head c.args.block c.args.bytes.now v) c.self.view_is (at_head c.self.inside c.args.token.now c.args.block c.args.bytes.now c.head-head.ensures c.if-block-ne0.false ∙ write_full (pool_value c.self.inside) c.head-head.result c.in-Some.written c.args.bytes.now (free_held c.self.inside c.self.invariant c.head-head.result c.in-Some.written (there (goal.at.returns-in_default-checked_add-clause-answer c).In-Some)) (named_few c.self.inside c.self.invariant c.head-head.result c.in-Some.written c.args.bytes.now (there (goal.at.returns-in_default-checked_add-clause-answer c).In-Some) (omega (arith, c.count.ensures))) (omega (arith, c.in-Some-checked_add.ensures.1, c.cap-capacity.ensures)))).1
+    sym (refuses (λ (v : PoolValue). write c.args.token.now.head c.args.block c.args.bytes.now v) c.self.view_is (at_head c.self.inside c.args.token.now c.args.block c.args.bytes.now c.head-head.ensures c.if-block-ne0.false ∙ write_full (pool_value c.self.inside) c.head-head.result c.in-Some.written c.args.bytes.now (free_held c.self.inside c.self.invariant c.head-head.result c.in-Some.written (there (goal.at.returns-in_default-checked_add-clause-answer c).In-Some)) (named_few c.self.inside c.self.invariant c.head-head.result c.in-Some.written c.args.bytes.now (there (goal.at.returns-in_default-checked_add-clause-answer c).In-Some) (omega (arith, c.count.ensures))) (omega (arith, c.in-Some-checked_add.ensures.1, c.cap-capacity.ensures.answer)))).1
 
 pub returns-in_default-checked_add-2-clause-answer : goal.returns-in_default-checked_add-2-clause-answer
 returns-in_default-checked_add-2-clause-answer c =
-    sym (refuses (λ (v : PoolValue). write c.args.token.now.head c.args.block c.args.bytes.now v) c.self.view_is (at_head c.self.inside c.args.token.now c.args.block c.args.bytes.now c.head-head.ensures c.if-block-ne0.false ∙ write_full (pool_value c.self.inside) c.head-head.result c.in-Some.written c.args.bytes.now (free_held c.self.inside c.self.invariant c.head-head.result c.in-Some.written (there (goal.at.returns-in_default-checked_add-2-clause-answer c).In-Some)) (named_few c.self.inside c.self.invariant c.head-head.result c.in-Some.written c.args.bytes.now (there (goal.at.returns-in_default-checked_add-2-clause-answer c).In-Some) (omega (arith, c.count.ensures))) (omega (arith, c.cap-capacity.ensures)))).1
+    sym (refuses (λ (v : PoolValue). write c.args.token.now.head c.args.block c.args.bytes.now v) c.self.view_is (at_head c.self.inside c.args.token.now c.args.block c.args.bytes.now c.head-head.ensures c.if-block-ne0.false ∙ write_full (pool_value c.self.inside) c.head-head.result c.in-Some.written c.args.bytes.now (free_held c.self.inside c.self.invariant c.head-head.result c.in-Some.written (there (goal.at.returns-in_default-checked_add-2-clause-answer c).In-Some)) (named_few c.self.inside c.self.invariant c.head-head.result c.in-Some.written c.args.bytes.now (there (goal.at.returns-in_default-checked_add-2-clause-answer c).In-Some) (omega (arith, c.count.ensures))) (omega (arith, c.cap-capacity.ensures.answer)))).1
 
 pub returns-in-Some-checked_add-clause-had : goal.returns-in-Some-checked_add-clause-had
 returns-in-Some-checked_add-clause-had c =
