@@ -1,7 +1,13 @@
 -- The class and the name of each message type.
+use denote.Enum.Bare.{sameb}
 use Rattle.std.specs.Prelude.{ℕ, Bool, true, false, List, codes}
+use Rattle.strm_data.specs.contracts.msg_type.MsgType.{the_type}
 use Rattle.strm_data.specs.declared.msg_type.MsgType.{MsgType}
 use Rattle.strm_data.specs.declared.msg_type.MsgType.TheVariants.{MData, MProto, MBreak, MPassfp, MSig, MDelay, MCtl, MIoctl, MSetopts, MIocack, MIocnak, MPcproto, MPcsig, MRead, MFlush, MStop, MStart, MHangup, MError, MCopyin, MCopyout, MIocdata}
+
+-- whether two types are one: what `==` answers
+unfoldable pub same_kind : MsgType → MsgType → Bool
+same_kind = sameb the_type
 
 -- whether messages of the type go before all bands
 abbrev pub is_high_priority : MsgType → Bool

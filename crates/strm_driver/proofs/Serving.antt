@@ -3,7 +3,7 @@ use Rattle.std.proofs.Common.{◌≡◌, ℕ, zero, suc, ◌+◌, ◌<◌, ◌�
 use Rattle.std.proofs.lemmas.List.{at_drop_more, at_drop_all}
 use Rattle.strm_pool.specs.declared.config.Config.{Config}
 use Rattle.strm_pool.specs.declared.reply.Reply.{Reply}
-use Rattle.strm_pool.specs.declared.token.TokenValue.{TokenValue}
+use Rattle.strm_mblk.specs.declared.token.TokenValue.{TokenValue}
 use Rattle.strm_pool.specs.Config.{fault_of}
 use Rattle.strm_pool.specs.PoolValue.{PoolValue, opening}
 use Rattle.strm_pool.specs.Registers.{RegisterTable, register, table_of, AreDistinct}

@@ -3,11 +3,11 @@ use Rattle.std.specs.Prelude.{ℕ, ◌+◌, List, ◌++◌, length, map, codes, 
 use Rattle.std.specs.List.{flat_map, zip}
 use Rattle.strm_data.specs.declared.class_info.ClassInfo.{ClassInfo}
 use Rattle.strm_data.specs.DataStore.{class_infos}
-use Rattle.strm_pool.specs.declared.census.Census.{Census}
+use Rattle.strm_mblk.specs.declared.census.Census.{Census}
 use Rattle.strm_pool.specs.declared.reply.Reply.{Reply}
 use Rattle.strm_pool.specs.declared.reply.Reply.TheVariants.{Done, Nothing, Empty, Taken, Refused}
 use Rattle.strm_pool.specs.declared.reply.Reply.TheVariants as replies
-use Rattle.strm_pool.specs.Arena.{census_of}
+use Rattle.strm_mblk.specs.Arena.{census_of}
 use Rattle.strm_pool.specs.PoolValue.{PoolValue, opening}
 use Rattle.strm_data.specs.Refusal.{number_of, name_of}
 use Rattle.strm_pool.specs.Step.{Turn, Replay, replay}

@@ -12,14 +12,16 @@ use Rattle.strm_pool.specs.declared.pool.Block.{Block}
 use Rattle.strm_pool.specs.declared.pool.Pool.TheInside.{Inside}
 use Rattle.strm_data.specs.declared.refusal.Refusal.{Refusal}
 use Rattle.strm_data.specs.declared.refusal.Refusal.TheVariants.{TooLarge}
-use Rattle.strm_pool.specs.Arena.{Arena, held_at, new_block, with_held, held_new, allocb_from}
+use Rattle.strm_mblk.specs.Block.{new_block}
+use Rattle.strm_mblk.specs.Arena.{Arena, held_at, with_held}
+use Rattle.strm_mblk.specs.BlockCalls.{held_new, allocb_from}
 use Rattle.strm_data.specs.DataStore.{times}
 use Rattle.strm_data.specs.CountedStore.{CountedStore, IsKept, IsUnused, count_of, after_take}
 use Rattle.strm_data.specs.DataStore.{DataStore, DataBlock, no_data_block, data_block_at, take_data, with_data_taken}
 use Rattle.strm_data.specs.Classes.{fits_a_class}
 use Rattle.strm_pool.specs.PoolLayout.{message_of, arena_of, pool_value, IsSound}
 use Rattle.strm_pool.specs.PoolValue.{PoolValue, on_arena, allocb}
-use Rattle.strm_pool.proofs.Moves.{one_if, times_front, within, not_held, allocated}
+use Rattle.strm_mblk.proofs.Moves.{one_if, times_front, within, not_held, allocated}
 use Rattle.strm_pool.proofs.PoolMoves.{IsPlain, counted_by, held_at-is, held-set, same_arena, sound_from}
 use Rattle.strm_pool.proofs.Freemsg.{count_of-set}
 

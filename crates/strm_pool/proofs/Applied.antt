@@ -7,8 +7,10 @@ use Rattle.std.proofs.lemmas.Bool.{cases_eq, and_parts, and_from, eqb-true, eq-e
 use Rattle.std.proofs.lemmas.List.{map-set}
 use Rattle.strm_pool.specs.declared.call.Call.{Call}
 use Rattle.strm_pool.specs.declared.reply.Reply.{Reply}
-use Rattle.strm_pool.specs.declared.token.TokenValue.{TokenValue}
-use Rattle.strm_pool.specs.Arena.{Arena, Message, has, is_of_length, token_of, held_at, blocks_of}
+use Rattle.strm_mblk.specs.declared.token.TokenValue.{TokenValue}
+use Rattle.strm_mblk.specs.Block.{Message}
+use Rattle.strm_mblk.specs.Arena.{Arena, has, is_of_length, token_of, held_at}
+use Rattle.strm_mblk.specs.Messages.{blocks_of}
 use Rattle.strm_pool.specs.PoolValue.{PoolValue, owns}
 use Rattle.strm_pool.specs.Registers.{RegisterTable, register, table_of, AreDistinct}
 use Rattle.strm_pool.specs.Step.{Applies, Stepped, step, replying, with_register, is_named}

@@ -9,10 +9,11 @@ use Rattle.std.proofs.lemmas.List.{set-set, set-get_or}
 use Rattle.strm_pool.specs.declared.call.Call.TheVariants.{Allocb, Write, Putq, Getq, Freemsg}
 use Rattle.strm_data.specs.declared.refusal.Refusal.{Refusal}
 use Rattle.strm_pool.specs.declared.reply.Reply.TheVariants.{Done, Refused}
-use Rattle.strm_pool.specs.declared.token.TokenValue.{TokenValue}
-use Rattle.strm_pool.specs.Arena as arena
-use Rattle.strm_pool.specs.Arena.{Arena, Message, has, is_of_length, held_at, token_of}
-use Rattle.strm_pool.specs.PoolValue.{PoolValue, after, answer_of, owns, spent, rejecting, allocb, write, putq, getq, freemsg}
+use Rattle.strm_mblk.specs.declared.token.TokenValue.{TokenValue}
+use Rattle.strm_mblk.specs.Freeing as freeing
+use Rattle.strm_mblk.specs.Arena.{Arena, has, is_of_length, held_at, token_of}
+use Rattle.strm_mblk.specs.Given.{after, answer_of}
+use Rattle.strm_pool.specs.PoolValue.{PoolValue, owns, spent, rejecting, allocb, write, putq, getq, freemsg}
 use Rattle.strm_pool.specs.Queue.{has_queue}
 use Rattle.strm_pool.specs.Registers.{RegisterTable, register, table_of, AreDistinct}
 use Rattle.strm_pool.specs.Step.{Applies, Stepped, with_register}
@@ -98,7 +99,7 @@ pub applied_freemsg : (v w : PoolValue) (rs : List (Option TokenValue)) (x : ℕ
     → w ≡ spent v token → Applies v rs (Freemsg x) w (set rs x None) Done
 applied_freemsg v w rs x token owned held inside is =
     let had : has v.arena token ≡ true = owned_token v rs x token owned held in
-    let same : w ≡ freemsg token.head v = is ∙ ap (λ (b : Bool). let p : PoolValue = record { arena = if b then arena.freemsg token.head v.arena else v.arena } in p) had in
+    let same : w ≡ freemsg token.head v = is ∙ ap (λ (b : Bool). let p : PoolValue = record { arena = if b then freeing.freemsg token.head v.arena else v.arena } in p) had in
     let leaves : Leaves v.arena w.arena token.head = leaves_at same (freemsg_leaves v token.head) in
     applies_at v w rs (Freemsg x) x token.head None Done owned inside leaves.id leaves.others
     (λ y t other was _ distinct. others_apart rs x token held distinct y t other was)

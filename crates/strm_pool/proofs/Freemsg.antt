@@ -9,13 +9,16 @@ use Rattle.std.proofs.lemmas.Bool.Decides.{nat_tests, eqb_tells}
 use Rattle.std.proofs.lemmas.List.{length-map, get_or_past}
 use Rattle.strm_pool.specs.declared.pool.Block.{Block}
 use Rattle.strm_pool.specs.declared.pool.Pool.TheInside.{Inside}
-use Rattle.strm_pool.specs.Arena.{Arena, Message, has, held_at, blocks_of, names_of, is_naming, without_held, with_blocks_freed, freemsg}
+use Rattle.strm_mblk.specs.Block.{Message, is_naming}
+use Rattle.strm_mblk.specs.Arena.{Arena, has, held_at, names_of, without_held}
+use Rattle.strm_mblk.specs.Messages.{blocks_of}
+use Rattle.strm_mblk.specs.Freeing.{with_blocks_freed, freemsg}
 use Rattle.strm_data.specs.CountedStore.{CountedStore, IsKept, IsInUse, count_of, without_name}
 use Rattle.strm_data.specs.DataStore.{DataStore, with_data_freed}
 use Rattle.strm_pool.specs.PoolLayout.{message_of, arena_of, pool_value, IsSound}
 use Rattle.strm_pool.specs.PoolValue.{PoolValue, spent}
-use Rattle.strm_pool.specs.declared.token.TokenValue.{TokenValue}
-use Rattle.strm_pool.proofs.Moves.{one_if, out_of_held, count_one, freed_one, room_to_free}
+use Rattle.strm_mblk.specs.declared.token.TokenValue.{TokenValue}
+use Rattle.strm_mblk.proofs.Moves.{one_if, out_of_held, count_one, freed_one, room_to_free}
 use Rattle.strm_pool.proofs.PoolMoves.{IsPlain, counted_by, held_at-is, held-set, same_arena, sound_from}
 
 -- a data block that is named is there

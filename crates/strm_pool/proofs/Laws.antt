@@ -6,7 +6,8 @@ use Rattle.std.specs.declared.collections.VecDeque.{VecDeque}
 use Rattle.std.proofs.lemmas.Bool.{and_from, le-leb}
 use Rattle.strm_pool.specs.declared.pool.Block.{Block}
 use Rattle.strm_pool.specs.declared.pool.Pool.TheInside.{Inside}
-use Rattle.strm_pool.specs.Arena.{Message, IsParted, shelf_at}
+use Rattle.strm_mblk.specs.Block.{Message}
+use Rattle.strm_mblk.specs.Arena.{IsParted, shelf_at}
 use Rattle.strm_data.specs.DataStore.{DataStore, class_of}
 use Rattle.strm_pool.specs.Queue.{rank_of, is_ordered}
 use Rattle.strm_pool.specs.PoolLayout.{message_of, arena_of, IsSound}

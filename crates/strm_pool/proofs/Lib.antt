@@ -1,5 +1,3 @@
-pub mod Blocks
-pub mod Moves
 pub mod PoolMoves
 pub mod Getq
 pub mod Freemsg

@@ -10,12 +10,14 @@ use Rattle.strm_data.specs.declared.class_spec.ClassSpec.{ClassSpec}
 use Rattle.strm_data.specs.declared.msg_type.MsgType.TheVariants.{MData}
 use Rattle.strm_pool.specs.declared.pool.Block.{Block}
 use Rattle.strm_pool.specs.declared.pool.Pool.TheInside.{Inside}
-use Rattle.strm_pool.specs.Arena.{Arena, head_of, blocks_of, blocks_in, held_at, is_naming, numbers_of}
+use Rattle.strm_mblk.specs.Block.{head_of, is_naming, numbers_of}
+use Rattle.strm_mblk.specs.Arena.{Arena, blocks_in, held_at}
+use Rattle.strm_mblk.specs.Messages.{blocks_of}
 use Rattle.strm_data.specs.DataStore.{times}
 use Rattle.strm_data.specs.CountedStore.{CountedStore, IsKept, count_of, opening_counted}
 use Rattle.strm_data.specs.DataStore.{DataBlock, no_data_block, data_block_at, fresh_data_block, opening_store}
 use Rattle.strm_pool.specs.PoolLayout.{message_of, arena_of, IsSound}
-use Rattle.strm_pool.specs.PoolValue.{opening_arena}
+use Rattle.strm_mblk.specs.Arena.{opening_arena}
 use Rattle.strm_data.proofs.Times.{times_below}
 use Rattle.strm_pool.proofs.PoolMoves.{IsPlain, same_arena}
 

@@ -14,14 +14,17 @@ use Rattle.strm_data.specs.declared.msg_type.MsgType.TheVariants.{MData}
 use Rattle.strm_pool.specs.declared.pool.Block.{Block}
 use Rattle.strm_pool.specs.declared.pool.Pool.TheInside.{Inside}
 use Rattle.strm_data.specs.declared.refusal.Refusal.{Refusal}
-use Rattle.strm_pool.specs.Arena.{Arena, Message, has, is_of_length, held_at, shelf_at, blocks_of, token_of, without_held, with_shelf}
+use Rattle.strm_mblk.specs.Block.{Message}
+use Rattle.strm_mblk.specs.Arena.{Arena, has, is_of_length, held_at, shelf_at, token_of, without_held, with_shelf}
+use Rattle.strm_mblk.specs.Messages.{blocks_of}
 use Rattle.strm_data.specs.CountedStore.{IsKept, count_of}
 use Rattle.strm_data.specs.DataStore.{DataStore, data_block_at}
 use Rattle.strm_pool.specs.Queue.{rank_of, as_queued, put_behind, put_on}
 use Rattle.strm_pool.specs.PoolLayout.{message_of, arena_of, pool_value, IsSound}
-use Rattle.strm_pool.specs.PoolValue.{PoolValue, Given, after, answer_of, putq}
-use Rattle.strm_pool.specs.declared.token.TokenValue.{TokenValue}
-use Rattle.strm_pool.proofs.Moves.{IsCounted, put_last, room_on_shelf}
+use Rattle.strm_mblk.specs.Given.{Given, after, answer_of}
+use Rattle.strm_pool.specs.PoolValue.{PoolValue, putq}
+use Rattle.strm_mblk.specs.declared.token.TokenValue.{TokenValue}
+use Rattle.strm_mblk.proofs.Moves.{IsCounted, put_last, room_on_shelf}
 
 pub counted_by : (a : Inside) → IsSound a → IsCounted (arena_of a) a.store
 counted_by a sound = record { numbers = sound.numbers; heads = sound.heads; counts = sound.counts }
@@ -94,12 +97,12 @@ held_block a v t {h} {b} {slot} shown had same read is =
     sym (get_or_read a.held.items h slot (omega arith) read None) ∙ is
 
 -- what a call gives the fields' pool, it gives the pool, which is the same
-pub settles : {X : Type 0} (call : PoolValue → Given X) {v w new : PoolValue} {x : X} → v ≡ w → call v ≡ Ok (x, new) → (new ≡ after w (call w)) × (answer_of (call w) ≡ Ok x)
+pub settles : {X : Type 0} (call : PoolValue → Given PoolValue X) {v w new : PoolValue} {x : X} → v ≡ w → call v ≡ Ok (x, new) → (new ≡ after w (call w)) × (answer_of (call w) ≡ Ok x)
 settles call {v} {w} {new} {x} same given =
     subst (λ (u : PoolValue). (new ≡ after u (call u)) × (answer_of (call u) ≡ Ok x)) same (sym (ap (after v) given), ap answer_of given)
 
 -- the same where the call is refused
-pub refuses : {X : Type 0} (call : PoolValue → Given X) {v w : PoolValue} {why : Refusal} → v ≡ w → call v ≡ Err why → (w ≡ after w (call w)) × (answer_of (call w) ≡ Err why)
+pub refuses : {X : Type 0} (call : PoolValue → Given PoolValue X) {v w : PoolValue} {why : Refusal} → v ≡ w → call v ≡ Err why → (w ≡ after w (call w)) × (answer_of (call w) ≡ Err why)
 refuses call {v} {w} {why} same given =
     subst (λ (u : PoolValue). (u ≡ after u (call u)) × (answer_of (call u) ≡ Err why)) same (sym (ap (after v) given), ap answer_of given)
 

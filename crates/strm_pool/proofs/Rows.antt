@@ -15,16 +15,21 @@ use Rattle.strm_pool.specs.declared.reply.Reply.TheVariants.{Done, Nothing, Empt
 use Rattle.strm_pool.specs.declared.reply.Reply.TheVariants as replies
 use Rattle.strm_data.specs.declared.refusal.Refusal.{Refusal}
 use Rattle.strm_data.specs.declared.refusal.Refusal.TheVariants.{TooLarge, NoMblk, NoData, NoSuchBlock, Shared, NoRoom, NoSuchQueue}
-use Rattle.strm_pool.specs.declared.token.TokenValue.{TokenValue}
+use Rattle.strm_mblk.specs.declared.token.TokenValue.{TokenValue}
 use Rattle.strm_pool.specs.Config.{fault_of}
 use Rattle.strm_pool.specs.Registers.{table_of}
 use Rattle.strm_data.specs.DataStore.{DataStore, data_block_at, free_of, take_data, with_data_taken, with_data_freed, overwritten, with_bytes_written, opening_store}
 use Rattle.strm_data.specs.CountedStore.{opening_counted, after_take, without_name}
-use Rattle.strm_pool.specs.Arena.{Arena, Block, Message, head_of, bytes_of, size_of, names_of, held_at, blocks_of, shelf_at, blocks_in, numbers_of, with_blocks_freed, new_block, is_free_in, has, token_of}
+use Rattle.strm_mblk.specs.Block.{Block, Message, head_of, bytes_of, size_of, numbers_of, new_block}
+use Rattle.strm_mblk.specs.Arena.{Arena, names_of, held_at, shelf_at, blocks_in, is_free_in, has, token_of}
+use Rattle.strm_mblk.specs.Messages.{blocks_of}
+use Rattle.strm_mblk.specs.Freeing.{with_blocks_freed}
 use Rattle.strm_data.specs.DataStore.{times}
-use Rattle.strm_pool.specs.Arena as arena
+use Rattle.strm_mblk.specs.BlockCalls as blocks
+use Rattle.strm_mblk.specs.Freeing as freeing
 use Rattle.strm_pool.specs.Queue.{rank_of, is_ordered, as_queued, put_behind, has_queue}
-use Rattle.strm_pool.specs.PoolValue.{PoolValue, opening, answer_of, owns, spent, drained, rejecting}
+use Rattle.strm_mblk.specs.Given.{answer_of}
+use Rattle.strm_pool.specs.PoolValue.{PoolValue, opening, owns, spent, drained, rejecting}
 use Rattle.strm_pool.specs.PoolValue as pool
 use Rattle.strm_pool.specs.Step.{Stepped, Turn, Replay, misses_token, is_taken, step, empty_tables, replay_from, replay}
 
@@ -281,19 +286,19 @@ none_held = replicate 5 None
 
 -- blocks 0 and 2 of one message name data block 0: it is free after the second
 pub shared-in-one-message :
-    free_lists (arena.freemsg 0 (arena_with (slice_set none_held 0 (Some (block 0 0 ∷ block 1 4 ∷ block 2 0 ∷ []))) []))
+    free_lists (freeing.freemsg 0 (arena_with (slice_set none_held 0 (Some (block 0 0 ∷ block 1 4 ∷ block 2 0 ∷ []))) []))
     ≡ (2 ∷ 1 ∷ 0 ∷ 3 ∷ 4 ∷ []) ∷ (0 ∷ 1 ∷ 2 ∷ 3 ∷ []) ∷ (4 ∷ 5 ∷ []) ∷ []
 shared-in-one-message = refl
 
 -- all three name it: it is free once
 pub all-shared :
-    free_lists (arena.freemsg 0 (arena_with (slice_set none_held 0 (Some (block 0 0 ∷ block 1 0 ∷ block 2 0 ∷ []))) []))
+    free_lists (freeing.freemsg 0 (arena_with (slice_set none_held 0 (Some (block 0 0 ∷ block 1 0 ∷ block 2 0 ∷ []))) []))
     ≡ (2 ∷ 1 ∷ 0 ∷ 3 ∷ 4 ∷ []) ∷ (0 ∷ 1 ∷ 2 ∷ 3 ∷ []) ∷ (5 ∷ []) ∷ []
 all-shared = refl
 
 -- a duplicate on the queue keeps it in use
 pub shared-with-queued :
-    (let a = arena.freemsg 0 (arena_with (slice_set none_held 0 (Some (block 0 0 ∷ block 1 4 ∷ []))) ((block 2 0 ∷ []) ∷ [])) in (names_of a 0 ∷ []) ∷ free_lists a)
+    (let a = freeing.freemsg 0 (arena_with (slice_set none_held 0 (Some (block 0 0 ∷ block 1 4 ∷ []))) ((block 2 0 ∷ []) ∷ [])) in (names_of a 0 ∷ []) ∷ free_lists a)
     ≡ (1 ∷ []) ∷ (1 ∷ 0 ∷ 3 ∷ 4 ∷ []) ∷ (1 ∷ 2 ∷ 3 ∷ []) ∷ (4 ∷ 5 ∷ []) ∷ []
 shared-with-queued = refl
 
@@ -311,7 +316,7 @@ refused (Err why) = Some why
 -- comes first
 pub write-shared :
     (let a = arena_with (slice_set none_held 0 (Some (block 0 0 ∷ block 1 4 ∷ []))) ((block 2 0 ∷ []) ∷ []) in
-    refused (arena.write 0 0 [] a) ∷ refused (arena.write 0 0 (replicate 17 0) a) ∷ refused (arena.write 0 2 [] a) ∷ refused (arena.write 0 1 (replicate 65 0) a) ∷ refused (arena.write 0 1 (replicate 64 0) a) ∷ [])
+    refused (blocks.write 0 0 [] a) ∷ refused (blocks.write 0 0 (replicate 17 0) a) ∷ refused (blocks.write 0 2 [] a) ∷ refused (blocks.write 0 1 (replicate 65 0) a) ∷ refused (blocks.write 0 1 (replicate 64 0) a) ∷ [])
     ≡ Some Shared ∷ Some Shared ∷ Some NoSuchBlock ∷ Some NoRoom ∷ None ∷ []
 write-shared = refl
 

@@ -9,13 +9,14 @@ use Rattle.std.proofs.lemmas.List.{set_past}
 use Rattle.strm_pool.specs.declared.pool.Block.{Block}
 use Rattle.strm_pool.specs.declared.pool.Pool.TheInside.{Inside}
 use Rattle.strm_data.specs.declared.refusal.Refusal.TheVariants.{NoSuchBlock, Shared, NoRoom}
-use Rattle.strm_pool.specs.Arena.{Message, has, is_of_length, head_of, held_at, names_of}
+use Rattle.strm_mblk.specs.Block.{Message, head_of}
+use Rattle.strm_mblk.specs.Arena.{has, is_of_length, held_at, names_of}
 use Rattle.strm_data.specs.CountedStore.{CountedStore, IsKept, count_of}
 use Rattle.strm_data.specs.DataStore.{DataStore, DataBlock, no_data_block, capacity_of, data_block_at, overwritten, with_bytes_written}
 use Rattle.strm_pool.specs.PoolLayout.{message_of, arena_of, IsSound}
 use Rattle.strm_pool.specs.PoolValue.{PoolValue, write}
-use Rattle.strm_pool.specs.declared.token.TokenValue.{TokenValue}
-use Rattle.strm_pool.proofs.Moves.{one_if, count_one, rewritten}
+use Rattle.strm_mblk.specs.declared.token.TokenValue.{TokenValue}
+use Rattle.strm_mblk.proofs.Moves.{one_if, count_one, rewritten}
 use Rattle.strm_pool.proofs.PoolMoves.{has_within, counted_by, held_at-is, held-set, same_arena, sound_from}
 use Rattle.strm_pool.proofs.Freemsg.{free_held}
 

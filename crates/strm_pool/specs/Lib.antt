@@ -1,6 +1,5 @@
 pub mod Config
 pub mod Registers
-pub mod Arena
 pub mod Queue
 pub mod PoolValue
 pub mod Step

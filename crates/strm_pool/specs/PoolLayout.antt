@@ -6,7 +6,8 @@ use Rattle.std.specs.VecDeque.{deque_capacity}
 use Rattle.strm_data.specs.declared.msg_type.MsgType.TheVariants.{MData}
 use Rattle.strm_pool.specs.declared.pool.Block.{Block}
 use Rattle.strm_pool.specs.declared.pool.Pool.TheInside.{Inside}
-use Rattle.strm_pool.specs.Arena.{Arena, Message, head_of, held_at, blocks_in, names_of, numbers_of}
+use Rattle.strm_mblk.specs.Block.{Message, head_of, numbers_of}
+use Rattle.strm_mblk.specs.Arena.{Arena, held_at, blocks_in, names_of}
 use Rattle.strm_data.specs.CountedStore.{count_of, IsKept}
 use Rattle.strm_data.specs.DataStore.{times, data_block_at}
 use Rattle.strm_pool.specs.PoolValue.{PoolValue}

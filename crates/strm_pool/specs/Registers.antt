@@ -1,7 +1,7 @@
 -- Registers by their places in the alphabet, and what they hold.
 use Rattle.std.specs.Prelude.{◌≡◌, ℕ, List, Option, None, Some, map, slice_index_or}
 use Rattle.std.specs.Option.{option_map}
-use Rattle.strm_pool.specs.declared.token.TokenValue.{TokenValue}
+use Rattle.strm_mblk.specs.declared.token.TokenValue.{TokenValue}
 
 -- what a register holds
 abbrev pub register : {T : Type 0} → List (Option T) → ℕ → Option T

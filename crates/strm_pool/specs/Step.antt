@@ -8,11 +8,12 @@ use Rattle.strm_data.specs.declared.refusal.Refusal.TheVariants.{NoSuchQueue}
 use Rattle.strm_pool.specs.declared.reply.Reply.{Reply}
 use Rattle.strm_pool.specs.declared.reply.Reply.TheVariants.{Done, Nothing, Empty, Taken, Refused}
 use Rattle.strm_pool.specs.declared.reply.Reply.TheVariants as replies
-use Rattle.strm_pool.specs.Arena.{census_of, token_of}
-use Rattle.strm_pool.specs.PoolValue.{PoolValue, Given, owns, allocb, write, putq, getq, freemsg}
+use Rattle.strm_mblk.specs.Arena.{census_of, token_of}
+use Rattle.strm_mblk.specs.Given.{Given}
+use Rattle.strm_pool.specs.PoolValue.{PoolValue, owns, allocb, write, putq, getq, freemsg}
 use Rattle.strm_pool.specs.Queue.{has_queue}
 use Rattle.strm_pool.specs.Registers.{RegisterTable, register, table_of, AreDistinct}
-use Rattle.strm_pool.specs.declared.token.TokenValue.{TokenValue}
+use Rattle.strm_mblk.specs.declared.token.TokenValue.{TokenValue}
 
 -- a pool and a register table after a call, and the reply to it
 pub record Stepped : Type 0 where
@@ -77,23 +78,23 @@ abbrev pub head_in : RegisterTable → ℕ → ℕ
 head_in t x = unwrap_or (register t x) 0
 
 -- the call gave a token
-abbrev pub holding : ℕ → PoolValue → RegisterTable → Given ℕ → Stepped
+abbrev pub holding : ℕ → PoolValue → RegisterTable → Given PoolValue ℕ → Stepped
 holding x v t (Ok given) = with_register x (Some given.0) given.1 t Done
 holding x v t (Err why) = replying v t (Refused why)
 
 -- the call gave a token, or there was none to give
-abbrev pub holding_any : ℕ → PoolValue → RegisterTable → Given (Option ℕ) → Stepped
+abbrev pub holding_any : ℕ → PoolValue → RegisterTable → Given PoolValue (Option ℕ) → Stepped
 holding_any x v t (Ok (Some h, w)) = with_register x (Some h) w t Done
 holding_any x v t (Ok (None, w)) = replying w t Nothing
 holding_any x v t (Err why) = replying v t (Refused why)
 
 -- the call was done, and the tokens stay
-abbrev pub keeping : PoolValue → RegisterTable → Given (Unit {0}) → Stepped
+abbrev pub keeping : PoolValue → RegisterTable → Given PoolValue (Unit {0}) → Stepped
 keeping v t (Ok given) = replying given.1 t Done
 keeping v t (Err why) = replying v t (Refused why)
 
 -- the call spent the token of a register
-abbrev pub spending : ℕ → PoolValue → RegisterTable → Given (Unit {0}) → Stepped
+abbrev pub spending : ℕ → PoolValue → RegisterTable → Given PoolValue (Unit {0}) → Stepped
 spending x v t (Ok given) = with_register x None given.1 t Done
 spending x v t (Err why) = replying v t (Refused why)
 

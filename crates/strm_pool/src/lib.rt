@@ -3,7 +3,6 @@
 
 mod apply;
 mod call;
-mod census;
 mod class_spec;
 mod config;
 mod octets;
@@ -18,7 +17,6 @@ mod tests;
 mod token;
 
 pub use call::Call;
-pub use census::Census;
 pub use class_spec::ClassSpecs;
 pub use config::{Config, NewFault, Which};
 pub use octets::Octets;
@@ -27,4 +25,5 @@ pub use queue_spec::{QueueSpec, QueueSpecs};
 pub use regs::{Reg, Regs};
 pub use reply::Reply;
 pub use strm_data::{ClassInfo, ClassSpec, MsgType, Refusal};
+pub use strm_mblk::{Census, TokenValue};
 pub use token::Token;

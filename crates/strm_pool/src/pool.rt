@@ -5,21 +5,21 @@ ghost use Rattle.std.specs.VecDeque.{deque_len, deque_capacity};
 ghost use Rattle.strm_data.specs.Classes.{are_lawful};
 ghost use Rattle.std.specs.Option.{option_map, option_map_or};
 ghost use Rattle.std.specs.Result.{result_map_both};
-ghost use Rattle.strm_pool.specs.Arena.{IsParted, census_of};
+ghost use Rattle.strm_mblk.specs.Arena.{IsParted, census_of};
 
 #[cfg(test)]
 mod beside;
 
 use crate::call::Call;
-use crate::census::Census;
 use crate::config::{Config, NewFault};
 use crate::regs::{Reg, Regs};
 use crate::reply::Reply;
-use crate::token::{Token, TokenValue};
+use crate::token::Token;
 use std::alloc::{AllocError, Global};
 use std::collections::VecDeque;
 use std::marker::Model;
 use strm_data::{ClassInfo, ClassSpec, Data, Refusal};
+use strm_mblk::{Census, TokenValue};
 
 /// A pool of message blocks over data blocks, with its queues. A message is held as a token by the caller, or
 /// stands on a queue. No call but `new` takes memory.
@@ -101,8 +101,9 @@ fn queued_in(queues: &[VecDeque<Block>]) -> usize
 }
 
 impl Pool {
-    ghost use Rattle.strm_pool.specs.PoolValue.{Opens, opening_arena, after, answer_of, owns, spent, drained, rejecting};
-    ghost use Rattle.strm_pool.specs.Arena.{has, held_at, is_of_length, shelf_at, token_of};
+    ghost use Rattle.strm_mblk.specs.Given.{after, answer_of};
+    ghost use Rattle.strm_pool.specs.PoolValue.{Opens, owns, spent, drained, rejecting};
+    ghost use Rattle.strm_mblk.specs.Arena.{has, held_at, is_of_length, opening_arena, shelf_at, token_of};
     ghost use Rattle.strm_data.specs.DataStore.{class_infos};
     ghost use Rattle.strm_pool.specs.Queue.{has_queue, rank_of, is_ordered};
     ghost use Rattle.strm_pool.specs.PoolValue as model;

@@ -3,8 +3,9 @@ ghost use Rattle.std.specs.Prelude.{◌≡◌, ◌<◌, None, Some, IsNone, IsSo
 ghost use Rattle.std.specs.Option.{SomeIff};
 ghost use Rattle.strm_pool.specs.Registers.{register};
 
-use crate::token::{Token, TokenValue};
+use crate::token::Token;
 use std::marker::Model;
+use strm_mblk::TokenValue;
 
 /// The name of a register, a to z, by its place in the alphabet from 0.
 #[derive(Clone, Copy, Debug)]
@@ -52,7 +53,7 @@ pub struct Regs {
 
 impl Model for Regs {
     ghost use Rattle.std.specs.Prelude.{List, Option};
-    ghost use Rattle.strm_pool.specs.declared.token.TokenValue.{TokenValue};
+    ghost use Rattle.strm_mblk.specs.declared.token.TokenValue.{TokenValue};
 
     ghost Value = { List (Option TokenValue) };
 

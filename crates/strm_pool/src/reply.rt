@@ -1,6 +1,6 @@
 //! Replies as data.
-use crate::census::Census;
 use strm_data::Refusal;
+use strm_mblk::Census;
 
 /// The reply to a call.
 #[derive(Debug, Drop, PartialEq, Eq)]

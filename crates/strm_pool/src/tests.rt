@@ -1,5 +1,5 @@
 ghost use Rattle.std.specs.Prelude.{IsTrue};
-ghost use Rattle.strm_pool.specs.Arena.{has};
+ghost use Rattle.strm_mblk.specs.Arena.{has};
 
 use crate::{
     Census, ClassSpec, ClassSpecs, Config, Octets, Pool, QueueSpec, QueueSpecs, Reg, Regs, Token,

@@ -2,17 +2,7 @@
 ghost use Rattle.std.specs.Prelude.{◌≡◌};
 
 use std::marker::Model;
-
-/// What a token says.
-#[derive(Clone, Copy, Debug)]
-pub struct TokenValue {
-    /// The id of the pool that gave it.
-    pub pool: u32,
-    /// The number of the message's first block.
-    pub head: u32,
-    /// How many blocks the message has.
-    pub blocks: u32,
-}
+use strm_mblk::TokenValue;
 
 /// The right to one message that stands on no queue of its pool.
 ///
@@ -26,7 +16,7 @@ pub struct Token {
 }
 
 impl Model for Token {
-    ghost use Rattle.strm_pool.specs.declared.token.TokenValue.{TokenValue};
+    ghost use Rattle.strm_mblk.specs.declared.token.TokenValue.{TokenValue};
 
     ghost Value = { TokenValue };
 

@@ -1,17 +1,21 @@
 //! Message blocks, and the messages that they make: held, or standing on shelves.
 ghost use Rattle.std.specs.Prelude.{◌≡◌, ◌+◌, ◌≤◌, ◌==◌, count_by, length, nat_lt, slice_get, slice_set, IfOk, if◌then◌else◌};
 ghost use Rattle.std.specs.List.{flat_map};
-ghost use Rattle.strm_pool.specs.Arena as model;
-ghost use Rattle.strm_pool.specs.Arena.{held_at, names_of};
+ghost use Rattle.strm_mblk.specs.Arena as model;
+ghost use Rattle.strm_mblk.specs.Block as block_model;
+ghost use Rattle.strm_mblk.specs.BlockCalls as calls;
+ghost use Rattle.strm_mblk.specs.Freeing as freeing;
+ghost use Rattle.strm_mblk.specs.Messages as message_model;
+ghost use Rattle.strm_mblk.specs.Arena.{held_at, names_of};
 ghost use Rattle.strm_data.specs.DataStore.{capacity_of, with_bytes_written, with_data_freed};
 
 use super::block::{Block, Message, head_of, is_naming, new_block};
 use super::list::{List, Twin, beside};
 use super::store::DataStore;
-use crate::census::Census;
 use std::alloc::{AllocError, Global};
 use std::marker::Model;
 use strm_data::Refusal;
+use strm_mblk::Census;
 
 // The pool's id, the data blocks, the free message blocks, at each number the held message that begins with it, and
 // the messages on each shelf.
@@ -25,7 +29,7 @@ pub(crate) struct Arena {
 }
 
 impl Model for Arena {
-    ghost use Rattle.strm_pool.specs.Arena as model;
+    ghost use Rattle.strm_mblk.specs.Arena as model;
 
     ghost Value = { model.Arena };
 
@@ -66,7 +70,7 @@ fn blocks_on(alloc: Global, shelves: &[List<Message>]) -> Result<List<Block>, Al
 
 // The blocks of some messages.
 fn blocks_held(alloc: Global, held: &[Option<Message>]) -> Result<List<Block>, AllocError>
-    ensures { IfOk result (λ blocks. blocks ≡ flat_map model.blocks_of held.now) }
+    ensures { IfOk result (λ blocks. blocks ≡ flat_map message_model.blocks_of held.now) }
 {
     match held {
         [] => Ok(List::empty(alloc)),
@@ -78,7 +82,7 @@ fn blocks_held(alloc: Global, held: &[Option<Message>]) -> Result<List<Block>, A
 }
 
 pub(crate) fn blocks_of(message: &Option<Message>) -> &[Block]
-    ensures { result.now ≡ model.blocks_of message.now }
+    ensures { result.now ≡ message_model.blocks_of message.now }
 {
     match message {
         Some(message) => message.items(),
@@ -88,7 +92,7 @@ pub(crate) fn blocks_of(message: &Option<Message>) -> &[Block]
 
 // How many of these blocks name a data block.
 fn count_naming(number: u32, blocks: &[Block]) -> usize
-    ensures { result ≡ count_by (model.is_naming number) blocks.now }
+    ensures { result ≡ count_by (block_model.is_naming number) blocks.now }
 {
     blocks
         .iter()
@@ -162,7 +166,7 @@ impl Arena {
 
     // The blocks of the message held at a number.
     pub(crate) fn held_at(&self, head: u32) -> &[Block]
-        ensures { result.now ≡ model.blocks_of (model.held_at self.now head) }
+        ensures { result.now ≡ message_model.blocks_of (model.held_at self.now head) }
     {
         match self.held.items().get(head as usize) {
             Some(message) => blocks_of(message),
@@ -207,7 +211,7 @@ impl Arena {
 
     // Whether a data block is named by no message and no loose block.
     fn is_unnamed(&self, alloc: Global, number: u32, loose: &[Block]) -> Result<bool, AllocError>
-        ensures { IfOk result (λ unnamed. unnamed ≡ (names_of self.now number + count_by (model.is_naming number) loose.now == 0)) }
+        ensures { IfOk result (λ unnamed. unnamed ≡ (names_of self.now number + count_by (block_model.is_naming number) loose.now == 0)) }
     {
         let names = self.names_of(alloc, number)?;
         Ok(names == 0 && count_naming(number, loose) == 0)
@@ -220,7 +224,7 @@ impl Arena {
         number: u32,
         loose: &[Block],
     ) -> Result<DataStore, AllocError>
-        ensures { IfOk result (λ store. store ≡ (if names_of self.now number + count_by (model.is_naming number) loose.now == 0 then with_data_freed number self.now.store else self.now.store)) }
+        ensures { IfOk result (λ store. store ≡ (if names_of self.now number + count_by (block_model.is_naming number) loose.now == 0 then with_data_freed number self.now.store else self.now.store)) }
     {
         if self.is_unnamed(alloc, number, loose)? {
             self.store().with_data_freed(alloc, number)
@@ -235,7 +239,7 @@ impl Arena {
         number: u32,
         loose: &[Block],
     ) -> Result<Arena, AllocError>
-        ensures { IfOk result (λ arena. arena ≡ model.with_name_dropped number loose.now self) }
+        ensures { IfOk result (λ arena. arena ≡ freeing.with_name_dropped number loose.now self) }
     {
         let store = self.store_with_name_dropped(alloc, number, loose);
         let (arena, store) = beside(self, store)?;
@@ -248,7 +252,7 @@ impl Arena {
         block: Block,
         loose: &[Block],
     ) -> Result<Arena, AllocError>
-        ensures { IfOk result (λ arena. arena ≡ model.with_block_freed block loose.now self) }
+        ensures { IfOk result (λ arena. arena ≡ freeing.with_block_freed block loose.now self) }
     {
         let free = List::chain(alloc, block.number(), self.free());
         let (arena, free) = beside(self, free)?;
@@ -259,7 +263,7 @@ impl Arena {
     }
 
     fn with_blocks_freed(self, alloc: Global, blocks: &[Block]) -> Result<Arena, AllocError>
-        ensures { IfOk result (λ arena. arena ≡ model.with_blocks_freed blocks.now self) }
+        ensures { IfOk result (λ arena. arena ≡ freeing.with_blocks_freed blocks.now self) }
     {
         match blocks {
             [] => Ok(self),
@@ -317,7 +321,7 @@ impl Arena {
         rest: &[u32],
         data_number: u32,
     ) -> Result<Arena, AllocError>
-        ensures { IfOk result (λ arena. Ok (number, arena) ≡ model.held_new number rest.now self.now (Ok data_number)) }
+        ensures { IfOk result (λ arena. Ok (number, arena) ≡ calls.held_new number rest.now self.now (Ok data_number)) }
     {
         let store = self.store().with_data_taken(alloc, data_number)?;
         let (arena, free) = beside(self.over(alloc, store)?, List::of(alloc, rest))?;
@@ -327,7 +331,7 @@ impl Arena {
     }
 
     fn allocb_from(&self, alloc: Global, free: &[u32], size: u32) -> Given<u32>
-        ensures { IfOk result (λ given. given ≡ model.allocb_from free.now size self.now) }
+        ensures { IfOk result (λ given. given ≡ calls.allocb_from free.now size self.now) }
     {
         let [number, rest @ ..] = free else {
             return Ok(Err(Refusal::NoMblk));
@@ -342,7 +346,7 @@ impl Arena {
     }
 
     pub(crate) fn allocb(&self, alloc: Global, size: u32) -> Given<u32>
-        ensures { IfOk result (λ given. given ≡ model.allocb size self.now) }
+        ensures { IfOk result (λ given. given ≡ calls.allocb size self.now) }
     {
         if self.store().fits(size) {
             let given = self.allocb_from(alloc, self.free(), size)?;
@@ -366,7 +370,7 @@ impl Arena {
         requires { at + length bytes.now ≤ capacity_of self.now.store block.data_number }
         ensures { IfOk result (λ arena. arena ≡ record self.now {
           store = with_bytes_written block.data_number at bytes.now self.now.store;
-          held = slice_set self.now.held head (Some (slice_set (model.blocks_of (held_at self.now head)) place block));
+          held = slice_set self.now.held head (Some (slice_set (message_model.blocks_of (held_at self.now head)) place block));
         }) }
     {
         let number = block.data_number();
@@ -377,7 +381,7 @@ impl Arena {
     }
 
     fn block_at(&self, head: u32, place: u32) -> Option<Block>
-        ensures { result ≡ slice_get (model.blocks_of (held_at self.now head)) place }
+        ensures { result ≡ slice_get (message_model.blocks_of (held_at self.now head)) place }
     {
         self.held_at(head).get(place as usize).copied()
     }
@@ -390,7 +394,7 @@ impl Arena {
         bytes: &[u8],
         block: Block,
     ) -> Given<()>
-        ensures { IfOk result (λ given. given ≡ model.write_block head place bytes.now self.now (model.blocks_of (held_at self.now head)) (Some block)) }
+        ensures { IfOk result (λ given. given ≡ calls.write_block head place bytes.now self.now (message_model.blocks_of (held_at self.now head)) (Some block)) }
     {
         let names = self.names_of(alloc, block.data_number())?;
         let capacity = self.store().capacity_of(block.data_number());
@@ -407,7 +411,7 @@ impl Arena {
     }
 
     pub(crate) fn write(&self, alloc: Global, head: u32, place: u32, bytes: &[u8]) -> Given<()>
-        ensures { IfOk result (λ given. given ≡ model.write head place bytes.now self.now) }
+        ensures { IfOk result (λ given. given ≡ calls.write head place bytes.now self.now) }
     {
         match self.block_at(head, place) {
             Some(block) => {
@@ -419,7 +423,7 @@ impl Arena {
     }
 
     pub(crate) fn freemsg(&self, alloc: Global, head: u32) -> Result<Arena, AllocError>
-        ensures { IfOk result (λ arena. arena ≡ model.freemsg head self.now) }
+        ensures { IfOk result (λ arena. arena ≡ freeing.freemsg head self.now) }
     {
         let arena = self.twin(alloc)?.without_held(head);
         let freed = arena.with_blocks_freed(alloc, self.held_at(head))?;

@@ -1,6 +1,6 @@
 //! Message blocks.
 ghost use Rattle.std.specs.Prelude.{◌≡◌};
-ghost use Rattle.strm_pool.specs.Arena as model;
+ghost use Rattle.strm_mblk.specs.Block as model;
 
 use super::list::{List, Twin};
 use std::alloc::{AllocError, Global};
@@ -18,7 +18,7 @@ pub(crate) struct Block {
 }
 
 impl Model for Block {
-    ghost use Rattle.strm_pool.specs.Arena as model;
+    ghost use Rattle.strm_mblk.specs.Block as model;
 
     ghost Value = { model.Block };
 

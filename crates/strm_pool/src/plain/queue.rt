@@ -1,7 +1,8 @@
 //! Queues, by the rank of their messages.
 ghost use Rattle.std.specs.Prelude.{◌≡◌, nat_le, IfOk, if◌then◌else◌};
 ghost use Rattle.std.specs.List.{list_any};
-ghost use Rattle.strm_pool.specs.Arena.{kind_of, shelf_at};
+ghost use Rattle.strm_mblk.specs.Block.{kind_of};
+ghost use Rattle.strm_mblk.specs.Arena.{shelf_at};
 ghost use Rattle.strm_data.specs.MsgType.{is_high_priority};
 ghost use Rattle.strm_pool.specs.Queue as model;
 

@@ -2,11 +2,11 @@ use Rattle.std.proofs.Common.{Some, Ok, refl, sym, ap, ◌∙◌, arith}
 use Rattle.std.specs.Result.{result_map_both}
 use Rattle.std.specs.Vec.{with_item}
 use Rattle.strm_data.specs.declared.refusal.Refusal.{Refusal}
-use Rattle.strm_pool.specs.Arena.{has, held_at, token_of}
+use Rattle.strm_mblk.specs.Arena.{has, held_at, token_of}
 use Rattle.strm_data.specs.CountedStore.{after_take}
 use Rattle.strm_pool.specs.PoolLayout.{arena_of}
 use Rattle.strm_pool.specs.PoolValue.{PoolValue, allocb}
-use Rattle.strm_pool.specs.declared.token.TokenValue.{TokenValue}
+use Rattle.strm_mblk.specs.declared.token.TokenValue.{TokenValue}
 use Rattle.strm_pool.proofs.PoolMoves.{settles, token_is, token_had}
 use Rattle.strm_pool.proofs.Allocb.{alloc_room, alloc_absent, alloc_fields, alloc_sound, alloc_value, alloc_token}
 use Rattle.strm_pool.proofs.pool.Pool.allocb.Goals as goal

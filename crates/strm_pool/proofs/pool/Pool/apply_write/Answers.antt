@@ -1,6 +1,6 @@
 use Rattle.std.proofs.Common.{ℕ, List, Option, Some, set, sym, subst, ap, ◌∙◌}
 use Rattle.strm_pool.specs.declared.reply.Reply.TheVariants.{Done, Refused}
-use Rattle.strm_pool.specs.declared.token.TokenValue.{TokenValue}
+use Rattle.strm_mblk.specs.declared.token.TokenValue.{TokenValue}
 use Rattle.strm_pool.specs.Step.{Applies}
 use Rattle.strm_pool.specs.declared.call.Call.TheVariants.{Write}
 use Rattle.strm_pool.proofs.AppliedCalls.{applied_write, applied_write_refused, put_back}

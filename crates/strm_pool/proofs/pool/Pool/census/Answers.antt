@@ -1,9 +1,9 @@
 use Rattle.std.proofs.Common.{◌≡◌, ℕ, ◌-◌, List, length, deque_len, Global, ap, ◌∙◌, arith}
 use Rattle.std.specs.Prelude.{sum_by}
 use Rattle.std.specs.declared.collections.VecDeque.{VecDeque}
-use Rattle.strm_pool.specs.declared.census.Census.{Census}
+use Rattle.strm_mblk.specs.declared.census.Census.{Census}
 use Rattle.strm_pool.specs.declared.pool.Block.{Block}
-use Rattle.strm_pool.specs.Arena.{census_of, shelved_blocks, held_blocks}
+use Rattle.strm_mblk.specs.Arena.{census_of, shelved_blocks, held_blocks}
 use Rattle.strm_pool.specs.PoolLayout.{arena_of}
 use Rattle.strm_pool.specs.PoolValue.{PoolValue}
 use Rattle.strm_pool.proofs.BlockCounts.{census_sum, census_queued}

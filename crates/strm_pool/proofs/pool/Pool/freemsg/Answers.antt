@@ -1,6 +1,6 @@
 use Rattle.std.proofs.Common.{◌≡◌, None, Some, get_or, set, refl, sym, ap, ◌∙◌}
 use Rattle.std.specs.Vec.{with_item}
-use Rattle.strm_pool.specs.declared.token.TokenValue.{TokenValue}
+use Rattle.strm_mblk.specs.declared.token.TokenValue.{TokenValue}
 use Rattle.strm_pool.proofs.PoolMoves.{held_block}
 use Rattle.strm_pool.proofs.Freemsg.{free_room, free_within, free_used, free_sound, free_value}
 use Rattle.strm_pool.proofs.pool.Pool.freemsg.Goals as goal

@@ -2,10 +2,10 @@ use Rattle.std.proofs.Common.{ℕ, Some, Ok, refl, sym, ap, ◌∙◌, arith}
 use Rattle.std.specs.Prelude.{option_map}
 use Rattle.std.specs.Result.{result_map_both}
 use Rattle.std.specs.Vec.{with_item}
-use Rattle.strm_pool.specs.Arena.{has, held_at, token_of}
+use Rattle.strm_mblk.specs.Arena.{has, held_at, token_of}
 use Rattle.strm_pool.specs.PoolLayout.{arena_of, pool_value}
 use Rattle.strm_pool.specs.PoolValue.{PoolValue, getq}
-use Rattle.strm_pool.specs.declared.token.TokenValue.{TokenValue}
+use Rattle.strm_mblk.specs.declared.token.TokenValue.{TokenValue}
 use Rattle.strm_data.specs.declared.refusal.Refusal.{Refusal}
 use Rattle.strm_pool.proofs.PoolMoves.{settles, token_is, token_had}
 use Rattle.strm_pool.proofs.Getq.{get_fields, get_room, get_absent, get_sound, get_value, get_token}

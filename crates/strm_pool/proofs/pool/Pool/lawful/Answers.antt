@@ -3,12 +3,12 @@ use Rattle.std.specs.Prelude.{◌≡◌, ◌+◌, length, IsTrue}
 use Rattle.strm_data.specs.DataStore.{class_infos}
 use Rattle.strm_data.proofs.Kept.{length-class_infos}
 use Rattle.strm_data.proofs.Lawful.{lawful_few}
-use Rattle.strm_pool.specs.Arena.{IsParted, census_of, shelf_at}
+use Rattle.strm_mblk.specs.Arena.{IsParted, census_of, shelf_at}
 use Rattle.strm_pool.specs.PoolLayout.{arena_of}
 use Rattle.strm_pool.specs.PoolValue.{PoolValue}
 use Rattle.strm_pool.specs.Queue.{rank_of, is_ordered}
 use Rattle.strm_pool.proofs.Laws.{law_parted, law_ordered}
-use Rattle.strm_pool.proofs.Moves.{makes_arena}
+use Rattle.strm_mblk.proofs.Moves.{makes_arena}
 use Rattle.strm_pool.proofs.PoolMoves.{counted_by}
 use Rattle.strm_pool.proofs.pool.Pool.lawful.Goals as goal
 

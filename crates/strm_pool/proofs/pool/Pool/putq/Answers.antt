@@ -1,8 +1,9 @@
 use Rattle.std.proofs.Common.{ℕ, set, refl, sym, ap, ◌∙◌, arith}
 use Rattle.std.specs.Vec.{with_item}
 use Rattle.strm_pool.specs.PoolLayout.{pool_value}
-use Rattle.strm_pool.specs.PoolValue.{PoolValue, after, putq}
-use Rattle.strm_pool.specs.declared.token.TokenValue.{TokenValue}
+use Rattle.strm_mblk.specs.Given.{after}
+use Rattle.strm_pool.specs.PoolValue.{PoolValue, putq}
+use Rattle.strm_mblk.specs.declared.token.TokenValue.{TokenValue}
 use Rattle.strm_pool.proofs.PoolMoves.{held_block, put_room, put_sound, put_value}
 use Rattle.strm_pool.proofs.pool.Pool.putq.Goals as goal
 

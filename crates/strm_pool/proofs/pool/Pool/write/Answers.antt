@@ -3,10 +3,10 @@ use Rattle.std.specs.Prelude.{IsTrue}
 use Rattle.std.specs.Vec.{with_item}
 use Rattle.strm_pool.specs.declared.pool.Block.{Block}
 use Rattle.strm_pool.specs.declared.pool.Pool.TheInside.{Inside}
-use Rattle.strm_pool.specs.Arena.{has}
+use Rattle.strm_mblk.specs.Arena.{has}
 use Rattle.strm_pool.specs.PoolLayout.{pool_value}
 use Rattle.strm_pool.specs.PoolValue.{PoolValue, write}
-use Rattle.strm_pool.specs.declared.token.TokenValue.{TokenValue}
+use Rattle.strm_mblk.specs.declared.token.TokenValue.{TokenValue}
 use Rattle.strm_pool.proofs.PoolMoves.{held_block, settles, refuses}
 use Rattle.strm_pool.proofs.Freemsg.{free_held, free_within}
 use Rattle.strm_pool.proofs.Write.{named_few, write_shared, write_full, write_done, write_shows, write_sound, write_had}

@@ -1,6 +1,8 @@
 use Rattle.std.proofs.Common.{◌≡◌, ◌-◌, ◌≤◌, List, [], ◌∷◌, length, get_or, take, drop, ap, ◌∙◌, arith, length-drop}
 use Rattle.std.proofs.lemmas.List.{take_all}
-use Rattle.strm_pool.specs.Arena.{Arena, Block, with_block_freed, with_blocks_freed}
+use Rattle.strm_mblk.specs.Block.{Block}
+use Rattle.strm_mblk.specs.Arena.{Arena}
+use Rattle.strm_mblk.specs.Freeing.{with_block_freed, with_blocks_freed}
 use Rattle.strm_pool.proofs.plain.arena.Arena.+with_blocks_freed.Goals as goal
 
 -- the first block is freed before the others

@@ -1,5 +1,7 @@
 use Rattle.std.proofs.Common.{◌≡◌, ℕ, List, ◌∷◌, ap, ◌∙◌}
-use Rattle.strm_pool.specs.Arena.{Arena, Block, with_name_dropped, with_block_freed}
+use Rattle.strm_mblk.specs.Block.{Block}
+use Rattle.strm_mblk.specs.Arena.{Arena}
+use Rattle.strm_mblk.specs.Freeing.{with_name_dropped, with_block_freed}
 use Rattle.strm_pool.proofs.plain.arena.Arena.with_block_freed.Goals as goal
 
 -- the name is dropped once the number is free

@@ -1,5 +1,5 @@
 use Rattle.std.proofs.Common.{ap, ◌∙◌}
-use Rattle.strm_pool.specs.Arena.{Arena}
+use Rattle.strm_mblk.specs.Arena.{Arena}
 use Rattle.strm_pool.specs.Queue as calls
 use Rattle.strm_pool.specs.PoolValue.{on_arena}
 use Rattle.strm_pool.proofs.plain.pool.PlainPool.putq.Goals as goal

@@ -1,6 +1,6 @@
 use Rattle.std.proofs.Common.{ap, ◌∙◌}
-use Rattle.strm_pool.specs.Arena.{Arena}
-use Rattle.strm_pool.specs.Arena as calls
+use Rattle.strm_mblk.specs.Arena.{Arena}
+use Rattle.strm_mblk.specs.BlockCalls as calls
 use Rattle.strm_pool.specs.PoolValue.{on_arena}
 use Rattle.strm_pool.proofs.plain.pool.PlainPool.write.Goals as goal
 

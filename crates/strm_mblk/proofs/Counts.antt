@@ -3,8 +3,10 @@ use Rattle.std.proofs.Common.{◌≡◌, ℕ, zero, suc, ◌+◌, ◌<◌, Bool,
 use Rattle.std.specs.Prelude.{count_by}
 use Rattle.std.specs.List.{flat_map}
 use Rattle.std.proofs.lemmas.List.Sums.{sum_by-append}
-use Rattle.strm_pool.specs.Arena.{Arena, Block, Message, blocks_of, held_at, shelf_at, shelved_blocks, held_blocks, blocks_in, numbers_of, with_shelf}
 use Rattle.strm_data.specs.DataStore.{times}
+use Rattle.strm_mblk.specs.Arena.{Arena, held_at, shelf_at, shelved_blocks, held_blocks, blocks_in, with_shelf}
+use Rattle.strm_mblk.specs.Block.{Block, Message, numbers_of}
+use Rattle.strm_mblk.specs.Messages.{blocks_of}
 
 -- a number of a list that adds up over its parts
 pub record IsAdditive {X : Type 0} (m : List X → ℕ) : Type 0 where

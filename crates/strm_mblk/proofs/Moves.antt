@@ -5,11 +5,13 @@ use Rattle.std.specs.List.{flat_map}
 use Rattle.std.specs.Option.{IfSome}
 use Rattle.std.proofs.lemmas.Bool.{cases_eq, cases_lt, eq-eqb}
 use Rattle.std.proofs.lemmas.List.{get_or_past, length-map}
-use Rattle.strm_pool.specs.Arena.{Arena, Block, Message, blocks_of, held_at, shelf_at, head_of, shelved_blocks, held_blocks, blocks_in, is_naming, names_of, numbers_of, with_held, without_held, with_shelf, new_block}
+use Rattle.strm_mblk.specs.Arena.{Arena, held_at, shelf_at, shelved_blocks, held_blocks, blocks_in, names_of, with_held, without_held, with_shelf}
+use Rattle.strm_mblk.specs.Block.{Block, Message, head_of, is_naming, numbers_of, new_block}
+use Rattle.strm_mblk.specs.Messages.{blocks_of}
 use Rattle.strm_data.specs.DataStore.{times}
 use Rattle.strm_data.specs.CountedStore.{CountedStore, count_of}
 use Rattle.strm_data.proofs.Times.{as_many}
-use Rattle.strm_pool.proofs.Blocks.{count_adds, length_adds, held_moves, shelf_moves, blocks_in_adds, flat_map-set_adds, times-all}
+use Rattle.strm_mblk.proofs.Counts.{count_adds, length_adds, held_moves, shelf_moves, blocks_in_adds, flat_map-set_adds, times-all}
 
 abbrev pub number_is : ℕ → Block → Bool
 number_is n b = eqb b.number n
@@ -29,12 +31,12 @@ pub record IsCounted (a : Arena) (s : CountedStore) : Type 0 where
   pub counts : (d : ℕ) → count_of s d ≡ names_of a d
 
 -- at most one
-one_most : (b : Bool) → (if b then 1 else 0) ≤ 1
+pub one_most : (b : Bool) → (if b then 1 else 0) ≤ 1
 one_most true = omega arith
 one_most false = omega arith
 
 -- what is counted is in range
-in_range : (n k : ℕ) → 0 < (if ltb n k then 1 else 0) → n < k
+pub in_range : (n k : ℕ) → 0 < (if ltb n k then 1 else 0) → n < k
 in_range n k some = elim (cases_lt n k) [ inl below ↦ below | inr past ↦ absurd (none (ltb n k) (not_below n k past) some) ]
   where
     none : (b : Bool) → b ≡ false → 0 < (if b then 1 else 0) → ⊥

@@ -1,0 +1,156 @@
+-- One block of a held message says something else.
+use Rattle.std.proofs.Common.{◌≡◌, ℕ, zero, suc, ◌+◌, ◌<◌, ◌≤◌, Bool, ◌==◌, ltb, List, [], ◌∷◌, map, length, set, Option, Some, None, refl, sym, ap, ◌∙◌, subst, inl, inr, arith, get_or-set_same, get_or-set_other, length-set}
+use Rattle.std.specs.Prelude.{count_by, option_map, slice_get}
+use Rattle.std.specs.Option.{IfSome}
+use Rattle.std.proofs.lemmas.Bool.{cases_eq}
+use Rattle.std.proofs.lemmas.List.{length-map}
+use Rattle.std.proofs.lemmas.Option.{same_Some, none-some}
+use Rattle.strm_links.specs.Rows.{first}
+use Rattle.strm_data.specs.CountedStore.{CountedStore, IsKept}
+use Rattle.strm_data.specs.DataStore.{DataStore, times}
+use Rattle.strm_data.proofs.Times.{times-append, times_here, times_other, times-cons}
+use Rattle.strm_mblk.specs.declared.blocks.Fields.{Fields}
+use Rattle.strm_mblk.specs.Arena.{held_at, names_of}
+use Rattle.strm_mblk.specs.Block.{Block, Message, head_of}
+use Rattle.strm_mblk.specs.BlocksLayout.{IsFilled, IsPlaced, arena_of, block_at, fields_at, message_of, no_fields}
+use Rattle.strm_mblk.specs.Messages.{blocks_of, blocks_held, blocks_on, held_in}
+use Rattle.strm_mblk.specs.NodeLists.{IsNodesParted, NodeLists}
+use Rattle.strm_mblk.proofs.Allocb.{alike_off}
+use Rattle.strm_mblk.proofs.Counts.{count_adds, flat_map-set_adds}
+use Rattle.strm_mblk.proofs.Lawful.{counted}
+use Rattle.strm_mblk.proofs.Moves.{count_one, held_within, in_range, one_if, one_most, rewritten}
+use Rattle.strm_mblk.proofs.Rooms.{HasRooms, placed-set}
+use Rattle.strm_mblk.proofs.Shown.{AreAlike, alike_parts, held-alike, held_at-seen, message-alike, nodes_in, option-alike, shelves-alike, slice_get-mapped}
+
+-- the blocks of one held message alone say something else
+held-one : (old new : List Fields) (held : List (Option (List ℕ))) (h : ℕ) (ns : List ℕ) → held_in held h ≡ Some ns → AreAlike old new (blocks_held (set held h None))
+    → map (option_map (message_of new)) held ≡ set (map (option_map (message_of old)) held) h (Some (message_of new ns))
+held-one old new [] h ns is alike = absurd (none-some ns is)
+held-one old new (o ∷ held) zero ns is alike =
+    λ i. (ap (option_map (message_of new)) is) i ∷ held-alike old new held alike i
+held-one old new (o ∷ held) (suc h) ns is alike =
+    let parts = alike_parts old new (blocks_of o) (blocks_held (set held h None)) alike in
+    λ i. option-alike old new o parts.0 i ∷ held-one old new held h ns is parts.1 i
+
+-- what stands at a place is there
+pub times_at : (n : ℕ) (ns : List ℕ) (k : ℕ) → slice_get ns k ≡ Some n → 0 < times n ns
+times_at n [] k is = absurd (none-some n is)
+times_at n (x ∷ ns) zero is = omega (arith, times_here n x ns (same_Some x n is))
+times_at n (x ∷ ns) (suc k) is = omega (arith, times-cons n x ns, times_at n ns k is)
+
+-- one block of a message says something else
+message-one : (fields : List Fields) (n : ℕ) (x : Fields) (ns : List ℕ) (k : ℕ) → slice_get ns k ≡ Some n → times n ns ≤ 1
+    → message_of (set fields n x) ns ≡ set (message_of fields ns) k (block_at (set fields n x) n)
+message-one fields n x [] k is once = absurd (none-some n is)
+message-one fields n x (y ∷ ns) zero is once =
+    let same : y ≡ n = same_Some y n is in
+    λ i. block_at (set fields n x) (same i) ∷ message-alike fields (set fields n x) ns (alike_off fields n x ns (omega (arith, once, times_here n y ns same))) i
+message-one fields n x (y ∷ ns) (suc k) is once =
+    elim (cases_eq y n) [
+      | inl same ↦ absurd (omega (arith, once, times_here n y ns same, times_at n ns k is))
+      | inr other ↦
+          λ i. (let b : Fields → Block = λ f. record { number = y; data_number = f.data_number; offset = f.offset; len = f.len; band = f.band } in b (get_or-set_other fields n y x no_fields other i))
+          ∷ message-one fields n x ns k is (omega (arith, once, times_other n y ns other)) i
+    ]
+
+-- a block is replaced by one that a test takes for the same
+count_by-set : (p : Block → Bool) (m : Message) (k : ℕ) (b c : Block) → slice_get m k ≡ Some b → p c ≡ p b → count_by p (set m k c) ≡ count_by p m
+count_by-set p [] k b c is same = refl
+count_by-set p (x ∷ m) zero b c is same =
+    omega (arith, (count_adds p).both (c ∷ []) m, (count_adds p).both (x ∷ []) m, ap one_if (same ∙ sym (ap p (same_Some x b is))), count_one p c, count_one p x)
+count_by-set p (x ∷ m) (suc k) b c is same =
+    omega (arith, (count_adds p).both (x ∷ []) (set m k c), (count_adds p).both (x ∷ []) m, count_by-set p m k b c is same)
+
+-- a held message begins with its head
+pub begins_with : (v : NodeLists) → IsNodesParted v → (h : ℕ) (ns : List ℕ) → held_in v.held h ≡ Some ns → first ns ≡ Some h
+begins_with v parted h ns held = subst (λ o. IfSome o (λ m. first m ≡ Some h)) held (parted.heads h)
+
+-- so it has a block
+nonempty : {h : ℕ} (xs : List ℕ) → first xs ≡ Some h → 0 < length xs
+nonempty {h} [] is = absurd (none-some h is)
+nonempty (x ∷ xs) is = omega arith
+
+module _ (id : ℕ) (s : CountedStore) (fields : List Fields) (v : NodeLists) (filled : IsFilled s fields v (arena_of id s.store fields v))
+    (h k n : ℕ) (ns : List ℕ) (held : held_in v.held h ≡ Some ns) (at : slice_get ns k ≡ Some n) where
+  -- the message has a place among the held ones
+  pub head_room : h < length v.held
+  head_room =
+      omega (arith, held_within (arena_of id s.store fields v) h (message_of fields ns) (held_at-seen id s.store fields v h ∙ ap (option_map (message_of fields)) held), length-map v.held (option_map (message_of fields)))
+
+  -- where the block stands, in all
+  sums : (times n (nodes_in v) ≡ times n (blocks_on v.shelves) + times n (blocks_held v.held)) × (times n (blocks_held (set v.held h None)) + times n ns ≡ times n (blocks_held v.held))
+  sums = (
+    times-append n (blocks_on v.shelves) (blocks_held v.held),
+    omega (arith, flat_map-set_adds (count_adds (λ x. x == n)) blocks_of v.held h None None head_room, ap (λ o. times n (blocks_of o)) held, (count_adds (λ x. x == n)).none),
+  )
+
+  all_once : times n v.free + times n (nodes_in v) ≤ 1
+  all_once = omega (arith, times-append n v.free (nodes_in v), filled.parted.once n, one_most (ltb n (length v.held)))
+
+  -- the block itself is one of those that there are
+  pub node_room : n < length fields
+  node_room = omega (arith, filled.listed, in_range n (length v.held) (omega (arith, filled.parted.once n, times-append n v.free (nodes_in v), sums.0, sums.1, times_at n ns k at)))
+
+  begins : first ns ≡ Some h
+  begins = begins_with v filled.parted h ns held
+
+  module _ (t : CountedStore) (x : Fields) (kept : IsKept t) (counts : t.counts ≡ s.counts) (rooms : HasRooms s.store t.store) (placed : IsPlaced t.store x) (named : x.data_number ≡ (fields_at fields n).data_number) where
+    abbrev now : List Fields
+    now = set fields n x
+
+    message_now : message_of now ns ≡ set (message_of fields ns) k (block_at now n)
+    message_now = message-one fields n x ns k at (omega (arith, all_once, sums.0, sums.1))
+
+    pub rewrite_shows : arena_of id t.store now v ≡ record (arena_of id s.store fields v) { store = t.store; held = set (arena_of id s.store fields v).held h (Some (set (message_of fields ns) k (block_at now n))) }
+    rewrite_shows =
+        let here : 0 < times n ns = times_at n ns k at in
+        let held_now : map (option_map (message_of now)) v.held ≡ set (map (option_map (message_of fields)) v.held) h (Some (set (message_of fields ns) k (block_at now n))) =
+        held-one fields now v.held h ns held (alike_off fields n x (blocks_held (set v.held h None)) (omega (arith, all_once, sums.0, sums.1, here)))
+        ∙ ap (λ m. set (map (option_map (message_of fields)) v.held) h (Some m)) message_now in
+        let shelves_now = shelves-alike fields now v.shelves (alike_off fields n x (blocks_on v.shelves) (omega (arith, all_once, sums.0, sums.1, here))) in
+        λ i. record { id = id; store = t.store; free = v.free; held = held_now i; shelves = shelves_now i }
+
+    pub rewrite_filled : IsFilled t now v (arena_of id t.store now v)
+    rewrite_filled = record {
+      kept = kept;
+      parted = filled.parted;
+      few = filled.few;
+      listed = omega (arith, length-set fields n x, filled.listed);
+      placed = placed-set s.store t.store fields n x rooms placed filled.placed;
+      counts = λ d. (rewritten (arena_of id s.store fields v) s t h m changed (counted id s fields v filled) (held_at-seen id s.store fields v h ∙ ap (option_map (message_of fields)) held) alike some (head ns k begins at) counts).counts d
+          ∙ ap (λ a. names_of a d) (sym rewrite_shows);
+    }
+      where
+        m : Message
+        m = message_of fields ns
+
+        changed : Message
+        changed = set m k (block_at now n)
+
+        alike : (p : Block → Bool) → ((b c : Block) → b.number ≡ c.number → b.data_number ≡ c.data_number → p b ≡ p c) → count_by p changed ≡ count_by p m
+        alike p blind =
+            count_by-set p m k (block_at fields n) (block_at now n) (slice_get-mapped (block_at fields) ns k ∙ ap (option_map (block_at fields)) at)
+            (blind (block_at now n) (block_at fields n) refl (ap (λ (f : Fields). f.data_number) (get_or-set_same fields n x no_fields node_room) ∙ named))
+
+        some : 0 < length changed
+        some = omega (arith, length-set m k (block_at now n), length-map ns (block_at fields), nonempty ns begins)
+
+        head : (xs : List ℕ) (j : ℕ) → first xs ≡ Some h → slice_get xs j ≡ Some n → head_of (set (message_of fields xs) j (block_at now n)) ≡ h
+        head [] j begin there = absurd (none-some h begin)
+        head (y ∷ ys) zero begin there = same_Some n h (sym there ∙ begin)
+        head (y ∷ ys) (suc j) begin there = same_Some y h begin
+
+-- ---- the message that a token names
+
+-- the numbers of a message that is held
+pub record AreHeld (fields : List Fields) (v : NodeLists) (h : ℕ) (m : Message) (ns : List ℕ) : Type 0 where
+  pub held : held_in v.held h ≡ Some ns
+  pub message : m ≡ message_of fields ns
+
+pub held_nodes : (id : ℕ) (s : DataStore) (fields : List Fields) (v : NodeLists) (h : ℕ) (m : Message) → held_at (arena_of id s fields v) h ≡ Some m → (ns : List ℕ) × AreHeld fields v h m ns
+held_nodes id s fields v h m is = of_nodes (held_in v.held h) refl
+  where
+    of_nodes : (o : Option (List ℕ)) → held_in v.held h ≡ o → (ns : List ℕ) × AreHeld fields v h m ns
+    of_nodes None none = absurd (none-some m (sym (held_at-seen id s fields v h ∙ ap (option_map (message_of fields)) none) ∙ is))
+    of_nodes (Some ns) some =
+        (ns, record { held = some; message = same_Some m (message_of fields ns) (sym is ∙ held_at-seen id s fields v h ∙ ap (option_map (message_of fields)) some) })

@@ -1,0 +1,11 @@
+use Rattle.std.proofs.Common.{ap, sym, ◌∙◌}
+use Rattle.strm_links.specs.Rows.{has, after}
+use Rattle.strm_mblk.specs.Shelves.{heads_at}
+use Rattle.strm_mblk.proofs.Shelving.{heads_at-seen}
+use Rattle.strm_mblk.proofs.blocks.Blocks.after.Goals as goal
+
+pub returns : goal.returns
+returns c shelf there =
+    let heads = heads_at-seen c.self.inside.id c.self.inside.data.store c.self.inside.blocks.items c.self.inside.chains shelf in
+    c.after.ensures shelf (ap (has c.args.head) (sym heads) ∙ ap (λ a. has c.args.head (heads_at a shelf)) c.self.view_is ∙ there)
+    ∙ ap (after c.args.head) (sym heads) ∙ ap (λ a. after c.args.head (heads_at a shelf)) c.self.view_is

@@ -1,0 +1,48 @@
+use Rattle.std.proofs.Common.{ap, ◌∙◌, arith, length, subst, sym, Ok, set}
+use Rattle.std.specs.Prelude.{is_some}
+use Rattle.strm_data.specs.CountedStore.{after_take}
+use Rattle.strm_mblk.specs.declared.token.TokenValue.{TokenValue}
+use Rattle.strm_mblk.specs.Arena.{Arena, has, held_at, shelved_blocks, token_of}
+use Rattle.strm_mblk.specs.BlocksLayout.{arena_of}
+use Rattle.strm_mblk.specs.Given.{answer_map}
+use Rattle.strm_mblk.proofs.Allocb.{IsAllocated, alloc_room, allocates}
+use Rattle.strm_mblk.proofs.Tokens.{token_had}
+use Rattle.strm_mblk.proofs.blocks.Blocks.allocb.Goals as goal
+use Rattle.strm_mblk.proofs.blocks.Blocks.allocb.Goals.{After-self-1}
+
+pub index_mut-requires : goal.index_mut-requires
+index_mut-requires c =
+    omega (arith, alloc_room c.self.inside.id c.self.inside.data c.self.inside.blocks.items c.self.inside.chains c.self.invariant.filled c.unwrap-head.result (sym c.begin.ensures.answer ∙ c.unwrap-head.ensures))
+
+abbrev new_arena : After-self-1 → Arena
+new_arena c = arena_of c.self.inside.id c.take.new.self.store (set c.self.inside.blocks.items c.unwrap-head.result c.over.result) c.begin.new.self
+
+is_allocated : (c : After-self-1) → IsAllocated c.args.self.now c.take.new.self (set c.self.inside.blocks.items c.unwrap-head.result c.over.result) c.begin.new.self c.self.inside.id c.args.size c.unwrap-head.result c.in_ok-data_number.data_number
+is_allocated c =
+    subst (λ a. IsAllocated a c.take.new.self (set c.self.inside.blocks.items c.unwrap-head.result c.over.result) c.begin.new.self c.self.inside.id c.args.size c.unwrap-head.result c.in_ok-data_number.data_number) c.self.view_is
+    (allocates c.self.inside.id c.self.inside.data c.self.inside.blocks.items c.self.inside.chains c.self.invariant.filled c.unwrap-head.result (sym c.begin.ensures.answer ∙ c.unwrap-head.ensures)
+    c.in_ok-data_number.data_number c.take.new.self c.begin.new.self c.over.result c.in_ok-data_number.ensures.unused c.in_ok-data_number.ensures.kept (c.in_ok-data_number.ensures.after ∙ ap (after_take c.self.inside.data) (sym c.in_ok-data_number.ensures.answer)) c.begin.ensures.after c.begin.ensures.parted c.over.ensures
+    c.args.size (sym c.has_class_for.ensures ∙ c.if-not-has_class_for.false) (sym c.in_ok-data_number.ensures.answer))
+
+pub invariant_of-self-2 : goal.invariant_of-self-2
+invariant_of-self-2 c =
+    let is = is_allocated c in
+    record { filled = is.filled; queued = c.self.invariant.queued ∙ ap (λ a. length (shelved_blocks a)) c.self.view_is ∙ ap length (sym is.shelved) }
+
+pub token-requires : goal.token-requires
+token-requires c = ap is_some (is_allocated c).held
+
+pub returns-clause-after : goal.returns-clause-after
+returns-clause-after c = (is_allocated (goal.at.returns-clause-after c).After-self-1).after
+
+pub returns-clause-token : goal.returns-clause-token
+returns-clause-token c =
+    ap (λ (t : TokenValue). Ok t) c.token.ensures
+    ∙ ap (answer_map (token_of (new_arena (goal.at.returns-clause-token c).After-self-1))) (sym (is_allocated (goal.at.returns-clause-token c).After-self-1).answer)
+
+pub returns-clause-had : goal.returns-clause-had
+returns-clause-had c = ap (has (new_arena (goal.at.returns-clause-had c).After-self-1)) c.token.ensures ∙ token_had (new_arena (goal.at.returns-clause-had c).After-self-1) c.unwrap-head.result _ (is_allocated (goal.at.returns-clause-had c).After-self-1).held
+
+pub returns-clause-unheld : goal.returns-clause-unheld
+returns-clause-unheld c =
+    ap (λ (t : TokenValue). held_at c.args.self.now t.head) c.token.ensures ∙ (is_allocated (goal.at.returns-clause-unheld c).After-self-1).absent

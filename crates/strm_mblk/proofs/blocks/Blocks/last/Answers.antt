@@ -1,0 +1,9 @@
+use Rattle.std.proofs.Common.{ap, sym, ◌∙◌}
+use Rattle.strm_links.specs.Rows.{last}
+use Rattle.strm_mblk.specs.Shelves.{heads_at}
+use Rattle.strm_mblk.proofs.Shelving.{heads_at-seen}
+use Rattle.strm_mblk.proofs.blocks.Blocks.last.Goals as goal
+
+pub returns : goal.returns
+returns c =
+    c.last.ensures ∙ ap last (sym (heads_at-seen c.self.inside.id c.self.inside.data.store c.self.inside.blocks.items c.self.inside.chains c.args.shelf)) ∙ ap (λ a. last (heads_at a c.args.shelf)) c.self.view_is

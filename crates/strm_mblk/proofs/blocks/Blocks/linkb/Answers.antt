@@ -1,0 +1,26 @@
+use Rattle.std.proofs.Common.{◌≡◌, ◌≢◌, ℕ, length, ap, subst, sym, ◌∙◌}
+use Rattle.strm_mblk.specs.declared.token.TokenValue.{TokenValue}
+use Rattle.strm_mblk.specs.Arena.{shelved_blocks}
+use Rattle.strm_mblk.specs.Messages.{joined}
+use Rattle.strm_mblk.specs.NodeLists.{NodeLists}
+use Rattle.strm_mblk.proofs.Linkb.{IsJoined, joins}
+use Rattle.strm_mblk.proofs.blocks.Blocks.linkb.Goals as goal
+use Rattle.strm_mblk.proofs.blocks.Blocks.linkb.Goals.{After-set_blocks}
+
+is_joined : (c : After-set_blocks) → IsJoined c.args.self.now c.self.inside.data c.self.inside.blocks.items c.join.new.self c.self.inside.id c.args.token.now.head c.args.tail.head
+is_joined c =
+    let tail : c.spend-tail.result.head ≡ c.args.tail.head = ap (λ (t : TokenValue). t.head) c.spend-tail.ensures in
+    let other : c.args.token.now.head ≢ c.args.tail.head = λ same. c.if-head-tail.true (c.head.ensures ∙ same ∙ sym tail) in
+    let lists : ℕ → ℕ → NodeLists = λ h g. record c.self.inside.chains { held = joined h g c.self.inside.chains.held } in
+    let after : c.join.new.self ≡ lists c.args.token.now.head c.args.tail.head =
+    c.join.ensures.after ∙ ap (λ h. lists h c.spend-tail.result.head) c.head-then-head-tail.ensures ∙ ap (lists c.args.token.now.head) tail in
+    subst (λ a. IsJoined a c.self.inside.data c.self.inside.blocks.items c.join.new.self c.self.inside.id c.args.token.now.head c.args.tail.head) c.self.view_is
+    (joins c.self.inside.id c.self.inside.data c.self.inside.blocks.items c.self.inside.chains c.join.new.self c.self.invariant.filled c.args.token.now.head c.args.tail.head other after c.join.ensures.parted)
+
+pub invariant_of-self : goal.invariant_of-self
+invariant_of-self c =
+    let is = is_joined c in
+    record { filled = is.filled; queued = c.self.invariant.queued ∙ ap (λ a. length (shelved_blocks a)) c.self.view_is ∙ ap length (sym is.shelved) }
+
+pub returns-then-head-tail-clause-after : goal.returns-then-head-tail-clause-after
+returns-then-head-tail-clause-after c = (is_joined c).after

@@ -1,0 +1,103 @@
+use Rattle.std.proofs.Common.{◌≡◌, ℕ, Some, Ok, Err, Option, length, ap, subst, sym, ◌∙◌}
+use Rattle.std.specs.Prelude.{is_some, option_map, slice_get}
+use Rattle.strm_data.specs.declared.refusal.Refusal.TheVariants.{NoSuchBlock}
+use Rattle.strm_mblk.specs.declared.token.TokenValue.{TokenValue}
+use Rattle.strm_mblk.specs.Arena.{Arena, has, held_at, message_at, shelved_blocks, token_of}
+use Rattle.strm_mblk.specs.BlockCalls.{rmvb, rmvb_of, unlinkb}
+use Rattle.strm_mblk.specs.BlocksLayout.{arena_of}
+use Rattle.strm_mblk.specs.Given.{Given, after, answer_map, answer_of, or_rejected}
+use Rattle.strm_mblk.specs.NodeLists.{nodes_at}
+use Rattle.strm_mblk.proofs.Heads.{rmvb_first}
+use Rattle.strm_mblk.proofs.Places.{block_none}
+use Rattle.strm_mblk.proofs.TakenOut.{IsTakenOut, is_taken_out, none_first, refused_answer, stands_there}
+use Rattle.strm_mblk.proofs.Tokens.{had_message, token_had}
+use Rattle.strm_mblk.proofs.blocks.Blocks.rmvb.Goals as goal
+use Rattle.strm_mblk.proofs.blocks.Blocks.rmvb.Goals.{After-take_out, After-unlinkb-rest, In_default}
+
+-- ---- block 0
+
+value_first : (c : After-unlinkb-rest) → rmvb c.args.token.head c.args.place c.args.self.now ≡ Ok ((c.args.token.head, (unlinkb c.args.token.head c.args.self.now).0), c.unlinkb-rest.new.self)
+value_first c =
+    let message = had_message c.args.self.now c.args.token c.requires in
+    ap (λ k. rmvb c.args.token.head k c.args.self.now) c.if-place-eq0.true
+    ∙ rmvb_first c.args.self.now c.lawful.ensures.parted c.args.token.head message.0 message.1.held
+    ∙ ap (λ a. Ok ((c.args.token.head, (unlinkb c.args.token.head c.args.self.now).0), a)) (sym c.unlinkb-rest.ensures.after)
+
+pub returns-then-place-eq0-clause-after : goal.returns-then-place-eq0-clause-after
+returns-then-place-eq0-clause-after c = ap (after c.args.self.now) (sym (value_first c))
+
+-- ---- no such block
+
+value_none : (c : In_default) → rmvb c.args.token.head c.args.place c.args.self.now ≡ Err NoSuchBlock
+value_none c =
+    ap (rmvb_of c.args.token.head c.args.self.now _)
+    (block_none c.self.inside.id c.self.inside.data c.self.inside.blocks.items c.self.inside.chains c.self.invariant.filled c.args.self.now c.self.view_is c.args.token.head c.args.place
+    (ap (λ h. slice_get (nodes_at c.self.inside.chains h) c.args.place) (sym c.head.ensures) ∙ sym c.node_at.ensures.value ∙ c.in_default.is))
+
+pub returns-in_default-clause-after : goal.returns-in_default-clause-after
+returns-in_default-clause-after c = ap (after c.args.self.now) (sym (value_none c))
+
+pub returns-in_default-clause-answer : goal.returns-in_default-clause-answer
+returns-in_default-clause-answer c =
+    refused_answer c.args.token _ (rmvb c.args.token.head c.args.place c.args.self.now) NoSuchBlock (value_none c)
+
+-- ---- another block
+
+pub take_out-requires-clause-there : goal.take_out-requires-clause-there
+take_out-requires-clause-there c =
+    stands_there c.self.inside.id c.self.inside.data c.self.inside.blocks.items c.self.inside.chains c.self.invariant.filled c.args.self.now c.self.view_is c.args.token c.requires
+    c.head.result c.args.place c.in-Some.node c.node_at.result c.head.ensures c.node_at.ensures.value c.in-Some.is c.if-place-eq0.false
+    c.spend-head.result.head (ap (λ (t : TokenValue). t.head) c.spend-head.ensures)
+
+pub take_out-requires-clause-behind : goal.take_out-requires-clause-behind
+take_out-requires-clause-behind c = λ same.
+    none_first c.self.inside.id c.self.inside.data c.self.inside.blocks.items c.self.inside.chains c.self.invariant.filled c.args.self.now c.self.view_is c.args.token c.requires
+    c.head.result c.args.place c.in-Some.node c.node_at.result c.head.ensures c.node_at.ensures.value c.in-Some.is c.if-place-eq0.false
+    (same ∙ ap (λ (t : TokenValue). t.head) c.spend-head.ensures)
+
+is_taken : (c : After-take_out) → IsTakenOut c.args.self.now c.self.inside.data c.self.inside.blocks.items c.take_out.new.self c.self.inside.id c.args.token.head c.args.place c.in-Some.node
+is_taken c =
+    is_taken_out c.self.inside.id c.self.inside.data c.self.inside.blocks.items c.self.inside.chains c.self.invariant.filled c.args.self.now c.self.view_is c.args.token c.requires
+    c.head.result c.args.place c.in-Some.node c.node_at.result c.head.ensures c.node_at.ensures.value c.in-Some.is c.if-place-eq0.false
+    c.spend-head.result.head (ap (λ (t : TokenValue). t.head) c.spend-head.ensures) c.take_out.new.self c.take_out.ensures.after c.take_out.ensures.parted
+
+abbrev new_arena : After-take_out → Arena
+new_arena c = arena_of c.self.inside.id c.self.inside.data.store c.self.inside.blocks.items c.take_out.new.self
+
+rest_held : (c : After-take_out) → held_at (new_arena c) c.spend-head.result.head ≡ Some (message_at (new_arena c) c.spend-head.result.head)
+rest_held c = subst (λ h. held_at (new_arena c) h ≡ Some (message_at (new_arena c) h)) (sym (ap (λ (t : TokenValue). t.head) c.spend-head.ensures)) (is_taken c).rest
+
+pub invariant_of-self : goal.invariant_of-self
+invariant_of-self c =
+    let is = is_taken c in
+    record { filled = is.filled; queued = c.self.invariant.queued ∙ ap (λ a. length (shelved_blocks a)) c.self.view_is ∙ ap length (sym is.shelved) }
+
+pub token-requires : goal.token-requires
+token-requires c = ap is_some (is_taken c).block
+
+pub token-requires-2 : goal.token-requires-2
+token-requires-2 c = ap is_some (rest_held (goal.at.token-requires-2 c).After-take_out)
+
+pub returns-clause-after : goal.returns-clause-after
+returns-clause-after c = ap (after c.args.self.now) (sym (is_taken (goal.at.returns-clause-after c).After-take_out).value)
+
+pub returns-clause-answer : goal.returns-clause-answer
+returns-clause-answer c =
+    let d = (goal.at.returns-clause-answer c).After-take_out in
+    let second = c.token-2.ensures ∙ ap (token_of (new_arena d)) (ap (λ (t : TokenValue). t.head) c.spend-head.ensures) in
+    (λ i. Ok (c.token.ensures i, Some (second i)))
+    ∙ ap (λ (r : Given Arena (ℕ × Option ℕ)). or_rejected c.args.token (answer_map (λ heads. (token_of (new_arena d) heads.0, option_map (token_of (new_arena d)) heads.1)) (answer_of r))) (sym (is_taken d).value)
+
+pub returns-clause-had : goal.returns-clause-had
+returns-clause-had c =
+    let d = (goal.at.returns-clause-had c).After-take_out in
+    ap (has (new_arena d)) c.token.ensures ∙ token_had (new_arena d) c.in-Some.node _ (is_taken d).block
+
+pub returns-clause-rest_had : goal.returns-clause-rest_had
+returns-clause-rest_had c =
+    let d = (goal.at.returns-clause-rest_had c).After-take_out in
+    ap (has (new_arena d)) c.token-2.ensures ∙ token_had (new_arena d) c.spend-head.result.head _ (rest_held d)
+
+pub returns-clause-unheld : goal.returns-clause-unheld
+returns-clause-unheld c other =
+    ap (λ (t : TokenValue). held_at c.args.self.now t.head) c.token.ensures ∙ (is_taken (goal.at.returns-clause-unheld c).After-take_out).absent

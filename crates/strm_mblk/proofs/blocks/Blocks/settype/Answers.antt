@@ -1,0 +1,77 @@
+use Rattle.std.proofs.Common.{◌≡◌, ◌<◌, ap, refl, ◌∙◌, arith, sym, subst, None, Ok, Err}
+use Rattle.std.proofs.lemmas.List.{get_or_read}
+use Rattle.std.specs.Prelude.{slice_get}
+use Rattle.strm_data.specs.CountedStore.{CountedStore, count_of}
+use Rattle.strm_data.specs.declared.refusal.Refusal.TheVariants.{Shared}
+use Rattle.strm_data.specs.DataStore.{with_kind}
+use Rattle.strm_mblk.specs.declared.blocks.Fields.{Fields}
+use Rattle.strm_mblk.specs.Arena.{Arena, names_of, message_at}
+use Rattle.strm_mblk.specs.BlockCalls.{settype}
+use Rattle.strm_mblk.specs.BlocksLayout.{arena_of, block_at, fields_at, no_fields}
+use Rattle.strm_mblk.specs.Given.{after, answer_of}
+use Rattle.strm_mblk.specs.NodeLists.{nodes_at}
+use Rattle.strm_mblk.proofs.Alteration.{settype_none, settype_shared, settype_done}
+use Rattle.strm_mblk.proofs.Places.{IsAt, block_none, block_some}
+use Rattle.strm_mblk.proofs.Rooms.{HasRooms, filled-over, rooms-kind}
+use Rattle.strm_mblk.proofs.blocks.Blocks.settype.Goals as goal
+use Rattle.strm_mblk.proofs.blocks.Blocks.settype.Goals.{After-count, After-set_kind, In_default}
+
+none : (c : In_default) → slice_get (message_at c.args.self.now c.args.token.now.head) c.args.place ≡ None
+none c =
+    block_none c.self.inside.id c.self.inside.data c.self.inside.blocks.items c.self.inside.chains c.self.invariant.filled c.args.self.now c.self.view_is c.args.token.now.head c.args.place
+    (ap (λ h. slice_get (nodes_at c.self.inside.chains h) c.args.place) (sym c.head.ensures) ∙ sym c.node_at.ensures.value ∙ c.in_default.is)
+
+pub returns-in_default-clause-after : goal.returns-in_default-clause-after
+returns-in_default-clause-after c = sym (ap (after c.args.self.now) (settype_none c.args.self.now c.args.token.now.head c.args.place c.args.kind (none c)))
+
+pub returns-in_default-clause-answer : goal.returns-in_default-clause-answer
+returns-in_default-clause-answer c = sym (ap answer_of (settype_none c.args.self.now c.args.token.now.head c.args.place c.args.kind (none c)))
+
+is_at : (c : After-count) → IsAt c.self.inside.data c.self.inside.blocks.items c.self.inside.chains c.args.self.now c.args.token.now.head c.args.place c.in-Some.node (nodes_at c.self.inside.chains c.args.token.now.head)
+is_at c =
+    block_some c.self.inside.id c.self.inside.data c.self.inside.blocks.items c.self.inside.chains c.self.invariant.filled c.args.self.now c.self.view_is c.args.token.now.head c.args.place
+    c.args.token.now refl c.requires c.in-Some.node
+    (ap (λ h. slice_get (nodes_at c.self.inside.chains h) c.args.place) (sym c.head.ensures) ∙ sym c.node_at.ensures.value ∙ c.in-Some.is)
+
+-- what was read is what the block says
+read : (c : After-count) → c.index.result.now ≡ fields_at c.self.inside.blocks.items c.in-Some.node
+read c = get_or_read c.self.inside.blocks.items c.in-Some.node c.index.result.now (is_at c).there c.index.ensures no_fields
+
+-- the count is that of the names
+counted : (c : After-count) → c.count.result ≡ names_of c.args.self.now (fields_at c.self.inside.blocks.items c.in-Some.node).data_number
+counted c = c.count.ensures ∙ ap (λ (f : Fields). count_of c.self.inside.data f.data_number) (read c) ∙ (is_at c).named
+
+shared : (c : After-count) → 1 < c.count.result → settype c.args.token.now.head c.args.place c.args.kind c.args.self.now ≡ Err Shared
+shared c many =
+    settype_shared c.args.self.now c.args.token.now.head c.args.place c.args.kind (block_at c.self.inside.blocks.items c.in-Some.node) (is_at c).block (omega (arith, many, counted c))
+
+pub returns-then-count-gt1-clause-after : goal.returns-then-count-gt1-clause-after
+returns-then-count-gt1-clause-after c =
+    sym (ap (after c.args.self.now) (shared (goal.at.returns-then-count-gt1-clause-after c).After-count c.if-count-gt1.true))
+
+pub returns-then-count-gt1-clause-answer : goal.returns-then-count-gt1-clause-answer
+returns-then-count-gt1-clause-answer c =
+    sym (ap answer_of (shared (goal.at.returns-then-count-gt1-clause-answer c).After-count c.if-count-gt1.true))
+
+pub invariant_of-self : goal.invariant_of-self
+invariant_of-self c = record {
+  filled =
+      filled-over c.self.inside.id c.self.inside.data c.set_kind.new.self c.self.inside.blocks.items c.self.inside.chains c.self.invariant.filled c.set_kind.ensures.kept (ap (λ (s : CountedStore). s.counts) c.set_kind.ensures.after)
+      (subst (λ s. HasRooms c.self.inside.data.store s) (sym (ap (λ (s : CountedStore). s.store) c.set_kind.ensures.after)) (rooms-kind c.self.inside.data.store c.index.result.now.data_number c.args.kind));
+  queued = c.self.invariant.queued;
+}
+
+done : (c : After-set_kind) → settype c.args.token.now.head c.args.place c.args.kind c.args.self.now ≡ Ok (tt, arena_of c.self.inside.id c.set_kind.new.self.store c.self.inside.blocks.items c.self.inside.chains)
+done c =
+    let before = (goal.at.returns-clause-after c).After-count in
+    let b = block_at c.self.inside.blocks.items c.in-Some.node in
+    settype_done c.args.self.now c.args.token.now.head c.args.place c.args.kind b (is_at before).block (omega (arith, c.if-count-gt1.false, counted before))
+    ∙ ap (λ (a : Arena). Ok (tt, record a { store = with_kind b.data_number c.args.kind a.store })) (sym c.self.view_is)
+    ∙ ap (λ (f : Fields). Ok (tt, arena_of c.self.inside.id (with_kind f.data_number c.args.kind c.self.inside.data.store) c.self.inside.blocks.items c.self.inside.chains)) (sym (read before))
+    ∙ ap (λ (s : CountedStore). Ok (tt, arena_of c.self.inside.id s.store c.self.inside.blocks.items c.self.inside.chains)) (sym c.set_kind.ensures.after)
+
+pub returns-clause-after : goal.returns-clause-after
+returns-clause-after c = sym (ap (after c.args.self.now) (done c))
+
+pub returns-clause-answer : goal.returns-clause-answer
+returns-clause-answer c = sym (ap answer_of (done c))

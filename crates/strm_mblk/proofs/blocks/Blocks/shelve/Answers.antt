@@ -1,0 +1,56 @@
+use Rattle.std.proofs.Common.{◌<◌, ap, subst, sym, ◌∙◌, arith, length}
+use Rattle.strm_links.specs.Rows.{has}
+use Rattle.strm_mblk.specs.declared.token.TokenValue.{TokenValue}
+use Rattle.strm_mblk.specs.Arena as arena
+use Rattle.strm_mblk.specs.Arena.{held_at, shelved_blocks}
+use Rattle.strm_mblk.specs.Block.{Message}
+use Rattle.strm_mblk.specs.BlocksLayout.{arena_in}
+use Rattle.strm_mblk.specs.Shelves.{heads_at, shelve}
+use Rattle.strm_mblk.proofs.Shelving.{heads_at-seen, shelve_filled, shelve_queued, shelve_shows, shelving_room}
+use Rattle.strm_mblk.proofs.Tokens.{IsHad, had_message}
+use Rattle.strm_mblk.proofs.blocks.Blocks.shelve.Goals as goal
+use Rattle.strm_mblk.proofs.blocks.Blocks.shelve.Goals.{After-len, After-shelve}
+
+had : (c : After-len) → (m : Message) × IsHad (arena_in c.self.inside) c.spend-head.result m
+had c = had_message (arena_in c.self.inside) c.spend-head.result (ap (λ (t : TokenValue). arena.has (arena_in c.self.inside) t) c.spend-head.ensures ∙ ap (λ a. arena.has a c.args.token) c.self.view_is ∙ c.requires.had)
+
+pub overflow_add-self : goal.overflow_add-self
+overflow_add-self c =
+    let message = had c in
+    omega (arith, shelving_room c.self.inside.id c.self.inside.data c.self.inside.blocks.items c.self.inside.chains c.self.invariant.filled c.spend-head.result.head message.0 message.1.held, c.len.ensures, c.self.invariant.queued)
+
+pub shelve-requires-clause-before : goal.shelve-requires-clause-before
+shelve-requires-clause-before c at is =
+    ap (has at) (sym (heads_at-seen c.self.inside.id c.self.inside.data.store c.self.inside.blocks.items c.self.inside.chains c.args.shelf))
+    ∙ ap (λ a. has at (heads_at a c.args.shelf)) c.self.view_is ∙ c.requires.before at is
+
+-- the shelf is one of those that there are
+within : (c : After-shelve) → c.args.shelf < length (arena_in c.self.inside).shelves
+within c = subst (λ a. c.args.shelf < length a.shelves) (sym c.self.view_is) c.requires.shelf
+
+pub invariant_of-self : goal.invariant_of-self
+invariant_of-self c =
+    let message = had (goal.at.invariant_of-self c).After-len in
+    record {
+      filled =
+          shelve_filled c.self.inside.id c.self.inside.data c.self.inside.blocks.items c.self.inside.chains c.self.invariant.filled c.spend-head.result.head message.0 message.1.held
+          c.args.shelf c.args.before c.shelve.new.self (within c) c.shelve.ensures.after c.shelve.ensures.parted;
+      queued =
+          omega (
+            arith,
+            c.len.ensures,
+            c.self.invariant.queued,
+            shelve_queued c.self.inside.id c.self.inside.data c.self.inside.blocks.items c.self.inside.chains c.self.invariant.filled c.spend-head.result.head message.0 message.1.held
+                c.args.shelf c.args.before c.shelve.new.self (within c) c.shelve.ensures.after c.shelve.ensures.parted,
+          );
+    }
+
+pub returns : goal.returns
+returns c =
+    let message = had (goal.at.returns c).After-len in
+    record {
+      after =
+          shelve_shows c.self.inside.id c.self.inside.data c.self.inside.blocks.items c.self.inside.chains c.self.invariant.filled c.spend-head.result.head message.0 message.1.held
+          c.args.shelf c.args.before c.shelve.new.self (within c) c.shelve.ensures.after c.shelve.ensures.parted
+          ∙ (λ i. shelve c.args.shelf c.args.before (c.spend-head.ensures i).head (c.self.view_is i));
+    }

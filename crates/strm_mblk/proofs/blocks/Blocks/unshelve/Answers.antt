@@ -1,0 +1,61 @@
+use Rattle.std.proofs.Common.{◌≡◌, ◌<◌, ap, subst, sym, true, ◌∙◌, arith, length}
+use Rattle.std.specs.Prelude.{is_some}
+use Rattle.strm_links.specs.Rows.{has}
+use Rattle.strm_mblk.specs.Arena as arena
+use Rattle.strm_mblk.specs.Arena.{held_at, shelved_blocks}
+use Rattle.strm_mblk.specs.BlocksLayout.{arena_in, arena_of}
+use Rattle.strm_mblk.specs.Shelves.{heads_at}
+use Rattle.strm_mblk.proofs.Rewriting.{held_nodes}
+use Rattle.strm_mblk.proofs.Shelving.{IsUnshelved, heads_at-seen, unshelves}
+use Rattle.strm_mblk.proofs.Tokens.{token_had}
+use Rattle.strm_mblk.proofs.blocks.Blocks.unshelve.Goals as goal
+use Rattle.strm_mblk.proofs.blocks.Blocks.unshelve.Goals.{After-self, After-unshelve}
+
+-- the message stands on the shelf
+there : (c : After-self) → has c.args.head (heads_at (arena_in c.self.inside) c.args.shelf) ≡ true
+there c = ap (λ a. has c.args.head (heads_at a c.args.shelf)) c.self.view_is ∙ c.requires.there
+
+pub unshelve-requires-clause-there : goal.unshelve-requires-clause-there
+unshelve-requires-clause-there c =
+    ap (has c.args.head) (sym (heads_at-seen c.self.inside.id c.self.inside.data.store c.self.inside.blocks.items c.self.inside.chains c.args.shelf))
+    ∙ there (goal.at.unshelve-requires-clause-there c).After-self
+
+is_unshelved : (c : After-unshelve) → IsUnshelved c.args.self.now c.self.inside.data c.self.inside.blocks.items c.unshelve.new.self c.self.inside.id c.args.shelf c.args.head
+is_unshelved c =
+    subst (λ a. IsUnshelved a c.self.inside.data c.self.inside.blocks.items c.unshelve.new.self c.self.inside.id c.args.shelf c.args.head) c.self.view_is
+    (unshelves c.self.inside.id c.self.inside.data c.self.inside.blocks.items c.self.inside.chains c.self.invariant.filled c.args.shelf c.args.head
+    (subst (λ a. c.args.shelf < length a.shelves) (sym c.self.view_is) c.requires.shelf) (ap (λ a. has c.args.head (heads_at a c.args.shelf)) c.self.view_is ∙ c.requires.there)
+    c.unshelve.new.self c.unshelve.ensures.after c.unshelve.ensures.parted)
+
+pub len-requires : goal.len-requires
+len-requires c =
+    let is = is_unshelved (goal.at.len-requires c).After-unshelve in
+    ap is_some (held_nodes c.self.inside.id c.self.inside.data.store c.self.inside.blocks.items c.unshelve.new.self c.args.head is.message is.held).1.held
+
+pub overflow_sub-self : goal.overflow_sub-self
+overflow_sub-self c =
+    let is = is_unshelved (goal.at.overflow_sub-self c).After-unshelve in
+    omega (arith, c.len.ensures, c.self.invariant.queued, ap (λ a. length (shelved_blocks a)) c.self.view_is, is.queued)
+
+pub invariant_of-self : goal.invariant_of-self
+invariant_of-self c =
+    let is = is_unshelved (goal.at.invariant_of-self c).After-unshelve in
+    record {
+      filled = is.filled;
+      queued = omega (arith, c.len.ensures, c.self.invariant.queued, ap (λ a. length (shelved_blocks a)) c.self.view_is, is.queued);
+    }
+
+pub token-requires : goal.token-requires
+token-requires c = ap is_some (is_unshelved (goal.at.token-requires c).After-unshelve).held
+
+pub returns-clause-after : goal.returns-clause-after
+returns-clause-after c = (is_unshelved (goal.at.returns-clause-after c).After-unshelve).after
+
+pub returns-clause-had : goal.returns-clause-had
+returns-clause-had c =
+    let is = is_unshelved (goal.at.returns-clause-had c).After-unshelve in
+    let now = arena_of c.self.inside.id c.self.inside.data.store c.self.inside.blocks.items c.unshelve.new.self in
+    ap (arena.has now) c.token.ensures ∙ token_had now c.args.head is.message is.held
+
+pub returns-clause-unheld : goal.returns-clause-unheld
+returns-clause-unheld c = (is_unshelved (goal.at.returns-clause-unheld c).After-unshelve).unheld

@@ -1,0 +1,122 @@
+use Rattle.std.proofs.Common.{◌≡◌, ◌+◌, ◌<◌, ◌≤◌, length, ap, refl, ◌∙◌, arith, sym, subst, true, set, None, Err}
+use Rattle.std.proofs.lemmas.List.{get_or_read}
+use Rattle.std.specs.Prelude.{slice_get}
+use Rattle.strm_data.specs.CountedStore.{count_of}
+use Rattle.strm_data.specs.DataStore.{capacity_of, with_bytes_written}
+use Rattle.strm_data.specs.declared.refusal.Refusal.TheVariants.{NoRoom, Shared}
+use Rattle.strm_mblk.specs.declared.blocks.Fields.{Fields}
+use Rattle.strm_mblk.specs.Arena.{Arena, has, names_of, message_at, shelved_blocks}
+use Rattle.strm_mblk.specs.BlockCalls.{write}
+use Rattle.strm_mblk.specs.BlocksLayout.{arena_in, block_at, fields_at, no_fields}
+use Rattle.strm_mblk.specs.Given.{after, answer_of}
+use Rattle.strm_mblk.specs.NodeLists.{nodes_at}
+use Rattle.strm_mblk.proofs.Alteration.{write_none, write_shared, write_full}
+use Rattle.strm_mblk.proofs.Places.{IsAt, block_none, block_some}
+use Rattle.strm_mblk.proofs.Writing.{IsWritten, writes}
+use Rattle.strm_mblk.proofs.blocks.Blocks.write.Goals as goal
+use Rattle.strm_mblk.proofs.blocks.Blocks.write.Goals.{After-count, After-self-1, In_default}
+
+none : (c : In_default) → slice_get (message_at c.args.self.now c.args.token.now.head) c.args.place ≡ None
+none c =
+    block_none c.self.inside.id c.self.inside.data c.self.inside.blocks.items c.self.inside.chains c.self.invariant.filled c.args.self.now c.self.view_is c.args.token.now.head c.args.place
+    (ap (λ h. slice_get (nodes_at c.self.inside.chains h) c.args.place) (sym c.head.ensures) ∙ sym c.node_at.ensures.value ∙ c.in_default.is)
+
+pub returns-in_default-clause-after : goal.returns-in_default-clause-after
+returns-in_default-clause-after c = sym (ap (after c.args.self.now) (write_none c.args.self.now c.args.token.now.head c.args.place c.args.bytes.now (none c)))
+
+pub returns-in_default-clause-answer : goal.returns-in_default-clause-answer
+returns-in_default-clause-answer c = sym (ap answer_of (write_none c.args.self.now c.args.token.now.head c.args.place c.args.bytes.now (none c)))
+
+module _ (c : After-count) where
+  -- the block at the place, in what the fields show
+  at_inside : IsAt c.self.inside.data c.self.inside.blocks.items c.self.inside.chains (arena_in c.self.inside) c.args.token.now.head c.args.place c.in-Some.node (nodes_at c.self.inside.chains c.args.token.now.head)
+  at_inside =
+      block_some c.self.inside.id c.self.inside.data c.self.inside.blocks.items c.self.inside.chains c.self.invariant.filled (arena_in c.self.inside) refl c.args.token.now.head c.args.place
+      c.args.token.now refl (subst (λ a. has a c.args.token.now ≡ true) (sym c.self.view_is) c.requires) c.in-Some.node
+      (ap (λ h. slice_get (nodes_at c.self.inside.chains h) c.args.place) (sym c.head.ensures) ∙ sym c.node_at.ensures.value ∙ c.in-Some.is)
+
+  -- and in the value
+  is_at : IsAt c.self.inside.data c.self.inside.blocks.items c.self.inside.chains c.args.self.now c.args.token.now.head c.args.place c.in-Some.node (nodes_at c.self.inside.chains c.args.token.now.head)
+  is_at = subst (λ a. IsAt c.self.inside.data c.self.inside.blocks.items c.self.inside.chains a c.args.token.now.head c.args.place c.in-Some.node (nodes_at c.self.inside.chains c.args.token.now.head)) c.self.view_is at_inside
+
+  -- what was read is what the block says
+  read : c.index-fields.result.now ≡ fields_at c.self.inside.blocks.items c.in-Some.node
+  read = get_or_read c.self.inside.blocks.items c.in-Some.node c.index-fields.result.now is_at.there c.index-fields.ensures no_fields
+
+  -- its places are in its data block
+  within : c.index-fields.result.now.offset + c.index-fields.result.now.len ≤ capacity_of c.self.inside.data.store c.index-fields.result.now.data_number
+  within = subst (λ f. f.offset + f.len ≤ capacity_of c.self.inside.data.store f.data_number) (sym read) is_at.placed.within
+
+  -- the count is that of the names
+  counted : c.count.result ≡ names_of c.args.self.now (fields_at c.self.inside.blocks.items c.in-Some.node).data_number
+  counted = c.count.ensures ∙ ap (λ (f : Fields). count_of c.self.inside.data f.data_number) read ∙ is_at.named
+
+  shared : 1 < c.count.result → write c.args.token.now.head c.args.place c.args.bytes.now c.args.self.now ≡ Err Shared
+  shared many =
+      write_shared c.args.self.now c.args.token.now.head c.args.place c.args.bytes.now (block_at c.self.inside.blocks.items c.in-Some.node) is_at.block (omega (arith, many, counted))
+
+  -- the capacity, in the value
+  room_is : capacity_of c.args.self.now.store (fields_at c.self.inside.blocks.items c.in-Some.node).data_number ≡ capacity_of c.self.inside.data.store c.index-fields.result.now.data_number
+  room_is =
+      ap (λ (a : Arena). capacity_of a.store (fields_at c.self.inside.blocks.items c.in-Some.node).data_number) (sym c.self.view_is)
+      ∙ ap (λ (f : Fields). capacity_of c.self.inside.data.store f.data_number) (sym read)
+
+  full : c.count.result ≤ 1 → capacity_of c.self.inside.data.store c.index-fields.result.now.data_number < c.index-fields.result.now.offset + c.index-fields.result.now.len + length c.args.bytes.now
+      → write c.args.token.now.head c.args.place c.args.bytes.now c.args.self.now ≡ Err NoRoom
+  full one past =
+      write_full c.args.self.now c.args.token.now.head c.args.place c.args.bytes.now (block_at c.self.inside.blocks.items c.in-Some.node) is_at.block (omega (arith, one, counted))
+      (omega (arith, past, room_is, ap (λ (f : Fields). f.offset + f.len) read))
+
+pub returns-then-count-gt1-clause-after : goal.returns-then-count-gt1-clause-after
+returns-then-count-gt1-clause-after c = sym (ap (after c.args.self.now) (shared (goal.at.returns-then-count-gt1-clause-after c).After-count c.if-count-gt1.true))
+
+pub returns-then-count-gt1-clause-answer : goal.returns-then-count-gt1-clause-answer
+returns-then-count-gt1-clause-answer c = sym (ap answer_of (shared (goal.at.returns-then-count-gt1-clause-answer c).After-count c.if-count-gt1.true))
+
+pub overflow_sub-capacity : goal.overflow_sub-capacity
+overflow_sub-capacity c = omega (arith, within (goal.at.overflow_sub-capacity c).After-count, c.cap-capacity.ensures.answer)
+
+pub overflow_add-end : goal.overflow_add-end
+overflow_add-end c = omega (arith, within (goal.at.overflow_add-end c).After-count, c.cap-capacity.ensures.answer, c.cap-capacity.type_inv)
+
+pub returns-then-bytes-capacity-clause-after : goal.returns-then-bytes-capacity-clause-after
+returns-then-bytes-capacity-clause-after c =
+    let before = (goal.at.returns-then-bytes-capacity-clause-after c).After-count in
+    sym (ap (after c.args.self.now) (full before c.if-count-gt1.false (omega (arith, c.if-bytes-capacity.true, c.cap-capacity.ensures.answer, within before))))
+
+pub returns-then-bytes-capacity-clause-answer : goal.returns-then-bytes-capacity-clause-answer
+returns-then-bytes-capacity-clause-answer c =
+    let before = (goal.at.returns-then-bytes-capacity-clause-answer c).After-count in
+    sym (ap answer_of (full before c.if-count-gt1.false (omega (arith, c.if-bytes-capacity.true, c.cap-capacity.ensures.answer, within before))))
+
+is_written : (c : After-self-1) → IsWritten c.args.self.now c.write.new.self (set c.self.inside.blocks.items c.in-Some.node (record c.index_mut.result.now { len = c.index-fields.result.now.len + length c.args.bytes.now })) c.self.inside.chains c.self.inside.id c.args.place c.args.bytes.now c.args.token.now
+is_written c =
+    let before = (goal.at.returns-clause-had c).After-count in
+    let n = fields_at c.self.inside.blocks.items c.in-Some.node in
+    let at = at_inside before in
+    let lens : c.index-fields.result.now.len ≡ n.len = ap (λ (f : Fields). f.len) (read before) in
+    let found = get_or_read c.self.inside.blocks.items c.in-Some.node c.index_mut.result.now at.there c.index_mut.ensures.value no_fields in
+    let x_is : record c.index_mut.result.now { len = c.index-fields.result.now.len + length c.args.bytes.now } ≡ record n { len = n.len + length c.args.bytes.now } =
+    λ i. record (found i) { len = lens i + length c.args.bytes.now } in
+    let new_is : c.write.new.self ≡ record c.self.inside.data { store = with_bytes_written n.data_number (n.offset + n.len) c.args.bytes.now c.self.inside.data.store } =
+    c.write.ensures.after
+    ∙ ap (λ (f : Fields). record c.self.inside.data { store = with_bytes_written f.data_number (f.offset + f.len) c.args.bytes.now c.self.inside.data.store }) (read before) in
+    subst (λ a. IsWritten a c.write.new.self (set c.self.inside.blocks.items c.in-Some.node (record c.index_mut.result.now { len = c.index-fields.result.now.len + length c.args.bytes.now })) c.self.inside.chains c.self.inside.id c.args.place c.args.bytes.now c.args.token.now) c.self.view_is
+    (writes c.self.inside.id c.self.inside.data c.self.inside.blocks.items c.self.inside.chains c.self.invariant.filled c.args.token.now (subst (λ a. has a c.args.token.now ≡ true) (sym c.self.view_is) c.requires)
+    c.args.place c.in-Some.node at c.args.bytes.now c.write.new.self _ c.write.ensures.kept new_is x_is
+    (omega (arith, c.if-count-gt1.false, counted before, ap (λ a. names_of a n.data_number) c.self.view_is))
+    (omega (arith, c.if-bytes-capacity.false, c.cap-capacity.ensures.answer, within before, ap (λ (f : Fields). f.offset + f.len) (read before), ap (λ (f : Fields). capacity_of c.self.inside.data.store f.data_number) (read before))))
+
+pub invariant_of-self : goal.invariant_of-self
+invariant_of-self c =
+    let is = is_written c in
+    record { filled = is.filled; queued = c.self.invariant.queued ∙ ap (λ a. length (shelved_blocks a)) c.self.view_is ∙ ap length (sym is.shelved) }
+
+pub returns-clause-after : goal.returns-clause-after
+returns-clause-after c = sym (ap (after c.args.self.now) (is_written c).done)
+
+pub returns-clause-answer : goal.returns-clause-answer
+returns-clause-answer c = sym (ap answer_of (is_written c).done)
+
+pub returns-clause-had : goal.returns-clause-had
+returns-clause-had c = (is_written c).had

@@ -1,0 +1,14 @@
+use Rattle.std.proofs.Common.{◌<◌, ap, sym, ◌∙◌, arith}
+use Rattle.strm_links.specs.Rows.{last}
+use Rattle.strm_mblk.proofs.Readings.{shelf_within, heads_at}
+use Rattle.strm_mblk.proofs.chains.Chains.last.Goals as goal
+use Rattle.strm_mblk.proofs.chains.Chains.last.Goals.{After-self}
+
+within : (c : After-self) → c.args.shelf < c.self.inside.shelves
+within c = shelf_within _ _ _ _ c.self.invariant _ c.self.view_is c.args.shelf c.requires
+
+pub back-requires : goal.back-requires
+back-requires c = omega (arith, within c, c.self.invariant.head_lists)
+
+pub returns : goal.returns
+returns c = c.back.ensures.value ∙ ap last (sym (heads_at _ _ _ _ c.self.invariant _ c.self.view_is c.args.shelf (within (goal.at.returns c).After-self)))

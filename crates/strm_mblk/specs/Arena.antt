@@ -1,0 +1,100 @@
+-- All message blocks: free, in messages held as tokens, or in messages on shelves.
+use Rattle.std.specs.Prelude.{◌≡◌, ℕ, ◌<◌, ◌≤◌, Bool, false, ◌&&◌, ◌==◌, nat_lt, List, [], ◌++◌, length, count_by, replicate, Option, None, Some, IfSome, slice_set, if◌then◌else◌}
+use Rattle.std.specs.List.{All, range_with_len}
+use Rattle.strm_data.specs.declared.class_spec.ClassSpec.{ClassSpec}
+use Rattle.strm_data.specs.DataStore.{DataStore, times, class_of, free_of, opening_store}
+use Rattle.strm_mblk.specs.declared.census.Census.{Census}
+use Rattle.strm_mblk.specs.declared.token.TokenValue.{TokenValue}
+use Rattle.strm_mblk.specs.Block.{Block, Message, head_of, is_naming, numbers_of}
+use Rattle.strm_mblk.specs.Messages.{blocks_of, held_in, shelf_in, blocks_on, blocks_held}
+
+-- the pool's id; the data blocks; the free message blocks, the next to be taken first; for each block number
+-- the held message that begins with it, if there is one; and the messages on each shelf, front to back
+pub record Arena : Type 0 where
+  pub id : ℕ
+  pub store : DataStore
+  pub free : List ℕ
+  pub held : List (Option Message)
+  pub shelves : List (List Message)
+
+-- an arena of free blocks, in rising order, with so many message blocks and empty shelves
+abbrev pub opening_arena : ℕ → ℕ → List ClassSpec → ℕ → Arena
+opening_arena id mblks classes shelves = record {
+  id = id;
+  store = opening_store classes;
+  free = range_with_len 0 mblks;
+  held = replicate mblks None;
+  shelves = replicate shelves [];
+}
+
+-- ---- what stands where
+
+abbrev pub held_at : Arena → ℕ → Option Message
+held_at a h = held_in a.held h
+
+-- the message held at h
+abbrev pub message_at : Arena → ℕ → Message
+message_at a h = blocks_of (held_at a h)
+
+abbrev pub shelf_at : Arena → ℕ → List Message
+shelf_at a s = shelf_in a.shelves s
+
+-- the blocks of the messages on shelves
+abbrev pub shelved_blocks : Arena → List Block
+shelved_blocks a = blocks_on a.shelves
+
+-- the blocks of the held messages
+abbrev pub held_blocks : Arena → List Block
+held_blocks a = blocks_held a.held
+
+-- the blocks of all messages
+abbrev pub blocks_in : Arena → List Block
+blocks_in a = shelved_blocks a ++ held_blocks a
+
+-- how many blocks, over all messages, name a data block
+abbrev pub names_of : Arena → ℕ → ℕ
+names_of a d = count_by (is_naming d) (blocks_in a)
+
+-- how many message blocks are free, in messages on shelves, and in held messages
+abbrev pub census_of : Arena → Census
+census_of a = record { free = length a.free; queued = length (shelved_blocks a); held = length (held_blocks a) }
+
+abbrev pub without_held : ℕ → Arena → Arena
+without_held h a = record a { held = slice_set a.held h None }
+
+abbrev pub with_held : Message → Arena → Arena
+with_held m a = record a { held = slice_set a.held (head_of m) (Some m) }
+
+abbrev pub with_shelf : ℕ → List Message → Arena → Arena
+with_shelf s ms a = record a { shelves = slice_set a.shelves s ms }
+
+-- ---- tokens
+
+abbrev pub is_of_length : ℕ → Option Message → Bool
+is_of_length n None = false
+is_of_length n (Some m) = length m == n
+
+-- whether the token carries this id, and a held message has its head and its number of blocks
+abbrev pub has : Arena → TokenValue → Bool
+has a t = t.pool == a.id && is_of_length t.blocks (held_at a t.head)
+
+-- the token of the message held at h
+abbrev pub token_of : Arena → ℕ → TokenValue
+token_of a h = record { pool = a.id; head = h; blocks = length (message_at a h) }
+
+-- ---- parted
+
+-- whether d is a data block of class c that nothing names
+abbrev pub is_free_in : Arena → ℕ → ℕ → Bool
+is_free_in a c d = nat_lt d (length a.store.blocks) && (class_of a.store d == c && names_of a d == 0)
+
+-- Each message block stands once in all: free, in one message on one shelf, or in one held message, which
+-- stands at its head. Each data block stands once in its class's free list and nothing names it, or in none
+-- and 1 to 255 message blocks name it.
+pub record IsParted (a : Arena) : Type 0 where
+  pub blocks : (n : ℕ) → times n (a.free ++ numbers_of (blocks_in a)) ≡ (if nat_lt n (length a.held) then 1 else 0)
+  pub heads : (h : ℕ) → IfSome (held_at a h) (λ m. (0 < length m) × (head_of m ≡ h))
+  pub shelved : (s : ℕ) → All (λ m. 0 < length m) (shelf_at a s)
+  pub free_data : (c d : ℕ) → times d (free_of a.store c) ≡ (if is_free_in a c d then 1 else 0)
+  pub named : (d : ℕ) → 0 < names_of a d → d < length a.store.blocks
+  pub few_names : (d : ℕ) → names_of a d ≤ 255

@@ -1,0 +1,56 @@
+-- A message block, and a message as a list of them.
+use Rattle.std.specs.Prelude.{ℕ, Bool, ◌==◌, List, [], ◌∷◌, map, take, drop, sum_by, if◌then◌else◌}
+use Rattle.std.specs.List.{flat_map}
+use Rattle.strm_data.specs.declared.msg_type.MsgType.{MsgType}
+use Rattle.strm_data.specs.declared.msg_type.MsgType.TheVariants.{MData}
+use Rattle.strm_data.specs.DataStore.{DataStore, data_block_at}
+use Rattle.strm_data.specs.MsgType.{same_kind}
+
+-- a message block: its number, the data block that it names, its read place, how many bytes stand from
+-- there up to its write place, and its band
+pub record Block : Type 0 where
+  pub number : ℕ
+  pub data_number : ℕ
+  pub offset : ℕ
+  pub len : ℕ
+  pub band : ℕ
+
+-- a message: a chain of at least one block
+abbrev pub Message : Type 0
+Message = List Block
+
+-- the number of the first block
+abbrev pub head_of : Message → ℕ
+head_of [] = 0
+head_of (b ∷ bs) = b.number
+
+abbrev pub numbers_of : List Block → List ℕ
+numbers_of bs = map (λ b. b.number) bs
+
+-- whether the block names this data block
+abbrev pub is_naming : ℕ → Block → Bool
+is_naming d b = b.data_number == d
+
+-- the type of the data block that it names
+abbrev pub kind_of : DataStore → Block → MsgType
+kind_of s b = (data_block_at s b.data_number).kind
+
+-- the bytes between the read place and the write place
+abbrev pub bytes_of_block : DataStore → Block → List ℕ
+bytes_of_block s b = take b.len (drop b.offset (data_block_at s b.data_number).bytes)
+
+-- the bytes of a message are those of its blocks, joined
+abbrev pub bytes_of : DataStore → Message → List ℕ
+bytes_of s m = flat_map (bytes_of_block s) m
+
+-- how many bytes a message has
+abbrev pub size_of : Message → ℕ
+size_of m = sum_by (λ b. b.len) m
+
+-- how many of them stand in blocks of type M_DATA
+abbrev pub data_size_of : DataStore → Message → ℕ
+data_size_of s m = sum_by (λ b. if same_kind (kind_of s b) MData then b.len else 0) m
+
+-- a block over a data block just taken: both places are 0, and so is the band
+abbrev pub new_block : ℕ → ℕ → Block
+new_block n d = record { number = n; data_number = d; offset = 0; len = 0; band = 0 }

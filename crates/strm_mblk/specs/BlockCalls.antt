@@ -1,0 +1,174 @@
+-- What each call on the blocks of messages does to the arena. The message that a call names is given by its head.
+use Rattle.std.specs.Prelude.{ℕ, ◌+◌, ◌-◌, Bool, ◌==◌, nat_lt, List, [], ◌∷◌, ◌++◌, length, map, take, drop, Option, None, Some, Result, Ok, Err, slice_get, slice_set, count_by, if◌then◌else◌}
+use Rattle.std.specs.List.{list_any, zip}
+use Rattle.std.specs.Result.{is_ok}
+use Rattle.strm_data.specs.declared.msg_type.MsgType.{MsgType}
+use Rattle.strm_data.specs.declared.refusal.Refusal.{Refusal}
+use Rattle.strm_data.specs.declared.refusal.Refusal.TheVariants.{TooLarge, NoMblk, RefMax, NoSuchBlock, Shared, NoRoom}
+use Rattle.strm_data.specs.Classes.{fits_a_class}
+use Rattle.strm_data.specs.DataStore.{DataStore, capacity_of, take_data, with_data_taken, with_kind, with_bytes_written}
+use Rattle.strm_mblk.specs.declared.block_info.BlockInfo.{BlockInfo}
+use Rattle.strm_mblk.specs.Arena.{Arena, message_at, names_of, with_held, without_held}
+use Rattle.strm_mblk.specs.Block.{Block, Message, bytes_of_block, head_of, is_naming, kind_of, new_block}
+use Rattle.strm_mblk.specs.Freeing.{with_block_freed}
+use Rattle.strm_mblk.specs.Given.{Given, and_then, answer_map}
+use Rattle.strm_mblk.specs.Messages.{divided, joined}
+
+-- ---- new messages
+
+-- a message of one block over a data block, held: n is the first free number, and ns are the others
+abbrev pub held_new : ℕ → List ℕ → Arena → Result ℕ Refusal → Given Arena ℕ
+held_new n ns a (Err why) = Err why
+held_new n ns a (Ok d) = Ok (n, with_held (new_block n d ∷ []) (record a { free = ns; store = with_data_taken d a.store }))
+
+abbrev pub allocb_from : List ℕ → ℕ → Arena → Given Arena ℕ
+allocb_from [] size a = Err NoMblk
+allocb_from (n ∷ ns) size a = held_new n ns a (take_data size a.store)
+
+-- a message of one new block over what the size takes; the answer is its number
+abbrev pub allocb : ℕ → Arena → Given Arena ℕ
+allocb size a = if fits_a_class size a.store.classes then allocb_from a.free size a else Err TooLarge
+
+-- whether a message can be allocated for this size now
+abbrev pub testb : ℕ → Arena → Bool
+testb size a = is_ok (allocb size a)
+
+-- these blocks under other numbers
+abbrev pub renumbered : List ℕ → List Block → List Block
+renumbered ns bs = map (λ p. record p.1 { number = p.0 }) (zip ns bs)
+
+-- whether some data block would have more than 255 names once each of these blocks has a duplicate
+abbrev pub exceeds_names : List Block → Arena → Bool
+exceeds_names bs a = list_any (λ b. nat_lt 255 (names_of a b.data_number + count_by (is_naming b.data_number) bs)) bs
+
+-- a held message of these blocks, under the first free numbers, over this store
+abbrev pub held_under : List Block → DataStore → Arena → ℕ × Arena
+held_under bs s a =
+    let m = renumbered (take (length bs) a.free) bs in
+    (head_of m, with_held m (record a { free = drop (length bs) a.free; store = s }))
+
+-- a message of new blocks that name the data blocks of these, with their places and bands
+abbrev pub duplicated : List Block → Arena → Given Arena ℕ
+duplicated bs a =
+    if nat_lt (length a.free) (length bs) then Err NoMblk
+    else (if exceeds_names bs a then Err RefMax
+    else Ok (held_under bs a.store a))
+
+abbrev pub dupb : ℕ → Arena → Given Arena ℕ
+dupb h a = duplicated (take 1 (message_at a h)) a
+
+abbrev pub dupmsg : ℕ → Arena → Given Arena ℕ
+dupmsg h a = duplicated (message_at a h) a
+
+-- the store once d, taken for a copy of b, has the type of b and its bytes at their places
+abbrev pub copied_into : Block → DataStore → ℕ → DataStore
+copied_into b s d = with_bytes_written d b.offset (bytes_of_block s b) (with_kind d (kind_of s b) (with_data_taken d s))
+
+-- these blocks over copies of their data, of which each takes the capacity of the one it is of, in order
+abbrev pub copies : List Block → DataStore → Given DataStore (List Block)
+copies [] s = Ok ([], s)
+copies (b ∷ bs) s =
+    and_then (λ d. answer_map (λ g. (record b { data_number = d } ∷ g.0, g.1)) (copies bs (copied_into b s d))) (take_data (capacity_of s b.data_number) s)
+
+-- a message of new blocks over copies of the data of these, with their places and bands
+abbrev pub copied : List Block → Arena → Given Arena ℕ
+copied bs a =
+    if nat_lt (length a.free) (length bs) then Err NoMblk
+    else answer_map (λ g. held_under g.0 g.1 a) (copies bs a.store)
+
+abbrev pub copyb : ℕ → Arena → Given Arena ℕ
+copyb h a = copied (take 1 (message_at a h)) a
+
+abbrev pub copymsg : ℕ → Arena → Given Arena ℕ
+copymsg h a = copied (message_at a h) a
+
+-- ---- one block
+
+-- the bytes behind the write place of b, which is block k of the message m, held at h
+abbrev pub write_block : ℕ → ℕ → List ℕ → Arena → Message → Option Block → Given Arena (Unit {0})
+write_block h k bytes a m None = Err NoSuchBlock
+write_block h k bytes a m (Some b) =
+    if nat_lt 1 (names_of a b.data_number) then Err Shared
+    else (if nat_lt (capacity_of a.store b.data_number) (b.offset + b.len + length bytes) then Err NoRoom
+    else Ok (
+      tt,
+      record a {
+        store = with_bytes_written b.data_number (b.offset + b.len) bytes a.store;
+        held = slice_set a.held h (Some (slice_set m k (record b { len = b.len + length bytes })));
+      },
+    ))
+
+-- bytes behind the write place of block k of the message held at h, and the write place behind them
+abbrev pub write : ℕ → ℕ → List ℕ → Arena → Given Arena (Unit {0})
+write h k bytes a = write_block h k bytes a (message_at a h) (slice_get (message_at a h) k)
+
+abbrev pub settype_of : MsgType → Arena → Option Block → Given Arena (Unit {0})
+settype_of kind a None = Err NoSuchBlock
+settype_of kind a (Some b) =
+    if nat_lt 1 (names_of a b.data_number) then Err Shared
+    else Ok (tt, record a { store = with_kind b.data_number kind a.store })
+
+-- the type of the data block of block k
+abbrev pub settype : ℕ → ℕ → MsgType → Arena → Given Arena (Unit {0})
+settype h k kind a = settype_of kind a (slice_get (message_at a h) k)
+
+-- the message once its first block is of this band
+abbrev pub banded : ℕ → Message → Message
+banded band [] = []
+banded band (b ∷ bs) = record b { band = band } ∷ bs
+
+abbrev pub setband : ℕ → ℕ → Arena → Arena
+setband h band a = record a { held = slice_set a.held h (Some (banded band (message_at a h))) }
+
+abbrev pub info_of : Arena → Option Block → Given Arena BlockInfo
+info_of a None = Err NoSuchBlock
+info_of a (Some b) = Ok (
+  record {
+    kind = kind_of a.store b;
+    len = b.len;
+    band = b.band;
+    room = capacity_of a.store b.data_number - (b.offset + b.len);
+    names = names_of a b.data_number;
+  },
+  a,
+)
+
+-- what there is to tell of block k
+abbrev pub block : ℕ → ℕ → Arena → Given Arena BlockInfo
+block h k a = info_of a (slice_get (message_at a h) k)
+
+-- ---- joining and parting
+
+-- the number of the first block, if there is one
+abbrev pub head_in : Message → Option ℕ
+head_in [] = None
+head_in (b ∷ bs) = Some b.number
+
+-- these blocks are a held message, if there are any
+abbrev pub with_rest : Message → Arena → Arena
+with_rest [] a = a
+with_rest (b ∷ bs) a = with_held (b ∷ bs) a
+
+-- the message at g goes behind the one at h; two tokens of one message leave it as it is
+abbrev pub linkb : ℕ → ℕ → Arena → Arena
+linkb h g a = if h == g then a else record a { held = joined h g a.held }
+
+-- the first block stays; the others are a message, if there are any, which is the answer
+abbrev pub unlinkb : ℕ → Arena → Option ℕ × Arena
+unlinkb h a = (head_in (drop 1 (message_at a h)), record a { held = divided (λ b. b.number) h (message_at a h) a.held })
+
+abbrev pub rmvb_of : ℕ → Arena → Message → Option Block → Given Arena (ℕ × Option ℕ)
+rmvb_of h a rest None = Err NoSuchBlock
+rmvb_of h a rest (Some b) = Ok ((b.number, head_in rest), with_held (b ∷ []) (with_rest rest (without_held h a)))
+
+-- block k is a message, and the others are one, if there are any; both are the answer
+abbrev pub rmvb : ℕ → ℕ → Arena → Given Arena (ℕ × Option ℕ)
+rmvb h k a = rmvb_of h a (take k (message_at a h) ++ drop (k + 1) (message_at a h)) (slice_get (message_at a h) k)
+
+abbrev pub freeb_from : ℕ → Arena → Message → Option ℕ × Arena
+freeb_from h a [] = (None, a)
+freeb_from h a (b ∷ rest) = (head_in rest, with_block_freed b [] (with_rest rest (without_held h a)))
+
+-- the first block is free; the others are a message, if there are any, which is the answer
+abbrev pub freeb : ℕ → Arena → Option ℕ × Arena
+freeb h a = freeb_from h a (message_at a h)

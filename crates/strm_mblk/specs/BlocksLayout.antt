@@ -1,0 +1,65 @@
+-- How message blocks lie in memory. No public clause cites this module.
+use Rattle.std.specs.Prelude.{◌≡◌, ℕ, ◌+◌, ◌<◌, ◌≤◌, List, [], ◌∷◌, length, map, option_map, slice_index_or}
+use Rattle.strm_data.specs.CountedStore.{CountedStore, IsKept, count_of, without_name}
+use Rattle.strm_data.specs.DataStore.{DataStore, capacity_of}
+use Rattle.strm_mblk.specs.declared.blocks.Blocks.TheInside.{Inside}
+use Rattle.strm_mblk.specs.declared.blocks.Fields.{Fields}
+use Rattle.strm_mblk.specs.Arena.{Arena, names_of, shelved_blocks}
+use Rattle.strm_mblk.specs.Block as model
+use Rattle.strm_mblk.specs.NodeLists.{NodeLists, IsNodesParted}
+
+-- what is given where there is no such message block
+abbrev pub no_fields : Fields
+no_fields = record { data_number = 0; offset = 0; len = 0; band = 0 }
+
+abbrev pub fields_at : List Fields → ℕ → Fields
+fields_at fields n = slice_index_or fields n no_fields
+
+-- message block n
+abbrev pub block_at : List Fields → ℕ → model.Block
+block_at fields n =
+    let f = fields_at fields n in
+    record { number = n; data_number = f.data_number; offset = f.offset; len = f.len; band = f.band }
+
+-- the blocks of a message
+abbrev pub message_of : List Fields → List ℕ → model.Message
+message_of fields ns = map (block_at fields) ns
+
+-- the data blocks that message blocks name
+abbrev pub named_by : List Fields → List ℕ → List ℕ
+named_by fields ns = map (λ n. (fields_at fields n).data_number) ns
+
+-- the store once each of these data blocks, first to last, has a name less
+abbrev pub with_names_dropped : List ℕ → CountedStore → CountedStore
+with_names_dropped [] s = s
+with_names_dropped (d ∷ ds) s = with_names_dropped ds (without_name d s)
+
+abbrev pub arena_of : ℕ → DataStore → List Fields → NodeLists → Arena
+arena_of id store fields lists = record {
+  id = id;
+  store = store;
+  free = lists.free;
+  held = map (option_map (message_of fields)) lists.held;
+  shelves = map (map (message_of fields)) lists.shelves;
+}
+
+abbrev pub arena_in : Inside → Arena
+arena_in a = arena_of a.id a.data.store a.blocks.items a.chains
+
+-- the data block is there, and the places lie in its capacity
+pub record IsPlaced (s : DataStore) (f : Fields) : Type 0 where
+  pub there : f.data_number < length s.blocks
+  pub within : f.offset + f.len ≤ capacity_of s f.data_number
+
+-- every message block, a free one too, has its places in a data block; and data blocks count the names that they have
+pub record IsFilled (s : CountedStore) (fields : List Fields) (lists : NodeLists) (arena : Arena) : Type 0 where
+  pub kept : IsKept s
+  pub parted : IsNodesParted lists
+  pub few : length lists.held < 4096
+  pub listed : length fields ≡ length lists.held
+  pub placed : (n : ℕ) → n < length fields → IsPlaced s.store (fields_at fields n)
+  pub counts : (d : ℕ) → count_of s d ≡ names_of arena d
+
+pub record IsWhole (a : Inside) : Type 0 where
+  pub filled : IsFilled a.data a.blocks.items a.chains (arena_in a)
+  pub queued : a.queued ≡ length (shelved_blocks (arena_in a))

@@ -1,0 +1,11 @@
+pub mod Messages
+pub mod Block
+pub mod Arena
+pub mod Given
+pub mod Freeing
+pub mod BlockCalls
+pub mod Trimming
+pub mod Shelves
+pub mod NodeLists
+pub mod ChainLayout
+pub mod BlocksLayout

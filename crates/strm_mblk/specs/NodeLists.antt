@@ -1,0 +1,48 @@
+-- Message blocks as mere numbers: the free ones, and the messages that the others make. No public clause cites this module.
+use Rattle.std.specs.Prelude.{◌≡◌, ℕ, ◌<◌, nat_lt, List, [], ◌∷◌, ◌++◌, length, map, replicate, Option, None, Some, IfSome, slice_index_or, slice_set, if◌then◌else◌}
+use Rattle.std.specs.List.{All, range_with_len}
+use Rattle.strm_links.specs.Rows.{first}
+use Rattle.strm_data.specs.DataStore.{times}
+use Rattle.strm_mblk.specs.Messages.{blocks_of, held_in, shelf_in, blocks_on, blocks_held}
+
+-- the free numbers, the next to be taken first; for each number the held message that begins with it, if there is
+-- one; and the messages on each shelf, front to back
+pub record NodeLists : Type 0 where
+  pub free : List ℕ
+  pub held : List (Option (List ℕ))
+  pub shelves : List (List (List ℕ))
+
+-- the numbers of the message held at h
+abbrev pub nodes_at : NodeLists → ℕ → List ℕ
+nodes_at v h = blocks_of (held_in v.held h)
+
+-- the number that a message begins with
+abbrev pub head_node : List ℕ → ℕ
+head_node m = slice_index_or m 0 0
+
+-- the numbers that the messages on a shelf begin with
+abbrev pub heads_on : NodeLists → ℕ → List ℕ
+heads_on v s = map head_node (shelf_in v.shelves s)
+
+-- the numbers of message k of a shelf
+abbrev pub shelved_nodes : NodeLists → ℕ → ℕ → List ℕ
+shelved_nodes v s k = slice_index_or (shelf_in v.shelves s) k []
+
+-- all numbers, free or of a message
+abbrev pub all_nodes : NodeLists → List ℕ
+all_nodes v = v.free ++ (blocks_on v.shelves ++ blocks_held v.held)
+
+-- each number stands once in all; a held message stands at its first number, and no message is empty
+pub record IsNodesParted (v : NodeLists) : Type 0 where
+  pub once : (n : ℕ) → times n (all_nodes v) ≡ (if nat_lt n (length v.held) then 1 else 0)
+  pub heads : (h : ℕ) → IfSome (held_in v.held h) (λ m. first m ≡ Some h)
+  pub shelved : (s : ℕ) → All (λ m. 0 < length m) (shelf_in v.shelves s)
+
+-- so many free numbers, in rising order, and so many empty shelves
+abbrev pub opening_nodes : ℕ → ℕ → NodeLists
+opening_nodes nodes shelves = record { free = range_with_len 0 nodes; held = replicate nodes None; shelves = replicate shelves [] }
+
+-- the first free number, if there is one, is a held message
+abbrev pub after_begin : NodeLists → List ℕ → NodeLists
+after_begin v [] = v
+after_begin v (n ∷ ns) = record v { free = ns; held = slice_set v.held n (Some (n ∷ [])) }

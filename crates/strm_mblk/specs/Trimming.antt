@@ -1,0 +1,90 @@
+-- Bytes that a message loses at an end, and bytes that are pulled up into its first block.
+use Rattle.std.specs.Prelude.{ℕ, zero, suc, ◌+◌, ◌-◌, ℤ, pos, negsuc, min, Bool, ◌&&◌, nat_lt, nat_le, List, [], ◌∷◌, reverse, take, Option, None, Some, Result, Ok, Err, slice_set, if◌then◌else◌}
+use Rattle.std.specs.List.{take_while}
+use Rattle.strm_data.specs.declared.refusal.Refusal.{Refusal}
+use Rattle.strm_data.specs.declared.refusal.Refusal.TheVariants.{Short}
+use Rattle.strm_data.specs.DataStore.{DataStore, take_data, with_data_taken, with_kind, with_bytes_written}
+use Rattle.strm_data.specs.MsgType.{same_kind}
+use Rattle.strm_mblk.specs.Arena.{Arena, message_at}
+use Rattle.strm_mblk.specs.Block.{Block, Message, bytes_of, kind_of, size_of}
+use Rattle.strm_mblk.specs.Freeing.{with_name_dropped, with_blocks_freed}
+use Rattle.strm_mblk.specs.Given.{Given, answer_map}
+
+-- the leading blocks that have the type of the first
+abbrev pub run_of : DataStore → List Block → List Block
+run_of s [] = []
+run_of s (b ∷ bs) = b ∷ take_while (λ c. same_kind (kind_of s c) (kind_of s b)) bs
+
+-- ---- adjmsg
+
+-- the blocks without their first n bytes: each gives what it has, and the empty ones stay
+abbrev pub cut_front : ℕ → List Block → List Block
+cut_front n [] = []
+cut_front n (b ∷ bs) = record b { offset = b.offset + min n b.len; len = b.len - n } ∷ cut_front (n - b.len) bs
+
+-- the same from the tail, for blocks that are listed from the last to the first
+abbrev pub cut_back : ℕ → List Block → List Block
+cut_back n [] = []
+cut_back n (b ∷ bs) = record b { len = b.len - n } ∷ cut_back (n - b.len) bs
+
+-- n bytes less at the head, for n above 0 or 0, else -n less at the tail
+abbrev pub cut : ℤ → DataStore → Message → Result Message Refusal
+cut (pos n) s m = if nat_lt (size_of (run_of s m)) n then Err Short else Ok (cut_front n m)
+cut (negsuc n) s m =
+    if nat_lt (size_of (run_of s (reverse m))) (suc n) then Err Short else Ok (reverse (cut_back (suc n) (reverse m)))
+
+abbrev pub adjmsg : ℕ → ℤ → Arena → Given Arena (Unit {0})
+adjmsg h n a = answer_map (λ m. (tt, record a { held = slice_set a.held h (Some m) })) (cut n a.store (message_at a h))
+
+-- ---- pullupmsg
+
+-- how many bytes are asked for: -1 stands for all of the run, and a number below it for none that there are
+abbrev pub bytes_asked : ℤ → List Block → Option ℕ
+bytes_asked (pos n) run = Some n
+bytes_asked (negsuc zero) run = Some (size_of run)
+bytes_asked (negsuc (suc n)) run = None
+
+-- whether the next n bytes, of which there are some, are all that the block has, or more
+abbrev pub is_used_up : ℕ → Block → Bool
+is_used_up n b = nat_lt 0 n && nat_le b.len n
+
+-- of the blocks behind the first, those that the next n bytes use up
+abbrev pub used_up : ℕ → List Block → List Block
+used_up n [] = []
+used_up n (b ∷ bs) = if is_used_up n b then b ∷ used_up (n - b.len) bs else []
+
+-- and those that stay, of which the first has lost what was left to take
+abbrev pub left_over : ℕ → List Block → List Block
+left_over n [] = []
+left_over n (b ∷ bs) = if is_used_up n b then left_over (n - b.len) bs else record b { offset = b.offset + n; len = b.len - n } ∷ bs
+
+-- the store once d has the first n bytes of the message, and the type of its first block
+abbrev pub pulled_into : ℕ → Message → DataStore → ℕ → DataStore
+pulled_into n [] s d = s
+pulled_into n (b ∷ bs) s d = with_bytes_written d 0 (take n (bytes_of s (b ∷ bs))) (with_kind d (kind_of s b) (with_data_taken d s))
+
+-- the first block names d, which has the first n bytes; its former data loses its name, and then the blocks that
+-- are used up are free
+abbrev pub pulled : ℕ → ℕ → Message → Arena → ℕ → Arena
+pulled h n [] a d = a
+pulled h n (b ∷ bs) a d =
+    let out = used_up (n - b.len) bs in
+    with_blocks_freed out (with_name_dropped b.data_number out (record a {
+      store = pulled_into n (b ∷ bs) a.store d;
+      held = slice_set a.held h (Some (record b { data_number = d; offset = 0; len = n } ∷ left_over (n - b.len) bs));
+    }))
+
+-- n bytes in the first block, which has them already or takes a data block for them
+abbrev pub pull : ℕ → ℕ → Message → Arena → Given Arena (Unit {0})
+pull h n [] a = Err Short
+pull h n (b ∷ bs) a =
+    if nat_lt (size_of (run_of a.store (b ∷ bs))) n then Err Short
+    else (if nat_le n b.len then Ok (tt, a)
+    else answer_map (λ d. (tt, pulled h n (b ∷ bs) a d)) (take_data n a.store))
+
+abbrev pub pull_asked : ℕ → Option ℕ → Message → Arena → Given Arena (Unit {0})
+pull_asked h None m a = Err Short
+pull_asked h (Some n) m a = pull h n m a
+
+abbrev pub pullupmsg : ℕ → ℤ → Arena → Given Arena (Unit {0})
+pullupmsg h n a = pull_asked h (bytes_asked n (run_of a.store (message_at a h))) (message_at a h) a

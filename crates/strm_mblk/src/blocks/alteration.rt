@@ -1,0 +1,68 @@
+//! What a block of a held message says is altered: bytes behind its write place, its type, its band.
+ghost use Rattle.std.specs.Prelude.{◌≡◌, IsTrue};
+ghost use Rattle.strm_mblk.specs.Arena.{has};
+ghost use Rattle.strm_mblk.specs.BlockCalls as model;
+ghost use Rattle.strm_mblk.specs.Given.{after, answer_of};
+
+use super::{Blocks, node_at};
+use crate::token::Token;
+use strm_data::{MsgType, Refusal};
+
+impl Blocks {
+    /// Writes bytes behind the write place of a message's block `place`, counted from 0, and raises the write place.
+    ///
+    /// Refused as `NoSuchBlock` where the message has no such block, then as `Shared` where another message block names
+    /// its data block, then as `NoRoom` where the bytes do not fit; nothing changes then.
+    pub fn write(&mut self, token: &Token, place: u32, bytes: &[u8]) -> Result<(), Refusal>
+        requires { IsTrue (has self.old token.now) }
+        ensures after { self.new ≡ after self.old (model.write token.now.head place bytes.now self.old) }
+        ensures answer { result ≡ answer_of (model.write token.now.head place bytes.now self.old) }
+        ensures had { IsTrue (has self.new token.now) }
+    {
+        let Some(node) = node_at(&self.chains, token.head(), place) else {
+            return Err(Refusal::NoSuchBlock);
+        };
+        let fields = self.blocks[node as usize];
+        if self.data.count(fields.data_number) > 1 {
+            return Err(Refusal::Shared);
+        }
+        let capacity = self.data.cap(fields.data_number);
+        let end = fields.offset + fields.len;
+        if bytes.len() > (capacity - end) as usize {
+            return Err(Refusal::NoRoom);
+        }
+        self.data.write(fields.data_number, end, bytes);
+        self.blocks[node as usize].len = fields.len + bytes.len() as u32;
+        Ok(())
+    }
+
+    /// Gives the data block of a message's block `place`, counted from 0, another type.
+    ///
+    /// Refused as `NoSuchBlock` where the message has no such block, then as `Shared` where another message block names
+    /// the data block; nothing changes then.
+    pub fn settype(&mut self, token: &Token, place: u32, kind: MsgType) -> Result<(), Refusal>
+        requires { IsTrue (has self.old token.now) }
+        ensures after { self.new ≡ after self.old (model.settype token.now.head place kind self.old) }
+        ensures answer { result ≡ answer_of (model.settype token.now.head place kind self.old) }
+        ensures had { IsTrue (has self.new token.now) }
+    {
+        let Some(node) = node_at(&self.chains, token.head(), place) else {
+            return Err(Refusal::NoSuchBlock);
+        };
+        let data_number = self.blocks[node as usize].data_number;
+        if self.data.count(data_number) > 1 {
+            return Err(Refusal::Shared);
+        }
+        self.data.set_kind(data_number, kind);
+        Ok(())
+    }
+
+    /// Gives a message's first block another band.
+    pub fn setband(&mut self, token: &Token, band: u8)
+        requires { IsTrue (has self.old token.now) }
+        ensures after { self.new ≡ model.setband token.now.head band self.old }
+        ensures had { IsTrue (has self.new token.now) }
+    {
+        self.blocks[token.head() as usize].band = band;
+    }
+}

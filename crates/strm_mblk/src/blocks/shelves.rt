@@ -1,0 +1,107 @@
+//! Shelves: lists of messages for the layer above.
+ghost use Rattle.std.specs.Prelude.{◌≡◌, ◌<◌, ℕ, IsSome, IsTrue, None, Some, length, option_map};
+ghost use Rattle.std.specs.Option.{ForSome};
+ghost use Rattle.strm_links.specs.Rows as rows;
+ghost use Rattle.strm_mblk.specs.Arena.{has, held_at, message_at, token_of};
+ghost use Rattle.strm_mblk.specs.Block.{kind_of, size_of};
+ghost use Rattle.strm_mblk.specs.Shelves as model;
+ghost use Rattle.strm_mblk.specs.Shelves.{head_block, heads_at, shelf_of, shelved_message, stands_on};
+
+use super::{BlockNo, Blocks};
+use crate::token::Token;
+use strm_data::MsgType;
+
+impl Blocks {
+    /// The head of the first message on a shelf, or none where the shelf is empty. Nothing changes.
+    pub fn first(&self, shelf: u32) -> Option<BlockNo>
+        requires { shelf < length self.now.shelves }
+        ensures { result ≡ rows.first (heads_at self.now shelf) }
+    {
+        self.chains.first(shelf)
+    }
+
+    /// The head of the last message on a shelf, or none where the shelf is empty. Nothing changes.
+    pub fn last(&self, shelf: u32) -> Option<BlockNo>
+        requires { shelf < length self.now.shelves }
+        ensures { result ≡ rows.last (heads_at self.now shelf) }
+    {
+        self.chains.last(shelf)
+    }
+
+    /// The head of the message behind this one on its shelf, or none where it is the last. Nothing changes.
+    pub fn after(&self, head: BlockNo) -> Option<BlockNo>
+        requires { head < length self.now.held }
+        ensures { (shelf : ℕ) → IsTrue (stands_on self.now shelf head) → result ≡ rows.after head (heads_at self.now shelf) }
+    {
+        self.chains.after(head)
+    }
+
+    /// The head of the message before this one on its shelf, or none where it is the first. Nothing changes.
+    pub fn before(&self, head: BlockNo) -> Option<BlockNo>
+        requires { head < length self.now.held }
+        ensures { (shelf : ℕ) → IsTrue (stands_on self.now shelf head) → result ≡ rows.before head (heads_at self.now shelf) }
+    {
+        self.chains.before(head)
+    }
+
+    /// Puts a message on a shelf, before the one with the head that is given, which stands there, or last. Takes
+    /// constant time.
+    pub fn shelve(&mut self, shelf: u32, before: Option<BlockNo>, token: Token)
+        requires shelf { shelf < length self.old.shelves }
+        requires had { IsTrue (has self.old token) }
+        requires before { ForSome before (λ at. IsTrue (stands_on self.old shelf at)) }
+        ensures after { self.new ≡ model.shelve shelf before token.head self.old }
+    {
+        let head = token.spend().head;
+        self.queued += self.chains.len(head);
+        self.chains.shelve(shelf, before, head);
+    }
+
+    /// Takes the message with this head off the shelf that it stands on, and holds it. Takes constant time.
+    pub fn unshelve(&mut self, shelf: u32, head: BlockNo) -> Token
+        requires shelf { shelf < length self.old.shelves }
+        requires there { IsTrue (stands_on self.old shelf head) }
+        ensures after { self.new ≡ model.unshelve shelf head self.old }
+        ensures token { result ≡ token_of self.new head }
+        // The token is one of these blocks, and no held message had its head.
+        ensures had { IsTrue (has self.new result) }
+        ensures unheld { held_at self.old head ≡ None }
+    {
+        self.chains.unshelve(shelf, head);
+        self.queued -= self.chains.len(head);
+        self.token(head)
+    }
+
+    /// The type of the first block of a message on a shelf. Nothing changes.
+    pub fn head_kind(&self, head: BlockNo) -> MsgType
+        requires { IsSome (shelf_of self.now head) }
+        ensures { option_map (kind_of self.now.store) (head_block self.now head) ≡ Some result }
+    {
+        self.data.kind(self.blocks[head as usize].data_number)
+    }
+
+    /// The band of the first block of a message on a shelf. Nothing changes.
+    pub fn head_band(&self, head: BlockNo) -> u8
+        requires { IsSome (shelf_of self.now head) }
+        ensures { option_map (λ b. b.band) (head_block self.now head) ≡ Some result }
+    {
+        self.blocks[head as usize].band
+    }
+
+    /// How many bytes a message on a shelf has. Takes as many steps as it has blocks. Nothing changes.
+    pub fn head_size(&self, head: BlockNo) -> u32
+        requires { IsSome (shelf_of self.now head) }
+        ensures { result ≡ size_of (shelved_message self.now head) }
+    {
+        let mut size = 0;
+        let mut at = Some(head);
+        for _block in 0..self.queued {
+            let Some(node) = at else {
+                return size;
+            };
+            size += self.blocks[node as usize].len;
+            at = self.chains.next(node);
+        }
+        size
+    }
+}

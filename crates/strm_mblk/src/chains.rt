@@ -1,0 +1,267 @@
+//! Messages as chains of message blocks, linked by number, and which of the message blocks are free.
+ghost use Rattle.std.specs.Prelude.{◌≡◌, ◌≢◌, ℕ, ◌+◌, ◌<◌, ◌++◌, IfOk, IfSome, IsSome, IsTrue, None, Some, [], ◌∷◌, is_some, length, reverse, slice_get, slice_index_or, slice_set};
+ghost use Rattle.std.specs.Option.{ForSome};
+ghost use Rattle.strm_links.specs.Rows.{after, before, first, has, holder, last, list_at, without};
+ghost use Rattle.strm_mblk.specs.ChainLayout.{put_in};
+ghost use Rattle.strm_mblk.specs.Messages.{divided, held_in, joined, placed, shelf_in, with_head, without_head};
+ghost use Rattle.strm_mblk.specs.NodeLists.{IsNodesParted, after_begin, head_node, heads_on, nodes_at, opening_nodes, shelved_nodes};
+
+use std::alloc::{AllocError, Global};
+use std::marker::Model;
+use strm_links::Links;
+
+// A fixed number of message blocks, each of which is free or stands in one message. A message is held, or stands on
+// one shelf, and is named by the number of its first block, its head. Only `new` takes memory.
+//
+// Each call that changes a list ends with the law `parts_nodes` of that arena, which does nothing.
+#[derive(Debug, Drop)]
+pub(crate) struct Chains {
+    // List h is the chain of the message with head h. The last list is that of the free message blocks.
+    chains: Links,
+    // List s has the heads of the messages on shelf s. The last list has those of the held messages.
+    heads: Links,
+    nodes: u32,
+    shelves: u32,
+}
+
+impl Model for Chains {
+    ghost use Rattle.strm_mblk.specs.NodeLists.{NodeLists};
+
+    ghost Value = { NodeLists };
+
+    ghost use Rattle.strm_mblk.specs.ChainLayout.{IsSound, nodes_of};
+
+    ghost view = { λ a. nodes_of a.nodes a.shelves a.chains a.heads };
+
+    ghost invariant = { IsSound };
+}
+
+// Puts a free node into a list, before one that stands there, or at the back where none is given.
+fn place(heads: &mut Links, list: u32, before: Option<u32>, node: u32)
+    requires list { list < length heads.old.lists }
+    requires node { node < heads.old.nodes }
+    requires free { holder node heads.old ≡ None }
+    requires before { ForSome before (λ at. holder at heads.old ≡ Some list) }
+    ensures lists { heads.new ≡ record heads.old { lists = slice_set heads.old.lists list (put_in before node (list_at list heads.old)) } }
+    ensures held { holder node heads.new ≡ Some list }
+    ensures others { (k : ℕ) → k ≢ node → holder k heads.new ≡ holder k heads.old }
+{
+    heads.parts_nodes();
+    match before {
+        Some(at) => heads.insert_before(at, node),
+        None => heads.push_back(list, node),
+    }
+}
+
+// Takes the nodes of a list out, first to last, and puts each to the front of another list.
+fn pour(chains: &mut Links, from: u32, to: u32)
+    requires from { from < length chains.old.lists }
+    requires to { to < length chains.old.lists }
+    requires other { from ≢ to }
+    ensures emptied { list_at from chains.new ≡ [] }
+    ensures poured { list_at to chains.new ≡ reverse (list_at from chains.old) ++ list_at to chains.old }
+    ensures others { (l : ℕ) → l ≢ from → l ≢ to → list_at l chains.new ≡ list_at l chains.old }
+    ensures linked { (k : ℕ) → IsSome (holder k chains.old) → IsSome (holder k chains.new) }
+    ensures nodes { chains.new.nodes ≡ chains.old.nodes }
+    ensures lists { length chains.new.lists ≡ length chains.old.lists }
+{
+    while let Some(node) = chains.front(from) {
+        chains.parts_nodes();
+        chains.remove(node);
+        chains.push_front(to, node);
+    }
+}
+
+impl Chains {
+    // So many free message blocks, in rising order, and so many empty shelves.
+    pub(crate) fn new(alloc: Global, nodes: u32, shelves: u32) -> Result<Chains, AllocError>
+        requires few_nodes { nodes < 4096 }
+        requires few_shelves { shelves < 4096 }
+        ensures opened { IfOk result (λ v. v ≡ opening_nodes nodes shelves) }
+        ensures parted { IfOk result IsNodesParted }
+    {
+        let mut chains = Links::new(alloc, nodes, nodes + 1)?;
+        for node in 0..nodes {
+            chains.push_back(nodes, node);
+        }
+        let heads = Links::new(alloc, nodes, shelves + 1)?;
+        chains.parts_nodes();
+        heads.parts_nodes();
+        Ok(Chains {
+            chains,
+            heads,
+            nodes,
+            shelves,
+        })
+    }
+
+    // How many message blocks are free.
+    pub(crate) fn free_len(&self) -> u32
+        ensures { result ≡ length self.now.free }
+    {
+        self.chains.len(self.nodes)
+    }
+
+    // Whether a held message begins with this message block.
+    pub(crate) fn is_held(&self, head: u32) -> bool
+        requires { head < length self.now.held }
+        ensures { result ≡ is_some (held_in self.now.held head) }
+    {
+        self.heads.list_of(head) == Some(self.shelves)
+    }
+
+    // How many blocks a held message has.
+    pub(crate) fn len(&self, head: u32) -> u32
+        requires { IsSome (held_in self.now.held head) }
+        ensures { result ≡ length (nodes_at self.now head) }
+    {
+        self.chains.len(head)
+    }
+
+    // The message block behind this one in its message, if there is one.
+    pub(crate) fn next(&self, node: u32) -> Option<u32>
+        requires { node < length self.now.held }
+        ensures held { (h i : ℕ) → slice_get (nodes_at self.now h) i ≡ Some node → result ≡ slice_get (nodes_at self.now h) (i + 1) }
+        ensures shelved { (s k i : ℕ) → slice_get (shelved_nodes self.now s k) i ≡ Some node → result ≡ slice_get (shelved_nodes self.now s k) (i + 1) }
+        ensures in_range { IfSome result (λ n. n < length self.now.held) }
+    {
+        self.chains.next(node)
+    }
+
+    // Makes the first free message block a held message, if one is free.
+    pub(crate) fn begin(&mut self) -> Option<u32>
+        ensures answer { result ≡ first self.old.free }
+        ensures after { self.new ≡ after_begin self.old self.old.free }
+        ensures parted { IsNodesParted self.new }
+    {
+        let first = self.chains.front(self.nodes)?;
+        self.chains.remove(first);
+        self.chains.push_back(first, first);
+        self.heads.push_back(self.shelves, first);
+        self.chains.parts_nodes();
+        self.heads.parts_nodes();
+        Some(first)
+    }
+
+    // Puts the held message `tail` behind another held message; takes as many steps as `tail` has blocks.
+    pub(crate) fn join(&mut self, head: u32, tail: u32)
+        requires head { IsSome (held_in self.old.held head) }
+        requires tail { IsSome (held_in self.old.held tail) }
+        requires others { head ≢ tail }
+        ensures after { self.new ≡ record self.old { held = joined head tail self.old.held } }
+        ensures parted { IsNodesParted self.new }
+    {
+        self.heads.remove(tail);
+        self.chains.append(head, tail);
+        self.chains.parts_nodes();
+        self.heads.parts_nodes();
+    }
+
+    // Leaves only the first block in a held message: the others are a held message, if there are any, and it is
+    // named. Takes as many steps as there are.
+    pub(crate) fn divide(&mut self, head: u32) -> Option<u32>
+        requires { IsSome (held_in self.old.held head) }
+        ensures answer { result ≡ slice_get (nodes_at self.old head) 1 }
+        ensures after { self.new ≡ record self.old { held = divided (λ n. n) head (nodes_at self.old head) self.old.held } }
+        ensures parted { IsNodesParted self.new }
+    {
+        let rest = self.chains.next(head)?;
+        self.chains.remove(head);
+        self.chains.append(rest, head);
+        self.chains.push_back(head, head);
+        self.heads.push_back(self.shelves, rest);
+        self.chains.parts_nodes();
+        self.heads.parts_nodes();
+        Some(rest)
+    }
+
+    // Takes a block that isn't the first out of a held message, and makes it a held message.
+    pub(crate) fn take_out(&mut self, head: u32, node: u32)
+        requires held { IsSome (held_in self.old.held head) }
+        requires there { IsTrue (has node (nodes_at self.old head)) }
+        requires behind { node ≢ head }
+        ensures after { self.new ≡ record self.old { held = slice_set (slice_set self.old.held head (Some (without node (nodes_at self.old head)))) node (Some (node ∷ [])) } }
+        ensures parted { IsNodesParted self.new }
+    {
+        self.chains.remove(node);
+        self.chains.push_back(node, node);
+        self.heads.push_back(self.shelves, node);
+        self.chains.parts_nodes();
+        self.heads.parts_nodes();
+    }
+
+    // Frees the blocks of a held message, first to last, each to the front of the free ones.
+    pub(crate) fn free(&mut self, head: u32)
+        requires { IsSome (held_in self.old.held head) }
+        ensures after { self.new ≡ record self.old { free = reverse (nodes_at self.old head) ++ self.old.free; held = slice_set self.old.held head None } }
+        ensures parted { IsNodesParted self.new }
+    {
+        self.heads.remove(head);
+        pour(&mut self.chains, head, self.nodes);
+        self.chains.parts_nodes();
+        self.heads.parts_nodes();
+    }
+
+    // The head of the first message on a shelf, if there is one.
+    pub(crate) fn first(&self, shelf: u32) -> Option<u32>
+        requires { shelf < length self.now.shelves }
+        ensures { result ≡ first (heads_on self.now shelf) }
+    {
+        self.heads.front(shelf)
+    }
+
+    // The head of the last message on a shelf, if there is one.
+    pub(crate) fn last(&self, shelf: u32) -> Option<u32>
+        requires { shelf < length self.now.shelves }
+        ensures { result ≡ last (heads_on self.now shelf) }
+    {
+        self.heads.back(shelf)
+    }
+
+    // The head of the message behind this one on its shelf, if there is one.
+    pub(crate) fn after(&self, head: u32) -> Option<u32>
+        requires { head < length self.now.held }
+        ensures { (s : ℕ) → IsTrue (has head (heads_on self.now s)) → result ≡ after head (heads_on self.now s) }
+    {
+        self.heads.next(head)
+    }
+
+    // The head of the message before this one on its shelf, if there is one.
+    pub(crate) fn before(&self, head: u32) -> Option<u32>
+        requires { head < length self.now.held }
+        ensures { (s : ℕ) → IsTrue (has head (heads_on self.now s)) → result ≡ before head (heads_on self.now s) }
+    {
+        self.heads.prev(head)
+    }
+
+    // Puts a held message on a shelf, before one that stands there, or last where none is given.
+    pub(crate) fn shelve(&mut self, shelf: u32, before: Option<u32>, head: u32)
+        requires shelf { shelf < length self.old.shelves }
+        requires held { IsSome (held_in self.old.held head) }
+        requires before { ForSome before (λ at. IsTrue (has at (heads_on self.old shelf))) }
+        ensures after { self.new ≡ record self.old {
+          held = slice_set self.old.held head None;
+          shelves = slice_set self.old.shelves shelf (placed head_node before (nodes_at self.old head) (shelf_in self.old.shelves shelf));
+        } }
+        ensures parted { IsNodesParted self.new }
+    {
+        self.heads.remove(head);
+        place(&mut self.heads, shelf, before, head);
+        self.heads.parts_nodes();
+    }
+
+    // Takes a message off the shelf that it stands on, and holds it.
+    pub(crate) fn unshelve(&mut self, shelf: u32, head: u32)
+        requires shelf { shelf < length self.old.shelves }
+        requires there { IsTrue (has head (heads_on self.old shelf)) }
+        ensures after { self.new ≡ record self.old {
+          held = slice_set self.old.held head (with_head head_node head (shelf_in self.old.shelves shelf));
+          shelves = slice_set self.old.shelves shelf (without_head head_node head (shelf_in self.old.shelves shelf));
+        } }
+        ensures parted { IsNodesParted self.new }
+    {
+        self.heads.remove(head);
+        self.heads.push_back(self.shelves, head);
+        self.heads.parts_nodes();
+    }
+}

@@ -1,0 +1,18 @@
+//! Message blocks over counted data blocks, and the messages that they make: held as tokens, or standing on shelves.
+#![tactic(auto)]
+
+mod block_info;
+mod blocks;
+mod census;
+mod chains;
+mod rejected;
+mod token;
+
+pub use block_info::BlockInfo;
+pub use blocks::{BlockNo, Blocks};
+pub use census::Census;
+pub use rejected::Rejected;
+pub use token::{Token, TokenValue};
+
+#[cfg(test)]
+mod tests;
