@@ -1,6 +1,6 @@
 -- Counts over all blocks of an arena, and what they become when a message goes somewhere else.
 use Rattle.std.proofs.Common.{◌≡◌, ℕ, zero, suc, ◌+◌, ◌<◌, Bool, cond, eqb, List, [], ◌∷◌, ◌++◌, map, length, get_or, set, Option, None, refl, sym, ap, ◌∙◌, arith, length-append}
-use Rattle.std.specs.Prelude.{count_by}
+use Rattle.std.specs.Prelude.{count_by, sum_by}
 use Rattle.std.specs.List.{flat_map}
 use Rattle.std.proofs.lemmas.List.Sums.{sum_by-append}
 use Rattle.strm_data.specs.DataStore.{times}
@@ -15,6 +15,9 @@ pub record IsAdditive {X : Type 0} (m : List X → ℕ) : Type 0 where
 
 pub length_adds : {X : Type 0} → IsAdditive (length {A = X})
 length_adds = record { none = refl; both = length-append }
+
+pub sum_adds : {X : Type 0} (f : X → ℕ) → IsAdditive (sum_by f)
+sum_adds f = record { none = refl; both = sum_by-append f }
 
 pub count_adds : {X : Type 0} (p : X → Bool) → IsAdditive (count_by p)
 count_adds p = record { none = refl; both = λ xs ys. sum_by-append (λ x. cond (p x) 1 0) xs ys }

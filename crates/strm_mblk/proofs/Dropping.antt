@@ -1,6 +1,6 @@
 -- Names that blocks taken out of all messages had are dropped, one after the other.
 use Rattle.std.proofs.Common.{◌≡◌, ℕ, zero, suc, ◌+◌, ◌-◌, ◌<◌, ◌≤◌, ◌==◌, Bool, true, false, eqb, List, [], ◌∷◌, ◌++◌, length, Option, Some, refl, sym, ap, ◌∙◌, inl, inr, arith, if◌then◌else◌}
-use Rattle.std.specs.Prelude.{count_by, drop, reverse, slice_get, option_map}
+use Rattle.std.specs.Prelude.{count_by, drop, reverse, slice_get, option_map, take}
 use Rattle.std.proofs.lemmas.Bool.{cases_eq, cases_lt, eq-eqb, ne_eqb}
 use Rattle.std.proofs.lemmas.Bool.Decides.{eqb_tells}
 use Rattle.std.proofs.lemmas.List.{append_assoc, get_or_past, reverse-append}
@@ -19,7 +19,7 @@ use Rattle.strm_mblk.proofs.Rooms.{HasRooms, count_of-set}
 use Rattle.strm_mblk.proofs.Shown.{slice_get-mapped}
 
 -- what is left of a list from one place on begins with what stands there
-pub drop_more : (ds : List ℕ) (i d : ℕ) → slice_get ds i ≡ Some d → drop i ds ≡ d ∷ drop (i + 1) ds
+pub drop_more : {X : Type 0} (ds : List X) (i : ℕ) (d : X) → slice_get ds i ≡ Some d → drop i ds ≡ d ∷ drop (i + 1) ds
 drop_more [] i d is = absurd (none-some d is)
 drop_more (x ∷ ds) zero d is = ap (λ y. y ∷ ds) (same_Some x d is)
 drop_more (x ∷ ds) (suc i) d is =
@@ -30,8 +30,15 @@ drop_more (x ∷ ds) (suc i) d is =
 pub named-get : (fields : List Fields) (ns : List ℕ) (i n : ℕ) → slice_get ns i ≡ Some n → slice_get (named_by fields ns) i ≡ Some (fields_at fields n).data_number
 named-get fields ns i n is = slice_get-mapped (λ k. (fields_at fields k).data_number) ns i ∙ ap (option_map (λ k. (fields_at fields k).data_number)) is
 
+-- the first of them, beside others
+pub slice_get-take : {X : Type 0} (n i : ℕ) (xs : List X) → i < n → slice_get (take n xs) i ≡ slice_get xs i
+slice_get-take zero i xs inside = absurd (omega (arith, inside))
+slice_get-take (suc n) i [] inside = refl
+slice_get-take (suc n) zero (x ∷ xs) inside = refl
+slice_get-take (suc n) (suc i) (x ∷ xs) inside = slice_get-take n i xs (omega (arith, inside))
+
 -- a data block that has a name has a count
-counted_there : (s : CountedStore) (d : ℕ) → 0 < count_of s d → d < length s.counts
+pub counted_there : (s : CountedStore) (d : ℕ) → 0 < count_of s d → d < length s.counts
 counted_there s d used = elim (cases_lt d (length s.counts)) [ inl there ↦ there | inr past ↦ absurd (omega (arith, used, get_or_past s.counts d 0 past)) ]
 
 -- the counts once d has a name less
@@ -87,7 +94,7 @@ naming-named fields d ns =
     count_by-map (is_naming d) (block_at fields) ns ∙ sym (count_by-map (λ x. x == d) (λ n. (fields_at fields n).data_number) ns)
 
 -- none is left after one of two where one was all
-last_one : (x y : ℕ) → y ≡ suc x → (x == 0) ≡ (y == 1)
+pub last_one : (x y : ℕ) → y ≡ suc x → (x == 0) ≡ (y == 1)
 last_one x y is =
     elim (cases_eq x 0) [
       | inl none ↦ eq-eqb x 0 none ∙ sym (eq-eqb y 1 (omega (arith, is, none)))

@@ -1,6 +1,8 @@
 -- `freemsg`: the blocks of a held message are free, and their names are dropped.
 use Rattle.std.proofs.Common.{◌≡◌, ℕ, ◌+◌, ◌≤◌, Bool, true, if◌then◌else◌, List, ◌++◌, map, length, set, Some, None, sym, ap, ◌∙◌, subst, arith, length-set}
 use Rattle.std.specs.Prelude.{option_map, reverse, slice_get}
+use Rattle.std.proofs.Math.Seq.{take-length}
+use Rattle.std.specs.Prelude.{take}
 use Rattle.std.proofs.lemmas.List.{length-map, map-set}
 use Rattle.strm_data.specs.CountedStore.{CountedStore, IsKept, count_of}
 use Rattle.strm_data.specs.DataStore.{times}
@@ -36,6 +38,15 @@ pub token_held : (id : ℕ) (s : CountedStore) (fields : List Fields) (v : NodeL
     → held_in v.held u.head ≡ Some (nodes_at v u.head)
 token_held id s fields v a is t u same had =
     (token_nodes id s fields v u (subst (λ x. has x u ≡ true) (sym is) (ap (has a) same ∙ had))).0
+
+-- and its names are those of as many blocks as it tells
+pub token_named : (id : ℕ) (s : CountedStore) (fields : List Fields) (v : NodeLists) (a : Arena) → arena_of id s.store fields v ≡ a → (t u : TokenValue) → u ≡ t → has a t ≡ true
+    → take u.blocks (named_by fields (nodes_at v u.head)) ≡ named_by fields (nodes_at v u.head)
+token_named id s fields v a is t u same had =
+    let ns = nodes_at v u.head in
+    ap (λ k. take k (named_by fields ns))
+    ((token_nodes id s fields v u (subst (λ x. has x u ≡ true) (sym is) (ap (has a) same ∙ had))).1 ∙ sym (length-map ns (λ k. (fields_at fields k).data_number)))
+    ∙ take-length (named_by fields ns)
 
 -- a token that is had is spent on its message
 pub spent_had : (a : Arena) (t u : TokenValue) → u ≡ t → has a t ≡ true → freemsg u.head a ≡ spent a t

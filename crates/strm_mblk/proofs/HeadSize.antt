@@ -1,15 +1,15 @@
 -- The bytes of a message on a shelf, summed block by block.
-use Rattle.std.proofs.Common.{◌≡◌, ℕ, zero, suc, ◌+◌, ◌*◌, ◌≤◌, true, List, [], ◌∷◌, length, drop, get_or, Option, Some, None, refl, sym, ap, ◌∙◌, inl, inr, arith, length-append}
+use Rattle.std.proofs.Common.{◌≡◌, ℕ, zero, suc, ◌*◌, ◌≤◌, true, List, [], ◌∷◌, length, get_or, Option, Some, None, refl, sym, ap, ◌∙◌, inl, inr, arith, length-append}
 use Rattle.std.specs.Prelude.{is_some, option_map, slice_get}
 use Rattle.std.specs.List.{flat_map}
 use Rattle.std.proofs.lemmas.Bool.{cases_lt}
 use Rattle.std.proofs.lemmas.List.{get_or_past, length-map}
 use Rattle.std.proofs.lemmas.List.Sums.{sum_by-append}
-use Rattle.std.proofs.lemmas.Option.{none-some, same_Some}
+use Rattle.std.proofs.lemmas.Option.{none-some}
 use Rattle.strm_data.specs.CountedStore.{CountedStore}
 use Rattle.strm_mblk.specs.declared.blocks.Fields.{Fields}
 use Rattle.strm_mblk.specs.Arena.{Arena, shelved_blocks}
-use Rattle.strm_mblk.specs.Block.{Block, Message, size_of}
+use Rattle.strm_mblk.specs.Block.{Block, size_of}
 use Rattle.strm_mblk.specs.BlocksLayout.{IsFilled, arena_of, block_at, fields_at, message_of, no_fields}
 use Rattle.strm_mblk.specs.Messages.{blocks_on, shelf_in}
 use Rattle.strm_mblk.specs.NodeLists.{NodeLists, shelved_nodes}
@@ -20,25 +20,10 @@ use Rattle.strm_mblk.proofs.Shelving.{IsHead, is_head}
 use Rattle.strm_mblk.proofs.Shown.{shelved-seen, slice_get-mapped}
 
 -- the number of the block at a place of a message
-numbers-get : (fields : List Fields) (ns : List ℕ) (k : ℕ) → option_map (λ (b : Block). b.number) (slice_get (message_of fields ns) k) ≡ slice_get ns k
+pub numbers-get : (fields : List Fields) (ns : List ℕ) (k : ℕ) → option_map (λ (b : Block). b.number) (slice_get (message_of fields ns) k) ≡ slice_get ns k
 numbers-get fields [] k = refl
 numbers-get fields (n ∷ ns) zero = refl
 numbers-get fields (n ∷ ns) (suc k) = numbers-get fields ns k
-
--- the bytes from a block on are its own and those behind it
-pub size_from : (m : Message) (k : ℕ) (b : Block) → slice_get m k ≡ Some b → size_of (drop k m) ≡ b.len + size_of (drop (suc k) m)
-size_from [] k b is = absurd (none-some b is)
-size_from (x ∷ m) zero b is =
-    let sum : size_of (x ∷ m) ≡ b.len + size_of m = omega (arith, sum_by-append (λ (c : Block). c.len) (x ∷ []) m, ap (λ (c : Block). c.len) (same_Some x b is)) in
-    sum
-size_from (x ∷ m) (suc k) b is = size_from m k b is
-
--- behind the last block there are none
-pub size_past : (m : Message) (k : ℕ) → slice_get m k ≡ None → size_of (drop k m) ≡ 0
-size_past [] zero none = refl
-size_past [] (suc k) none = refl
-size_past (x ∷ m) zero none = absurd (none-some x (sym none))
-size_past (x ∷ m) (suc k) none = size_past m k none
 
 -- where no number stands, no block does
 pub none_there : (o : Option Block) → option_map (λ (b : Block). b.number) o ≡ None → o ≡ None

@@ -1,23 +1,24 @@
 -- What holds of all message blocks, whatever calls made them so.
-use Rattle.std.proofs.Common.{◌≡◌, ℕ, ◌+◌, ◌<◌, ◌&&◌, ◌==◌, List, [], ◌∷◌, ◌++◌, length, get_or, Option, Some, None, sym, ap, ◌∙◌, subst, inl, inr, arith, if◌then◌else◌}
+use Rattle.std.proofs.Common.{◌≡◌, ℕ, ◌+◌, ◌<◌, ◌&&◌, ◌==◌, List, [], ◌∷◌, ◌++◌, length, map, get_or, Option, Some, None, sym, ap, ◌∙◌, subst, inl, inr, arith, if◌then◌else◌}
 use Rattle.std.specs.Prelude.{nat_lt, option_map}
-use Rattle.std.specs.List.{All}
+use Rattle.std.specs.List.{All, range_with_len}
+use Rattle.std.proofs.lemmas.List.FromFn.{get_or-map-range_with_len, length-map-range_with_len}
 use Rattle.std.specs.Option.{IfSome}
 use Rattle.std.proofs.lemmas.Bool.{cases_lt}
-use Rattle.std.proofs.lemmas.List.{get_or_past, length-map}
+use Rattle.std.proofs.lemmas.List.{ext_get_or, get_or_past, length-map}
 use Rattle.std.proofs.lemmas.List.Elements.{All-map}
 use Rattle.std.proofs.lemmas.Option.{same_Some}
 use Rattle.strm_links.specs.Rows.{first}
-use Rattle.strm_data.specs.CountedStore.{CountedStore, count_of}
+use Rattle.strm_data.specs.CountedStore.{CountedStore, IsKept, count_of}
 use Rattle.strm_data.specs.DataStore.{class_of, times}
 use Rattle.strm_mblk.specs.declared.blocks.Fields.{Fields}
-use Rattle.strm_mblk.specs.Arena.{IsParted, held_blocks, shelved_blocks}
+use Rattle.strm_mblk.specs.Arena.{IsParted, IsWithin, blocks_in, counted_in, held_blocks, names_of, shelved_blocks}
 use Rattle.strm_mblk.specs.Block.{head_of}
-use Rattle.strm_mblk.specs.BlocksLayout.{IsFilled, arena_of, block_at, message_of}
+use Rattle.strm_mblk.specs.BlocksLayout.{IsFilled, arena_of, block_at, message_of, no_fields}
 use Rattle.strm_mblk.specs.Messages.{held_in, shelf_in}
 use Rattle.strm_mblk.specs.NodeLists.{NodeLists}
 use Rattle.strm_mblk.proofs.Moves.{IsCounted, makes_arena}
-use Rattle.strm_mblk.proofs.Shown.{held_at-seen, numbers-seen, shelf_at-seen}
+use Rattle.strm_mblk.proofs.Shown.{blocks_in-seen, held_at-seen, nodes_in, numbers-seen, shelf_at-seen}
 
 -- a message that begins with h
 head-seen : (fields : List Fields) (o : Option (List ℕ)) (h : ℕ) → IfSome o (λ m. first m ≡ Some h)
@@ -66,3 +67,29 @@ module _ (id : ℕ) (s : CountedStore) (fields : List Fields) (v : NodeLists) (f
   -- the blocks on shelves, and those of held messages
   pub all_there : length v.free + length (shelved_blocks (arena_of id s.store fields v)) + length (held_blocks (arena_of id s.store fields v)) ≡ length fields
   all_there = omega (arith, law_whole, length-map v.held (option_map (message_of fields)), filled.listed)
+
+  -- the stored counts are the names
+  pub law_kept : IsKept (counted_in (arena_of id s.store fields v))
+  law_kept =
+      let a = arena_of id s.store fields v in
+      let many = length-map-range_with_len (names_of a) 0 (length s.store.blocks) in
+      let same : s.counts ≡ map (names_of a) (range_with_len 0 (length s.store.blocks)) =
+      ext_get_or 0 s.counts (map (names_of a) (range_with_len 0 (length s.store.blocks))) (filled.kept.counted ∙ sym many)
+      (λ d within. filled.counts d ∙ sym (get_or-map-range_with_len (names_of a) 0 (length s.store.blocks) d d 0 (omega (arith, within, filled.kept.counted)) (omega arith))) in
+      subst (λ (ns : List ℕ). IsKept (record { store = s.store; counts = ns })) same filled.kept
+
+  -- each block lies in its data block, and a number that is none says nothing
+  fields_within : (n : ℕ) → IsWithin s.store (block_at fields n)
+  fields_within n =
+      elim (cases_lt n (length fields)) [
+        | inl there ↦ (filled.placed n there).within
+        | inr past ↦ omega (arith, ap (λ (f : Fields). f.offset + f.len) (get_or_past fields n no_fields past))
+      ]
+
+  pub law_within : All (IsWithin s.store) (blocks_in (arena_of id s.store fields v))
+  law_within =
+      subst (All (IsWithin s.store)) (sym (blocks_in-seen id s.store fields v))
+      (All-map (IsWithin s.store) (block_at fields) (nodes_in v) (λ k d within. fields_within (get_or (nodes_in v) k d)))
+
+  pub law_few : length (arena_of id s.store fields v).held < 4096
+  law_few = omega (arith, filled.few, length-map v.held (option_map (message_of fields)))

@@ -1,16 +1,27 @@
 -- The blocks of a held message by their place, as the code finds them.
-use Rattle.std.proofs.Common.{◌≡◌, ℕ, ◌<◌, true, List, length, Some, None, sym, ap, ◌∙◌}
+use Rattle.std.proofs.Common.{◌≡◌, ℕ, ◌<◌, true, List, length, Some, None, sym, ap, ◌∙◌, inl, inr}
 use Rattle.std.specs.Prelude.{option_map, slice_get}
+use Rattle.std.proofs.lemmas.Bool.{cases_lt}
+use Rattle.std.proofs.lemmas.List.{get_or_past}
+use Rattle.std.proofs.lemmas.Option.{none-some}
 use Rattle.strm_data.specs.CountedStore.{CountedStore, count_of}
 use Rattle.strm_mblk.specs.declared.blocks.Fields.{Fields}
 use Rattle.strm_mblk.specs.declared.token.TokenValue.{TokenValue}
 use Rattle.strm_mblk.specs.Arena.{Arena, has, message_at, names_of}
 use Rattle.strm_mblk.specs.BlocksLayout.{IsFilled, IsPlaced, arena_of, block_at, fields_at, message_of}
-use Rattle.strm_mblk.specs.Messages.{held_in}
+use Rattle.strm_mblk.specs.Messages.{blocks_of, held_in}
 use Rattle.strm_mblk.specs.NodeLists.{NodeLists, nodes_at}
 use Rattle.strm_mblk.proofs.Rewriting.{held_nodes, node_room}
 use Rattle.strm_mblk.proofs.Shown.{message_at-seen, slice_get-mapped}
 use Rattle.strm_mblk.proofs.Tokens.{had_message}
+
+-- where a message stands there is a place for it
+pub nodes_room : (v : NodeLists) (h n : ℕ) → slice_get (nodes_at v h) 0 ≡ Some n → h < length v.held
+nodes_room v h n is =
+    elim (cases_lt h (length v.held)) [
+      | inl within ↦ within
+      | inr past ↦ absurd (none-some n (sym (ap (λ o. slice_get (blocks_of o) 0) (get_or_past v.held h None past)) ∙ is))
+    ]
 
 -- block n stands at place k of the message that a token names
 pub record IsAt (s : CountedStore) (fields : List Fields) (v : NodeLists) (a : Arena) (h k n : ℕ) (ns : List ℕ) : Type 0 where

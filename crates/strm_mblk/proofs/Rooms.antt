@@ -38,6 +38,10 @@ rooms-taken s d =
 pub rooms-kind : (s : DataStore) (d : ℕ) (kind : MsgType) → HasRooms s (with_kind d kind s)
 rooms-kind s d kind = rooms-set s d (record (data_block_at s d) { kind = kind }) refl
 
+-- so it is where a store changes twice
+pub rooms-both : {s t u : DataStore} → HasRooms s t → HasRooms t u → HasRooms s u
+rooms-both first second = record { many = second.many ∙ first.many; room = λ k. second.room k ∙ first.room k }
+
 -- places stay in their capacity
 pub placed-over : (s t : DataStore) (f : Fields) → HasRooms s t → IsPlaced s f → IsPlaced t f
 placed-over s t f rooms placed = record {

@@ -20,7 +20,7 @@ use Rattle.strm_mblk.specs.BlocksLayout.{IsFilled, arena_of, block_at, message_o
 use Rattle.strm_mblk.specs.Given.{Given, answer_map, answer_of, or_rejected}
 use Rattle.strm_mblk.specs.Messages.{blocks_of, held_in}
 use Rattle.strm_mblk.specs.NodeLists.{IsNodesParted, NodeLists, nodes_at}
-use Rattle.strm_mblk.proofs.Allocb.{first_rest}
+use Rattle.strm_mblk.proofs.Begun.{first_rest}
 use Rattle.strm_mblk.proofs.Freemsg.{token_held}
 use Rattle.strm_mblk.proofs.Linked.{beside, block_room, held_room, moved_filled, not_begun, not_head}
 use Rattle.strm_mblk.proofs.Moved.{first-without_other}

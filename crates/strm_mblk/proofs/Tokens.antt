@@ -1,6 +1,7 @@
 -- Tokens of held messages, and what a call leaves and answers.
-use Rattle.std.proofs.Common.{◌≡◌, ℕ, ◌==◌, true, length, Option, Some, None, Ok, Err, refl, sym, ap, ◌∙◌, subst}
-use Rattle.std.proofs.lemmas.Bool.{and_from, eq-eqb, eqb-true, and_parts}
+use Rattle.std.proofs.Common.{◌≡◌, ℕ, ◌==◌, true, List, length, Option, Some, None, Ok, Err, refl, sym, ap, ◌∙◌, subst}
+use Rattle.std.specs.Option.{IsSome}
+use Rattle.std.proofs.lemmas.Bool.{and_from, eq-eqb, eqb-true, and_parts, false≢true}
 use Rattle.strm_data.specs.declared.refusal.Refusal.{Refusal}
 use Rattle.strm_mblk.specs.declared.token.TokenValue.{TokenValue}
 use Rattle.strm_mblk.specs.Arena.{Arena, has, held_at, is_of_length, token_of}
@@ -13,6 +14,11 @@ pub token_had : (a : Arena) (h : ℕ) (m : Message) → held_at a h ≡ Some m �
 token_had a h m is =
     and_from _ _ (eq-eqb a.id a.id refl)
     (ap (λ o. is_of_length (length (blocks_of o)) o) is ∙ eq-eqb (length m) (length m) refl)
+
+-- a message that is held is its blocks
+pub held_is : {X : Type 0} (o : Option (List X)) → IsSome o → o ≡ Some (blocks_of o)
+held_is None none = absurd (false≢true none)
+held_is (Some m) _ = refl
 
 -- what a token that is had says
 pub record IsHad (a : Arena) (t : TokenValue) (m : Message) : Type 0 where

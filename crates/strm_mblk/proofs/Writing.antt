@@ -23,7 +23,7 @@ length-overwritten : (at : ℕ) (new old : List ℕ) → at + length new ≤ len
 length-overwritten at new old within =
     omega (arith, within, length-append (take at old) (new ++ drop (at + length new) old), length-append new (drop (at + length new) old), length-take at old, length-drop (at + length new) old)
 
-rooms-written : (s : DataStore) (d at : ℕ) (bytes : List ℕ) → at + length bytes ≤ capacity_of s d → HasRooms s (with_bytes_written d at bytes s)
+pub rooms-written : (s : DataStore) (d at : ℕ) (bytes : List ℕ) → at + length bytes ≤ capacity_of s d → HasRooms s (with_bytes_written d at bytes s)
 rooms-written s d at bytes within =
     rooms-set s d (record (data_block_at s d) { bytes = overwritten at bytes (data_block_at s d).bytes }) (length-overwritten at bytes (data_block_at s d).bytes within)
 

@@ -1,8 +1,9 @@
 -- All message blocks: free, in messages held as tokens, or in messages on shelves.
-use Rattle.std.specs.Prelude.{◌≡◌, ℕ, ◌<◌, ◌≤◌, Bool, false, ◌&&◌, ◌==◌, nat_lt, List, [], ◌++◌, length, count_by, replicate, Option, None, Some, IfSome, slice_set, if◌then◌else◌}
+use Rattle.std.specs.Prelude.{◌≡◌, ℕ, ◌+◌, ◌<◌, ◌≤◌, Bool, false, ◌&&◌, ◌==◌, nat_lt, List, [], ◌++◌, length, map, count_by, replicate, Option, None, Some, IfSome, slice_set, if◌then◌else◌}
 use Rattle.std.specs.List.{All, range_with_len}
 use Rattle.strm_data.specs.declared.class_spec.ClassSpec.{ClassSpec}
-use Rattle.strm_data.specs.DataStore.{DataStore, times, class_of, free_of, opening_store}
+use Rattle.strm_data.specs.CountedStore.{CountedStore}
+use Rattle.strm_data.specs.DataStore.{DataStore, times, capacity_of, class_of, free_of, opening_store}
 use Rattle.strm_mblk.specs.declared.census.Census.{Census}
 use Rattle.strm_mblk.specs.declared.token.TokenValue.{TokenValue}
 use Rattle.strm_mblk.specs.Block.{Block, Message, head_of, is_naming, numbers_of}
@@ -98,3 +99,13 @@ pub record IsParted (a : Arena) : Type 0 where
   pub free_data : (c d : ℕ) → times d (free_of a.store c) ≡ (if is_free_in a c d then 1 else 0)
   pub named : (d : ℕ) → 0 < names_of a d → d < length a.store.blocks
   pub few_names : (d : ℕ) → names_of a d ≤ 255
+
+-- ---- what lies in what
+
+-- the data blocks, and of each how many blocks name it
+abbrev pub counted_in : Arena → CountedStore
+counted_in a = record { store = a.store; counts = map (names_of a) (range_with_len 0 (length a.store.blocks)) }
+
+-- the places of a block lie in its data block
+abbrev pub IsWithin : DataStore → Block → Type 0
+IsWithin s b = b.offset + b.len ≤ capacity_of s b.data_number

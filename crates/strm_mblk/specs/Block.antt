@@ -1,5 +1,5 @@
 -- A message block, and a message as a list of them.
-use Rattle.std.specs.Prelude.{ℕ, Bool, ◌==◌, List, [], ◌∷◌, map, take, drop, sum_by, if◌then◌else◌}
+use Rattle.std.specs.Prelude.{ℕ, Bool, true, ◌||◌, ◌==◌, not, List, [], ◌∷◌, map, take, drop, sum_by, if◌then◌else◌}
 use Rattle.std.specs.List.{flat_map}
 use Rattle.strm_data.specs.declared.msg_type.MsgType.{MsgType}
 use Rattle.strm_data.specs.declared.msg_type.MsgType.TheVariants.{MData}
@@ -47,9 +47,13 @@ bytes_of s m = flat_map (bytes_of_block s) m
 abbrev pub size_of : Message → ℕ
 size_of m = sum_by (λ b. b.len) m
 
--- how many of them stand in blocks of type M_DATA
+-- the length of a block, where all count, or those of type M_DATA alone and it is one
+abbrev pub len_counted : Bool → DataStore → Block → ℕ
+len_counted data_alone s b = if same_kind (kind_of s b) MData || not data_alone then b.len else 0
+
+-- how many bytes of a message stand in blocks of type M_DATA
 abbrev pub data_size_of : DataStore → Message → ℕ
-data_size_of s m = sum_by (λ b. if same_kind (kind_of s b) MData then b.len else 0) m
+data_size_of s m = sum_by (len_counted true s) m
 
 -- a block over a data block just taken: both places are 0, and so is the band
 abbrev pub new_block : ℕ → ℕ → Block

@@ -1,7 +1,8 @@
 -- How message blocks lie in memory. No public clause cites this module.
-use Rattle.std.specs.Prelude.{◌≡◌, ℕ, ◌+◌, ◌<◌, ◌≤◌, List, [], ◌∷◌, length, map, option_map, slice_index_or}
-use Rattle.strm_data.specs.CountedStore.{CountedStore, IsKept, count_of, without_name}
-use Rattle.strm_data.specs.DataStore.{DataStore, capacity_of}
+use Rattle.std.specs.Prelude.{◌≡◌, ℕ, ◌+◌, ◌-◌, ◌<◌, ◌≤◌, min, Bool, List, [], ◌∷◌, length, map, option_map, slice_index_or, slice_set, if◌then◌else◌, nat_lt}
+use Rattle.strm_data.specs.CountedStore.{CountedStore, IsKept, count_of, without_name, with_name}
+use Rattle.strm_data.specs.DataStore.{DataStore, capacity_of, times}
+use Rattle.std.specs.List.{list_any}
 use Rattle.strm_mblk.specs.declared.blocks.Blocks.TheInside.{Inside}
 use Rattle.strm_mblk.specs.declared.blocks.Fields.{Fields}
 use Rattle.strm_mblk.specs.Arena.{Arena, names_of, shelved_blocks}
@@ -15,11 +16,17 @@ no_fields = record { data_number = 0; offset = 0; len = 0; band = 0 }
 abbrev pub fields_at : List Fields → ℕ → Fields
 fields_at fields n = slice_index_or fields n no_fields
 
+-- message block n, where it says so
+abbrev pub block_of : ℕ → Fields → model.Block
+block_of n f = record { number = n; data_number = f.data_number; offset = f.offset; len = f.len; band = f.band }
+
+-- what a message block says, beside its number
+abbrev pub fields_of : model.Block → Fields
+fields_of b = record { data_number = b.data_number; offset = b.offset; len = b.len; band = b.band }
+
 -- message block n
 abbrev pub block_at : List Fields → ℕ → model.Block
-block_at fields n =
-    let f = fields_at fields n in
-    record { number = n; data_number = f.data_number; offset = f.offset; len = f.len; band = f.band }
+block_at fields n = block_of n (fields_at fields n)
 
 -- the blocks of a message
 abbrev pub message_of : List Fields → List ℕ → model.Message
@@ -29,10 +36,36 @@ message_of fields ns = map (block_at fields) ns
 abbrev pub named_by : List Fields → List ℕ → List ℕ
 named_by fields ns = map (λ n. (fields_at fields n).data_number) ns
 
+-- once these message blocks say this, each what stands at its place
+abbrev pub with_fields : List ℕ → List Fields → List Fields → List Fields
+with_fields [] xs fields = fields
+with_fields (n ∷ ns) [] fields = fields
+with_fields (n ∷ ns) (x ∷ xs) fields = with_fields ns xs (slice_set fields n x)
+
+-- the store once each of these data blocks, first to last, has a name more
+abbrev pub with_names_given : List ℕ → CountedStore → CountedStore
+with_names_given [] s = s
+with_names_given (d ∷ ds) s = with_names_given ds (with_name d s)
+
+-- whether some data block would have more than 255 names once each of these has a name more
+abbrev pub exceeds_counts : List ℕ → CountedStore → Bool
+exceeds_counts ds s = list_any (λ d. nat_lt 255 (count_of s d + times d ds)) ds
+
 -- the store once each of these data blocks, first to last, has a name less
 abbrev pub with_names_dropped : List ℕ → CountedStore → CountedStore
 with_names_dropped [] s = s
 with_names_dropped (d ∷ ds) s = with_names_dropped ds (without_name d s)
+
+-- what a message block says without n of its bytes: at the read place, or from the tail on at the write place, as far
+-- as it has them
+abbrev pub fields_cut : Bool → ℕ → Fields → Fields
+fields_cut from_tail n f = record f { offset = if from_tail then f.offset else f.offset + min n f.len; len = f.len - n }
+
+-- the message blocks once these, first to last, have lost n bytes: each gives what it has
+abbrev pub with_bytes_cut : Bool → ℕ → List ℕ → List Fields → List Fields
+with_bytes_cut from_tail n [] fields = fields
+with_bytes_cut from_tail n (k ∷ ks) fields =
+    with_bytes_cut from_tail (n - (fields_at fields k).len) ks (slice_set fields k (fields_cut from_tail n (fields_at fields k)))
 
 abbrev pub arena_of : ℕ → DataStore → List Fields → NodeLists → Arena
 arena_of id store fields lists = record {

@@ -5,7 +5,9 @@ pub mod Given
 pub mod Freeing
 pub mod BlockCalls
 pub mod Trimming
+pub mod Pulling
 pub mod Shelves
 pub mod NodeLists
 pub mod ChainLayout
 pub mod BlocksLayout
+pub mod Copying

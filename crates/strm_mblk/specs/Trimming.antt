@@ -15,6 +15,10 @@ abbrev pub run_of : DataStore → List Block → List Block
 run_of s [] = []
 run_of s (b ∷ bs) = b ∷ take_while (λ c. same_kind (kind_of s c) (kind_of s b)) bs
 
+-- a list as it stands, or from its last to its first
+abbrev pub along : {X : Type 0} → Bool → List X → List X
+along from_tail xs = if from_tail then reverse xs else xs
+
 -- ---- adjmsg
 
 -- the blocks without their first n bytes: each gives what it has, and the empty ones stay

@@ -1,15 +1,24 @@
 //! Message blocks by number, and the messages that they make.
 ghost use Rattle.std.specs.Prelude.{◌≡◌, ◌≢◌, ◌+◌, ◌<◌, ◌≤◌, ℕ, IfOk, IfSome, IsTrue, Some, None, is_some, length, option_map, slice_get};
+ghost use Rattle.std.specs.List.{All};
 ghost use Rattle.strm_data.specs.Classes.{are_lawful};
 ghost use Rattle.strm_data.specs.DataStore.{class_infos};
-ghost use Rattle.strm_mblk.specs.Arena.{IsParted, census_of, has, held_at, message_at, opening_arena, token_of};
+ghost use Rattle.strm_data.specs.CountedStore.{IsKept};
+ghost use Rattle.strm_mblk.specs.Arena.{IsParted, IsWithin, blocks_in, census_of, counted_in, has, held_at, message_at, opening_arena, token_of};
 ghost use Rattle.strm_mblk.specs.NodeLists.{nodes_at};
 ghost use Rattle.strm_mblk.specs.Given.{after, answer_of, answer_map};
 
 mod alteration;
+#[cfg(test)]
+pub(crate) mod beside;
+mod copying;
+mod duplicating;
 mod freeing;
 mod joining;
+mod pulling;
+mod reading;
 mod shelves;
+mod trimming;
 
 use crate::block_info::BlockInfo;
 use crate::census::Census;
@@ -92,8 +101,8 @@ impl Blocks {
     ghost use Rattle.strm_mblk.specs.BlockCalls as model;
 
     /// So many free message blocks, in rising order, over the data blocks of these classes, and so many empty shelves:
-    /// 4,095 message blocks at most, lawful classes as `Data::new` asks for them, and 255 shelves at most. Tokens will
-    /// carry the id.
+    /// 0 to 4,095 message blocks, lawful classes as `Data::new` asks for them, and 0 to 255 shelves. Tokens will carry the
+    /// id.
     ///
     /// Fails where the memory for them is refused, and then keeps none.
     pub fn new(
@@ -121,7 +130,13 @@ impl Blocks {
         // Each message block is free, or in one message, held or on one shelf; each data block is free, or named by 1
         // to 255 message blocks.
         ensures parted { IsParted self.now }
-        // Free, shelved and held message blocks are all there are.
+        // Data blocks are kept: the classes are lawful, each has as many data blocks as it says, and each of these is in
+        // one and as long as that says.
+        ensures kept { IsKept (counted_in self.now) }
+        // The places of each block of a message lie in its data block.
+        ensures within { All (IsWithin self.now.store) (blocks_in self.now) }
+        // Free, shelved and held message blocks are all there are, and no more than 4,095.
+        ensures few { length self.now.held < 4096 }
         ensures whole { (census_of self.now).free + (census_of self.now).queued + (census_of self.now).held ≡ length self.now.held }
     {
         let _ = &self.chains;
@@ -170,8 +185,9 @@ impl Blocks {
         })
     }
 
-    /// Takes a message block and a data block of `size` bytes or more for a new message of no bytes, type M_DATA and
-    /// band 0. The data block is the first free one of the smallest class that fits and has one.
+    /// Takes the first free message block, and a data block of `size` bytes or more, for a new message of no bytes, type
+    /// M_DATA and band 0. The data block is the first free one of the smallest class that fits and has one. Takes a step
+    /// for each class.
     ///
     /// Refused as `TooLarge` where the size is above the largest class, then as `NoMblk` where no message block is
     /// free, then as `NoData` where no data block is that fits; nothing changes then.
@@ -201,7 +217,7 @@ impl Blocks {
         self.chains.free_len() > 0 && self.data.fits(size)
     }
 
-    /// What there is to tell of a message's block `place`, counted from 0. Nothing changes.
+    /// What there is to tell of a message's block `place`, counted from 0. Takes `place` steps. Nothing changes.
     ///
     /// Refused as `NoSuchBlock` where the message has no such block.
     pub fn block(&self, token: &Token, place: u32) -> Result<BlockInfo, Refusal>

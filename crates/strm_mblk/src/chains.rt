@@ -1,10 +1,13 @@
 //! Messages as chains of message blocks, linked by number, and which of the message blocks are free.
-ghost use Rattle.std.specs.Prelude.{◌≡◌, ◌≢◌, ℕ, ◌+◌, ◌<◌, ◌++◌, IfOk, IfSome, IsSome, IsTrue, None, Some, [], ◌∷◌, is_some, length, reverse, slice_get, slice_index_or, slice_set};
+ghost use Rattle.std.specs.Prelude.{◌≡◌, ◌≢◌, ℕ, ◌+◌, ◌<◌, ◌≤◌, ◌++◌, IfOk, IfSome, IsSome, IsTrue, None, Some, [], ◌∷◌, drop, is_some, length, reverse, slice_get, slice_index_or, slice_set, take};
 ghost use Rattle.std.specs.Option.{ForSome};
 ghost use Rattle.strm_links.specs.Rows.{after, before, first, has, holder, last, list_at, without};
 ghost use Rattle.strm_mblk.specs.ChainLayout.{put_in};
 ghost use Rattle.strm_mblk.specs.Messages.{divided, held_in, joined, placed, shelf_in, with_head, without_head};
 ghost use Rattle.strm_mblk.specs.NodeLists.{IsNodesParted, after_begin, head_node, heads_on, nodes_at, opening_nodes, shelved_nodes};
+
+#[cfg(test)]
+pub(crate) mod beside;
 
 use std::alloc::{AllocError, Global};
 use std::marker::Model;
@@ -128,10 +131,31 @@ impl Chains {
         self.chains.next(node)
     }
 
+    // The message block before this one in its message, if there is one.
+    pub(crate) fn previous(&self, node: u32) -> Option<u32>
+        requires { node < length self.now.held }
+        ensures held { (h i : ℕ) → slice_get (reverse (nodes_at self.now h)) i ≡ Some node → result ≡ slice_get (reverse (nodes_at self.now h)) (i + 1) }
+        ensures in_range { IfSome result (λ n. n < length self.now.held) }
+    {
+        self.chains.reads_alike();
+        self.chains.prev(node)
+    }
+
+    // The last block of a held message.
+    pub(crate) fn tail(&self, head: u32) -> Option<u32>
+        requires { IsSome (held_in self.now.held head) }
+        ensures value { result ≡ slice_get (reverse (nodes_at self.now head)) 0 }
+        ensures in_range { IfSome result (λ n. n < length self.now.held) }
+    {
+        self.chains.reads_alike();
+        self.chains.back(head)
+    }
+
     // Makes the first free message block a held message, if one is free.
     pub(crate) fn begin(&mut self) -> Option<u32>
         ensures answer { result ≡ first self.old.free }
         ensures after { self.new ≡ after_begin self.old self.old.free }
+        ensures in_range { IfSome result (λ node. node < length self.old.held) }
         ensures parted { IsNodesParted self.new }
     {
         let first = self.chains.front(self.nodes)?;
@@ -155,6 +179,22 @@ impl Chains {
         self.chains.append(head, tail);
         self.chains.parts_nodes();
         self.heads.parts_nodes();
+    }
+
+    // Makes the first `count` free message blocks one held message, in their order, and names its head.
+    pub(crate) fn begin_all(&mut self, count: u32) -> u32
+        requires some { 0 < count }
+        requires enough { count ≤ length self.old.free }
+        ensures answer { first self.old.free ≡ Some result }
+        ensures after { self.new ≡ record self.old { free = drop count self.old.free; held = slice_set self.old.held result (Some (take count self.old.free)) } }
+        ensures parted { IsNodesParted self.new }
+    {
+        let head = self.begin().unwrap();
+        for _more in 1..count {
+            let node = self.begin().unwrap();
+            self.join(head, node);
+        }
+        head
     }
 
     // Leaves only the first block in a held message: the others are a held message, if there are any, and it is

@@ -9,7 +9,8 @@ use crate::token::Token;
 use strm_data::{MsgType, Refusal};
 
 impl Blocks {
-    /// Writes bytes behind the write place of a message's block `place`, counted from 0, and raises the write place.
+    /// Writes bytes behind the write place of a message's block `place`, counted from 0, and raises the write place. Takes
+    /// `place` steps and a copy of the bytes.
     ///
     /// Refused as `NoSuchBlock` where the message has no such block, then as `Shared` where another message block names
     /// its data block, then as `NoRoom` where the bytes do not fit; nothing changes then.
@@ -36,7 +37,7 @@ impl Blocks {
         Ok(())
     }
 
-    /// Gives the data block of a message's block `place`, counted from 0, another type.
+    /// Gives the data block of a message's block `place`, counted from 0, another type. Takes `place` steps.
     ///
     /// Refused as `NoSuchBlock` where the message has no such block, then as `Shared` where another message block names
     /// the data block; nothing changes then.

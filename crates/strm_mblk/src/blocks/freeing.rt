@@ -1,5 +1,5 @@
 //! Messages, and their first blocks, are freed.
-ghost use Rattle.std.specs.Prelude.{◌≡◌, ◌≤◌, ◌<◌, ℕ, IfSome, IsTrue, None, Some, length, option_map, slice_get};
+ghost use Rattle.std.specs.Prelude.{◌≡◌, ◌≤◌, ◌<◌, ℕ, IfSome, IsTrue, None, Some, length, option_map, slice_get, take};
 ghost use Rattle.strm_data.specs.CountedStore.{IsKept, count_of};
 ghost use Rattle.strm_data.specs.DataStore.{times};
 ghost use Rattle.strm_mblk.specs.Arena.{has, held_at, token_of};
@@ -13,15 +13,21 @@ use crate::chains::Chains;
 use crate::token::Token;
 use strm_data::Data;
 
-// Takes the names away that the blocks of a held message have given, first to last. There are `count` of them.
-fn drop_names(chains: &Chains, blocks: &[Fields], stored: &mut Data, head: u32, count: u32)
+// Takes the names away that the first `count` blocks of a held message have given, first to last.
+pub(super) fn drop_names(
+    chains: &Chains,
+    blocks: &[Fields],
+    stored: &mut Data,
+    head: u32,
+    count: u32,
+)
     requires begun { slice_get (nodes_at chains.now head) 0 ≡ Some head }
-    requires count { count ≡ length (nodes_at chains.now head) }
+    requires count { count ≤ length (nodes_at chains.now head) }
     requires blocks { length blocks.now ≡ length chains.now.held }
     requires there { (n : ℕ) → n < length blocks.now → (fields_at blocks.now n).data_number < length stored.old.store.blocks }
-    requires named { (d : ℕ) → times d (named_by blocks.now (nodes_at chains.now head)) ≤ count_of stored.old d }
+    requires named { (d : ℕ) → times d (take count (named_by blocks.now (nodes_at chains.now head))) ≤ count_of stored.old d }
     requires kept { IsKept stored.old }
-    ensures after { stored.new ≡ with_names_dropped (named_by blocks.now (nodes_at chains.now head)) stored.old }
+    ensures after { stored.new ≡ with_names_dropped (take count (named_by blocks.now (nodes_at chains.now head))) stored.old }
     ensures kept { IsKept stored.new }
 {
     let mut at = Some(head);
@@ -34,8 +40,9 @@ fn drop_names(chains: &Chains, blocks: &[Fields], stored: &mut Data, head: u32, 
 }
 
 impl Blocks {
-    /// Frees a message: its blocks first to last, each to the front of the free ones, and each data block that no
-    /// message block names any more. A token that is none of these blocks is spent, and nothing else is done.
+    /// Frees a message: its blocks first to last, each to the front of the free ones, and with each its data block, to the
+    /// front of the free ones of its class, where no message block names that any more. Takes as many steps as there are
+    /// blocks. A token that is none of these blocks is spent, and nothing else is done.
     pub fn freemsg(&mut self, token: Token)
         ensures { self.new ≡ spent self.old token }
     {
@@ -52,8 +59,10 @@ impl Blocks {
             self.chains.free(token.head);
         }
     }
-    /// Frees the first block of a message, to the front of the free ones, and its data block where no other message
-    /// block names it. The others are a message of their own, if there are any. Takes as many steps as there are.
+
+    /// Frees the first block of a message, to the front of the free ones, and its data block, to the front of the free
+    /// ones of its class, where no other message block names it. The others are a message of their own, if there are any.
+    /// Takes as many steps as there are.
     pub fn freeb(&mut self, token: Token) -> Option<Token>
         requires { IsTrue (has self.old token) }
         ensures after { self.new ≡ (model.freeb token.head self.old).1 }

@@ -10,9 +10,10 @@ use crate::token::Token;
 use strm_data::Refusal;
 
 impl Blocks {
-    /// Puts a message behind another, which then has the blocks of both. Takes as many steps as it has blocks.
+    /// Puts a message behind another, which then has the blocks of both. Takes as many steps as the one behind has blocks.
     ///
-    /// Two tokens of one message can come only from two pools of one id: then one is spent, and nothing else is done.
+    /// Two tokens of one message can come only from two pools of one id: then the second is spent, and nothing else is
+    /// done.
     pub fn linkb(&mut self, token: &mut Token, tail: Token)
         requires head { IsTrue (has self.old token.old) }
         requires tail { IsTrue (has self.old tail) }
@@ -43,6 +44,7 @@ impl Blocks {
         token.set_blocks(1);
         Some(self.token(rest))
     }
+
     /// Takes block `place` of a message, counted from 0, for a message of its own: its token comes first. The others are
     /// a message, if there are any, and its token comes second. Takes as many steps as there are blocks.
     ///

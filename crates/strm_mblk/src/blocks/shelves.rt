@@ -13,19 +13,19 @@ use strm_data::MsgType;
 
 impl Blocks {
     /// The head of the first message on a shelf, or none where the shelf is empty. Nothing changes.
-    pub fn first(&self, shelf: u32) -> Option<BlockNo>
+    pub fn first(&self, shelf: u8) -> Option<BlockNo>
         requires { shelf < length self.now.shelves }
         ensures { result ≡ rows.first (heads_at self.now shelf) }
     {
-        self.chains.first(shelf)
+        self.chains.first(u32::from(shelf))
     }
 
     /// The head of the last message on a shelf, or none where the shelf is empty. Nothing changes.
-    pub fn last(&self, shelf: u32) -> Option<BlockNo>
+    pub fn last(&self, shelf: u8) -> Option<BlockNo>
         requires { shelf < length self.now.shelves }
         ensures { result ≡ rows.last (heads_at self.now shelf) }
     {
-        self.chains.last(shelf)
+        self.chains.last(u32::from(shelf))
     }
 
     /// The head of the message behind this one on its shelf, or none where it is the last. Nothing changes.
@@ -46,7 +46,7 @@ impl Blocks {
 
     /// Puts a message on a shelf, before the one with the head that is given, which stands there, or last. Takes
     /// constant time.
-    pub fn shelve(&mut self, shelf: u32, before: Option<BlockNo>, token: Token)
+    pub fn shelve(&mut self, shelf: u8, before: Option<BlockNo>, token: Token)
         requires shelf { shelf < length self.old.shelves }
         requires had { IsTrue (has self.old token) }
         requires before { ForSome before (λ at. IsTrue (stands_on self.old shelf at)) }
@@ -54,11 +54,11 @@ impl Blocks {
     {
         let head = token.spend().head;
         self.queued += self.chains.len(head);
-        self.chains.shelve(shelf, before, head);
+        self.chains.shelve(u32::from(shelf), before, head);
     }
 
     /// Takes the message with this head off the shelf that it stands on, and holds it. Takes constant time.
-    pub fn unshelve(&mut self, shelf: u32, head: BlockNo) -> Token
+    pub fn unshelve(&mut self, shelf: u8, head: BlockNo) -> Token
         requires shelf { shelf < length self.old.shelves }
         requires there { IsTrue (stands_on self.old shelf head) }
         ensures after { self.new ≡ model.unshelve shelf head self.old }
@@ -67,7 +67,7 @@ impl Blocks {
         ensures had { IsTrue (has self.new result) }
         ensures unheld { held_at self.old head ≡ None }
     {
-        self.chains.unshelve(shelf, head);
+        self.chains.unshelve(u32::from(shelf), head);
         self.queued -= self.chains.len(head);
         self.token(head)
     }

@@ -4,15 +4,16 @@ use Rattle.strm_data.specs.CountedStore.{after_take}
 use Rattle.strm_mblk.specs.declared.token.TokenValue.{TokenValue}
 use Rattle.strm_mblk.specs.Arena.{Arena, has, held_at, shelved_blocks, token_of}
 use Rattle.strm_mblk.specs.BlocksLayout.{arena_of}
-use Rattle.strm_mblk.specs.Given.{answer_map}
-use Rattle.strm_mblk.proofs.Allocb.{IsAllocated, alloc_room, allocates}
+use Rattle.strm_mblk.specs.Given.{after, answer_map, answer_of}
+use Rattle.strm_mblk.proofs.Allocb.{IsAllocated, allocates}
+use Rattle.strm_mblk.proofs.BegunAll.{begin_room}
 use Rattle.strm_mblk.proofs.Tokens.{token_had}
 use Rattle.strm_mblk.proofs.blocks.Blocks.allocb.Goals as goal
 use Rattle.strm_mblk.proofs.blocks.Blocks.allocb.Goals.{After-self-1}
 
 pub index_mut-requires : goal.index_mut-requires
 index_mut-requires c =
-    omega (arith, alloc_room c.self.inside.id c.self.inside.data c.self.inside.blocks.items c.self.inside.chains c.self.invariant.filled c.unwrap-head.result (sym c.begin.ensures.answer ∙ c.unwrap-head.ensures))
+    omega (arith, begin_room c.self.inside.id c.self.inside.data c.self.inside.blocks.items c.self.inside.chains c.self.invariant.filled c.unwrap-head.result (sym c.begin.ensures.answer ∙ c.unwrap-head.ensures))
 
 abbrev new_arena : After-self-1 → Arena
 new_arena c = arena_of c.self.inside.id c.take.new.self.store (set c.self.inside.blocks.items c.unwrap-head.result c.over.result) c.begin.new.self
@@ -27,22 +28,22 @@ is_allocated c =
 pub invariant_of-self-2 : goal.invariant_of-self-2
 invariant_of-self-2 c =
     let is = is_allocated c in
-    record { filled = is.filled; queued = c.self.invariant.queued ∙ ap (λ a. length (shelved_blocks a)) c.self.view_is ∙ ap length (sym is.shelved) }
+    record { filled = is.begun.filled; queued = c.self.invariant.queued ∙ ap (λ a. length (shelved_blocks a)) c.self.view_is ∙ ap length (sym is.begun.shelved) }
 
 pub token-requires : goal.token-requires
-token-requires c = ap is_some (is_allocated c).held
+token-requires c = ap is_some (is_allocated c).begun.held
 
 pub returns-clause-after : goal.returns-clause-after
-returns-clause-after c = (is_allocated (goal.at.returns-clause-after c).After-self-1).after
+returns-clause-after c = sym (ap (after c.args.self.now) (is_allocated (goal.at.returns-clause-after c).After-self-1).done)
 
 pub returns-clause-token : goal.returns-clause-token
 returns-clause-token c =
     ap (λ (t : TokenValue). Ok t) c.token.ensures
-    ∙ ap (answer_map (token_of (new_arena (goal.at.returns-clause-token c).After-self-1))) (sym (is_allocated (goal.at.returns-clause-token c).After-self-1).answer)
+    ∙ ap (answer_map (token_of (new_arena (goal.at.returns-clause-token c).After-self-1))) (sym (ap answer_of (is_allocated (goal.at.returns-clause-token c).After-self-1).done))
 
 pub returns-clause-had : goal.returns-clause-had
-returns-clause-had c = ap (has (new_arena (goal.at.returns-clause-had c).After-self-1)) c.token.ensures ∙ token_had (new_arena (goal.at.returns-clause-had c).After-self-1) c.unwrap-head.result _ (is_allocated (goal.at.returns-clause-had c).After-self-1).held
+returns-clause-had c = ap (has (new_arena (goal.at.returns-clause-had c).After-self-1)) c.token.ensures ∙ token_had (new_arena (goal.at.returns-clause-had c).After-self-1) c.unwrap-head.result _ (is_allocated (goal.at.returns-clause-had c).After-self-1).begun.held
 
 pub returns-clause-unheld : goal.returns-clause-unheld
 returns-clause-unheld c =
-    ap (λ (t : TokenValue). held_at c.args.self.now t.head) c.token.ensures ∙ (is_allocated (goal.at.returns-clause-unheld c).After-self-1).absent
+    ap (λ (t : TokenValue). held_at c.args.self.now t.head) c.token.ensures ∙ (is_allocated (goal.at.returns-clause-unheld c).After-self-1).begun.absent

@@ -1,26 +1,44 @@
-use Rattle.std.proofs.Common.{◌≤◌, length, ap, subst, sym, ◌∙◌, List}
+use Rattle.std.proofs.Common.{◌≡◌, ◌≤◌, Some, true, length, ap, subst, sym, ◌∙◌, List}
+use Rattle.std.specs.Prelude.{take}
 use Rattle.strm_data.specs.CountedStore.{count_of}
 use Rattle.strm_data.specs.DataStore.{times}
 use Rattle.strm_mblk.specs.declared.blocks.Fields.{Fields}
 use Rattle.strm_mblk.specs.Arena.{shelved_blocks}
 use Rattle.strm_mblk.specs.BlocksLayout.{named_by, with_names_dropped}
+use Rattle.strm_mblk.specs.Messages.{held_in}
 use Rattle.strm_mblk.specs.NodeLists.{nodes_at}
-use Rattle.strm_mblk.proofs.Freemsg.{IsFreed, enough, frees, spent_had, token_held}
+use Rattle.strm_mblk.proofs.Freemsg.{IsFreed, enough, frees, spent_had, token_held, token_named}
 use Rattle.strm_mblk.proofs.blocks.Blocks.freemsg.Goals as goal
-use Rattle.strm_mblk.proofs.blocks.Blocks.freemsg.Goals.{After-free}
+use Rattle.strm_mblk.proofs.blocks.Blocks.freemsg.Goals.{After-free, After-spend-token}
+
+module _ (c : After-spend-token) (had : c.has-has.result ≡ true) where
+  held : held_in c.self.inside.chains.held c.spend-token.result.head ≡ Some (nodes_at c.self.inside.chains c.spend-token.result.head)
+  held =
+      token_held c.self.inside.id c.self.inside.data c.self.inside.blocks.items c.self.inside.chains c.args.self.now c.self.view_is c.args.token c.spend-token.result c.spend-token.ensures
+      (sym c.has-has.ensures ∙ had)
+
+  all : take c.spend-token.result.blocks (named_by c.self.inside.blocks.items (nodes_at c.self.inside.chains c.spend-token.result.head))
+      ≡ named_by c.self.inside.blocks.items (nodes_at c.self.inside.chains c.spend-token.result.head)
+  all =
+      token_named c.self.inside.id c.self.inside.data c.self.inside.blocks.items c.self.inside.chains c.args.self.now c.self.view_is c.args.token c.spend-token.result c.spend-token.ensures
+      (sym c.has-has.ensures ∙ had)
 
 pub drop_names-requires-clause-named : goal.drop_names-requires-clause-named
 drop_names-requires-clause-named c d =
-    let held = token_held c.self.inside.id c.self.inside.data c.self.inside.blocks.items c.self.inside.chains c.args.self.now c.self.view_is c.args.token c.spend-token.result c.spend-token.ensures (sym c.has-has.ensures ∙ c.if-has.true) in
-    subst (λ (fields : List Fields). times d (named_by fields (nodes_at c.self.inside.chains c.spend-token.result.head)) ≤ count_of c.self.inside.data d) (sym c.deref.ensures.value)
-    (enough c.self.inside.id c.self.inside.data c.self.inside.blocks.items c.self.inside.chains c.self.invariant.filled c.spend-token.result.head held d)
+    let ns = nodes_at c.self.inside.chains c.spend-token.result.head in
+    let at = (goal.at.drop_names-requires-clause-named c).After-spend-token in
+    subst (λ ds. times d ds ≤ count_of c.self.inside.data d)
+    (sym (ap (λ (fields : List Fields). take c.spend-token.result.blocks (named_by fields ns)) c.deref.ensures.value ∙ all at c.if-has.true))
+    (enough c.self.inside.id c.self.inside.data c.self.inside.blocks.items c.self.inside.chains c.self.invariant.filled c.spend-token.result.head (held at c.if-has.true) d)
 
 is_freed : (c : After-free) → IsFreed c.args.self.now c.drop_names.new.stored c.self.inside.blocks.items c.free.new.self c.self.inside.id c.spend-token.result.head
 is_freed c =
-    let held = token_held c.self.inside.id c.self.inside.data c.self.inside.blocks.items c.self.inside.chains c.args.self.now c.self.view_is c.args.token c.spend-token.result c.spend-token.ensures (sym c.has-has.ensures ∙ c.if-has.true) in
-    let dropped = c.drop_names.ensures.after ∙ ap (λ (fields : List Fields). with_names_dropped (named_by fields (nodes_at c.self.inside.chains c.spend-token.result.head)) c.self.inside.data) c.deref.ensures.value in
+    let ns = nodes_at c.self.inside.chains c.spend-token.result.head in
+    let at = (goal.at.invariant_of-self c).After-spend-token in
+    let dropped = c.drop_names.ensures.after
+    ∙ ap (λ ds. with_names_dropped ds c.self.inside.data) (ap (λ (fields : List Fields). take c.spend-token.result.blocks (named_by fields ns)) c.deref.ensures.value ∙ all at c.if-has.true) in
     subst (λ a. IsFreed a c.drop_names.new.stored c.self.inside.blocks.items c.free.new.self c.self.inside.id c.spend-token.result.head) c.self.view_is
-    (frees c.self.inside.id c.self.inside.data c.self.inside.blocks.items c.self.inside.chains c.self.invariant.filled c.spend-token.result.head held
+    (frees c.self.inside.id c.self.inside.data c.self.inside.blocks.items c.self.inside.chains c.self.invariant.filled c.spend-token.result.head (held at c.if-has.true)
     c.drop_names.new.stored c.free.new.self dropped c.drop_names.ensures.kept c.free.ensures.after c.free.ensures.parted)
 
 pub invariant_of-self : goal.invariant_of-self

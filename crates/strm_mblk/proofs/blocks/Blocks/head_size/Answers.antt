@@ -1,4 +1,4 @@
-use Rattle.std.proofs.Common.{◌≡◌, ◌<◌, ◌+◌, suc, drop, arith, ap, sym, subst, ◌∙◌, Some, length}
+use Rattle.std.proofs.Common.{◌≡◌, ◌<◌, ◌+◌, drop, arith, ap, sym, subst, ◌∙◌, Some, length}
 use Rattle.std.specs.Prelude.{option_map, slice_get}
 use Rattle.std.specs.Option.{IfSome}
 use Rattle.std.proofs.lemmas.List.{get_or_read}
@@ -8,7 +8,8 @@ use Rattle.strm_mblk.specs.Block.{Block, size_of}
 use Rattle.strm_mblk.specs.BlocksLayout.{block_at, no_fields}
 use Rattle.strm_mblk.specs.NodeLists.{shelved_nodes}
 use Rattle.strm_mblk.specs.Shelves.{shelved_message}
-use Rattle.strm_mblk.proofs.HeadSize.{block_here, few_blocks, head, none_there, seen_at, small, size_from, size_past}
+use Rattle.strm_mblk.proofs.HeadSize.{block_here, few_blocks, head, none_there, seen_at, small}
+use Rattle.strm_mblk.proofs.Summing.{sum_from, sum_past}
 use Rattle.strm_mblk.proofs.Shelving.{IsHead, is_head}
 use Rattle.strm_mblk.proofs.blocks.Blocks.head_size.Goals as goal
 use Rattle.strm_mblk.proofs.blocks.Blocks.head_size.Goals.{After-index, In-Some}
@@ -25,7 +26,7 @@ loop-block-init c =
 pub returns-in_default : goal.returns-in_default
 returns-in_default c =
     let m = shelved_message c.args.self.now c.args.head in
-    omega (arith, c.loop-block.invariant.sum, size_past m c.loop-block._block (none_there (slice_get m c.loop-block._block) (sym c.loop-block.invariant.number ∙ c.in_default.is)))
+    omega (arith, c.loop-block.invariant.sum, sum_past (λ (b : Block). b.len) m c.loop-block._block (none_there (slice_get m c.loop-block._block) (sym c.loop-block.invariant.number ∙ c.in_default.is)))
 
 -- the blocks of the message
 abbrev is_headed : (c : After-index) → IsHead c.self.inside.data c.self.inside.blocks.items c.self.inside.chains c.args.self.now c.args.head
@@ -54,9 +55,8 @@ adds c =
     block_here c.self.inside.id c.self.inside.data c.self.inside.blocks.items c.self.inside.chains c.self.invariant.filled c.args.self.now c.self.view_is c.args.head c.requires c.loop-block._block node (at c) in
     let read =
     get_or_read c.self.inside.blocks.items node c.index.result.now (omega (arith, within (goal.at.overflow_add-size c).In-Some, c.self.invariant.filled.listed)) c.index.ensures no_fields in
-    let next : suc c.loop-block._block ≡ c.loop-block._block + 1 = omega arith in
-    size_from m c.loop-block._block (block_at c.self.inside.blocks.items node) block
-    ∙ (λ i. (sym read i).len + size_of (drop (next i) m))
+    sum_from (λ (b : Block). b.len) m c.loop-block._block (block_at c.self.inside.blocks.items node) block
+    ∙ (λ i. (sym read i).len + size_of (drop (c.loop-block._block + 1) m))
 
 pub overflow_add-size : goal.overflow_add-size
 overflow_add-size c = omega (arith, c.loop-block.invariant.sum, adds c, small c.self.inside.id c.self.inside.data c.self.inside.blocks.items c.self.inside.chains c.self.invariant.filled c.args.self.now c.self.view_is c.args.head c.requires)
@@ -82,5 +82,5 @@ returns c =
     omega (
       arith,
       c.loop-block.invariant.sum,
-      size_past m c.loop-block._block (slice_get_past m c.loop-block._block (omega (arith, few, c.loop-block-test.false, c.self.invariant.queued, ap (λ a. length (shelved_blocks a)) c.self.view_is))),
+      sum_past (λ (b : Block). b.len) m c.loop-block._block (slice_get_past m c.loop-block._block (omega (arith, few, c.loop-block-test.false, c.self.invariant.queued, ap (λ a. length (shelved_blocks a)) c.self.view_is))),
     )

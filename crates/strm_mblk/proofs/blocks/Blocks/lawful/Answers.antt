@@ -1,6 +1,8 @@
-use Rattle.std.proofs.Common.{◌≡◌, subst, ◌+◌, length}
-use Rattle.strm_mblk.specs.Arena.{IsParted, shelved_blocks, held_blocks}
-use Rattle.strm_mblk.proofs.Lawful.{law_parted, law_whole}
+use Rattle.std.proofs.Common.{◌≡◌, ◌<◌, subst, ◌+◌, length}
+use Rattle.std.specs.List.{All}
+use Rattle.strm_data.specs.CountedStore.{IsKept}
+use Rattle.strm_mblk.specs.Arena.{Arena, IsParted, IsWithin, blocks_in, counted_in, shelved_blocks, held_blocks}
+use Rattle.strm_mblk.proofs.Lawful.{law_few, law_kept, law_parted, law_whole, law_within}
 use Rattle.strm_mblk.proofs.blocks.Blocks.lawful.Goals as goal
 
 pub returns-clause-parted : goal.returns-clause-parted
@@ -8,3 +10,12 @@ returns-clause-parted c = subst IsParted c.self.view_is (law_parted c.self.insid
 
 pub returns-clause-whole : goal.returns-clause-whole
 returns-clause-whole c = subst (λ a. length a.free + length (shelved_blocks a) + length (held_blocks a) ≡ length a.held) c.self.view_is (law_whole c.self.inside.id c.self.inside.data c.self.inside.blocks.items c.self.inside.chains c.self.invariant.filled)
+
+pub returns-clause-kept : goal.returns-clause-kept
+returns-clause-kept c = subst (λ a. IsKept (counted_in a)) c.self.view_is (law_kept c.self.inside.id c.self.inside.data c.self.inside.blocks.items c.self.inside.chains c.self.invariant.filled)
+
+pub returns-clause-within : goal.returns-clause-within
+returns-clause-within c = subst (λ (a : Arena). All (IsWithin a.store) (blocks_in a)) c.self.view_is (law_within c.self.inside.id c.self.inside.data c.self.inside.blocks.items c.self.inside.chains c.self.invariant.filled)
+
+pub returns-clause-few : goal.returns-clause-few
+returns-clause-few c = subst (λ (a : Arena). length a.held < 4096) c.self.view_is (law_few c.self.inside.id c.self.inside.data c.self.inside.blocks.items c.self.inside.chains c.self.invariant.filled)

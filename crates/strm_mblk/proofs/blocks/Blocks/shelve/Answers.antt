@@ -1,8 +1,8 @@
-use Rattle.std.proofs.Common.{◌<◌, ap, subst, sym, ◌∙◌, arith, length}
+use Rattle.std.proofs.Common.{◌<◌, ap, sym, ◌∙◌, arith, length}
 use Rattle.strm_links.specs.Rows.{has}
 use Rattle.strm_mblk.specs.declared.token.TokenValue.{TokenValue}
 use Rattle.strm_mblk.specs.Arena as arena
-use Rattle.strm_mblk.specs.Arena.{held_at, shelved_blocks}
+use Rattle.strm_mblk.specs.Arena.{Arena, held_at, shelved_blocks}
 use Rattle.strm_mblk.specs.Block.{Message}
 use Rattle.strm_mblk.specs.BlocksLayout.{arena_in}
 use Rattle.strm_mblk.specs.Shelves.{heads_at, shelve}
@@ -21,12 +21,12 @@ overflow_add-self c =
 
 pub shelve-requires-clause-before : goal.shelve-requires-clause-before
 shelve-requires-clause-before c at is =
-    ap (has at) (sym (heads_at-seen c.self.inside.id c.self.inside.data.store c.self.inside.blocks.items c.self.inside.chains c.args.shelf))
-    ∙ ap (λ a. has at (heads_at a c.args.shelf)) c.self.view_is ∙ c.requires.before at is
+    ap (has at) (sym (heads_at-seen c.self.inside.id c.self.inside.data.store c.self.inside.blocks.items c.self.inside.chains c.from.result))
+    ∙ (λ i. has at (heads_at (c.self.view_is i) (c.from.ensures i))) ∙ c.requires.before at is
 
 -- the shelf is one of those that there are
-within : (c : After-shelve) → c.args.shelf < length (arena_in c.self.inside).shelves
-within c = subst (λ a. c.args.shelf < length a.shelves) (sym c.self.view_is) c.requires.shelf
+within : (c : After-shelve) → c.from.result < length (arena_in c.self.inside).shelves
+within c = omega (arith, c.requires.shelf, c.from.ensures, ap (λ (a : Arena). length a.shelves) c.self.view_is)
 
 pub invariant_of-self : goal.invariant_of-self
 invariant_of-self c =
@@ -34,14 +34,14 @@ invariant_of-self c =
     record {
       filled =
           shelve_filled c.self.inside.id c.self.inside.data c.self.inside.blocks.items c.self.inside.chains c.self.invariant.filled c.spend-head.result.head message.0 message.1.held
-          c.args.shelf c.args.before c.shelve.new.self (within c) c.shelve.ensures.after c.shelve.ensures.parted;
+          c.from.result c.args.before c.shelve.new.self (within c) c.shelve.ensures.after c.shelve.ensures.parted;
       queued =
           omega (
             arith,
             c.len.ensures,
             c.self.invariant.queued,
             shelve_queued c.self.inside.id c.self.inside.data c.self.inside.blocks.items c.self.inside.chains c.self.invariant.filled c.spend-head.result.head message.0 message.1.held
-                c.args.shelf c.args.before c.shelve.new.self (within c) c.shelve.ensures.after c.shelve.ensures.parted,
+                c.from.result c.args.before c.shelve.new.self (within c) c.shelve.ensures.after c.shelve.ensures.parted,
           );
     }
 
@@ -51,6 +51,6 @@ returns c =
     record {
       after =
           shelve_shows c.self.inside.id c.self.inside.data c.self.inside.blocks.items c.self.inside.chains c.self.invariant.filled c.spend-head.result.head message.0 message.1.held
-          c.args.shelf c.args.before c.shelve.new.self (within c) c.shelve.ensures.after c.shelve.ensures.parted
-          ∙ (λ i. shelve c.args.shelf c.args.before (c.spend-head.ensures i).head (c.self.view_is i));
+          c.from.result c.args.before c.shelve.new.self (within c) c.shelve.ensures.after c.shelve.ensures.parted
+          ∙ (λ i. shelve (c.from.ensures i) c.args.before (c.spend-head.ensures i).head (c.self.view_is i));
     }

@@ -1,31 +1,32 @@
-use Rattle.std.proofs.Common.{◌≡◌, ◌<◌, ap, subst, sym, true, ◌∙◌, arith, length}
+use Rattle.std.proofs.Common.{◌≡◌, ap, subst, sym, true, ◌∙◌, arith, length}
 use Rattle.std.specs.Prelude.{is_some}
 use Rattle.strm_links.specs.Rows.{has}
 use Rattle.strm_mblk.specs.Arena as arena
-use Rattle.strm_mblk.specs.Arena.{held_at, shelved_blocks}
+use Rattle.strm_mblk.specs.Arena.{Arena, held_at, shelved_blocks}
 use Rattle.strm_mblk.specs.BlocksLayout.{arena_in, arena_of}
 use Rattle.strm_mblk.specs.Shelves.{heads_at}
 use Rattle.strm_mblk.proofs.Rewriting.{held_nodes}
 use Rattle.strm_mblk.proofs.Shelving.{IsUnshelved, heads_at-seen, unshelves}
 use Rattle.strm_mblk.proofs.Tokens.{token_had}
 use Rattle.strm_mblk.proofs.blocks.Blocks.unshelve.Goals as goal
-use Rattle.strm_mblk.proofs.blocks.Blocks.unshelve.Goals.{After-self, After-unshelve}
+use Rattle.strm_mblk.proofs.blocks.Blocks.unshelve.Goals.{After-from, After-unshelve}
 
 -- the message stands on the shelf
-there : (c : After-self) → has c.args.head (heads_at (arena_in c.self.inside) c.args.shelf) ≡ true
-there c = ap (λ a. has c.args.head (heads_at a c.args.shelf)) c.self.view_is ∙ c.requires.there
+there : (c : After-from) → has c.args.head (heads_at (arena_in c.self.inside) c.from.result) ≡ true
+there c = (λ i. has c.args.head (heads_at (c.self.view_is i) (c.from.ensures i))) ∙ c.requires.there
 
 pub unshelve-requires-clause-there : goal.unshelve-requires-clause-there
 unshelve-requires-clause-there c =
-    ap (has c.args.head) (sym (heads_at-seen c.self.inside.id c.self.inside.data.store c.self.inside.blocks.items c.self.inside.chains c.args.shelf))
-    ∙ there (goal.at.unshelve-requires-clause-there c).After-self
+    ap (has c.args.head) (sym (heads_at-seen c.self.inside.id c.self.inside.data.store c.self.inside.blocks.items c.self.inside.chains c.from.result))
+    ∙ there (goal.at.unshelve-requires-clause-there c).After-from
 
 is_unshelved : (c : After-unshelve) → IsUnshelved c.args.self.now c.self.inside.data c.self.inside.blocks.items c.unshelve.new.self c.self.inside.id c.args.shelf c.args.head
 is_unshelved c =
     subst (λ a. IsUnshelved a c.self.inside.data c.self.inside.blocks.items c.unshelve.new.self c.self.inside.id c.args.shelf c.args.head) c.self.view_is
-    (unshelves c.self.inside.id c.self.inside.data c.self.inside.blocks.items c.self.inside.chains c.self.invariant.filled c.args.shelf c.args.head
-    (subst (λ a. c.args.shelf < length a.shelves) (sym c.self.view_is) c.requires.shelf) (ap (λ a. has c.args.head (heads_at a c.args.shelf)) c.self.view_is ∙ c.requires.there)
-    c.unshelve.new.self c.unshelve.ensures.after c.unshelve.ensures.parted)
+    (subst (λ s. IsUnshelved (arena_in c.self.inside) c.self.inside.data c.self.inside.blocks.items c.unshelve.new.self c.self.inside.id s c.args.head) c.from.ensures
+    (unshelves c.self.inside.id c.self.inside.data c.self.inside.blocks.items c.self.inside.chains c.self.invariant.filled c.from.result c.args.head
+    (omega (arith, c.requires.shelf, c.from.ensures, ap (λ (a : Arena). length a.shelves) c.self.view_is)) ((λ i. has c.args.head (heads_at (c.self.view_is i) (c.from.ensures i))) ∙ c.requires.there)
+    c.unshelve.new.self c.unshelve.ensures.after c.unshelve.ensures.parted))
 
 pub len-requires : goal.len-requires
 len-requires c =

@@ -1,5 +1,5 @@
 use Rattle.std.proofs.Common.{◌≡◌, ◌≤◌, ◌<◌, ℕ, length}
-use Rattle.std.specs.Prelude.{drop, slice_get}
+use Rattle.std.specs.Prelude.{drop, slice_get, take}
 use Rattle.std.specs.Option.{IfSome}
 use Rattle.strm_data.specs.CountedStore.{IsKept, count_of}
 use Rattle.strm_data.specs.DataStore.{times}
@@ -12,8 +12,8 @@ abbrev pub invariant-loop-block : goal.invariant-loop-block
 invariant-loop-block l = record {
   value : l.at ≡ slice_get (nodes_at l.chains l.head) l._block;
   in_range : IfSome l.at (λ node. node < length l.chains.held);
-  after : with_names_dropped (drop l._block (named_by l.blocks (nodes_at l.chains l.head))) l.stored ≡ with_names_dropped (named_by l.blocks (nodes_at l.chains l.head)) l.fn.stored;
-  named : (d : ℕ) → times d (drop l._block (named_by l.blocks (nodes_at l.chains l.head))) ≤ count_of l.stored d;
+  after : with_names_dropped (drop l._block (take l.count (named_by l.blocks (nodes_at l.chains l.head)))) l.stored ≡ with_names_dropped (take l.count (named_by l.blocks (nodes_at l.chains l.head))) l.fn.stored;
+  named : (d : ℕ) → times d (drop l._block (take l.count (named_by l.blocks (nodes_at l.chains l.head)))) ≤ count_of l.stored d;
   many : length l.stored.store.blocks ≡ length l.fn.stored.store.blocks;
   kept : IsKept l.stored;
 }

@@ -1,4 +1,4 @@
-use Rattle.std.proofs.Common.{◌≢◌, ap, sym, ◌∙◌, subst, arith, refl}
+use Rattle.std.proofs.Common.{◌≢◌, length, ap, sym, ◌∙◌, subst, arith, refl}
 use Rattle.strm_links.specs.Rows.{list_at}
 use Rattle.strm_links.proofs.OneList.{first-without}
 use Rattle.strm_links.proofs.AllLists.{IsApart-list_at}
@@ -7,7 +7,7 @@ use Rattle.strm_mblk.specs.NodeLists.{NodeLists, IsNodesParted, after_begin}
 use Rattle.strm_mblk.proofs.Changed.{IsRemoved, IsPushed}
 use Rattle.strm_mblk.proofs.Moved.{IsChained-moved, begun_is}
 use Rattle.strm_mblk.proofs.Parted.{IsNodesParted-chained}
-use Rattle.strm_mblk.proofs.Seen.{chained_below, no_head}
+use Rattle.strm_mblk.proofs.Seen.{chained_below, length-held, no_head}
 use Rattle.strm_mblk.proofs.chains.Chains.begin.Goals as goal
 use Rattle.strm_mblk.proofs.chains.Chains.begin.Goals.{In_ok-first, After-parts_nodes-2}
 
@@ -52,6 +52,16 @@ returns-clause-after c =
     ∙ sym (ap (after_begin (nodes_of a.nodes a.shelves a.chains a.heads))
     (first-without c.in_ok-first.first (list_at a.nodes a.chains) (IsApart-list_at a.nodes a.chains.lists c.self.invariant.chains_parting.apart) (sym c.in_ok-first.ensures.value)))
     ∙ ap (λ (v : NodeLists). after_begin v v.free) c.self.view_is
+
+pub returns-clause-in_range : goal.returns-clause-in_range
+returns-clause-in_range c =
+    let a = c.self.inside in
+    omega (
+      arith,
+      chained_below _ _ _ _ c.self.invariant c.in_ok-first.first a.nodes c.in_ok-first.ensures.member,
+      length-held a.nodes a.shelves a.chains a.heads,
+      ap (λ (v : NodeLists). length v.held) c.self.view_is,
+    )
 
 pub returns-clause-parted : goal.returns-clause-parted
 returns-clause-parted c = IsNodesParted-chained _ _ _ _ (invariant_of-self c)

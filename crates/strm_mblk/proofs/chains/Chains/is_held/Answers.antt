@@ -1,14 +1,7 @@
-use Rattle.std.proofs.Common.{◌≡◌, ℕ, eqb, Option, Some, None, refl, ap, sym, ◌∙◌, arith}
-use Rattle.std.specs.Option.{option_eq}
+use Rattle.std.proofs.Common.{ap, sym, ◌∙◌, arith}
 use Rattle.strm_links.specs.Rows.{is_some_of}
-use Rattle.strm_mblk.proofs.Readings.{head_within, is_held_at}
+use Rattle.strm_mblk.proofs.Readings.{head_within, is_held_at, same_test}
 use Rattle.strm_mblk.proofs.chains.Chains.is_held.Goals as goal
-use Rattle.strm_mblk.proofs.chains.Chains.is_held.Goals.{After-self}
-
--- the two tests of an option are one
-same_test : (o : Option ℕ) (k : ℕ) → option_eq eqb o (Some k) ≡ is_some_of k o
-same_test None k = refl
-same_test (Some x) k = refl
 
 pub list_of-requires : goal.list_of-requires
 list_of-requires c = omega (arith, head_within _ _ _ _ c.self.invariant _ c.self.view_is c.args.head c.requires, c.self.invariant.head_nodes)

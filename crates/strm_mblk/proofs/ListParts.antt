@@ -1,0 +1,46 @@
+-- Parts of a list, and a part put in the place of another.
+use Rattle.std.proofs.Common.{◌≡◌, ℕ, zero, suc, ◌+◌, ◌-◌, ◌≤◌, List, [], ◌∷◌, ◌++◌, length, take, drop, Some, None, refl, sym, ap, ◌∙◌, inl, inr, arith}
+use Rattle.std.specs.Prelude.{min, slice_get}
+use Rattle.std.proofs.lemmas.Bool.{cases_lt}
+use Rattle.std.proofs.lemmas.List.{append-nil, drop-drop, drop-take, drop_all, length-drop, take-take}
+use Rattle.std.proofs.lemmas.Option.{none-some, same_Some}
+use borrow.Rule.Slice.PartMut.{put_mid}
+
+-- a list from a place on
+pub drop_from : {X : Type 0} (xs : List X) (k : ℕ) (x : X) → slice_get xs k ≡ Some x → drop k xs ≡ x ∷ drop (k + 1) xs
+drop_from [] k x is = absurd (none-some x is)
+drop_from (y ∷ xs) zero x is = ap (λ z. z ∷ xs) (same_Some y x is)
+drop_from (y ∷ xs) (suc k) x is =
+    drop_from xs k x is ∙ ap (λ j. x ∷ drop j (y ∷ xs)) (let e : suc (k + 1) ≡ suc k + 1 = omega arith in e)
+
+-- and from behind the last on
+pub drop_past : {X : Type 0} (xs : List X) (k : ℕ) → slice_get xs k ≡ None → drop k xs ≡ []
+drop_past [] zero none = refl
+drop_past [] (suc k) none = refl
+drop_past (x ∷ xs) zero none = absurd (none-some x (sym none))
+drop_past (x ∷ xs) (suc k) none = drop_past xs k none
+
+-- a part of a part of a list, as a part of the list
+pub take-part : {X : Type 0} (n at len from : ℕ) (xs : List X) → n ≤ len - min at len → take n (drop (from + min at len) xs) ≡ take n (drop at (take len (drop from xs)))
+take-part n at len from xs few =
+    elim (cases_lt len at) [
+      | inl past ↦
+          let none : n ≡ 0 = omega arith in
+          (λ i. take (none i) (drop (from + min at len) xs)) ∙ (λ i. take (sym none i) (drop at (take len (drop from xs))))
+      | inr within ↦
+          let here : min at len ≡ at = omega arith in
+          let more : at + (len - at) ≡ len = omega arith in
+          ap (λ k. take n (drop (from + k) xs)) here ∙ ap (take n) (sym (drop-drop at from xs))
+          ∙ sym (ap (λ k. take n (drop at (take k (drop from xs)))) (sym more) ∙ ap (take n) (drop-take at (len - at) (drop from xs)) ∙ take-take n (len - at) (drop at (drop from xs)) (omega arith))
+    ]
+
+-- two lists, one behind the other, without the first of them
+pub drop-append : {X : Type 0} (n : ℕ) (xs ys : List X) → drop n (xs ++ ys) ≡ drop n xs ++ drop (n - length xs) ys
+drop-append zero xs ys = ap (λ k. xs ++ drop k ys) (let e : 0 ≡ 0 - length xs = omega arith in e)
+drop-append (suc n) [] ys = ap (λ k. drop k ys) (let e : suc n ≡ suc n - 0 = omega arith in e)
+drop-append (suc n) (x ∷ xs) ys = drop-append n xs ys ∙ ap (λ k. drop n xs ++ drop k ys) (let e : n - length xs ≡ suc n - length (x ∷ xs) = omega arith in e)
+
+-- a list whose part from a place on is another
+pub put_rest : {X : Type 0} (a : ℕ) (xs ys : List X) → put_mid a (length xs - a) xs ys ≡ take a xs ++ ys
+put_rest a xs ys =
+    ap (λ zs. take a xs ++ (ys ++ zs)) (drop_all (length xs - a) (drop a xs) (omega (arith, length-drop a xs))) ∙ ap (λ zs. take a xs ++ zs) (append-nil ys)

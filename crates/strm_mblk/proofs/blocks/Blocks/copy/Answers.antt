@@ -1,0 +1,97 @@
+use Rattle.std.proofs.Common.{◌≡◌, ℕ, ◌+◌, ◌≤◌, List, true, length, ap, subst, sym, ◌∙◌, Ok, arith}
+use Rattle.std.specs.Prelude.{is_some, take}
+use Rattle.std.specs.Result.{is_ok}
+use Rattle.std.specs.Vec.{with_items}
+use Rattle.std.proofs.lemmas.List.{with_items_is}
+use Rattle.strm_data.specs.DataStore.{times}
+use Rattle.strm_mblk.specs.declared.blocks.Fields.{Fields}
+use Rattle.strm_mblk.specs.declared.token.TokenValue.{TokenValue}
+use Rattle.strm_mblk.specs.Arena.{Arena, has, held_at, shelved_blocks, token_of}
+use Rattle.strm_mblk.specs.BlockCalls.{copies}
+use Rattle.strm_mblk.specs.BlocksLayout.{arena_in, arena_of, message_of}
+use Rattle.strm_mblk.specs.Copying.{AreCopied}
+use Rattle.strm_mblk.specs.Given.{after, answer_map, answer_of}
+use Rattle.strm_mblk.specs.NodeLists.{nodes_at}
+use Rattle.strm_mblk.proofs.BegunBeside.{IsBeside, beside}
+use Rattle.strm_mblk.proofs.Copied.{IsCopied, copied_all}
+use Rattle.strm_mblk.proofs.Tokens.{token_had}
+use Rattle.strm_mblk.proofs.blocks.Blocks.copy.Goals as goal
+use Rattle.strm_mblk.proofs.blocks.Blocks.copy.Goals.{After-begin_all-head, After-copy_blocks}
+
+module _ (c : After-begin_all-head) where
+  had : has (arena_in c.self.inside) c.args.token.now ≡ true
+  had = subst (λ a. has a c.args.token.now ≡ true) (sym c.self.view_is) c.requires.had
+
+  is_beside : IsBeside c.self.inside.chains c.begin_all-head.new.self c.args.token.now.head c.begin_all-head.result c.args.count
+  is_beside =
+      beside c.self.inside.id c.self.inside.data c.self.inside.blocks.items c.self.inside.chains c.self.invariant.filled c.args.token.now had c.args.count c.requires.some c.requires.enough
+      (omega (arith, c.if-free_len-count.false, c.free_len.ensures)) c.begin_all-head.result c.begin_all-head.ensures.answer c.begin_all-head.new.self c.begin_all-head.ensures.after
+
+pub copy_blocks-requires-clause-into : goal.copy_blocks-requires-clause-into
+copy_blocks-requires-clause-into c = (is_beside (goal.at.copy_blocks-requires-clause-into c).After-begin_all-head).into
+
+pub copy_blocks-requires-clause-count : goal.copy_blocks-requires-clause-count
+copy_blocks-requires-clause-count c = (is_beside (goal.at.copy_blocks-requires-clause-count c).After-begin_all-head).many
+
+pub copy_blocks-requires-clause-apart : goal.copy_blocks-requires-clause-apart
+copy_blocks-requires-clause-apart c n =
+    subst (λ g. times n (nodes_at c.begin_all-head.new.self g) + times n (nodes_at c.begin_all-head.new.self c.begin_all-head.result) ≤ 1) (sym c.head-from.ensures)
+    ((is_beside (goal.at.copy_blocks-requires-clause-apart c).After-begin_all-head).apart n)
+
+pub copy_blocks-requires-clause-fit : goal.copy_blocks-requires-clause-fit
+copy_blocks-requires-clause-fit c =
+    let nodes : nodes_at c.begin_all-head.new.self c.head-from.result ≡ nodes_at c.self.inside.chains c.head-from.result =
+    ap (nodes_at c.begin_all-head.new.self) c.head-from.ensures ∙ (is_beside (goal.at.copy_blocks-requires-clause-fit c).After-begin_all-head).from_is
+    ∙ ap (nodes_at c.self.inside.chains) (sym c.head-from.ensures) in
+    (λ i. is_ok (copies (take c.args.count (message_of ((c.deref_mut.ensures.value ∙ sym c.deref.ensures.value) i) (nodes i))) c.self.inside.data.store))
+    ∙ sym c.copies_fit.ensures.fit ∙ c.if-not-copies_fit.false
+
+module _ (c : After-copy_blocks) where
+  -- what message blocks say then
+  abbrev said : List Fields
+  said = (with_items c.self.inside.blocks c.copy_blocks.new.blocks).items
+
+  said_is : said ≡ c.copy_blocks.new.blocks
+  said_is = with_items_is c.self.inside.blocks c.copy_blocks.new.blocks (c.copy_blocks.auto.blocks ∙ c.deref_mut.ensures.len)
+
+  abbrev now : Arena
+  now = arena_of c.self.inside.id c.copy_blocks.new.stored.store said c.begin_all-head.new.self
+
+  is_copied : IsCopied c.args.self.now c.copy_blocks.new.stored said c.begin_all-head.new.self c.self.inside.id c.begin_all-head.result c.args.count c.args.token.now
+  is_copied =
+      subst (λ a. IsCopied a c.copy_blocks.new.stored said c.begin_all-head.new.self c.self.inside.id c.begin_all-head.result c.args.count c.args.token.now) c.self.view_is
+      (copied_all c.self.inside.id c.self.inside.data c.self.inside.blocks.items c.self.inside.chains c.self.invariant.filled c.args.token.now (subst (λ a. has a c.args.token.now ≡ true) (sym c.self.view_is) c.requires.had)
+      c.args.count c.requires.some c.requires.enough (omega (arith, c.if-free_len-count.false, c.free_len.ensures))
+      c.begin_all-head.result c.begin_all-head.ensures.answer c.begin_all-head.new.self c.begin_all-head.ensures.after c.begin_all-head.ensures.parted
+      c.copy_blocks.new.stored said c.copy_blocks.ensures.kept
+      (subst (λ (p : List Fields × (ℕ × List Fields)).
+      AreCopied (take c.args.count (message_of p.0 (nodes_at c.begin_all-head.new.self p.1.0))) (nodes_at c.begin_all-head.new.self c.begin_all-head.result) p.0 p.1.1 c.self.inside.data c.copy_blocks.new.stored)
+      (λ i. (c.deref_mut.ensures.value i, (c.head-from.ensures i, sym said_is i))) c.copy_blocks.ensures.after))
+
+pub invariant_of-self : goal.invariant_of-self
+invariant_of-self c =
+    let is = is_copied (goal.at.invariant_of-self c).After-copy_blocks in
+    record { filled = is.begun.filled; queued = c.self.invariant.queued ∙ ap (λ a. length (shelved_blocks a)) c.self.view_is ∙ ap length (sym is.begun.shelved) }
+
+pub token-requires : goal.token-requires
+token-requires c = ap is_some (is_copied (goal.at.token-requires c).After-copy_blocks).begun.held
+
+pub returns-clause-after : goal.returns-clause-after
+returns-clause-after c = sym (ap (after c.args.self.now) (is_copied (goal.at.returns-clause-after c).After-copy_blocks).done)
+
+pub returns-clause-token : goal.returns-clause-token
+returns-clause-token c =
+    let at = (goal.at.returns-clause-token c).After-copy_blocks in
+    ap (λ (t : TokenValue). Ok t) c.token.ensures ∙ ap (answer_map (token_of (now at))) (sym (ap answer_of (is_copied at).done))
+
+pub returns-clause-had : goal.returns-clause-had
+returns-clause-had c =
+    let at = (goal.at.returns-clause-had c).After-copy_blocks in
+    ap (has (now at)) c.token.ensures ∙ token_had (now at) c.begin_all-head.result _ (is_copied at).begun.held
+
+pub returns-clause-unheld : goal.returns-clause-unheld
+returns-clause-unheld c =
+    ap (λ (t : TokenValue). held_at c.args.self.now t.head) c.token.ensures ∙ (is_copied (goal.at.returns-clause-unheld c).After-copy_blocks).begun.absent
+
+pub returns-clause-source : goal.returns-clause-source
+returns-clause-source c = (is_copied (goal.at.returns-clause-source c).After-copy_blocks).source

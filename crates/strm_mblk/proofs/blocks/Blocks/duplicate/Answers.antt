@@ -1,0 +1,131 @@
+use Rattle.std.proofs.Common.{◌≡◌, ℕ, ◌+◌, ◌<◌, ◌≤◌, true, false, not, Bool, List, length, ap, refl, subst, sym, ◌∙◌, Ok, Err, map, take, arith}
+use Rattle.std.specs.Prelude.{is_some}
+use Rattle.strm_data.specs.CountedStore.{CountedStore, count_of}
+use Rattle.strm_data.specs.DataStore.{times}
+use Rattle.strm_data.specs.declared.refusal.Refusal.TheVariants.{RefMax}
+use Rattle.std.specs.Vec.{with_items}
+use Rattle.std.proofs.lemmas.List.{with_items_is}
+use Rattle.strm_mblk.specs.declared.blocks.Fields.{Fields}
+use Rattle.strm_mblk.specs.declared.token.TokenValue.{TokenValue}
+use Rattle.strm_mblk.specs.Arena.{Arena, has, held_at, message_at, shelved_blocks, token_of}
+use Rattle.strm_mblk.specs.BlockCalls.{duplicated}
+use Rattle.strm_mblk.specs.BlocksLayout.{arena_in, arena_of, exceeds_counts, fields_at, named_by, with_fields, with_names_given}
+use Rattle.strm_mblk.specs.Given.{after, answer_map, answer_of}
+use Rattle.strm_mblk.specs.NodeLists.{nodes_at}
+use Rattle.strm_mblk.proofs.BegunBeside.{IsBeside, beside}
+use Rattle.strm_mblk.proofs.Duplicated.{IsDuplicated, duplicates, refused, used}
+use Rattle.strm_mblk.proofs.Tokens.{token_had}
+use Rattle.strm_mblk.proofs.blocks.Blocks.duplicate.Goals as goal
+use Rattle.strm_mblk.proofs.blocks.Blocks.duplicate.Goals.{After-copy_fields, After-deref, After-deref_mut, Then-not-give_names}
+
+module _ (c : After-deref) where
+  had : has (arena_in c.self.inside) c.args.token.now ≡ true
+  had = subst (λ a. has a c.args.token.now ≡ true) (sym c.self.view_is) c.requires.had
+
+  -- the data blocks that the message names
+  named_is : named_by c.deref.result.now (nodes_at c.self.inside.chains c.head-from.result) ≡ named_by c.self.inside.blocks.items (nodes_at c.self.inside.chains c.args.token.now.head)
+  named_is = λ i. named_by (c.deref.ensures.value i) (nodes_at c.self.inside.chains (c.head-from.ensures i))
+
+  in_use : (d : ℕ) → 0 < times d (named_by c.deref.result.now (nodes_at c.self.inside.chains c.head-from.result)) → 0 < count_of c.self.inside.data d
+  in_use =
+      subst (λ ds. (d : ℕ) → 0 < times d ds → 0 < count_of c.self.inside.data d) (sym named_is)
+      (used c.self.inside.id c.self.inside.data c.self.inside.blocks.items c.self.inside.chains c.self.invariant.filled c.args.token.now had c.args.count c.requires.some c.requires.enough)
+
+pub give_names-requires-clause-used : goal.give_names-requires-clause-used
+give_names-requires-clause-used c = in_use (goal.at.give_names-requires-clause-used c).After-deref
+
+-- what is refused, and what isn't
+refused_by : (b : Bool) → false ≡ not b → b ≡ true
+refused_by true is = refl
+refused_by false is = is
+
+given_by : (b : Bool) → true ≡ not b → b ≡ false
+given_by true is = is
+given_by false is = refl
+
+too_many : (c : Then-not-give_names) → duplicated (take c.args.count (message_at c.args.self.now c.args.token.now.head)) c.args.self.now ≡ Err RefMax
+too_many c =
+    let at = (goal.at.returns-then-not-give_names-clause-after c).After-deref in
+    subst (λ a. duplicated (take c.args.count (message_at a c.args.token.now.head)) a ≡ Err RefMax) c.self.view_is
+    (refused c.self.inside.id c.self.inside.data c.self.inside.blocks.items c.self.inside.chains c.self.invariant.filled c.args.token.now (had at) c.args.count c.requires.some c.requires.enough
+    (omega (arith, c.if-free_len-count.false, c.free_len.ensures))
+    (refused_by _ (c.if-not-give_names.ensures.answer ∙ ap (λ ds. not (exceeds_counts (take c.args.count ds) c.self.inside.data)) (named_is at))))
+
+pub returns-then-not-give_names-clause-after : goal.returns-then-not-give_names-clause-after
+returns-then-not-give_names-clause-after c =
+    ap (λ (st : CountedStore). arena_of c.self.inside.id st.store c.self.inside.blocks.items c.self.inside.chains) c.if-not-give_names.ensures.after
+    ∙ c.self.view_is ∙ sym (ap (after c.args.self.now) (too_many c))
+
+pub returns-then-not-give_names-clause-token : goal.returns-then-not-give_names-clause-token
+returns-then-not-give_names-clause-token c =
+    sym (ap (λ g. answer_map (token_of (arena_of c.self.inside.id c.give_names.new.stored.store c.self.inside.blocks.items c.self.inside.chains)) (answer_of g)) (too_many c))
+
+is_beside : (c : After-deref_mut) → IsBeside c.self.inside.chains c.begin_all-head.new.self c.args.token.now.head c.begin_all-head.result c.args.count
+is_beside c =
+    beside c.self.inside.id c.self.inside.data c.self.inside.blocks.items c.self.inside.chains c.self.invariant.filled c.args.token.now (subst (λ a. has a c.args.token.now ≡ true) (sym c.self.view_is) c.requires.had)
+    c.args.count c.requires.some c.requires.enough (omega (arith, c.if-free_len-count.false, c.free_len.ensures))
+    c.begin_all-head.result c.begin_all-head.ensures.answer c.begin_all-head.new.self c.begin_all-head.ensures.after
+
+pub copy_fields-requires-clause-to : goal.copy_fields-requires-clause-to
+copy_fields-requires-clause-to c = (is_beside c).into
+
+pub copy_fields-requires-clause-count : goal.copy_fields-requires-clause-count
+copy_fields-requires-clause-count c = sym (is_beside c).many
+
+pub copy_fields-requires-clause-apart : goal.copy_fields-requires-clause-apart
+copy_fields-requires-clause-apart c k =
+    subst (λ e. times k (nodes_at c.begin_all-head.new.self e) + times k (nodes_at c.begin_all-head.new.self c.begin_all-head.result) ≤ 1) (sym c.head-from.ensures)
+    ((is_beside c).apart k)
+
+module _ (c : After-copy_fields) where
+  -- what message blocks say then
+  abbrev said : List Fields
+  said = (with_items c.self.inside.blocks c.copy_fields.new.blocks).items
+
+  said_is : said ≡ c.copy_fields.new.blocks
+  said_is = with_items_is c.self.inside.blocks c.copy_fields.new.blocks (c.copy_fields.auto.blocks ∙ c.deref_mut.ensures.len)
+
+  abbrev now : Arena
+  now = arena_of c.self.inside.id c.give_names.new.stored.store said c.begin_all-head.new.self
+
+  is_duplicated : IsDuplicated c.args.self.now c.give_names.new.stored said c.begin_all-head.new.self c.self.inside.id c.begin_all-head.result (take c.args.count (message_at c.args.self.now c.args.token.now.head)) c.args.token.now
+  is_duplicated =
+      let names : named_by c.deref.result.now (nodes_at c.self.inside.chains c.head-from.result) ≡ named_by c.self.inside.blocks.items (nodes_at c.self.inside.chains c.args.token.now.head) =
+      λ i. named_by (c.deref.ensures.value i) (nodes_at c.self.inside.chains (c.head-from.ensures i)) in
+      subst (λ a. IsDuplicated a c.give_names.new.stored said c.begin_all-head.new.self c.self.inside.id c.begin_all-head.result (take c.args.count (message_at a c.args.token.now.head)) c.args.token.now) c.self.view_is
+      (duplicates c.self.inside.id c.self.inside.data c.self.inside.blocks.items c.self.inside.chains c.self.invariant.filled c.args.token.now (subst (λ a. has a c.args.token.now ≡ true) (sym c.self.view_is) c.requires.had)
+      c.args.count c.requires.some c.requires.enough (omega (arith, c.if-free_len-count.false, c.free_len.ensures))
+      c.begin_all-head.result c.begin_all-head.ensures.answer c.begin_all-head.new.self c.begin_all-head.ensures.after c.begin_all-head.ensures.parted
+      c.give_names.new.stored said c.if-not-give_names.ensures.kept
+      (given_by _ (c.if-not-give_names.ensures.answer ∙ ap (λ ds. not (exceeds_counts (take c.args.count ds) c.self.inside.data)) names))
+      (c.if-not-give_names.ensures.after ∙ ap (λ ds. with_names_given (take c.args.count ds) c.self.inside.data) names)
+      (said_is ∙ c.copy_fields.ensures
+      ∙ (λ i. with_fields (nodes_at c.begin_all-head.new.self c.begin_all-head.result) (map (fields_at (c.deref_mut.ensures.value i)) (take c.args.count (nodes_at c.begin_all-head.new.self (c.head-from.ensures i)))) (c.deref_mut.ensures.value i))))
+
+pub invariant_of-self-2 : goal.invariant_of-self-2
+invariant_of-self-2 c =
+    let is = is_duplicated (goal.at.invariant_of-self-2 c).After-copy_fields in
+    record { filled = is.begun.filled; queued = c.self.invariant.queued ∙ ap (λ a. length (shelved_blocks a)) c.self.view_is ∙ ap length (sym is.begun.shelved) }
+
+pub token-requires : goal.token-requires
+token-requires c = ap is_some (is_duplicated (goal.at.token-requires c).After-copy_fields).begun.held
+
+pub returns-clause-after : goal.returns-clause-after
+returns-clause-after c = sym (ap (after c.args.self.now) (is_duplicated (goal.at.returns-clause-after c).After-copy_fields).done)
+
+pub returns-clause-token : goal.returns-clause-token
+returns-clause-token c =
+    let at = (goal.at.returns-clause-token c).After-copy_fields in
+    ap (λ (t : TokenValue). Ok t) c.token.ensures ∙ ap (answer_map (token_of (now at))) (sym (ap answer_of (is_duplicated at).done))
+
+pub returns-clause-had : goal.returns-clause-had
+returns-clause-had c =
+    let at = (goal.at.returns-clause-had c).After-copy_fields in
+    ap (has (now at)) c.token.ensures ∙ token_had (now at) c.begin_all-head.result _ (is_duplicated at).begun.held
+
+pub returns-clause-unheld : goal.returns-clause-unheld
+returns-clause-unheld c =
+    ap (λ (t : TokenValue). held_at c.args.self.now t.head) c.token.ensures ∙ (is_duplicated (goal.at.returns-clause-unheld c).After-copy_fields).begun.absent
+
+pub returns-clause-source : goal.returns-clause-source
+returns-clause-source c = (is_duplicated (goal.at.returns-clause-source c).After-copy_fields).source

@@ -1,0 +1,164 @@
+use Rattle.std.proofs.Common.{rules, w32, ◌≡◌, ℕ, ◌-◌, ◌<◌, ◌≤◌, true, length, List, ◌∷◌, Some, Ok, Err, ap, sym, ◌∙◌, arith}
+use Rattle.std.specs.Prelude.{is_some, drop}
+use Rattle.std.proofs.lemmas.Int.{to_z-of_z}
+use Rattle.std.proofs.lemmas.List.{get_or_read, length-map}
+use Rattle.strm_data.specs.Classes.{fits_a_class}
+use Rattle.strm_mblk.specs.declared.blocks.Fields.{Fields}
+use Rattle.strm_mblk.specs.Arena.{Arena, has, held_at, message_at, token_of}
+use Rattle.strm_mblk.specs.Block.{Block, size_of}
+use Rattle.strm_mblk.specs.BlocksLayout.{block_at, fields_at, message_of, no_fields}
+use Rattle.strm_mblk.specs.Given.{after, answer_of}
+use Rattle.strm_mblk.specs.Messages.{held_in}
+use Rattle.strm_mblk.specs.NodeLists.{nodes_at}
+use Rattle.strm_mblk.specs.Pulling.{drained, gather}
+use Rattle.strm_mblk.specs.Trimming.{bytes_asked, pullupmsg, run_of}
+use Rattle.strm_mblk.proofs.Pulled.{IsPulled, gather_answer, gathered_held, lawful_few, pull_had, pull_large, pulls, run_most}
+use Rattle.strm_mblk.proofs.Refilled.{head_held}
+use Rattle.strm_mblk.proofs.Rewriting.{held_nodes}
+use Rattle.strm_mblk.proofs.SecondTaken.{IsHeldHead, seen_head}
+use Rattle.strm_mblk.proofs.Shown.{message_at-seen}
+use Rattle.strm_mblk.proofs.Tokens.{had_message, token_had}
+use Rattle.strm_mblk.proofs.Unlinkb.{token_is}
+use Rattle.strm_mblk.proofs.blocks.Blocks.pullupmsg.Goals as goal
+use Rattle.strm_mblk.proofs.blocks.Blocks.pullupmsg.Goals.{After-index, After-set_blocks, After-from_residual}
+
+-- ---- the message
+
+module _ (c : After-index) where
+  abbrev h : ℕ
+  h = c.args.token.now.head
+
+  abbrev items : List Fields
+  items = c.self.inside.blocks.items
+
+  -- its first block, and the blocks behind it
+  abbrev b : Block
+  b = block_at items h
+
+  abbrev bs : List Block
+  bs = message_of items (drop 1 (nodes_at c.self.inside.chains h))
+
+  head : IsHeldHead items c.self.inside.chains h
+  head =
+      seen_head c.self.inside.id c.self.inside.data items c.self.inside.chains c.self.invariant.filled h c.args.self.now c.self.view_is
+      (ap is_some (had_message c.args.self.now c.args.token.now c.requires).1.held)
+
+  held : held_at c.args.self.now h ≡ Some (b ∷ bs)
+  held = ap (λ a. held_at a h) (sym c.self.view_is) ∙ head_held c.self.inside.id c.self.inside.data items c.self.inside.chains c.self.invariant.filled h head
+
+  -- what was read is what the first block says
+  read : c.index.result.now ≡ fields_at items h
+  read = get_or_read items c.head-head.result c.index.result.now (omega (arith, head.there, c.head-head.ensures)) c.index.ensures no_fields ∙ ap (fields_at items) c.head-head.ensures
+
+  len_is : c.index.result.now.len ≡ b.len
+  len_is = ap (λ (f : Fields). f.len) read
+
+  -- what is asked for is there
+  asked : bytes_asked c.args.count (run_of c.args.self.now.store (message_at c.args.self.now h)) ≡ Some c.in-Some.wanted
+  asked =
+      ap (λ z. bytes_asked z (run_of c.args.self.now.store (message_at c.args.self.now h))) (sym (to_z-of_z w32 c.args.count c.ranges.count))
+      ∙ sym (c.bytes_asked.ensures (run_of c.args.self.now.store (message_at c.args.self.now h)) (sym c.run_size-run.ensures)) ∙ c.in-Some.is
+
+  enough : c.in-Some.wanted ≤ size_of (run_of c.args.self.now.store (message_at c.args.self.now h))
+  enough = omega (arith, c.if-wanted-run.false, c.run_size-run.ensures)
+
+-- ---- it is there already
+
+pub returns-then-wanted-len-clause-after : goal.returns-then-wanted-len-clause-after
+returns-then-wanted-len-clause-after c =
+    let d = (goal.at.returns-then-wanted-len-clause-after c).After-index in
+    ap (after c.args.self.now)
+    (sym (pull_had (h d) c.in-Some.wanted (b d) (bs d) c.args.self.now (held d) c.args.count (asked d) (enough d) (omega (arith, c.if-wanted-len.true, len_is d))))
+
+pub returns-then-wanted-len-clause-answer : goal.returns-then-wanted-len-clause-answer
+returns-then-wanted-len-clause-answer c =
+    let d = (goal.at.returns-then-wanted-len-clause-answer c).After-index in
+    ap answer_of
+    (sym (pull_had (h d) c.in-Some.wanted (b d) (bs d) c.args.self.now (held d) c.args.count (asked d) (enough d) (omega (arith, c.if-wanted-len.true, len_is d))))
+
+-- ---- no data block is there
+
+more : (c : After-index) → c.index.result.now.len < c.in-Some.wanted → (b c).len < c.in-Some.wanted
+more c many = omega (arith, many, len_is c)
+
+pub returns-then-not-has_class_for-clause-answer : goal.returns-then-not-has_class_for-clause-answer
+returns-then-not-has_class_for-clause-answer c =
+    let d = (goal.at.returns-then-not-has_class_for-clause-answer c).After-index in
+    pull_large (h d) c.in-Some.wanted (b d) (bs d) c.args.self.now (held d) c.args.count (asked d) (enough d) (more d c.if-wanted-len.false)
+    (ap (λ (a : Arena). fits_a_class c.in-Some.wanted a.store.classes) (sym c.self.view_is) ∙ sym c.has_class_for.ensures ∙ c.if-not-has_class_for.true)
+
+pub gather-requires-clause-few : goal.gather-requires-clause-few
+gather-requires-clause-few c =
+    lawful_few c.in-Some.wanted c.self.inside.data.store.classes c.self.invariant.filled.kept.lawful (sym c.has_class_for.ensures ∙ c.if-not-has_class_for.false)
+
+pub gather-requires-clause-enough : goal.gather-requires-clause-enough
+gather-requires-clause-enough c =
+    let d = (goal.at.gather-requires-clause-enough c).After-index in
+    omega (arith, enough d, run_most c.args.self.now.store (message_at c.args.self.now c.args.token.now.head))
+
+refused : (c : After-from_residual) → c.from_residual.result ≡ Err c.in_err-gather.field-0.0
+refused c = search rules
+
+pub returns-in_err-gather-clause-answer : goal.returns-in_err-gather-clause-answer
+returns-in_err-gather-clause-answer c =
+    let d = (goal.at.returns-in_err-gather-clause-answer c).After-index in
+    refused (goal.at.returns-in_err-gather-clause-answer c).After-from_residual
+    ∙ sym c.in_err-gather.was ∙ c.gather.ensures.answer
+    ∙ gather_answer (h d) c.in-Some.wanted (b d) (bs d) c.args.self.now (held d) c.args.count (asked d) (enough d) (more d c.if-wanted-len.false)
+
+-- ---- the first block takes a data block, and the others lose the bytes
+
+module _ (c : After-index) (many : c.index.result.now.len < c.in-Some.wanted) (first : Arena) (first_is : first ≡ after c.args.self.now (gather (h c) c.in-Some.wanted c.args.self.now))
+    (u : Unit {0}) (given : answer_of (gather (h c) c.in-Some.wanted c.args.self.now) ≡ Ok u) where
+  still_held : is_some (held_at first c.head-head.result) ≡ true
+  still_held =
+      ap (λ k. is_some (held_at first k)) c.head-head.ensures
+      ∙ ap is_some (gathered_held (h c) c.in-Some.wanted (b c) (bs c) c.args.self.now (held c) c.args.count (asked c) (enough c) (more c many) first first_is u given)
+
+  is_pulled : (new : Arena) → new ≡ drained c.head-head.result (c.in-Some.wanted - c.index.result.now.len) (message_at first c.head-head.result) first
+      → IsPulled (h c) c.in-Some.wanted c.args.self.now (pullupmsg (h c) c.args.count c.args.self.now) new
+  is_pulled new is =
+      pulls (h c) c.in-Some.wanted (b c) (bs c) c.args.self.now (held c) c.args.count (asked c) (enough c) (more c many) first first_is u given new
+      (is ∙ (λ i. drained (c.head-head.ensures i) (c.in-Some.wanted - len_is c i) (message_at first (c.head-head.ensures i)) first))
+
+pub drain-requires-clause-held : goal.drain-requires-clause-held
+drain-requires-clause-held c =
+    still_held (goal.at.drain-requires-clause-held c).After-index c.if-wanted-len.false c.gather.new.self c.gather.ensures.after c.in_ok-gather.field-0
+    (sym c.gather.ensures.answer ∙ c.in_ok-gather.was)
+
+pub len-requires : goal.len-requires
+len-requires c =
+    let is =
+    is_pulled (goal.at.len-requires c).After-index c.if-wanted-len.false c.gather.new.self c.gather.ensures.after c.in_ok-gather.field-0
+    (sym c.gather.ensures.answer ∙ c.in_ok-gather.was) c.drain.new.self c.drain.ensures in
+    ap (λ k. is_some (held_in c.self-2.inside.chains.held k)) c.head-head.ensures
+    ∙ ap is_some (held_nodes c.self-2.inside.id c.self-2.inside.data.store c.self-2.inside.blocks.items c.self-2.inside.chains c.args.token.now.head _ (ap (λ a. held_at a c.args.token.now.head) c.self-2.view_is ∙ is.held)).1.held
+
+module _ (c : After-set_blocks) where
+  done : IsPulled c.args.token.now.head c.in-Some.wanted c.args.self.now (pullupmsg c.args.token.now.head c.args.count c.args.self.now) c.drain.new.self
+  done =
+      is_pulled (goal.at.returns-clause-token c).After-index c.if-wanted-len.false c.gather.new.self c.gather.ensures.after c.in_ok-gather.field-0
+      (sym c.gather.ensures.answer ∙ c.in_ok-gather.was) c.drain.new.self c.drain.ensures
+
+  -- the token says how many blocks the message has
+  token_now : c.set_blocks.new.self ≡ token_of c.drain.new.self c.args.token.now.head
+  token_now =
+      token_is c.args.self.now c.drain.new.self c.args.token.now c.set_blocks.new.self c.len.result (had_message c.args.self.now c.args.token.now c.requires).1.pool done.id c.set_blocks.ensures
+      (ap (λ a. length (message_at a c.args.token.now.head)) (sym c.self-2.view_is)
+      ∙ ap length (message_at-seen c.self-2.inside.id c.self-2.inside.data.store c.self-2.inside.blocks.items c.self-2.inside.chains c.args.token.now.head)
+      ∙ length-map (nodes_at c.self-2.inside.chains c.args.token.now.head) (block_at c.self-2.inside.blocks.items)
+      ∙ ap (λ k. length (nodes_at c.self-2.inside.chains k)) (sym c.head-head.ensures) ∙ sym c.len.ensures)
+
+pub returns-clause-after : goal.returns-clause-after
+returns-clause-after c = sym (ap (after c.args.self.now) (done (goal.at.returns-clause-after c).After-set_blocks).done)
+
+pub returns-clause-answer : goal.returns-clause-answer
+returns-clause-answer c = sym (ap answer_of (done (goal.at.returns-clause-answer c).After-set_blocks).done)
+
+pub returns-clause-token : goal.returns-clause-token
+returns-clause-token c = token_now (goal.at.returns-clause-token c).After-set_blocks
+
+pub returns-clause-had : goal.returns-clause-had
+returns-clause-had c =
+    let d = (goal.at.returns-clause-had c).After-set_blocks in
+    ap (has c.drain.new.self) (token_now d) ∙ token_had c.drain.new.self c.args.token.now.head _ (done d).held

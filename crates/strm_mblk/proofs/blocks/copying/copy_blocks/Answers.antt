@@ -1,0 +1,98 @@
+use Rattle.std.proofs.Common.{◌≡◌, ℕ, ◌∷◌, ◌+◌, ◌<◌, ap, sym, ◌∙◌, subst, arith, List, Some, true, length, set}
+use Rattle.std.specs.Prelude.{drop, slice_get, take}
+use Rattle.std.specs.Option.{IfSome}
+use Rattle.std.specs.Result.{is_ok}
+use Rattle.strm_data.specs.CountedStore.{CountedStore}
+use Rattle.strm_data.specs.DataStore.{capacity_of, take_data}
+use Rattle.strm_mblk.specs.declared.blocks.Fields.{Fields}
+use Rattle.strm_mblk.specs.Block.{Block}
+use Rattle.strm_mblk.specs.BlocksLayout.{IsPlaced, block_at, block_of, fields_at, fields_of, message_of}
+use Rattle.strm_mblk.specs.Copying.{with_copy}
+use Rattle.strm_mblk.specs.NodeLists.{nodes_at}
+use Rattle.strm_mblk.proofs.Copies.{next_block}
+use Rattle.strm_mblk.proofs.CopiesMade.{IsCopying, next_copied, next_fits, none_copied, source_stays}
+use Rattle.strm_mblk.proofs.Places.{nodes_room}
+use Rattle.strm_mblk.proofs.Rewriting.{times_at}
+use Rattle.strm_mblk.proofs.Rooms.{placed-over}
+use Rattle.strm_mblk.proofs.blocks.copying.copy_blocks.Goals as goal
+use Rattle.strm_mblk.proofs.blocks.copying.copy_blocks.Goals.{After-unwrap-written}
+
+pub loop-block-init : goal.loop-block-init
+loop-block-init c = record {
+  source = sym c.requires.from;
+  target = sym c.requires.into;
+  source_range = nodes_room c.args.chains.now c.args.from c.args.from c.requires.from;
+  target_range = nodes_room c.args.chains.now c.args.into c.args.into c.requires.into;
+  copying = none_copied _ _ c.args.blocks.now c.args.stored.now;
+  kept = c.requires.kept;
+}
+
+module _ (c : After-unwrap-written) where
+  -- the blocks that are copied
+  abbrev bs : List Block
+  bs = take c.args.count (message_of c.args.blocks.now (nodes_at c.args.chains.now c.args.from))
+
+  abbrev of : ℕ
+  of = c.unwrap-read.result
+
+  source_at : slice_get (nodes_at c.args.chains.now c.args.from) c.loop-block._block ≡ Some of
+  source_at = sym c.loop-block.invariant.source ∙ c.unwrap-read.ensures
+
+  target_at : slice_get (nodes_at c.args.chains.now c.args.into) c.loop-block._block ≡ Some c.unwrap-written.result
+  target_at = sym c.loop-block.invariant.target ∙ c.unwrap-written.ensures
+
+  -- the block of this step, and those behind it
+  next : drop c.loop-block._block bs ≡ block_at c.args.blocks.now of ∷ drop (c.loop-block._block + 1) bs
+  next = next_block c.args.blocks.now (nodes_at c.args.chains.now c.args.from) c.args.count c.loop-block._block of c.loop-block-test.true source_at
+
+  -- it says what it said before
+  said : fields_at c.loop-block.blocks of ≡ fields_at c.args.blocks.now of
+  said =
+      source_stays bs (nodes_at c.args.chains.now c.args.into) c.loop-block._block c.args.blocks.now c.loop-block.blocks c.args.stored.now c.loop-block.stored c.loop-block.invariant.copying of
+      (omega (arith, c.requires.apart of, times_at of (nodes_at c.args.chains.now c.args.from) c.loop-block._block source_at))
+
+  there : of < length c.args.blocks.now
+  there = omega (arith, c.requires.listed, subst (λ o. IfSome o (λ node. node < length c.args.chains.now.held)) c.unwrap-read.ensures c.loop-block.invariant.source_range)
+
+  placed : IsPlaced c.loop-block.stored.store (fields_at c.args.blocks.now of)
+  placed =
+      placed-over c.args.stored.now.store c.loop-block.stored.store (fields_at c.args.blocks.now of)
+      c.loop-block.invariant.copying.rooms (c.requires.placed of there)
+
+pub copy_data-requires-clause-placed : goal.copy_data-requires-clause-placed
+copy_data-requires-clause-placed c =
+    let before = (goal.at.copy_data-requires-clause-placed c).After-unwrap-written in
+    subst (IsPlaced c.loop-block.stored.store) (sym (said before)) (placed before)
+
+pub copy_data-requires-clause-fits : goal.copy_data-requires-clause-fits
+copy_data-requires-clause-fits c =
+    let before = (goal.at.copy_data-requires-clause-fits c).After-unwrap-written in
+    subst (λ (f : Fields). is_ok (take_data (capacity_of c.loop-block.stored.store f.data_number) c.loop-block.stored.store) ≡ true) (sym (said before))
+    (next_fits (bs before) (nodes_at c.args.chains.now c.args.into) c.loop-block._block c.args.blocks.now c.loop-block.blocks c.args.stored.now c.loop-block.stored c.loop-block.invariant.copying
+    (block_at c.args.blocks.now c.unwrap-read.result) (next before) c.requires.fit)
+
+pub loop-block-preserved : goal.loop-block-preserved
+loop-block-preserved c =
+    let before = (goal.at.loop-block-preserved c).After-unwrap-written in
+    let d = c.copy_data.result.data_number in
+    let b = block_at c.args.blocks.now c.unwrap-read.result in
+    let says : c.copy_data.result ≡ fields_of (record b { data_number = d }) = c.copy_data.ensures.fields ∙ ap (λ (f : Fields). record f { data_number = d }) (said before) in
+    let leaves : c.copy_data.new.stored ≡ with_copy b c.loop-block.stored d =
+    c.copy_data.ensures.after c.unwrap-read.result ∙ ap (λ (f : Fields). with_copy (block_of c.unwrap-read.result f) c.loop-block.stored d) (said before) in
+    let copied =
+    next_copied (bs before) (nodes_at c.args.chains.now c.args.into) c.loop-block._block c.args.blocks.now c.loop-block.blocks c.args.stored.now c.loop-block.stored c.loop-block.invariant.copying
+    b (next before) d c.unwrap-written.result
+    (ap (λ (f : Fields). take_data (capacity_of c.loop-block.stored.store f.data_number) c.loop-block.stored.store) (sym (said before)) ∙ c.copy_data.ensures.taken)
+    c.copy_data.ensures.unused
+    (omega (arith, ap (λ (f : Fields). capacity_of c.loop-block.stored.store f.data_number) (said before), c.copy_data.ensures.room))
+    (placed before).within (target_at before) in
+    record {
+      source = c.next-source.ensures.held c.args.from c.loop-block._block (source_at before);
+      target = c.next-target.ensures.held c.args.into c.loop-block._block (target_at before);
+      source_range = c.next-source.ensures.in_range;
+      target_range = c.next-target.ensures.in_range;
+      copying =
+          subst (λ (p : Fields × CountedStore). IsCopying (bs before) (nodes_at c.args.chains.now c.args.into) (c.loop-block._block + 1) c.args.blocks.now (set c.loop-block.blocks c.unwrap-written.result p.0) c.args.stored.now p.1)
+          (λ j. (sym says j, sym leaves j)) copied;
+      kept = c.copy_data.ensures.kept;
+    }

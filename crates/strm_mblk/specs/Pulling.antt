@@ -1,0 +1,71 @@
+-- How bytes are pulled up into the first block of a message, step by step. No public clause cites this module.
+use Rattle.std.specs.Prelude.{ℕ, ◌+◌, ◌-◌, nat_le, List, [], ◌∷◌, length, Some, slice_set, if◌then◌else◌}
+use Rattle.strm_data.specs.declared.msg_type.MsgType.{MsgType}
+use Rattle.strm_data.specs.DataStore.{DataStore, take_data, with_data_taken, with_kind, with_bytes_written}
+use Rattle.strm_mblk.specs.Arena.{Arena, message_at}
+use Rattle.strm_mblk.specs.Block.{Block, Message, kind_of}
+use Rattle.strm_mblk.specs.Freeing.{with_name_dropped, with_block_freed, with_blocks_freed}
+use Rattle.strm_mblk.specs.Given.{Given, answer_map}
+use Rattle.strm_mblk.specs.Trimming.{left_over, pulled_into, used_up}
+
+-- the arena once this is the message at h
+abbrev pub with_message : ℕ → Message → Arena → Arena
+with_message h m a = record a { held = slice_set a.held h (Some m) }
+
+-- ---- the first block
+
+-- the store once d is taken, of this type and with these bytes
+abbrev pub with_data_filled : MsgType → List ℕ → ℕ → DataStore → DataStore
+with_data_filled kind bytes d s = with_bytes_written d 0 bytes (with_kind d kind (with_data_taken d s))
+
+-- a block that names d, from its first byte on
+abbrev pub over_data : ℕ → ℕ → Block → Block
+over_data d n b = record b { data_number = d; offset = 0; len = n }
+
+-- the first block of the message at h names d, which has these bytes; its former data loses its name
+abbrev pub refilled : ℕ → List ℕ → Message → Arena → ℕ → Arena
+refilled h bytes [] a d = a
+refilled h bytes (b ∷ bs) a d =
+    with_name_dropped b.data_number [] (with_message h (over_data d (length bytes) b ∷ bs) (record a { store = with_data_filled (kind_of a.store b) bytes d a.store }))
+
+abbrev pub refill : ℕ → List ℕ → Arena → Given Arena (Unit {0})
+refill h bytes a = answer_map (λ d. (tt, refilled h bytes (message_at a h) a d)) (take_data (length bytes) a.store)
+
+-- the first block has the first n bytes of the message, and the others still have theirs
+abbrev pub gathered : ℕ → ℕ → Message → Arena → ℕ → Arena
+gathered h n [] a d = a
+gathered h n (b ∷ bs) a d =
+    with_name_dropped b.data_number [] (with_message h (over_data d n b ∷ bs) (record a { store = pulled_into n (b ∷ bs) a.store d }))
+
+abbrev pub gather : ℕ → ℕ → Arena → Given Arena (Unit {0})
+gather h n a = answer_map (λ d. (tt, gathered h n (message_at a h) a d)) (take_data n a.store)
+
+-- ---- the second block
+
+-- a block without its first n bytes
+abbrev pub without_front : ℕ → Block → Block
+without_front n b = record b { offset = b.offset + n; len = b.len - n }
+
+-- the second block of this message, which is held at h, is free
+abbrev pub with_second_freed : ℕ → Message → Arena → Arena
+with_second_freed h [] a = a
+with_second_freed h (b ∷ []) a = a
+with_second_freed h (b ∷ c ∷ bs) a = with_block_freed c [] (with_message h (b ∷ bs) a)
+
+-- it has lost its first n bytes
+abbrev pub with_second_cut : ℕ → ℕ → Message → Arena → Arena
+with_second_cut h n [] a = a
+with_second_cut h n (b ∷ []) a = a
+with_second_cut h n (b ∷ c ∷ bs) a = with_message h (b ∷ without_front n c ∷ bs) a
+
+-- n bytes are taken from it, or all that it has: how many are left to take, and the arena then
+abbrev pub second_taken : ℕ → ℕ → Message → Arena → ℕ × Arena
+second_taken h n [] a = (0, a)
+second_taken h n (b ∷ []) a = (0, a)
+second_taken h n (b ∷ c ∷ bs) a =
+    if nat_le c.len n then (n - c.len, with_second_freed h (b ∷ c ∷ bs) a) else (0, with_second_cut h n (b ∷ c ∷ bs) a)
+
+-- n bytes are taken from the blocks behind the first
+abbrev pub drained : ℕ → ℕ → Message → Arena → Arena
+drained h n [] a = a
+drained h n (b ∷ bs) a = with_blocks_freed (used_up n bs) (with_message h (b ∷ left_over n bs) a)

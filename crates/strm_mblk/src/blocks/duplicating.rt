@@ -1,0 +1,126 @@
+//! Duplicates: new messages of new blocks that name the same data blocks.
+ghost use Rattle.std.specs.Prelude.{◌≡◌, ℕ, ◌+◌, ◌<◌, ◌≤◌, IfOk, IsTrue, None, Some, if◌then◌else◌, length, map, not, slice_get, take};
+ghost use Rattle.strm_data.specs.CountedStore.{IsKept, count_of};
+ghost use Rattle.strm_data.specs.DataStore.{times};
+ghost use Rattle.strm_mblk.specs.Arena.{has, held_at, message_at, token_of};
+ghost use Rattle.strm_mblk.specs.BlockCalls as model;
+ghost use Rattle.strm_mblk.specs.BlocksLayout.{exceeds_counts, fields_at, named_by, with_fields, with_names_given};
+ghost use Rattle.strm_mblk.specs.Given.{after, answer_map, answer_of};
+ghost use Rattle.strm_mblk.specs.NodeLists.{nodes_at};
+
+use super::freeing::drop_names;
+use super::{Blocks, Fields};
+use crate::chains::Chains;
+use crate::token::Token;
+use strm_data::{Data, Refusal};
+
+// Names the data blocks of the first `count` blocks of a held message once more, first to last. Where one of them has
+// 255 names already, the data blocks are left as they were.
+fn give_names(chains: &Chains, blocks: &[Fields], stored: &mut Data, head: u32, count: u32) -> bool
+    requires begun { slice_get (nodes_at chains.now head) 0 ≡ Some head }
+    requires count { count ≤ length (nodes_at chains.now head) }
+    requires blocks { length blocks.now ≡ length chains.now.held }
+    requires there { (n : ℕ) → n < length blocks.now → (fields_at blocks.now n).data_number < length stored.old.store.blocks }
+    requires used { (d : ℕ) → 0 < times d (named_by blocks.now (nodes_at chains.now head)) → 0 < count_of stored.old d }
+    requires kept { IsKept stored.old }
+    ensures answer { result ≡ not (exceeds_counts (take count (named_by blocks.now (nodes_at chains.now head))) stored.old) }
+    ensures after { stored.new ≡ (if result then with_names_given (take count (named_by blocks.now (nodes_at chains.now head))) stored.old else stored.old) }
+    ensures kept { IsKept stored.new }
+{
+    let mut at = Some(head);
+    for given in 0..count {
+        let node = at.unwrap();
+        let data_number = blocks[node as usize].data_number;
+        if stored.count(data_number) == 255 {
+            drop_names(chains, blocks, stored, head, given);
+            return false;
+        }
+        stored.name(data_number);
+        at = chains.next(node);
+    }
+    true
+}
+
+// Copies what the first `count` blocks of a held message say to the blocks of another one, which has as many.
+fn copy_fields(chains: &Chains, blocks: &mut [Fields], from: u32, to: u32, count: u32)
+    requires from { slice_get (nodes_at chains.now from) 0 ≡ Some from }
+    requires to { slice_get (nodes_at chains.now to) 0 ≡ Some to }
+    requires enough { count ≤ length (nodes_at chains.now from) }
+    requires count { count ≡ length (nodes_at chains.now to) }
+    requires blocks { length blocks.old ≡ length chains.now.held }
+    requires apart { (n : ℕ) → times n (nodes_at chains.now from) + times n (nodes_at chains.now to) ≤ 1 }
+    ensures { blocks.new ≡ with_fields (nodes_at chains.now to) (map (fields_at blocks.old) (take count (nodes_at chains.now from))) blocks.old }
+{
+    let mut source = Some(from);
+    let mut target = Some(to);
+    for _block in 0..count {
+        let read = source.unwrap();
+        let written = target.unwrap();
+        let said = blocks[read as usize];
+        blocks[written as usize] = said;
+        source = chains.next(read);
+        target = chains.next(written);
+    }
+}
+
+impl Blocks {
+    // A message of new blocks, one for each of the first `count` blocks of this message. `dupmsg` says what it is and when
+    // it is refused.
+    fn duplicate(&mut self, token: &Token, count: u32) -> Result<Token, Refusal>
+        requires had { IsTrue (has self.old token.now) }
+        requires some { 0 < count }
+        requires enough { count ≤ token.now.blocks }
+        ensures after { self.new ≡ after self.old (model.duplicated (take count (message_at self.old token.now.head)) self.old) }
+        ensures token { result ≡ answer_map (token_of self.new) (answer_of (model.duplicated (take count (message_at self.old token.now.head)) self.old)) }
+        ensures had { IfOk result (λ copy. IsTrue (has self.new copy)) }
+        ensures unheld { IfOk result (λ copy. held_at self.old copy.head ≡ None) }
+        ensures source { IsTrue (has self.new token.now) }
+    {
+        if self.chains.free_len() < count {
+            return Err(Refusal::NoMblk);
+        }
+        let from = token.head();
+        if !give_names(&self.chains, &self.blocks, &mut self.data, from, count) {
+            return Err(Refusal::RefMax);
+        }
+        let head = self.chains.begin_all(count);
+        copy_fields(&self.chains, &mut self.blocks, from, head, count);
+        Ok(self.token(head))
+    }
+
+    /// A message of one new block, the first free one, which names the data block of the first block of this message, with
+    /// its places and its band.
+    ///
+    /// Refused as `NoMblk` where no message block is free, then as `RefMax` where 255 message blocks name the data block;
+    /// nothing changes then.
+    pub fn dupb(&mut self, token: &Token) -> Result<Token, Refusal>
+        requires { IsTrue (has self.old token.now) }
+        ensures after { self.new ≡ after self.old (model.dupb token.now.head self.old) }
+        ensures token { result ≡ answer_map (token_of self.new) (answer_of (model.dupb token.now.head self.old)) }
+        // The new token is one of these blocks, no held message had its head, and the other is still one of these blocks.
+        ensures had { IfOk result (λ copy. IsTrue (has self.new copy)) }
+        ensures unheld { IfOk result (λ copy. held_at self.old copy.head ≡ None) }
+        ensures source { IsTrue (has self.new token.now) }
+    {
+        self.lawful();
+        self.duplicate(token, 1)
+    }
+
+    /// A message of new blocks, the first free ones in their order, one for each block of this message: it names its data
+    /// block, with its places and its band. All or nothing. Takes as many steps as the message has blocks.
+    ///
+    /// Refused as `NoMblk` where fewer message blocks are free than the message has, then as `RefMax` where some data
+    /// block would have more than 255 names; nothing changes then.
+    pub fn dupmsg(&mut self, token: &Token) -> Result<Token, Refusal>
+        requires { IsTrue (has self.old token.now) }
+        ensures after { self.new ≡ after self.old (model.dupmsg token.now.head self.old) }
+        ensures token { result ≡ answer_map (token_of self.new) (answer_of (model.dupmsg token.now.head self.old)) }
+        // The new token is one of these blocks, no held message had its head, and the other is still one of these blocks.
+        ensures had { IfOk result (λ copy. IsTrue (has self.new copy)) }
+        ensures unheld { IfOk result (λ copy. held_at self.old copy.head ≡ None) }
+        ensures source { IsTrue (has self.new token.now) }
+    {
+        self.lawful();
+        self.duplicate(token, token.blocks())
+    }
+}

@@ -1,0 +1,160 @@
+//! Bytes of a message are pulled up into its first block.
+ghost use Rattle.std.specs.Prelude.{◌≡◌, ◌≤◌, ◌<◌, ◌-◌, ◌++◌, ℕ, List, IsSome, IsTrue, Some, drop, length, min, option_map, slice_get, take};
+ghost use Rattle.strm_mblk.specs.Arena.{has, held_at, message_at, token_of};
+ghost use Rattle.strm_mblk.specs.Block.{Block, bytes_of, size_of};
+ghost use Rattle.strm_mblk.specs.Given.{after, answer_of};
+ghost use Rattle.strm_mblk.specs.Pulling as pulling;
+ghost use Rattle.strm_mblk.specs.Trimming as model;
+ghost use Rattle.strm_mblk.specs.Trimming.{along, bytes_asked, run_of};
+
+use super::{Blocks, Fields};
+use crate::token::Token;
+use strm_data::Refusal;
+
+// How many bytes are asked for, of a run of blocks that has so many: -1 stands for all of them, and a number below it
+// for none that there are.
+fn bytes_asked(count: i32, run: u32) -> Option<u32>
+    ensures { (bs : List Block) → size_of bs ≡ run → result ≡ bytes_asked count bs }
+{
+    if count >= 0 {
+        Some(count as u32)
+    } else if count == -1 {
+        Some(run)
+    } else {
+        None
+    }
+}
+
+impl Blocks {
+    // The first block of a held message takes a data block for these bytes, of the type of its former one, which loses
+    // its name once the bytes stand in the other.
+    //
+    // Refused as `take` of the data blocks is; nothing changes then.
+    fn refill(&mut self, head: u32, bytes: &[u8]) -> Result<(), Refusal>
+        requires held { IsSome (held_at self.old head) }
+        requires few { length bytes.now ≤ 4096 }
+        ensures after { self.new ≡ after self.old (pulling.refill head bytes.now self.old) }
+        ensures answer { result ≡ answer_of (pulling.refill head bytes.now self.old) }
+    {
+        let fields = self.blocks[head as usize];
+        let kind = self.data.kind(fields.data_number);
+        let len = bytes.len() as u32;
+        let data_number = self.data.take(len)?;
+        self.data.set_kind(data_number, kind);
+        self.data.write(data_number, 0, bytes);
+        self.blocks[head as usize] = Fields {
+            data_number,
+            offset: 0,
+            len,
+            band: fields.band,
+        };
+        self.data.drop_name(fields.data_number);
+        Ok(())
+    }
+
+    // The first block of a message takes a data block for the first `count` bytes of the message, which the other
+    // blocks keep.
+    //
+    // Refused as `take` of the data blocks is; nothing changes then.
+    fn gather(&mut self, token: &Token, count: u32) -> Result<(), Refusal>
+        requires had { IsTrue (has self.old token.now) }
+        requires few { count ≤ 4096 }
+        requires enough { count ≤ size_of (message_at self.old token.now.head) }
+        ensures after { self.new ≡ after self.old (pulling.gather token.now.head count self.old) }
+        ensures answer { result ≡ answer_of (pulling.gather token.now.head count self.old) }
+    {
+        let mut bytes = [0u8; 4096];
+        let bytes = &mut bytes[..count as usize];
+        self.read(token, 0, bytes);
+        self.refill(token.head(), bytes)
+    }
+
+    // Frees the second block of a held message, to the front of the free ones, and its data block where no other block
+    // names it.
+    fn free_second(&mut self, head: u32, second: u32)
+        requires { option_map (λ b. b.number) (slice_get (message_at self.old head) 1) ≡ Some second }
+        ensures { self.new ≡ pulling.with_second_freed head (message_at self.old head) self.old }
+    {
+        let data_number = self.blocks[second as usize].data_number;
+        self.chains.take_out(head, second);
+        self.chains.free(second);
+        self.data.drop_name(data_number);
+    }
+
+    // Takes so many bytes from the second block of a held message, or all that it has: then it is freed. Says how many
+    // are left to take, 0 where there is no such block.
+    fn take_second(&mut self, head: u32, count: u32) -> u32
+        requires { IsSome (held_at self.old head) }
+        ensures after { self.new ≡ (pulling.second_taken head count (message_at self.old head) self.old).1 }
+        ensures left { result ≡ (pulling.second_taken head count (message_at self.old head) self.old).0 }
+    {
+        let Some(second) = self.chains.next(head) else {
+            return 0;
+        };
+        let fields = self.blocks[second as usize];
+        if fields.len <= count {
+            self.free_second(head, second);
+            return count - fields.len;
+        }
+        self.blocks[second as usize] = Fields {
+            offset: fields.offset + count,
+            len: fields.len - count,
+            ..fields
+        };
+        0
+    }
+
+    // Takes so many bytes from the blocks behind the first of a held message, of which there are fewer than `blocks`:
+    // those that are used up are freed.
+    fn drain(&mut self, head: u32, count: u32, blocks: u32)
+        requires held { IsSome (held_at self.old head) }
+        requires blocks { length (message_at self.old head) ≤ blocks }
+        ensures { self.new ≡ pulling.drained head count (message_at self.old head) self.old }
+    {
+        let mut left = count;
+        for _block in 0..blocks {
+            if left == 0 {
+                return;
+            }
+            left = self.take_second(head, left);
+        }
+    }
+
+    /// Brings the first `count` bytes of a message, or with -1 all those of its leading blocks of the first block's type,
+    /// into its first block. Where that has them, 0 of them too, nothing is done.
+    ///
+    /// Else the first block names a data block that takes so many bytes, from place 0 on, of the same type, and its former
+    /// one loses its name. The blocks behind it lose what it did not have: up to place `count` each whose bytes are all
+    /// taken, an empty one too, is freed, and the read place of the last one rises. Empty blocks behind that place stay.
+    /// Takes as many steps as the message has blocks, and copies the bytes twice.
+    ///
+    /// Refused as `Short` where the count is below -1, or the leading blocks have fewer bytes, then as `TooLarge` where the
+    /// count is above the largest class, then as `NoData` where no data block is that fits; nothing changes then.
+    pub fn pullupmsg(&mut self, token: &mut Token, count: i32) -> Result<(), Refusal>
+        requires { IsTrue (has self.old token.old) }
+        ensures after { self.new ≡ after self.old (model.pullupmsg token.old.head count self.old) }
+        ensures answer { result ≡ answer_of (model.pullupmsg token.old.head count self.old) }
+        ensures token { token.new ≡ token_of self.new token.old.head }
+        ensures had { IsTrue (has self.new token.new) }
+    {
+        let head = token.head();
+        let run = self.run_size(token, false);
+        let Some(wanted) = bytes_asked(count, run) else {
+            return Err(Refusal::Short);
+        };
+        if wanted > run {
+            return Err(Refusal::Short);
+        }
+        let len = self.blocks[head as usize].len;
+        if wanted <= len {
+            return Ok(());
+        }
+        if !self.data.has_class_for(wanted) {
+            return Err(Refusal::TooLarge);
+        }
+        self.gather(token, wanted)?;
+        self.drain(head, wanted - len, token.blocks());
+        token.set_blocks(self.chains.len(head));
+        Ok(())
+    }
+}

@@ -1,0 +1,93 @@
+//! How many bytes a held message has, and which.
+ghost use Rattle.std.specs.Prelude.{◌≡◌, ◌<◌, ◌-◌, ◌++◌, ℕ, IsTrue, drop, length, min, sum_by, take};
+ghost use Rattle.strm_mblk.specs.Arena.{has, message_at};
+ghost use Rattle.strm_mblk.specs.BlocksLayout.{IsPlaced, block_of};
+ghost use Rattle.strm_mblk.specs.Block.{bytes_of, bytes_of_block, data_size_of, len_counted, size_of};
+
+use super::{Blocks, Fields};
+use crate::token::Token;
+use strm_data::MsgType;
+
+impl Blocks {
+    // The length of a message block that says so, where all count, or those of type M_DATA alone and it is one.
+    fn length_of(&self, fields: Fields, data_alone: bool) -> u32
+        requires { fields.data_number < length self.now.store.blocks }
+        ensures { (n : ℕ) → result ≡ len_counted data_alone self.now.store (block_of n fields) }
+    {
+        let is_data = self.data.kind(fields.data_number) == MsgType::MData;
+        if is_data | !data_alone { fields.len } else { 0 }
+    }
+
+    // The lengths of a message's blocks, of all or of those of type M_DATA alone, summed up.
+    fn sum_of_lengths(&self, token: &Token, data_alone: bool) -> u32
+        requires { IsTrue (has self.now token.now) }
+        ensures { result ≡ sum_by (len_counted data_alone self.now.store) (message_at self.now token.now.head) }
+    {
+        let mut sum = 0;
+        let mut at = Some(token.head());
+        for _block in 0..token.blocks() {
+            let Some(node) = at else {
+                return sum;
+            };
+            sum += self.length_of(self.blocks[node as usize], data_alone);
+            at = self.chains.next(node);
+        }
+        sum
+    }
+
+    /// How many bytes a message has, over all its blocks. Takes as many steps as it has blocks. Nothing changes.
+    pub fn size(&self, token: &Token) -> u32
+        requires { IsTrue (has self.now token.now) }
+        ensures { result ≡ size_of (message_at self.now token.now.head) }
+    {
+        self.sum_of_lengths(token, false)
+    }
+
+    /// How many bytes a message has in its blocks of type M_DATA. Takes as many steps as it has blocks. Nothing changes.
+    pub fn msgdsize(&self, token: &Token) -> u32
+        requires { IsTrue (has self.now token.now) }
+        ensures { result ≡ data_size_of self.now.store (message_at self.now token.now.head) }
+    {
+        self.sum_of_lengths(token, true)
+    }
+
+    // Copies the bytes of a message block that says so, from place `at` on, as far as there are bytes and room for them,
+    // and answers how many.
+    fn read_block(&self, fields: Fields, at: u32, into: &mut [u8]) -> usize
+        requires { IsPlaced self.now.store fields }
+        ensures count { result ≡ min (length into.old) (fields.len - at) }
+        ensures bytes { (n : ℕ) → into.new ≡ take result (drop at (bytes_of_block self.now.store (block_of n fields))) ++ drop result into.old }
+    {
+        let skipped = at.min(fields.len);
+        let count = into.len().min((fields.len - skipped) as usize);
+        self.data.read(
+            fields.data_number,
+            fields.offset + skipped,
+            &mut into[..count],
+        );
+        count
+    }
+
+    /// Copies the bytes of a message from place `at` on, counted over all its blocks, as far as there are bytes and room
+    /// for them, and answers how many. What stands in `into` behind them stays. Takes as many steps as the message has
+    /// blocks, and slice copies. Nothing else changes.
+    pub fn read(&self, token: &Token, at: u32, into: &mut [u8]) -> usize
+        requires { IsTrue (has self.now token.now) }
+        ensures count { result ≡ min (length into.old) (size_of (message_at self.now token.now.head) - at) }
+        ensures bytes { into.new ≡ take result (drop at (bytes_of self.now.store (message_at self.now token.now.head))) ++ drop result into.old }
+    {
+        let mut skip = at;
+        let mut done = 0;
+        let mut next = Some(token.head());
+        for _block in 0..token.blocks() {
+            let Some(node) = next else {
+                return done;
+            };
+            let fields = self.blocks[node as usize];
+            done += self.read_block(fields, skip, &mut into[done..]);
+            skip = skip.saturating_sub(fields.len);
+            next = self.chains.next(node);
+        }
+        done
+    }
+}

@@ -1,0 +1,35 @@
+//! What tests see of chains beside a plain program.
+ghost use Rattle.std.specs.Prelude.{◌≡◌, ◌<◌, length};
+ghost use Rattle.strm_links.specs.Rows.{has};
+ghost use Rattle.strm_mblk.specs.NodeLists.{heads_on};
+
+use super::Chains;
+use std::process::Abort;
+
+// Whether a message with this head stands on the shelf.
+pub(crate) fn is_on(chains: &Chains, shelf: u32, head: u32) -> bool
+    requires shelf { shelf < length chains.now.shelves }
+    requires head { head < length chains.now.held }
+    ensures { result ≡ has head (heads_on chains.now shelf) }
+{
+    chains.heads.list_of(head) == Some(shelf)
+}
+
+impl Chains {
+    // How many shelves there are.
+    pub(crate) fn shelf_count(&self) -> u32
+        ensures { result ≡ length self.now.shelves }
+    {
+        self.shelves
+    }
+
+    // The free message blocks are these, in this order.
+    pub(crate) fn assert_free(&self, rt: &impl Abort, free: &[u32]) {
+        let mut at = self.chains.front(self.nodes);
+        for number in free {
+            assert!(rt; *number < self.nodes && at == Some(*number));
+            at = self.chains.next(*number);
+        }
+        assert!(rt; at.is_none());
+    }
+}

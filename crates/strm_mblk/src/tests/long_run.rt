@@ -1,0 +1,90 @@
+//! Thousands of calls beside a plain program.
+ghost use Rattle.std.specs.Prelude.{◌<◌, IsTrue};
+ghost use Rattle.strm_data.specs.Classes.{are_lawful};
+
+use super::beside::Beside;
+use super::plain::Plain;
+use crate::Blocks;
+use std::alloc::Global;
+use std::process::Abort;
+use strm_data::ClassSpec;
+
+// Few data blocks of each size, so that every refusal comes but that of 255 names.
+const SMALL: [ClassSpec; 3] = [
+    ClassSpec { size: 8, count: 6 },
+    ClassSpec { size: 16, count: 5 },
+    ClassSpec { size: 32, count: 4 },
+];
+
+// Few data blocks, for many message blocks.
+const FEW: [ClassSpec; 2] = [
+    ClassSpec { size: 16, count: 3 },
+    ClassSpec { size: 64, count: 2 },
+];
+
+// The next number below `limit` of a fixed sequence.
+pub(super) fn below(draw: &mut u32, limit: u32) -> u32
+    requires { 0 < limit }
+    ensures { result < limit }
+{
+    *draw = draw.wrapping_mul(1_664_525).wrapping_add(1_013_904_223);
+    (*draw >> 8) % limit
+}
+
+// Any call.
+fn step(rt: &impl Abort, beside: &mut Beside, draw: &mut u32) {
+    match below(draw, 16) {
+        0..4 => beside.any_new(rt, draw),
+        4..10 => beside.any_alteration(rt, draw),
+        10..12 => beside.any_question(rt, draw),
+        _ => beside.any_move(rt, draw),
+    }
+    beside.assert_same(rt);
+}
+
+// New blocks and a new plain program: so many message blocks over the data blocks of these classes, and two shelves.
+fn opened(rt: &impl Abort, alloc: Global, mblks: u32, classes: &[ClassSpec]) -> (Blocks, Plain)
+    requires few_blocks { mblks < 4096 }
+    requires classes { IsTrue (are_lawful classes.now) }
+{
+    let blocks = Blocks::new(alloc, 7, mblks, classes, 2).expect(rt, "memory");
+    (blocks, Plain::opening(rt, alloc, 7, mblks, classes, 2))
+}
+
+// Puts duplicates of the first block of the only message behind it, so many.
+fn crowd(rt: &impl Abort, beside: &mut Beside, copies: u32) {
+    for _copy in 0..copies {
+        beside.dupb(rt, 0);
+        beside.linkb(rt, 1, 0);
+        beside.assert_same(rt);
+    }
+}
+
+// A message whose blocks all name one data block, 128 of them and then 255.
+fn name_often(rt: &impl Abort, beside: &mut Beside) {
+    beside.allocb(rt, 1);
+    crowd(rt, beside, 127);
+    beside.dupmsg(rt, 0);
+    crowd(rt, beside, 127);
+    beside.dupb(rt, 0);
+    beside.assert_same(rt);
+}
+
+#[test]
+fn long_run(rt: HostRuntime) {
+    let (blocks, plain) = opened(&rt, rt.alloc(), 16, &SMALL);
+    let mut beside = Beside::of(&rt, rt.alloc(), blocks, plain);
+    let mut draw = 1;
+    for _call in 0..6000 {
+        step(&rt, &mut beside, &mut draw);
+    }
+    beside.end(&rt, 16);
+    let (blocks, plain) = opened(&rt, rt.alloc(), 300, &FEW);
+    beside.go_on(blocks, plain);
+    name_often(&rt, &mut beside);
+    for _call in 0..400 {
+        step(&rt, &mut beside, &mut draw);
+    }
+    beside.end(&rt, 300);
+    beside.tally().assert_each(&rt);
+}
