@@ -15,4 +15,6 @@ pub use rejected::Rejected;
 pub use token::{Token, TokenValue};
 
 #[cfg(test)]
+mod plain;
+#[cfg(test)]
 mod tests;

@@ -10,7 +10,6 @@ mod duplicates;
 mod joining;
 mod long_run;
 mod names;
-pub(crate) mod plain;
 mod pulling;
 mod reading;
 mod removal;

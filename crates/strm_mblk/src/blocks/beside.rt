@@ -1,13 +1,17 @@
 //! Blocks beside a plain program, for tests.
-ghost use Rattle.std.specs.Prelude.{◌≡◌, ◌<◌, IsSome, IsTrue, length};
+ghost use Rattle.std.specs.Prelude.{◌≡◌, ◌<◌, ℕ, IsSome, IsTrue, length};
+ghost use Rattle.strm_data.specs.CountedStore.{IsKept};
+ghost use Rattle.strm_data.specs.DataStore.{capacity_of};
 ghost use Rattle.strm_mblk.specs.Shelves.{shelf_of, stands_on};
 
 use super::{BlockNo, Blocks};
 use crate::chains::beside::is_on;
-use crate::tests::plain::Plain;
-use crate::tests::plain::message::{Block, Message, head_of};
-use crate::tests::plain::store::DataBlock;
+use crate::plain::arena::Arena;
+use crate::plain::block::{Block, Message, count_naming, head_in};
+use crate::plain::list::List;
+use crate::plain::store::DataBlock;
 use std::process::Abort;
+use strm_data::Data;
 
 // No more bytes than this are in a data block that is compared.
 const MOST: usize = 64;
@@ -24,6 +28,58 @@ pub(crate) fn stands_on(among: &Blocks, shelf: u8, head: BlockNo) -> bool
         && is_on(&among.chains, u32::from(shelf), head)
 }
 
+// The next data blocks that this size takes are these, in this order: each is taken, and given back as it was.
+fn assert_next(rt: &impl Abort, stored: &mut Data, size: u32, numbers: &[u32])
+    requires kept { IsKept stored.old }
+    ensures kept { IsKept stored.new }
+    ensures counts { stored.new.counts ≡ stored.old.counts }
+    ensures many { length stored.new.store.blocks ≡ length stored.old.store.blocks }
+    ensures rooms { (d : ℕ) → capacity_of stored.new.store d ≡ capacity_of stored.old.store d }
+{
+    match numbers {
+        [] => {}
+        [first, rest @ ..] => {
+            assert!(rt; (*first as usize) < stored.len());
+            let kind = stored.kind(*first);
+            let taken = stored.take(size).expect(rt, "a free data block");
+            assert!(rt; taken == *first);
+            assert_next(rt, stored, size, rest);
+            stored.set_kind(taken, kind);
+            assert!(rt; stored.count(taken) == 1);
+            stored.drop_name(taken);
+        }
+    }
+}
+
+// The free data blocks of the classes from this one on are these, class by class and in order.
+fn assert_lists(rt: &impl Abort, stored: &mut Data, class: u8, lists: &[List<u32>])
+    requires kept { IsKept stored.old }
+    ensures kept { IsKept stored.new }
+    ensures counts { stored.new.counts ≡ stored.old.counts }
+    ensures many { length stored.new.store.blocks ≡ length stored.old.store.blocks }
+    ensures rooms { (d : ℕ) → capacity_of stored.new.store d ≡ capacity_of stored.old.store d }
+{
+    let Some(info) = stored.class_info(class) else {
+        assert!(rt; lists.is_empty());
+        return;
+    };
+    match lists {
+        [] => panic!(rt; "a class more"),
+        [numbers, lists @ ..] => {
+            assert!(rt; info.free as usize == numbers.items().len());
+            assert_next(rt, stored, info.size, numbers.items());
+            assert_lists(rt, stored, class.wrapping_add(1), lists);
+        }
+    }
+}
+
+// All is as in the plain program: id, message blocks, held messages, shelves, data blocks, and both kinds of free lists in
+// order. Each count of names is how many blocks name the data block there.
+pub(crate) fn assert_same(rt: &impl Abort, among: &mut Blocks, plain: &Arena) {
+    among.assert_is(rt, plain);
+    assert_lists(rt, &mut among.data, 0, plain.store().free());
+}
+
 impl Blocks {
     // How many shelves there are.
     pub(crate) fn shelf_count(&self) -> u32
@@ -32,16 +88,15 @@ impl Blocks {
         self.chains.shelf_count()
     }
 
-    // Id, free list, held messages, shelves and data blocks are those of the plain program, and each count of names is
-    // how many blocks name the data block there.
-    pub(crate) fn assert_is(&self, rt: &impl Abort, plain: &Plain) {
-        assert!(rt; self.id == plain.id);
-        assert_eq!(rt; self.census(), plain.census(rt));
-        self.chains.assert_free(rt, &plain.free);
+    // All is as in the plain program, but for the order of the free data blocks.
+    fn assert_is(&self, rt: &impl Abort, plain: &Arena) {
+        assert!(rt; self.id == plain.id());
+        assert_eq!(rt; self.census(), plain.census_of(rt));
+        self.chains.assert_free(rt, plain.free());
         self.assert_held(rt, plain);
-        assert!(rt; self.shelf_count() as usize == plain.shelves.len());
-        for (shelf, messages) in (0..255u8).zip(&plain.shelves) {
-            self.assert_shelf(rt, shelf, messages);
+        assert!(rt; self.shelf_count() as usize == plain.shelves().len());
+        for (shelf, messages) in (0..255u8).zip(plain.shelves()) {
+            self.assert_shelf(rt, shelf, messages.items());
         }
         self.assert_data(rt, plain);
         self.assert_classes(rt, plain);
@@ -64,13 +119,13 @@ impl Blocks {
     }
 
     // The held messages are these.
-    fn assert_held(&self, rt: &impl Abort, plain: &Plain) {
-        assert!(rt; self.blocks.len() == plain.held.len());
-        for (head, message) in (0..4096u32).zip(&plain.held) {
+    fn assert_held(&self, rt: &impl Abort, plain: &Arena) {
+        assert!(rt; self.blocks.len() == plain.held().len());
+        for (head, message) in (0..4096u32).zip(plain.held()) {
             assert!(rt; (head as usize) < self.blocks.len());
             assert!(rt; self.chains.is_held(head) == message.is_some());
             if let Some(message) = message {
-                self.assert_message(rt, head, message);
+                self.assert_message(rt, head, message.items());
             }
         }
     }
@@ -80,9 +135,9 @@ impl Blocks {
         assert!(rt; u32::from(shelf) < self.shelf_count());
         let mut at = self.first(shelf);
         for message in messages {
-            let head = head_of(message).expect(rt, "a block");
+            let head = head_in(message.items()).expect(rt, "a block");
             assert!(rt; at == Some(head) && stands_on(self, shelf, head));
-            self.assert_message(rt, head, message);
+            self.assert_message(rt, head, message.items());
             at = self.after(head);
         }
         assert!(rt; at.is_none());
@@ -97,24 +152,25 @@ impl Blocks {
         let mut bytes = [0; MOST];
         let own = &mut bytes[..capacity];
         self.data.read(number, 0, own);
-        assert!(rt; *own == *other.bytes.as_slice());
+        assert!(rt; *own == *other.bytes.items());
     }
 
     // The data blocks, and how many message blocks name each, are these.
-    fn assert_data(&self, rt: &impl Abort, plain: &Plain) {
-        assert!(rt; self.data.len() == plain.store.blocks.len());
-        for (number, other) in (0..4096u32).zip(&plain.store.blocks) {
+    fn assert_data(&self, rt: &impl Abort, plain: &Arena) {
+        assert!(rt; self.data.len() == plain.store().blocks().len());
+        let blocks = plain.blocks_in(rt);
+        for (number, other) in (0..4096u32).zip(plain.store().blocks()) {
             self.assert_data_block(rt, number, other);
             assert!(rt; (number as usize) < self.data.len());
             let names = usize::from(self.data.count(number));
-            assert_eq!(rt; names, plain.names_of(number));
+            assert_eq!(rt; names, count_naming(number, blocks.items()));
         }
     }
 
-    // So many data blocks of each class are free. Which comes next shows in the blocks that are taken later.
-    fn assert_classes(&self, rt: &impl Abort, plain: &Plain) {
+    // The size of each class, and how many of its data blocks are free and there.
+    fn assert_classes(&self, rt: &impl Abort, plain: &Arena) {
         for class in [0, 1, 2, 3, 255] {
-            assert_eq!(rt; self.class_info(class), plain.store.class_info(rt, class));
+            assert_eq!(rt; self.class_info(class), plain.class_info(rt, class));
         }
     }
 }

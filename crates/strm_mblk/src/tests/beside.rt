@@ -1,5 +1,6 @@
 //! Blocks and a plain program side by side: each call is made on both, which answer alike and are the same afterwards.
-use crate::tests::plain::Plain;
+use crate::blocks::beside::assert_same;
+use crate::plain::arena::Arena;
 use crate::tests::tally::{Answer, Call, Tally};
 use crate::{Blocks, Token, TokenValue};
 use std::alloc::Global;
@@ -15,14 +16,14 @@ mod moving;
 #[derive(Drop)]
 pub(super) struct Beside {
     blocks: Blocks,
-    plain: Plain,
+    plain: Arena,
     tokens: Vec<TokenValue>,
     tally: Tally,
 }
 
 impl Beside {
     // Both are new.
-    pub(super) fn of(rt: &impl Abort, alloc: Global, blocks: Blocks, plain: Plain) -> Beside {
+    pub(super) fn of(rt: &impl Abort, alloc: Global, blocks: Blocks, plain: Arena) -> Beside {
         Beside {
             blocks,
             plain,
@@ -32,7 +33,7 @@ impl Beside {
     }
 
     // Other two, which are new, in place of those that have ended.
-    pub(super) fn go_on(&mut self, blocks: Blocks, plain: Plain) {
+    pub(super) fn go_on(&mut self, blocks: Blocks, plain: Arena) {
         self.blocks = blocks;
         self.plain = plain;
     }
@@ -42,12 +43,12 @@ impl Beside {
     }
 
     // The two are the same, and each held message has a token.
-    pub(super) fn assert_same(&self, rt: &impl Abort) {
-        self.blocks.assert_is(rt, &self.plain);
+    pub(super) fn assert_same(&mut self, rt: &impl Abort) {
+        assert_same(rt, &mut self.blocks, &self.plain);
         for token in &self.tokens {
             assert!(rt; self.plain.has(token));
         }
-        assert!(rt; self.tokens.len() == self.plain.held.iter().flatten().count());
+        assert!(rt; self.tokens.len() == self.plain.held().iter().flatten().count());
     }
 
     // Takes one of the tokens, if there are any.

@@ -3,8 +3,8 @@ ghost use Rattle.std.specs.Prelude.{◌<◌, IsTrue};
 ghost use Rattle.strm_data.specs.Classes.{are_lawful};
 
 use super::beside::Beside;
-use super::plain::Plain;
 use crate::Blocks;
+use crate::plain::arena::Arena;
 use std::alloc::Global;
 use std::process::Abort;
 use strm_data::ClassSpec;
@@ -43,12 +43,12 @@ fn step(rt: &impl Abort, beside: &mut Beside, draw: &mut u32) {
 }
 
 // New blocks and a new plain program: so many message blocks over the data blocks of these classes, and two shelves.
-fn opened(rt: &impl Abort, alloc: Global, mblks: u32, classes: &[ClassSpec]) -> (Blocks, Plain)
+fn opened(rt: &impl Abort, alloc: Global, mblks: u32, classes: &[ClassSpec]) -> (Blocks, Arena)
     requires few_blocks { mblks < 4096 }
     requires classes { IsTrue (are_lawful classes.now) }
 {
     let blocks = Blocks::new(alloc, 7, mblks, classes, 2).expect(rt, "memory");
-    (blocks, Plain::opening(rt, alloc, 7, mblks, classes, 2))
+    (blocks, Arena::opening(rt, alloc, 7, mblks, classes, 2))
 }
 
 // Puts duplicates of the first block of the only message behind it, so many.

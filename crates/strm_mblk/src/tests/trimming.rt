@@ -44,22 +44,21 @@ fn cuts_one_type_from_each_end(rt: HostRuntime) {
     blocks.freemsg(a);
 }
 
+// A message of two blocks of type M_DATA, of 10 and 4 bytes, and two of type M_PROTO, of 3 and 5.
+fn of_two_types(rt: &impl Abort, blocks: &mut Blocks) -> Token {
+    let others = [&b"abcd"[..], b"ghi", b"jklmn"];
+    let message = of_bytes(rt, blocks, 0, b"0123456789", &others);
+    for place in [2, 3] {
+        let answer = settype(rt, blocks, &message, place, MsgType::MProto);
+        assert_eq!(rt; answer, Ok(()));
+    }
+    message
+}
+
 #[test]
 fn cuts_several_blocks_of_one_type(rt: HostRuntime) {
     let mut blocks = opened(&rt, rt.alloc(), 7);
-    let a = of_bytes(
-        &rt,
-        &mut blocks,
-        0,
-        b"0123456789",
-        &[b"abcd", b"ghi", b"jklmn"],
-    );
-    for place in [2, 3] {
-        assert_eq!(rt;
-            settype(&rt, &mut blocks, &a, place, MsgType::MProto),
-            Ok(())
-        );
-    }
+    let a = of_two_types(&rt, &mut blocks);
     let short = Err(Refusal::Short);
     for (count, answer, after) in [
         (15, short, [(10, 6), (4, 12), (3, 13), (5, 11)]),

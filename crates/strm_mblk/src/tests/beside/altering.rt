@@ -44,7 +44,8 @@ impl Beside {
         };
         assert!(rt; self.blocks.has(&token));
         let answer = self.blocks.write(&token, place, bytes);
-        assert_eq!(rt; answer, self.plain.write(rt, token.head(), place, bytes));
+        let plain = self.plain.write(rt, token.head(), place, bytes);
+        assert_eq!(rt; answer, self.plain.go_on(plain));
         self.count(rt, Call::Write, Answer::unless(answer.err()));
         self.keep(rt, token);
     }
@@ -55,7 +56,8 @@ impl Beside {
         };
         assert!(rt; self.blocks.has(&token));
         let answer = self.blocks.settype(&token, place, kind);
-        assert_eq!(rt; answer, self.plain.settype(rt, token.head(), place, kind));
+        let plain = self.plain.settype(rt, token.head(), place, kind);
+        assert_eq!(rt; answer, self.plain.go_on(plain));
         self.count(rt, Call::Settype, Answer::unless(answer.err()));
         self.keep(rt, token);
     }
@@ -66,7 +68,7 @@ impl Beside {
         };
         assert!(rt; self.blocks.has(&token));
         self.blocks.setband(&token, band);
-        self.plain.setband(rt, token.head(), band);
+        self.plain = self.plain.setband(rt, token.head(), band);
         self.count(rt, Call::Setband, Answer::Done);
         self.keep(rt, token);
     }
@@ -77,7 +79,8 @@ impl Beside {
         };
         assert!(rt; self.blocks.has(&token));
         let answer = self.blocks.adjmsg(&token, count);
-        assert_eq!(rt; answer, self.plain.adjmsg(rt, token.head(), count));
+        let plain = self.plain.adjmsg(rt, token.head(), count);
+        assert_eq!(rt; answer, self.plain.go_on(plain));
         self.count(rt, Call::Adjmsg, Answer::unless(answer.err()));
         self.keep(rt, token);
     }
@@ -89,7 +92,8 @@ impl Beside {
         assert!(rt; self.blocks.has(&token));
         let first = self.plain.message_at(token.head()).first().copied();
         let answer = self.blocks.pullupmsg(&mut token, count);
-        assert_eq!(rt; answer, self.plain.pullupmsg(rt, token.head(), count));
+        let plain = self.plain.pullupmsg(rt, token.head(), count);
+        assert_eq!(rt; answer, self.plain.go_on(plain));
         let pulled = self.plain.message_at(token.head()).first().copied() != first;
         let answer = match answer {
             Ok(()) => Answer::whether(pulled),

@@ -47,7 +47,7 @@ impl Beside {
             return;
         };
         assert!(rt; self.blocks.has(&token));
-        assert_eq!(rt; self.blocks.size(&token), self.plain.size(token.head()));
+        assert_eq!(rt; self.blocks.size(&token), self.plain.size(rt, token.head()));
         assert_eq!(rt;
             self.blocks.msgdsize(&token),
             self.plain.msgdsize(rt, token.head())
@@ -65,7 +65,7 @@ impl Beside {
         let mut into = [255; 40];
         let count = self.blocks.read(&token, from, &mut into[..room as usize]);
         let bytes = self.plain.bytes(rt, token.head());
-        let wanted = bytes.iter().skip(from as usize).take(room as usize);
+        let wanted = bytes.items().iter().skip(from as usize).take(room as usize);
         assert!(rt; count <= 40 && into[..count].iter().eq(wanted));
         assert!(rt; into[count..].iter().all(|byte| *byte == 255));
         self.count(rt, Call::Read, Answer::whether(count > 0));
@@ -92,7 +92,7 @@ impl Beside {
             token.spend();
         } else {
             self.blocks.freemsg(token);
-            self.plain.freemsg(rt, &value);
+            self.plain = self.plain.spent(rt, &value);
             self.count(rt, Call::Has, Answer::Nothing);
         }
     }
@@ -131,9 +131,9 @@ impl Beside {
         );
         assert_eq!(rt;
             Some(self.blocks.head_band(head)),
-            self.plain.head_band(head)
+            self.plain.head_band(rt, head)
         );
-        assert_eq!(rt; self.blocks.head_size(head), self.plain.head_size(head));
+        assert_eq!(rt; self.blocks.head_size(head), self.plain.head_size(rt, head));
         self.count(rt, Call::Heads, Answer::Done);
     }
 }

@@ -21,13 +21,14 @@ impl Beside {
     pub(in crate::tests) fn allocb(&mut self, rt: &impl Abort, size: u32) {
         let given = self.blocks.allocb(size);
         let head = self.kept(rt, given);
-        assert_eq!(rt; head, self.plain.allocb(rt, size));
+        let plain = self.plain.allocb(rt, size);
+        assert_eq!(rt; head, self.plain.go_on(plain));
         self.count(rt, Call::Allocb, Answer::unless(head.err()));
     }
 
     fn testb(&mut self, rt: &impl Abort, size: u32) {
         let fits = self.blocks.testb(size);
-        assert_eq!(rt; fits, self.plain.testb(size));
+        assert_eq!(rt; fits, self.plain.testb(rt, size));
         self.count(rt, Call::Testb, Answer::whether(fits));
     }
 
@@ -38,7 +39,8 @@ impl Beside {
         assert!(rt; self.blocks.has(&token));
         let given = self.blocks.dupb(&token);
         let head = self.kept(rt, given);
-        assert_eq!(rt; head, self.plain.dupb(rt, token.head()));
+        let plain = self.plain.dupb(rt, token.head());
+        assert_eq!(rt; head, self.plain.go_on(plain));
         self.count(rt, Call::Dupb, Answer::unless(head.err()));
         self.keep(rt, token);
     }
@@ -50,7 +52,8 @@ impl Beside {
         assert!(rt; self.blocks.has(&token));
         let given = self.blocks.dupmsg(&token);
         let head = self.kept(rt, given);
-        assert_eq!(rt; head, self.plain.dupmsg(rt, token.head()));
+        let plain = self.plain.dupmsg(rt, token.head());
+        assert_eq!(rt; head, self.plain.go_on(plain));
         self.count(rt, Call::Dupmsg, Answer::unless(head.err()));
         self.keep(rt, token);
     }
@@ -62,7 +65,8 @@ impl Beside {
         assert!(rt; self.blocks.has(&token));
         let given = self.blocks.copyb(&token);
         let head = self.kept(rt, given);
-        assert_eq!(rt; head, self.plain.copyb(rt, token.head()));
+        let plain = self.plain.copyb(rt, token.head());
+        assert_eq!(rt; head, self.plain.go_on(plain));
         self.count(rt, Call::Copyb, Answer::unless(head.err()));
         self.keep(rt, token);
     }
@@ -74,7 +78,8 @@ impl Beside {
         assert!(rt; self.blocks.has(&token));
         let given = self.blocks.copymsg(&token);
         let head = self.kept(rt, given);
-        assert_eq!(rt; head, self.plain.copymsg(rt, token.head()));
+        let plain = self.plain.copymsg(rt, token.head());
+        assert_eq!(rt; head, self.plain.go_on(plain));
         self.count(rt, Call::Copymsg, Answer::unless(head.err()));
         self.keep(rt, token);
     }

@@ -33,7 +33,7 @@ impl Beside {
             let (head, tail_head) = (token.head(), tail.head());
             assert!(rt; self.blocks.has(&token) && self.blocks.has(&tail));
             self.blocks.linkb(&mut token, tail);
-            self.plain.linkb(rt, head, tail_head);
+            self.plain = self.plain.linkb(rt, head, tail_head);
             self.count(rt, Call::Linkb, Answer::Done);
         }
         self.keep(rt, token);
@@ -48,7 +48,7 @@ impl Beside {
         let (mut token, tail) = (Token::of(value), Token::of(value));
         assert!(rt; self.blocks.has(&token) && self.blocks.has(&tail));
         self.blocks.linkb(&mut token, tail);
-        self.plain.linkb(rt, value.head, value.head);
+        self.plain = self.plain.linkb(rt, value.head, value.head);
         self.count(rt, Call::Linkb, Answer::Nothing);
         self.keep(rt, token);
     }
@@ -60,7 +60,9 @@ impl Beside {
         assert!(rt; self.blocks.has(&token));
         let rest = self.blocks.unlinkb(&mut token);
         let rest = self.kept_rest(rt, rest);
-        assert_eq!(rt; rest, self.plain.unlinkb(rt, token.head()));
+        let (plain_rest, plain) = self.plain.unlinkb(rt, token.head());
+        assert_eq!(rt; rest, plain_rest);
+        self.plain = plain;
         self.count(rt, Call::Unlinkb, Answer::whether(rest.is_some()));
         self.keep(rt, token);
     }
@@ -92,7 +94,8 @@ impl Beside {
         assert!(rt; self.blocks.has(&token));
         let given = self.blocks.rmvb(token, place);
         let heads = self.kept_both(rt, given);
-        assert_eq!(rt; heads, self.plain.rmvb(rt, head, place));
+        let plain = self.plain.rmvb(rt, head, place);
+        assert_eq!(rt; heads, self.plain.go_on(plain));
         let answer = match heads {
             Ok((_, rest)) => Answer::whether(rest.is_some()),
             Err(why) => Answer::Refused(why),
@@ -108,7 +111,9 @@ impl Beside {
         assert!(rt; self.blocks.has(&token));
         let rest = self.blocks.freeb(token);
         let rest = self.kept_rest(rt, rest);
-        assert_eq!(rt; rest, self.plain.freeb(rt, head));
+        let (plain_rest, plain) = self.plain.freeb(rt, head);
+        assert_eq!(rt; rest, plain_rest);
+        self.plain = plain;
         self.count(rt, Call::Freeb, Answer::whether(rest.is_some()));
     }
 
@@ -118,7 +123,7 @@ impl Beside {
         };
         let value = token.spend();
         self.blocks.freemsg(Token::of(value));
-        self.plain.freemsg(rt, &value);
+        self.plain = self.plain.spent(rt, &value);
         self.count(rt, Call::Freemsg, Answer::Done);
     }
 
@@ -137,7 +142,7 @@ impl Beside {
             }
             None => self.blocks.shelve(shelf, None, token),
         }
-        self.plain.shelve(rt, shelf, before, head);
+        self.plain = self.plain.shelve(rt, shelf, before, head);
         self.count(rt, Call::Shelve, Answer::whether(before.is_some()));
     }
 
@@ -150,7 +155,7 @@ impl Beside {
         let token = self.blocks.unshelve(shelf, head);
         assert_eq!(rt; token.head(), head);
         self.keep(rt, token);
-        self.plain.unshelve(rt, shelf, head);
+        self.plain = self.plain.unshelve(rt, shelf, head);
         self.count(rt, Call::Unshelve, Answer::Done);
     }
 }

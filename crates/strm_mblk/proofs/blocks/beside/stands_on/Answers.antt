@@ -1,4 +1,4 @@
-use Rattle.std.proofs.Common.{◌≡◌, true, ap, sym, ◌∙◌}
+use Rattle.std.proofs.Common.{ap, sym, ◌∙◌}
 use Rattle.strm_links.specs.Rows.{has}
 use Rattle.strm_mblk.specs.Shelves.{stands_on}
 use Rattle.strm_mblk.proofs.Shelving.{heads_at-seen}

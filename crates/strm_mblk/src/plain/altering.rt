@@ -1,0 +1,140 @@
+//! One block of a held message: told, and altered.
+ghost use Rattle.std.specs.Prelude.{◌≡◌, Ok, Some, slice_get, slice_set};
+ghost use Rattle.strm_data.specs.DataStore.{with_bytes_written};
+ghost use Rattle.strm_mblk.specs.Arena.{message_at};
+ghost use Rattle.strm_mblk.specs.BlockCalls as model;
+ghost use Rattle.strm_mblk.specs.Given.{answer_of};
+
+use super::arena::{Arena, Given};
+use super::block::{Block, Message, kind_of, sum};
+use super::list::{List, Twin};
+use crate::BlockInfo;
+use std::alloc::Global;
+use std::process::Abort;
+use strm_data::{MsgType, Refusal};
+
+fn banded(rt: &impl Abort, alloc: Global, band: u8, message: &[Block]) -> Message
+    ensures { result ≡ model.banded band message.now }
+{
+    match message {
+        [] => List::empty(alloc),
+        [first, rest @ ..] => List::chain(rt, alloc, Block { band, ..*first }, rest),
+    }
+}
+
+impl Arena {
+    // Block `place` of the message held at a number.
+    fn block_at(&self, head: u32, place: u32) -> Option<Block>
+        ensures { result ≡ slice_get (message_at self.now head) place }
+    {
+        self.message_at(head).get(place as usize).copied()
+    }
+
+    // Bytes stand in the data block of block `place`, from `at` on, and the block is this one.
+    fn with_block_written(
+        &self,
+        rt: &impl Abort,
+        head: u32,
+        place: u32,
+        block: Block,
+        at: u32,
+        bytes: &[u8],
+    ) -> Arena
+        ensures { result ≡ record self.now {
+          store = with_bytes_written block.data_number at bytes.now self.now.store;
+          held = slice_set self.now.held head (Some (slice_set (message_at self.now head) place block));
+        } }
+    {
+        let store = self.store().twin(rt, self.alloc);
+        let store = store.with_bytes_written(rt, self.alloc, block.data_number, at, bytes);
+        let message = List::of(rt, self.alloc, self.message_at(head));
+        self.over(rt, store)
+            .with_held_at(head, message.with(place as usize, block))
+    }
+
+    fn write_block(
+        &self,
+        rt: &impl Abort,
+        head: u32,
+        place: u32,
+        bytes: &[u8],
+        block: Block,
+    ) -> Given<()>
+        ensures { result ≡ model.write_block head place bytes.now self.now (message_at self.now head) (Some block) }
+    {
+        if self.names_of(rt, block.data_number) > 1 {
+            return Err(Refusal::Shared);
+        }
+        let count = u32::try_from(bytes.len()).expect(rt, "few bytes");
+        let end = sum(rt, block.offset, block.len);
+        if self.store().capacity_of(rt, block.data_number) < sum(rt, end, count) {
+            return Err(Refusal::NoRoom);
+        }
+        let len = sum(rt, block.len, count);
+        let written = Block { len, ..block };
+        Ok((
+            (),
+            self.with_block_written(rt, head, place, written, end, bytes),
+        ))
+    }
+
+    pub(crate) fn write(&self, rt: &impl Abort, head: u32, place: u32, bytes: &[u8]) -> Given<()>
+        ensures { result ≡ model.write head place bytes.now self.now }
+    {
+        match self.block_at(head, place) {
+            Some(block) => self.write_block(rt, head, place, bytes, block),
+            None => Err(Refusal::NoSuchBlock),
+        }
+    }
+
+    fn settype_of(&self, rt: &impl Abort, kind: MsgType, block: Block) -> Given<()>
+        ensures { result ≡ model.settype_of kind self.now (Some block) }
+    {
+        if self.names_of(rt, block.data_number) > 1 {
+            return Err(Refusal::Shared);
+        }
+        let store = self.store().twin(rt, self.alloc);
+        let store = store.with_kind(rt, self.alloc, block.data_number, kind);
+        Ok(((), self.over(rt, store)))
+    }
+
+    pub(crate) fn settype(&self, rt: &impl Abort, head: u32, place: u32, kind: MsgType) -> Given<()>
+        ensures { result ≡ model.settype head place kind self.now }
+    {
+        match self.block_at(head, place) {
+            Some(block) => self.settype_of(rt, kind, block),
+            None => Err(Refusal::NoSuchBlock),
+        }
+    }
+
+    pub(crate) fn setband(&self, rt: &impl Abort, head: u32, band: u8) -> Arena
+        ensures { result ≡ model.setband head band self.now }
+    {
+        let message = banded(rt, self.alloc, band, self.message_at(head));
+        self.twin(rt, self.alloc).with_held_at(head, message)
+    }
+
+    fn info_of(&self, rt: &impl Abort, block: &Block) -> BlockInfo
+        ensures { model.info_of self.now (Some block.now) ≡ Ok (result, self.now) }
+    {
+        let end = sum(rt, block.offset, block.len);
+        let capacity = self.store().capacity_of(rt, block.data_number);
+        let names = self.names_of(rt, block.data_number);
+        BlockInfo {
+            kind: kind_of(self.store(), block),
+            len: block.len,
+            band: block.band,
+            room: capacity.saturating_sub(end),
+            names: u8::try_from(names).expect(rt, "few names"),
+        }
+    }
+
+    pub(crate) fn block(&self, rt: &impl Abort, head: u32, place: u32) -> Result<BlockInfo, Refusal>
+        ensures { result ≡ answer_of (model.block head place self.now) }
+    {
+        match self.block_at(head, place) {
+            Some(block) => Ok(self.info_of(rt, &block)),
+            None => Err(Refusal::NoSuchBlock),
+        }
+    }
+}
