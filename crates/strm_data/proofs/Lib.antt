@@ -1,6 +1,7 @@
 pub mod Lawful
 pub mod Fitting
 pub mod Times
+pub mod Repeated
 pub mod Kept
 pub mod Opening
 pub mod Tables

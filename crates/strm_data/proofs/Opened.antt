@@ -1,5 +1,5 @@
 -- Data blocks that are laid out class by class.
-use Rattle.std.proofs.Common.{◌≡◌, ℕ, zero, suc, ◌+◌, ◌-◌, ◌*◌, ◌<◌, ◌≤◌, List, [], ◌∷◌, ◌++◌, length, get_or, map, take, replicate, refl, sym, ap, ◌∙◌, inl, inr, arith, length-append}
+use Rattle.std.proofs.Common.{◌≡◌, ℕ, ◌+◌, ◌-◌, ◌*◌, ◌<◌, ◌≤◌, List, [], ◌∷◌, ◌++◌, length, get_or, map, take, replicate, refl, sym, ap, ◌∙◌, inl, inr, arith, length-append}
 use Rattle.std.proofs.lemmas.Bool.{cases_eq, cases_lt}
 use Rattle.std.proofs.lemmas.List.{get_or_append_left, get_or-append_right, get_or-replicate, get_or_past, length-replicate, length-map, map_push, map-append, replicate-append-replicate, drop-replicate, take-replicate}
 use Rattle.std.proofs.Math.Nat.{mul-le-mul_right}
@@ -13,6 +13,7 @@ use Rattle.strm_data.specs.DataLayout.{no_class, no_block, class_at, block_at, r
 use Rattle.strm_data.specs.DataStore.{fresh_data_block, numbers_from}
 use Rattle.strm_data.proofs.Opening.{blocks_from, blocks_from-push, length-blocks_from}
 use Rattle.strm_data.proofs.Tables.{length-tabulated, tabulated-more}
+use Rattle.strm_data.proofs.Repeated.{map-replicate}
 
 -- the data blocks of these classes are laid out, as new ones
 pub record AreOpened (specs : List ClassSpec) (classes : List Class) (regions : List (List ℕ)) (blocks : List DataBlock) : Type 0 where
@@ -38,10 +39,6 @@ zeros k d from below =
     let next : (d - k.first + 1) * size ≤ k.spec.count * size = mul-le-mul_right size (let l : d - k.first + 1 ≤ k.spec.count = omega arith in l) in
     let left : size ≤ size * k.spec.count - start_in k d = omega (arith, next) in
     ap (take size) (drop-replicate (start_in k d) (size * k.spec.count) 0) ∙ take-replicate size (size * k.spec.count - start_in k d) 0 left
-
-map-replicate : {X Y : Type 0} (f : X → Y) (n : ℕ) (x : X) → map f (replicate n x) ≡ replicate n (f x)
-map-replicate f zero x = refl
-map-replicate f (suc n) x = ap (λ ys. f x ∷ ys) (map-replicate f n x)
 
 -- one class more
 module _ (specs : List ClassSpec) (classes : List Class) (regions : List (List ℕ)) (blocks : List DataBlock) (opened : AreOpened specs classes regions blocks) (spec : ClassSpec) where

@@ -10,7 +10,8 @@ use Rattle.std.proofs.lemmas.List.Filters.{length-filter_both}
 use Rattle.std.proofs.lemmas.List.Sums.{sum_by-cons, sum_by-append, length-filter}
 use Rattle.strm_data.specs.DataStore.{times}
 
-abbrev one_if : Bool → ℕ
+-- 1 where it is true
+abbrev pub one_if : Bool → ℕ
 one_if b = if b then 1 else 0
 
 -- ---- a list made longer or shorter

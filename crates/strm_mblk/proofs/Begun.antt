@@ -4,10 +4,9 @@ use Rattle.std.specs.Prelude.{drop}
 use Rattle.std.proofs.lemmas.Option.{same_Some, none-some}
 use Rattle.strm_links.specs.Rows.{first}
 use Rattle.strm_data.specs.DataStore.{times}
-use Rattle.strm_data.proofs.Times.{times_here}
+use Rattle.strm_data.proofs.Times.{times-cons, times_here}
 use Rattle.strm_mblk.specs.declared.blocks.Fields.{Fields}
 use Rattle.strm_mblk.specs.BlocksLayout.{fields_at, no_fields}
-use Rattle.strm_mblk.proofs.Moves.{times_front}
 use Rattle.strm_mblk.proofs.Shown.{AreAlike}
 
 -- a list is its first number and the others
@@ -19,7 +18,7 @@ first_rest (x ∷ xs) n is = ap (λ y. y ∷ xs) (same_Some x n is)
 pub alike_each : (old new : List Fields) (ms : List ℕ) → ((k : ℕ) → 0 < times k ms → fields_at new k ≡ fields_at old k) → AreAlike old new ms
 alike_each old new [] each = tt
 alike_each old new (m ∷ ms) each =
-    (each m (omega (arith, times_here m m ms refl)), alike_each old new ms (λ k some. each k (omega (arith, some, times_front k m ms))))
+    (each m (omega (arith, times_here m m ms refl)), alike_each old new ms (λ k some. each k (omega (arith, some, times-cons k m ms))))
 
 -- a number that isn't in a list may say something else
 pub alike_off : (fields : List Fields) (n : ℕ) (x : Fields) (ns : List ℕ) → times n ns ≡ 0 → AreAlike fields (set fields n x) ns

@@ -8,7 +8,7 @@ use Rattle.std.proofs.lemmas.Option.{none-some, same_Some}
 use Rattle.strm_links.specs.Rows.{first}
 use Rattle.strm_data.specs.CountedStore.{CountedStore, IsKept, count_of}
 use Rattle.strm_data.specs.DataStore.{DataStore, times}
-use Rattle.strm_data.proofs.Times.{times-append, times_here, times_other}
+use Rattle.strm_data.proofs.Times.{times-append, times-cons, times_here, times_other}
 use Rattle.strm_mblk.specs.declared.blocks.Fields.{Fields}
 use Rattle.strm_mblk.specs.Arena.{Arena, held_at, names_of, shelved_blocks, with_held}
 use Rattle.strm_mblk.specs.Block.{Block, Message, head_of, is_naming}
@@ -19,7 +19,7 @@ use Rattle.strm_mblk.specs.NodeLists.{IsNodesParted, NodeLists}
 use Rattle.strm_mblk.proofs.Begun.{alike_each, first_rest}
 use Rattle.strm_mblk.proofs.BegunLists.{after_begin_all, free_room, free_unheld}
 use Rattle.strm_mblk.proofs.Counts.{count_adds, held_moves}
-use Rattle.strm_mblk.proofs.Moves.{count_one, one_most, times_front}
+use Rattle.strm_mblk.proofs.Moves.{count_one, one_most}
 use Rattle.strm_mblk.proofs.Rooms.{HasRooms, placed-over, placed-set}
 use Rattle.strm_mblk.proofs.Shown.{AreAlike, held-alike, held_at-seen, nodes_in, shelves-alike}
 
@@ -66,8 +66,8 @@ message-fields (n ∷ ns) (b ∷ bs) fields many once within =
     with_fields_other ns (map fields_of bs) (set fields n (fields_of b)) n (omega (arith, here, once n))
     ∙ get_or-set_same fields n (fields_of b) no_fields (within n (omega (arith, here))) in
     let rest =
-    message-fields ns bs (set fields n (fields_of b)) (omega (arith, many)) (λ k. omega (arith, once k, times_front k n ns))
-    (λ k some. omega (arith, within k (omega (arith, some, times_front k n ns)), length-set fields n (fields_of b))) in
+    message-fields ns bs (set fields n (fields_of b)) (omega (arith, many)) (λ k. omega (arith, once k, times-cons k n ns))
+    (λ k some. omega (arith, within k (omega (arith, some, times-cons k n ns)), length-set fields n (fields_of b))) in
     λ i. block_of n (said i) ∷ rest i
 
 -- as many of them name a data block

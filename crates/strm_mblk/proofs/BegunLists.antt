@@ -7,12 +7,12 @@ use Rattle.std.proofs.lemmas.Option.{none-some, same_Some, slice_get-get_or}
 use Rattle.std.proofs.Math.Seq.{take-suc}
 use Rattle.strm_links.specs.Rows.{first}
 use Rattle.strm_data.specs.DataStore.{times}
-use Rattle.strm_data.proofs.Times.{times-append}
+use Rattle.strm_data.proofs.Times.{one_if, times-append, times-cons}
 use Rattle.strm_mblk.specs.Messages.{blocks_held, blocks_of, blocks_on, held_in, joined}
 use Rattle.strm_mblk.specs.NodeLists.{IsNodesParted, NodeLists, after_begin}
 use Rattle.strm_mblk.proofs.Counts.{count_adds, flat_map-set_adds}
 use Rattle.strm_mblk.proofs.Dropping.{drop_more}
-use Rattle.strm_mblk.proofs.Moves.{in_range, one_if, one_most, times_front}
+use Rattle.strm_mblk.proofs.Moves.{in_range, one_most}
 use Rattle.strm_mblk.proofs.Rewriting.{begins_with, times_at}
 use Rattle.strm_mblk.proofs.Setband.{at_first}
 
@@ -60,7 +60,7 @@ module _ (v w : NodeLists) (h k : ℕ) (begun : first v.free ≡ Some h) (room :
   next_free = ap first free_is
 
   is_free : 0 < times n w.free
-  is_free = omega (arith, ap (times n) free_is, times_front n n (drop (k + 1) v.free), ap one_if (eq-eqb n n refl))
+  is_free = omega (arith, ap (times n) free_is, times-cons n n (drop (k + 1) v.free), ap one_if (eq-eqb n n refl))
 
   held_is : held_in w.held h ≡ Some (take k v.free)
   held_is = ap (λ (l : NodeLists). held_in l.held h) w_is ∙ get_or-set_same v.held h (Some (take k v.free)) None room

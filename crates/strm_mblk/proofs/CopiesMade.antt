@@ -9,6 +9,7 @@ use Rattle.std.proofs.lemmas.List.Elements.{All-append}
 use Rattle.std.proofs.lemmas.Option.{get_or_from_slice_get, slice_get_within}
 use Rattle.strm_data.specs.CountedStore.{CountedStore, IsUnused, count_of}
 use Rattle.strm_data.specs.DataStore.{capacity_of, take_data, times}
+use Rattle.strm_data.proofs.Times.{one_if}
 use Rattle.strm_mblk.specs.declared.blocks.Fields.{Fields}
 use Rattle.strm_mblk.specs.Block.{Block, is_naming}
 use Rattle.strm_mblk.specs.BlockCalls.{copied_into, copies}
@@ -19,7 +20,7 @@ use Rattle.strm_mblk.proofs.BegunAll.{length-with_fields, with_fields_other}
 use Rattle.strm_mblk.proofs.Copies.{answer_more, can_take, in_front, in_front_none, rooms-copied}
 use Rattle.strm_mblk.proofs.Counts.{count_adds}
 use Rattle.strm_mblk.proofs.Giving.{times_part}
-use Rattle.strm_mblk.proofs.Moves.{count_one, one_if}
+use Rattle.strm_mblk.proofs.Moves.{count_one}
 use Rattle.strm_mblk.proofs.Rooms.{HasRooms, count_of-set, placed-over}
 
 -- ---- lists

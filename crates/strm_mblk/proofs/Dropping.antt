@@ -7,6 +7,7 @@ use Rattle.std.proofs.lemmas.List.{append_assoc, get_or_past, reverse-append}
 use Rattle.std.proofs.lemmas.Option.{same_Some, none-some}
 use Rattle.strm_data.specs.CountedStore.{CountedStore, count_of, without_name}
 use Rattle.strm_data.specs.DataStore.{DataStore, times, with_data_freed}
+use Rattle.strm_data.proofs.Times.{one_if, times-cons}
 use Rattle.strm_mblk.specs.declared.blocks.Fields.{Fields}
 use Rattle.strm_mblk.specs.Arena.{Arena}
 use Rattle.strm_mblk.specs.Block.{Message, is_naming}
@@ -14,7 +15,6 @@ use Rattle.strm_mblk.specs.BlocksLayout.{block_at, fields_at, message_of, named_
 use Rattle.strm_mblk.specs.Freeing.{with_block_freed, with_blocks_freed}
 use Rattle.strm_mblk.specs.Messages.{blocks_held, blocks_on}
 use Rattle.strm_mblk.proofs.Counts.{count_by-map}
-use Rattle.strm_mblk.proofs.Moves.{one_if, times_front}
 use Rattle.strm_mblk.proofs.Rooms.{HasRooms, count_of-set}
 use Rattle.strm_mblk.proofs.Shown.{slice_get-mapped}
 
@@ -77,12 +77,12 @@ pub record IsDropping (ds : List ℕ) (i : ℕ) (old s : CountedStore) : Type 0 
 module _ (ds : List ℕ) (i : ℕ) (old s : CountedStore) (dropping : IsDropping ds i old s) (d : ℕ) (is : slice_get ds i ≡ Some d) where
   -- the next data block has a name
   pub next_used : 0 < count_of s d
-  next_used = omega (arith, dropping.named d, ap (times d) (drop_more ds i d is), times_front d d (drop (i + 1) ds), ap one_if (eq-eqb d d refl))
+  next_used = omega (arith, dropping.named d, ap (times d) (drop_more ds i d is), times-cons d d (drop (i + 1) ds), ap one_if (eq-eqb d d refl))
 
   pub next_dropping : IsDropping ds (i + 1) old (without_name d s)
   next_dropping = record {
     after = ap (λ xs. with_names_dropped xs s) (sym (drop_more ds i d is)) ∙ dropping.after;
-    named = λ k. omega (arith, dropping.named k, ap (times k) (drop_more ds i d is), times_front k d (drop (i + 1) ds), named_less s d next_used k);
+    named = λ k. omega (arith, dropping.named k, ap (times k) (drop_more ds i d is), times-cons k d (drop (i + 1) ds), named_less s d next_used k);
     many = (rooms-less s d).many ∙ dropping.many;
   }
 
@@ -120,12 +120,12 @@ module _ (id : ℕ) (fields : List Fields) (held : List (Option Message)) (shelv
   first_used : (s : CountedStore) (n : ℕ) (ns : List ℕ) → AreCounted s (n ∷ ns) → 0 < count_of s (fields_at fields n).data_number
   first_used s n ns counts =
       let d = (fields_at fields n).data_number in
-      omega (arith, counts d, times_front d d (named_by fields ns), ap one_if (eq-eqb d d refl))
+      omega (arith, counts d, times-cons d d (named_by fields ns), ap one_if (eq-eqb d d refl))
 
   counted_less : (s : CountedStore) (n : ℕ) (ns : List ℕ) → AreCounted s (n ∷ ns) → AreCounted (without_name (fields_at fields n).data_number s) ns
   counted_less s n ns counts k =
       let d = (fields_at fields n).data_number in
-      omega (arith, counts k, times_front k d (named_by fields ns), named_less s d (first_used s n ns counts) k)
+      omega (arith, counts k, times-cons k d (named_by fields ns), named_less s d (first_used s n ns counts) k)
 
   -- counts are names again
   pub counts_left : (ns : List ℕ) (s : CountedStore) → AreCounted s ns → (d : ℕ) → count_of (with_names_dropped (named_by fields ns) s) d ≡ names d
@@ -137,7 +137,7 @@ module _ (id : ℕ) (fields : List Fields) (held : List (Option Message)) (shelv
   one_freed n ns s free counts =
       let d = (fields_at fields n).data_number in
       let is : count_of s d ≡ suc (names d + count_by (is_naming d) (message_of fields ns)) =
-      omega (arith, counts d, times_front d d (named_by fields ns), ap one_if (eq-eqb d d refl), naming-named fields d ns) in
+      omega (arith, counts d, times-cons d d (named_by fields ns), ap one_if (eq-eqb d d refl), naming-named fields d ns) in
       ap (λ (last : Bool). let a : Arena = record { id = id; store = if last then with_data_freed d s.store else s.store; free = n ∷ free; held = held; shelves = shelves } in a)
       (last_one (names d + count_by (is_naming d) (message_of fields ns)) (count_of s d) is)
 

@@ -9,11 +9,10 @@ use Rattle.std.proofs.lemmas.List.Folds.{list_any_none}
 use Rattle.std.proofs.lemmas.Option.{none-some, same_Some}
 use Rattle.strm_data.specs.CountedStore.{CountedStore, IsKept, count_of, with_name, without_name}
 use Rattle.strm_data.specs.DataStore.{times, with_data_freed}
-use Rattle.strm_data.proofs.Times.{times-append, times_here}
+use Rattle.strm_data.proofs.Times.{one_if, times-append, times-cons, times_here}
 use Rattle.strm_mblk.specs.BlocksLayout.{exceeds_counts, with_names_dropped, with_names_given}
 use Rattle.strm_mblk.proofs.Dropping.{counted_there, slice_get-take}
 use Rattle.strm_mblk.proofs.Heads.{set_apart}
-use Rattle.strm_mblk.proofs.Moves.{one_if, times_front}
 use Rattle.strm_mblk.proofs.Rewriting.{times_at}
 use Rattle.strm_mblk.proofs.Rooms.{count_of-set}
 
@@ -41,10 +40,10 @@ abbrev pub AreUsed : List ℕ → CountedStore → Type 0
 AreUsed ds s = (k : ℕ) → 0 < times k ds → 0 < count_of s k
 
 first_used : (d : ℕ) (ds : List ℕ) (s : CountedStore) → AreUsed (d ∷ ds) s → 0 < count_of s d
-first_used d ds s used = used d (omega (arith, times_front d d ds, ap one_if (eq-eqb d d refl)))
+first_used d ds s used = used d (omega (arith, times-cons d d ds, ap one_if (eq-eqb d d refl)))
 
 rest_used : (d : ℕ) (ds : List ℕ) (s : CountedStore) → AreUsed (d ∷ ds) s → AreUsed ds s
-rest_used d ds s used k some = used k (omega (arith, some, times_front k d ds))
+rest_used d ds s used k some = used k (omega (arith, some, times-cons k d ds))
 
 more_used : (d : ℕ) (ds : List ℕ) (s : CountedStore) → AreUsed (d ∷ ds) s → AreUsed ds (with_name d s)
 more_used d ds s used k some = omega (arith, rest_used d ds s used k some, named_more s d (first_used d ds s used) k)
@@ -53,7 +52,7 @@ more_used d ds s used k some = omega (arith, rest_used d ds s used k some, named
 pub counts_given : (ds : List ℕ) (s : CountedStore) → AreUsed ds s → (k : ℕ) → count_of (with_names_given ds s) k ≡ count_of s k + times k ds
 counts_given [] s used k = omega arith
 counts_given (d ∷ ds) s used k =
-    omega (arith, counts_given ds (with_name d s) (more_used d ds s used) k, named_more s d (first_used d ds s used) k, times_front k d ds)
+    omega (arith, counts_given ds (with_name d s) (more_used d ds s used) k, named_more s d (first_used d ds s used) k, times-cons k d ds)
 
 -- ---- back
 

@@ -13,8 +13,9 @@ use Rattle.strm_mblk.specs.Given.{Given}
 use Rattle.strm_mblk.specs.Messages.{blocks_of, divided}
 use Rattle.strm_mblk.proofs.Counts.{blocks_in_adds, count_adds, times-all}
 use Rattle.strm_mblk.proofs.Freemsg.{spent_had}
-use Rattle.strm_mblk.proofs.Moves.{count_one, held_among, held_within, in_range, number_is, one_if, one_most, placed}
+use Rattle.strm_mblk.proofs.Moves.{count_one, held_among, held_within, in_range, number_is, one_most, placed}
 use Rattle.strm_mblk.proofs.Tokens.{token_had}
+use Rattle.strm_data.proofs.Times.{one_if}
 
 -- two places that are written in either order
 pub set_apart : {X : Type 0} (xs : List X) (i j : ℕ) (x y : X) → i ≢ j → set (set xs i x) j y ≡ set (set xs j y) i x

@@ -51,7 +51,7 @@ pub mod CopiesMade
 pub mod BegunBeside
 pub mod Copied
 pub mod Rows
-pub mod FirstAndRest
+pub mod PlainSteps
 pub mod SecondFreed
 pub mod SecondTaken
 pub mod Refilled

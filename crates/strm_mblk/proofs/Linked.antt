@@ -8,7 +8,7 @@ use Rattle.std.proofs.lemmas.Option.{none-some, same_Some}
 use Rattle.strm_links.specs.Rows.{first}
 use Rattle.strm_data.specs.CountedStore.{CountedStore}
 use Rattle.strm_data.specs.DataStore.{times}
-use Rattle.strm_data.proofs.Times.{times-append, times_here}
+use Rattle.strm_data.proofs.Times.{one_if, times-append, times-cons, times_here}
 use Rattle.strm_mblk.specs.declared.blocks.Fields.{Fields}
 use Rattle.strm_mblk.specs.Arena.{names_of}
 use Rattle.strm_mblk.specs.Block.{is_naming}
@@ -16,7 +16,7 @@ use Rattle.strm_mblk.specs.BlocksLayout.{IsFilled, arena_of, block_at}
 use Rattle.strm_mblk.specs.Messages.{blocks_held, blocks_of, blocks_on, held_in}
 use Rattle.strm_mblk.specs.NodeLists.{IsNodesParted, NodeLists}
 use Rattle.strm_mblk.proofs.Counts.{count_adds, count_by-map, flat_map-set_adds}
-use Rattle.strm_mblk.proofs.Moves.{in_range, one_if, one_most, times_front}
+use Rattle.strm_mblk.proofs.Moves.{count_one, in_range, one_most}
 use Rattle.strm_mblk.proofs.Rewriting.{begins_with, times_at}
 use Rattle.strm_mblk.proofs.Setband.{at_first}
 use Rattle.strm_mblk.proofs.Shown.{blocks_in-seen, nodes_in}
@@ -31,12 +31,9 @@ count_less : (p : ℕ → Bool) (n : ℕ) (xs : List ℕ) → 0 < times n xs →
 count_less p n [] some = absurd (omega arith)
 count_less p n (x ∷ xs) some =
     elim (eqb_tells x n) [
-      | inl same ↦ rw same.0 (omega (arith, (count_adds p).both (x ∷ []) xs, count_lone p x, ap (λ k. one_if (p k)) same.1))
-      | inr other ↦ rw other.0 (omega (arith, (count_adds p).both (x ∷ []) xs, (count_adds p).both (x ∷ []) (less n xs), count_less p n xs (omega (arith, some, times_front n x xs, ap one_if other.0))))
+      | inl same ↦ rw same.0 (omega (arith, (count_adds p).both (x ∷ []) xs, count_one p x, ap (λ k. one_if (p k)) same.1))
+      | inr other ↦ rw other.0 (omega (arith, (count_adds p).both (x ∷ []) xs, (count_adds p).both (x ∷ []) (less n xs), count_less p n xs (omega (arith, some, times-cons n x xs, ap one_if other.0))))
     ]
-  where
-    count_lone : (p : ℕ → Bool) (x : ℕ) → count_by p (x ∷ []) ≡ one_if (p x)
-    count_lone p x = omega arith
 
 -- a list in which no number stands
 none_stands : (xs : List ℕ) → ((n : ℕ) → times n xs ≡ 0) → xs ≡ []
@@ -49,11 +46,8 @@ count_same p [] ys same = ap (count_by p) (sym (none_stands ys (λ n. sym (same 
 count_same p (x ∷ xs) ys same =
     let here : 0 < times x ys = omega (arith, same x, times_here x x xs refl) in
     let rest : (n : ℕ) → times n xs ≡ times n (less x ys) =
-    λ n. omega (arith, same n, times_front n x xs, count_less (λ k. k == n) x ys here) in
-    omega (arith, (count_adds p).both (x ∷ []) xs, count_same p xs (less x ys) rest, count_less p x ys here, count_lone p x)
-  where
-    count_lone : (p : ℕ → Bool) (x : ℕ) → count_by p (x ∷ []) ≡ one_if (p x)
-    count_lone p x = omega arith
+    λ n. omega (arith, same n, times-cons n x xs, count_less (λ k. k == n) x ys here) in
+    omega (arith, (count_adds p).both (x ∷ []) xs, count_same p xs (less x ys) rest, count_less p x ys here, count_one p x)
 
 -- ---- only held messages change
 

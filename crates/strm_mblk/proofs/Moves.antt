@@ -1,5 +1,5 @@
 -- Each block stays counted once, and each name, when a call moves a message.
-use Rattle.std.proofs.Common.{◌≡◌, ◌≢◌, ℕ, ◌+◌, ◌<◌, ◌≤◌, Bool, true, false, cond, eqb, ltb, List, [], ◌∷◌, ◌++◌, length, get_or, set, Option, Some, None, refl, sym, ap, ◌∙◌, subst, inl, inr, arith, if◌then◌else◌, get_or-set_same, get_or-set_other, length-set, length-append}
+use Rattle.std.proofs.Common.{◌≡◌, ◌≢◌, ℕ, ◌+◌, ◌<◌, ◌≤◌, Bool, true, false, eqb, ltb, List, [], ◌∷◌, ◌++◌, length, get_or, set, Option, Some, None, refl, sym, ap, ◌∙◌, subst, inl, inr, arith, if◌then◌else◌, get_or-set_same, get_or-set_other, length-set, length-append}
 use Rattle.std.specs.Prelude.{count_by}
 use Rattle.std.specs.List.{flat_map}
 use Rattle.std.specs.Option.{IfSome}
@@ -10,7 +10,7 @@ use Rattle.strm_mblk.specs.Block.{Block, Message, head_of, is_naming, numbers_of
 use Rattle.strm_mblk.specs.Messages.{blocks_of}
 use Rattle.strm_data.specs.DataStore.{times}
 use Rattle.strm_data.specs.CountedStore.{CountedStore, count_of}
-use Rattle.strm_data.proofs.Times.{as_many}
+use Rattle.strm_data.proofs.Times.{as_many, one_if, times-cons}
 use Rattle.strm_mblk.proofs.Counts.{count_adds, length_adds, held_moves, shelf_moves, blocks_in_adds, flat_map-set_adds, times-all}
 
 abbrev pub number_is : ℕ → Block → Bool
@@ -19,10 +19,6 @@ number_is n b = eqb b.number n
 -- how many blocks of messages have this number
 abbrev pub placed : Arena → ℕ → ℕ
 placed a n = count_by (number_is n) (blocks_in a)
-
--- 1 where two numbers are one
-abbrev pub one_if : Bool → ℕ
-one_if b = cond b 1 0
 
 -- each number stands once, a held message at its head, and counts are names
 pub record IsCounted (a : Arena) (s : CountedStore) : Type 0 where
@@ -86,12 +82,9 @@ module _ (a : Arena) (s : CountedStore) (counted : IsCounted a s) where
         | Some m ↦ λ is. absurd (omega (arith, held_there n m is, once a s counted n, blocks_in_adds (count_adds (number_is n)) a))
       ] refl
 
--- a test counts a lone block once or not at all
-pub count_one : (p : Block → Bool) (b : Block) → count_by p (b ∷ []) ≡ one_if (p b)
-count_one p b = omega arith
-
-pub times_front : (k n : ℕ) (ns : List ℕ) → times k (n ∷ ns) ≡ one_if (eqb n k) + times k ns
-times_front k n ns = omega (arith, (count_adds (λ x. eqb x k)).both (n ∷ []) ns)
+-- a test counts a lone item once or not at all
+pub count_one : {X : Type 0} (p : X → Bool) (x : X) → count_by p (x ∷ []) ≡ one_if (p x)
+count_one p x = omega arith
 
 -- what stands at one place of the held messages
 pub held_at-set_same : (a : Arena) (h : ℕ) (o : Option Message) → h < length a.held → held_at (record a { held = set a.held h o }) h ≡ o
@@ -117,7 +110,7 @@ pub allocated : (a : Arena) (s t : CountedStore) (n d : ℕ) (ns : List ℕ) →
     → ((k : ℕ) → count_of t k ≡ count_of s k + one_if (eqb d k))
     → IsCounted (with_held (new_block n d ∷ []) (record a { free = ns; store = t.store })) t
 allocated a s t n d ns counted is named =
-    let free_one : times n a.free ≡ 1 + times n ns = ap (times n) is ∙ times_front n n ns ∙ ap (λ b. one_if b + times n ns) (eq-eqb n n refl) in
+    let free_one : times n a.free ≡ 1 + times n ns = ap (times n) is ∙ times-cons n n ns ∙ ap (λ b. one_if b + times n ns) (eq-eqb n n refl) in
     let absent : held_at a n ≡ None = not_held a s counted n (omega arith) in
     let inside : n < length a.held = within a s counted n (omega arith) in
     let rest : Arena = record a { free = ns; store = t.store } in
@@ -127,7 +120,7 @@ allocated a s t n d ns counted is named =
       numbers = λ k.
           times-all k (with_held (new_block n d ∷ []) rest)
           ∙ (let sum : times k ns + count_by (number_is k) (blocks_in (with_held (new_block n d ∷ []) rest)) ≡ times k a.free + placed a k =
-          omega (arith, moves (number_is k), times_front k n ns, ap (times k) is) in
+          omega (arith, moves (number_is k), times-cons k n ns, ap (times k) is) in
           sum ∙ numbers_sum a s counted k ∙ ap (λ l. if ltb k l then 1 else 0) (sym (length-set a.held n (Some (new_block n d ∷ [])))));
       heads = heads_kept rest n (Some (new_block n d ∷ [])) inside counted.heads (omega arith, refl);
       counts = λ k. named k ∙ omega (arith, moves (is_naming k), counted.counts k);
@@ -230,7 +223,7 @@ freed_one a s t h b counted is named =
     record {
       numbers = λ k.
           times-all k new
-          ∙ (let sum : times k (b.number ∷ a.free) + count_by (number_is k) (blocks_in new) ≡ times k a.free + placed a k = omega (arith, moves (number_is k), times_front k b.number a.free) in
+          ∙ (let sum : times k (b.number ∷ a.free) + count_by (number_is k) (blocks_in new) ≡ times k a.free + placed a k = omega (arith, moves (number_is k), times-cons k b.number a.free) in
           sum ∙ numbers_sum a s counted k ∙ ap (λ l. if ltb k l then 1 else 0) (sym (length-set a.held h None)));
       heads = heads_kept a h None (held_within a h (b ∷ []) is) counted.heads tt;
       counts = λ k. omega (arith, named k, moves (is_naming k), counted.counts k);

@@ -1,5 +1,5 @@
 -- `Blocks::new`: what is opened is sound.
-use Rattle.std.proofs.Common.{◌≡◌, ℕ, zero, suc, ◌<◌, List, [], ◌∷◌, ◌++◌, map, length, get_or, replicate, None, refl, sym, ap, ◌∙◌, subst, arith}
+use Rattle.std.proofs.Common.{◌≡◌, ℕ, ◌<◌, List, [], ◌∷◌, ◌++◌, map, length, replicate, None, refl, sym, ap, ◌∙◌, subst, arith}
 use Rattle.std.specs.Prelude.{IsTrue, nat_lt, nat_le, option_map, count_by}
 use Rattle.std.specs.List.{flat_map}
 use Rattle.std.proofs.lemmas.Bool.{and_parts, false≢true, ltb-true}
@@ -10,25 +10,13 @@ use Rattle.strm_data.specs.Classes.{are_lawful, each_has_blocks, sizes_rise, tot
 use Rattle.strm_data.specs.CountedStore.{CountedStore, IsKept, count_of, opening_counted}
 use Rattle.strm_data.specs.DataStore.{opening_store}
 use Rattle.strm_data.proofs.Opening.{length-blocks_from}
+use Rattle.strm_data.proofs.Repeated.{copies-at, flat_map-replicate, map-replicate}
 use Rattle.strm_mblk.specs.declared.blocks.Fields.{Fields}
 use Rattle.strm_mblk.specs.Arena.{blocks_in, names_of, opening_arena, shelved_blocks}
 use Rattle.strm_mblk.specs.Block.{Message}
 use Rattle.strm_mblk.specs.BlocksLayout.{IsFilled, IsPlaced, arena_of, fields_at, message_of, no_fields}
 use Rattle.strm_mblk.specs.Messages.{blocks_held, blocks_of}
 use Rattle.strm_mblk.specs.NodeLists.{IsNodesParted, NodeLists, opening_nodes}
-
-map-replicate : {X Y : Type 0} (f : X → Y) (n : ℕ) (x : X) → map f (replicate n x) ≡ replicate n (f x)
-map-replicate f zero x = refl
-map-replicate f (suc n) x = ap (λ l. f x ∷ l) (map-replicate f n x)
-
-flat_map-replicate : {X Y : Type 0} (f : X → List Y) (n : ℕ) (x : X) → f x ≡ [] → flat_map f (replicate n x) ≡ []
-flat_map-replicate f zero x none = refl
-flat_map-replicate f (suc n) x none = rw none (flat_map-replicate f n x none)
-
-copies-at : {X : Type 0} (n d : ℕ) (x : X) → get_or (replicate n x) d x ≡ x
-copies-at zero d x = refl
-copies-at (suc n) zero x = refl
-copies-at (suc n) (suc d) x = copies-at n d x
 
 -- lawful classes have a data block
 some_total : (cs : List ClassSpec) → IsTrue (are_lawful cs) → 0 < total_of cs

@@ -1,5 +1,5 @@
 -- Two arenas of links part the message blocks: each is free, or stands in one message.
-use Rattle.std.proofs.Common.{◌≡◌, ℕ, zero, suc, ◌+◌, ◌<◌, Bool, true, false, ◌||◌, ◌==◌, List, [], ◌∷◌, ◌++◌, map, length, get_or, take, Some, None, is_some, if◌then◌else◌, refl, sym, ap, ◌∙◌, subst, inl, inr, arith}
+use Rattle.std.proofs.Common.{◌≡◌, ℕ, zero, suc, ◌+◌, ◌<◌, true, false, ◌||◌, ◌==◌, List, [], ◌∷◌, ◌++◌, map, length, get_or, take, Some, None, is_some, refl, sym, ap, ◌∙◌, subst, inl, inr, arith}
 use Rattle.std.specs.Prelude.{nat_lt, IfSome}
 use Rattle.std.proofs.lemmas.Bool.{cases_eq, cases_lt, cases_Bool, cond-true, cond-false, eq-eqb, ne_eqb, lt-ltb, le-ltb, false≢true, false_from_ne_true}
 use Rattle.std.proofs.lemmas.List.{append-nil, append_assoc}
@@ -10,14 +10,11 @@ use Rattle.strm_links.specs.Rows.{Rows, has, IsApart, first, is_some_of, list_at
 use Rattle.strm_links.proofs.OneList.{has_head, has_tail, All-has}
 use Rattle.strm_links.proofs.AllLists.{holder_has, has-holder, has_linked, IsApart-list_at}
 use Rattle.strm_data.specs.DataStore.{times}
-use Rattle.strm_data.proofs.Times.{times-cons, times-append, times_here, times_other, times_below}
+use Rattle.strm_data.proofs.Times.{one_if, times-append, times-cons, times_below, times_here, times_other}
 use Rattle.strm_mblk.specs.ChainLayout.{held_chain, nodes_of, IsChained}
 use Rattle.strm_mblk.specs.Messages.{blocks_of, blocks_on, blocks_held, held_in, shelf_in}
 use Rattle.strm_mblk.specs.NodeLists.{IsNodesParted, all_nodes}
 use Rattle.strm_mblk.proofs.Seen.{chain, held-get, held-past, length-held, shelf-get, shelf-past, chained_below, on_list}
-
-abbrev one_if : Bool → ℕ
-one_if b = if b then 1 else 0
 
 -- ---- how often a number stands in lists
 

@@ -6,7 +6,7 @@ use Rattle.std.proofs.lemmas.Bool.Decides.{eqb_tells}
 use Rattle.strm_data.specs.declared.msg_type.MsgType.{MsgType}
 use Rattle.strm_data.specs.CountedStore.{CountedStore, IsKept, IsUnused, count_of, without_name}
 use Rattle.strm_data.specs.DataStore.{DataStore, capacity_of, times, with_data_freed, with_data_taken, with_kind}
-use Rattle.strm_data.proofs.Times.{times_here}
+use Rattle.strm_data.proofs.Times.{one_if, times_here}
 use Rattle.strm_mblk.specs.declared.blocks.Fields.{Fields}
 use Rattle.strm_mblk.specs.Arena.{Arena, held_at, message_at, names_of, shelved_blocks}
 use Rattle.strm_mblk.specs.Block.{Block, is_naming, kind_of}
@@ -19,7 +19,7 @@ use Rattle.strm_mblk.proofs.Begun.{first_rest}
 use Rattle.strm_mblk.proofs.Counts.{count_adds, held_moves}
 use Rattle.strm_mblk.proofs.Dropping.{last_one, named_less, rooms-less}
 use Rattle.strm_mblk.proofs.Freemsg.{enough}
-use Rattle.strm_mblk.proofs.Moves.{held_within, one_if}
+use Rattle.strm_mblk.proofs.Moves.{held_within}
 use Rattle.strm_mblk.proofs.Rewriting.{begins_with, written_shows}
 use Rattle.strm_mblk.proofs.Rooms.{HasRooms, count_of-set, placed-set, rooms-both, rooms-kind, rooms-taken}
 use Rattle.strm_mblk.proofs.SecondTaken.{IsHeldHead}

@@ -8,7 +8,7 @@ use Rattle.std.proofs.lemmas.Option.{same_Some, none-some}
 use Rattle.strm_links.specs.Rows.{first}
 use Rattle.strm_data.specs.CountedStore.{CountedStore, IsKept}
 use Rattle.strm_data.specs.DataStore.{DataStore, times}
-use Rattle.strm_data.proofs.Times.{times-append, times_here, times_other, times-cons}
+use Rattle.strm_data.proofs.Times.{one_if, times-append, times-cons, times_here, times_other}
 use Rattle.strm_mblk.specs.declared.blocks.Fields.{Fields}
 use Rattle.strm_mblk.specs.Arena.{held_at, names_of}
 use Rattle.strm_mblk.specs.Block.{Block, Message, head_of}
@@ -18,7 +18,7 @@ use Rattle.strm_mblk.specs.NodeLists.{IsNodesParted, NodeLists}
 use Rattle.strm_mblk.proofs.Begun.{alike_off}
 use Rattle.strm_mblk.proofs.Counts.{count_adds, flat_map-set_adds}
 use Rattle.strm_mblk.proofs.Lawful.{counted}
-use Rattle.strm_mblk.proofs.Moves.{count_one, held_within, in_range, one_if, one_most, rewritten}
+use Rattle.strm_mblk.proofs.Moves.{count_one, held_within, in_range, one_most, rewritten}
 use Rattle.strm_mblk.proofs.Rooms.{HasRooms, placed-set}
 use Rattle.strm_mblk.proofs.Shown.{AreAlike, alike_parts, held-alike, held_at-seen, message-alike, nodes_in, option-alike, shelves-alike}
 

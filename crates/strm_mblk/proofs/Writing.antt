@@ -1,9 +1,8 @@
 -- `write`: bytes behind the write place of a held message's block.
-use Rattle.std.proofs.Common.{◌≡◌, ℕ, ◌+◌, ◌≤◌, true, List, ◌++◌, length, set, Some, None, Ok, refl, sym, ap, ◌∙◌, subst, arith, get_or-set_same, length-set, length-append}
-use Rattle.std.specs.Prelude.{take, drop}
-use Rattle.std.proofs.lemmas.List.{length-take, length-drop}
+use Rattle.std.proofs.Common.{◌≡◌, ℕ, ◌+◌, ◌≤◌, true, List, length, set, Some, None, Ok, refl, sym, ap, ◌∙◌, subst, arith, get_or-set_same, length-set}
 use Rattle.strm_data.specs.CountedStore.{CountedStore, IsKept}
 use Rattle.strm_data.specs.DataStore.{DataStore, capacity_of, data_block_at, overwritten, with_bytes_written}
+use Rattle.strm_data.proofs.Tables.{length-overwritten}
 use Rattle.strm_mblk.specs.declared.blocks.Fields.{Fields}
 use Rattle.strm_mblk.specs.declared.token.TokenValue.{TokenValue}
 use Rattle.strm_mblk.specs.Arena.{Arena, has, held_at, names_of, shelved_blocks}
@@ -17,11 +16,6 @@ use Rattle.strm_mblk.proofs.Places.{IsAt}
 use Rattle.strm_mblk.proofs.Rewriting.{rewrite_filled, rewrite_shows}
 use Rattle.strm_mblk.proofs.Rooms.{HasRooms, rooms-set}
 use Rattle.strm_mblk.proofs.Tokens.{had_again, had_message}
-
--- bytes written over others in their range leave as many
-length-overwritten : (at : ℕ) (new old : List ℕ) → at + length new ≤ length old → length (overwritten at new old) ≡ length old
-length-overwritten at new old within =
-    omega (arith, within, length-append (take at old) (new ++ drop (at + length new) old), length-append new (drop (at + length new) old), length-take at old, length-drop (at + length new) old)
 
 pub rooms-written : (s : DataStore) (d at : ℕ) (bytes : List ℕ) → at + length bytes ≤ capacity_of s d → HasRooms s (with_bytes_written d at bytes s)
 rooms-written s d at bytes within =

@@ -19,11 +19,12 @@ use Rattle.strm_data.specs.DataStore.{times}
 use Rattle.strm_data.specs.CountedStore.{CountedStore, IsKept, IsUnused, count_of, after_take}
 use Rattle.strm_data.specs.DataStore.{DataStore, DataBlock, no_data_block, data_block_at, take_data, with_data_taken}
 use Rattle.strm_data.specs.Classes.{fits_a_class}
+use Rattle.strm_data.proofs.Times.{one_if, times-cons}
 use Rattle.strm_pool.specs.PoolLayout.{message_of, arena_of, pool_value, IsSound}
 use Rattle.strm_pool.specs.PoolValue.{PoolValue, on_arena, allocb}
-use Rattle.strm_mblk.proofs.Moves.{one_if, times_front, within, not_held, allocated}
+use Rattle.strm_mblk.proofs.Moves.{within, not_held, allocated}
 use Rattle.strm_pool.proofs.PoolMoves.{IsPlain, counted_by, held_at-is, held-set, same_arena, sound_from}
-use Rattle.strm_pool.proofs.Freemsg.{count_of-set}
+use Rattle.strm_mblk.proofs.Rooms.{count_of-set}
 
 -- a data block that is taken is of type M_DATA, and the others stay
 plain_taken : (d : ℕ) (s : DataStore) → IsPlain s → IsPlain (with_data_taken d s)
@@ -52,11 +53,11 @@ module _ (a : Inside) (sound : IsSound a) (n : ℕ) (new : VecDeque ℕ Global) 
   -- the block has a place among the held ones
   pub alloc_room : n < length a.held.items
   alloc_room =
-      omega (arith, within (arena_of a) a.store (counted_by a sound) n (omega (arith, ap (times n) popped, times_front n n new.items, ap one_if (eq-eqb n n refl))), length-map a.held.items (option_map message_of))
+      omega (arith, within (arena_of a) a.store (counted_by a sound) n (omega (arith, ap (times n) popped, times-cons n n new.items, ap one_if (eq-eqb n n refl))), length-map a.held.items (option_map message_of))
 
   -- no held message begins with it
   pub alloc_absent : held_at (arena_of a) n ≡ None
-  alloc_absent = not_held (arena_of a) a.store (counted_by a sound) n (omega (arith, ap (times n) popped, times_front n n new.items, ap one_if (eq-eqb n n refl)))
+  alloc_absent = not_held (arena_of a) a.store (counted_by a sound) n (omega (arith, ap (times n) popped, times-cons n n new.items, ap one_if (eq-eqb n n refl)))
 
   module _ (d : ℕ) (t : CountedStore) (held : Vec (Option Block)) (fresh : IsUnused a.store d) (kept : IsKept t) (t_is : t ≡ after_take a.store (Ok d))
       (held_is : held.items ≡ set a.held.items n (Some (record { number = n; data_number = d; len = 0 }))) where

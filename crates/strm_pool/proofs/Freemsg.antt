@@ -1,5 +1,5 @@
 -- `freemsg`: a held message is free.
-use Rattle.std.proofs.Common.{◌≡◌, ℕ, ◌+◌, ◌-◌, ◌<◌, Bool, true, false, cond, eqb, [], ◌∷◌, map, length, get_or, set, Option, Some, None, refl, sym, ap, ◌∙◌, subst, inl, inr, arith, vec_len, deque_len, Global, get_or-set_same, get_or-set_other}
+use Rattle.std.proofs.Common.{◌≡◌, ℕ, ◌+◌, ◌-◌, ◌<◌, Bool, true, false, cond, eqb, [], ◌∷◌, map, length, get_or, set, Option, Some, None, refl, sym, ap, ◌∙◌, subst, inl, inr, arith, vec_len, deque_len, Global}
 use Rattle.std.specs.Prelude.{option_map, count_by}
 use Rattle.std.specs.VecDeque.{deque_capacity}
 use Rattle.std.specs.declared.collections.VecDeque.{VecDeque}
@@ -15,10 +15,12 @@ use Rattle.strm_mblk.specs.Messages.{blocks_of}
 use Rattle.strm_mblk.specs.Freeing.{with_blocks_freed, freemsg}
 use Rattle.strm_data.specs.CountedStore.{CountedStore, IsKept, IsInUse, count_of, without_name}
 use Rattle.strm_data.specs.DataStore.{DataStore, with_data_freed}
+use Rattle.strm_data.proofs.Times.{one_if}
+use Rattle.strm_mblk.proofs.Rooms.{count_of-set}
 use Rattle.strm_pool.specs.PoolLayout.{message_of, arena_of, pool_value, IsSound}
 use Rattle.strm_pool.specs.PoolValue.{PoolValue, spent}
 use Rattle.strm_mblk.specs.declared.token.TokenValue.{TokenValue}
-use Rattle.strm_mblk.proofs.Moves.{one_if, out_of_held, count_one, freed_one, room_to_free}
+use Rattle.strm_mblk.proofs.Moves.{out_of_held, count_one, freed_one, room_to_free}
 use Rattle.strm_pool.proofs.PoolMoves.{IsPlain, counted_by, held_at-is, held-set, same_arena, sound_from}
 
 -- a data block that is named is there
@@ -27,14 +29,6 @@ count_within s d kept some =
     elim (cases_lt d (length s.store.blocks)) [
       | inl inside ↦ inside
       | inr past ↦ absurd (omega (arith, get_or_past s.counts d 0 (omega (arith, kept.counted))))
-    ]
-
--- the counts once one of them is another
-pub count_of-set : (s : CountedStore) (store : DataStore) (d n k : ℕ) → d < length s.counts → count_of (record { store = store; counts = set s.counts d n }) k ≡ cond (eqb d k) n (count_of s k)
-count_of-set s store d n k inside =
-    elim (eqb_tells d k) [
-      | inl same ↦ rw same.0 (ap (λ j. get_or (set s.counts d n) j 0) (sym same.1) ∙ get_or-set_same s.counts d n 0 inside)
-      | inr other ↦ rw other.0 (get_or-set_other s.counts d k n 0 (λ e. other.1 (sym e)))
     ]
 
 -- a freed data block keeps its type

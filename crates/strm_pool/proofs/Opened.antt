@@ -19,31 +19,15 @@ use Rattle.strm_data.specs.DataStore.{DataBlock, no_data_block, data_block_at, f
 use Rattle.strm_pool.specs.PoolLayout.{message_of, arena_of, IsSound}
 use Rattle.strm_mblk.specs.Arena.{opening_arena}
 use Rattle.strm_data.proofs.Times.{times_below}
+use Rattle.strm_data.proofs.Repeated.{copies-at, flat_map-replicate, map-replicate}
+use Rattle.std.proofs.lemmas.Simd.{map-map}
 use Rattle.strm_pool.proofs.PoolMoves.{IsPlain, same_arena}
-
-map-replicate : {X Y : Type 0} (f : X → Y) (n : ℕ) (x : X) → map f (replicate n x) ≡ replicate n (f x)
-map-replicate f zero x = refl
-map-replicate f (suc n) x = ap (λ l. f x ∷ l) (map-replicate f n x)
-
-flat_map-replicate : {X Y : Type 0} (f : X → List Y) (n : ℕ) (x : X) → f x ≡ [] → flat_map f (replicate n x) ≡ []
-flat_map-replicate f zero x none = refl
-flat_map-replicate f (suc n) x none = rw none (flat_map-replicate f n x none)
-
--- a part of each of a list's elements, by another part
-map-map : {X Y Z : Type 0} (f : Y → Z) (g : X → Y) (xs : List X) → map f (map g xs) ≡ map (λ x. f (g x)) xs
-map-map f g [] = refl
-map-map f g (x ∷ xs) = ap (λ l. f (g x) ∷ l) (map-map f g xs)
 
 -- an arena that has just been opened has no messages
 pub opened_empty : (id mblks : ℕ) (classes : List ClassSpec) (shelves : ℕ) → blocks_in (opening_arena id mblks classes shelves) ≡ []
 opened_empty id mblks classes shelves =
     ap (λ (l : List _). l ++ flat_map blocks_of (replicate mblks None)) (flat_map-replicate (flat_map (λ m. m)) shelves [] refl)
     ∙ flat_map-replicate blocks_of mblks None refl
-
-copies-at : {X : Type 0} (n d : ℕ) (x : X) → get_or (replicate n x) d x ≡ x
-copies-at zero d x = refl
-copies-at (suc n) zero x = refl
-copies-at (suc n) (suc d) x = copies-at n d x
 
 abbrev ArePlain : List DataBlock → Type 0
 ArePlain bs = (d : ℕ) → (get_or bs d no_data_block).kind ≡ MData

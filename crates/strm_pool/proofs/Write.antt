@@ -13,10 +13,11 @@ use Rattle.strm_mblk.specs.Block.{Message, head_of}
 use Rattle.strm_mblk.specs.Arena.{has, is_of_length, held_at, names_of}
 use Rattle.strm_data.specs.CountedStore.{CountedStore, IsKept, count_of}
 use Rattle.strm_data.specs.DataStore.{DataStore, DataBlock, no_data_block, capacity_of, data_block_at, overwritten, with_bytes_written}
+use Rattle.strm_data.proofs.Times.{one_if}
 use Rattle.strm_pool.specs.PoolLayout.{message_of, arena_of, IsSound}
 use Rattle.strm_pool.specs.PoolValue.{PoolValue, write}
 use Rattle.strm_mblk.specs.declared.token.TokenValue.{TokenValue}
-use Rattle.strm_mblk.proofs.Moves.{one_if, count_one, rewritten}
+use Rattle.strm_mblk.proofs.Moves.{count_one, rewritten}
 use Rattle.strm_pool.proofs.PoolMoves.{has_within, counted_by, held_at-is, held-set, same_arena, sound_from}
 use Rattle.strm_pool.proofs.Freemsg.{free_held}
 

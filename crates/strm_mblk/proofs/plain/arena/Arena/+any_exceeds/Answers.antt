@@ -2,7 +2,7 @@ use Rattle.std.proofs.Common.{◌+◌, Bool, ◌||◌, List, count_by, nat_lt, a
 use Rattle.std.specs.List.{list_any}
 use Rattle.strm_mblk.specs.Arena.{names_of}
 use Rattle.strm_mblk.specs.Block.{Block, is_naming}
-use Rattle.strm_mblk.proofs.FirstAndRest.{first_and_rest}
+use Rattle.strm_mblk.proofs.PlainSteps.{first_and_rest}
 use Rattle.strm_mblk.proofs.plain.arena.Arena.+any_exceeds.Goals as goal
 
 pub returns-in-len1-up : goal.returns-in-len1-up
