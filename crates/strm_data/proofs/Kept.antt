@@ -9,6 +9,7 @@ use Rattle.std.proofs.lemmas.List.Sums.{sum_by-cons}
 use Rattle.strm_data.specs.CountedStore.{CountedStore, count_of, is_unused, IsUnused, IsKept, after_take, with_name, without_name}
 use Rattle.strm_data.specs.DataStore.{class_infos, times, DataBlock, no_data_block, class_of, free_of, IsTakenFrom, take_data, blocks_in, class_spec_at, capacity_of, no_class_spec}
 use Rattle.strm_data.specs.Classes.{are_lawful}
+use Rattle.strm_data.specs.Limits.{most_data_block_bytes, most_data_block_names}
 use Rattle.strm_data.proofs.Times.{times_here, times_other, times_rest_same, times_rest_other, times_some, few, few_of}
 use Rattle.strm_data.proofs.Tables.{tabulated-get_or}
 use Rattle.strm_data.proofs.Lawful.{lawful_size}
@@ -91,7 +92,7 @@ module _ (s : CountedStore) (kept : IsKept s) where
       → length new.store.blocks ≡ length s.store.blocks → length new.counts ≡ length s.counts
       → ((k : ℕ) → class_of new.store k ≡ class_of s.store k) → ((k : ℕ) → capacity_of new.store k ≡ capacity_of s.store k) → ((k : ℕ) → k ≢ d → count_of new k ≡ count_of s k)
       → ((c k : ℕ) → k ≢ d → times k (free_of new.store c) ≡ times k (free_of s.store c))
-      → count_of new d ≤ 255 → ((c : ℕ) → times d (free_of new.store c) ≡ (if is_unused new c d then 1 else 0)) → IsKept new
+      → count_of new d ≤ most_data_block_names → ((c : ℕ) → times d (free_of new.store c) ≡ (if is_unused new c d then 1 else 0)) → IsKept new
   kept_but new d classes lists blocks counts class capacity count others few_here here =
       record {
         lawful = ap are_lawful classes ∙ kept.lawful;
@@ -144,7 +145,7 @@ unused_by_count s c d there class = rw (lt-ltb d _ there, eq-eqb _ c class) refl
 -- the class of d, which differs in d alone
 replaced : (s : CountedStore) (d c v : ℕ) (bs : List DataBlock) (ys : List ℕ) → IsKept s → d < length s.store.blocks → class_of s.store d ≡ c → length bs ≡ length s.store.blocks
     → ((k : ℕ) → (get_or bs k no_data_block).class ≡ class_of s.store k) → ((k : ℕ) → length (get_or bs k no_data_block).bytes ≡ capacity_of s.store k)
-    → ((k : ℕ) → k ≢ d → times k ys ≡ times k (free_of s.store c)) → times d ys ≡ (if v == 0 then 1 else 0) → v ≤ 255
+    → ((k : ℕ) → k ≢ d → times k ys ≡ times k (free_of s.store c)) → times d ys ≡ (if v == 0 then 1 else 0) → v ≤ most_data_block_names
     → IsKept (record { store = record { classes = s.store.classes; blocks = bs; free = set s.store.free c ys }; counts = set s.counts d v })
 replaced s d c v bs ys kept there class long classes capacities others here most =
     let new : CountedStore = record { store = record { classes = s.store.classes; blocks = bs; free = set s.store.free c ys }; counts = set s.counts d v } in
@@ -203,7 +204,7 @@ room_for s c d kept there used =
     )
 
 -- another number of names, above 0 as before
-recounted : (s : CountedStore) (d v : ℕ) → IsKept s → 0 < count_of s d → d < length s.store.blocks → 0 < v → v ≤ 255 → IsKept (record s { counts = set s.counts d v })
+recounted : (s : CountedStore) (d v : ℕ) → IsKept s → 0 < count_of s d → d < length s.store.blocks → 0 < v → v ≤ most_data_block_names → IsKept (record s { counts = set s.counts d v })
 recounted s d v kept used there some most =
     let c = class_of s.store d in
     let xs = free_of s.store c in
@@ -211,7 +212,7 @@ recounted s d v kept used there some most =
     subst (λ fs. IsKept (record { store = record s.store { free = fs }; counts = set s.counts d v })) (set-get_or s.store.free c [])
     (replaced s d c v s.store.blocks xs kept there refl refl (λ k. refl) (λ k. refl) (λ k other. refl) (absent ∙ sym (cond-false _ 1 0 (ne_eqb _ 0 (λ none. omega arith)))) most)
 
-pub IsKept-with_name : (s : CountedStore) (d : ℕ) → IsKept s → 0 < count_of s d → d < length s.store.blocks → count_of s d < 255 → IsKept (with_name d s)
+pub IsKept-with_name : (s : CountedStore) (d : ℕ) → IsKept s → 0 < count_of s d → d < length s.store.blocks → count_of s d < most_data_block_names → IsKept (with_name d s)
 IsKept-with_name s d kept used there few = recounted s d (count_of s d + 1) kept used there (omega arith) (omega arith)
 
 pub IsKept-without_name : (s : CountedStore) (d : ℕ) → IsKept s → 0 < count_of s d → d < length s.store.blocks → IsKept (without_name d s)
@@ -219,7 +220,7 @@ IsKept-without_name s d kept used there =
     let c = class_of s.store d in
     let xs = free_of s.store c in
     let absent : times d xs ≡ 0 = unlisted s kept c d (named_is s c d (λ none. omega arith)) in
-    let fewer : count_of s d - 1 ≤ 255 = omega (arith, kept.few_names d) in
+    let fewer : count_of s d - 1 ≤ most_data_block_names = omega (arith, kept.few_names d) in
     elim (cases_eq (count_of s d) 1) [
       | inl last ↦
           let gone : count_of s d - 1 ≡ 0 = omega arith in
@@ -246,8 +247,8 @@ IsKept-altered s d b class capacity kept =
       listed = λ c k. kept.listed c k ∙ ap (λ b. if b then 1 else 0) (sym (same_is s new c k long (classes k) refl));
     }
 
--- a data block has room for 1 to 4,096 bytes
-pub capacity_range : (s : CountedStore) (d : ℕ) → IsKept s → d < length s.store.blocks → (1 ≤ capacity_of s.store d) × (capacity_of s.store d ≤ 4096)
+-- a data block has room for 1 to most_data_block_bytes bytes
+pub capacity_range : (s : CountedStore) (d : ℕ) → IsKept s → d < length s.store.blocks → (1 ≤ capacity_of s.store d) × (capacity_of s.store d ≤ most_data_block_bytes)
 capacity_range s d kept there =
     let sizes = lawful_size s.store.classes kept.lawful (class_of s.store d) (kept.classed d there) in
     (omega (arith, sizes.0, kept.sized d there), omega (arith, sizes.1, kept.sized d there))

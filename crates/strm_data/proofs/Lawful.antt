@@ -5,33 +5,34 @@ use Rattle.std.proofs.lemmas.Bool.{and_parts, ltb-true, leb-true}
 use Rattle.strm_data.specs.declared.class_spec.ClassSpec.{ClassSpec}
 use Rattle.strm_data.specs.Classes.{total_of, are_lawful, sizes_rise, each_has_blocks}
 use Rattle.strm_data.specs.DataStore.{no_class_spec}
+use Rattle.strm_data.specs.Limits.{most_classes, most_data_block_bytes, most_data_blocks}
 
--- a size is above the ones before, and 4,096 at most
+-- a size is above the ones before, and most_data_block_bytes at most
 size_within : (below : ℕ) (specs : List ClassSpec) (c : ℕ) → c < length specs → IsTrue (sizes_rise below specs)
-    → (below < (get_or specs c no_class_spec).size) × ((get_or specs c no_class_spec).size ≤ 4096)
+    → (below < (get_or specs c no_class_spec).size) × ((get_or specs c no_class_spec).size ≤ most_data_block_bytes)
 size_within below [] c within rise = absurd (omega arith)
 size_within below (x ∷ xs) zero within rise =
     let parts = and_parts (nat_lt below x.size) _ rise in
-    (ltb-true _ _ parts.0, leb-true _ 4096 (and_parts (nat_le x.size 4096) _ parts.1).0)
+    (ltb-true _ _ parts.0, leb-true _ most_data_block_bytes (and_parts (nat_le x.size most_data_block_bytes) _ parts.1).0)
 size_within below (x ∷ xs) (suc c) within rise =
     let parts = and_parts (nat_lt below x.size) _ rise in
-    let later = size_within x.size xs c (omega arith) (and_parts (nat_le x.size 4096) _ parts.1).1 in
+    let later = size_within x.size xs c (omega arith) (and_parts (nat_le x.size most_data_block_bytes) _ parts.1).1 in
     (omega (arith, ltb-true _ _ parts.0, later.0), later.1)
 
 module _ (specs : List ClassSpec) (lawful : IsTrue (are_lawful specs)) where
-  -- eight at most
-  pub lawful_few : length specs ≤ 8
-  lawful_few = leb-true _ 8 (and_parts _ _ (and_parts (nat_le 1 (length specs)) _ lawful).1).0
+  -- most_classes at most
+  pub lawful_few : length specs ≤ most_classes
+  lawful_few = leb-true _ most_classes (and_parts _ _ (and_parts (nat_le 1 (length specs)) _ lawful).1).0
 
-  -- the sizes rise, each class has data blocks, and there are 4,095 at most
-  rising : IsTrue (sizes_rise 0 specs && (each_has_blocks specs && nat_le (total_of specs) 4095))
-  rising = (and_parts (nat_le (length specs) 8) _ (and_parts (nat_le 1 (length specs)) _ lawful).1).1
+  -- the sizes rise, each class has data blocks, and there are most_data_blocks at most
+  rising : IsTrue (sizes_rise 0 specs && (each_has_blocks specs && nat_le (total_of specs) most_data_blocks))
+  rising = (and_parts (nat_le (length specs) most_classes) _ (and_parts (nat_le 1 (length specs)) _ lawful).1).1
 
-  pub lawful_total : total_of specs ≤ 4095
-  lawful_total = leb-true _ 4095 (and_parts (each_has_blocks specs) _ (and_parts (sizes_rise 0 specs) _ rising).1).1
+  pub lawful_total : total_of specs ≤ most_data_blocks
+  lawful_total = leb-true _ most_data_blocks (and_parts (each_has_blocks specs) _ (and_parts (sizes_rise 0 specs) _ rising).1).1
 
-  -- each size is 1 to 4,096
-  pub lawful_size : (c : ℕ) → c < length specs → (1 ≤ (get_or specs c no_class_spec).size) × ((get_or specs c no_class_spec).size ≤ 4096)
+  -- each size is 1 to most_data_block_bytes
+  pub lawful_size : (c : ℕ) → c < length specs → (1 ≤ (get_or specs c no_class_spec).size) × ((get_or specs c no_class_spec).size ≤ most_data_block_bytes)
   lawful_size c within =
       let sizes = size_within 0 specs c within (and_parts (sizes_rise 0 specs) _ rising).0 in
       (omega (arith, sizes.0), sizes.1)

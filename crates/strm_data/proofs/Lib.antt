@@ -1,3 +1,4 @@
+pub mod Constants
 pub mod Lawful
 pub mod Fitting
 pub mod Times
@@ -10,3 +11,5 @@ pub mod Alterations
 pub mod Members
 pub mod Filling
 pub mod Opened
+pub mod Regions
+pub mod Copying

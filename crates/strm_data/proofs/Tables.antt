@@ -1,7 +1,7 @@
 -- Lists given by what each number stands for, and lists with others written over a part of them.
 use Rattle.std.proofs.Common.{◌≡◌, ◌≢◌, ℕ, zero, suc, ◌+◌, ◌-◌, ◌<◌, ◌≤◌, List, ◌∷◌, [], ◌++◌, length, get_or, set, take, drop, replicate, refl, sym, ap, ◌∙◌, inl, inr, arith, length-set, get_or-set_same, get_or-set_other, length-append, append_assoc}
 use Rattle.std.proofs.lemmas.Bool.{cases_eq, cases_lt}
-use Rattle.std.proofs.lemmas.List.{append-nil, ext_get_or, get_or_append_left, get_or-append_right, get_or-take, get_or-drop, length-take, length-take-le, length-drop}
+use Rattle.std.proofs.lemmas.List.{append-nil, ext_get_or, get_or_append_left, get_or-append_right, get_or-take, get_or-drop, length-take, length-take-le, length-drop, take-take, drop-drop, drop-take}
 use Rattle.std.proofs.lemmas.Grind.{replicate_next}
 use Rattle.std.proofs.lemmas.List.FromFn.{length-map-range_with_len, get_or-map-range_with_len, map-range_with_len_more}
 use Rattle.strm_data.specs.DataStore.{overwritten}
@@ -60,6 +60,13 @@ get_or-part n from xs i within = get_or-take n (drop from xs) i 0 within ∙ get
 
 pub length-part : (n from : ℕ) (xs : List ℕ) → from + n ≤ length xs → length (take n (drop from xs)) ≡ n
 length-part n from xs within = omega (arith, length-take n (drop from xs), length-drop from xs)
+
+-- a part of a part is a part of the whole
+pub part_of : (n at from size : ℕ) (xs : List ℕ) → at + n ≤ size → take n (drop (from + at) xs) ≡ take n (drop at (take size (drop from xs)))
+part_of n at from size xs room =
+    ap (take n) (sym (drop-drop at from xs))
+    ∙ sym (ap (λ m. take n (drop at (take m (drop from xs)))) (let e : size ≡ at + (size - at) = omega arith in e)
+    ∙ ap (take n) (drop-take at (size - at) (drop from xs)) ∙ take-take n (size - at) (drop at (drop from xs)) (omega arith))
 
 pub length-overwritten : (at : ℕ) (new old : List ℕ) → at + length new ≤ length old → length (overwritten at new old) ≡ length old
 length-overwritten at new old within = simp (length-append, length-take, length-drop) (omega arith)

@@ -3,6 +3,7 @@ use Rattle.std.specs.Prelude.{◌≡◌, ℕ, ◌+◌, ◌-◌, ◌<◌, ◌≤�
 use Rattle.strm_data.specs.Classes.{are_lawful}
 use Rattle.strm_data.specs.declared.class_spec.ClassSpec.{ClassSpec}
 use Rattle.strm_data.specs.declared.refusal.Refusal.{Refusal}
+use Rattle.strm_data.specs.Limits.{most_data_block_names}
 use Rattle.strm_data.specs.DataStore.{DataStore, times, blocks_in, capacity_of, class_of, class_spec_at, free_of, with_data_taken, with_data_freed, opening_store}
 
 -- the store, and of each data block by number how many message blocks name it
@@ -14,7 +15,7 @@ pub record CountedStore : Type 0 where
 abbrev pub count_of : CountedStore → ℕ → ℕ
 count_of s d = slice_index_or s.counts d 0
 
--- the data block is there, and at least one message block names it
+-- at least one message block names the data block
 abbrev pub IsInUse : CountedStore → ℕ → Type 0
 IsInUse s d = 0 < count_of s d
 
@@ -29,8 +30,8 @@ pub record IsUnused (s : CountedStore) (d : ℕ) : Type 0 where
   pub classed : class_of s.store d < length s.store.classes
   pub unnamed : count_of s d ≡ 0
 
--- the classes are lawful, and each has as many data blocks as it says; each data block is in one and as long as that says, and 255 names are
--- the most; the free list of each class has the data blocks of the class that nothing names, each once
+-- the classes are lawful, and each has as many data blocks as it says; each data block is in one and as long as that says, and has
+-- most_data_block_names names at most; the free list of each class has the data blocks of the class that nothing names, each once
 pub record IsKept (s : CountedStore) : Type 0 where
   pub lawful : IsTrue (are_lawful s.store.classes)
   pub complete : (c : ℕ) → blocks_in s.store c ≡ (class_spec_at s.store c).count
@@ -38,7 +39,7 @@ pub record IsKept (s : CountedStore) : Type 0 where
   pub counted : length s.counts ≡ length s.store.blocks
   pub classed : (d : ℕ) → d < length s.store.blocks → class_of s.store d < length s.store.classes
   pub sized : (d : ℕ) → d < length s.store.blocks → capacity_of s.store d ≡ (class_spec_at s.store (class_of s.store d)).size
-  pub few_names : (d : ℕ) → count_of s d ≤ 255
+  pub few_names : (d : ℕ) → count_of s d ≤ most_data_block_names
   pub listed : (c d : ℕ) → times d (free_of s.store c) ≡ (if is_unused s c d then 1 else 0)
 
 -- a new store: nothing is named

@@ -1,5 +1,6 @@
 -- How the data blocks lie in memory. No public clause cites this module.
-use Rattle.std.specs.Prelude.{◌≡◌, ℕ, ◌+◌, ◌-◌, ◌*◌, ◌<◌, ◌≤◌, List, [], length, map, take, drop, slice_index_or}
+use Rattle.std.specs.Prelude.{◌≡◌, ℕ, ◌+◌, ◌-◌, ◌*◌, ◌<◌, ◌≤◌, List, [], length, map, take, drop, slice_index_or, Vec}
+use Rattle.std.specs.declared.alloc.Global.{Global}
 use Rattle.std.specs.List.{range_with_len}
 use Rattle.strm_data.specs.declared.data.Class.{Class}
 use Rattle.strm_data.specs.declared.data.Data.TheInside.{Inside}
@@ -20,6 +21,10 @@ class_at classes c = slice_index_or classes c no_class
 
 abbrev pub block_at : List DataBlock → ℕ → DataBlock
 block_at blocks d = slice_index_or blocks d no_block
+
+-- what these vectors hold
+abbrev pub bytes_of : List (Vec ℕ Global) → List (List ℕ)
+bytes_of regions = map (λ r. r.items) regions
 
 -- the bytes of all data blocks of a class, one behind the other
 abbrev pub region_at : List (List ℕ) → ℕ → List ℕ

@@ -101,6 +101,10 @@ with_bytes_written d at bytes s = record s {
   blocks = slice_set s.blocks d (record (data_block_at s d) { bytes = overwritten at bytes (data_block_at s d).bytes });
 }
 
+-- the store once so many bytes of one data block, from a place on, stand in another, from a place on
+abbrev pub with_bytes_copied : ℕ → ℕ → ℕ → ℕ → ℕ → DataStore → DataStore
+with_bytes_copied from at into to len s = with_bytes_written into to (take len (drop at (data_block_at s from).bytes)) s
+
 -- of each class the size, how many of its data blocks are free, and how many there are
 abbrev pub class_infos : DataStore → List ClassInfo
 class_infos s = map (λ p. record { size = p.0.size; free = length p.1; total = p.0.count }) (zip s.classes s.free)

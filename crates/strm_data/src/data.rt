@@ -2,11 +2,12 @@
 ghost use Rattle.std.specs.Prelude.{◌≡◌, ◌≢◌, ℕ, ◌+◌, ◌^◌, ◌<◌, ◌≤◌, ◌++◌, IfOk, IfErr, IfSome, IsTrue, OnOk, Err, None, [], length, nat_le, take, drop, replicate, slice_get, slice_set};
 ghost use Rattle.std.specs.List.{list_any, range_with_len};
 ghost use Rattle.strm_links.specs.Rows.{holder, list_at};
+ghost use Rattle.strm_data.specs.Limits.{most_classes, most_data_block_bytes, most_data_blocks, most_data_block_names};
 ghost use Rattle.strm_data.specs.declared.msg_type.MsgType.TheVariants.{MData};
 ghost use Rattle.strm_data.specs.Classes.{are_lawful, fits_a_class, total_of};
 ghost use Rattle.strm_data.specs.CountedStore.{count_of, IsInUse, IsKept, IsUnused, opening_counted, after_take, with_name, without_name};
-ghost use Rattle.strm_data.specs.DataLayout.{start_in};
-ghost use Rattle.strm_data.specs.DataStore.{capacity_of, data_block_at, class_infos, fits, take_data, with_kind, with_bytes_written, numbers_from, overwritten, IsTakenFrom};
+ghost use Rattle.strm_data.specs.DataLayout.{block_at, bytes_of, class_at, region_at, start_in};
+ghost use Rattle.strm_data.specs.DataStore.{capacity_of, data_block_at, class_infos, fits, take_data, with_kind, with_bytes_copied, with_bytes_written, numbers_from, overwritten, IsTakenFrom};
 
 use crate::class_info::ClassInfo;
 use crate::class_spec::ClassSpec;
@@ -19,14 +20,14 @@ use strm_links::Links;
 /// The number of a data block, from 0 on, class by class.
 pub type DataNo = u32;
 
-/// Data blocks in one to eight size classes, and for each class a list of the free ones.
+/// Data blocks in one to `MOST_CLASSES` size classes, and for each class a list of the free ones.
 ///
 /// A data block has a capacity, a type, its bytes, and a count: how many message blocks name it. It is in use
 /// where that is above 0, and free where it is 0. A free one is taken from the front of its class's list and
 /// comes back to the front. No call but `new` takes memory.
 ///
 /// Data blocks with a type and a count of references are those of UNIX System V Release 4 STREAMS (`datab`);
-/// the classes, the order of the free lists and the greatest count of 255 are this project's own choice.
+/// the classes, the order of the free lists and the greatest count are this project's own choice.
 #[derive(Debug, Drop)]
 pub struct Data {
     classes: Vec<Class>,
@@ -50,6 +51,13 @@ struct DataBlock {
     kind: MsgType,
     // How many message blocks name it.
     names: u8,
+}
+
+// Where bytes begin: at a place of the region of a class.
+#[derive(Clone, Copy, Debug)]
+struct Place {
+    class: usize,
+    start: usize,
 }
 
 impl Class {
@@ -77,7 +85,7 @@ impl Model for Data {
 
 // The number of all data blocks.
 fn total_of(specs: &[ClassSpec]) -> u32
-    requires { total_of specs.now ≤ 4095 }
+    requires { total_of specs.now ≤ most_data_blocks }
     ensures { result ≡ total_of specs.now }
 {
     specs.iter().map(|spec| spec.count).sum()
@@ -98,6 +106,43 @@ fn overwrite(old: &mut [u8], at: usize, new: &[u8])
     old[at..at + new.len()].copy_from_slice(new);
 }
 
+// Where byte `at` of a data block stands.
+fn place_of(classes: &[Class], blocks: &[DataBlock], number: DataNo, at: u32) -> Place
+    requires there { number < length blocks.now }
+    requires class { (block_at blocks.now number).class < length classes.now }
+    requires first { (class_at classes.now (block_at blocks.now number).class).first ≤ number }
+    ensures class { result.class ≡ (block_at blocks.now number).class }
+    ensures start { result.start ≡ start_in (class_at classes.now result.class) number + at }
+    ensures low { result.start + 2 ^ 32 ≤ 2 ^ 64 + at }
+{
+    let class = usize::from(blocks[number as usize].class);
+    Place {
+        class,
+        start: classes[class].start_of(number) + at as usize,
+    }
+}
+
+// Copies so many bytes from a place to another, of the same region or another.
+fn copy_bytes(regions: &mut [Vec<u8>], from: Place, into: Place, len: usize)
+    requires from_class { from.class < length regions.old }
+    requires into_class { into.class < length regions.old }
+    requires low { from.start + len < 2 ^ 64 }
+    requires there { from.start + len ≤ length (region_at (bytes_of regions.old) from.class) }
+    requires room { into.start + len ≤ length (region_at (bytes_of regions.old) into.class) }
+    ensures { bytes_of regions.new ≡ slice_set (bytes_of regions.old) into.class (overwritten into.start (take len (drop from.start (region_at (bytes_of regions.old) from.class))) (region_at (bytes_of regions.old) into.class)) }
+{
+    let bytes = from.start..from.start + len;
+    if from.class == into.class {
+        regions[into.class].copy_within(bytes, into.start);
+    } else if from.class < into.class {
+        let (low, high) = regions.split_at_mut(into.class);
+        overwrite(&mut high[0], into.start, &low[from.class][bytes]);
+    } else {
+        let (low, high) = regions.split_at_mut(from.class);
+        overwrite(&mut low[into.class], into.start, &high[0][bytes]);
+    }
+}
+
 // Copies bytes out, from a place on.
 fn copy_out(bytes: &[u8], at: usize, into: &mut [u8])
     requires { at + length into.old ≤ length bytes.now }
@@ -111,7 +156,7 @@ fn fill(free: &mut Links, list: u32, first: u32, count: u32)
     requires list { list < length free.old.lists }
     requires empty { list_at list free.old ≡ [] }
     requires nodes { first + count ≤ free.old.nodes }
-    requires most { free.old.nodes < 4096 }
+    requires most { free.old.nodes ≤ most_data_blocks }
     requires unlinked { (k : ℕ) → first ≤ k → holder k free.old ≡ None }
     ensures lists { free.new ≡ record free.old { lists = slice_set free.old.lists list (range_with_len first count) } }
     ensures unlinked { (k : ℕ) → first + count ≤ k → holder k free.new ≡ None }
@@ -123,8 +168,8 @@ fn fill(free: &mut Links, list: u32, first: u32, count: u32)
 
 // For each class a list of its data blocks, in rising order.
 fn free_lists(alloc: Global, specs: &[ClassSpec]) -> Result<Links, AllocError>
-    requires few { length specs.now ≤ 8 }
-    requires total { total_of specs.now ≤ 4095 }
+    requires few { length specs.now ≤ most_classes }
+    requires total { total_of specs.now ≤ most_data_blocks }
     ensures { IfOk result (λ free. free ≡ record { nodes = total_of specs.now; lists = numbers_from 0 specs.now }) }
 {
     let total = total_of(specs);
@@ -232,11 +277,11 @@ impl Data {
         fits_a_class(size, &self.classes)
     }
 
-    /// One message block more names the data block, which is in use.
+    /// One message block more names the data block, which is in use and has fewer names than there may be.
     pub fn name(&mut self, number: DataNo)
         requires there { number < length self.old.store.blocks }
         requires used { IsInUse self.old number }
-        requires few { count_of self.old number < 255 }
+        requires few { count_of self.old number < most_data_block_names }
         ensures after { self.new ≡ with_name number self.old }
         ensures kept { IsKept self.new }
     {
@@ -266,7 +311,7 @@ impl Data {
         self.blocks.len()
     }
 
-    /// How many message blocks name a data block, 0 to 255. Nothing changes.
+    /// How many message blocks name a data block, 0 to `MOST_DATA_BLOCK_NAMES`. Nothing changes.
     pub fn count(&self, number: DataNo) -> u8
         requires { number < length self.now.store.blocks }
         ensures { result ≡ count_of self.now number }
@@ -274,11 +319,11 @@ impl Data {
         self.blocks[number as usize].names
     }
 
-    /// How many bytes a data block has room for, 1 to 4,096. Nothing changes.
+    /// How many bytes a data block has room for, 1 to `MOST_DATA_BLOCK_BYTES`. Nothing changes.
     pub fn cap(&self, number: DataNo) -> u32
         requires { number < length self.now.store.blocks }
         ensures answer { result ≡ capacity_of self.now.store number }
-        ensures range { (1 ≤ result) × (result ≤ 4096) }
+        ensures range { (1 ≤ result) × (result ≤ most_data_block_bytes) }
     {
         let class = usize::from(self.blocks[number as usize].class);
         self.classes[class].spec.size
@@ -301,7 +346,7 @@ impl Data {
         self.blocks[number as usize].kind = kind;
     }
 
-    /// Writes bytes over those of a data block, from place `at` on.
+    /// Writes bytes over those of a data block, from place `at` on. They lie in its capacity.
     pub fn write(&mut self, number: DataNo, at: u32, bytes: &[u8])
         requires there { number < length self.old.store.blocks }
         requires room { at + length bytes.now ≤ capacity_of self.old.store number }
@@ -313,8 +358,23 @@ impl Data {
         overwrite(&mut self.regions[class], start, bytes);
     }
 
-    /// Copies bytes of a data block out, from place `at` on, as many as `into` has room for. Nothing else
-    /// changes.
+    /// Copies `len` bytes of a data block, from place `at` on, over those of another, from place `to` on, or of the same.
+    /// Takes one slice copy.
+    pub fn copy(&mut self, from: DataNo, at: u32, into: DataNo, to: u32, len: u32)
+        requires from { from < length self.old.store.blocks }
+        requires into { into < length self.old.store.blocks }
+        requires there { at + len ≤ capacity_of self.old.store from }
+        requires room { to + len ≤ capacity_of self.old.store into }
+        ensures after { self.new ≡ record self.old { store = with_bytes_copied from at into to len self.old.store } }
+        ensures kept { IsKept self.new }
+    {
+        let source = place_of(&self.classes, &self.blocks, from, at);
+        let target = place_of(&self.classes, &self.blocks, into, to);
+        copy_bytes(&mut self.regions, source, target, len as usize);
+    }
+
+    /// Copies bytes of a data block out, from place `at` on, as many as `into` has room for. They lie in its
+    /// capacity. Nothing else changes.
     pub fn read(&self, number: DataNo, at: u32, into: &mut [u8])
         requires there { number < length self.now.store.blocks }
         requires room { at + length into.old ≤ capacity_of self.now.store number }
@@ -339,10 +399,10 @@ impl Data {
         })
     }
 
-    /// The law that every data block is accounted for. There are one to eight size classes, and each has as
+    /// The law that every data block is accounted for. There are one to `MOST_CLASSES` size classes, and each has as
     /// many data blocks as it says; each data block is in one of them and as long as that says. Where a message
-    /// block names it, 255 do at most, and it is in no free list; where none does, it stands in its own class's
-    /// list, once. Does nothing.
+    /// block names it, `MOST_DATA_BLOCK_NAMES` do at most, and it is in no free list; where none does, it stands in
+    /// its own class's list, once. Does nothing.
     pub fn accounts_for_blocks(&self)
         ensures kept { IsKept self.now }
     {

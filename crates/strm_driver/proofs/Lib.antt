@@ -1,3 +1,4 @@
+pub mod Constants
 pub mod Forms
 pub mod Cuts
 pub mod Entries

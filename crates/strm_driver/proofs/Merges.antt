@@ -1,19 +1,17 @@
 -- The serial merge is a merge.
-use Rattle.std.proofs.Common.{◌≡◌, ◌≢◌, ℕ, zero, suc, ◌+◌, ◌<◌, ◌≤◌, List, [], ◌∷◌, ◌++◌, Option, None, Some, Result, Ok, Err, length, refl, sym, ap, subst, ◌∙◌, arith, append-nil}
-use Rattle.std.specs.Prelude.{◌==◌, filter, map, slice_index_or, OnOk, IsOkAnd, IfSome}
-use Rattle.std.specs.Io.KnownBytes.{Appends}
+use Rattle.std.proofs.Common.{◌≡◌, ◌≢◌, ℕ, zero, suc, ◌+◌, ◌<◌, List, [], ◌∷◌, ◌++◌, refl, ap, ◌∙◌, arith, append-nil}
+use Rattle.std.specs.Prelude.{◌==◌, filter, map, slice_index_or}
 use Rattle.std.specs.List.{flat_map, enumerate_from}
-use Rattle.std.proofs.lemmas.Bool.{eq-eqb, ne_eqb, le-ltb}
+use Rattle.std.proofs.lemmas.Bool.{eq-eqb, ne_eqb}
 use Rattle.std.proofs.lemmas.List.{map-append}
 use Rattle.std.proofs.lemmas.List.Elements.{filter-append}
-use Rattle.strm_pool.specs.declared.config.Which.{Which}
-use Rattle.strm_pool.specs.Config.{fault_of}
-use Rattle.strm_driver.specs.declared.fault.Fault.{Fault}
-use Rattle.strm_driver.specs.declared.fault.RunFault.{RunFault}
+use Rattle.strm_pool.specs.declared.config.Config.{Config}
 use Rattle.strm_driver.specs.declared.line.Line.{Line}
+use Rattle.strm_driver.specs.declared.run.Mode.{Mode}
+use Rattle.strm_driver.specs.declared.run.Mode.TheVariants.{Serial, Workers}
 use Rattle.strm_driver.specs.Merge.{Served, part_of, IsMerge, by_worker, serial_merge}
-use Rattle.strm_driver.specs.Outcome.{outcome_of_config, outcome_of_script, IsTextOfMerge, IsTextOfInput}
-use Rattle.strm_driver.specs.Script.{ScriptValue, script_of}
+use Rattle.strm_driver.specs.Outcome.{IsSerialText, IsTextOf}
+use Rattle.strm_driver.specs.Script.{ScriptValue}
 
 -- the serial merge of the lines of workers k, k + 1, and so on
 abbrev serial_from : ℕ → List (List Line) → List Served
@@ -61,24 +59,8 @@ part_of-serial w k (suc i) (lines ∷ parts) at =
 pub IsMerge-serial_merge : (parts : List (List Line)) → IsMerge parts (serial_merge parts)
 IsMerge-serial_merge parts worker = part_of-serial worker 0 worker parts (omega arith)
 
--- ---- what is written under the serial merge is written under some merge
-
-of_config : (script : ScriptValue) (which : Option Which) (text : List ℕ) → outcome_of_config script which ≡ Ok text → IsTextOfMerge script text
-of_config script None text is = (serial_merge script.parts, IsMerge-serial_merge script.parts, cc)
-of_config script (Some which) text is = absurd cc
-
-of_script : (read : Result ScriptValue Fault) (text : List ℕ) → outcome_of_script read ≡ Ok text → IsOkAnd read (λ script. IsTextOfMerge script text)
-of_script (Ok script) text is = of_config script (fault_of script.config) text is
-of_script (Err found) text is = absurd cc
-
-of_input : (most : ℕ) (input text : List ℕ) → length input ≤ most → outcome_of_script (script_of input) ≡ Ok text → IsTextOfInput most input text
-of_input most input text short is = (rw (le-ltb most (length input) short, is) refl, of_script (script_of input) text is)
-
--- a text that was written
-pub written : (r : Result (Unit {0}) RunFault) (known old new : Option (List ℕ)) (most : ℕ) (read bytes text shown : List ℕ)
-    → OnOk r (Appends old new shown) → outcome_of_script (script_of bytes) ≡ Ok text → length read ≤ most → IfSome known (λ input. read ≡ input)
-    → bytes ≡ read → shown ≡ text → OnOk r (IfSome known (λ input. (x : List ℕ) × IsTextOfInput most input x × Appends old new x))
-written (Err fault) known old new most read bytes text shown wrote is short whole same shows = tt
-written (Ok done) None old new most read bytes text shown wrote is short whole same shows = tt
-written (Ok done) (Some input) old new most read bytes text shown wrote is short whole same shows =
-    (text, of_input most input text (omega (arith, ap length whole)) (ap (λ bs. outcome_of_script (script_of bs)) (sym (same ∙ whole)) ∙ is), subst (Appends old new) shows wrote)
+-- a script of one section has its serial text in each mode
+pub one_section : (mode : Mode) (config : Config) (lines : List Line) (text : List ℕ)
+    → (let s : ScriptValue = record { config = config; parts = lines ∷ [] } in IsSerialText s text → IsTextOf mode s text)
+one_section Serial config lines text is = is
+one_section Workers config lines text is = is

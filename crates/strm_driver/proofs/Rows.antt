@@ -1,17 +1,30 @@
 -- Whole scripts, computed by the definitions alone: the texts that they give, and their first faults. Nothing else
 -- rests on these rows.
-use Rattle.std.proofs.Common.{◌≡◌, ℕ, List, ◌++◌, Result, Ok, Err, refl}
+use Rattle.std.proofs.Common.{◌≡◌, ℕ, List, ◌++◌, Option, None, Some, Result, Ok, Err, refl}
 use Rattle.std.specs.Prelude.{codes}
 use Rattle.std.specs.Fmt.{digits}
 use Rattle.strm_pool.specs.declared.config.Which.TheVariants.{Mblks}
+use Rattle.strm_driver.specs.declared.fault.Fault.{Fault}
 use Rattle.strm_driver.specs.declared.fault.Kind.{Kind}
 use Rattle.strm_driver.specs.declared.fault.Kind.TheVariants.{Cut, Unknown, Order, Toomany, Shape, Number, Register, Word, Hex, Missing}
 use Rattle.strm_driver.specs.declared.fault.RunFault.{RunFault}
 use Rattle.strm_driver.specs.declared.fault.RunFault.TheVariants.{Script, Config, TooLong}
-use Rattle.strm_driver.specs.Outcome.{outcome_of}
+use Rattle.strm_driver.specs.Merge.{serial_merge}
+use Rattle.strm_driver.specs.Outcome.{fault_of_input}
+use Rattle.strm_driver.specs.Script.{ScriptValue, script_of}
+use Rattle.strm_driver.specs.Text.{text_of}
+
+-- an input's first fault, or else the text of its script under the serial merge
+abbrev served : Option RunFault → Result ScriptValue Fault → Result (List ℕ) RunFault
+served None (Ok script) = Ok (text_of script (serial_merge script.parts))
+served None (Err found) = Err (Script found)
+served (Some fault) read = Err fault
+
+abbrev run_within : ℕ → List ℕ → Result (List ℕ) RunFault
+run_within most input = served (fault_of_input most input) (script_of input)
 
 abbrev run : List ℕ → Result (List ℕ) RunFault
-run input = outcome_of 1048576 input
+run input = run_within 1048576 input
 
 -- the header of most rows, so that commands start on line 7
 abbrev H : List ℕ
@@ -77,5 +90,5 @@ missing = refl
 pub bad-config : run (codes "pool 1 4096\nclass 16 4\nqueue 10 4 s -\nbufcalls 2 1\nworker\n") ≡ Err (Config Mblks)
 bad-config = refl
 
-pub too-long : outcome_of 10 H ≡ Err TooLong
+pub too-long : run_within 10 H ≡ Err TooLong
 too-long = refl

@@ -8,12 +8,13 @@ use Rattle.strm_driver.specs.declared.fault.ParseFault.TheVariants as faults
 use Rattle.strm_driver.specs.Draft.{StandsFor, Reads}
 use Rattle.strm_driver.specs.Parsed.{Parses}
 use Rattle.strm_driver.specs.Script.{Numbered, with_line, then_lines, entries_from, pieces_of, closed, script_of}
+use Rattle.strm_driver.specs.Limits.{most_input_bytes}
 
 -- there is a piece
 some_piece : (bytes : List ℕ) → 0 < length (pieces_of bytes)
 some_piece bytes = omega (arith, length-slice_split (λ b. b == 10) bytes)
 
-few_pieces : (bytes : List ℕ) → length bytes ≤ 16777216 → length (pieces_of bytes) ≤ 16777217
+few_pieces : (bytes : List ℕ) → length bytes ≤ most_input_bytes → length (pieces_of bytes) ≤ most_input_bytes + 1
 few_pieces bytes short = omega (arith, length-slice_split (λ b. b == 10) bytes, count_by-le-length (λ b. b == 10) bytes)
 
 entries_from-line : (es : List Numbered) (n : ℕ) (line : List ℕ) (pieces : List (List ℕ)) → 0 < length pieces → entries_from es n (line ∷ pieces) ≡ then_lines n (with_line es n line) (λ more. entries_from more (n + 1) pieces)
@@ -26,9 +27,9 @@ pub record Continues (d : Draft) (n : ℕ) (text bytes : List ℕ) : Type 0 wher
   pub stands : StandsFor d es
   pub gives : closed (length (pieces_of bytes)) (entries_from es n (pieces_of text)) ≡ script_of bytes
   pub count : n + length (pieces_of text) ≡ length (pieces_of bytes) + 1
-  pub few : length (pieces_of bytes) ≤ 16777217
+  pub few : length (pieces_of bytes) ≤ most_input_bytes + 1
 
-pub continues-start : (d : Draft) (bytes : List ℕ) → length bytes ≤ 16777216 → StandsFor d [] → Continues d 1 bytes bytes
+pub continues-start : (d : Draft) (bytes : List ℕ) → length bytes ≤ most_input_bytes → StandsFor d [] → Continues d 1 bytes bytes
 continues-start d bytes short stands = record { es = []; stands = stands; gives = refl; count = omega arith; few = few_pieces bytes short }
 
 -- what line n says decides

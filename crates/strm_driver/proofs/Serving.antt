@@ -1,19 +1,20 @@
 -- Serving lines one by one gives the text of all of them.
-use Rattle.std.proofs.Common.{◌≡◌, ℕ, zero, suc, ◌+◌, ◌<◌, ◌≤◌, List, [], ◌∷◌, ◌++◌, Option, None, Some, replicate, length, drop, get_or, sym, ap, ◌∙◌, append_assoc, append-nil, Ok}
+use Rattle.std.proofs.Common.{◌≡◌, ℕ, zero, suc, ◌+◌, ◌<◌, ◌≤◌, List, [], ◌∷◌, ◌++◌, Option, None, Some, replicate, length, drop, get_or, sym, ap, ◌∙◌, append_assoc, append-nil}
 use Rattle.std.proofs.lemmas.List.{at_drop_more, at_drop_all}
 use Rattle.strm_pool.specs.declared.config.Config.{Config}
 use Rattle.strm_pool.specs.declared.reply.Reply.{Reply}
 use Rattle.strm_mblk.specs.declared.token.TokenValue.{TokenValue}
-use Rattle.strm_pool.specs.Config.{fault_of}
 use Rattle.strm_pool.specs.PoolValue.{PoolValue, opening}
 use Rattle.strm_pool.specs.Registers.{RegisterTable, register, table_of, AreDistinct}
+use Rattle.strm_pool.specs.Limits.{most_registers}
 use Rattle.strm_pool.specs.Step.{step, Stepped, replay_from}
 use Rattle.strm_pool.proofs.Steps.{none_not_some}
 use Rattle.strm_driver.specs.declared.line.Line.{Line}
 use Rattle.strm_driver.specs.Merge.{by_worker, serial_merge}
-use Rattle.strm_driver.specs.Outcome.{outcome_of_script, outcome_of_config}
-use Rattle.strm_driver.specs.Script.{ScriptValue, script_of}
+use Rattle.strm_driver.specs.Outcome.{IsSerialText}
+use Rattle.strm_driver.specs.Script.{ScriptValue}
 use Rattle.strm_driver.specs.Text.{reply_line, report_text, text_after, text_of, turns_of}
+use Rattle.strm_driver.proofs.Merges.{IsMerge-serial_merge}
 
 -- what is written for worker 0's lines from here on
 abbrev pub rest_text : PoolValue → RegisterTable → List Line → List ℕ
@@ -50,20 +51,23 @@ empty_holds_none (suc n) zero h is = none_not_some is
 empty_holds_none (suc n) (suc x) h is = empty_holds_none n x h is
 
 -- empty registers hold no message twice
-pub empty_distinct : (rs : List (Option TokenValue)) → rs ≡ replicate 26 None → AreDistinct (table_of rs)
-empty_distinct rs empty x y h is _ = absurd (empty_holds_none 26 x h (ap (λ (ss : List (Option TokenValue)). register (table_of ss) x) (sym empty) ∙ is))
+pub empty_distinct : (rs : List (Option TokenValue)) → rs ≡ replicate most_registers None → AreDistinct (table_of rs)
+empty_distinct rs empty x y h is _ = absurd (empty_holds_none most_registers x h (ap (λ (ss : List (Option TokenValue)). register (table_of ss) x) (sym empty) ∙ is))
 
 -- the serial merge of one section is that section
 pub serial-one : (lines : List Line) → serial_merge (lines ∷ []) ≡ by_worker 0 lines
 serial-one lines = append-nil (by_worker 0 lines)
 
--- the text of a script of one section is what was written for its lines
-pub text_of_section : (bytes : List ℕ) (config : Config) (lines : List Line) (v : PoolValue) (rs : List (Option TokenValue)) (new start : List ℕ)
-    → (let s : ScriptValue = record { config = config; parts = lines ∷ [] } in script_of bytes ≡ Ok s) → fault_of config ≡ None → v ≡ opening config → rs ≡ replicate 26 None → start ≡ []
-    → new ≡ start ++ rest_text v (table_of rs) lines → outcome_of_script (script_of bytes) ≡ Ok new
-text_of_section bytes config lines v rs new start read fine opens empty blank written =
-    ap outcome_of_script read ∙ ap (outcome_of_config script) fine ∙ ap (λ served. Ok (text_of script served)) (serial-one lines)
-    ∙ ap (λ bs. Ok bs) (sym (written ∙ ap (λ bs. bs ++ rest_text v (table_of rs) lines) blank ∙ ap (λ (w : PoolValue). rest_text w (table_of rs) lines) opens ∙ ap (λ (ss : List (Option TokenValue)). rest_text (opening config) (table_of ss) lines) empty))
+-- what was written for the lines of a script's one section is its text
+pub text_of_section : (config : Config) (lines : List Line) (v : PoolValue) (rs : List (Option TokenValue)) (new start : List ℕ)
+    → v ≡ opening config → rs ≡ replicate most_registers None → start ≡ [] → new ≡ start ++ rest_text v (table_of rs) lines
+    → (let s : ScriptValue = record { config = config; parts = lines ∷ [] } in IsSerialText s new)
+text_of_section config lines v rs new start opens empty blank written = (
+  IsMerge-serial_merge (lines ∷ []),
+  written ∙ ap (λ bs. bs ++ rest_text v (table_of rs) lines) blank ∙ ap (λ (w : PoolValue). rest_text w (table_of rs) lines) opens
+      ∙ ap (λ (ss : List (Option TokenValue)). rest_text (opening config) (table_of ss) lines) empty
+      ∙ sym (ap (text_of script) (serial-one lines)),
+)
   where
     script : ScriptValue
     script = record { config = config; parts = lines ∷ [] }

@@ -2,6 +2,8 @@
 use Rattle.std.specs.Prelude.{◌≡◌, ◌≢◌, ℕ, ◌<◌, true, List, [], ◌∷◌, ◌++◌, length, Option, None, Some, Result, Ok, Err}
 use Rattle.strm_pool.specs.declared.call.Call.{Call}
 use Rattle.strm_pool.specs.declared.call.Call.TheVariants as calls
+use Rattle.strm_data.specs.Limits.{most_classes}
+use Rattle.strm_pool.specs.Limits.{most_queues}
 use Rattle.strm_driver.specs.declared.draft.Draft.{Draft}
 use Rattle.strm_driver.specs.declared.fault.Kind.{Kind}
 use Rattle.strm_driver.specs.declared.fault.ParseFault.{ParseFault}
@@ -65,8 +67,8 @@ first_word (Command call) = word_of_call call
 
 -- there is room for what a line says that begins so
 abbrev pub HasRoom : Draft → Word → Type 0
-HasRoom d words.Class = length d.classes.items < 8
-HasRoom d words.Queue = length d.queues.items < 16
+HasRoom d words.Class = length d.classes.items < most_classes
+HasRoom d words.Queue = length d.queues.items < most_queues
 HasRoom d words.Worker = d.stage ≢ stages.Body
 HasRoom d _ = Unit {0}
 

@@ -1,6 +1,7 @@
 -- What a word stands for, where a form wants a number, a register, a word or bytes.
 use Rattle.std.specs.Prelude.{ℕ, ◌+◌, ◌-◌, ◌*◌, Bool, true, false, not, ◌&&◌, ◌==◌, nat_lt, nat_le, fold, List, [], ◌∷◌, length, Option, None, Some, Result, Ok, Err, bytes_eq, option_and_then, option_map, ok_or, if◌then◌else◌, codes}
 use Rattle.std.specs.List.{list_all}
+use Rattle.strm_pool.specs.Limits.{most_octets}
 use Rattle.strm_driver.specs.declared.fault.Kind.{Kind}
 use Rattle.strm_driver.specs.declared.fault.Kind.TheVariants.{Number, Register, Word, Hex}
 
@@ -69,8 +70,8 @@ hex_bytes [] = Some []
 hex_bytes (b ∷ []) = None
 hex_bytes (b ∷ c ∷ bs) = before_bytes (hex_pair b c) (hex_bytes bs)
 
--- 1 to 64 bytes in hexadecimal, or no bytes for `-`
+-- 1 to most_octets bytes in hexadecimal, or no bytes for `-`
 abbrev pub octets_of : List ℕ → Result (List ℕ) Kind
 octets_of word =
     if is_dash word then Ok []
-    else (if nat_lt 0 (length word) && nat_le (length word) 128 then ok_or (hex_bytes word) Hex else Err Hex)
+    else (if nat_lt 0 (length word) && nat_le (length word) (2 * most_octets) then ok_or (hex_bytes word) Hex else Err Hex)

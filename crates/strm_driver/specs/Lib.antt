@@ -1,3 +1,4 @@
+pub mod Limits
 pub mod Fault
 pub mod Word
 pub mod Form
@@ -9,4 +10,5 @@ pub mod Draft
 pub mod Merge
 pub mod Text
 pub mod Outcome
+pub mod Watched
 pub mod Told

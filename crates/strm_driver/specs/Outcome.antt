@@ -1,30 +1,49 @@
--- What a run gives for its input.
-use Rattle.std.specs.Prelude.{◌≡◌, ℕ, nat_lt, List, length, Option, None, Some, Result, Ok, Err, IsOk, IsOkAnd, if◌then◌else◌}
-use Rattle.strm_pool.specs.declared.config.Which.{Which}
+-- What an input gives: its first fault, or a text.
+use Rattle.std.specs.Prelude.{◌≡◌, ℕ, nat_lt, List, ◌∷◌, length, Option, None, Some, Result, Ok, Err, IsOkAnd, if◌then◌else◌}
+use Rattle.std.specs.Option.{option_map}
 use Rattle.strm_pool.specs.Config.{fault_of}
 use Rattle.strm_driver.specs.declared.fault.Fault.{Fault}
 use Rattle.strm_driver.specs.declared.fault.RunFault.{RunFault}
 use Rattle.strm_driver.specs.declared.fault.RunFault.TheVariants.{TooLong, Script, Config}
+use Rattle.strm_driver.specs.declared.line.Line.{Line}
+use Rattle.strm_driver.specs.declared.run.Mode.{Mode}
+use Rattle.strm_driver.specs.declared.run.Mode.TheVariants.{Serial, Workers}
 use Rattle.strm_driver.specs.Merge.{Served, IsMerge, serial_merge}
 use Rattle.strm_driver.specs.Script.{ScriptValue, script_of}
 use Rattle.strm_driver.specs.Text.{text_of}
 
-abbrev pub outcome_of_config : ScriptValue → Option Which → Result (List ℕ) RunFault
-outcome_of_config script None = Ok (text_of script (serial_merge script.parts))
-outcome_of_config script (Some which) = Err (Config which)
+-- ---- the fault
 
-abbrev pub outcome_of_script : Result ScriptValue Fault → Result (List ℕ) RunFault
-outcome_of_script (Ok script) = outcome_of_config script (fault_of script.config)
-outcome_of_script (Err found) = Err (Script found)
+-- a script's first fault, or else its configuration's
+abbrev pub fault_of_script : Result ScriptValue Fault → Option RunFault
+fault_of_script (Ok script) = option_map (λ which. Config which) (fault_of script.config)
+fault_of_script (Err found) = Some (Script found)
 
--- the text, or the first fault: an input longer than `most` bytes, then the script's, then its configuration's
-abbrev pub outcome_of : ℕ → List ℕ → Result (List ℕ) RunFault
-outcome_of most input = if nat_lt most (length input) then Err TooLong else outcome_of_script (script_of input)
+-- an input of more than `most` bytes is too long; else its script's fault
+abbrev pub fault_of_input : ℕ → List ℕ → Option RunFault
+fault_of_input most input = if nat_lt most (length input) then Some TooLong else fault_of_script (script_of input)
 
--- a text of a script, its lines served in some order that keeps each worker's own
-abbrev pub IsTextOfMerge : ScriptValue → List ℕ → Type 0
-IsTextOfMerge script text = (served : List Served) × IsMerge script.parts served × (text ≡ text_of script served)
+-- ---- the text
 
--- such a text of the script that an input is, in which there is no fault
-abbrev pub IsTextOfInput : ℕ → List ℕ → List ℕ → Type 0
-IsTextOfInput most input text = IsOk (outcome_of most input) × IsOkAnd (script_of input) (λ script. IsTextOfMerge script text)
+-- the text of a script whose lines are served in this order, which keeps each worker's own
+abbrev pub IsTextUnder : ScriptValue → List Served → List ℕ → Type 0
+IsTextUnder script served text = IsMerge script.parts served × (text ≡ text_of script served)
+
+-- and in the order of the serial merge
+abbrev pub IsSerialText : ScriptValue → List ℕ → Type 0
+IsSerialText script text = IsTextUnder script (serial_merge script.parts) text
+
+-- the text of a script of these sections that workers serve: one section has one order; of several nothing is
+-- said until a trace is kept
+abbrev pub IsTextByWorkers : ScriptValue → List (List Line) → List ℕ → Type 0
+IsTextByWorkers script (first ∷ second ∷ more) text = Unit {0}
+IsTextByWorkers script parts text = IsSerialText script text
+
+-- the text of a script that is served in this mode
+abbrev pub IsTextOf : Mode → ScriptValue → List ℕ → Type 0
+IsTextOf Serial script text = IsSerialText script text
+IsTextOf Workers script text = IsTextByWorkers script script.parts text
+
+-- an input has no fault, and this is the text of its script
+abbrev pub IsTextOfInput : Mode → ℕ → List ℕ → List ℕ → Type 0
+IsTextOfInput mode most input text = (fault_of_input most input ≡ None) × IsOkAnd (script_of input) (λ script. IsTextOf mode script text)

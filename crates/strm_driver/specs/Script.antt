@@ -3,8 +3,10 @@ use Rattle.std.specs.Prelude.{ℕ, ◌+◌, ◌-◌, Bool, true, false, not, ◌
 use Rattle.std.specs.List.{slice_split, filter_map}
 use Rattle.std.specs.Option.{option_map_or}
 use Rattle.strm_data.specs.declared.class_spec.ClassSpec.{ClassSpec}
+use Rattle.strm_data.specs.Limits.{most_classes}
 use Rattle.strm_pool.specs.declared.config.Config.{Config}
 use Rattle.strm_pool.specs.declared.queue_spec.QueueSpec.{QueueSpec}
+use Rattle.strm_pool.specs.Limits.{most_queues}
 use Rattle.strm_driver.specs.declared.fault.Fault.{Fault}
 use Rattle.strm_driver.specs.declared.fault.Kind.{Kind}
 use Rattle.strm_driver.specs.declared.fault.Kind.TheVariants.{Cut, Unknown, Order, Toomany, Missing}
@@ -17,6 +19,7 @@ use Rattle.strm_driver.specs.declared.word.Word.{Word}
 use Rattle.strm_driver.specs.declared.word.Word.TheVariants as words
 use Rattle.strm_driver.specs.Entry.{entry_of}
 use Rattle.strm_driver.specs.Word.{word_of}
+use Rattle.strm_driver.specs.Limits.{most_command_lines}
 
 -- a pool's configuration, and the command lines of each worker
 pub record ScriptValue : Type 0 where
@@ -118,11 +121,11 @@ may_stand _ _ = false
 -- whether there are as many lines already that begin so as there may be; commands are counted over all sections
 abbrev pub is_full : List Numbered → Word → Bool
 is_full es words.Pool = false
-is_full es words.Class = nat_le 8 (length (said class_line es))
-is_full es words.Queue = nat_le 16 (length (said queue_line es))
+is_full es words.Class = nat_le most_classes (length (said class_line es))
+is_full es words.Queue = nat_le most_queues (length (said queue_line es))
 is_full es words.Bufcalls = false
 is_full es words.Worker = nat_le 1 (length (parts_of es))
-is_full es _ = nat_le 1048576 (sum_by length (parts_of es))
+is_full es _ = nat_le most_command_lines (sum_by length (parts_of es))
 
 -- ---- lines
 

@@ -1,27 +1,73 @@
--- What a fault of a run says of its input.
-use Rattle.std.specs.Prelude.{◌≡◌, ℕ, List, Result, Err}
-use Rattle.std.specs.Result.{IsOk}
+-- What a fault tells.
+use Rattle.std.specs.Prelude.{◌≡◌, Bool, true, false, Option, None, Some, Result, Ok, Err}
 use Rattle.strm_pool.specs.declared.config.NewFault.{NewFault}
 use Rattle.strm_pool.specs.declared.config.NewFault.TheVariants as new_faults
+use Rattle.strm_pool.specs.declared.config.Which.{Which}
 use Rattle.strm_driver.specs.declared.fault.ParseFault.{ParseFault}
 use Rattle.strm_driver.specs.declared.fault.ParseFault.TheVariants as parse_faults
 use Rattle.strm_driver.specs.declared.fault.RunFault.{RunFault}
-use Rattle.strm_driver.specs.declared.fault.RunFault.TheVariants.{Read, Write, Script, Config, Memory}
+use Rattle.strm_driver.specs.declared.fault.RunFault.TheVariants.{Read, TooLong, Write, Script, Config, Memory}
+use Rattle.strm_driver.specs.declared.fault.TextFault.{TextFault}
+use Rattle.strm_driver.specs.declared.fault.TextFault.TheVariants as text_faults
+use Rattle.strm_driver.specs.declared.input.ReadFault.{ReadFault}
+use Rattle.strm_driver.specs.declared.input.ReadFault.TheVariants as read_faults
 
--- the reader's and the writer's faults and want of memory say nothing of the input, save that what was to
--- be written was there to write; each other fault is the outcome
-abbrev pub TellsFault : RunFault → Result (List ℕ) RunFault → Type 0
-TellsFault Read outcome = Unit {0}
-TellsFault Memory outcome = Unit {0}
-TellsFault Write outcome = IsOk outcome
-TellsFault fault outcome = outcome ≡ Err fault
+-- ---- what a fault tells of the first fault of its input
 
--- what a script's fault is to a run
-abbrev pub run_fault_of_parse : ParseFault → RunFault
-run_fault_of_parse (parse_faults.Script found) = Script found
-run_fault_of_parse parse_faults.Memory = Memory
+-- a read fault and want of memory come whatever the input is, a write fault only where it has no fault, and each
+-- other one where it is the first
+abbrev pub TellsFault : RunFault → Option RunFault → Type 0
+TellsFault Read first = Unit {0}
+TellsFault TooLong first = first ≡ Some TooLong
+TellsFault Write first = first ≡ None
+TellsFault (Script found) first = first ≡ Some (Script found)
+TellsFault (Config which) first = first ≡ Some (Config which)
+TellsFault Memory first = Unit {0}
 
--- what a pool's fault is to a run
-abbrev pub run_fault_of_new : NewFault → RunFault
-run_fault_of_new (new_faults.BadConfig which) = Config which
-run_fault_of_new new_faults.Memory = Memory
+-- the same of a configuration, whose fault comes before any want of memory
+abbrev pub TellsNewFault : NewFault → Option Which → Type 0
+TellsNewFault (new_faults.BadConfig which) first = first ≡ Some which
+TellsNewFault new_faults.Memory first = first ≡ None
+
+-- ---- what a fault tells of the reader and of the writer
+
+abbrev pub is_read : RunFault → Bool
+is_read Read = true
+is_read TooLong = false
+is_read Write = false
+is_read (Script found) = false
+is_read (Config which) = false
+is_read Memory = false
+
+abbrev pub is_write : RunFault → Bool
+is_write Read = false
+is_write TooLong = false
+is_write Write = true
+is_write (Script found) = false
+is_write (Config which) = false
+is_write Memory = false
+
+-- there is an error of this sort
+abbrev pub errs : {X E : Type 0} → (E → Bool) → Result X E → Bool
+errs sort (Ok x) = false
+errs sort (Err e) = sort e
+
+-- ---- what the fault of a part is to the whole
+
+abbrev pub text_fault_of_parse : ParseFault → TextFault
+text_fault_of_parse (parse_faults.Script found) = text_faults.Script found
+text_fault_of_parse parse_faults.Memory = text_faults.Memory
+
+abbrev pub text_fault_of_new : NewFault → TextFault
+text_fault_of_new (new_faults.BadConfig which) = text_faults.Config which
+text_fault_of_new new_faults.Memory = text_faults.Memory
+
+abbrev pub run_fault_of_read : ReadFault → RunFault
+run_fault_of_read read_faults.Read = Read
+run_fault_of_read read_faults.TooLong = TooLong
+run_fault_of_read read_faults.Memory = Memory
+
+abbrev pub run_fault_of_text : TextFault → RunFault
+run_fault_of_text (text_faults.Script found) = Script found
+run_fault_of_text (text_faults.Config which) = Config which
+run_fault_of_text text_faults.Memory = Memory

@@ -6,12 +6,14 @@ ghost use Rattle.strm_driver.specs.Parsed.{Parses};
 
 use crate::cut::{cut_at, words_of};
 use crate::fault::{Fault, Kind, ParseFault};
+use crate::limits::MOST_COMMAND_LINES;
 use crate::line::{Entry, Line, entry_of};
-use crate::script::{MAX_COMMANDS, Script, Stage};
+use crate::script::{Script, Stage};
 use crate::word::{Word, word_of};
 use arrayvec::ArrayVec;
 use std::alloc::{AllocError, Global};
-use strm_pool::{ClassSpec, ClassSpecs, Config, QueueSpec, QueueSpecs};
+use strm_data::MOST_CLASSES;
+use strm_pool::{ClassSpec, ClassSpecs, Config, MOST_QUEUES, QueueSpec, QueueSpecs};
 
 /// What the lines of a script have said so far.
 #[derive(Drop)]
@@ -19,8 +21,8 @@ pub struct Draft {
     stage: Stage,
     id: u32,
     mblks: u32,
-    classes: ArrayVec<ClassSpec, 8>,
-    queues: ArrayVec<QueueSpec, 16>,
+    classes: ArrayVec<ClassSpec, MOST_CLASSES>,
+    queues: ArrayVec<QueueSpec, MOST_QUEUES>,
     bufcalls: u32,
     first_id: u32,
     lines: Vec<Line>,
@@ -61,7 +63,7 @@ impl Draft {
             Word::Queue => self.queues.is_full(),
             // There is one section at most.
             Word::Worker => self.stage == Stage::Body,
-            _ => self.lines.len() >= MAX_COMMANDS,
+            _ => self.lines.len() >= MOST_COMMAND_LINES,
         }
     }
 
@@ -136,7 +138,7 @@ impl Draft {
         }
     }
 
-    /// The script that ends before line `number`, which misses a worker section there where none has begun.
+    /// The script that ends before line `number`. Where no worker section has begun, one is missing on that line.
     pub fn finish(self, number: u32) -> Result<Script, ParseFault>
         ensures { (es : List Numbered) → StandsFor self es → Parses result (closed number (Ok es)) }
     {

@@ -2,13 +2,15 @@
 ghost use Rattle.std.specs.Prelude.{◌≡◌};
 ghost use Rattle.strm_driver.specs.Fault.{kind_text};
 
+use crate::input::ReadFault;
+use crate::output::WriteFault;
 use std::alloc::{AllocError, AllocFailed};
 use std::fmt;
 use strm_pool::{NewFault, Which};
 use thiserror::Error;
 
-/// What is wrong with a line of a script. On one line the kinds are looked for in this order, and the last
-/// four of a line's kinds, from `Number` to `Hex`, from its first word to its last.
+/// What is wrong with a line of a script. On one line the kinds are looked for in this order; those of a word,
+/// from `Number` to `Hex`, come word by word from the left.
 #[derive(Clone, Copy, Debug, PartialEq, Eq)]
 pub enum Kind {
     /// The last line has no line end.
@@ -45,6 +47,20 @@ pub struct Fault {
 pub enum ParseFault {
     #[error("{0}")]
     Script(Fault),
+    #[error("memory")]
+    Memory,
+}
+
+/// Why there is no text of a script.
+#[derive(Clone, Copy, Debug, PartialEq, Eq, Error)]
+pub enum TextFault {
+    /// The script has a fault.
+    #[error("{0}")]
+    Script(Fault),
+    /// The script's configuration has a fault.
+    #[error("bad config: {which}", which = .0.name())]
+    Config(Which),
+    /// There is not enough memory.
     #[error("memory")]
     Memory,
 }
@@ -124,28 +140,66 @@ impl<T: Drop> From<AllocFailed<T>> for ParseFault {
     }
 }
 
-impl From<ParseFault> for RunFault {
-    ghost use Rattle.strm_driver.specs.Told.{run_fault_of_parse};
+impl From<ParseFault> for TextFault {
+    ghost use Rattle.strm_driver.specs.Told.{text_fault_of_parse};
 
-    ghost from_gives = { λ fault e. e ≡ run_fault_of_parse fault };
+    ghost from_gives = { λ fault e. e ≡ text_fault_of_parse fault };
 
-    fn from(fault: ParseFault) -> RunFault {
+    fn from(fault: ParseFault) -> TextFault {
         match fault {
-            ParseFault::Script(found) => RunFault::Script(found),
-            ParseFault::Memory => RunFault::Memory,
+            ParseFault::Script(found) => TextFault::Script(found),
+            ParseFault::Memory => TextFault::Memory,
         }
     }
 }
 
-impl From<NewFault> for RunFault {
-    ghost use Rattle.strm_driver.specs.Told.{run_fault_of_new};
+impl From<NewFault> for TextFault {
+    ghost use Rattle.strm_driver.specs.Told.{text_fault_of_new};
 
-    ghost from_gives = { λ fault e. e ≡ run_fault_of_new fault };
+    ghost from_gives = { λ fault e. e ≡ text_fault_of_new fault };
 
-    fn from(fault: NewFault) -> RunFault {
+    fn from(fault: NewFault) -> TextFault {
         match fault {
-            NewFault::BadConfig(which) => RunFault::Config(which),
-            NewFault::Memory => RunFault::Memory,
+            NewFault::BadConfig(which) => TextFault::Config(which),
+            NewFault::Memory => TextFault::Memory,
         }
+    }
+}
+
+impl From<ReadFault> for RunFault {
+    ghost use Rattle.strm_driver.specs.Told.{run_fault_of_read};
+
+    ghost from_gives = { λ fault e. e ≡ run_fault_of_read fault };
+
+    fn from(fault: ReadFault) -> RunFault {
+        match fault {
+            ReadFault::Read => RunFault::Read,
+            ReadFault::TooLong => RunFault::TooLong,
+            ReadFault::Memory => RunFault::Memory,
+        }
+    }
+}
+
+impl From<TextFault> for RunFault {
+    ghost use Rattle.strm_driver.specs.Told.{run_fault_of_text};
+
+    ghost from_gives = { λ fault e. e ≡ run_fault_of_text fault };
+
+    fn from(fault: TextFault) -> RunFault {
+        match fault {
+            TextFault::Script(found) => RunFault::Script(found),
+            TextFault::Config(which) => RunFault::Config(which),
+            TextFault::Memory => RunFault::Memory,
+        }
+    }
+}
+
+impl From<WriteFault> for RunFault {
+    ghost use Rattle.strm_driver.specs.declared.fault.RunFault.TheVariants.{Write};
+
+    ghost from_gives = { λ _ e. e ≡ Write };
+
+    fn from(_fault: WriteFault) -> RunFault {
+        RunFault::Write
     }
 }

@@ -1,11 +1,12 @@
 //! What a word stands for, where the form of a line wants a number, a register, a word or bytes.
-ghost use Rattle.std.specs.Prelude.{◌≡◌, ◌<◌, ◌≤◌, length, option_map, IfSome};
+ghost use Rattle.std.specs.Prelude.{◌≡◌, ◌*◌, ◌<◌, ◌≤◌, length, option_map, IfSome};
+ghost use Rattle.strm_pool.specs.Limits.{most_octets};
 ghost use Rattle.strm_driver.specs.Entry.{u32_of};
 ghost use Rattle.strm_driver.specs.Form.{are_digits, begins_well, number_of, register_of, is_dash, service_of, next_of, hex_digit, hex_pair, hex_bytes, octets_of};
 
 use crate::fault::Kind;
 use arrayvec::ArrayVec;
-use strm_pool::{Octets, Reg};
+use strm_pool::{MOST_OCTETS, Octets, Reg};
 
 // Whether all bytes are digits.
 fn are_digits(word: &[u8]) -> bool
@@ -49,7 +50,7 @@ pub fn u32_of(word: &[u8]) -> Result<u32, Kind>
     number_of(u32::MAX, word)
 }
 
-/// The queue or the band that a word stands for.
+/// The queue that a word stands for.
 pub fn octet_of(word: &[u8]) -> Result<u8, Kind>
     ensures { result ≡ number_of 255 word.now }
 {
@@ -114,8 +115,8 @@ fn hex_byte(high: u8, low: u8) -> Option<u8>
 }
 
 // The bytes that pairs of hexadecimal digits stand for.
-fn hex_bytes(word: &[u8]) -> Option<ArrayVec<u8, 64>>
-    requires { length word.now ≤ 128 }
+fn hex_bytes(word: &[u8]) -> Option<ArrayVec<u8, MOST_OCTETS>>
+    requires { length word.now ≤ 2 * most_octets }
     ensures { option_map (λ bytes. bytes.items) result ≡ hex_bytes word.now }
 {
     let mut bytes = ArrayVec::new();
@@ -134,7 +135,7 @@ pub fn octets_of(word: &[u8]) -> Result<Octets, Kind>
     if is_dash(word) {
         return Ok(Octets::of(ArrayVec::new()));
     }
-    if word.is_empty() || word.len() > 128 {
+    if word.is_empty() || word.len() > 2 * MOST_OCTETS {
         return Err(Kind::Hex);
     }
     hex_bytes(word).map(Octets::of).ok_or(Kind::Hex)

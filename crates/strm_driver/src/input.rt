@@ -1,24 +1,55 @@
 //! The input of a run.
-ghost use Rattle.std.specs.Prelude.{◌≡◌, ◌⊎◌, ◌≤◌, ◌<◌, ◌+◌, ℕ, List, length, IfOk, IfErr, IfSome, Err};
+ghost use Rattle.std.specs.Prelude.{◌≡◌, ◌||◌, ◌≤◌, ◌<◌, ◌+◌, ℕ, List, length, IfOk, IfSome, Err};
 ghost use Rattle.std.specs.Io.KnownBytes.{Consumes};
+ghost use Rattle.strm_driver.specs.Limits.{most_input_bytes};
+ghost use Rattle.strm_driver.specs.Told.{errs, is_read, run_fault_of_read};
 
-use crate::fault::RunFault;
-use std::alloc::Global;
+use crate::watched::Watched;
+use std::alloc::{AllocError, Global};
 use std::io::Read;
+use thiserror::Error;
 
 // How many bytes one read asks for at most.
 const CHUNK: usize = 4096;
 
+/// Why an input was not read.
+#[derive(Clone, Copy, Debug, PartialEq, Eq, Error)]
+pub enum ReadFault {
+    /// The reader failed.
+    #[error("read fault")]
+    Read,
+    /// The input is longer than it may be.
+    #[error("input too long")]
+    TooLong,
+    /// There is not enough memory.
+    #[error("memory")]
+    Memory,
+}
+
+impl From<AllocError> for ReadFault {
+    ghost use Rattle.strm_driver.specs.declared.input.ReadFault.TheVariants.{Memory};
+
+    ghost from_gives = { λ _ e. e ≡ Memory };
+
+    fn from(_error: AllocError) -> ReadFault {
+        ReadFault::Memory
+    }
+}
+
 /// Reads the whole input, which may have at most `max` bytes. It is `Read` where the reader fails, `TooLong`
 /// where the input has more bytes, and `Memory` where there is no room for them. At most one byte more than
 /// `max` is taken from the reader.
-pub fn read_input<R: Read>(alloc: Global, max: u32, reader: &mut R) -> Result<Vec<u8>, RunFault>
+pub fn read_input<R: Read>(
+    alloc: Global,
+    max: u32,
+    reader: &mut Watched<R>,
+) -> Result<Vec<u8>, ReadFault>
     requires least { 1 ≤ max }
-    requires most { max ≤ 16777216 }
-    ensures ok { IfOk result (λ v. (length v.items ≤ max) × IfSome (R.remaining reader.old) (λ input. v.items ≡ input)) }
-    ensures too_long { result ≡ Err RunFault.TooLong → IfSome (R.remaining reader.old) (λ input. max < length input) }
-    ensures kinds { IfErr result (λ fault. (fault ≡ RunFault.Read) ⊎ ((fault ≡ RunFault.TooLong) ⊎ (fault ≡ RunFault.Memory))) }
-    ensures taken { (bytes : List ℕ) × Consumes (R.remaining reader.old) (R.remaining reader.new) bytes × (length bytes ≤ max + 1) }
+    requires most { max ≤ most_input_bytes }
+    ensures ok { IfOk result (λ v. (length v.items ≤ max) × IfSome (R.remaining reader.old.inner) (λ input. v.items ≡ input)) }
+    ensures too_long { result ≡ Err ReadFault.TooLong → IfSome (R.remaining reader.old.inner) (λ input. max < length input) }
+    ensures reader { reader.new.failed ≡ (reader.old.failed || errs (λ fault. is_read (run_fault_of_read fault)) result) }
+    ensures taken { (bytes : List ℕ) × Consumes (R.remaining reader.old.inner) (R.remaining reader.new.inner) bytes × (length bytes ≤ max + 1) }
 {
     let most = max as usize;
     let mut chunk = [0; CHUNK];
@@ -27,15 +58,11 @@ pub fn read_input<R: Read>(alloc: Global, max: u32, reader: &mut R) -> Result<Ve
         let room = CHUNK.min(most + 1 - input.len());
         match reader.read(&mut chunk[..room]) {
             Ok(0) => return Ok(input),
-            Ok(count) => {
-                if input.extend_from_slice(&chunk[..count]).is_err() {
-                    return Err(RunFault::Memory);
-                }
-            }
-            Err(_) => return Err(RunFault::Read),
+            Ok(count) => input.extend_from_slice(&chunk[..count])?,
+            Err(_) => return Err(ReadFault::Read),
         }
     }
-    Err(RunFault::TooLong)
+    Err(ReadFault::TooLong)
 }
 
 #[cfg(test)]

@@ -19,12 +19,15 @@ pub struct Line {
 pub enum Entry {
     /// The pool's id and the number of its message blocks.
     Pool(u32, u32),
+    /// A size class.
     Class(ClassSpec),
+    /// A queue.
     Queue(QueueSpec),
     /// How many wishes there may be, and the id of the first.
     Bufcalls(u32, u32),
     /// A worker section begins.
     Worker,
+    /// A command line of a section.
     Command(Call),
 }
 

@@ -2,6 +2,7 @@
 #![tactic(auto)]
 
 ghost use Rattle.std.specs.Prelude.{◌≤◌};
+ghost use Rattle.strm_driver.specs.Limits.{most_input_bytes};
 
 mod cut;
 mod draft;
@@ -10,11 +11,13 @@ mod fault;
 mod faulty;
 mod form;
 mod input;
+mod limits;
 mod line;
 mod output;
 mod run;
 mod script;
 mod text;
+mod watched;
 mod word;
 mod words;
 
@@ -24,6 +27,7 @@ use run::run;
 use std::process::ExitCode;
 use std::rt::Env;
 use std::{env, io};
+use watched::Watched;
 use words::{Options, options_of};
 
 // The exit status where the words are refused.
@@ -62,10 +66,10 @@ fn answered(rt: &(impl Print + Eprint), error: &clap::Error) -> ExitCode {
 // Runs the script on standard input.
 fn served(rt: &(impl AllocGlobal + Input + Print + Eprint), options: Options) -> ExitCode
     requires least { 1 ≤ options.max }
-    requires most { options.max ≤ 16777216 }
+    requires most { options.max ≤ most_input_bytes }
 {
-    let mut reader = rt.reader();
-    let mut writer = io::writer(rt);
+    let mut reader = Watched::new(rt.reader());
+    let mut writer = Watched::new(io::writer(rt));
     match run(rt, options.mode, options.max, &mut reader, &mut writer) {
         Ok(()) => ExitCode::SUCCESS,
         Err(fault) => failed(rt, fault),

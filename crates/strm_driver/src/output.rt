@@ -1,27 +1,32 @@
 //! The output of a run.
-ghost use Rattle.std.specs.Prelude.{◌≡◌, ℕ, take, OnOk, OnErr, Err};
+ghost use Rattle.std.specs.Prelude.{◌≡◌, ◌||◌, ℕ, take, OnOk, OnErr, is_err};
 ghost use Rattle.std.specs.Io.KnownBytes.{Appends};
 
-use crate::fault::RunFault;
+use crate::watched::Watched;
 use std::io::Write;
+use thiserror::Error;
 
-/// Writes a text and flushes the writer. It is `Write` where the writer fails, or takes nothing of what is left;
-/// a prefix of the text was written then.
-pub fn write_text<W: Write>(writer: &mut W, text: &[u8]) -> Result<(), RunFault>
-    ensures ok { OnOk result (Appends (W.contents writer.old) (W.contents writer.new) text.now) }
-    ensures err { OnErr result ((result ≡ Err RunFault.Write)
-        × ((n : ℕ) × Appends (W.contents writer.old) (W.contents writer.new) (take n text.now))) }
+/// The writer failed, or took nothing of what was left.
+#[derive(Clone, Copy, Debug, PartialEq, Eq, Error)]
+#[error("write fault")]
+pub struct WriteFault;
+
+/// Writes a text and flushes the writer. After a fault a prefix of the text was written.
+pub fn write_text<W: Write>(writer: &mut Watched<W>, text: &[u8]) -> Result<(), WriteFault>
+    ensures ok { OnOk result (Appends (W.contents writer.old.inner) (W.contents writer.new.inner) text.now) }
+    ensures cut { OnErr result ((n : ℕ) × Appends (W.contents writer.old.inner) (W.contents writer.new.inner) (take n text.now)) }
+    ensures writer { writer.new.failed ≡ (writer.old.failed || is_err result) }
 {
     let mut written = 0;
     while written < text.len() {
         match writer.write(&text[written..]) {
-            Ok(0) | Err(_) => return Err(RunFault::Write),
+            Ok(0) | Err(_) => return Err(WriteFault),
             Ok(count) => written += count,
         }
     }
     match writer.flush() {
         Ok(()) => Ok(()),
-        Err(_) => Err(RunFault::Write),
+        Err(_) => Err(WriteFault),
     }
 }
 

@@ -1,24 +1,28 @@
 //! A run, from the bytes of a script to the bytes of its text.
-ghost use Rattle.std.specs.Prelude.{◌≡◌, ◌≢◌, ◌≤◌, ◌+◌, ◌++◌, ◌∷◌, ℕ, List, [], length, take, OnOk, IfOk, IfErr, IfSome, IsOkAnd, IsTrue, Ok, Err, string_bytes};
+ghost use Rattle.std.specs.Prelude.{◌≡◌, ◌≢◌, ◌≤◌, ◌+◌, ◌||◌, ◌++◌, ◌∷◌, ℕ, List, [], length, take, OnOk, IfOk, IfErr, IfSome, IsOkAnd, IsTrue, None, Err, string_bytes};
 ghost use Rattle.std.specs.Io.KnownBytes.{Appends, Consumes, Keeps};
+ghost use Rattle.strm_pool.specs.Config.{fault_of};
 ghost use Rattle.strm_pool.specs.PoolValue.{owns};
 ghost use Rattle.strm_pool.specs.Registers.{table_of, AreDistinct};
+ghost use Rattle.strm_driver.specs.Limits.{most_input_bytes};
 ghost use Rattle.strm_pool.specs.Step.{replay_from};
 ghost use Rattle.strm_driver.specs.Merge.{by_worker};
-ghost use Rattle.strm_driver.specs.Outcome.{outcome_of, outcome_of_script, IsTextOfInput};
+ghost use Rattle.strm_driver.specs.Outcome.{fault_of_script, fault_of_input, IsSerialText, IsTextOf, IsTextOfInput};
+ghost use Rattle.strm_driver.specs.Parsed.{value_of};
 ghost use Rattle.strm_driver.specs.Script.{script_of};
 ghost use Rattle.strm_driver.specs.Text.{text_after, turns_of};
-ghost use Rattle.strm_driver.specs.Told.{TellsFault};
+ghost use Rattle.strm_driver.specs.Told.{TellsFault, TellsNewFault, run_fault_of_text, errs, is_read, is_write};
 
-use crate::fault::RunFault;
+use crate::fault::{RunFault, TextFault};
 use crate::input::read_input;
 use crate::line::Line;
 use crate::output::write_text;
 use crate::script::{Script, parse};
 use crate::text::{reply_text, report_text};
+use crate::watched::Watched;
 use std::alloc::{AllocError, Global};
 use std::io::{Read, Write};
-use strm_pool::{Pool, Regs};
+use strm_pool::{NewFault, Pool, Regs};
 
 /// How the lines of several workers are served.
 #[derive(Clone, Copy, Debug, PartialEq, Eq)]
@@ -48,15 +52,13 @@ fn serve(
     report_text(text, pool)
 }
 
-// The text of a script, all of whose lines are served on one thread, or the script's or its configuration's
-// first fault.
-fn text_of_script(alloc: Global, bytes: &[u8]) -> Result<String, RunFault>
-    requires { length bytes.now ≤ 16777216 }
-    ensures text { IfOk result (λ text. outcome_of_script (script_of bytes.now) ≡ Ok (string_bytes text)) }
-    ensures refused { IfErr result (λ fault. TellsFault fault (outcome_of_script (script_of bytes.now))) }
-    ensures kinds { IfErr result (λ fault. (fault ≢ RunFault.Write) × (fault ≢ RunFault.TooLong)) }
+// The text of a script, all of whose lines are served on one thread, or its configuration's first fault.
+fn serial_text(alloc: Global, script: Script) -> Result<String, NewFault>
+    ensures text { IfOk result (λ text. IsSerialText (value_of script) (string_bytes text)) }
+    ensures lawful { OnOk result (fault_of script.config ≡ None) }
+    ensures refused { IfErr result (λ fault. TellsNewFault fault (fault_of script.config)) }
 {
-    let Script { config, lines } = parse(alloc, bytes)?;
+    let Script { config, lines } = script;
     let mut pool = Pool::new(alloc, config)?;
     let mut regs = Regs::new();
     let mut text = String::new(alloc);
@@ -64,8 +66,22 @@ fn text_of_script(alloc: Global, bytes: &[u8]) -> Result<String, RunFault>
     pool.drain(regs);
     match served {
         Ok(()) => Ok(text),
-        Err(_) => Err(RunFault::Memory),
+        Err(_) => Err(NewFault::Memory),
     }
+}
+
+// The text of the script that bytes are, or the script's or its configuration's first fault.
+fn text_of_script(alloc: Global, mode: Mode, bytes: &[u8]) -> Result<String, TextFault>
+    requires { length bytes.now ≤ most_input_bytes }
+    ensures text { IfOk result (λ text. IsOkAnd (script_of bytes.now) (λ script. IsTextOf mode script (string_bytes text))) }
+    ensures lawful { OnOk result (fault_of_script (script_of bytes.now) ≡ None) }
+    ensures refused { IfErr result (λ fault. TellsFault (run_fault_of_text fault) (fault_of_script (script_of bytes.now))) }
+{
+    let script = parse(alloc, bytes)?;
+    let text = match mode {
+        Mode::Serial | Mode::Workers => serial_text(alloc, script)?,
+    };
+    Ok(text)
 }
 
 /// Reads a script of at most `max` bytes, serves its lines, and writes the transcript and the report.
@@ -73,33 +89,35 @@ pub fn run<E: AllocGlobal, R: Read, W: Write>(
     rt: &E,
     mode: Mode,
     max: u32,
-    reader: &mut R,
-    writer: &mut W,
+    reader: &mut Watched<R>,
+    writer: &mut Watched<W>,
 ) -> Result<(), RunFault>
     requires least { 1 ≤ max }
-    requires most { max ≤ 16777216 }
-    // Where it is Ok, the text of the script that the bytes read are was written, and nothing else.
-    ensures text { OnOk result (IfSome (R.remaining reader.old) (λ input.
-        IsOkAnd (outcome_of max input) (Appends (W.contents writer.old) (W.contents writer.new)))) }
-    // The lines were served in some order that keeps each worker's own.
-    ensures merged { OnOk result (IfSome (R.remaining reader.old) (λ input.
-        (text : List ℕ) × IsTextOfInput max input text × Appends (W.contents writer.old) (W.contents writer.new) text)) }
+    requires most { max ≤ most_input_bytes }
+    // Where it is Ok, the bytes read have no fault, and the text of their script was written, and nothing else.
+    ensures text { OnOk result (IfSome (R.remaining reader.old.inner) (λ input.
+        (text : List ℕ) × IsTextOfInput mode max input text × Appends (W.contents writer.old.inner) (W.contents writer.new.inner) text)) }
     // An input too long, a script or a configuration is refused where it is at fault, and for its first fault.
-    ensures refused { IfErr result (λ fault. IfSome (R.remaining reader.old) (λ input.
-        TellsFault fault (outcome_of max input))) }
+    ensures refused { IfErr result (λ fault. IfSome (R.remaining reader.old.inner) (λ input.
+        TellsFault fault (fault_of_input max input))) }
     // After a write fault a prefix of the text was written.
-    ensures cut { result ≡ Err RunFault.Write → IfSome (R.remaining reader.old) (λ input.
-        IsOkAnd (outcome_of max input) (λ text. (n : ℕ) × Appends (W.contents writer.old) (W.contents writer.new) (take n text))) }
+    ensures cut { result ≡ Err RunFault.Write → IfSome (R.remaining reader.old.inner) (λ input.
+        (text : List ℕ) × IsTextOfInput mode max input text
+        × ((n : ℕ) × Appends (W.contents writer.old.inner) (W.contents writer.new.inner) (take n text))) }
     // After any other fault nothing was written.
-    ensures unwritten { IfErr result (λ fault. fault ≢ RunFault.Write → Keeps (W.contents writer.old) (W.contents writer.new)) }
+    ensures unwritten { IfErr result (λ fault. fault ≢ RunFault.Write
+        → Keeps (W.contents writer.old.inner) (W.contents writer.new.inner)) }
+    // A read fault comes where the reader failed, and nowhere else, and a write fault where the writer did.
+    ensures reader { reader.new.failed ≡ (reader.old.failed || errs is_read result) }
+    ensures writer { writer.new.failed ≡ (writer.old.failed || errs is_write result) }
     // At most one byte more than `max` is taken from the reader.
-    ensures taken { (bytes : List ℕ) × Consumes (R.remaining reader.old) (R.remaining reader.new) bytes × (length bytes ≤ max + 1) }
+    ensures taken { (bytes : List ℕ) × Consumes (R.remaining reader.old.inner) (R.remaining reader.new.inner) bytes
+        × (length bytes ≤ max + 1) }
 {
     let input = read_input(rt.alloc(), max, reader)?;
-    let text = match mode {
-        Mode::Serial | Mode::Workers => text_of_script(rt.alloc(), &input)?,
-    };
-    write_text(writer, text.as_bytes())
+    let text = text_of_script(rt.alloc(), mode, &input)?;
+    write_text(writer, text.as_bytes())?;
+    Ok(())
 }
 
 #[cfg(test)]

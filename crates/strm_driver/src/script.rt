@@ -2,6 +2,7 @@
 ghost use Rattle.std.specs.Prelude.{◌≡◌, ◌≤◌, length};
 ghost use Rattle.strm_driver.specs.Script.{may_stand, script_of};
 ghost use Rattle.strm_driver.specs.Parsed.{Parses};
+ghost use Rattle.strm_driver.specs.Limits.{most_input_bytes};
 
 use crate::cut::cut_at;
 use crate::draft::Draft;
@@ -10,9 +11,6 @@ use crate::line::Line;
 use crate::word::Word;
 use std::alloc::Global;
 use strm_pool::Config;
-
-/// How many command lines a script may have, over all its sections.
-pub const MAX_COMMANDS: usize = 1_048_576;
 
 /// How far a script has come.
 #[derive(Clone, Copy, Debug, PartialEq, Eq)]
@@ -55,10 +53,10 @@ pub struct Script {
     pub lines: Vec<Line>,
 }
 
-/// Reads a script of at most 16,777,216 bytes: the script, or its first fault, or want of memory, whichever is
+/// Reads a script of at most `MOST_INPUT_BYTES` bytes: the script, or its first fault, or want of memory, whichever is
 /// met first, line by line.
 pub fn parse(alloc: Global, bytes: &[u8]) -> Result<Script, ParseFault>
-    requires { length bytes.now ≤ 16777216 }
+    requires { length bytes.now ≤ most_input_bytes }
     ensures { Parses result (script_of bytes.now) }
 {
     let mut draft = Draft::new(alloc);

@@ -7,7 +7,7 @@ use Rattle.std.specs.List.{concat, All}
 use Rattle.std.specs.Option.{option_map_or}
 use Rattle.strm_links.specs.declared.links.Node.{Node}
 use Rattle.strm_links.specs.declared.links.Ends.{Ends}
-use Rattle.strm_links.specs.Rows.{Rows, has, IsApart, is_some_of, first, last, after, before, Reads, list_at, holder, next_in, previous_in, linked_nodes}
+use Rattle.strm_links.specs.Rows.{Rows, IsParting, has, IsApart, is_some_of, first, last, after, before, Reads, list_at, holder, next_in, previous_in, linked_nodes}
 use Rattle.strm_links.specs.Layout.{no_node, no_ends, node_at, owner_at, previous_at, next_at, ends_at, chain, rows_of, IsLinked, IsSound}
 use Rattle.strm_links.proofs.OneList.{has_at, has-append, IsApart-append, is_some_of-same, some_of}
 use Rattle.strm_links.proofs.AllLists.{holder_is}
@@ -206,3 +206,7 @@ IsSound-new n m few_nodes few_lists =
             owned = λ k. sym (ap (is_some_of l) (free k));
           });
     }
+
+-- links that are sound part the nodes
+pub parts : (nodes : List Node) (ends : List Ends) (rows : Rows) → IsSound nodes ends rows → IsParting rows
+parts nodes ends rows sound = record { apart = apart_all nodes ends rows sound; within = in_range nodes ends rows sound }

@@ -1,10 +1,10 @@
 -- The links of one list: how they are read, kept, split and joined.
 use Rattle.std.proofs.Common.{◌≡◌, ℕ, true, List, [], ◌∷◌, ◌++◌, length, reverse, Option, Some, None, if◌then◌else◌, refl, sym, ap, ◌∙◌, subst, inl, inr}
 use Rattle.std.proofs.lemmas.Bool.{cases_eq, cond-true, cond-false, eq-eqb, ne_eqb, false≢true}
-use Rattle.std.proofs.lemmas.List.{append_assoc, reverse-append}
-use Rattle.strm_links.specs.Rows.{has, is_some_of, first_or, last_or, first, last, after, before_from, Reads}
+use Rattle.std.proofs.lemmas.List.{append-nil, append_assoc, reverse-append}
+use Rattle.strm_links.specs.Rows.{IsApart, has, is_some_of, first_or, last_or, first, last, after, before, before_from, Reads}
 use Rattle.strm_links.specs.Layout.{walk, LeadsOn, LeadsBack}
-use Rattle.strm_links.proofs.OneList.{has_head, has_tail, has_cases, differ, ApartParts, first_or-append, first_off, last_off}
+use Rattle.strm_links.proofs.OneList.{absent_around, after-at, before-at, has_head, has_tail, has_cases, differ, ApartParts, first_or-append, first_off, last_off, last_or-append}
 
 -- ---- what the links say
 
@@ -102,3 +102,30 @@ LeadsBack-join previous new ahead b (x ∷ xs) post left right parts writes = (
       (record { left = parts.left.1; right = parts.right; cross = λ k there. parts.cross k (has_tail x k xs there) })
       writes,
 )
+
+-- ---- a list with no node twice, read by what stands behind and before each
+
+after_leads : (pre xs : List ℕ) → IsApart (pre ++ xs) → LeadsOn (λ k. after k (pre ++ xs)) xs None
+after_leads pre [] apart = tt
+after_leads pre (x ∷ xs) apart = (
+  after-at pre xs x (absent_around pre xs x apart).0,
+  subst (λ l. LeadsOn (λ k. after k l) xs None) (append_assoc pre (x ∷ []) xs) (after_leads (pre ++ x ∷ []) xs (subst IsApart (sym (append_assoc pre (x ∷ []) xs)) apart)),
+)
+
+before_leads : (pre xs : List ℕ) → IsApart (pre ++ xs) → LeadsBack (λ k. before k (pre ++ xs)) (last pre) xs
+before_leads pre [] apart = tt
+before_leads pre (x ∷ xs) apart = (
+  before-at pre xs x (absent_around pre xs x apart).0,
+  subst (λ l. LeadsBack (λ k. before k l) (Some x) xs) (append_assoc pre (x ∷ []) xs)
+      (subst (λ o. LeadsBack (λ k. before k ((pre ++ x ∷ []) ++ xs)) o xs) (last_or-append None pre (x ∷ []))
+      (before_leads (pre ++ x ∷ []) xs (subst IsApart (sym (append_assoc pre (x ∷ []) xs)) apart))),
+)
+
+-- the first leads to all of it
+pub Reads-after : (xs : List ℕ) → IsApart xs → Reads (λ k. after k xs) (first xs) xs
+Reads-after xs apart = Reads-on (λ k. after k xs) xs (after_leads [] xs apart)
+
+-- and the last back to its reverse
+pub Reads-before : (xs : List ℕ) → IsApart xs → Reads (λ k. before k xs) (last xs) (reverse xs)
+Reads-before xs apart =
+    subst (Reads (λ k. before k xs) (last xs)) (append-nil (reverse xs)) (Reads-back (λ k. before k xs) None xs [] (before_leads [] xs apart) refl)

@@ -1,6 +1,6 @@
 pub mod AllLists
 mod Arena
-mod Chains
+pub mod Chains
 mod Changes
 mod Giving
 mod Linking

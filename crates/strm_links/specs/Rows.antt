@@ -1,6 +1,6 @@
 -- What a contract sees of `Links`: lists of node numbers, and the words for one list and for all.
-use Rattle.std.specs.Prelude.{◌≡◌, ℕ, Bool, false, List, [], ◌∷◌, Option, Some, None, not, ◌==◌, filter, slice_index_or, if◌then◌else◌, refl}
-use Rattle.std.specs.List.{list_any, position, concat}
+use Rattle.std.specs.Prelude.{◌≡◌, ℕ, ◌<◌, Bool, false, List, [], ◌∷◌, Option, Some, None, not, ◌==◌, filter, slice_index_or, if◌then◌else◌, refl}
+use Rattle.std.specs.List.{All, list_any, position, concat}
 use Rattle.std.specs.Option.{option_map_or}
 use Rattle.std.specs.Coded.{Coded, code_by, coded×, coded_ℕ, coded_list}
 
@@ -106,3 +106,8 @@ previous_in rows node = before node (row_of node rows)
 -- the nodes of all lists, one list behind the other
 abbrev pub linked_nodes : Rows → List ℕ
 linked_nodes rows = concat rows.lists
+
+-- no node stands twice in all the lists, and each is one of the nodes
+pub record IsParting (rows : Rows) : Type 0 where
+  pub apart : IsApart (linked_nodes rows)
+  pub within : All (λ node. node < rows.nodes) (linked_nodes rows)

@@ -5,7 +5,7 @@
 //! choice.
 ghost use Rattle.std.specs.Prelude.{◌≡◌, ℕ, ◌+◌, ◌^◌, ◌<◌, ◌-◌, [], ◌∷◌, ◌++◌, All, length, map, reverse, replicate, if◌then◌else◌, is_none, IsSome, IsTrue, IfOk, IfSome, ◌≢◌, slice_set, vec_len};
 ghost use Rattle.std.specs.Option.{ForSome, option_map_or};
-ghost use Rattle.strm_links.specs.Rows.{has, IsApart, first, last, without, put_before, Reads, is_some_of, list_at, holder, next_in, previous_in, linked_nodes};
+ghost use Rattle.strm_links.specs.Rows.{has, IsApart, IsParting, first, last, without, put_before, Reads, is_some_of, list_at, holder, next_in, previous_in, linked_nodes};
 ghost use Rattle.strm_links.specs.Layout.{no_node, no_ends, owner_at, previous_at, next_at, put_ahead, walk};
 
 use crate::slot::Slot;
@@ -160,7 +160,8 @@ impl Links {
     ///
     /// Fails where the memory for them is refused, and then keeps none.
     pub fn new(alloc: Global, nodes: u32, lists: u32) -> Result<Self, AllocError>
-        ensures { IfOk result (λ s. s ≡ record { nodes = nodes; lists = replicate lists [] }) }
+        ensures rows { IfOk result (λ s. s ≡ record { nodes = nodes; lists = replicate lists [] }) }
+        ensures parting { IfOk result IsParting }
     {
         Ok(Links {
             nodes: vec![in alloc; Node::free(); nodes as usize]?,
@@ -240,6 +241,7 @@ impl Links {
         } }
         ensures held { holder node self.new ≡ Some list }
         ensures others { (k : ℕ) → k ≢ node → holder k self.new ≡ holder k self.old }
+        ensures parting { IsParting self.new }
     {
         let mut ends = self.ends[list as usize];
         let previous = ahead_of(&self.nodes, &ends, next);
@@ -265,6 +267,7 @@ impl Links {
         } }
         ensures held { holder node self.new ≡ Some list }
         ensures others { (k : ℕ) → k ≢ node → holder k self.new ≡ holder k self.old }
+        ensures parting { IsParting self.new }
     {
         let front = self.ends[list as usize].front;
         self.link(list, node, front);
@@ -280,6 +283,7 @@ impl Links {
         } }
         ensures held { holder node self.new ≡ Some list }
         ensures others { (k : ℕ) → k ≢ node → holder k self.new ≡ holder k self.old }
+        ensures parting { IsParting self.new }
     {
         self.link(list, node, Slot::none());
     }
@@ -294,6 +298,7 @@ impl Links {
             ≡ record self.old { lists = map (put_before at node) self.old.lists } }
         ensures held { holder node self.new ≡ holder at self.old }
         ensures others { (k : ℕ) → k ≢ node → holder k self.new ≡ holder k self.old }
+        ensures parting { IsParting self.new }
     {
         let list = self.nodes[at as usize].list.get().unwrap();
         self.link(list, node, Slot::some(at));
@@ -305,6 +310,7 @@ impl Links {
         ensures lists { self.new ≡ record self.old { lists = map (without node) self.old.lists } }
         ensures freed { holder node self.new ≡ None }
         ensures others { (k : ℕ) → k ≢ node → holder k self.new ≡ holder k self.old }
+        ensures parting { IsParting self.new }
     {
         let Node {
             list,
@@ -335,6 +341,7 @@ impl Links {
         ensures moved { (k : ℕ) → holder k self.old ≡ Some from → holder k self.new ≡ Some to }
         ensures others { (k : ℕ) → holder k self.old ≢ Some from
             → holder k self.new ≡ holder k self.old }
+        ensures parting { IsParting self.new }
     {
         let tail = self.ends[from as usize];
         let mut ends = self.ends[to as usize];
@@ -349,10 +356,9 @@ impl Links {
     }
 
     /// The law that the lists part the nodes: in all the lists together no node stands twice, and each
-    /// is one of the nodes. Does nothing.
+    /// is one of the nodes. Every call that changes them says so too. Does nothing.
     pub fn parts_nodes(&self)
-        ensures apart { IsApart (linked_nodes self.now) }
-        ensures in_range { All (λ node. node < self.now.nodes) (linked_nodes self.now) }
+        ensures parting { IsParting self.now }
         ensures few_nodes { self.now.nodes < 2 ^ 32 }
         ensures few_lists { length self.now.lists < 2 ^ 32 }
     {

@@ -15,7 +15,7 @@ use Rattle.strm_mblk.specs.Arena.{Arena, census_of, message_at, opening_arena}
 use Rattle.strm_mblk.specs.Block.{Block, Message, bytes_of, data_size_of, new_block, size_of}
 use Rattle.strm_mblk.specs.BlockCalls as blocks
 use Rattle.strm_mblk.specs.Freeing as freeing
-use Rattle.strm_mblk.specs.Given.{Given, after, answer_of}
+use Rattle.strm_mblk.specs.Given.{Given, value_after, answer_of}
 use Rattle.strm_mblk.specs.Trimming as trimming
 
 -- ---- runs of calls
@@ -40,7 +40,7 @@ refused (Ok x) = None
 refused (Err why) = Some why
 
 abbrev call : {X : Type 0} → (Arena → Given Arena X) → Call
-call f a = (refused (f a), after a (f a))
+call f a = (refused (f a), value_after a (f a))
 
 -- a call that is never refused
 abbrev served : (Arena → Arena) → Call

@@ -4,6 +4,7 @@ use Rattle.std.specs.List.{All, range_with_len}
 use Rattle.strm_data.specs.declared.class_spec.ClassSpec.{ClassSpec}
 use Rattle.strm_data.specs.CountedStore.{CountedStore}
 use Rattle.strm_data.specs.DataStore.{DataStore, times, capacity_of, class_of, free_of, opening_store}
+use Rattle.strm_data.specs.Limits.{most_data_block_names}
 use Rattle.strm_mblk.specs.declared.census.Census.{Census}
 use Rattle.strm_mblk.specs.declared.token.TokenValue.{TokenValue}
 use Rattle.strm_mblk.specs.Block.{Block, Message, head_of, is_naming, numbers_of}
@@ -91,14 +92,14 @@ is_free_in a c d = nat_lt d (length a.store.blocks) && (class_of a.store d == c 
 
 -- Each message block stands once in all: free, in one message on one shelf, or in one held message, which
 -- stands at its head. Each data block stands once in its class's free list and nothing names it, or in none
--- and 1 to 255 message blocks name it.
+-- and 1 to most_data_block_names message blocks name it.
 pub record IsParted (a : Arena) : Type 0 where
   pub blocks : (n : ℕ) → times n (a.free ++ numbers_of (blocks_in a)) ≡ (if nat_lt n (length a.held) then 1 else 0)
   pub heads : (h : ℕ) → IfSome (held_at a h) (λ m. (0 < length m) × (head_of m ≡ h))
   pub shelved : (s : ℕ) → All (λ m. 0 < length m) (shelf_at a s)
   pub free_data : (c d : ℕ) → times d (free_of a.store c) ≡ (if is_free_in a c d then 1 else 0)
   pub named : (d : ℕ) → 0 < names_of a d → d < length a.store.blocks
-  pub few_names : (d : ℕ) → names_of a d ≤ 255
+  pub few_names : (d : ℕ) → names_of a d ≤ most_data_block_names
 
 -- ---- what lies in what
 

@@ -15,7 +15,7 @@ pub record Block : Type 0 where
   pub len : ℕ
   pub band : ℕ
 
--- a message: a chain of at least one block
+-- a message: a chain of blocks, of which it has one at least (`IsParted` says so)
 abbrev pub Message : Type 0
 Message = List Block
 

@@ -7,6 +7,7 @@ use Rattle.strm_data.specs.declared.refusal.Refusal.{Refusal}
 use Rattle.strm_data.specs.declared.refusal.Refusal.TheVariants.{TooLarge, NoMblk, RefMax, NoSuchBlock, Shared, NoRoom}
 use Rattle.strm_data.specs.Classes.{fits_a_class}
 use Rattle.strm_data.specs.DataStore.{DataStore, capacity_of, take_data, with_data_taken, with_kind, with_bytes_written}
+use Rattle.strm_data.specs.Limits.{most_data_block_names}
 use Rattle.strm_mblk.specs.declared.block_info.BlockInfo.{BlockInfo}
 use Rattle.strm_mblk.specs.Arena.{Arena, message_at, names_of, with_held, without_held}
 use Rattle.strm_mblk.specs.Block.{Block, Message, bytes_of_block, head_of, is_naming, kind_of, new_block}
@@ -37,9 +38,9 @@ testb size a = is_ok (allocb size a)
 abbrev pub renumbered : List ℕ → List Block → List Block
 renumbered ns bs = map (λ p. record p.1 { number = p.0 }) (zip ns bs)
 
--- whether some data block would have more than 255 names once each of these blocks has a duplicate
+-- whether some data block would have more than most_data_block_names names once each of these blocks has a duplicate
 abbrev pub exceeds_names : List Block → Arena → Bool
-exceeds_names bs a = list_any (λ b. nat_lt 255 (names_of a b.data_number + count_by (is_naming b.data_number) bs)) bs
+exceeds_names bs a = list_any (λ b. nat_lt most_data_block_names (names_of a b.data_number + count_by (is_naming b.data_number) bs)) bs
 
 -- a held message of these blocks, under the first free numbers, over this store
 abbrev pub held_under : List Block → DataStore → Arena → ℕ × Arena

@@ -3,11 +3,13 @@ use Rattle.std.specs.Prelude.{◌≡◌, ℕ, ◌+◌, ◌-◌, ◌<◌, ◌≤�
 use Rattle.strm_data.specs.CountedStore.{CountedStore, IsKept, count_of, without_name, with_name}
 use Rattle.strm_data.specs.DataStore.{DataStore, capacity_of, times}
 use Rattle.std.specs.List.{list_any}
+use Rattle.strm_data.specs.Limits.{most_data_block_names}
 use Rattle.strm_mblk.specs.declared.blocks.Blocks.TheInside.{Inside}
 use Rattle.strm_mblk.specs.declared.blocks.Fields.{Fields}
 use Rattle.strm_mblk.specs.Arena.{Arena, names_of, shelved_blocks}
 use Rattle.strm_mblk.specs.Block as model
 use Rattle.strm_mblk.specs.NodeLists.{NodeLists, IsNodesParted}
+use Rattle.strm_mblk.specs.Limits.{most_message_blocks}
 
 -- what is given where there is no such message block
 abbrev pub no_fields : Fields
@@ -47,9 +49,9 @@ abbrev pub with_names_given : List ℕ → CountedStore → CountedStore
 with_names_given [] s = s
 with_names_given (d ∷ ds) s = with_names_given ds (with_name d s)
 
--- whether some data block would have more than 255 names once each of these has a name more
+-- whether some data block would have more than most_data_block_names names once each of these has a name more
 abbrev pub exceeds_counts : List ℕ → CountedStore → Bool
-exceeds_counts ds s = list_any (λ d. nat_lt 255 (count_of s d + times d ds)) ds
+exceeds_counts ds s = list_any (λ d. nat_lt most_data_block_names (count_of s d + times d ds)) ds
 
 -- the store once each of these data blocks, first to last, has a name less
 abbrev pub with_names_dropped : List ℕ → CountedStore → CountedStore
@@ -88,7 +90,7 @@ pub record IsPlaced (s : DataStore) (f : Fields) : Type 0 where
 pub record IsFilled (s : CountedStore) (fields : List Fields) (lists : NodeLists) (arena : Arena) : Type 0 where
   pub kept : IsKept s
   pub parted : IsNodesParted lists
-  pub few : length lists.held < 4096
+  pub few : length lists.held ≤ most_message_blocks
   pub listed : length fields ≡ length lists.held
   pub placed : (n : ℕ) → n < length fields → IsPlaced s.store (fields_at fields n)
   pub counts : (d : ℕ) → count_of s d ≡ names_of arena d

@@ -1,9 +1,10 @@
 -- How messages lie in two arenas of links. No public clause cites this module.
-use Rattle.std.specs.Prelude.{◌≡◌, ℕ, ◌+◌, ◌<◌, List, [], ◌∷◌, ◌++◌, length, map, take, Option, None, Some, IsSome, if◌then◌else◌}
-use Rattle.std.specs.List.{All, range_with_len}
-use Rattle.strm_links.specs.Rows.{Rows, IsApart, first, has, holder, linked_nodes, list_at, put_before}
+use Rattle.std.specs.Prelude.{◌≡◌, ℕ, ◌+◌, ◌<◌, ◌≤◌, List, [], ◌∷◌, ◌++◌, length, map, take, Option, None, Some, IsSome, if◌then◌else◌}
+use Rattle.std.specs.List.{range_with_len}
+use Rattle.strm_links.specs.Rows.{IsParting, Rows, first, has, holder, list_at, put_before}
 use Rattle.strm_mblk.specs.NodeLists.{NodeLists}
 use Rattle.strm_mblk.specs.declared.chains.Chains.TheInside.{Inside}
+use Rattle.strm_mblk.specs.Limits.{most_message_blocks}
 
 -- List h of the chains is that of the message that begins with message block h, and the last one has the free message
 -- blocks. List s of the heads is that of the messages on shelf s, and the last one has the held messages.
@@ -25,16 +26,11 @@ abbrev pub put_in : Option ℕ → ℕ → List ℕ → List ℕ
 put_in None node xs = xs ++ node ∷ []
 put_in (Some at) node xs = put_before at node xs
 
--- no node stands twice in the lists, and each is one of the nodes
-pub record IsParting (rows : Rows) : Type 0 where
-  pub apart : IsApart (linked_nodes rows)
-  pub within : All (λ k. k < rows.nodes) (linked_nodes rows)
-
 -- there is a chain for each message block, and each stands in one list; a message block that begins a message has a
 -- chain that begins with it, and any other has none
 pub record IsChained (nodes shelves : ℕ) (chains heads : Rows) : Type 0 where
-  pub few_nodes : nodes < 4096
-  pub few_shelves : shelves < 4096
+  pub few_nodes : nodes ≤ most_message_blocks
+  pub few_shelves : shelves < 256
   pub chain_nodes : chains.nodes ≡ nodes
   pub head_nodes : heads.nodes ≡ nodes
   pub chain_lists : length chains.lists ≡ nodes + 1

@@ -14,9 +14,9 @@ answer_of (Ok given) = Ok given.0
 answer_of (Err why) = Err why
 
 -- the value after the call
-abbrev pub after : {V X : Type 0} → V → Given V X → V
-after v (Ok given) = given.1
-after v (Err why) = v
+abbrev pub value_after : {V X : Type 0} → V → Given V X → V
+value_after v (Ok given) = given.1
+value_after v (Err why) = v
 
 -- what goes on from an answer, where there is one
 abbrev pub and_then : {A B : Type 0} → (A → Result B Refusal) → Result A Refusal → Result B Refusal

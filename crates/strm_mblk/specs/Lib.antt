@@ -1,7 +1,9 @@
+pub mod Limits
 pub mod Messages
 pub mod Block
 pub mod Arena
 pub mod Given
+pub mod Frame
 pub mod Freeing
 pub mod BlockCalls
 pub mod Trimming

@@ -36,11 +36,11 @@ divided number h (b ∷ c ∷ rest) held = slice_set (slice_set held h (Some (b 
 
 -- ---- on a shelf, where `head` is the number that a message begins with
 
--- the messages once m stands before the one that begins with `at`, or last where that is none
-abbrev pub placed : {M : Type 0} → (M → ℕ) → Option ℕ → M → List M → List M
-placed head None m ms = ms ++ m ∷ []
-placed head (Some at) m [] = m ∷ []
-placed head (Some at) m (x ∷ xs) = if head x == at then m ∷ x ∷ xs else x ∷ placed head (Some at) m xs
+-- the messages once m stands before the one that begins with `at`, or last where none is given, or none begins so
+abbrev pub put_before_head : {M : Type 0} → (M → ℕ) → Option ℕ → M → List M → List M
+put_before_head head None m ms = ms ++ m ∷ []
+put_before_head head (Some at) m [] = m ∷ []
+put_before_head head (Some at) m (x ∷ xs) = if head x == at then m ∷ x ∷ xs else x ∷ put_before_head head (Some at) m xs
 
 -- the messages once the one that begins with h has left
 abbrev pub without_head : {M : Type 0} → (M → ℕ) → ℕ → List M → List M

@@ -1,9 +1,9 @@
 -- How bytes are pulled up into the first block of a message, step by step. No public clause cites this module.
-use Rattle.std.specs.Prelude.{ℕ, ◌+◌, ◌-◌, nat_le, List, [], ◌∷◌, length, Some, slice_set, if◌then◌else◌}
-use Rattle.strm_data.specs.declared.msg_type.MsgType.{MsgType}
-use Rattle.strm_data.specs.DataStore.{DataStore, take_data, with_data_taken, with_kind, with_bytes_written}
+use Rattle.std.specs.Prelude.{ℕ, ◌+◌, ◌-◌, nat_le, List, [], ◌∷◌, take, Some, slice_set, if◌then◌else◌}
+use Rattle.strm_data.specs.CountedStore.{CountedStore}
+use Rattle.strm_data.specs.DataStore.{take_data, with_bytes_written}
 use Rattle.strm_mblk.specs.Arena.{Arena, message_at}
-use Rattle.strm_mblk.specs.Block.{Block, Message, kind_of}
+use Rattle.strm_mblk.specs.Block.{Block, Message, bytes_of}
 use Rattle.strm_mblk.specs.Freeing.{with_name_dropped, with_block_freed, with_blocks_freed}
 use Rattle.strm_mblk.specs.Given.{Given, answer_map}
 use Rattle.strm_mblk.specs.Trimming.{left_over, pulled_into, used_up}
@@ -14,22 +14,13 @@ with_message h m a = record a { held = slice_set a.held h (Some m) }
 
 -- ---- the first block
 
--- the store once d is taken, of this type and with these bytes
-abbrev pub with_data_filled : MsgType → List ℕ → ℕ → DataStore → DataStore
-with_data_filled kind bytes d s = with_bytes_written d 0 bytes (with_kind d kind (with_data_taken d s))
+-- the store once the first n bytes of these blocks stand in d, from its first byte on
+abbrev pub with_front_copied : ℕ → ℕ → List Block → CountedStore → CountedStore
+with_front_copied d n bs s = record s { store = with_bytes_written d 0 (take n (bytes_of s.store bs)) s.store }
 
 -- a block that names d, from its first byte on
 abbrev pub over_data : ℕ → ℕ → Block → Block
 over_data d n b = record b { data_number = d; offset = 0; len = n }
-
--- the first block of the message at h names d, which has these bytes; its former data loses its name
-abbrev pub refilled : ℕ → List ℕ → Message → Arena → ℕ → Arena
-refilled h bytes [] a d = a
-refilled h bytes (b ∷ bs) a d =
-    with_name_dropped b.data_number [] (with_message h (over_data d (length bytes) b ∷ bs) (record a { store = with_data_filled (kind_of a.store b) bytes d a.store }))
-
-abbrev pub refill : ℕ → List ℕ → Arena → Given Arena (Unit {0})
-refill h bytes a = answer_map (λ d. (tt, refilled h bytes (message_at a h) a d)) (take_data (length bytes) a.store)
 
 -- the first block has the first n bytes of the message, and the others still have theirs
 abbrev pub gathered : ℕ → ℕ → Message → Arena → ℕ → Arena

@@ -4,7 +4,7 @@ use Rattle.std.specs.List.{flat_map, position}
 use Rattle.strm_links.specs.Rows as rows
 use Rattle.strm_mblk.specs.Arena.{Arena, message_at, shelf_at}
 use Rattle.strm_mblk.specs.Block.{Block, Message, head_of}
-use Rattle.strm_mblk.specs.Messages.{blocks_of, placed, with_head, without_head}
+use Rattle.strm_mblk.specs.Messages.{blocks_of, put_before_head, with_head, without_head}
 
 -- the heads of the messages on a shelf, front to back
 abbrev pub heads_at : Arena → ℕ → List ℕ
@@ -30,7 +30,7 @@ head_block a h = slice_get (shelved_message a h) 0
 abbrev pub shelve : ℕ → Option ℕ → ℕ → Arena → Arena
 shelve s before h a = record a {
   held = slice_set a.held h None;
-  shelves = slice_set a.shelves s (placed head_of before (message_at a h) (shelf_at a s));
+  shelves = slice_set a.shelves s (put_before_head head_of before (message_at a h) (shelf_at a s));
 }
 
 -- the message with head h leaves shelf s, and is held

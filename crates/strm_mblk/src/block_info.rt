@@ -13,6 +13,6 @@ pub struct BlockInfo {
     pub band: u8,
     /// How many bytes its data block has room for behind the write place.
     pub room: u32,
-    /// How many message blocks name its data block, 1 to 255.
+    /// How many message blocks name its data block, 1 to [`MOST_DATA_BLOCK_NAMES`](strm_data::MOST_DATA_BLOCK_NAMES).
     pub names: u8,
 }

@@ -5,8 +5,10 @@ ghost use Rattle.strm_data.specs.Classes.{are_lawful};
 ghost use Rattle.strm_data.specs.DataStore.{class_infos};
 ghost use Rattle.strm_data.specs.CountedStore.{IsKept};
 ghost use Rattle.strm_mblk.specs.Arena.{IsParted, IsWithin, blocks_in, census_of, counted_in, has, held_at, message_at, opening_arena, token_of};
+ghost use Rattle.strm_mblk.specs.Frame.{LeavesOthers, head_answered};
 ghost use Rattle.strm_mblk.specs.NodeLists.{nodes_at};
-ghost use Rattle.strm_mblk.specs.Given.{after, answer_of, answer_map};
+ghost use Rattle.strm_mblk.specs.Given.{value_after, answer_of, answer_map};
+ghost use Rattle.strm_mblk.specs.Limits.{most_message_blocks};
 
 mod alteration;
 #[cfg(test)]
@@ -101,8 +103,8 @@ impl Blocks {
     ghost use Rattle.strm_mblk.specs.BlockCalls as model;
 
     /// So many free message blocks, in rising order, over the data blocks of these classes, and so many empty shelves:
-    /// 0 to 4,095 message blocks, lawful classes as `Data::new` asks for them, and 0 to 255 shelves. Tokens will carry the
-    /// id.
+    /// 0 to `MOST_MESSAGE_BLOCKS` message blocks, lawful classes as `Data::new` asks for them, and 0 to 255 shelves. Tokens
+    /// will carry the id.
     ///
     /// Fails where the memory for them is refused, and then keeps none.
     pub fn new(
@@ -112,7 +114,7 @@ impl Blocks {
         classes: &[ClassSpec],
         shelves: u8,
     ) -> Result<Blocks, AllocError>
-        requires few_blocks { mblks < 4096 }
+        requires few_blocks { mblks ≤ most_message_blocks }
         requires classes { IsTrue (are_lawful classes.now) }
         ensures { IfOk result (λ a. a ≡ opening_arena id mblks classes.now shelves) }
     {
@@ -128,15 +130,15 @@ impl Blocks {
     /// The law of every `Blocks`, whatever calls made it so. Does nothing.
     pub fn lawful(&self)
         // Each message block is free, or in one message, held or on one shelf; each data block is free, or named by 1
-        // to 255 message blocks.
+        // to `MOST_DATA_BLOCK_NAMES` message blocks.
         ensures parted { IsParted self.now }
         // Data blocks are kept: the classes are lawful, each has as many data blocks as it says, and each of these is in
         // one and as long as that says.
         ensures kept { IsKept (counted_in self.now) }
         // The places of each block of a message lie in its data block.
         ensures within { All (IsWithin self.now.store) (blocks_in self.now) }
-        // Free, shelved and held message blocks are all there are, and no more than 4,095.
-        ensures few { length self.now.held < 4096 }
+        // Free, shelved and held message blocks are all there are, and no more than `MOST_MESSAGE_BLOCKS`.
+        ensures few { length self.now.held ≤ most_message_blocks }
         ensures whole { (census_of self.now).free + (census_of self.now).queued + (census_of self.now).held ≡ length self.now.held }
     {
         let _ = &self.chains;
@@ -186,17 +188,18 @@ impl Blocks {
     }
 
     /// Takes the first free message block, and a data block of `size` bytes or more, for a new message of no bytes, type
-    /// M_DATA and band 0. The data block is the first free one of the smallest class that fits and has one. Takes a step
-    /// for each class.
+    /// M_DATA and band 0. The data block is the first free one of the smallest class that fits and has one. Takes at most
+    /// a step for each class.
     ///
     /// Refused as `TooLarge` where the size is above the largest class, then as `NoMblk` where no message block is
     /// free, then as `NoData` where no data block is that fits; nothing changes then.
     pub fn allocb(&mut self, size: u32) -> Result<Token, Refusal>
-        ensures after { self.new ≡ after self.old (model.allocb size self.old) }
+        ensures after { self.new ≡ value_after self.old (model.allocb size self.old) }
         ensures token { result ≡ answer_map (token_of self.new) (answer_of (model.allocb size self.old)) }
-        // The token is one of these blocks, and no held message had its head.
+        // The token is of these blocks, and no held message had its head.
         ensures had { IfOk result (λ token. IsTrue (has self.new token)) }
         ensures unheld { IfOk result (λ token. held_at self.old token.head ≡ None) }
+        ensures others { LeavesOthers (head_answered result) self.old self.new }
     {
         if !self.data.has_class_for(size) {
             return Err(Refusal::TooLarge);

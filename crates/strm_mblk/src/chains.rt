@@ -1,10 +1,11 @@
 //! Messages as chains of message blocks, linked by number, and which of the message blocks are free.
 ghost use Rattle.std.specs.Prelude.{◌≡◌, ◌≢◌, ℕ, ◌+◌, ◌<◌, ◌≤◌, ◌++◌, IfOk, IfSome, IsSome, IsTrue, None, Some, [], ◌∷◌, drop, is_some, length, reverse, slice_get, slice_index_or, slice_set, take};
 ghost use Rattle.std.specs.Option.{ForSome};
-ghost use Rattle.strm_links.specs.Rows.{after, before, first, has, holder, last, list_at, without};
+ghost use Rattle.strm_links.specs.Rows.{IsParting, after, before, first, has, holder, last, list_at, without};
 ghost use Rattle.strm_mblk.specs.ChainLayout.{put_in};
-ghost use Rattle.strm_mblk.specs.Messages.{divided, held_in, joined, placed, shelf_in, with_head, without_head};
+ghost use Rattle.strm_mblk.specs.Messages.{divided, held_in, joined, put_before_head, shelf_in, with_head, without_head};
 ghost use Rattle.strm_mblk.specs.NodeLists.{IsNodesParted, after_begin, head_node, heads_on, nodes_at, opening_nodes, shelved_nodes};
+ghost use Rattle.strm_mblk.specs.Limits.{most_message_blocks};
 
 #[cfg(test)]
 pub(crate) mod beside;
@@ -15,8 +16,6 @@ use strm_links::Links;
 
 // A fixed number of message blocks, each of which is free or stands in one message. A message is held, or stands on
 // one shelf, and is named by the number of its first block, its head. Only `new` takes memory.
-//
-// Each call that changes a list ends with the law `parts_nodes` of that arena, which does nothing.
 #[derive(Debug, Drop)]
 pub(crate) struct Chains {
     // List h is the chain of the message with head h. The last list is that of the free message blocks.
@@ -45,11 +44,12 @@ fn place(heads: &mut Links, list: u32, before: Option<u32>, node: u32)
     requires node { node < heads.old.nodes }
     requires free { holder node heads.old ≡ None }
     requires before { ForSome before (λ at. holder at heads.old ≡ Some list) }
+    requires parting { IsParting heads.old }
     ensures lists { heads.new ≡ record heads.old { lists = slice_set heads.old.lists list (put_in before node (list_at list heads.old)) } }
     ensures held { holder node heads.new ≡ Some list }
     ensures others { (k : ℕ) → k ≢ node → holder k heads.new ≡ holder k heads.old }
+    ensures parting { IsParting heads.new }
 {
-    heads.parts_nodes();
     match before {
         Some(at) => heads.insert_before(at, node),
         None => heads.push_back(list, node),
@@ -61,15 +61,16 @@ fn pour(chains: &mut Links, from: u32, to: u32)
     requires from { from < length chains.old.lists }
     requires to { to < length chains.old.lists }
     requires other { from ≢ to }
+    requires parting { IsParting chains.old }
     ensures emptied { list_at from chains.new ≡ [] }
     ensures poured { list_at to chains.new ≡ reverse (list_at from chains.old) ++ list_at to chains.old }
     ensures others { (l : ℕ) → l ≢ from → l ≢ to → list_at l chains.new ≡ list_at l chains.old }
     ensures linked { (k : ℕ) → IsSome (holder k chains.old) → IsSome (holder k chains.new) }
     ensures nodes { chains.new.nodes ≡ chains.old.nodes }
     ensures lists { length chains.new.lists ≡ length chains.old.lists }
+    ensures parting { IsParting chains.new }
 {
     while let Some(node) = chains.front(from) {
-        chains.parts_nodes();
         chains.remove(node);
         chains.push_front(to, node);
     }
@@ -78,8 +79,8 @@ fn pour(chains: &mut Links, from: u32, to: u32)
 impl Chains {
     // So many free message blocks, in rising order, and so many empty shelves.
     pub(crate) fn new(alloc: Global, nodes: u32, shelves: u32) -> Result<Chains, AllocError>
-        requires few_nodes { nodes < 4096 }
-        requires few_shelves { shelves < 4096 }
+        requires few_nodes { nodes ≤ most_message_blocks }
+        requires few_shelves { shelves < 256 }
         ensures opened { IfOk result (λ v. v ≡ opening_nodes nodes shelves) }
         ensures parted { IfOk result IsNodesParted }
     {
@@ -88,8 +89,6 @@ impl Chains {
             chains.push_back(nodes, node);
         }
         let heads = Links::new(alloc, nodes, shelves + 1)?;
-        chains.parts_nodes();
-        heads.parts_nodes();
         Ok(Chains {
             chains,
             heads,
@@ -162,8 +161,6 @@ impl Chains {
         self.chains.remove(first);
         self.chains.push_back(first, first);
         self.heads.push_back(self.shelves, first);
-        self.chains.parts_nodes();
-        self.heads.parts_nodes();
         Some(first)
     }
 
@@ -177,8 +174,6 @@ impl Chains {
     {
         self.heads.remove(tail);
         self.chains.append(head, tail);
-        self.chains.parts_nodes();
-        self.heads.parts_nodes();
     }
 
     // Makes the first `count` free message blocks one held message, in their order, and names its head.
@@ -210,8 +205,6 @@ impl Chains {
         self.chains.append(rest, head);
         self.chains.push_back(head, head);
         self.heads.push_back(self.shelves, rest);
-        self.chains.parts_nodes();
-        self.heads.parts_nodes();
         Some(rest)
     }
 
@@ -226,8 +219,6 @@ impl Chains {
         self.chains.remove(node);
         self.chains.push_back(node, node);
         self.heads.push_back(self.shelves, node);
-        self.chains.parts_nodes();
-        self.heads.parts_nodes();
     }
 
     // Frees the blocks of a held message, first to last, each to the front of the free ones.
@@ -238,8 +229,6 @@ impl Chains {
     {
         self.heads.remove(head);
         pour(&mut self.chains, head, self.nodes);
-        self.chains.parts_nodes();
-        self.heads.parts_nodes();
     }
 
     // The head of the first message on a shelf, if there is one.
@@ -281,13 +270,12 @@ impl Chains {
         requires before { ForSome before (λ at. IsTrue (has at (heads_on self.old shelf))) }
         ensures after { self.new ≡ record self.old {
           held = slice_set self.old.held head None;
-          shelves = slice_set self.old.shelves shelf (placed head_node before (nodes_at self.old head) (shelf_in self.old.shelves shelf));
+          shelves = slice_set self.old.shelves shelf (put_before_head head_node before (nodes_at self.old head) (shelf_in self.old.shelves shelf));
         } }
         ensures parted { IsNodesParted self.new }
     {
         self.heads.remove(head);
         place(&mut self.heads, shelf, before, head);
-        self.heads.parts_nodes();
     }
 
     // Takes a message off the shelf that it stands on, and holds it.
@@ -302,6 +290,5 @@ impl Chains {
     {
         self.heads.remove(head);
         self.heads.push_back(self.shelves, head);
-        self.heads.parts_nodes();
     }
 }

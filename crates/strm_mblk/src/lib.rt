@@ -5,12 +5,14 @@ mod block_info;
 mod blocks;
 mod census;
 mod chains;
+mod limits;
 mod rejected;
 mod token;
 
 pub use block_info::BlockInfo;
 pub use blocks::{BlockNo, Blocks};
 pub use census::Census;
+pub use limits::MOST_MESSAGE_BLOCKS;
 pub use rejected::Rejected;
 pub use token::{Token, TokenValue};
 

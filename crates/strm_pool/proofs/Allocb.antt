@@ -22,9 +22,9 @@ use Rattle.strm_data.specs.Classes.{fits_a_class}
 use Rattle.strm_data.proofs.Times.{one_if, times-cons}
 use Rattle.strm_pool.specs.PoolLayout.{message_of, arena_of, pool_value, IsSound}
 use Rattle.strm_pool.specs.PoolValue.{PoolValue, on_arena, allocb}
-use Rattle.strm_mblk.proofs.Moves.{within, not_held, allocated}
+use Rattle.strm_mblk.proofs.arena.Moves.{within, not_held, allocated}
 use Rattle.strm_pool.proofs.PoolMoves.{IsPlain, counted_by, held_at-is, held-set, same_arena, sound_from}
-use Rattle.strm_mblk.proofs.Rooms.{count_of-set}
+use Rattle.strm_mblk.proofs.layout.Rooms.{count_of-set}
 
 -- a data block that is taken is of type M_DATA, and the others stay
 plain_taken : (d : ℕ) (s : DataStore) → IsPlain s → IsPlain (with_data_taken d s)

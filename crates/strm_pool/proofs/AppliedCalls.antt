@@ -12,7 +12,7 @@ use Rattle.strm_pool.specs.declared.reply.Reply.TheVariants.{Done, Refused}
 use Rattle.strm_mblk.specs.declared.token.TokenValue.{TokenValue}
 use Rattle.strm_mblk.specs.Freeing as freeing
 use Rattle.strm_mblk.specs.Arena.{Arena, has, is_of_length, held_at, token_of}
-use Rattle.strm_mblk.specs.Given.{after, answer_of}
+use Rattle.strm_mblk.specs.Given.{value_after, answer_of}
 use Rattle.strm_pool.specs.PoolValue.{PoolValue, owns, spent, rejecting, allocb, write, putq, getq, freemsg}
 use Rattle.strm_pool.specs.Queue.{has_queue}
 use Rattle.strm_pool.specs.Registers.{RegisterTable, register, table_of, AreDistinct}
@@ -41,11 +41,11 @@ named_one x y =
     ]
 
 pub applied_allocb : (v w : PoolValue) (rs : List (Option TokenValue)) (x size : ℕ) (token : TokenValue) → owns v rs ≡ true → is_some (register rs x) ≡ false → x < length rs
-    → w ≡ after v (allocb size v) → Ok token ≡ result_map_both (token_of w.arena) (λ (why : Refusal). why) (answer_of (allocb size v)) → has w.arena token ≡ true → held_at v.arena token.head ≡ None
+    → w ≡ value_after v (allocb size v) → Ok token ≡ result_map_both (token_of w.arena) (λ (why : Refusal). why) (answer_of (allocb size v)) → has w.arena token ≡ true → held_at v.arena token.head ≡ None
     → Applies v rs (Allocb x size) w (set rs x (Some token)) Done
 applied_allocb v w rs x size token owned free inside is answer had unheld =
     let given = given_by w.arena token (allocb size v) answer in
-    let same : w ≡ given.0 = is ∙ ap (after v) given.1 in
+    let same : w ≡ given.0 = is ∙ ap (value_after v) given.1 in
     let leaves : Leaves v.arena w.arena token.head = subst (λ (u : PoolValue). Leaves v.arena u.arena token.head) (sym same) (allocb_leaves v given.0 size token.head given.1) in
     applies_at v w rs (Allocb x size) x token.head (Some token) Done owned inside leaves.id leaves.others
     (λ y t other was has_t distinct head. held_has v.arena t has_t (ap (held_at v.arena) head ∙ unheld))
@@ -69,11 +69,11 @@ leaves_at : {v w u : PoolValue} {h : ℕ} → w ≡ u → Leaves v.arena u.arena
 leaves_at {v} {w} {u} {h} same leaves = subst (λ (p : PoolValue). Leaves v.arena p.arena h) (sym same) leaves
 
 pub applied_getq : (v w : PoolValue) (rs : List (Option TokenValue)) (q x : ℕ) (token : TokenValue) → owns v rs ≡ true → has_queue v.arena q ≡ true → is_some (register rs x) ≡ false → x < length rs
-    → w ≡ after v (getq q v) → Ok (Some token) ≡ result_map_both (option_map (token_of w.arena)) (λ (why : Refusal). why) (answer_of (getq q v)) → has w.arena token ≡ true → held_at v.arena token.head ≡ None
+    → w ≡ value_after v (getq q v) → Ok (Some token) ≡ result_map_both (option_map (token_of w.arena)) (λ (why : Refusal). why) (answer_of (getq q v)) → has w.arena token ≡ true → held_at v.arena token.head ≡ None
     → Applies v rs (Getq q x) w (set rs x (Some token)) Done
 applied_getq v w rs q x token owned there free inside is answer had unheld =
     let given = given_some_by w.arena token (getq q v) answer in
-    let same : w ≡ given.0 = is ∙ ap (after v) given.1 in
+    let same : w ≡ given.0 = is ∙ ap (value_after v) given.1 in
     let leaves : Leaves v.arena w.arena token.head = leaves_at same (getq_leaves v given.0 q token.head given.1) in
     applies_at v w rs (Getq q x) x token.head (Some token) Done owned inside leaves.id leaves.others
     (λ y t other was has_t distinct head. held_has v.arena t has_t (ap (held_at v.arena) head ∙ unheld))
@@ -83,10 +83,10 @@ applied_getq v w rs q x token owned there free inside is answer had unheld =
     ∙ ap (λ (u : PoolValue). with_register x (Some token.head) u (table_of rs) Done) (sym same))
 
 pub applied_putq : (v w : PoolValue) (rs : List (Option TokenValue)) (q x : ℕ) (token : TokenValue) → owns v rs ≡ true → has_queue v.arena q ≡ true → register rs x ≡ Some token → x < length rs
-    → w ≡ after v (putq q token.head v) → Ok tt ≡ rejecting token (answer_of (putq q token.head v)) → Applies v rs (Putq q x) w (set rs x None) Done
+    → w ≡ value_after v (putq q token.head v) → Ok tt ≡ rejecting token (answer_of (putq q token.head v)) → Applies v rs (Putq q x) w (set rs x None) Done
 applied_putq v w rs q x token owned there held inside is answer =
     let given = spent_by token (putq q token.head v) answer in
-    let same : w ≡ given.0 = is ∙ ap (after v) given.1 in
+    let same : w ≡ given.0 = is ∙ ap (value_after v) given.1 in
     let leaves : Leaves v.arena w.arena token.head = leaves_at same (putq_leaves v given.0 q token.head given.1) in
     applies_at v w rs (Putq q x) x token.head None Done owned inside leaves.id leaves.others
     (λ y t other was _ distinct. others_apart rs x token held distinct y t other was)
@@ -113,10 +113,10 @@ pub put_back : (rs : List (Option TokenValue)) (x : ℕ) (token : TokenValue) �
 put_back rs x token held = set-set rs x None (Some token) ∙ ap (set rs x) (sym held) ∙ set-get_or rs x None
 
 pub applied_write : (v w : PoolValue) (rs : List (Option TokenValue)) (x k : ℕ) (bytes : List ℕ) (token : TokenValue) → owns v rs ≡ true → register rs x ≡ Some token → x < length rs
-    → w ≡ after v (write token.head k bytes v) → Ok tt ≡ answer_of (write token.head k bytes v) → has w.arena token ≡ true → Applies v rs (Write x k bytes) w rs Done
+    → w ≡ value_after v (write token.head k bytes v) → Ok tt ≡ answer_of (write token.head k bytes v) → has w.arena token ≡ true → Applies v rs (Write x k bytes) w rs Done
 applied_write v w rs x k bytes token owned held inside is answer had =
     let given = done_by (write token.head k bytes v) answer in
-    let same : w ≡ given.0 = is ∙ ap (after v) given.1 in
+    let same : w ≡ given.0 = is ∙ ap (value_after v) given.1 in
     let leaves : Leaves v.arena w.arena token.head = leaves_at same (write_leaves v given.0 token.head k bytes given.1) in
     let whole : set (table_of rs) x (Some token.head) ≡ table_of rs = ap (set (table_of rs) x) (sym (table_held rs x token held)) ∙ set-get_or (table_of rs) x None in
     subst (λ (ss : List (Option TokenValue)). Applies v rs (Write x k bytes) w ss Done) (ap (set rs x) (sym held) ∙ set-get_or rs x None)
@@ -129,8 +129,8 @@ applied_write v w rs x k bytes token owned held inside is answer had =
     ∙ ap (λ (t : RegisterTable). let s : Stepped = record { pool = w; table = t; reply = Done } in s) (sym whole)))
 
 pub applied_write_refused : (v w : PoolValue) (rs : List (Option TokenValue)) (x k : ℕ) (bytes : List ℕ) (token : TokenValue) (why : Refusal) → owns v rs ≡ true → register rs x ≡ Some token
-    → w ≡ after v (write token.head k bytes v) → Err why ≡ answer_of (write token.head k bytes v) → Applies v rs (Write x k bytes) w rs (Refused why)
+    → w ≡ value_after v (write token.head k bytes v) → Err why ≡ answer_of (write token.head k bytes v) → Applies v rs (Write x k bytes) w rs (Refused why)
 applied_write_refused v w rs x k bytes token why owned held is answer =
     let refused = refused_by why (write token.head k bytes v) answer in
-    subst (λ (u : PoolValue). Applies v rs (Write x k bytes) u rs (Refused why)) (sym (is ∙ ap (after v) refused))
+    subst (λ (u : PoolValue). Applies v rs (Write x k bytes) u rs (Refused why)) (sym (is ∙ ap (value_after v) refused))
     (applies_nothing v rs (Write x k bytes) (Refused why) owned (step-write_refused v (table_of rs) x token.head k bytes why (table_held rs x token held) refused))

@@ -10,7 +10,7 @@ use Rattle.strm_pool.specs.declared.pool.Pool.TheInside.{Inside}
 use Rattle.strm_mblk.specs.Block.{Message}
 use Rattle.strm_mblk.specs.Arena.{shelved_blocks, held_blocks}
 use Rattle.strm_pool.specs.PoolLayout.{message_of, arena_of, IsSound}
-use Rattle.strm_mblk.proofs.Moves.{makes_arena}
+use Rattle.strm_mblk.proofs.arena.Moves.{makes_arena}
 use Rattle.strm_pool.proofs.PoolMoves.{counted_by, length-singles}
 
 pub shelved_by : (qs : List (VecDeque Block Global)) → length (flat_map (flat_map (λ (m : Message). m)) (map (λ (q : VecDeque Block Global). map message_of q.items) qs)) ≡ sum_by (λ (q : VecDeque Block Global). deque_len q) qs

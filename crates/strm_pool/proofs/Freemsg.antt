@@ -16,11 +16,11 @@ use Rattle.strm_mblk.specs.Freeing.{with_blocks_freed, freemsg}
 use Rattle.strm_data.specs.CountedStore.{CountedStore, IsKept, IsInUse, count_of, without_name}
 use Rattle.strm_data.specs.DataStore.{DataStore, with_data_freed}
 use Rattle.strm_data.proofs.Times.{one_if}
-use Rattle.strm_mblk.proofs.Rooms.{count_of-set}
+use Rattle.strm_mblk.proofs.layout.Rooms.{count_of-set}
 use Rattle.strm_pool.specs.PoolLayout.{message_of, arena_of, pool_value, IsSound}
 use Rattle.strm_pool.specs.PoolValue.{PoolValue, spent}
 use Rattle.strm_mblk.specs.declared.token.TokenValue.{TokenValue}
-use Rattle.strm_mblk.proofs.Moves.{out_of_held, count_one, freed_one, room_to_free}
+use Rattle.strm_mblk.proofs.arena.Moves.{out_of_held, count_one, freed_one, room_to_free}
 use Rattle.strm_pool.proofs.PoolMoves.{IsPlain, counted_by, held_at-is, held-set, same_arena, sound_from}
 
 -- a data block that is named is there

@@ -13,7 +13,7 @@ use Rattle.strm_mblk.specs.Block.{Message, head_of}
 use Rattle.strm_mblk.specs.Arena.{Arena, held_at, shelf_at, with_held, with_shelf}
 use Rattle.strm_pool.specs.PoolLayout.{message_of, arena_of, pool_value, IsSound}
 use Rattle.strm_pool.specs.PoolValue.{PoolValue, getq}
-use Rattle.strm_mblk.proofs.Moves.{head_within, head_absent, got_first}
+use Rattle.strm_mblk.proofs.arena.Moves.{head_within, head_absent, got_first}
 use Rattle.strm_pool.proofs.PoolMoves.{counted_by, held_at-is, shelf_at-is, held-set, shelves-set, same_arena, sound_from}
 
 -- what the model gives where the queue has a first message, and where it is empty

@@ -1,3 +1,4 @@
+pub mod Constants
 pub mod PoolMoves
 pub mod Getq
 pub mod Freemsg

@@ -21,6 +21,7 @@ use Rattle.strm_mblk.specs.Arena.{opening_arena}
 use Rattle.strm_data.proofs.Times.{times_below}
 use Rattle.strm_data.proofs.Repeated.{copies-at, flat_map-replicate, map-replicate}
 use Rattle.std.proofs.lemmas.Simd.{map-map}
+use Rattle.strm_mblk.specs.Limits.{most_message_blocks}
 use Rattle.strm_pool.proofs.PoolMoves.{IsPlain, same_arena}
 
 -- an arena that has just been opened has no messages
@@ -62,7 +63,7 @@ module _ (mblks queues : ℕ) (classes : List ClassSpec) (a : Inside) (store_is 
   no_blocks : blocks_in (arena_of a) ≡ []
   no_blocks = ap blocks_in opened_shows ∙ opened_empty a.id mblks classes queues
 
-  pub opened_sound : IsKept a.store → mblks ≤ 4095 → mblks ≤ deque_capacity a.free → All (λ (q : VecDeque Block Global). mblks ≤ deque_capacity q) a.queues.items → IsSound a
+  pub opened_sound : IsKept a.store → mblks ≤ most_message_blocks → mblks ≤ deque_capacity a.free → All (λ (q : VecDeque Block Global). mblks ≤ deque_capacity q) a.queues.items → IsSound a
   opened_sound kept few room rooms =
       let long : length a.held.items ≡ mblks = ap length held_is ∙ length-replicate mblks None in
       let shown : length (arena_of a).held ≡ mblks = length-map a.held.items (option_map message_of) ∙ long in

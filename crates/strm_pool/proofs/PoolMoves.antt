@@ -21,10 +21,10 @@ use Rattle.strm_data.specs.CountedStore.{IsKept, count_of}
 use Rattle.strm_data.specs.DataStore.{DataStore, data_block_at}
 use Rattle.strm_pool.specs.Queue.{rank_of, as_queued, put_behind, put_on}
 use Rattle.strm_pool.specs.PoolLayout.{message_of, arena_of, pool_value, IsSound}
-use Rattle.strm_mblk.specs.Given.{Given, after, answer_of}
+use Rattle.strm_mblk.specs.Given.{Given, value_after, answer_of}
 use Rattle.strm_pool.specs.PoolValue.{PoolValue, putq}
 use Rattle.strm_mblk.specs.declared.token.TokenValue.{TokenValue}
-use Rattle.strm_mblk.proofs.Moves.{IsCounted, put_last, room_on_shelf}
+use Rattle.strm_mblk.proofs.arena.Moves.{IsCounted, put_last, room_on_shelf}
 
 pub counted_by : (a : Inside) → IsSound a → IsCounted (arena_of a) a.store
 counted_by a sound = record { numbers = sound.numbers; heads = sound.heads; counts = sound.counts }
@@ -97,14 +97,14 @@ held_block a v t {h} {b} {slot} shown had same read is =
     sym (get_or_read a.held.items h slot (omega arith) read None) ∙ is
 
 -- what a call gives the fields' pool, it gives the pool, which is the same
-pub settles : {X : Type 0} (call : PoolValue → Given PoolValue X) {v w new : PoolValue} {x : X} → v ≡ w → call v ≡ Ok (x, new) → (new ≡ after w (call w)) × (answer_of (call w) ≡ Ok x)
+pub settles : {X : Type 0} (call : PoolValue → Given PoolValue X) {v w new : PoolValue} {x : X} → v ≡ w → call v ≡ Ok (x, new) → (new ≡ value_after w (call w)) × (answer_of (call w) ≡ Ok x)
 settles call {v} {w} {new} {x} same given =
-    subst (λ (u : PoolValue). (new ≡ after u (call u)) × (answer_of (call u) ≡ Ok x)) same (sym (ap (after v) given), ap answer_of given)
+    subst (λ (u : PoolValue). (new ≡ value_after u (call u)) × (answer_of (call u) ≡ Ok x)) same (sym (ap (value_after v) given), ap answer_of given)
 
 -- the same where the call is refused
-pub refuses : {X : Type 0} (call : PoolValue → Given PoolValue X) {v w : PoolValue} {why : Refusal} → v ≡ w → call v ≡ Err why → (w ≡ after w (call w)) × (answer_of (call w) ≡ Err why)
+pub refuses : {X : Type 0} (call : PoolValue → Given PoolValue X) {v w : PoolValue} {why : Refusal} → v ≡ w → call v ≡ Err why → (w ≡ value_after w (call w)) × (answer_of (call w) ≡ Err why)
 refuses call {v} {w} {why} same given =
-    subst (λ (u : PoolValue). (u ≡ after u (call u)) × (answer_of (call u) ≡ Err why)) same (sym (ap (after v) given), ap answer_of given)
+    subst (λ (u : PoolValue). (u ≡ value_after u (call u)) × (answer_of (call u) ≡ Err why)) same (sym (ap (value_after v) given), ap answer_of given)
 
 -- the token of a held message of one block
 pub token_is : (x : Arena) (h : ℕ) (b : Block) → held_at x h ≡ Some (message_of b) → let t : TokenValue = record { pool = x.id; head = h; blocks = 1 } in t ≡ token_of x h
@@ -138,7 +138,7 @@ put_on-is x q b items plain is =
 
 -- what the model gives where the queue and the message are there
 pub putq-there : (v : PoolValue) (q h : ℕ) (m : Message) → q < length v.arena.shelves → held_at v.arena h ≡ Some m
-    → after v (putq q h v) ≡ record { arena = put_on q m (without_held h v.arena) }
+    → value_after v (putq q h v) ≡ record { arena = put_on q m (without_held h v.arena) }
 putq-there v q h m inside is = rw (lt-ltb q (length v.arena.shelves) inside, is) refl
 
 -- ---- putq
@@ -182,7 +182,7 @@ module _ (a : Inside) (sound : IsSound a) (q h : ℕ) (b : Block) (old : VecDequ
         (rw queues_is (All-set (λ x. vec_len a.held ≤ deque_capacity x) a.queues.items q new (omega (arith, sound.queue_room q old inside, ap deque_capacity was)) sound.queue_room))
 
     -- the pool is as the model says
-    pub put_value : pool_value put_fields ≡ after (pool_value a) (putq q h (pool_value a))
+    pub put_value : pool_value put_fields ≡ value_after (pool_value a) (putq q h (pool_value a))
     put_value =
         ap (λ x. record { arena = x }) (put_shows ∙ sym (put_on-is (without_held h (arena_of a)) q b (get_or a.queues.items q old).items sound.plain (shelf_at-is a q old inside)))
         ∙ sym (putq-there (pool_value a) q h (message_of b) put_within put_held)

@@ -20,7 +20,7 @@ use Rattle.strm_pool.specs.PoolValue.{PoolValue, on_arena, allocb, write, putq, 
 use Rattle.strm_pool.specs.Queue.{has_queue, got_from}
 use Rattle.strm_pool.specs.Queue as queue
 use Rattle.strm_pool.specs.Registers.{RegisterTable, register}
-use Rattle.strm_pool.specs.Step.{step, replying, with_register, spending, keeping, holding_any, head_in}
+use Rattle.strm_pool.specs.Step.{step, replying, with_register, spending, keeping, holding_any, head_held}
 
 -- b has the id of a, and its held messages, save the one at h
 pub record Leaves (a b : Arena) (h : ℕ) : Type 0 where
@@ -100,7 +100,7 @@ spent_by token (Err why) is = absurd (err_not_ok _ _ (sym is))
 
 pub step-putq : (v w : PoolValue) (t : RegisterTable) (q x h : ℕ) → has_queue v.arena q ≡ true → register t x ≡ Some h → putq q h v ≡ Ok (tt, w) → step v t (Putq q x) ≡ with_register x None w t Done
 step-putq v w t q x h there held given =
-    ap (λ (b : Bool). if not b then replying v t (Refused NoSuchQueue) else (if is_none (register t x) || false then replying v t Empty else spending x v t (putq q (head_in t x) v))) there
+    ap (λ (b : Bool). if not b then replying v t (Refused NoSuchQueue) else (if is_none (register t x) || false then replying v t Empty else spending x v t (putq q (head_held t x) v))) there
     ∙ ap (λ (o : Option ℕ). if is_none o || false then replying v t Empty else spending x v t (putq q (unwrap_or o 0) v)) held
     ∙ ap (spending x v t) given
 

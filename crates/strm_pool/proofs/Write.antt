@@ -17,7 +17,7 @@ use Rattle.strm_data.proofs.Times.{one_if}
 use Rattle.strm_pool.specs.PoolLayout.{message_of, arena_of, IsSound}
 use Rattle.strm_pool.specs.PoolValue.{PoolValue, write}
 use Rattle.strm_mblk.specs.declared.token.TokenValue.{TokenValue}
-use Rattle.strm_mblk.proofs.Moves.{count_one, rewritten}
+use Rattle.strm_mblk.proofs.arena.Moves.{count_one, rewritten}
 use Rattle.strm_pool.proofs.PoolMoves.{has_within, counted_by, held_at-is, held-set, same_arena, sound_from}
 use Rattle.strm_pool.proofs.Freemsg.{free_held}
 

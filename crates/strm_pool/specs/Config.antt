@@ -2,10 +2,13 @@
 use Rattle.std.specs.Prelude.{ℕ, Bool, true, false, not, ◌&&◌, ◌||◌, ◌==◌, nat_lt, nat_le, List, length, count_by, Option, Some, None, if◌then◌else◌, codes}
 use Rattle.std.specs.List.{list_all, list_any, enumerate_from}
 use Rattle.strm_data.specs.Classes.{sizes_rise, each_has_blocks, total_of}
+use Rattle.strm_data.specs.Limits.{most_data_blocks}
+use Rattle.strm_mblk.specs.Limits.{most_message_blocks}
 use Rattle.strm_pool.specs.declared.queue_spec.QueueSpec.{QueueSpec}
 use Rattle.strm_pool.specs.declared.config.Config.{Config}
 use Rattle.strm_pool.specs.declared.config.Which.{Which}
 use Rattle.strm_pool.specs.declared.config.Which.TheVariants.{Mblks, Classes, ClassSize, ClassTotal, Queues, Marks, Next, Bufcalls, FirstId}
+use Rattle.strm_pool.specs.Limits.{most_wishes}
 
 abbrev pub name_of : Which → List ℕ
 name_of Mblks = codes "Mblks"
@@ -45,12 +48,12 @@ is_nil xs = length xs == 0
 -- the first fault of a configuration, in the order of `Which`
 abbrev pub fault_of : Config → Option Which
 fault_of c =
-    if not (nat_le 1 c.mblks && nat_le c.mblks 4095) then Some Mblks
+    if not (nat_le 1 c.mblks && nat_le c.mblks most_message_blocks) then Some Mblks
     else (if is_nil c.classes then Some Classes
     else (if not (sizes_rise 0 c.classes) then Some ClassSize
-    else (if not (each_has_blocks c.classes) || nat_lt 4095 (total_of c.classes) then Some ClassTotal
+    else (if not (each_has_blocks c.classes) || nat_lt most_data_blocks (total_of c.classes) then Some ClassTotal
     else (if is_nil c.queues then Some Queues
     else (if marks_meet c.queues then Some Marks
     else (if not (nexts_fit c.queues) then Some Next
-    else (if nat_lt 64 c.bufcalls then Some Bufcalls
+    else (if nat_lt most_wishes c.bufcalls then Some Bufcalls
     else (if c.first_id == 0 then Some FirstId else None))))))))

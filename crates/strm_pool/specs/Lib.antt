@@ -1,3 +1,4 @@
+pub mod Limits
 pub mod Config
 pub mod Registers
 pub mod Queue

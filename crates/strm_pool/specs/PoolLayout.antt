@@ -10,6 +10,7 @@ use Rattle.strm_mblk.specs.Block.{Message, head_of, numbers_of}
 use Rattle.strm_mblk.specs.Arena.{Arena, held_at, blocks_in, names_of}
 use Rattle.strm_data.specs.CountedStore.{count_of, IsKept}
 use Rattle.strm_data.specs.DataStore.{times, data_block_at}
+use Rattle.strm_mblk.specs.Limits.{most_message_blocks}
 use Rattle.strm_pool.specs.PoolValue.{PoolValue}
 
 -- each message is one block; no call of this crate raises a read place or gives a band
@@ -28,9 +29,8 @@ arena_of a = record {
 abbrev pub pool_value : Inside → PoolValue
 pool_value a = record { arena = arena_of a }
 
--- each block stands once, a held message at its head; counts are names, one at most; every data block is of
--- type M_DATA;
--- and there is room for every block wherever it may go
+-- each block stands once, a held message at its head; counts are names, one at most; every data block is of type
+-- M_DATA; and there is room for every block wherever it may go
 pub record IsSound (a : Inside) : Type 0 where
   pub kept : IsKept a.store
   pub numbers : (n : ℕ) → times n (a.free.items ++ numbers_of (blocks_in (arena_of a))) ≡ (if nat_lt n (length (arena_of a).held) then 1 else 0)
@@ -40,4 +40,4 @@ pub record IsSound (a : Inside) : Type 0 where
   pub plain : (d : ℕ) → (data_block_at a.store.store d).kind ≡ MData
   pub free_room : vec_len a.held ≤ deque_capacity a.free
   pub queue_room : All (λ q. vec_len a.held ≤ deque_capacity q) a.queues.items
-  pub few : vec_len a.held ≤ 4095
+  pub few : vec_len a.held ≤ most_message_blocks

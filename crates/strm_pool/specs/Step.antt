@@ -14,6 +14,7 @@ use Rattle.strm_pool.specs.PoolValue.{PoolValue, owns, allocb, write, putq, getq
 use Rattle.strm_pool.specs.Queue.{has_queue}
 use Rattle.strm_pool.specs.Registers.{RegisterTable, register, table_of, AreDistinct}
 use Rattle.strm_mblk.specs.declared.token.TokenValue.{TokenValue}
+use Rattle.strm_pool.specs.Limits.{most_registers}
 
 -- a pool and a register table after a call, and the reply to it
 pub record Stepped : Type 0 where
@@ -74,8 +75,8 @@ abbrev pub with_register : ℕ → Option ℕ → PoolValue → RegisterTable �
 with_register x h v t reply = record { pool = v; table = slice_set t x h; reply = reply }
 
 -- the head of the message whose token the register holds
-abbrev pub head_in : RegisterTable → ℕ → ℕ
-head_in t x = unwrap_or (register t x) 0
+abbrev pub head_held : RegisterTable → ℕ → ℕ
+head_held t x = unwrap_or (register t x) 0
 
 -- the call gave a token
 abbrev pub holding : ℕ → PoolValue → RegisterTable → Given PoolValue ℕ → Stepped
@@ -101,10 +102,10 @@ spending x v t (Err why) = replying v t (Refused why)
 -- what a call does whose queue, sources and destinations are as they must be
 abbrev pub act : PoolValue → RegisterTable → Call → Stepped
 act v t (Allocb x size) = holding x v t (allocb size v)
-act v t (Write x k bytes) = keeping v t (write (head_in t x) k bytes v)
-act v t (Putq q x) = spending x v t (putq q (head_in t x) v)
+act v t (Write x k bytes) = keeping v t (write (head_held t x) k bytes v)
+act v t (Putq q x) = spending x v t (putq q (head_held t x) v)
 act v t (Getq q x) = holding_any x v t (getq q v)
-act v t (Freemsg x) = with_register x None (freemsg (head_in t x) v) t Done
+act v t (Freemsg x) = with_register x None (freemsg (head_held t x) v) t Done
 act v t Census = replying v t (replies.Census (census_of v.arena))
 
 -- one call: a queue that is not there comes first, then a source that holds nothing, then a destination that
@@ -151,7 +152,7 @@ with_reply reply rest = record rest { replies = reply ∷ rest.replies }
 
 -- so many desks' tables, all registers empty
 abbrev pub empty_tables : ℕ → List RegisterTable
-empty_tables desks = replicate desks (replicate 26 None)
+empty_tables desks = replicate desks (replicate most_registers None)
 
 -- the calls, one after another, each on its own desk's table
 abbrev pub replay_from : PoolValue → List RegisterTable → List Turn → Replay

@@ -1,14 +1,15 @@
 //! The size classes of a configuration.
 ghost use Rattle.std.specs.Prelude.{◌≡◌, ◌≤◌, length};
+ghost use Rattle.strm_data.specs.Limits.{most_classes};
 
 use arrayvec::ArrayVec;
 use std::marker::Model;
-use strm_data::ClassSpec;
+use strm_data::{ClassSpec, MOST_CLASSES};
 
-/// At most eight size classes, in order.
+/// At most `MOST_CLASSES` size classes, in order.
 #[derive(Debug, Drop)]
 pub struct ClassSpecs {
-    specs: ArrayVec<ClassSpec, 8>,
+    specs: ArrayVec<ClassSpec, MOST_CLASSES>,
 }
 
 impl Model for ClassSpecs {
@@ -22,7 +23,7 @@ impl Model for ClassSpecs {
 
 impl ClassSpecs {
     /// These classes.
-    pub fn of(specs: ArrayVec<ClassSpec, 8>) -> ClassSpecs
+    pub fn of(specs: ArrayVec<ClassSpec, MOST_CLASSES>) -> ClassSpecs
         ensures { result ≡ specs.items }
     {
         ClassSpecs { specs }
@@ -31,7 +32,7 @@ impl ClassSpecs {
     /// The classes, in order.
     pub fn items(&self) -> &[ClassSpec]
         ensures value { result.now ≡ self.now }
-        ensures few { length result.now ≤ 8 }
+        ensures few { length result.now ≤ most_classes }
     {
         self.specs.as_slice()
     }

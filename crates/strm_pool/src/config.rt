@@ -1,11 +1,14 @@
 //! What a pool is made with, and what may be wrong with it.
 ghost use Rattle.std.specs.Prelude.{◌≡◌, ◌≤◌, length};
 ghost use Rattle.strm_data.specs.Classes.{sizes_rise, each_has_blocks, total_of};
+ghost use Rattle.strm_data.specs.Limits.{most_classes};
 ghost use Rattle.strm_pool.specs.Config.{marks_meet, times_next, nexts_fit};
 
 use crate::class_spec::ClassSpecs;
+use crate::limits::MOST_WISHES;
 use crate::queue_spec::{QueueSpec, QueueSpecs};
-use strm_data::ClassSpec;
+use strm_data::{ClassSpec, MOST_DATA_BLOCK_BYTES, MOST_DATA_BLOCKS};
+use strm_mblk::MOST_MESSAGE_BLOCKS;
 use thiserror::Error;
 
 /// What a pool is made with. The limits are this project's own choice.
@@ -13,14 +16,15 @@ use thiserror::Error;
 pub struct Config {
     /// The pool's id, which its tokens carry. Pools whose tokens can meet want different ids.
     pub id: u32,
-    /// The number of message blocks, 1 to 4,095.
+    /// The number of message blocks, 1 to `MOST_MESSAGE_BLOCKS`.
     pub mblks: u32,
-    /// The size classes: sizes rise and are 1 to 4,096, counts are above 0 and at most 4,095 in all.
+    /// The size classes: sizes rise and are 1 to `MOST_DATA_BLOCK_BYTES`, counts are above 0 and at most
+    /// `MOST_DATA_BLOCKS` in all.
     pub classes: ClassSpecs,
     /// The queues: a low water mark is below the high one; a next queue has a greater number than its own
     /// queue, is one of these and is named once.
     pub queues: QueueSpecs,
-    /// How many `bufcall` wishes may be recorded at one time, at most 64.
+    /// How many `bufcall` wishes may be recorded at one time, at most `MOST_WISHES`.
     pub bufcalls: u32,
     /// The id of the first wish, above 0.
     pub first_id: u32,
@@ -78,7 +82,7 @@ fn sizes_rise(classes: &[ClassSpec]) -> bool
 {
     let mut below = 0;
     for class in classes {
-        if class.size <= below || class.size > 4096 {
+        if class.size <= below || class.size > MOST_DATA_BLOCK_BYTES {
             return false;
         }
         below = class.size;
@@ -95,7 +99,7 @@ fn each_has_blocks(classes: &[ClassSpec]) -> bool
 
 // The number of all data blocks.
 fn total_of(classes: &[ClassSpec]) -> u64
-    requires { length classes.now ≤ 8 }
+    requires { length classes.now ≤ most_classes }
     ensures { result ≡ total_of classes.now }
 {
     classes.iter().map(|class| u64::from(class.count)).sum()
@@ -142,13 +146,13 @@ impl Config {
     {
         let classes = self.classes.items();
         let queues = self.queues.items();
-        if !(1..=4095).contains(&self.mblks) {
+        if !(1..=MOST_MESSAGE_BLOCKS).contains(&self.mblks) {
             Some(Which::Mblks)
         } else if classes.is_empty() {
             Some(Which::Classes)
         } else if !sizes_rise(classes) {
             Some(Which::ClassSize)
-        } else if !each_has_blocks(classes) || total_of(classes) > 4095 {
+        } else if !each_has_blocks(classes) || total_of(classes) > u64::from(MOST_DATA_BLOCKS) {
             Some(Which::ClassTotal)
         } else if queues.is_empty() {
             Some(Which::Queues)
@@ -156,7 +160,7 @@ impl Config {
             Some(Which::Marks)
         } else if !nexts_fit(queues) {
             Some(Which::Next)
-        } else if self.bufcalls > 64 {
+        } else if self.bufcalls > MOST_WISHES {
             Some(Which::Bufcalls)
         } else if self.first_id == 0 {
             Some(Which::FirstId)

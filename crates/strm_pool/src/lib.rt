@@ -5,6 +5,7 @@ mod apply;
 mod call;
 mod class_spec;
 mod config;
+mod limits;
 mod octets;
 #[cfg(test)]
 mod plain;
@@ -19,6 +20,7 @@ mod token;
 pub use call::Call;
 pub use class_spec::ClassSpecs;
 pub use config::{Config, NewFault, Which};
+pub use limits::{MOST_OCTETS, MOST_QUEUES, MOST_REGISTERS, MOST_WISHES};
 pub use octets::Octets;
 pub use pool::{Pool, Rejected};
 pub use queue_spec::{QueueSpec, QueueSpecs};

@@ -1,13 +1,15 @@
 //! A short string of bytes.
 ghost use Rattle.std.specs.Prelude.{◌≡◌, ◌≤◌, length};
+ghost use Rattle.strm_pool.specs.Limits.{most_octets};
 
+use crate::limits::MOST_OCTETS;
 use arrayvec::ArrayVec;
 use std::marker::Model;
 
-/// At most 64 bytes, as a call or a reply carries them.
+/// At most `MOST_OCTETS` bytes, as a call or a reply carries them.
 #[derive(Debug, Drop)]
 pub struct Octets {
-    bytes: ArrayVec<u8, 64>,
+    bytes: ArrayVec<u8, MOST_OCTETS>,
 }
 
 impl Model for Octets {
@@ -20,7 +22,7 @@ impl Model for Octets {
 
 impl Octets {
     /// These bytes.
-    pub fn of(bytes: ArrayVec<u8, 64>) -> Octets
+    pub fn of(bytes: ArrayVec<u8, MOST_OCTETS>) -> Octets
         ensures { result ≡ bytes.items }
     {
         Octets { bytes }
@@ -29,7 +31,7 @@ impl Octets {
     /// The bytes, in order.
     pub fn items(&self) -> &[u8]
         ensures value { result.now ≡ self.now }
-        ensures few { length result.now ≤ 64 }
+        ensures few { length result.now ≤ most_octets }
     {
         self.bytes.as_slice()
     }

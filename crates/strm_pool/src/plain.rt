@@ -1,5 +1,5 @@
 //! The definitions of the pool as a plain, slow program over lists, for tests to run beside the pool. Each function
-//! gives what the definition of its name says, by its contract. What it is given it leaves, and copies where it
+//! gives what a definition says, mostly that of its name, by its contract. What it is given it leaves, and copies where it
 //! has to; there are no links, counts or cells.
 
 pub(crate) mod arena;

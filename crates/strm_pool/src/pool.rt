@@ -5,7 +5,9 @@ ghost use Rattle.std.specs.VecDeque.{deque_len, deque_capacity};
 ghost use Rattle.strm_data.specs.Classes.{are_lawful};
 ghost use Rattle.std.specs.Option.{option_map, option_map_or};
 ghost use Rattle.std.specs.Result.{result_map_both};
+ghost use Rattle.strm_data.specs.Limits.{most_classes};
 ghost use Rattle.strm_mblk.specs.Arena.{IsParted, census_of};
+ghost use Rattle.strm_mblk.specs.Limits.{most_message_blocks};
 
 #[cfg(test)]
 mod beside;
@@ -22,7 +24,7 @@ use strm_data::{ClassInfo, ClassSpec, Data, Refusal};
 use strm_mblk::{Census, TokenValue};
 
 /// A pool of message blocks over data blocks, with its queues. A message is held as a token by the caller, or
-/// stands on a queue. No call but `new` takes memory.
+/// stands on a queue; it is one message block of type M_DATA and band 0. No call but `new` takes memory.
 #[derive(Debug, Drop)]
 pub struct Pool {
     id: u32,
@@ -94,14 +96,14 @@ fn empty_queues(
 
 // How many blocks stand on queues.
 fn queued_in(queues: &[VecDeque<Block>]) -> usize
-    requires { sum_by (λ q. deque_len q) queues.now ≤ 4095 }
+    requires { sum_by (λ q. deque_len q) queues.now ≤ most_message_blocks }
     ensures { result ≡ sum_by (λ q. deque_len q) queues.now }
 {
     queues.iter().map(|queue| queue.len()).sum()
 }
 
 impl Pool {
-    ghost use Rattle.strm_mblk.specs.Given.{after, answer_of};
+    ghost use Rattle.strm_mblk.specs.Given.{value_after, answer_of};
     ghost use Rattle.strm_pool.specs.PoolValue.{Opens, owns, spent, drained, rejecting};
     ghost use Rattle.strm_mblk.specs.Arena.{has, held_at, is_of_length, opening_arena, shelf_at, token_of};
     ghost use Rattle.strm_data.specs.DataStore.{class_infos};
@@ -138,7 +140,7 @@ impl Pool {
         classes: &[ClassSpec],
         queues: usize,
     ) -> Result<Pool, AllocError>
-        requires blocks { mblks ≤ 4095 }
+        requires blocks { mblks ≤ most_message_blocks }
         requires classes { IsTrue (are_lawful classes.now) }
         ensures { IfOk result (λ v. v.arena ≡ opening_arena id mblks classes.now queues) }
     {
@@ -152,13 +154,13 @@ impl Pool {
         })
     }
 
-    /// Takes a message block and a data block of `size` bytes or more for a new message of no bytes, type
-    /// M_DATA and band 0. The data block is the first free one of the smallest class that fits and has one.
+    /// Takes the first free message block and a data block of `size` bytes or more for a new message of no bytes,
+    /// type M_DATA and band 0. The data block is the first free one of the smallest class that fits and has one.
     ///
     /// Refused as `TooLarge` where the size is above the largest class, then as `NoMblk` where no message block
-    /// is free, then as `NoData` where no data block is that fits.
+    /// is free, then as `NoData` where no data block is that fits; nothing changes then.
     pub fn allocb(&mut self, size: u32) -> Result<Token, Refusal>
-        ensures pool { self.new ≡ after self.old (model.allocb size self.old) }
+        ensures pool { self.new ≡ value_after self.old (model.allocb size self.old) }
         ensures token { result ≡ result_map_both (token_of self.new.arena) (λ why. why) (answer_of (model.allocb size self.old)) }
         // The pool has the token, and no held message had its head.
         ensures had { IfOk result (λ token. IsTrue (has self.new.arena token)) }
@@ -186,10 +188,10 @@ impl Pool {
     /// place.
     ///
     /// Refused as `NoSuchBlock` where the message has no such block, then as `Shared` where another message
-    /// block names its data block, then as `NoRoom` where the bytes do not fit.
+    /// block names its data block, then as `NoRoom` where the bytes do not fit; nothing changes then.
     pub fn write(&mut self, token: &Token, block: u32, bytes: &[u8]) -> Result<(), Refusal>
         requires { IsTrue (has self.old.arena token.now) }
-        ensures pool { self.new ≡ after self.old (model.write token.now.head block bytes.now self.old) }
+        ensures pool { self.new ≡ value_after self.old (model.write token.now.head block bytes.now self.old) }
         ensures answer { result ≡ answer_of (model.write token.now.head block bytes.now self.old) }
         ensures had { IsTrue (has self.new.arena token.now) }
     {
@@ -217,10 +219,10 @@ impl Pool {
 
     /// Puts a message on a queue, behind the last message of its rank or a greater one.
     ///
-    /// Refused as `NoSuchQueue` where there is no such queue.
+    /// Refused as `NoSuchQueue` where there is no such queue; nothing changes then, and the token comes back.
     pub fn putq(&mut self, queue: u8, token: Token) -> Result<(), Rejected>
         requires { IsTrue (has self.old.arena token) }
-        ensures pool { self.new ≡ after self.old (model.putq queue token.head self.old) }
+        ensures pool { self.new ≡ value_after self.old (model.putq queue token.head self.old) }
         ensures answer { result ≡ rejecting token (answer_of (model.putq queue token.head self.old)) }
     {
         let place = usize::from(queue);
@@ -238,9 +240,9 @@ impl Pool {
 
     /// Takes the first message off a queue, or nothing where the queue is empty.
     ///
-    /// Refused as `NoSuchQueue` where there is no such queue.
+    /// Refused as `NoSuchQueue` where there is no such queue; nothing changes then.
     pub fn getq(&mut self, queue: u8) -> Result<Option<Token>, Refusal>
-        ensures pool { self.new ≡ after self.old (model.getq queue self.old) }
+        ensures pool { self.new ≡ value_after self.old (model.getq queue self.old) }
         ensures token { result ≡ result_map_both (option_map (token_of self.new.arena)) (λ why. why) (answer_of (model.getq queue self.old)) }
         // The pool has the token, and no held message had its head.
         ensures had { IfOk result (λ given. IfSome given (λ token. IsTrue (has self.new.arena token))) }
@@ -320,12 +322,12 @@ impl Pool {
     /// Does nothing: its contract is what holds of every pool, whatever calls made it so.
     pub fn lawful(&self)
         // Each message block is free, in one message on one queue, or in one held as a token; each data block is
-        // free or named by 1 to 255 message blocks.
+        // free or named by 1 to `MOST_DATA_BLOCK_NAMES` message blocks.
         ensures parted { IsParted self.now.arena }
         // Free blocks, queued and held ones make the pool.
         ensures whole { (census_of self.now.arena).free + (census_of self.now.arena).queued + (census_of self.now.arena).held ≡ length self.now.arena.held }
-        // There are eight size classes at most.
-        ensures few_classes { length (class_infos self.now.arena.store) ≤ 8 }
+        // There are `MOST_CLASSES` size classes at most.
+        ensures few_classes { length (class_infos self.now.arena.store) ≤ most_classes }
         // Each queue is in order: ranks never rise from front to back.
         ensures ordered { (queue : ℕ) → IsTrue (is_ordered (rank_of self.now.arena.store) (shelf_at self.now.arena queue)) }
     {

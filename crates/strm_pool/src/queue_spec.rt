@@ -1,6 +1,8 @@
 //! The queues of a pool.
 ghost use Rattle.std.specs.Prelude.{◌≡◌, ◌≤◌, length};
+ghost use Rattle.strm_pool.specs.Limits.{most_queues};
 
+use crate::limits::MOST_QUEUES;
 use arrayvec::ArrayVec;
 use std::marker::Model;
 
@@ -18,10 +20,10 @@ pub struct QueueSpec {
     pub next: Option<u8>,
 }
 
-/// At most sixteen queues, numbered from 0.
+/// At most `MOST_QUEUES` queues, numbered from 0.
 #[derive(Debug, Drop)]
 pub struct QueueSpecs {
-    specs: ArrayVec<QueueSpec, 16>,
+    specs: ArrayVec<QueueSpec, MOST_QUEUES>,
 }
 
 impl Model for QueueSpecs {
@@ -35,7 +37,7 @@ impl Model for QueueSpecs {
 
 impl QueueSpecs {
     /// These queues.
-    pub fn of(specs: ArrayVec<QueueSpec, 16>) -> QueueSpecs
+    pub fn of(specs: ArrayVec<QueueSpec, MOST_QUEUES>) -> QueueSpecs
         ensures { result ≡ specs.items }
     {
         QueueSpecs { specs }
@@ -44,7 +46,7 @@ impl QueueSpecs {
     /// The queues, in order.
     pub fn items(&self) -> &[QueueSpec]
         ensures value { result.now ≡ self.now }
-        ensures few { length result.now ≤ 16 }
+        ensures few { length result.now ≤ most_queues }
     {
         self.specs.as_slice()
     }

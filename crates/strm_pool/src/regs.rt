@@ -2,7 +2,9 @@
 ghost use Rattle.std.specs.Prelude.{◌≡◌, ◌<◌, None, Some, IsNone, IsSome, is_some, length, replicate, slice_set};
 ghost use Rattle.std.specs.Option.{SomeIff};
 ghost use Rattle.strm_pool.specs.Registers.{register};
+ghost use Rattle.strm_pool.specs.Limits.{most_registers};
 
+use crate::limits::MOST_REGISTERS;
 use crate::token::Token;
 use std::marker::Model;
 use strm_mblk::TokenValue;
@@ -15,12 +17,13 @@ pub struct Reg {
 
 impl Model for Reg {
     ghost use Rattle.std.specs.Prelude.{ℕ, ◌<◌};
+    ghost use Rattle.strm_pool.specs.Limits.{most_registers};
 
     ghost Value = { ℕ };
 
     ghost view = { λ r. r.place };
 
-    ghost invariant = { λ r. r.place < 26 };
+    ghost invariant = { λ r. r.place < most_registers };
 
     ghost inverse = { λ n. record { place = n } };
 }
@@ -28,18 +31,19 @@ impl Model for Reg {
 impl Reg {
     /// The register with this place in the alphabet, or none above 25.
     pub fn new(place: u8) -> Option<Reg>
-        ensures { SomeIff result (place < 26) place }
+        ensures { SomeIff result (place < most_registers) place }
     {
-        if place < 26 {
+        if usize::from(place) < MOST_REGISTERS {
             Some(Reg { place })
         } else {
             None
         }
     }
+
     // The place in the alphabet.
     pub(crate) fn index(self) -> usize
         ensures value { result ≡ self }
-        ensures small { result < 26 }
+        ensures small { result < most_registers }
     {
         usize::from(self.place)
     }
@@ -48,7 +52,7 @@ impl Reg {
 /// Twenty-six registers, a to z, each of which holds a token or none. Registers must be spent, as tokens must:
 /// they can be neither cloned nor dropped.
 pub struct Regs {
-    slots: [Option<TokenValue>; 26],
+    slots: [Option<TokenValue>; MOST_REGISTERS],
 }
 
 impl Model for Regs {
@@ -63,15 +67,18 @@ impl Model for Regs {
 impl Regs {
     /// Registers that hold nothing.
     pub fn new() -> Regs
-        ensures { result ≡ replicate 26 None }
+        ensures { result ≡ replicate most_registers None }
     {
-        Regs { slots: [None; 26] }
+        Regs {
+            slots: [None; MOST_REGISTERS],
+        }
     }
 
     /// Whether a register holds a token.
     pub fn holds(&self, reg: Reg) -> bool
         ensures value { result ≡ is_some (register self.now reg) }
         ensures there { reg < length self.now }
+        ensures count { length self.now ≡ most_registers }
     {
         self.slots[reg.index()].is_some()
     }
@@ -80,6 +87,8 @@ impl Regs {
     pub fn put(&mut self, reg: Reg, token: Token) -> Option<Token>
         ensures held { IsSome (register self.old reg) → (result ≡ Some token) × (self.new ≡ self.old) }
         ensures free { IsNone (register self.old reg) → (result ≡ None) × (self.new ≡ slice_set self.old reg (Some token)) }
+        ensures there { reg < length self.old }
+        ensures count { length self.new ≡ most_registers }
     {
         if self.holds(reg) {
             Some(token)
@@ -102,6 +111,7 @@ impl Regs {
         ensures token { result ≡ register self.old reg }
         ensures empty { self.new ≡ slice_set self.old reg None }
         ensures there { reg < length self.old }
+        ensures count { length self.new ≡ most_registers }
     {
         match self.slots[reg.index()].take() {
             Some(value) => Some(Token::of(value)),
@@ -117,7 +127,7 @@ impl Regs {
     }
 
     // Spends the registers: what they held, a to z.
-    pub(crate) fn spend(self) -> [Option<TokenValue>; 26]
+    pub(crate) fn spend(self) -> [Option<TokenValue>; MOST_REGISTERS]
         ensures { result ≡ self }
     {
         let Regs { slots } = self;

@@ -1,5 +1,6 @@
 use super::class;
 use crate::{ClassInfo, Data, MsgType, Refusal};
+use std::process::Abort;
 use std::test::Fail;
 
 // What is free of a class.
@@ -116,4 +117,64 @@ fn takes_the_last_freed_as_it_was_left(rt: HostRuntime) -> Result<(), Fail> {
     assert_eq!(rt; data.take(2), Ok(1));
     assert_eq!(rt; data.take(2), Ok(2));
     Ok(())
+}
+
+// The bytes of a data block of four are these.
+fn holds(rt: &impl Abort, data: &Data, number: u32, wanted: [u8; 4]) -> Result<(), Fail> {
+    assert!(rt; (number as usize) < data.len());
+    let cap = data.cap(number);
+    assert!(rt; cap >= 4);
+    let mut bytes = [9; 4];
+    data.read(number, 0, &mut bytes);
+    assert!(rt; bytes == wanted);
+    Ok(())
+}
+
+#[test]
+fn copies_within_a_class(rt: HostRuntime) -> Result<(), Fail> {
+    let mut data = Data::new(rt.alloc(), &[class(4, 3)])?;
+    data.write(0, 0, &[1, 2, 3, 4]);
+    data.write(1, 0, &[5, 6, 7, 8]);
+    data.write(2, 0, &[9, 10, 11, 12]);
+    data.copy(0, 1, 2, 0, 2);
+    holds(&rt, &data, 0, [1, 2, 3, 4])?;
+    holds(&rt, &data, 1, [5, 6, 7, 8])?;
+    holds(&rt, &data, 2, [2, 3, 11, 12])?;
+    data.copy(2, 0, 1, 0, 4);
+    holds(&rt, &data, 0, [1, 2, 3, 4])?;
+    holds(&rt, &data, 1, [2, 3, 11, 12])?;
+    data.copy(0, 4, 1, 4, 0);
+    data.copy(1, 2, 0, 3, 0);
+    holds(&rt, &data, 0, [1, 2, 3, 4])?;
+    holds(&rt, &data, 1, [2, 3, 11, 12])?;
+    data.copy(0, 0, 0, 1, 3);
+    holds(&rt, &data, 0, [1, 1, 2, 3])?;
+    data.copy(0, 2, 0, 0, 2);
+    holds(&rt, &data, 0, [2, 3, 2, 3])
+}
+
+#[test]
+fn copies_between_classes(rt: HostRuntime) -> Result<(), Fail> {
+    let mut data = Data::new(rt.alloc(), &[class(4, 2), class(6, 2), class(4096, 1)])?;
+    data.write(1, 0, &[1, 2, 3, 4]);
+    data.write(3, 0, &[5, 6, 7, 8, 9, 10]);
+    data.copy(1, 0, 3, 2, 4);
+    holds(&rt, &data, 3, [5, 6, 1, 2])?;
+    data.copy(3, 3, 1, 0, 3);
+    holds(&rt, &data, 1, [2, 3, 4, 4])?;
+    holds(&rt, &data, 0, [0, 0, 0, 0])?;
+    holds(&rt, &data, 2, [0, 0, 0, 0])?;
+    data.copy(3, 6, 1, 4, 0);
+    data.copy(1, 0, 3, 6, 0);
+    holds(&rt, &data, 1, [2, 3, 4, 4])
+}
+
+#[test]
+fn copies_to_and_from_the_last_places(rt: HostRuntime) -> Result<(), Fail> {
+    let mut data = Data::new(rt.alloc(), &[class(4, 2), class(4096, 1)])?;
+    data.write(1, 0, &[1, 2, 3, 4]);
+    data.copy(1, 0, 2, 4092, 4);
+    data.copy(2, 4092, 0, 0, 4);
+    holds(&rt, &data, 0, [1, 2, 3, 4])?;
+    holds(&rt, &data, 2, [0, 0, 0, 0])
 }

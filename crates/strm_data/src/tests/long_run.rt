@@ -146,15 +146,43 @@ impl Twin {
         Ok(())
     }
 
+    // Copies a few bytes of a data block to another, or to the same, from places on that are drawn too, where there is
+    // room.
+    fn copy(&mut self, rt: &impl Abort, from: u32, draw: &mut u32) -> Result<(), Fail> {
+        let into = below(draw, BLOCKS);
+        let at = below(draw, 6);
+        let to = below(draw, 6);
+        let len = below(draw, 40);
+        assert!(rt; from < BLOCKS);
+        let there = self.data.cap(from);
+        let room = self.data.cap(into);
+        if at.saturating_add(len) > there || to.saturating_add(len) > room {
+            return Ok(());
+        }
+        self.data.copy(from, at, into, to, len);
+        let mut bytes = [0; 40];
+        let source = self.blocks.get(from as usize).ok_or("no block")?;
+        for (new, old) in bytes.iter_mut().zip(source.bytes.iter().skip(at as usize)) {
+            *new = *old;
+        }
+        let target = self.blocks.get_mut(into as usize).ok_or("no block")?;
+        let changed = target.bytes.iter_mut().skip(to as usize).take(len as usize);
+        for (old, new) in changed.zip(bytes) {
+            *old = new;
+        }
+        self.compare_bytes(rt, into, 0)
+    }
+
     // The next call of the long run, drawn at random.
     fn step(&mut self, rt: &impl Abort, draw: &mut u32) -> Result<(), Fail> {
         let number = below(draw, BLOCKS);
-        match below(draw, 16) {
+        match below(draw, 18) {
             0..5 => self.take(rt, below(draw, 44))?,
             5..7 => self.name(rt, number)?,
             7..12 => self.drop_name(rt, number)?,
             12 => self.set_kind(rt, number, KINDS[below(draw, 4) as usize])?,
             13 => self.compare_bytes(rt, number, below(draw, 5))?,
+            14..16 => self.copy(rt, number, draw)?,
             _ => self.write(rt, number, draw)?,
         }
         self.compare_block(rt, number)?;

@@ -1,6 +1,6 @@
-use super::write_text;
-use crate::fault::RunFault;
+use super::{WriteFault, write_text};
 use crate::faulty::choppy_writer;
+use crate::watched::Watched;
 use std::test::Fail;
 
 const TEXT: &[u8] = b"0:7 ok\n0:8 ok\n";
@@ -8,10 +8,10 @@ const TEXT: &[u8] = b"0:7 ok\n0:8 ok\n";
 #[test]
 fn writes_piece_by_piece(rt: HostRuntime) -> Result<(), Fail> {
     let mut writer = choppy_writer(rt.alloc(), 3, None, true);
-    write_text(&mut writer, TEXT)?;
+    write_text(&mut Watched::new(&mut writer), TEXT)?;
     assert!(rt; writer.got.as_slice() == TEXT);
     let mut writer = choppy_writer(rt.alloc(), 3, Some(0), true);
-    write_text(&mut writer, b"")?;
+    write_text(&mut Watched::new(&mut writer), b"")?;
     assert!(rt; writer.got.is_empty());
     Ok(())
 }
@@ -19,7 +19,7 @@ fn writes_piece_by_piece(rt: HostRuntime) -> Result<(), Fail> {
 #[test]
 fn a_failing_writer_has_the_beginning(rt: HostRuntime) -> Result<(), Fail> {
     let mut writer = choppy_writer(rt.alloc(), 5, Some(10), true);
-    assert!(rt; write_text(&mut writer, TEXT) == Err(RunFault::Write));
+    assert!(rt; write_text(&mut Watched::new(&mut writer), TEXT) == Err(WriteFault));
     assert!(rt; writer.got.as_slice() == b"0:7 ok\n0:8".as_slice());
     Ok(())
 }
@@ -27,7 +27,7 @@ fn a_failing_writer_has_the_beginning(rt: HostRuntime) -> Result<(), Fail> {
 #[test]
 fn a_writer_that_takes_nothing_is_a_write_fault(rt: HostRuntime) -> Result<(), Fail> {
     let mut writer = choppy_writer(rt.alloc(), 0, None, true);
-    assert!(rt; write_text(&mut writer, TEXT) == Err(RunFault::Write));
+    assert!(rt; write_text(&mut Watched::new(&mut writer), TEXT) == Err(WriteFault));
     assert!(rt; writer.got.is_empty());
     Ok(())
 }
@@ -35,7 +35,7 @@ fn a_writer_that_takes_nothing_is_a_write_fault(rt: HostRuntime) -> Result<(), F
 #[test]
 fn a_failing_flush_is_a_write_fault(rt: HostRuntime) -> Result<(), Fail> {
     let mut writer = choppy_writer(rt.alloc(), 100, None, false);
-    assert!(rt; write_text(&mut writer, TEXT) == Err(RunFault::Write));
+    assert!(rt; write_text(&mut Watched::new(&mut writer), TEXT) == Err(WriteFault));
     assert!(rt; writer.got.as_slice() == TEXT);
     Ok(())
 }

@@ -3,6 +3,7 @@ ghost use Rattle.std.specs.Prelude.{◌≤◌};
 use super::{Mode, run};
 use crate::fault::{Fault, Kind, RunFault};
 use crate::faulty::{choppy_writer, slow_reader};
+use crate::watched::Watched;
 use std::test::Fail;
 use strm_pool::Which;
 
@@ -18,9 +19,15 @@ const MAX: u32 = 1_048_576;
 #[test]
 fn goes_byte_by_byte(rt: HostRuntime) -> Result<(), Fail> {
     for mode in [Mode::Serial, Mode::Workers] {
-        let mut reader = slow_reader(SCRIPT, None);
+        let reader = slow_reader(SCRIPT, None);
         let mut writer = choppy_writer(rt.alloc(), 1, None, true);
-        run(&rt, mode, MAX, &mut reader, &mut writer)?;
+        run(
+            &rt,
+            mode,
+            MAX,
+            &mut Watched::new(reader),
+            &mut Watched::new(&mut writer),
+        )?;
         assert_eq!(rt; writer.got.as_slice(), TEXT);
     }
     Ok(())
@@ -29,12 +36,16 @@ fn goes_byte_by_byte(rt: HostRuntime) -> Result<(), Fail> {
 #[test]
 fn a_failing_reader_leaves_nothing_written(rt: HostRuntime) {
     for cut in [0, 9, SCRIPT.len()] {
-        let mut reader = slow_reader(SCRIPT, Some(cut));
         let mut writer = choppy_writer(rt.alloc(), 100, None, true);
-        assert!(rt;
-            run(&rt, Mode::Serial, MAX, &mut reader, &mut writer).err() == Some(RunFault::Read),
-            "at {cut}"
-        );
+        let fault = run(
+            &rt,
+            Mode::Serial,
+            MAX,
+            &mut Watched::new(slow_reader(SCRIPT, Some(cut))),
+            &mut Watched::new(&mut writer),
+        )
+        .err();
+        assert!(rt; fault == Some(RunFault::Read), "at {cut}");
         assert!(rt; writer.got.is_empty());
     }
 }
@@ -47,8 +58,8 @@ fn a_failing_writer_has_the_beginning(rt: HostRuntime) {
             &rt,
             Mode::Serial,
             MAX,
-            &mut slow_reader(SCRIPT, None),
-            &mut writer,
+            &mut Watched::new(slow_reader(SCRIPT, None)),
+            &mut Watched::new(&mut writer),
         )
         .err();
         assert!(rt; fault == Some(RunFault::Write));
@@ -66,8 +77,8 @@ fn fault_of(rt: &HostRuntime, max: u32, script: &[u8]) -> Option<RunFault>
         rt,
         Mode::Serial,
         max,
-        &mut slow_reader(script, None),
-        &mut writer,
+        &mut Watched::new(slow_reader(script, None)),
+        &mut Watched::new(&mut writer),
     )
     .err();
     if writer.got.is_empty() { fault } else { None }

@@ -1,8 +1,9 @@
 //! What a block of a held message says is altered: bytes behind its write place, its type, its band.
-ghost use Rattle.std.specs.Prelude.{◌≡◌, IsTrue};
+ghost use Rattle.std.specs.Prelude.{◌≡◌, [], ◌∷◌, IsTrue};
 ghost use Rattle.strm_mblk.specs.Arena.{has};
 ghost use Rattle.strm_mblk.specs.BlockCalls as model;
-ghost use Rattle.strm_mblk.specs.Given.{after, answer_of};
+ghost use Rattle.strm_mblk.specs.Frame.{LeavesOthers};
+ghost use Rattle.strm_mblk.specs.Given.{value_after, answer_of};
 
 use super::{Blocks, node_at};
 use crate::token::Token;
@@ -16,9 +17,10 @@ impl Blocks {
     /// its data block, then as `NoRoom` where the bytes do not fit; nothing changes then.
     pub fn write(&mut self, token: &Token, place: u32, bytes: &[u8]) -> Result<(), Refusal>
         requires { IsTrue (has self.old token.now) }
-        ensures after { self.new ≡ after self.old (model.write token.now.head place bytes.now self.old) }
+        ensures after { self.new ≡ value_after self.old (model.write token.now.head place bytes.now self.old) }
         ensures answer { result ≡ answer_of (model.write token.now.head place bytes.now self.old) }
         ensures had { IsTrue (has self.new token.now) }
+        ensures others { LeavesOthers (token.now.head ∷ []) self.old self.new }
     {
         let Some(node) = node_at(&self.chains, token.head(), place) else {
             return Err(Refusal::NoSuchBlock);
@@ -43,9 +45,10 @@ impl Blocks {
     /// the data block; nothing changes then.
     pub fn settype(&mut self, token: &Token, place: u32, kind: MsgType) -> Result<(), Refusal>
         requires { IsTrue (has self.old token.now) }
-        ensures after { self.new ≡ after self.old (model.settype token.now.head place kind self.old) }
+        ensures after { self.new ≡ value_after self.old (model.settype token.now.head place kind self.old) }
         ensures answer { result ≡ answer_of (model.settype token.now.head place kind self.old) }
         ensures had { IsTrue (has self.new token.now) }
+        ensures others { LeavesOthers (token.now.head ∷ []) self.old self.new }
     {
         let Some(node) = node_at(&self.chains, token.head(), place) else {
             return Err(Refusal::NoSuchBlock);
@@ -63,6 +66,7 @@ impl Blocks {
         requires { IsTrue (has self.old token.now) }
         ensures after { self.new ≡ model.setband token.now.head band self.old }
         ensures had { IsTrue (has self.new token.now) }
+        ensures others { LeavesOthers (token.now.head ∷ []) self.old self.new }
     {
         self.blocks[token.head() as usize].band = band;
     }

@@ -1,5 +1,5 @@
 //! Copies: new messages of new blocks over data blocks of their own.
-ghost use Rattle.std.specs.Prelude.{◌≡◌, ◌≤◌, ◌<◌, ◌+◌, ℕ, Err, IfOk, IfSome, IsTrue, None, Ok, Some, false, length, slice_get, take};
+ghost use Rattle.std.specs.Prelude.{◌≡◌, ◌⊎◌, ◌≤◌, ◌<◌, ◌+◌, ℕ, Err, IfOk, IfSome, IsTrue, None, Ok, Some, false, length, slice_get, take};
 ghost use Rattle.std.specs.Result.{is_ok};
 ghost use Rattle.strm_data.specs.declared.refusal.Refusal.TheVariants.{NoData};
 ghost use Rattle.strm_data.specs.CountedStore.{IsKept, IsUnused};
@@ -8,21 +8,22 @@ ghost use Rattle.strm_mblk.specs.Arena.{has, held_at, message_at, token_of};
 ghost use Rattle.strm_mblk.specs.BlockCalls as model;
 ghost use Rattle.strm_mblk.specs.BlocksLayout.{IsPlaced, block_of, fields_at, message_of};
 ghost use Rattle.strm_mblk.specs.Copying.{AreCopied, AreLeft, IsLeft, with_copy};
-ghost use Rattle.strm_mblk.specs.Given.{after, answer_map, answer_of};
+ghost use Rattle.strm_mblk.specs.Frame.{LeavesOthers, head_answered};
+ghost use Rattle.strm_mblk.specs.Given.{value_after, answer_map, answer_of};
 ghost use Rattle.strm_mblk.specs.NodeLists.{nodes_at};
 
 use super::{Blocks, Fields};
 use crate::chains::Chains;
 use crate::token::Token;
-use strm_data::{Data, Refusal};
+use strm_data::{Data, MOST_CLASSES, Refusal};
 
 // How many data blocks of each class are free.
-fn free_counts(stored: &Data) -> [u32; 8]
+fn free_counts(stored: &Data) -> [u32; MOST_CLASSES]
     requires { IsKept stored.now }
     ensures { AreLeft result stored.now.store }
 {
-    let mut left = [0; 8];
-    for class in 0..8u8 {
+    let mut left = [0; MOST_CLASSES];
+    for class in 0..MOST_CLASSES as u8 {
         let Some(info) = stored.class_info(class) else {
             return left;
         };
@@ -32,12 +33,12 @@ fn free_counts(stored: &Data) -> [u32; 8]
 }
 
 // The first class that fits a size and has a data block left.
-fn class_left(stored: &Data, left: &[u32; 8], size: u32) -> Option<u8>
+fn class_left(stored: &Data, left: &[u32; MOST_CLASSES], size: u32) -> Option<u8>
     requires { IsKept stored.now }
     ensures found { IfSome result (IsLeft size stored.now.store.classes left.now) }
     ensures first { (k : ℕ) → IfSome result (λ c. k < c) → IsLeft size stored.now.store.classes left.now k → ⊥ }
 {
-    for class in 0..8u8 {
+    for class in 0..MOST_CLASSES as u8 {
         let Some(info) = stored.class_info(class) else {
             return None;
         };
@@ -75,7 +76,7 @@ fn copies_fit(chains: &Chains, blocks: &[Fields], stored: &Data, head: u32, coun
 
 // Takes a data block for a copy of a message block that says so, with the type and the bytes of the one that it names. The
 // answer is what the copy says.
-fn copy_data(stored: &mut Data, source: Fields, buffer: &mut [u8; 4096]) -> Fields
+fn copy_data(stored: &mut Data, source: Fields) -> Fields
     requires placed { IsPlaced stored.old.store source }
     requires fits { IsTrue (is_ok (take_data (capacity_of stored.old.store source.data_number) stored.old.store)) }
     ensures taken { take_data (capacity_of stored.old.store source.data_number) stored.old.store ≡ Ok result.data_number }
@@ -87,11 +88,10 @@ fn copy_data(stored: &mut Data, source: Fields, buffer: &mut [u8; 4096]) -> Fiel
 {
     let kind = stored.kind(source.data_number);
     let size = stored.cap(source.data_number);
-    let bytes = &mut buffer[..source.len as usize];
-    stored.read(source.data_number, source.offset, bytes);
     let data_number = stored.take(size).unwrap();
     stored.set_kind(data_number, kind);
-    stored.write(data_number, source.offset, bytes);
+    let place = source.offset;
+    stored.copy(source.data_number, place, data_number, place, source.len);
     Fields {
         data_number,
         ..source
@@ -119,13 +119,12 @@ fn copy_blocks(
     ensures after { AreCopied (take count (message_of blocks.old (nodes_at chains.now from))) (nodes_at chains.now into) blocks.old blocks.new stored.old stored.new }
     ensures kept { IsKept stored.new }
 {
-    let mut buffer = [0; 4096];
     let mut source = Some(from);
     let mut target = Some(into);
     for _block in 0..count {
         let read = source.unwrap();
         let written = target.unwrap();
-        blocks[written as usize] = copy_data(stored, blocks[read as usize], &mut buffer);
+        blocks[written as usize] = copy_data(stored, blocks[read as usize]);
         source = chains.next(read);
         target = chains.next(written);
     }
@@ -135,13 +134,13 @@ impl Blocks {
     // Copies of the first `count` blocks of a message, as `copymsg` makes them of all.
     fn copy(&mut self, token: &Token, count: u32) -> Result<Token, Refusal>
         requires had { IsTrue (has self.old token.now) }
-        requires some { 0 < count }
-        requires enough { count ≤ token.now.blocks }
-        ensures after { self.new ≡ after self.old (model.copied (take count (message_at self.old token.now.head)) self.old) }
+        requires count { (count ≡ 1) ⊎ (count ≡ token.now.blocks) }
+        ensures after { self.new ≡ value_after self.old (model.copied (take count (message_at self.old token.now.head)) self.old) }
         ensures token { result ≡ answer_map (token_of self.new) (answer_of (model.copied (take count (message_at self.old token.now.head)) self.old)) }
         ensures had { IfOk result (λ copy. IsTrue (has self.new copy)) }
         ensures unheld { IfOk result (λ copy. held_at self.old copy.head ≡ None) }
         ensures source { IsTrue (has self.new token.now) }
+        ensures others { LeavesOthers (head_answered result) self.old self.new }
     {
         if self.chains.free_len() < count {
             return Err(Refusal::NoMblk);
@@ -164,40 +163,40 @@ impl Blocks {
 
     /// A message of one new block, the first free one, over a copy of the data block of the first block of this message,
     /// with its places and its band. The copy is the data block that `allocb` would take for the capacity of the other; it
-    /// has its type, and its bytes between the places, which are copied twice.
+    /// has its type, and its bytes between the places, which are copied once.
     ///
     /// Refused as `NoMblk` where no message block is free, then as `NoData` where no data block is that fits; nothing
     /// changes then.
     pub fn copyb(&mut self, token: &Token) -> Result<Token, Refusal>
         requires { IsTrue (has self.old token.now) }
-        ensures after { self.new ≡ after self.old (model.copyb token.now.head self.old) }
+        ensures after { self.new ≡ value_after self.old (model.copyb token.now.head self.old) }
         ensures token { result ≡ answer_map (token_of self.new) (answer_of (model.copyb token.now.head self.old)) }
-        // The new token is one of these blocks, no held message had its head, and the other is still one of these blocks.
+        // The new token is of these blocks, no held message had its head, and the other is still of these blocks.
         ensures had { IfOk result (λ copy. IsTrue (has self.new copy)) }
         ensures unheld { IfOk result (λ copy. held_at self.old copy.head ≡ None) }
         ensures source { IsTrue (has self.new token.now) }
+        ensures others { LeavesOthers (head_answered result) self.old self.new }
     {
-        self.lawful();
         self.copy(token, 1)
     }
 
     /// A message of new blocks, the first free ones in their order, one for each block of this message, over a copy of its
     /// data block, with its places and its band. The copies are the data blocks that `allocb` would take for the capacities
-    /// of the others, in order; they have their types, and their bytes between the places, which are copied twice. All or
+    /// of the others, in order; they have their types, and their bytes between the places, which are copied once. All or
     /// nothing. Takes a step for each block and class.
     ///
     /// Refused as `NoMblk` where fewer message blocks are free than the message has, then as `NoData` where the data
     /// blocks do not suffice; nothing changes then.
     pub fn copymsg(&mut self, token: &Token) -> Result<Token, Refusal>
         requires { IsTrue (has self.old token.now) }
-        ensures after { self.new ≡ after self.old (model.copymsg token.now.head self.old) }
+        ensures after { self.new ≡ value_after self.old (model.copymsg token.now.head self.old) }
         ensures token { result ≡ answer_map (token_of self.new) (answer_of (model.copymsg token.now.head self.old)) }
-        // The new token is one of these blocks, no held message had its head, and the other is still one of these blocks.
+        // The new token is of these blocks, no held message had its head, and the other is still of these blocks.
         ensures had { IfOk result (λ copy. IsTrue (has self.new copy)) }
         ensures unheld { IfOk result (λ copy. held_at self.old copy.head ≡ None) }
         ensures source { IsTrue (has self.new token.now) }
+        ensures others { LeavesOthers (head_answered result) self.old self.new }
     {
-        self.lawful();
         self.copy(token, token.blocks())
     }
 }

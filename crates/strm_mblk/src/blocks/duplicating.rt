@@ -1,21 +1,22 @@
 //! Duplicates: new messages of new blocks that name the same data blocks.
-ghost use Rattle.std.specs.Prelude.{◌≡◌, ℕ, ◌+◌, ◌<◌, ◌≤◌, IfOk, IsTrue, None, Some, if◌then◌else◌, length, map, not, slice_get, take};
+ghost use Rattle.std.specs.Prelude.{◌≡◌, ◌⊎◌, ℕ, ◌+◌, ◌<◌, ◌≤◌, IfOk, IsTrue, None, Some, if◌then◌else◌, length, map, not, slice_get, take};
 ghost use Rattle.strm_data.specs.CountedStore.{IsKept, count_of};
 ghost use Rattle.strm_data.specs.DataStore.{times};
 ghost use Rattle.strm_mblk.specs.Arena.{has, held_at, message_at, token_of};
 ghost use Rattle.strm_mblk.specs.BlockCalls as model;
 ghost use Rattle.strm_mblk.specs.BlocksLayout.{exceeds_counts, fields_at, named_by, with_fields, with_names_given};
-ghost use Rattle.strm_mblk.specs.Given.{after, answer_map, answer_of};
+ghost use Rattle.strm_mblk.specs.Frame.{LeavesOthers, head_answered};
+ghost use Rattle.strm_mblk.specs.Given.{value_after, answer_map, answer_of};
 ghost use Rattle.strm_mblk.specs.NodeLists.{nodes_at};
 
 use super::freeing::drop_names;
 use super::{Blocks, Fields};
 use crate::chains::Chains;
 use crate::token::Token;
-use strm_data::{Data, Refusal};
+use strm_data::{Data, MOST_DATA_BLOCK_NAMES, Refusal};
 
 // Names the data blocks of the first `count` blocks of a held message once more, first to last. Where one of them has
-// 255 names already, the data blocks are left as they were.
+// `MOST_DATA_BLOCK_NAMES` names already, the data blocks are left as they were.
 fn give_names(chains: &Chains, blocks: &[Fields], stored: &mut Data, head: u32, count: u32) -> bool
     requires begun { slice_get (nodes_at chains.now head) 0 ≡ Some head }
     requires count { count ≤ length (nodes_at chains.now head) }
@@ -31,7 +32,7 @@ fn give_names(chains: &Chains, blocks: &[Fields], stored: &mut Data, head: u32, 
     for given in 0..count {
         let node = at.unwrap();
         let data_number = blocks[node as usize].data_number;
-        if stored.count(data_number) == 255 {
+        if stored.count(data_number) == MOST_DATA_BLOCK_NAMES {
             drop_names(chains, blocks, stored, head, given);
             return false;
         }
@@ -68,13 +69,13 @@ impl Blocks {
     // it is refused.
     fn duplicate(&mut self, token: &Token, count: u32) -> Result<Token, Refusal>
         requires had { IsTrue (has self.old token.now) }
-        requires some { 0 < count }
-        requires enough { count ≤ token.now.blocks }
-        ensures after { self.new ≡ after self.old (model.duplicated (take count (message_at self.old token.now.head)) self.old) }
+        requires count { (count ≡ 1) ⊎ (count ≡ token.now.blocks) }
+        ensures after { self.new ≡ value_after self.old (model.duplicated (take count (message_at self.old token.now.head)) self.old) }
         ensures token { result ≡ answer_map (token_of self.new) (answer_of (model.duplicated (take count (message_at self.old token.now.head)) self.old)) }
         ensures had { IfOk result (λ copy. IsTrue (has self.new copy)) }
         ensures unheld { IfOk result (λ copy. held_at self.old copy.head ≡ None) }
         ensures source { IsTrue (has self.new token.now) }
+        ensures others { LeavesOthers (head_answered result) self.old self.new }
     {
         if self.chains.free_len() < count {
             return Err(Refusal::NoMblk);
@@ -91,18 +92,18 @@ impl Blocks {
     /// A message of one new block, the first free one, which names the data block of the first block of this message, with
     /// its places and its band.
     ///
-    /// Refused as `NoMblk` where no message block is free, then as `RefMax` where 255 message blocks name the data block;
-    /// nothing changes then.
+    /// Refused as `NoMblk` where no message block is free, then as `RefMax` where `MOST_DATA_BLOCK_NAMES` message blocks
+    /// name the data block; nothing changes then.
     pub fn dupb(&mut self, token: &Token) -> Result<Token, Refusal>
         requires { IsTrue (has self.old token.now) }
-        ensures after { self.new ≡ after self.old (model.dupb token.now.head self.old) }
+        ensures after { self.new ≡ value_after self.old (model.dupb token.now.head self.old) }
         ensures token { result ≡ answer_map (token_of self.new) (answer_of (model.dupb token.now.head self.old)) }
-        // The new token is one of these blocks, no held message had its head, and the other is still one of these blocks.
+        // The new token is of these blocks, no held message had its head, and the other is still of these blocks.
         ensures had { IfOk result (λ copy. IsTrue (has self.new copy)) }
         ensures unheld { IfOk result (λ copy. held_at self.old copy.head ≡ None) }
         ensures source { IsTrue (has self.new token.now) }
+        ensures others { LeavesOthers (head_answered result) self.old self.new }
     {
-        self.lawful();
         self.duplicate(token, 1)
     }
 
@@ -110,17 +111,17 @@ impl Blocks {
     /// block, with its places and its band. All or nothing. Takes as many steps as the message has blocks.
     ///
     /// Refused as `NoMblk` where fewer message blocks are free than the message has, then as `RefMax` where some data
-    /// block would have more than 255 names; nothing changes then.
+    /// block would have more than `MOST_DATA_BLOCK_NAMES` names; nothing changes then.
     pub fn dupmsg(&mut self, token: &Token) -> Result<Token, Refusal>
         requires { IsTrue (has self.old token.now) }
-        ensures after { self.new ≡ after self.old (model.dupmsg token.now.head self.old) }
+        ensures after { self.new ≡ value_after self.old (model.dupmsg token.now.head self.old) }
         ensures token { result ≡ answer_map (token_of self.new) (answer_of (model.dupmsg token.now.head self.old)) }
-        // The new token is one of these blocks, no held message had its head, and the other is still one of these blocks.
+        // The new token is of these blocks, no held message had its head, and the other is still of these blocks.
         ensures had { IfOk result (λ copy. IsTrue (has self.new copy)) }
         ensures unheld { IfOk result (λ copy. held_at self.old copy.head ≡ None) }
         ensures source { IsTrue (has self.new token.now) }
+        ensures others { LeavesOthers (head_answered result) self.old self.new }
     {
-        self.lawful();
         self.duplicate(token, token.blocks())
     }
 }

@@ -1,10 +1,11 @@
 //! Messages, and their first blocks, are freed.
-ghost use Rattle.std.specs.Prelude.{◌≡◌, ◌≤◌, ◌<◌, ℕ, IfSome, IsTrue, None, Some, length, option_map, slice_get, take};
+ghost use Rattle.std.specs.Prelude.{◌≡◌, [], ◌∷◌, ◌≤◌, ◌<◌, ℕ, IfSome, IsTrue, None, Some, length, option_map, slice_get, take};
 ghost use Rattle.strm_data.specs.CountedStore.{IsKept, count_of};
 ghost use Rattle.strm_data.specs.DataStore.{times};
 ghost use Rattle.strm_mblk.specs.Arena.{has, held_at, token_of};
 ghost use Rattle.strm_mblk.specs.BlockCalls as model;
 ghost use Rattle.strm_mblk.specs.BlocksLayout.{fields_at, named_by, with_names_dropped};
+ghost use Rattle.strm_mblk.specs.Frame.{LeavesOthers, head_given};
 ghost use Rattle.strm_mblk.specs.Freeing.{spent};
 ghost use Rattle.strm_mblk.specs.NodeLists.{nodes_at};
 
@@ -42,9 +43,10 @@ pub(super) fn drop_names(
 impl Blocks {
     /// Frees a message: its blocks first to last, each to the front of the free ones, and with each its data block, to the
     /// front of the free ones of its class, where no message block names that any more. Takes as many steps as there are
-    /// blocks. A token that is none of these blocks is spent, and nothing else is done.
+    /// blocks. A token that is not of these blocks is spent, and nothing else is done.
     pub fn freemsg(&mut self, token: Token)
-        ensures { self.new ≡ spent self.old token }
+        ensures after { self.new ≡ spent self.old token }
+        ensures others { LeavesOthers (token.head ∷ []) self.old self.new }
     {
         let has = self.has(&token);
         let token = token.spend();
@@ -70,6 +72,7 @@ impl Blocks {
         // The token is of these blocks, and no held message had its head.
         ensures had { IfSome result (λ rest. IsTrue (has self.new rest)) }
         ensures unheld { IfSome result (λ rest. held_at self.old rest.head ≡ None) }
+        ensures others { LeavesOthers (token.head ∷ head_given result) self.old self.new }
     {
         self.lawful();
         let mut first = token;

@@ -1,15 +1,22 @@
 //! Bytes of a message are pulled up into its first block.
-ghost use Rattle.std.specs.Prelude.{◌≡◌, ◌≤◌, ◌<◌, ◌-◌, ◌++◌, ℕ, List, IsSome, IsTrue, Some, drop, length, min, option_map, slice_get, take};
+ghost use Rattle.std.specs.Prelude.{◌≡◌, [], ◌∷◌, ◌≤◌, ◌<◌, ◌-◌, ◌++◌, ℕ, List, IsSome, IsTrue, Some, drop, length, min, option_map, slice_get, take};
+ghost use Rattle.strm_data.specs.CountedStore.{IsKept};
+ghost use Rattle.strm_data.specs.DataStore.{capacity_of, times};
 ghost use Rattle.strm_mblk.specs.Arena.{has, held_at, message_at, token_of};
 ghost use Rattle.strm_mblk.specs.Block.{Block, bytes_of, size_of};
-ghost use Rattle.strm_mblk.specs.Given.{after, answer_of};
+ghost use Rattle.strm_mblk.specs.BlocksLayout.{IsPlaced, fields_at, message_of, named_by};
+ghost use Rattle.strm_mblk.specs.Frame.{LeavesOthers};
+ghost use Rattle.strm_mblk.specs.Given.{value_after, answer_of};
+ghost use Rattle.strm_mblk.specs.Messages.{held_in};
+ghost use Rattle.strm_mblk.specs.NodeLists.{nodes_at};
 ghost use Rattle.strm_mblk.specs.Pulling as pulling;
 ghost use Rattle.strm_mblk.specs.Trimming as model;
 ghost use Rattle.strm_mblk.specs.Trimming.{along, bytes_asked, run_of};
 
 use super::{Blocks, Fields};
+use crate::chains::Chains;
 use crate::token::Token;
-use strm_data::Refusal;
+use strm_data::{Data, Refusal};
 
 // How many bytes are asked for, of a run of blocks that has so many: -1 stands for all of them, and a number below it
 // for none that there are.
@@ -25,48 +32,74 @@ fn bytes_asked(count: i32, run: u32) -> Option<u32>
     }
 }
 
-impl Blocks {
-    // The first block of a held message takes a data block for these bytes, of the type of its former one, which loses
-    // its name once the bytes stand in the other.
-    //
-    // Refused as `take` of the data blocks is; nothing changes then.
-    fn refill(&mut self, head: u32, bytes: &[u8]) -> Result<(), Refusal>
-        requires held { IsSome (held_at self.old head) }
-        requires few { length bytes.now ≤ 4096 }
-        ensures after { self.new ≡ after self.old (pulling.refill head bytes.now self.old) }
-        ensures answer { result ≡ answer_of (pulling.refill head bytes.now self.old) }
-    {
-        let fields = self.blocks[head as usize];
-        let kind = self.data.kind(fields.data_number);
-        let len = bytes.len() as u32;
-        let data_number = self.data.take(len)?;
-        self.data.set_kind(data_number, kind);
-        self.data.write(data_number, 0, bytes);
-        self.blocks[head as usize] = Fields {
-            data_number,
-            offset: 0,
-            len,
-            band: fields.band,
-        };
-        self.data.drop_name(fields.data_number);
-        Ok(())
+// Copies the first `count` bytes of a held message into a data block that none of its blocks names.
+fn copy_front(
+    chains: &Chains,
+    blocks: &[Fields],
+    stored: &mut Data,
+    head: u32,
+    into: u32,
+    count: u32,
+)
+    requires held { IsSome (held_in chains.now.held head) }
+    requires begun { slice_get (nodes_at chains.now head) 0 ≡ Some head }
+    requires listed { length blocks.now ≡ length chains.now.held }
+    requires placed { (n : ℕ) → n < length blocks.now → IsPlaced stored.old.store (fields_at blocks.now n) }
+    requires there { into < length stored.old.store.blocks }
+    requires room { count ≤ capacity_of stored.old.store into }
+    requires unnamed { times into (named_by blocks.now (nodes_at chains.now head)) ≡ 0 }
+    requires enough { count ≤ length (bytes_of stored.old.store (message_of blocks.now (nodes_at chains.now head))) }
+    requires kept { IsKept stored.old }
+    ensures after { stored.new ≡ pulling.with_front_copied into count (message_of blocks.now (nodes_at chains.now head)) stored.old }
+    ensures kept { IsKept stored.new }
+{
+    let mut done = 0;
+    let mut next = Some(head);
+    for _block in 0..chains.len(head) {
+        if done == count {
+            return;
+        }
+        let node = next.unwrap();
+        let fields = blocks[node as usize];
+        let len = fields.len.min(count - done);
+        stored.copy(fields.data_number, fields.offset, into, done, len);
+        done += len;
+        next = chains.next(node);
     }
+}
 
-    // The first block of a message takes a data block for the first `count` bytes of the message, which the other
-    // blocks keep.
+impl Blocks {
+    // The first block of a message takes a data block for the first `count` bytes of the message, of the type of its
+    // former one, which loses its name once the bytes stand in the other. The other blocks keep their bytes.
     //
     // Refused as `take` of the data blocks is; nothing changes then.
     fn gather(&mut self, token: &Token, count: u32) -> Result<(), Refusal>
         requires had { IsTrue (has self.old token.now) }
-        requires few { count ≤ 4096 }
         requires enough { count ≤ size_of (message_at self.old token.now.head) }
-        ensures after { self.new ≡ after self.old (pulling.gather token.now.head count self.old) }
+        ensures after { self.new ≡ value_after self.old (pulling.gather token.now.head count self.old) }
         ensures answer { result ≡ answer_of (pulling.gather token.now.head count self.old) }
     {
-        let mut bytes = [0u8; 4096];
-        let bytes = &mut bytes[..count as usize];
-        self.read(token, 0, bytes);
-        self.refill(token.head(), bytes)
+        let head = token.head();
+        let fields = self.blocks[head as usize];
+        let kind = self.data.kind(fields.data_number);
+        let data_number = self.data.take(count)?;
+        self.data.set_kind(data_number, kind);
+        copy_front(
+            &self.chains,
+            &self.blocks,
+            &mut self.data,
+            head,
+            data_number,
+            count,
+        );
+        self.blocks[head as usize] = Fields {
+            data_number,
+            offset: 0,
+            len: count,
+            band: fields.band,
+        };
+        self.data.drop_name(fields.data_number);
+        Ok(())
     }
 
     // Frees the second block of a held message, to the front of the free ones, and its data block where no other block
@@ -126,16 +159,17 @@ impl Blocks {
     /// Else the first block names a data block that takes so many bytes, from place 0 on, of the same type, and its former
     /// one loses its name. The blocks behind it lose what it did not have: up to place `count` each whose bytes are all
     /// taken, an empty one too, is freed, and the read place of the last one rises. Empty blocks behind that place stay.
-    /// Takes as many steps as the message has blocks, and copies the bytes twice.
+    /// Takes as many steps as the message has blocks, and copies the bytes once.
     ///
     /// Refused as `Short` where the count is below -1, or the leading blocks have fewer bytes, then as `TooLarge` where the
     /// count is above the largest class, then as `NoData` where no data block is that fits; nothing changes then.
     pub fn pullupmsg(&mut self, token: &mut Token, count: i32) -> Result<(), Refusal>
         requires { IsTrue (has self.old token.old) }
-        ensures after { self.new ≡ after self.old (model.pullupmsg token.old.head count self.old) }
+        ensures after { self.new ≡ value_after self.old (model.pullupmsg token.old.head count self.old) }
         ensures answer { result ≡ answer_of (model.pullupmsg token.old.head count self.old) }
         ensures token { token.new ≡ token_of self.new token.old.head }
         ensures had { IsTrue (has self.new token.new) }
+        ensures others { LeavesOthers (token.old.head ∷ []) self.old self.new }
     {
         let head = token.head();
         let run = self.run_size(token, false);
@@ -148,9 +182,6 @@ impl Blocks {
         let len = self.blocks[head as usize].len;
         if wanted <= len {
             return Ok(());
-        }
-        if !self.data.has_class_for(wanted) {
-            return Err(Refusal::TooLarge);
         }
         self.gather(token, wanted)?;
         self.drain(head, wanted - len, token.blocks());

@@ -1,5 +1,5 @@
 //! Shelves: lists of messages for the layer above.
-ghost use Rattle.std.specs.Prelude.{◌≡◌, ◌<◌, ℕ, IsSome, IsTrue, None, Some, length, option_map};
+ghost use Rattle.std.specs.Prelude.{◌≡◌, ◌<◌, ℕ, IsSome, IsTrue, None, Some, length, option_map, reverse};
 ghost use Rattle.std.specs.Option.{ForSome};
 ghost use Rattle.strm_links.specs.Rows as rows;
 ghost use Rattle.strm_mblk.specs.Arena.{has, held_at, message_at, token_of};
@@ -28,20 +28,32 @@ impl Blocks {
         self.chains.last(u32::from(shelf))
     }
 
-    /// The head of the message behind this one on its shelf, or none where it is the last. Nothing changes.
+    /// The head of the message behind this one on the shelf that it stands on, or none where it is the last. Nothing
+    /// changes.
     pub fn after(&self, head: BlockNo) -> Option<BlockNo>
-        requires { head < length self.now.held }
+        requires { IsSome (shelf_of self.now head) }
         ensures { (shelf : ℕ) → IsTrue (stands_on self.now shelf head) → result ≡ rows.after head (heads_at self.now shelf) }
     {
         self.chains.after(head)
     }
 
-    /// The head of the message before this one on its shelf, or none where it is the first. Nothing changes.
+    /// The head of the message before this one on the shelf that it stands on, or none where it is the first. Nothing
+    /// changes.
     pub fn before(&self, head: BlockNo) -> Option<BlockNo>
-        requires { head < length self.now.held }
+        requires { IsSome (shelf_of self.now head) }
         ensures { (shelf : ℕ) → IsTrue (stands_on self.now shelf head) → result ≡ rows.before head (heads_at self.now shelf) }
     {
         self.chains.before(head)
+    }
+
+    /// The law that each shelf reads alike both ways: following `after` from its first head gives its heads, following
+    /// `before` from its last head gives their reverse, and no head stands there twice. Does nothing.
+    pub fn reads_alike(&self)
+        ensures forward { (shelf : ℕ) → let heads = heads_at self.now shelf in rows.Reads (λ head. rows.after head heads) (rows.first heads) heads }
+        ensures backward { (shelf : ℕ) → let heads = heads_at self.now shelf in rows.Reads (λ head. rows.before head heads) (rows.last heads) (reverse heads) }
+        ensures apart { (shelf : ℕ) → rows.IsApart (heads_at self.now shelf) }
+    {
+        let _ = &self.chains;
     }
 
     /// Puts a message on a shelf, before the one with the head that is given, which stands there, or last. Takes
@@ -63,7 +75,7 @@ impl Blocks {
         requires there { IsTrue (stands_on self.old shelf head) }
         ensures after { self.new ≡ model.unshelve shelf head self.old }
         ensures token { result ≡ token_of self.new head }
-        // The token is one of these blocks, and no held message had its head.
+        // The token is of these blocks, and no held message had its head.
         ensures had { IsTrue (has self.new result) }
         ensures unheld { held_at self.old head ≡ None }
     {

@@ -1,9 +1,10 @@
 //! Bytes that a message loses at an end.
-ghost use Rattle.std.specs.Prelude.{◌≡◌, ◌+◌, ◌^◌, ◌<◌, ℕ, IfSome, IsTrue, Some, length, slice_get};
+ghost use Rattle.std.specs.Prelude.{◌≡◌, [], ◌∷◌, ◌+◌, ◌^◌, ◌<◌, ℕ, IfSome, IsTrue, Some, length, slice_get};
 ghost use Rattle.strm_mblk.specs.Arena.{has, message_at};
 ghost use Rattle.strm_mblk.specs.Block.{size_of};
 ghost use Rattle.strm_mblk.specs.BlocksLayout.{fields_at, fields_cut, with_bytes_cut};
-ghost use Rattle.strm_mblk.specs.Given.{after, answer_of};
+ghost use Rattle.strm_mblk.specs.Frame.{LeavesOthers};
+ghost use Rattle.strm_mblk.specs.Given.{value_after, answer_of};
 ghost use Rattle.strm_mblk.specs.NodeLists.{nodes_at};
 ghost use Rattle.strm_mblk.specs.Trimming as model;
 ghost use Rattle.strm_mblk.specs.Trimming.{along, run_of};
@@ -114,9 +115,10 @@ impl Blocks {
     /// Refused as `Short` where these blocks have fewer bytes than that; nothing changes then.
     pub fn adjmsg(&mut self, token: &Token, count: i32) -> Result<(), Refusal>
         requires { IsTrue (has self.old token.now) }
-        ensures after { self.new ≡ after self.old (model.adjmsg token.now.head count self.old) }
+        ensures after { self.new ≡ value_after self.old (model.adjmsg token.now.head count self.old) }
         ensures answer { result ≡ answer_of (model.adjmsg token.now.head count self.old) }
         ensures had { IsTrue (has self.new token.now) }
+        ensures others { LeavesOthers (token.now.head ∷ []) self.old self.new }
     {
         let from_tail = count.is_negative();
         let bytes = count.unsigned_abs();

@@ -2,7 +2,7 @@
 ghost use Rattle.std.specs.Prelude.{◌≡◌, Some, slice_get, slice_set};
 ghost use Rattle.strm_data.specs.DataStore.{class_infos, with_data_freed};
 ghost use Rattle.strm_mblk.specs.Arena as model;
-ghost use Rattle.strm_mblk.specs.Given.{after, answer_of};
+ghost use Rattle.strm_mblk.specs.Given.{value_after, answer_of};
 
 use super::block::{Block, Message, blocks_held, blocks_of, blocks_on, count_naming, head_of};
 use super::list::{List, Twin};
@@ -167,7 +167,7 @@ impl Arena {
 
     // What a call answers: the arena is then what it leaves.
     pub(crate) fn go_on<T>(&mut self, given: Given<T>) -> Result<T, Refusal>
-        ensures after { self.new ≡ after self.old given }
+        ensures after { self.new ≡ value_after self.old given }
         ensures answer { result ≡ answer_of given }
     {
         let (answer, arena) = given?;

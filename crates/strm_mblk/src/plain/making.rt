@@ -1,6 +1,7 @@
 //! New messages: over data blocks just taken, duplicates, and copies.
 ghost use Rattle.std.specs.Prelude.{◌≡◌, ◌+◌, count_by, nat_lt, take, Ok};
 ghost use Rattle.std.specs.List.{list_any};
+ghost use Rattle.strm_data.specs.Limits.{most_data_block_names};
 ghost use Rattle.strm_mblk.specs.Arena.{names_of};
 ghost use Rattle.strm_mblk.specs.Block as block_model;
 ghost use Rattle.strm_mblk.specs.BlockCalls as model;
@@ -11,7 +12,7 @@ use super::list::{List, Twin};
 use super::store::DataStore;
 use std::alloc::Global;
 use std::process::Abort;
-use strm_data::Refusal;
+use strm_data::{MOST_DATA_BLOCK_NAMES, Refusal};
 
 // The first block alone, if there is one.
 fn first_of(message: &[Block]) -> &[Block]
@@ -117,19 +118,20 @@ impl Arena {
         self.allocb(rt, size).is_ok()
     }
 
-    // Whether the data block of this block would have more than 255 names once each block of `all` has a duplicate.
+    // Whether the data block of this block would have more than `MOST_DATA_BLOCK_NAMES` names once each block of `all`
+    // has a duplicate.
     fn exceeds(&self, rt: &impl Abort, all: &[Block], block: &Block) -> bool
-        ensures { result ≡ nat_lt 255 (names_of self.now block.now.data_number + count_by (block_model.is_naming block.now.data_number) all.now) }
+        ensures { result ≡ nat_lt most_data_block_names (names_of self.now block.now.data_number + count_by (block_model.is_naming block.now.data_number) all.now) }
     {
         let names = self.names_of(rt, block.data_number);
         let more = count_naming(block.data_number, all);
-        names.checked_add(more).expect(rt, "few names") > 255
+        names.checked_add(more).expect(rt, "few names") > usize::from(MOST_DATA_BLOCK_NAMES)
     }
 
-    // Whether one of these blocks names a data block that would have more than 255 names once each block of `all` has a
-    // duplicate.
+    // Whether one of these blocks names a data block that would have more than `MOST_DATA_BLOCK_NAMES` names once each
+    // block of `all` has a duplicate.
     fn any_exceeds(&self, rt: &impl Abort, all: &[Block], blocks: &[Block]) -> bool
-        ensures { result ≡ list_any (λ b. nat_lt 255 (names_of self.now b.data_number + count_by (block_model.is_naming b.data_number) all.now)) blocks.now }
+        ensures { result ≡ list_any (λ b. nat_lt most_data_block_names (names_of self.now b.data_number + count_by (block_model.is_naming b.data_number) all.now)) blocks.now }
     {
         match blocks {
             [] => false,

@@ -66,14 +66,14 @@ fn heads_of(rt: &impl Abort, alloc: Global, messages: &[Message]) -> List<u32>
 }
 
 // The messages once this one stands before the one that begins with `at`, or last where none does.
-fn placed_before(
+fn put_before_given(
     rt: &impl Abort,
     alloc: Global,
     at: u32,
     message: Message,
     messages: &[Message],
 ) -> List<Message>
-    ensures { result ≡ message_model.placed block_model.head_of (Some at) message messages.now }
+    ensures { result ≡ message_model.put_before_head block_model.head_of (Some at) message messages.now }
 {
     match messages {
         [] => List::empty(alloc).with_last(rt, message),
@@ -81,24 +81,24 @@ fn placed_before(
             if head_of(first.items()) == at {
                 List::chain(rt, alloc, message, messages)
             } else {
-                let others = placed_before(rt, alloc, at, message, rest);
+                let others = put_before_given(rt, alloc, at, message, rest);
                 List::chain(rt, alloc, first.twin(rt, alloc), others.items())
             }
         }
     }
 }
 
-fn placed(
+fn put_before_head(
     rt: &impl Abort,
     alloc: Global,
     before: Option<u32>,
     message: Message,
     messages: &[Message],
 ) -> List<Message>
-    ensures { result ≡ message_model.placed block_model.head_of before message messages.now }
+    ensures { result ≡ message_model.put_before_head block_model.head_of before message messages.now }
 {
     match before {
-        Some(at) => placed_before(rt, alloc, at, message, messages),
+        Some(at) => put_before_given(rt, alloc, at, message, messages),
         None => List::of(rt, alloc, messages).with_last(rt, message),
     }
 }
@@ -176,7 +176,7 @@ impl Arena {
         ensures { result ≡ model.shelve shelf before head self.now }
     {
         let message = List::of(rt, self.alloc, self.message_at(head));
-        let messages = placed(rt, self.alloc, before, message, self.shelf_at(shelf));
+        let messages = put_before_head(rt, self.alloc, before, message, self.shelf_at(shelf));
         self.twin(rt, self.alloc)
             .without_held(head)
             .with_shelf(shelf, messages)

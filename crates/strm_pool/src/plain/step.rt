@@ -151,8 +151,8 @@ fn with_register(
     })
 }
 
-fn head_in(table: &[Option<u32>], reg: Reg) -> u32
-    ensures { result ≡ model.head_in table.now reg }
+fn head_held(table: &[Option<u32>], reg: Reg) -> u32
+    ensures { result ≡ model.head_held table.now reg }
 {
     register(table, reg.index() as u32).unwrap_or(0)
 }
@@ -264,12 +264,12 @@ fn act(
             Ok(stepped)
         }
         Call::Write(reg, place, bytes) => {
-            let given = pool.write(alloc, head_in(table, *reg), *place, bytes.items())?;
+            let given = pool.write(alloc, head_held(table, *reg), *place, bytes.items())?;
             let stepped = keeping(alloc, pool, table, given)?;
             Ok(stepped)
         }
         Call::Putq(queue, reg) => {
-            let given = pool.putq(alloc, *queue, head_in(table, *reg))?;
+            let given = pool.putq(alloc, *queue, head_held(table, *reg))?;
             let stepped = spending(alloc, *reg, pool, table, given)?;
             Ok(stepped)
         }
@@ -279,7 +279,7 @@ fn act(
             Ok(stepped)
         }
         Call::Freemsg(reg) => {
-            let freed = pool.freemsg(alloc, head_in(table, *reg))?;
+            let freed = pool.freemsg(alloc, head_held(table, *reg))?;
             let stepped = with_register(alloc, *reg, None, freed, table, Reply::Done)?;
             Ok(stepped)
         }

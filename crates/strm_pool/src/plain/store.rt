@@ -3,6 +3,7 @@ ghost use Rattle.std.specs.Prelude.{◌≡◌, ◌+◌, ◌≤◌, nat_le, [], l
 ghost use Rattle.std.specs.List.{flat_map, zip, enumerate_from, range_with_len};
 ghost use Rattle.strm_data.specs.Classes.{fits_a_class};
 ghost use Rattle.strm_data.specs.DataStore as model;
+ghost use Rattle.strm_data.specs.Limits.{most_classes};
 
 use super::list::{List, Twin, beside};
 use std::alloc::{AllocError, Global};
@@ -128,7 +129,7 @@ fn fresh_data_blocks(
     number: usize,
     classes: &[ClassSpec],
 ) -> Result<List<DataBlock>, AllocError>
-    requires { number + length classes.now ≤ 8 }
+    requires { number + length classes.now ≤ most_classes }
     ensures { IfOk result (λ blocks. blocks ≡ flat_map (λ p. replicate p.1.count (model.fresh_data_block p.0 p.1)) (enumerate_from number classes.now)) }
 {
     match classes {
@@ -207,7 +208,7 @@ impl DataStore {
     }
 
     pub(crate) fn opening(alloc: Global, classes: &[ClassSpec]) -> Result<DataStore, AllocError>
-        requires { length classes.now ≤ 8 }
+        requires { length classes.now ≤ most_classes }
         ensures { IfOk result (λ store. store ≡ model.opening_store classes.now) }
     {
         Ok(DataStore {

@@ -7,7 +7,7 @@ use Rattle.strm_data.proofs.data.free_lists.Goals as goal
 
 pub loop-number-init : goal.loop-number-init
 loop-number-init c =
-    let opened = c.in_ok-free.ensures in
+    let opened = c.in_ok-free.ensures.rows in
     record {
       first = refl;
       nodes = ap (λ (r : Rows). r.nodes) opened;

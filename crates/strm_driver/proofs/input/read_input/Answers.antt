@@ -2,8 +2,8 @@ use Rattle.std.proofs.Common.{◌++◌, arith, take, length-append, length-take}
 use Rattle.std.proofs.KnownBytes.{Consumes-trans}
 use Rattle.strm_driver.proofs.input.read_input.Goals as goal
 
-pub returns-then-is_err-clause-taken : goal.returns-then-is_err-clause-taken
-returns-then-is_err-clause-taken g c =
+pub returns-in_err-extend_from_slice-in-Ok-clause-taken : goal.returns-in_err-extend_from_slice-in-Ok-clause-taken
+returns-in_err-extend_from_slice-in-Ok-clause-taken g c =
     let read = take c.in-Ok.count c.read.new.buf in (
       c.loop-chunk.input.items ++ read,
       Consumes-trans _ _ _ _ _ c.loop-chunk.invariant.read c.in-Ok.ensures.bytes.0,

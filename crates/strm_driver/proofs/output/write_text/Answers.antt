@@ -1,4 +1,4 @@
-use Rattle.std.proofs.Common.{arith, length-drop}
+use Rattle.std.proofs.Common.{rules, arith, length-drop}
 use Rattle.std.proofs.Math.Seq.{take-add}
 use Rattle.std.proofs.lemmas.List.{take_rest}
 use Rattle.std.proofs.KnownBytes.{Appends-trans}
@@ -8,4 +8,5 @@ pub loop-written-preserved : goal.loop-written-preserved
 loop-written-preserved g c = record {
   within = omega (arith, c.in-Ok.ensures.bound, length-drop c.loop-written.written c.args.text.now);
   wrote = rw take-add (Appends-trans _ _ _ _ _ c.loop-written.invariant.wrote (rw take_rest at c.in-Ok.ensures.bytes));
+  failed = search rules;
 }

@@ -3,8 +3,8 @@ use Rattle.std.proofs.lemmas.Bool.{cases_eq}
 use Rattle.strm_links.specs.Rows.{Rows, list_at, holder, without}
 use Rattle.strm_links.proofs.OneList.{first-without}
 use Rattle.strm_links.proofs.AllLists.{IsApart-list_at}
-use Rattle.strm_mblk.proofs.Changed.{IsRemoved, list_left, list_stays, lists_left, nodes_left, list_set, list_kept, lists_set}
-use Rattle.strm_mblk.proofs.Freed.{turned}
+use Rattle.strm_mblk.proofs.links.Changed.{IsRemoved, list_left, list_stays, lists_left, nodes_left, list_set, list_kept, lists_set}
+use Rattle.strm_mblk.proofs.links.Freed.{turned}
 use Rattle.strm_mblk.proofs.chains.pour.Goals as goal
 use Rattle.strm_mblk.proofs.chains.pour.Goals.{After-push_front}
 
@@ -14,7 +14,7 @@ removed c = record { lists = c.remove.ensures.lists; freed = c.remove.ensures.fr
 -- the list is its front and the rest
 front : (c : After-push_front) → list_at c.args.from c.loop-node.chains ≡ c.in-Some.node ∷ without c.in-Some.node (list_at c.args.from c.loop-node.chains)
 front c =
-    first-without c.in-Some.node (list_at c.args.from c.loop-node.chains) (IsApart-list_at c.args.from c.loop-node.chains.lists c.parts_nodes.ensures.apart) (sym c.in-Some.ensures.value)
+    first-without c.in-Some.node (list_at c.args.from c.loop-node.chains) (IsApart-list_at c.args.from c.loop-node.chains.lists c.loop-node.invariant.parting.apart) (sym c.in-Some.ensures.value)
 
 -- the rest is left
 rest : (c : After-push_front) → list_at c.args.from c.push_front.new.self ≡ without c.in-Some.node (list_at c.args.from c.loop-node.chains)
@@ -25,7 +25,7 @@ come : (c : After-push_front) → list_at c.args.to c.push_front.new.self ≡ c.
 come c =
     list_set _ _ c.args.to _ (omega (arith, c.requires.to, c.loop-node.invariant.lists, lists_left _ _ _ (removed c))) c.push_front.ensures.lists
     ∙ ap (λ xs. c.in-Some.node ∷ xs)
-    (list_stays _ _ _ (removed c) c.args.from c.args.to c.parts_nodes.ensures.apart c.in-Some.ensures.member (λ same. c.requires.other (sym same)))
+    (list_stays _ _ _ (removed c) c.args.from c.args.to c.loop-node.invariant.parting.apart c.in-Some.ensures.member (λ same. c.requires.other (sym same)))
 
 pub loop-node-smaller : goal.loop-node-smaller
 loop-node-smaller c = omega (arith, ap length (rest c), ap length (front c))
@@ -38,7 +38,7 @@ loop-node-preserved c = record {
       ∙ c.loop-node.invariant.poured;
   others = λ j not_from not_to.
       list_kept _ _ c.args.to j _ not_to c.push_front.ensures.lists
-      ∙ list_stays _ _ _ (removed c) c.args.from j c.parts_nodes.ensures.apart c.in-Some.ensures.member not_from ∙ c.loop-node.invariant.others j not_from not_to;
+      ∙ list_stays _ _ _ (removed c) c.args.from j c.loop-node.invariant.parting.apart c.in-Some.ensures.member not_from ∙ c.loop-node.invariant.others j not_from not_to;
   linked = λ k some.
       elim (cases_eq k c.in-Some.node) [
         | inl same ↦ subst (λ j. IsSome (holder j c.push_front.new.self)) (sym same) (subst IsSome (sym c.push_front.ensures.held) refl)
@@ -46,4 +46,5 @@ loop-node-preserved c = record {
       ];
   nodes = ap (λ (r : Rows). r.nodes) c.push_front.ensures.lists ∙ nodes_left _ _ _ (removed c) ∙ c.loop-node.invariant.nodes;
   lists = lists_set _ _ c.args.to _ c.push_front.ensures.lists ∙ lists_left _ _ _ (removed c) ∙ c.loop-node.invariant.lists;
+  parting = c.push_front.ensures.parting;
 }

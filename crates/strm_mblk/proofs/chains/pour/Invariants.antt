@@ -1,5 +1,5 @@
 use Rattle.std.proofs.Common.{◌≡◌, ◌≢◌, ℕ, ◌++◌, IsSome, length, reverse}
-use Rattle.strm_links.specs.Rows.{holder, list_at}
+use Rattle.strm_links.specs.Rows.{IsParting, holder, list_at}
 use Rattle.strm_mblk.proofs.chains.pour.Given as goal
 
 -- what is left in one list, turned, and what has come to the other
@@ -10,6 +10,7 @@ invariant-loop-node l = record {
   linked : (k : ℕ) → IsSome (holder k l.initial.chains) → IsSome (holder k l.chains);
   nodes : l.chains.nodes ≡ l.initial.chains.nodes;
   lists : length l.chains.lists ≡ length l.initial.chains.lists;
+  parting : IsParting l.chains;
 }
 
 abbrev pub decreases-loop-node : goal.decreases-loop-node

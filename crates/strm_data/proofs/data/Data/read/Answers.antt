@@ -1,7 +1,7 @@
-use Rattle.std.proofs.Common.{◌≡◌, ℕ, ◌+◌, ◌-◌, ◌≤◌, List, length, map, take, drop, sym, ap, ◌∙◌, arith}
-use Rattle.std.proofs.lemmas.List.{take-take, drop-drop, drop-take}
+use Rattle.std.proofs.Common.{◌+◌, length, map, take, drop, sym, ap, ◌∙◌, arith}
 use Rattle.strm_data.specs.DataLayout.{start_in, region_at}
 use Rattle.strm_data.proofs.Laid.{class_within, region_within, first_is, capacity_is, region_is, range_within, bytes_are}
+use Rattle.strm_data.proofs.Tables.{part_of}
 use Rattle.strm_data.proofs.data.Data.read.Goals as goal
 
 pub index-requires-2 : goal.index-requires-2
@@ -27,13 +27,6 @@ copy_out-requires c =
     let range = range_within a _ c.self.view_is c.args.number c.requires.there block c.index.ensures c.self.invariant.placed class c.from-class.ensures c.index-2.result.now c.index-2.ensures in
     let capacity = capacity_is a _ c.self.view_is c.args.number c.requires.there block c.index.ensures c.self.invariant.placed class c.from-class.ensures c.index-2.result.now c.index-2.ensures in
     omega (arith, range, capacity, ap length region, c.requires.room, c.start_of.ensures.start, ap length c.deref.ensures.value)
-
--- a part of the data block's bytes is that part of the region
-part_of : (n at from size : ℕ) (region : List ℕ) → at + n ≤ size → take n (drop (from + at) region) ≡ take n (drop at (take size (drop from region)))
-part_of n at from size region room =
-    ap (take n) (sym (drop-drop at from region))
-    ∙ sym (ap (λ m. take n (drop at (take m (drop from region)))) (let e : size ≡ at + (size - at) = omega arith in e)
-    ∙ ap (take n) (drop-take at (size - at) (drop from region)) ∙ take-take n (size - at) (drop at (drop from region)) (omega arith))
 
 pub returns : goal.returns
 returns c =

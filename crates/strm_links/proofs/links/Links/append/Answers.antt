@@ -5,7 +5,7 @@ use Rattle.strm_links.specs.Rows.{list_at, holder}
 use Rattle.strm_links.specs.Layout.{IsSound}
 use Rattle.strm_links.proofs.OneList.{is_some_of-same, some_of}
 use Rattle.strm_links.proofs.AllLists.{holder-append}
-use Rattle.strm_links.proofs.Arena.{seen, apart_all, closed, rows_of_is, ends_read}
+use Rattle.strm_links.proofs.Arena.{seen, apart_all, closed, rows_of_is, ends_read, parts}
 use Rattle.strm_links.proofs.Changes.{Rewires-both}
 use Rattle.strm_links.proofs.Linking.{walked_within, front_within, back_within, both_len, appended}
 use Rattle.strm_links.proofs.links.Links.append.Goals as goal
@@ -63,3 +63,6 @@ returns-clause-others c k was =
     ap (holder k) (rows_of_is _ _ _ (changes (goal.at.returns-clause-others c).After-index_mut-2))
     ∙ holder-append c.args.self.now apart c.args.to c.args.from k c.requires.to c.requires.from c.requires.other
     ∙ cond-false _ _ _ (false_from_ne_true _ (λ is. was (some_of c.args.from (holder k c.args.self.now) is)))
+
+pub returns-clause-parting : goal.returns-clause-parting
+returns-clause-parting c = parts _ _ _ (closed _ _ _ (changes (goal.at.returns-clause-parting c).After-index_mut-2))

@@ -4,7 +4,7 @@ use Rattle.strm_links.specs.declared.links.Node.{Node}
 use Rattle.strm_links.specs.declared.links.Ends.{Ends}
 use Rattle.strm_links.specs.Rows.{list_at, holder}
 use Rattle.strm_links.specs.Layout.{previous_at, put_ahead, IsSound}
-use Rattle.strm_links.proofs.Arena.{seen, closed, rows_of_is, ends_read}
+use Rattle.strm_links.proofs.Arena.{seen, closed, rows_of_is, ends_read, parts}
 use Rattle.strm_links.proofs.Changes.{Rewires-both}
 use Rattle.strm_links.proofs.Linking.{joined_next_within, joined_ahead_within, joined_len, joined, joined_holder, other_holder}
 use Rattle.strm_links.proofs.links.Links.link.Goals as goal
@@ -60,3 +60,6 @@ returns-clause-others c k other =
     let sound = seen _ _ _ c.self.view_is c.self.invariant in
     ap (holder k) (rows_of_is _ _ _ (changes (goal.at.returns-clause-others c).After-index_mut-2))
     ∙ other_holder _ _ _ sound c.args.list c.args.node c.args.next c.requires.list c.requires.node c.requires.free c.requires.next k other
+
+pub returns-clause-parting : goal.returns-clause-parting
+returns-clause-parting c = parts _ _ _ (closed _ _ _ (changes (goal.at.returns-clause-parting c).After-index_mut-2))

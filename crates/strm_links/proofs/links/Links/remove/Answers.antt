@@ -5,7 +5,7 @@ use Rattle.strm_links.specs.declared.links.Ends.{Ends}
 use Rattle.strm_links.specs.Rows.{holder, without}
 use Rattle.strm_links.specs.Layout.{IsSound}
 use Rattle.strm_links.proofs.AllLists.{holder-remove}
-use Rattle.strm_links.proofs.Arena.{seen, apart_all, closed, rows_of_is, ends_read}
+use Rattle.strm_links.proofs.Arena.{seen, apart_all, closed, rows_of_is, ends_read, parts}
 use Rattle.strm_links.proofs.Changes.{Rewires-both}
 use Rattle.strm_links.proofs.Linking.{held_within, held_node, held_list, left_list, left_previous, left_next, left_len, left}
 use Rattle.strm_links.proofs.links.Links.remove.Goals as goal
@@ -84,3 +84,6 @@ returns-clause-others c k other =
     let apart = apart_all _ _ _ (seen _ _ _ c.self.view_is c.self.invariant) in
     ap (holder k) (rows_of_is _ _ _ (changes (goal.at.returns-clause-others c).After-index_mut-2))
     ∙ holder-remove c.args.self.now apart c.args.node k ∙ cond-false _ _ _ (ne_eqb c.args.node k (λ same. other (sym same)))
+
+pub returns-clause-parting : goal.returns-clause-parting
+returns-clause-parting c = parts _ _ _ (closed _ _ _ (changes (goal.at.returns-clause-parting c).After-index_mut-2))

@@ -1,4 +1,4 @@
-use Rattle.std.proofs.Common.{◌≡◌, ◌+◌, ◌<◌, ◌≤◌, ◌^◌, ℕ, length, ap, subst, sym, ◌∙◌, arith, true, List, w32}
+use Rattle.std.proofs.Common.{◌≡◌, ◌+◌, ◌<◌, ◌≤◌, ◌^◌, ℕ, length, ap, subst, sym, ◌∙◌, arith, true, List, w32, [], ◌∷◌}
 use Rattle.std.specs.Prelude.{unsigned_abs}
 use Rattle.std.specs.Int.{cast_signed, cast_unsigned, is_negative}
 use Rattle.std.specs.Vec.{with_items}
@@ -8,10 +8,12 @@ use Rattle.strm_mblk.specs.declared.blocks.Fields.{Fields}
 use Rattle.strm_mblk.specs.Arena.{Arena, has, message_at, shelved_blocks}
 use Rattle.strm_mblk.specs.Block.{size_of}
 use Rattle.strm_mblk.specs.BlocksLayout.{fields_at, with_bytes_cut}
-use Rattle.strm_mblk.specs.Given.{after}
+use Rattle.strm_mblk.specs.Given.{value_after}
 use Rattle.strm_mblk.specs.NodeLists.{nodes_at}
 use Rattle.strm_mblk.specs.Trimming.{along, run_of}
-use Rattle.strm_mblk.proofs.Adjmsg.{IsAdjusted, adjusts, ends_small}
+use Rattle.strm_mblk.proofs.trimming.Adjmsg.{IsAdjusted, adjusts, ends_small}
+use Rattle.strm_mblk.proofs.arena.Frame.{leaves_adjmsg}
+use Rattle.strm_mblk.specs.Frame.{LeavesOthers}
 use Rattle.strm_mblk.proofs.blocks.Blocks.adjmsg.Goals as goal
 use Rattle.strm_mblk.proofs.blocks.Blocks.adjmsg.Goals.{After-self-1}
 
@@ -66,4 +68,8 @@ invariant_of-self c =
     record { filled = is.filled; queued = c.self.invariant.queued ∙ ap (λ a. length (shelved_blocks a)) c.self.view_is ∙ ap length (sym is.shelved) }
 
 pub returns-clause-after : goal.returns-clause-after
-returns-clause-after c = sym (ap (after c.args.self.now) (is_adjusted c).done)
+returns-clause-after c = sym (ap (value_after c.args.self.now) (is_adjusted c).done)
+
+pub returns-clause-others : goal.returns-clause-others
+returns-clause-others c =
+    subst (LeavesOthers (c.args.token.now.head ∷ []) c.args.self.now) (ap (value_after c.args.self.now) (is_adjusted c).done) (leaves_adjmsg c.args.self.now c.args.token.now.head c.args.count)

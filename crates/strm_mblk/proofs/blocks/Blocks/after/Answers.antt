@@ -1,8 +1,13 @@
-use Rattle.std.proofs.Common.{ap, sym, ◌∙◌}
+use Rattle.std.proofs.Common.{ap, arith, sym, ◌∙◌}
 use Rattle.strm_links.specs.Rows.{has, after}
 use Rattle.strm_mblk.specs.Shelves.{heads_at}
-use Rattle.strm_mblk.proofs.Shelving.{heads_at-seen}
+use Rattle.strm_mblk.proofs.shelving.Shelving.{heads_at-seen, is_head}
 use Rattle.strm_mblk.proofs.blocks.Blocks.after.Goals as goal
+
+pub after-requires : goal.after-requires
+after-requires c =
+    let is = is_head c.self.inside.id c.self.inside.data c.self.inside.blocks.items c.self.inside.chains c.self.invariant.filled c.args.self.now c.self.view_is c.args.head c.requires in
+    omega (arith, is.there, c.self.invariant.filled.listed)
 
 pub returns : goal.returns
 returns c shelf there =

@@ -4,10 +4,12 @@ use Rattle.strm_data.specs.CountedStore.{after_take}
 use Rattle.strm_mblk.specs.declared.token.TokenValue.{TokenValue}
 use Rattle.strm_mblk.specs.Arena.{Arena, has, held_at, shelved_blocks, token_of}
 use Rattle.strm_mblk.specs.BlocksLayout.{arena_of}
-use Rattle.strm_mblk.specs.Given.{after, answer_map, answer_of}
-use Rattle.strm_mblk.proofs.Allocb.{IsAllocated, allocates}
-use Rattle.strm_mblk.proofs.BegunAll.{begin_room}
-use Rattle.strm_mblk.proofs.Tokens.{token_had}
+use Rattle.strm_mblk.specs.Given.{value_after, answer_map, answer_of}
+use Rattle.strm_mblk.proofs.making.Allocb.{IsAllocated, allocates}
+use Rattle.strm_mblk.proofs.making.BegunAll.{begin_room}
+use Rattle.strm_mblk.proofs.arena.Tokens.{token_had}
+use Rattle.strm_mblk.proofs.arena.Frame.{leaves_allocb, leaves_given}
+use Rattle.strm_mblk.proofs.layout.Lawful.{parted_inside}
 use Rattle.strm_mblk.proofs.blocks.Blocks.allocb.Goals as goal
 use Rattle.strm_mblk.proofs.blocks.Blocks.allocb.Goals.{After-self-1}
 
@@ -34,7 +36,7 @@ pub token-requires : goal.token-requires
 token-requires c = ap is_some (is_allocated c).begun.held
 
 pub returns-clause-after : goal.returns-clause-after
-returns-clause-after c = sym (ap (after c.args.self.now) (is_allocated (goal.at.returns-clause-after c).After-self-1).done)
+returns-clause-after c = sym (ap (value_after c.args.self.now) (is_allocated (goal.at.returns-clause-after c).After-self-1).done)
 
 pub returns-clause-token : goal.returns-clause-token
 returns-clause-token c =
@@ -47,3 +49,9 @@ returns-clause-had c = ap (has (new_arena (goal.at.returns-clause-had c).After-s
 pub returns-clause-unheld : goal.returns-clause-unheld
 returns-clause-unheld c =
     ap (λ (t : TokenValue). held_at c.args.self.now t.head) c.token.ensures ∙ (is_allocated (goal.at.returns-clause-unheld c).After-self-1).begun.absent
+
+pub returns-clause-others : goal.returns-clause-others
+returns-clause-others c =
+    let at = (goal.at.returns-clause-others c).After-self-1 in
+    let parted = parted_inside c.self.inside c.self.invariant c.args.self.now c.self.view_is in
+    leaves_given c.args.self.now (new_arena at) c.token.result c.unwrap-head.result _ (leaves_allocb c.args.self.now parted c.args.size) (is_allocated at).done c.token.ensures

@@ -1,22 +1,26 @@
-use Rattle.std.proofs.Common.{◌≡◌, ℕ, ◌+◌, ◌≤◌, List, true, length, ap, subst, sym, ◌∙◌, Ok, arith}
+use Rattle.std.proofs.Common.{◌≡◌, ℕ, ◌+◌, ◌≤◌, List, true, length, ap, subst, sym, ◌∙◌, Ok, arith, Err, ◌<◌}
 use Rattle.std.specs.Prelude.{is_some, take}
 use Rattle.std.specs.Result.{is_ok}
 use Rattle.std.specs.Vec.{with_items}
 use Rattle.std.proofs.lemmas.List.{with_items_is}
 use Rattle.strm_data.specs.DataStore.{times}
+use Rattle.strm_data.specs.declared.refusal.Refusal.TheVariants.{NoMblk}
 use Rattle.strm_mblk.specs.declared.blocks.Fields.{Fields}
 use Rattle.strm_mblk.specs.declared.token.TokenValue.{TokenValue}
-use Rattle.strm_mblk.specs.Arena.{Arena, has, held_at, shelved_blocks, token_of}
-use Rattle.strm_mblk.specs.BlockCalls.{copies}
+use Rattle.strm_mblk.specs.Arena.{Arena, has, held_at, shelved_blocks, token_of, message_at}
+use Rattle.strm_mblk.specs.BlockCalls.{copies, copied}
 use Rattle.strm_mblk.specs.BlocksLayout.{arena_in, arena_of, message_of}
 use Rattle.strm_mblk.specs.Copying.{AreCopied}
-use Rattle.strm_mblk.specs.Given.{after, answer_map, answer_of}
+use Rattle.strm_mblk.specs.Given.{value_after, answer_map, answer_of}
 use Rattle.strm_mblk.specs.NodeLists.{nodes_at}
-use Rattle.strm_mblk.proofs.BegunBeside.{IsBeside, beside}
-use Rattle.strm_mblk.proofs.Copied.{IsCopied, copied_all}
-use Rattle.strm_mblk.proofs.Tokens.{token_had}
+use Rattle.strm_mblk.proofs.making.BegunBeside.{IsBeside, beside}
+use Rattle.strm_mblk.proofs.making.CopiedMessage.{IsCopied, copied_all}
+use Rattle.strm_mblk.proofs.arena.Heads.{of_blocks, few_free_copied, taken_many}
+use Rattle.strm_mblk.proofs.arena.Tokens.{token_had}
+use Rattle.strm_mblk.proofs.arena.Frame.{leaves_copied, leaves_given}
+use Rattle.strm_mblk.proofs.layout.Lawful.{parted_inside}
 use Rattle.strm_mblk.proofs.blocks.Blocks.copy.Goals as goal
-use Rattle.strm_mblk.proofs.blocks.Blocks.copy.Goals.{After-begin_all-head, After-copy_blocks}
+use Rattle.strm_mblk.proofs.blocks.Blocks.copy.Goals.{After-begin_all-head, After-copy_blocks, After-free_len}
 
 module _ (c : After-begin_all-head) where
   had : has (arena_in c.self.inside) c.args.token.now ≡ true
@@ -24,7 +28,7 @@ module _ (c : After-begin_all-head) where
 
   is_beside : IsBeside c.self.inside.chains c.begin_all-head.new.self c.args.token.now.head c.begin_all-head.result c.args.count
   is_beside =
-      beside c.self.inside.id c.self.inside.data c.self.inside.blocks.items c.self.inside.chains c.self.invariant.filled c.args.token.now had c.args.count c.requires.some c.requires.enough
+      beside c.self.inside.id c.self.inside.data c.self.inside.blocks.items c.self.inside.chains c.self.invariant.filled c.args.token.now had c.args.count (of_blocks c.args.self.now (parted_inside c.self.inside c.self.invariant c.args.self.now c.self.view_is) c.args.token.now c.requires.had c.args.count c.requires.count).0 (of_blocks c.args.self.now (parted_inside c.self.inside c.self.invariant c.args.self.now c.self.view_is) c.args.token.now c.requires.had c.args.count c.requires.count).1
       (omega (arith, c.if-free_len-count.false, c.free_len.ensures)) c.begin_all-head.result c.begin_all-head.ensures.answer c.begin_all-head.new.self c.begin_all-head.ensures.after
 
 pub copy_blocks-requires-clause-into : goal.copy_blocks-requires-clause-into
@@ -61,7 +65,7 @@ module _ (c : After-copy_blocks) where
   is_copied =
       subst (λ a. IsCopied a c.copy_blocks.new.stored said c.begin_all-head.new.self c.self.inside.id c.begin_all-head.result c.args.count c.args.token.now) c.self.view_is
       (copied_all c.self.inside.id c.self.inside.data c.self.inside.blocks.items c.self.inside.chains c.self.invariant.filled c.args.token.now (subst (λ a. has a c.args.token.now ≡ true) (sym c.self.view_is) c.requires.had)
-      c.args.count c.requires.some c.requires.enough (omega (arith, c.if-free_len-count.false, c.free_len.ensures))
+      c.args.count (of_blocks c.args.self.now (parted_inside c.self.inside c.self.invariant c.args.self.now c.self.view_is) c.args.token.now c.requires.had c.args.count c.requires.count).0 (of_blocks c.args.self.now (parted_inside c.self.inside c.self.invariant c.args.self.now c.self.view_is) c.args.token.now c.requires.had c.args.count c.requires.count).1 (omega (arith, c.if-free_len-count.false, c.free_len.ensures))
       c.begin_all-head.result c.begin_all-head.ensures.answer c.begin_all-head.new.self c.begin_all-head.ensures.after c.begin_all-head.ensures.parted
       c.copy_blocks.new.stored said c.copy_blocks.ensures.kept
       (subst (λ (p : List Fields × (ℕ × List Fields)).
@@ -77,7 +81,7 @@ pub token-requires : goal.token-requires
 token-requires c = ap is_some (is_copied (goal.at.token-requires c).After-copy_blocks).begun.held
 
 pub returns-clause-after : goal.returns-clause-after
-returns-clause-after c = sym (ap (after c.args.self.now) (is_copied (goal.at.returns-clause-after c).After-copy_blocks).done)
+returns-clause-after c = sym (ap (value_after c.args.self.now) (is_copied (goal.at.returns-clause-after c).After-copy_blocks).done)
 
 pub returns-clause-token : goal.returns-clause-token
 returns-clause-token c =
@@ -95,3 +99,25 @@ returns-clause-unheld c =
 
 pub returns-clause-source : goal.returns-clause-source
 returns-clause-source c = (is_copied (goal.at.returns-clause-source c).After-copy_blocks).source
+
+pub returns-clause-others : goal.returns-clause-others
+returns-clause-others c =
+    let at = (goal.at.returns-clause-others c).After-copy_blocks in
+    let parted = parted_inside c.self.inside c.self.invariant c.args.self.now c.self.view_is in
+    leaves_given c.args.self.now (now at) c.token.result c.begin_all-head.result _ (leaves_copied c.args.self.now parted _) (is_copied at).done c.token.ensures
+
+-- ---- too few message blocks are free
+
+few_free : (c : After-free_len) → c.free_len.result < c.args.count → copied (take c.args.count (message_at c.args.self.now c.args.token.now.head)) c.args.self.now ≡ Err NoMblk
+few_free c few =
+    let parted = parted_inside c.self.inside c.self.invariant c.args.self.now c.self.view_is in
+    few_free_copied c.args.self.now (take c.args.count (message_at c.args.self.now c.args.token.now.head))
+    (omega (arith, few, c.free_len.ensures, ap (λ (a : Arena). length a.free) c.self.view_is, taken_many c.args.self.now parted c.args.token.now c.requires.had c.args.count c.requires.count))
+
+pub returns-then-free_len-count-clause-after : goal.returns-then-free_len-count-clause-after
+returns-then-free_len-count-clause-after c =
+    sym (ap (value_after c.args.self.now) (few_free (goal.at.returns-then-free_len-count-clause-after c).After-free_len c.if-free_len-count.true))
+
+pub returns-then-free_len-count-clause-token : goal.returns-then-free_len-count-clause-token
+returns-then-free_len-count-clause-token c =
+    sym (ap (λ r. answer_map (token_of c.args.self.now) (answer_of r)) (few_free (goal.at.returns-then-free_len-count-clause-token c).After-free_len c.if-free_len-count.true))

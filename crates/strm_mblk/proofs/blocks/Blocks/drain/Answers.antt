@@ -3,8 +3,8 @@ use Rattle.std.specs.Prelude.{is_some}
 use Rattle.std.proofs.lemmas.Bool.{cases_eq}
 use Rattle.strm_mblk.specs.Arena.{held_at, message_at}
 use Rattle.strm_mblk.specs.Pulling.{drained, second_taken}
-use Rattle.strm_mblk.proofs.Drained.{IsStep, drained_alone, drained_nothing, steps}
-use Rattle.strm_mblk.proofs.Tokens.{held_is}
+use Rattle.strm_mblk.proofs.pulling.Drained.{IsStep, drained_alone, drained_nothing, steps}
+use Rattle.strm_mblk.proofs.arena.Tokens.{held_is}
 use Rattle.strm_mblk.proofs.blocks.Blocks.drain.Goals as goal
 
 pub returns-then-left-eq0 : goal.returns-then-left-eq0

@@ -1,8 +1,8 @@
 use Rattle.std.proofs.Common.{◌≡◌, ℕ, ◌+◌, ◌<◌, ◌≤◌, true, false, not, Bool, List, length, ap, refl, subst, sym, ◌∙◌, Ok, Err, map, take, arith}
-use Rattle.std.specs.Prelude.{is_some}
+use Rattle.std.specs.Prelude.{is_some, take}
 use Rattle.strm_data.specs.CountedStore.{CountedStore, count_of}
 use Rattle.strm_data.specs.DataStore.{times}
-use Rattle.strm_data.specs.declared.refusal.Refusal.TheVariants.{RefMax}
+use Rattle.strm_data.specs.declared.refusal.Refusal.TheVariants.{RefMax, NoMblk}
 use Rattle.std.specs.Vec.{with_items}
 use Rattle.std.proofs.lemmas.List.{with_items_is}
 use Rattle.strm_mblk.specs.declared.blocks.Fields.{Fields}
@@ -10,13 +10,16 @@ use Rattle.strm_mblk.specs.declared.token.TokenValue.{TokenValue}
 use Rattle.strm_mblk.specs.Arena.{Arena, has, held_at, message_at, shelved_blocks, token_of}
 use Rattle.strm_mblk.specs.BlockCalls.{duplicated}
 use Rattle.strm_mblk.specs.BlocksLayout.{arena_in, arena_of, exceeds_counts, fields_at, named_by, with_fields, with_names_given}
-use Rattle.strm_mblk.specs.Given.{after, answer_map, answer_of}
+use Rattle.strm_mblk.specs.Given.{value_after, answer_map, answer_of}
 use Rattle.strm_mblk.specs.NodeLists.{nodes_at}
-use Rattle.strm_mblk.proofs.BegunBeside.{IsBeside, beside}
-use Rattle.strm_mblk.proofs.Duplicated.{IsDuplicated, duplicates, refused, used}
-use Rattle.strm_mblk.proofs.Tokens.{token_had}
+use Rattle.strm_mblk.proofs.making.BegunBeside.{IsBeside, beside}
+use Rattle.strm_mblk.proofs.making.Duplicated.{IsDuplicated, duplicates, refused, used}
+use Rattle.strm_mblk.proofs.arena.Heads.{of_blocks, few_free_duplicated, taken_many}
+use Rattle.strm_mblk.proofs.arena.Tokens.{token_had}
+use Rattle.strm_mblk.proofs.arena.Frame.{leaves_duplicated, leaves_given}
+use Rattle.strm_mblk.proofs.layout.Lawful.{parted_inside}
 use Rattle.strm_mblk.proofs.blocks.Blocks.duplicate.Goals as goal
-use Rattle.strm_mblk.proofs.blocks.Blocks.duplicate.Goals.{After-copy_fields, After-deref, After-deref_mut, Then-not-give_names}
+use Rattle.strm_mblk.proofs.blocks.Blocks.duplicate.Goals.{After-copy_fields, After-deref, After-deref_mut, Then-not-give_names, After-free_len}
 
 module _ (c : After-deref) where
   had : has (arena_in c.self.inside) c.args.token.now ≡ true
@@ -29,7 +32,7 @@ module _ (c : After-deref) where
   in_use : (d : ℕ) → 0 < times d (named_by c.deref.result.now (nodes_at c.self.inside.chains c.head-from.result)) → 0 < count_of c.self.inside.data d
   in_use =
       subst (λ ds. (d : ℕ) → 0 < times d ds → 0 < count_of c.self.inside.data d) (sym named_is)
-      (used c.self.inside.id c.self.inside.data c.self.inside.blocks.items c.self.inside.chains c.self.invariant.filled c.args.token.now had c.args.count c.requires.some c.requires.enough)
+      (used c.self.inside.id c.self.inside.data c.self.inside.blocks.items c.self.inside.chains c.self.invariant.filled c.args.token.now had c.args.count (of_blocks c.args.self.now (parted_inside c.self.inside c.self.invariant c.args.self.now c.self.view_is) c.args.token.now c.requires.had c.args.count c.requires.count).0 (of_blocks c.args.self.now (parted_inside c.self.inside c.self.invariant c.args.self.now c.self.view_is) c.args.token.now c.requires.had c.args.count c.requires.count).1)
 
 pub give_names-requires-clause-used : goal.give_names-requires-clause-used
 give_names-requires-clause-used c = in_use (goal.at.give_names-requires-clause-used c).After-deref
@@ -47,14 +50,14 @@ too_many : (c : Then-not-give_names) → duplicated (take c.args.count (message_
 too_many c =
     let at = (goal.at.returns-then-not-give_names-clause-after c).After-deref in
     subst (λ a. duplicated (take c.args.count (message_at a c.args.token.now.head)) a ≡ Err RefMax) c.self.view_is
-    (refused c.self.inside.id c.self.inside.data c.self.inside.blocks.items c.self.inside.chains c.self.invariant.filled c.args.token.now (had at) c.args.count c.requires.some c.requires.enough
+    (refused c.self.inside.id c.self.inside.data c.self.inside.blocks.items c.self.inside.chains c.self.invariant.filled c.args.token.now (had at) c.args.count (of_blocks c.args.self.now (parted_inside c.self.inside c.self.invariant c.args.self.now c.self.view_is) c.args.token.now c.requires.had c.args.count c.requires.count).0 (of_blocks c.args.self.now (parted_inside c.self.inside c.self.invariant c.args.self.now c.self.view_is) c.args.token.now c.requires.had c.args.count c.requires.count).1
     (omega (arith, c.if-free_len-count.false, c.free_len.ensures))
     (refused_by _ (c.if-not-give_names.ensures.answer ∙ ap (λ ds. not (exceeds_counts (take c.args.count ds) c.self.inside.data)) (named_is at))))
 
 pub returns-then-not-give_names-clause-after : goal.returns-then-not-give_names-clause-after
 returns-then-not-give_names-clause-after c =
     ap (λ (st : CountedStore). arena_of c.self.inside.id st.store c.self.inside.blocks.items c.self.inside.chains) c.if-not-give_names.ensures.after
-    ∙ c.self.view_is ∙ sym (ap (after c.args.self.now) (too_many c))
+    ∙ c.self.view_is ∙ sym (ap (value_after c.args.self.now) (too_many c))
 
 pub returns-then-not-give_names-clause-token : goal.returns-then-not-give_names-clause-token
 returns-then-not-give_names-clause-token c =
@@ -63,7 +66,7 @@ returns-then-not-give_names-clause-token c =
 is_beside : (c : After-deref_mut) → IsBeside c.self.inside.chains c.begin_all-head.new.self c.args.token.now.head c.begin_all-head.result c.args.count
 is_beside c =
     beside c.self.inside.id c.self.inside.data c.self.inside.blocks.items c.self.inside.chains c.self.invariant.filled c.args.token.now (subst (λ a. has a c.args.token.now ≡ true) (sym c.self.view_is) c.requires.had)
-    c.args.count c.requires.some c.requires.enough (omega (arith, c.if-free_len-count.false, c.free_len.ensures))
+    c.args.count (of_blocks c.args.self.now (parted_inside c.self.inside c.self.invariant c.args.self.now c.self.view_is) c.args.token.now c.requires.had c.args.count c.requires.count).0 (of_blocks c.args.self.now (parted_inside c.self.inside c.self.invariant c.args.self.now c.self.view_is) c.args.token.now c.requires.had c.args.count c.requires.count).1 (omega (arith, c.if-free_len-count.false, c.free_len.ensures))
     c.begin_all-head.result c.begin_all-head.ensures.answer c.begin_all-head.new.self c.begin_all-head.ensures.after
 
 pub copy_fields-requires-clause-to : goal.copy_fields-requires-clause-to
@@ -94,7 +97,7 @@ module _ (c : After-copy_fields) where
       λ i. named_by (c.deref.ensures.value i) (nodes_at c.self.inside.chains (c.head-from.ensures i)) in
       subst (λ a. IsDuplicated a c.give_names.new.stored said c.begin_all-head.new.self c.self.inside.id c.begin_all-head.result (take c.args.count (message_at a c.args.token.now.head)) c.args.token.now) c.self.view_is
       (duplicates c.self.inside.id c.self.inside.data c.self.inside.blocks.items c.self.inside.chains c.self.invariant.filled c.args.token.now (subst (λ a. has a c.args.token.now ≡ true) (sym c.self.view_is) c.requires.had)
-      c.args.count c.requires.some c.requires.enough (omega (arith, c.if-free_len-count.false, c.free_len.ensures))
+      c.args.count (of_blocks c.args.self.now (parted_inside c.self.inside c.self.invariant c.args.self.now c.self.view_is) c.args.token.now c.requires.had c.args.count c.requires.count).0 (of_blocks c.args.self.now (parted_inside c.self.inside c.self.invariant c.args.self.now c.self.view_is) c.args.token.now c.requires.had c.args.count c.requires.count).1 (omega (arith, c.if-free_len-count.false, c.free_len.ensures))
       c.begin_all-head.result c.begin_all-head.ensures.answer c.begin_all-head.new.self c.begin_all-head.ensures.after c.begin_all-head.ensures.parted
       c.give_names.new.stored said c.if-not-give_names.ensures.kept
       (given_by _ (c.if-not-give_names.ensures.answer ∙ ap (λ ds. not (exceeds_counts (take c.args.count ds) c.self.inside.data)) names))
@@ -111,7 +114,7 @@ pub token-requires : goal.token-requires
 token-requires c = ap is_some (is_duplicated (goal.at.token-requires c).After-copy_fields).begun.held
 
 pub returns-clause-after : goal.returns-clause-after
-returns-clause-after c = sym (ap (after c.args.self.now) (is_duplicated (goal.at.returns-clause-after c).After-copy_fields).done)
+returns-clause-after c = sym (ap (value_after c.args.self.now) (is_duplicated (goal.at.returns-clause-after c).After-copy_fields).done)
 
 pub returns-clause-token : goal.returns-clause-token
 returns-clause-token c =
@@ -129,3 +132,25 @@ returns-clause-unheld c =
 
 pub returns-clause-source : goal.returns-clause-source
 returns-clause-source c = (is_duplicated (goal.at.returns-clause-source c).After-copy_fields).source
+
+pub returns-clause-others : goal.returns-clause-others
+returns-clause-others c =
+    let at = (goal.at.returns-clause-others c).After-copy_fields in
+    let parted = parted_inside c.self.inside c.self.invariant c.args.self.now c.self.view_is in
+    leaves_given c.args.self.now (now at) c.token.result c.begin_all-head.result _ (leaves_duplicated c.args.self.now parted _) (is_duplicated at).done c.token.ensures
+
+-- ---- too few message blocks are free
+
+few_free : (c : After-free_len) → c.free_len.result < c.args.count → duplicated (take c.args.count (message_at c.args.self.now c.args.token.now.head)) c.args.self.now ≡ Err NoMblk
+few_free c few =
+    let parted = parted_inside c.self.inside c.self.invariant c.args.self.now c.self.view_is in
+    few_free_duplicated c.args.self.now (take c.args.count (message_at c.args.self.now c.args.token.now.head))
+    (omega (arith, few, c.free_len.ensures, ap (λ (a : Arena). length a.free) c.self.view_is, taken_many c.args.self.now parted c.args.token.now c.requires.had c.args.count c.requires.count))
+
+pub returns-then-free_len-count-clause-after : goal.returns-then-free_len-count-clause-after
+returns-then-free_len-count-clause-after c =
+    sym (ap (value_after c.args.self.now) (few_free (goal.at.returns-then-free_len-count-clause-after c).After-free_len c.if-free_len-count.true))
+
+pub returns-then-free_len-count-clause-token : goal.returns-then-free_len-count-clause-token
+returns-then-free_len-count-clause-token c =
+    sym (ap (λ r. answer_map (token_of c.args.self.now) (answer_of r)) (few_free (goal.at.returns-then-free_len-count-clause-token c).After-free_len c.if-free_len-count.true))

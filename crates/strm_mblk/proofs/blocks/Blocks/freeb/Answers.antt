@@ -1,12 +1,14 @@
-use Rattle.std.proofs.Common.{◌≡◌, ap, subst, sym, ◌∙◌, true}
+use Rattle.std.proofs.Common.{◌∷◌, ◌≡◌, ap, subst, sym, ◌∙◌, true}
 use Rattle.std.specs.Option.{IfSome}
 use Rattle.strm_mblk.specs.declared.token.TokenValue.{TokenValue}
 use Rattle.strm_mblk.specs.Arena.{has, message_at, token_of}
 use Rattle.std.specs.Prelude.{option_map}
 use Rattle.strm_mblk.specs.BlockCalls.{freeb, unlinkb}
 use Rattle.strm_mblk.specs.Freeing.{spent}
-use Rattle.strm_mblk.proofs.Heads.{IsOneFreed, frees_one}
-use Rattle.strm_mblk.proofs.Tokens.{had_message}
+use Rattle.strm_mblk.proofs.arena.Heads.{IsOneFreed, frees_one}
+use Rattle.strm_mblk.proofs.arena.Tokens.{had_message}
+use Rattle.strm_mblk.proofs.arena.Frame.{leaves_freeb}
+use Rattle.strm_mblk.specs.Frame.{LeavesOthers, head_given}
 use Rattle.strm_mblk.proofs.blocks.Blocks.freeb.Goals as goal
 use Rattle.strm_mblk.proofs.blocks.Blocks.freeb.Goals.{After-freemsg}
 
@@ -18,7 +20,7 @@ is_freed c =
     (subst (λ a. has a c.unlinkb-rest.new.token ≡ true) c.unlinkb-rest.ensures.after c.unlinkb-rest.ensures.had)
 
 after_is : (c : After-freemsg) → c.freemsg.new.self ≡ (freeb c.args.token.head c.args.self.now).1
-after_is c = c.freemsg.ensures ∙ ap (λ a. spent a c.unlinkb-rest.new.token) c.unlinkb-rest.ensures.after ∙ (is_freed c).after
+after_is c = c.freemsg.ensures.after ∙ ap (λ a. spent a c.unlinkb-rest.new.token) c.unlinkb-rest.ensures.after ∙ (is_freed c).after
 
 rest_is : (c : After-freemsg) → c.unlinkb-rest.result ≡ option_map (token_of (freeb c.args.token.head c.args.self.now).1) (freeb c.args.token.head c.args.self.now).0
 rest_is c =
@@ -34,3 +36,10 @@ pub returns-clause-had : goal.returns-clause-had
 returns-clause-had c =
     subst (λ o. IfSome o (λ r. has c.freemsg.new.self r ≡ true)) (sym (rest_is c))
     (subst (λ a. IfSome (option_map (token_of (freeb c.args.token.head c.args.self.now).1) (freeb c.args.token.head c.args.self.now).0) (λ r. has a r ≡ true)) (sym (after_is c)) (is_freed c).had)
+
+pub returns-clause-others : goal.returns-clause-others
+returns-clause-others c =
+    let h = c.args.token.head in
+    let made = freeb h c.args.self.now in
+    subst (λ o. LeavesOthers (h ∷ head_given o) c.args.self.now c.freemsg.new.self) (sym (rest_is c))
+    (subst (LeavesOthers (h ∷ head_given (option_map (token_of made.1) made.0)) c.args.self.now) (sym (after_is c)) (leaves_freeb c.args.self.now made.1 h))

@@ -1,13 +1,16 @@
-use Rattle.std.proofs.Common.{◌≡◌, ◌≤◌, Some, true, length, ap, subst, sym, ◌∙◌, List}
+use Rattle.std.proofs.Common.{[], ◌∷◌, ◌≡◌, ◌≤◌, Some, true, length, ap, subst, sym, ◌∙◌, List}
 use Rattle.std.specs.Prelude.{take}
 use Rattle.strm_data.specs.CountedStore.{count_of}
 use Rattle.strm_data.specs.DataStore.{times}
 use Rattle.strm_mblk.specs.declared.blocks.Fields.{Fields}
 use Rattle.strm_mblk.specs.Arena.{shelved_blocks}
-use Rattle.strm_mblk.specs.BlocksLayout.{named_by, with_names_dropped}
+use Rattle.strm_mblk.specs.BlocksLayout.{arena_of, named_by, with_names_dropped}
+use Rattle.strm_mblk.specs.Freeing.{spent}
 use Rattle.strm_mblk.specs.Messages.{held_in}
 use Rattle.strm_mblk.specs.NodeLists.{nodes_at}
-use Rattle.strm_mblk.proofs.Freemsg.{IsFreed, enough, frees, spent_had, token_held, token_named}
+use Rattle.strm_mblk.proofs.freeing.Freemsg.{IsFreed, enough, frees, spent_had, token_held, token_named}
+use Rattle.strm_mblk.proofs.arena.Frame.{leaves_spent}
+use Rattle.strm_mblk.specs.Frame.{LeavesOthers}
 use Rattle.strm_mblk.proofs.blocks.Blocks.freemsg.Goals as goal
 use Rattle.strm_mblk.proofs.blocks.Blocks.freemsg.Goals.{After-free, After-spend-token}
 
@@ -46,5 +49,11 @@ invariant_of-self c =
     let is = is_freed c in
     record { filled = is.filled; queued = c.self.invariant.queued ∙ ap (λ a. length (shelved_blocks a)) c.self.view_is ∙ ap length (sym is.shelved) }
 
-pub returns-then-has : goal.returns-then-has
-returns-then-has c = (is_freed c).after ∙ spent_had c.args.self.now c.args.token c.spend-token.result c.spend-token.ensures (sym c.has-has.ensures ∙ c.if-has.true)
+freed_is : (c : After-free) → arena_of c.self.inside.id c.drop_names.new.stored.store c.self.inside.blocks.items c.free.new.self ≡ spent c.args.self.now c.args.token
+freed_is c = (is_freed c).after ∙ spent_had c.args.self.now c.args.token c.spend-token.result c.spend-token.ensures (sym c.has-has.ensures ∙ c.if-has.true)
+
+pub returns-then-has-clause-after : goal.returns-then-has-clause-after
+returns-then-has-clause-after c = freed_is c
+
+pub returns-then-has-clause-others : goal.returns-then-has-clause-others
+returns-then-has-clause-others c = subst (LeavesOthers (c.args.token.head ∷ []) c.args.self.now) (sym (freed_is c)) (leaves_spent c.args.self.now c.args.token)

@@ -8,9 +8,9 @@ use Rattle.strm_mblk.specs.Block.{Block, size_of}
 use Rattle.strm_mblk.specs.BlocksLayout.{block_at, no_fields}
 use Rattle.strm_mblk.specs.NodeLists.{shelved_nodes}
 use Rattle.strm_mblk.specs.Shelves.{shelved_message}
-use Rattle.strm_mblk.proofs.HeadSize.{block_here, few_blocks, head, none_there, seen_at, small}
-use Rattle.strm_mblk.proofs.Summing.{sum_from, sum_past}
-use Rattle.strm_mblk.proofs.Shelving.{IsHead, is_head}
+use Rattle.strm_mblk.proofs.shelving.HeadSize.{block_here, few_blocks, head, none_there, seen_at, small}
+use Rattle.strm_mblk.proofs.reading.Summing.{sum_from, sum_past}
+use Rattle.strm_mblk.proofs.shelving.Shelving.{IsHead, is_head}
 use Rattle.strm_mblk.proofs.blocks.Blocks.head_size.Goals as goal
 use Rattle.strm_mblk.proofs.blocks.Blocks.head_size.Goals.{After-index, In-Some}
 

@@ -1,9 +1,10 @@
-use Rattle.std.proofs.Common.{◌≡◌, ◌<◌, subst, ◌+◌, length}
+use Rattle.std.proofs.Common.{◌≡◌, ◌≤◌, subst, ◌+◌, length}
 use Rattle.std.specs.List.{All}
 use Rattle.strm_data.specs.CountedStore.{IsKept}
 use Rattle.strm_mblk.specs.Arena.{Arena, IsParted, IsWithin, blocks_in, counted_in, shelved_blocks, held_blocks}
-use Rattle.strm_mblk.proofs.Lawful.{law_few, law_kept, law_parted, law_whole, law_within}
+use Rattle.strm_mblk.proofs.layout.Lawful.{law_few, law_kept, law_parted, law_whole, law_within}
 use Rattle.strm_mblk.proofs.blocks.Blocks.lawful.Goals as goal
+use Rattle.strm_mblk.specs.Limits.{most_message_blocks}
 
 pub returns-clause-parted : goal.returns-clause-parted
 returns-clause-parted c = subst IsParted c.self.view_is (law_parted c.self.inside.id c.self.inside.data c.self.inside.blocks.items c.self.inside.chains c.self.invariant.filled)
@@ -18,4 +19,4 @@ pub returns-clause-within : goal.returns-clause-within
 returns-clause-within c = subst (λ (a : Arena). All (IsWithin a.store) (blocks_in a)) c.self.view_is (law_within c.self.inside.id c.self.inside.data c.self.inside.blocks.items c.self.inside.chains c.self.invariant.filled)
 
 pub returns-clause-few : goal.returns-clause-few
-returns-clause-few c = subst (λ (a : Arena). length a.held < 4096) c.self.view_is (law_few c.self.inside.id c.self.inside.data c.self.inside.blocks.items c.self.inside.chains c.self.invariant.filled)
+returns-clause-few c = subst (λ (a : Arena). length a.held ≤ most_message_blocks) c.self.view_is (law_few c.self.inside.id c.self.inside.data c.self.inside.blocks.items c.self.inside.chains c.self.invariant.filled)

@@ -2,7 +2,7 @@ use Rattle.std.proofs.Common.{◌≡◌, ap, ◌∙◌, replicate}
 use Rattle.strm_mblk.specs.declared.blocks.Fields.{Fields}
 use Rattle.strm_mblk.specs.BlocksLayout.{no_fields}
 use Rattle.strm_mblk.specs.NodeLists.{opening_nodes}
-use Rattle.strm_mblk.proofs.OpenedBlocks.{opening_shows, opening_filled, opening_queued}
+use Rattle.strm_mblk.proofs.layout.Opened.{opening_shows, opening_filled, opening_queued}
 use Rattle.strm_mblk.proofs.blocks.Blocks.new.Goals as goal
 use Rattle.strm_mblk.proofs.blocks.Blocks.new.Goals.{In_ok-new-2}
 

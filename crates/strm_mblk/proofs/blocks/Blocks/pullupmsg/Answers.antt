@@ -1,24 +1,26 @@
-use Rattle.std.proofs.Common.{rules, w32, ◌≡◌, ℕ, ◌-◌, ◌<◌, ◌≤◌, true, length, List, ◌∷◌, Some, Ok, Err, ap, sym, ◌∙◌, arith}
+use Rattle.std.proofs.Common.{rules, w32, ◌≡◌, ℕ, ◌-◌, ◌<◌, ◌≤◌, true, length, List, ◌∷◌, Some, Ok, Err, ap, sym, ◌∙◌, arith, [], subst}
 use Rattle.std.specs.Prelude.{is_some, drop}
 use Rattle.std.proofs.lemmas.Int.{to_z-of_z}
 use Rattle.std.proofs.lemmas.List.{get_or_read, length-map}
-use Rattle.strm_data.specs.Classes.{fits_a_class}
 use Rattle.strm_mblk.specs.declared.blocks.Fields.{Fields}
 use Rattle.strm_mblk.specs.Arena.{Arena, has, held_at, message_at, token_of}
 use Rattle.strm_mblk.specs.Block.{Block, size_of}
 use Rattle.strm_mblk.specs.BlocksLayout.{block_at, fields_at, message_of, no_fields}
-use Rattle.strm_mblk.specs.Given.{after, answer_of}
+use Rattle.strm_mblk.specs.Given.{value_after, answer_of}
 use Rattle.strm_mblk.specs.Messages.{held_in}
 use Rattle.strm_mblk.specs.NodeLists.{nodes_at}
 use Rattle.strm_mblk.specs.Pulling.{drained, gather}
 use Rattle.strm_mblk.specs.Trimming.{bytes_asked, pullupmsg, run_of}
-use Rattle.strm_mblk.proofs.Pulled.{IsPulled, gather_answer, gathered_held, lawful_few, pull_had, pull_large, pulls, run_most}
-use Rattle.strm_mblk.proofs.Refilled.{head_held}
-use Rattle.strm_mblk.proofs.Rewriting.{held_nodes}
-use Rattle.strm_mblk.proofs.SecondTaken.{IsHeldHead, seen_head}
-use Rattle.strm_mblk.proofs.Shown.{message_at-seen}
-use Rattle.strm_mblk.proofs.Tokens.{had_message, token_had}
-use Rattle.strm_mblk.proofs.Unlinkb.{token_is}
+use Rattle.strm_mblk.proofs.pulling.Pulled.{IsPulled, gather_answer, gather_refused, gathered_held, pull_had, pulls, run_most}
+use Rattle.strm_mblk.proofs.pulling.Gathered.{head_held}
+use Rattle.strm_mblk.proofs.layout.Rewriting.{held_nodes}
+use Rattle.strm_mblk.proofs.pulling.SecondTaken.{IsHeldHead, seen_head}
+use Rattle.strm_mblk.proofs.layout.Shown.{message_at-seen}
+use Rattle.strm_mblk.proofs.arena.Tokens.{had_message, token_had}
+use Rattle.strm_mblk.proofs.joining.Unlinkb.{token_is}
+use Rattle.strm_mblk.proofs.arena.Frame.{leaves_pullupmsg}
+use Rattle.strm_mblk.specs.Frame.{LeavesOthers}
+use Rattle.strm_mblk.proofs.layout.Lawful.{parted_inside}
 use Rattle.strm_mblk.proofs.blocks.Blocks.pullupmsg.Goals as goal
 use Rattle.strm_mblk.proofs.blocks.Blocks.pullupmsg.Goals.{After-index, After-set_blocks, After-from_residual}
 
@@ -67,7 +69,7 @@ module _ (c : After-index) where
 pub returns-then-wanted-len-clause-after : goal.returns-then-wanted-len-clause-after
 returns-then-wanted-len-clause-after c =
     let d = (goal.at.returns-then-wanted-len-clause-after c).After-index in
-    ap (after c.args.self.now)
+    ap (value_after c.args.self.now)
     (sym (pull_had (h d) c.in-Some.wanted (b d) (bs d) c.args.self.now (held d) c.args.count (asked d) (enough d) (omega (arith, c.if-wanted-len.true, len_is d))))
 
 pub returns-then-wanted-len-clause-answer : goal.returns-then-wanted-len-clause-answer
@@ -80,16 +82,6 @@ returns-then-wanted-len-clause-answer c =
 
 more : (c : After-index) → c.index.result.now.len < c.in-Some.wanted → (b c).len < c.in-Some.wanted
 more c many = omega (arith, many, len_is c)
-
-pub returns-then-not-has_class_for-clause-answer : goal.returns-then-not-has_class_for-clause-answer
-returns-then-not-has_class_for-clause-answer c =
-    let d = (goal.at.returns-then-not-has_class_for-clause-answer c).After-index in
-    pull_large (h d) c.in-Some.wanted (b d) (bs d) c.args.self.now (held d) c.args.count (asked d) (enough d) (more d c.if-wanted-len.false)
-    (ap (λ (a : Arena). fits_a_class c.in-Some.wanted a.store.classes) (sym c.self.view_is) ∙ sym c.has_class_for.ensures ∙ c.if-not-has_class_for.true)
-
-pub gather-requires-clause-few : goal.gather-requires-clause-few
-gather-requires-clause-few c =
-    lawful_few c.in-Some.wanted c.self.inside.data.store.classes c.self.invariant.filled.kept.lawful (sym c.has_class_for.ensures ∙ c.if-not-has_class_for.false)
 
 pub gather-requires-clause-enough : goal.gather-requires-clause-enough
 gather-requires-clause-enough c =
@@ -106,9 +98,21 @@ returns-in_err-gather-clause-answer c =
     ∙ sym c.in_err-gather.was ∙ c.gather.ensures.answer
     ∙ gather_answer (h d) c.in-Some.wanted (b d) (bs d) c.args.self.now (held d) c.args.count (asked d) (enough d) (more d c.if-wanted-len.false)
 
+pub returns-in_err-gather-clause-after : goal.returns-in_err-gather-clause-after
+returns-in_err-gather-clause-after c =
+    let d = (goal.at.returns-in_err-gather-clause-after c).After-index in
+    c.gather.ensures.after
+    ∙ gather_refused (h d) c.in-Some.wanted (b d) (bs d) c.args.self.now (held d) c.args.count (asked d) (enough d) (more d c.if-wanted-len.false) c.in_err-gather.field-0.0
+    (sym c.gather.ensures.answer ∙ c.in_err-gather.was)
+
+pub returns-in_err-gather-clause-others : goal.returns-in_err-gather-clause-others
+returns-in_err-gather-clause-others c =
+    subst (LeavesOthers (c.args.token.now.head ∷ []) c.args.self.now) (sym (returns-in_err-gather-clause-after c))
+    (leaves_pullupmsg c.args.self.now (parted_inside c.self.inside c.self.invariant c.args.self.now c.self.view_is) c.args.token.now.head c.args.count)
+
 -- ---- the first block takes a data block, and the others lose the bytes
 
-module _ (c : After-index) (many : c.index.result.now.len < c.in-Some.wanted) (first : Arena) (first_is : first ≡ after c.args.self.now (gather (h c) c.in-Some.wanted c.args.self.now))
+module _ (c : After-index) (many : c.index.result.now.len < c.in-Some.wanted) (first : Arena) (first_is : first ≡ value_after c.args.self.now (gather (h c) c.in-Some.wanted c.args.self.now))
     (u : Unit {0}) (given : answer_of (gather (h c) c.in-Some.wanted c.args.self.now) ≡ Ok u) where
   still_held : is_some (held_at first c.head-head.result) ≡ true
   still_held =
@@ -150,7 +154,7 @@ module _ (c : After-set_blocks) where
       ∙ ap (λ k. length (nodes_at c.self-2.inside.chains k)) (sym c.head-head.ensures) ∙ sym c.len.ensures)
 
 pub returns-clause-after : goal.returns-clause-after
-returns-clause-after c = sym (ap (after c.args.self.now) (done (goal.at.returns-clause-after c).After-set_blocks).done)
+returns-clause-after c = sym (ap (value_after c.args.self.now) (done (goal.at.returns-clause-after c).After-set_blocks).done)
 
 pub returns-clause-answer : goal.returns-clause-answer
 returns-clause-answer c = sym (ap answer_of (done (goal.at.returns-clause-answer c).After-set_blocks).done)
@@ -162,3 +166,8 @@ pub returns-clause-had : goal.returns-clause-had
 returns-clause-had c =
     let d = (goal.at.returns-clause-had c).After-set_blocks in
     ap (has c.drain.new.self) (token_now d) ∙ token_had c.drain.new.self c.args.token.now.head _ (done d).held
+
+pub returns-clause-others : goal.returns-clause-others
+returns-clause-others c =
+    subst (LeavesOthers (c.args.token.now.head ∷ []) c.args.self.now) (ap (value_after c.args.self.now) (done (goal.at.returns-clause-others c).After-set_blocks).done)
+    (leaves_pullupmsg c.args.self.now (parted_inside c.self.inside c.self.invariant c.args.self.now c.self.view_is) c.args.token.now.head c.args.count)

@@ -5,10 +5,10 @@ use Rattle.strm_mblk.specs.Arena.{Arena, message_at}
 use Rattle.strm_mblk.specs.Block.{bytes_of, bytes_of_block}
 use Rattle.strm_mblk.specs.BlocksLayout.{IsPlaced, block_of, fields_at, no_fields}
 use Rattle.strm_mblk.specs.NodeLists.{nodes_at}
-use Rattle.strm_mblk.proofs.Bytes.{IsRead, all_read, bytes_from, length-bytes_of_block, past_last}
-use Rattle.strm_mblk.proofs.ListParts.{drop_past, put_rest}
-use Rattle.strm_mblk.proofs.Overlaid.{IsLaid, laid_on}
-use Rattle.strm_mblk.proofs.Places.{IsAt, block_none, block_some}
+use Rattle.strm_mblk.proofs.reading.Bytes.{IsRead, all_read, bytes_from, length-bytes_of_block, past_last}
+use Rattle.strm_mblk.proofs.lists.ListParts.{drop_past, put_rest}
+use Rattle.strm_mblk.proofs.lists.Overlaid.{IsLaid, laid_on}
+use Rattle.strm_mblk.proofs.layout.Places.{IsAt, block_none, block_some}
 use borrow.Rule.Slice.PartMut.{put_mid}
 use Rattle.strm_mblk.proofs.blocks.Blocks.read.Goals as goal
 use Rattle.strm_mblk.proofs.blocks.Blocks.read.Goals.{After-index-fields, After-loop-block, In_default}

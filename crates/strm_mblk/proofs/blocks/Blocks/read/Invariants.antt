@@ -4,7 +4,7 @@ use Rattle.std.specs.Option.{IfSome}
 use Rattle.strm_mblk.specs.Arena.{message_at}
 use Rattle.strm_mblk.specs.Block.{bytes_of}
 use Rattle.strm_mblk.specs.NodeLists.{nodes_at}
-use Rattle.strm_mblk.proofs.Overlaid.{IsLaid}
+use Rattle.strm_mblk.proofs.lists.Overlaid.{IsLaid}
 use Rattle.strm_mblk.proofs.blocks.Blocks.read.Given as goal
 
 -- the block at this step, and the bytes so far, which with those to come are all

@@ -5,7 +5,7 @@ use Rattle.strm_data.specs.DataStore.{data_block_at}
 use Rattle.strm_data.proofs.Kept.{capacity_range}
 use Rattle.strm_mblk.specs.Arena.{Arena}
 use Rattle.strm_mblk.specs.BlocksLayout.{IsPlaced}
-use Rattle.strm_mblk.proofs.ListParts.{take-part}
+use Rattle.strm_mblk.proofs.lists.ListParts.{take-part}
 use Rattle.strm_mblk.proofs.blocks.Blocks.read_block.Goals as goal
 
 pub overflow_add-fields : goal.overflow_add-fields

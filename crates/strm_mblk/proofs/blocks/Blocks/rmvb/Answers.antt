@@ -1,16 +1,18 @@
-use Rattle.std.proofs.Common.{◌≡◌, ℕ, Some, Ok, Err, Option, length, ap, subst, sym, ◌∙◌}
+use Rattle.std.proofs.Common.{[], ◌∷◌, ◌≡◌, ℕ, Some, Ok, Err, Option, length, ap, subst, sym, ◌∙◌}
 use Rattle.std.specs.Prelude.{is_some, option_map, slice_get}
 use Rattle.strm_data.specs.declared.refusal.Refusal.TheVariants.{NoSuchBlock}
 use Rattle.strm_mblk.specs.declared.token.TokenValue.{TokenValue}
 use Rattle.strm_mblk.specs.Arena.{Arena, has, held_at, message_at, shelved_blocks, token_of}
 use Rattle.strm_mblk.specs.BlockCalls.{rmvb, rmvb_of, unlinkb}
 use Rattle.strm_mblk.specs.BlocksLayout.{arena_of}
-use Rattle.strm_mblk.specs.Given.{Given, after, answer_map, answer_of, or_rejected}
+use Rattle.strm_mblk.specs.Given.{Given, value_after, answer_map, answer_of, or_rejected}
 use Rattle.strm_mblk.specs.NodeLists.{nodes_at}
-use Rattle.strm_mblk.proofs.Heads.{rmvb_first}
-use Rattle.strm_mblk.proofs.Places.{block_none}
-use Rattle.strm_mblk.proofs.TakenOut.{IsTakenOut, is_taken_out, none_first, refused_answer, stands_there}
-use Rattle.strm_mblk.proofs.Tokens.{had_message, token_had}
+use Rattle.strm_mblk.proofs.arena.Heads.{rmvb_first}
+use Rattle.strm_mblk.proofs.layout.Places.{block_none}
+use Rattle.strm_mblk.proofs.joining.TakenOut.{IsTakenOut, is_taken_out, none_first, refused_answer, stands_there}
+use Rattle.strm_mblk.proofs.arena.Tokens.{had_message, token_had}
+use Rattle.strm_mblk.proofs.arena.Frame.{leaves_rmvb}
+use Rattle.strm_mblk.specs.Frame.{LeavesOthers, heads_parted}
 use Rattle.strm_mblk.proofs.blocks.Blocks.rmvb.Goals as goal
 use Rattle.strm_mblk.proofs.blocks.Blocks.rmvb.Goals.{After-take_out, After-unlinkb-rest, In_default}
 
@@ -24,7 +26,7 @@ value_first c =
     ∙ ap (λ a. Ok ((c.args.token.head, (unlinkb c.args.token.head c.args.self.now).0), a)) (sym c.unlinkb-rest.ensures.after)
 
 pub returns-then-place-eq0-clause-after : goal.returns-then-place-eq0-clause-after
-returns-then-place-eq0-clause-after c = ap (after c.args.self.now) (sym (value_first c))
+returns-then-place-eq0-clause-after c = ap (value_after c.args.self.now) (sym (value_first c))
 
 -- ---- no such block
 
@@ -35,7 +37,7 @@ value_none c =
     (ap (λ h. slice_get (nodes_at c.self.inside.chains h) c.args.place) (sym c.head.ensures) ∙ sym c.node_at.ensures.value ∙ c.in_default.is))
 
 pub returns-in_default-clause-after : goal.returns-in_default-clause-after
-returns-in_default-clause-after c = ap (after c.args.self.now) (sym (value_none c))
+returns-in_default-clause-after c = ap (value_after c.args.self.now) (sym (value_none c))
 
 pub returns-in_default-clause-answer : goal.returns-in_default-clause-answer
 returns-in_default-clause-answer c =
@@ -79,7 +81,7 @@ pub token-requires-2 : goal.token-requires-2
 token-requires-2 c = ap is_some (rest_held (goal.at.token-requires-2 c).After-take_out)
 
 pub returns-clause-after : goal.returns-clause-after
-returns-clause-after c = ap (after c.args.self.now) (sym (is_taken (goal.at.returns-clause-after c).After-take_out).value)
+returns-clause-after c = ap (value_after c.args.self.now) (sym (is_taken (goal.at.returns-clause-after c).After-take_out).value)
 
 pub returns-clause-answer : goal.returns-clause-answer
 returns-clause-answer c =
@@ -101,3 +103,10 @@ returns-clause-rest_had c =
 pub returns-clause-unheld : goal.returns-clause-unheld
 returns-clause-unheld c other =
     ap (λ (t : TokenValue). held_at c.args.self.now t.head) c.token.ensures ∙ (is_taken (goal.at.returns-clause-unheld c).After-take_out).absent
+
+pub returns-clause-others : goal.returns-clause-others
+returns-clause-others c =
+    let d = (goal.at.returns-clause-others c).After-take_out in
+    subst (LeavesOthers (c.args.token.head ∷ c.token.result.head ∷ c.token-2.result.head ∷ []) c.args.self.now) (ap (value_after c.args.self.now) (is_taken d).value)
+    (subst (λ r. LeavesOthers (c.args.token.head ∷ heads_parted r) c.args.self.now (value_after c.args.self.now (rmvb c.args.token.head c.args.place c.args.self.now))) (sym (returns-clause-answer c))
+    (leaves_rmvb c.args.self.now (new_arena d) c.args.token c.args.token.head c.args.place))

@@ -6,18 +6,20 @@ use Rattle.std.proofs.lemmas.Bool.{not-false, not-true}
 use Rattle.std.proofs.lemmas.List.{get_or_read}
 use Rattle.strm_data.specs.DataStore.{data_block_at}
 use Rattle.strm_data.specs.MsgType.{same_kind}
+use Rattle.strm_data.specs.Limits.{most_data_block_bytes}
 use Rattle.strm_mblk.specs.declared.blocks.Fields.{Fields}
 use Rattle.strm_mblk.specs.Arena.{Arena, has, message_at}
 use Rattle.strm_mblk.specs.Block.{Block, Message, kind_of, size_of}
 use Rattle.strm_mblk.specs.BlocksLayout.{block_at, fields_at, no_fields}
 use Rattle.strm_mblk.specs.NodeLists.{nodes_at}
 use Rattle.strm_mblk.specs.Trimming.{along, run_of}
-use Rattle.strm_mblk.proofs.Along.{along_adds, block-along}
-use Rattle.strm_mblk.proofs.Counts.{sum_adds}
-use Rattle.strm_mblk.proofs.Runs.{run_ends, run_first, run_more, run_most, run_none, run_past}
-use Rattle.strm_mblk.proofs.Summing.{message_small}
+use Rattle.strm_mblk.proofs.lists.Along.{along_adds, block-along}
+use Rattle.strm_mblk.proofs.arena.Counts.{sum_adds}
+use Rattle.strm_mblk.proofs.trimming.Runs.{run_ends, run_first, run_more, run_most, run_none, run_past}
+use Rattle.strm_mblk.proofs.reading.Summing.{message_small}
 use Rattle.strm_mblk.proofs.blocks.Blocks.run_size.Goals as goal
 use Rattle.strm_mblk.proofs.blocks.Blocks.run_size.Goals.{After-kind-kind, After-ne}
+use Rattle.strm_mblk.specs.Limits.{most_message_blocks}
 
 -- the message has no block at all
 pub returns-in_default : goal.returns-in_default
@@ -57,10 +59,10 @@ module _ (c : After-kind-kind) where
       ∙ ap (λ k. take_while (λ b. same_kind (kind_of c.args.self.now.store b) k) message) (sym kind_is)
 
   -- the run is small
-  small : size_of (run_of c.args.self.now.store message) ≤ 4095 * 4096
+  small : size_of (run_of c.args.self.now.store message) ≤ most_message_blocks * most_data_block_bytes
   small =
-      let all : size_of (message_at c.args.self.now c.args.token.now.head) ≤ 4095 * 4096 =
-      subst (λ (a : Arena). has a c.args.token.now ≡ true → size_of (message_at a c.args.token.now.head) ≤ 4095 * 4096) c.self.view_is
+      let all : size_of (message_at c.args.self.now c.args.token.now.head) ≤ most_message_blocks * most_data_block_bytes =
+      subst (λ (a : Arena). has a c.args.token.now ≡ true → size_of (message_at a c.args.token.now.head) ≤ most_message_blocks * most_data_block_bytes) c.self.view_is
       (message_small c.self.inside.id c.self.inside.data c.self.inside.blocks.items c.self.inside.chains c.self.invariant.filled c.args.token.now) c.requires in
       omega (arith, all, run_most c.args.self.now.store message, along_adds (sum_adds (λ (b : Block). b.len)) c.args.from_tail (message_at c.args.self.now c.args.token.now.head))
 

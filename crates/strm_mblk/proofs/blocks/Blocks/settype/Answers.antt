@@ -1,4 +1,4 @@
-use Rattle.std.proofs.Common.{◌≡◌, ◌<◌, ap, refl, ◌∙◌, arith, sym, subst, None, Ok, Err}
+use Rattle.std.proofs.Common.{◌≡◌, ◌<◌, ap, refl, ◌∙◌, arith, sym, subst, None, Ok, Err, [], ◌∷◌}
 use Rattle.std.proofs.lemmas.List.{get_or_read}
 use Rattle.std.specs.Prelude.{slice_get}
 use Rattle.strm_data.specs.CountedStore.{CountedStore, count_of}
@@ -8,11 +8,14 @@ use Rattle.strm_mblk.specs.declared.blocks.Fields.{Fields}
 use Rattle.strm_mblk.specs.Arena.{Arena, names_of, message_at}
 use Rattle.strm_mblk.specs.BlockCalls.{settype}
 use Rattle.strm_mblk.specs.BlocksLayout.{arena_of, block_at, fields_at, no_fields}
-use Rattle.strm_mblk.specs.Given.{after, answer_of}
+use Rattle.strm_mblk.specs.Given.{value_after, answer_of}
 use Rattle.strm_mblk.specs.NodeLists.{nodes_at}
-use Rattle.strm_mblk.proofs.Alteration.{settype_none, settype_shared, settype_done}
-use Rattle.strm_mblk.proofs.Places.{IsAt, block_none, block_some}
-use Rattle.strm_mblk.proofs.Rooms.{HasRooms, filled-over, rooms-kind}
+use Rattle.strm_mblk.proofs.altering.Alteration.{settype_none, settype_shared, settype_done}
+use Rattle.strm_mblk.proofs.layout.Places.{IsAt, block_none, block_some}
+use Rattle.strm_mblk.proofs.layout.Rooms.{HasRooms, filled-over, rooms-kind}
+use Rattle.strm_mblk.proofs.arena.Frame.{leaves_settype}
+use Rattle.strm_mblk.specs.Frame.{LeavesOthers}
+use Rattle.strm_mblk.proofs.arena.Tokens.{had_message}
 use Rattle.strm_mblk.proofs.blocks.Blocks.settype.Goals as goal
 use Rattle.strm_mblk.proofs.blocks.Blocks.settype.Goals.{After-count, After-set_kind, In_default}
 
@@ -22,7 +25,7 @@ none c =
     (ap (λ h. slice_get (nodes_at c.self.inside.chains h) c.args.place) (sym c.head.ensures) ∙ sym c.node_at.ensures.value ∙ c.in_default.is)
 
 pub returns-in_default-clause-after : goal.returns-in_default-clause-after
-returns-in_default-clause-after c = sym (ap (after c.args.self.now) (settype_none c.args.self.now c.args.token.now.head c.args.place c.args.kind (none c)))
+returns-in_default-clause-after c = sym (ap (value_after c.args.self.now) (settype_none c.args.self.now c.args.token.now.head c.args.place c.args.kind (none c)))
 
 pub returns-in_default-clause-answer : goal.returns-in_default-clause-answer
 returns-in_default-clause-answer c = sym (ap answer_of (settype_none c.args.self.now c.args.token.now.head c.args.place c.args.kind (none c)))
@@ -47,7 +50,7 @@ shared c many =
 
 pub returns-then-count-gt1-clause-after : goal.returns-then-count-gt1-clause-after
 returns-then-count-gt1-clause-after c =
-    sym (ap (after c.args.self.now) (shared (goal.at.returns-then-count-gt1-clause-after c).After-count c.if-count-gt1.true))
+    sym (ap (value_after c.args.self.now) (shared (goal.at.returns-then-count-gt1-clause-after c).After-count c.if-count-gt1.true))
 
 pub returns-then-count-gt1-clause-answer : goal.returns-then-count-gt1-clause-answer
 returns-then-count-gt1-clause-answer c =
@@ -71,7 +74,13 @@ done c =
     ∙ ap (λ (s : CountedStore). Ok (tt, arena_of c.self.inside.id s.store c.self.inside.blocks.items c.self.inside.chains)) (sym c.set_kind.ensures.after)
 
 pub returns-clause-after : goal.returns-clause-after
-returns-clause-after c = sym (ap (after c.args.self.now) (done c))
+returns-clause-after c = sym (ap (value_after c.args.self.now) (done c))
 
 pub returns-clause-answer : goal.returns-clause-answer
 returns-clause-answer c = sym (ap answer_of (done c))
+
+pub returns-clause-others : goal.returns-clause-others
+returns-clause-others c =
+    let message = had_message c.args.self.now c.args.token.now c.requires in
+    subst (LeavesOthers (c.args.token.now.head ∷ []) c.args.self.now) (ap (value_after c.args.self.now) (done c))
+    (leaves_settype c.args.self.now c.args.token.now.head message.0 message.1.held c.args.place c.args.kind)

@@ -6,8 +6,8 @@ use Rattle.strm_mblk.specs.Arena.{Arena, held_at, shelved_blocks}
 use Rattle.strm_mblk.specs.Block.{Message}
 use Rattle.strm_mblk.specs.BlocksLayout.{arena_in}
 use Rattle.strm_mblk.specs.Shelves.{heads_at, shelve}
-use Rattle.strm_mblk.proofs.Shelving.{heads_at-seen, shelve_filled, shelve_queued, shelve_shows, shelving_room}
-use Rattle.strm_mblk.proofs.Tokens.{IsHad, had_message}
+use Rattle.strm_mblk.proofs.shelving.Shelving.{heads_at-seen, shelve_filled, shelve_queued, shelve_shows, shelving_room}
+use Rattle.strm_mblk.proofs.arena.Tokens.{IsHad, had_message}
 use Rattle.strm_mblk.proofs.blocks.Blocks.shelve.Goals as goal
 use Rattle.strm_mblk.proofs.blocks.Blocks.shelve.Goals.{After-len, After-shelve}
 

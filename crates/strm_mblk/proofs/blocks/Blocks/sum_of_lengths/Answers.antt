@@ -1,15 +1,17 @@
 use Rattle.std.proofs.Common.{◌≡◌, ◌+◌, ◌*◌, ◌≤◌, true, drop, ap, refl, sym, subst, ◌∙◌, arith}
 use Rattle.std.specs.Prelude.{sum_by}
 use Rattle.std.proofs.lemmas.List.{get_or_read}
+use Rattle.strm_data.specs.Limits.{most_data_block_bytes}
 use Rattle.strm_mblk.specs.declared.blocks.Fields.{Fields}
 use Rattle.strm_mblk.specs.Arena.{Arena, has, message_at}
 use Rattle.strm_mblk.specs.Block.{len_counted, size_of}
 use Rattle.strm_mblk.specs.BlocksLayout.{block_at, block_of, no_fields}
 use Rattle.strm_mblk.specs.NodeLists.{nodes_at}
-use Rattle.strm_mblk.proofs.Places.{IsAt, block_none, block_some}
-use Rattle.strm_mblk.proofs.Summing.{sum_from, sum_past, counted_most, message_small}
+use Rattle.strm_mblk.proofs.layout.Places.{IsAt, block_none, block_some}
+use Rattle.strm_mblk.proofs.reading.Summing.{sum_from, sum_past, counted_most, message_small}
 use Rattle.strm_mblk.proofs.blocks.Blocks.sum_of_lengths.Goals as goal
 use Rattle.strm_mblk.proofs.blocks.Blocks.sum_of_lengths.Goals.{After-length_of-sum}
+use Rattle.strm_mblk.specs.Limits.{most_message_blocks}
 
 module _ (c : After-length_of-sum) where
   -- the block at this step
@@ -29,9 +31,9 @@ module _ (c : After-length_of-sum) where
       (ap (λ (f : Fields). len_counted c.args.data_alone c.args.self.now.store (block_of n f)) (sym read) ∙ sym (c.length_of-sum.ensures n))
 
   -- the whole message is small
-  small : size_of (message_at c.args.self.now c.args.token.now.head) ≤ 4095 * 4096
+  small : size_of (message_at c.args.self.now c.args.token.now.head) ≤ most_message_blocks * most_data_block_bytes
   small =
-      subst (λ (a : Arena). has a c.args.token.now ≡ true → size_of (message_at a c.args.token.now.head) ≤ 4095 * 4096) c.self.view_is
+      subst (λ (a : Arena). has a c.args.token.now ≡ true → size_of (message_at a c.args.token.now.head) ≤ most_message_blocks * most_data_block_bytes) c.self.view_is
       (message_small c.self.inside.id c.self.inside.data c.self.inside.blocks.items c.self.inside.chains c.self.invariant.filled c.args.token.now) c.requires
 
 pub overflow_add-sum : goal.overflow_add-sum

@@ -6,9 +6,9 @@ use Rattle.strm_mblk.specs.Arena.{Arena, message_at, shelved_blocks}
 use Rattle.strm_mblk.specs.Block.{Block}
 use Rattle.strm_mblk.specs.BlocksLayout.{block_at, fields_at, no_fields}
 use Rattle.strm_mblk.specs.Pulling.{second_taken, with_second_cut, with_second_freed}
-use Rattle.strm_mblk.proofs.Places.{block-get, block_none}
-use Rattle.strm_mblk.proofs.SecondFreed.{IsSecond, is_second}
-use Rattle.strm_mblk.proofs.SecondTaken.{IsSecondCut, cuts_second, end_small, seen_head, taken_none, taken_part, taken_whole}
+use Rattle.strm_mblk.proofs.layout.Places.{block-get, block_none}
+use Rattle.strm_mblk.proofs.pulling.SecondFreed.{IsSecond, is_second}
+use Rattle.strm_mblk.proofs.pulling.SecondTaken.{IsSecondCut, cuts_second, end_small, seen_head, taken_none, taken_part, taken_whole}
 use Rattle.strm_mblk.proofs.blocks.Blocks.take_second.Goals as goal
 use Rattle.strm_mblk.proofs.blocks.Blocks.take_second.Goals.{In_default, After-index-fields}
 

@@ -1,13 +1,16 @@
-use Rattle.std.proofs.Common.{◌≡◌, ℕ, length, ap, subst, sym, refl, ◌∙◌, Some}
-use Rattle.std.specs.Prelude.{is_some, slice_get}
+use Rattle.std.proofs.Common.{[], ◌∷◌, ◌≡◌, ℕ, length, ap, subst, sym, refl, ◌∙◌, Some}
+use Rattle.std.specs.Prelude.{is_some, option_map, slice_get}
 use Rattle.strm_mblk.specs.declared.token.TokenValue.{TokenValue}
 use Rattle.strm_mblk.specs.Arena.{Arena, has, held_at, shelved_blocks, token_of}
+use Rattle.strm_mblk.specs.BlockCalls.{unlinkb}
 use Rattle.strm_mblk.specs.BlocksLayout.{arena_of}
 use Rattle.strm_mblk.specs.Messages.{blocks_of, divided}
 use Rattle.strm_mblk.specs.NodeLists.{NodeLists, nodes_at}
-use Rattle.strm_mblk.proofs.Freemsg.{token_held}
-use Rattle.strm_mblk.proofs.Tokens.{had_message, token_had}
-use Rattle.strm_mblk.proofs.Unlinkb.{IsDivided, divides, token_is}
+use Rattle.strm_mblk.proofs.freeing.Freemsg.{token_held}
+use Rattle.strm_mblk.proofs.arena.Tokens.{had_message, token_had}
+use Rattle.strm_mblk.proofs.joining.Unlinkb.{IsDivided, divides, token_is}
+use Rattle.strm_mblk.proofs.arena.Frame.{leaves_unlinkb}
+use Rattle.strm_mblk.specs.Frame.{LeavesOthers, head_given}
 use Rattle.strm_mblk.proofs.blocks.Blocks.unlinkb.Goals as goal
 use Rattle.strm_mblk.proofs.blocks.Blocks.unlinkb.Goals.{After-set_blocks, After-token}
 
@@ -56,3 +59,11 @@ returns-clause-rest_had c =
 pub returns-clause-unheld : goal.returns-clause-unheld
 returns-clause-unheld c =
     ap (λ (t : TokenValue). held_at c.args.self.now t.head) c.token.ensures ∙ (is_divided (goal.at.returns-clause-unheld c).After-set_blocks).absent
+
+pub returns-clause-others : goal.returns-clause-others
+returns-clause-others c =
+    let d = (goal.at.returns-clause-others c).After-set_blocks in
+    let h = c.args.token.now.head in
+    subst (λ g. LeavesOthers (h ∷ g ∷ []) c.args.self.now (new_arena d)) (ap (λ (t : TokenValue). t.head) (sym c.token.ensures))
+    (subst (LeavesOthers (h ∷ c.in_ok-rest.rest ∷ []) c.args.self.now) (sym (is_divided d).after)
+    (subst (λ o. LeavesOthers (h ∷ head_given (option_map (token_of (new_arena d)) o)) c.args.self.now (unlinkb h c.args.self.now).1) (is_divided d).given (leaves_unlinkb c.args.self.now (new_arena d) h)))

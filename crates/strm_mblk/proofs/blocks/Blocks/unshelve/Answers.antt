@@ -5,9 +5,9 @@ use Rattle.strm_mblk.specs.Arena as arena
 use Rattle.strm_mblk.specs.Arena.{Arena, held_at, shelved_blocks}
 use Rattle.strm_mblk.specs.BlocksLayout.{arena_in, arena_of}
 use Rattle.strm_mblk.specs.Shelves.{heads_at}
-use Rattle.strm_mblk.proofs.Rewriting.{held_nodes}
-use Rattle.strm_mblk.proofs.Shelving.{IsUnshelved, heads_at-seen, unshelves}
-use Rattle.strm_mblk.proofs.Tokens.{token_had}
+use Rattle.strm_mblk.proofs.layout.Rewriting.{held_nodes}
+use Rattle.strm_mblk.proofs.shelving.Shelving.{IsUnshelved, heads_at-seen, unshelves}
+use Rattle.strm_mblk.proofs.arena.Tokens.{token_had}
 use Rattle.strm_mblk.proofs.blocks.Blocks.unshelve.Goals as goal
 use Rattle.strm_mblk.proofs.blocks.Blocks.unshelve.Goals.{After-from, After-unshelve}
 

@@ -1,4 +1,4 @@
-use Rattle.std.proofs.Common.{◌≡◌, ◌+◌, ◌<◌, ◌≤◌, length, ap, refl, ◌∙◌, arith, sym, subst, true, set, None, Err}
+use Rattle.std.proofs.Common.{◌≡◌, ◌+◌, ◌<◌, ◌≤◌, length, ap, refl, ◌∙◌, arith, sym, subst, true, set, None, Err, [], ◌∷◌}
 use Rattle.std.proofs.lemmas.List.{get_or_read}
 use Rattle.std.specs.Prelude.{slice_get}
 use Rattle.strm_data.specs.CountedStore.{count_of}
@@ -8,11 +8,14 @@ use Rattle.strm_mblk.specs.declared.blocks.Fields.{Fields}
 use Rattle.strm_mblk.specs.Arena.{Arena, has, names_of, message_at, shelved_blocks}
 use Rattle.strm_mblk.specs.BlockCalls.{write}
 use Rattle.strm_mblk.specs.BlocksLayout.{arena_in, block_at, fields_at, no_fields}
-use Rattle.strm_mblk.specs.Given.{after, answer_of}
+use Rattle.strm_mblk.specs.Given.{value_after, answer_of}
 use Rattle.strm_mblk.specs.NodeLists.{nodes_at}
-use Rattle.strm_mblk.proofs.Alteration.{write_none, write_shared, write_full}
-use Rattle.strm_mblk.proofs.Places.{IsAt, block_none, block_some}
-use Rattle.strm_mblk.proofs.Writing.{IsWritten, writes}
+use Rattle.strm_mblk.proofs.altering.Alteration.{write_none, write_shared, write_full}
+use Rattle.strm_mblk.proofs.layout.Places.{IsAt, block_none, block_some}
+use Rattle.strm_mblk.proofs.altering.Writing.{IsWritten, writes}
+use Rattle.strm_mblk.proofs.arena.Frame.{leaves_write}
+use Rattle.strm_mblk.specs.Frame.{LeavesOthers}
+use Rattle.strm_mblk.proofs.arena.Tokens.{had_message}
 use Rattle.strm_mblk.proofs.blocks.Blocks.write.Goals as goal
 use Rattle.strm_mblk.proofs.blocks.Blocks.write.Goals.{After-count, After-self-1, In_default}
 
@@ -22,7 +25,7 @@ none c =
     (ap (λ h. slice_get (nodes_at c.self.inside.chains h) c.args.place) (sym c.head.ensures) ∙ sym c.node_at.ensures.value ∙ c.in_default.is)
 
 pub returns-in_default-clause-after : goal.returns-in_default-clause-after
-returns-in_default-clause-after c = sym (ap (after c.args.self.now) (write_none c.args.self.now c.args.token.now.head c.args.place c.args.bytes.now (none c)))
+returns-in_default-clause-after c = sym (ap (value_after c.args.self.now) (write_none c.args.self.now c.args.token.now.head c.args.place c.args.bytes.now (none c)))
 
 pub returns-in_default-clause-answer : goal.returns-in_default-clause-answer
 returns-in_default-clause-answer c = sym (ap answer_of (write_none c.args.self.now c.args.token.now.head c.args.place c.args.bytes.now (none c)))
@@ -68,7 +71,7 @@ module _ (c : After-count) where
       (omega (arith, past, room_is, ap (λ (f : Fields). f.offset + f.len) read))
 
 pub returns-then-count-gt1-clause-after : goal.returns-then-count-gt1-clause-after
-returns-then-count-gt1-clause-after c = sym (ap (after c.args.self.now) (shared (goal.at.returns-then-count-gt1-clause-after c).After-count c.if-count-gt1.true))
+returns-then-count-gt1-clause-after c = sym (ap (value_after c.args.self.now) (shared (goal.at.returns-then-count-gt1-clause-after c).After-count c.if-count-gt1.true))
 
 pub returns-then-count-gt1-clause-answer : goal.returns-then-count-gt1-clause-answer
 returns-then-count-gt1-clause-answer c = sym (ap answer_of (shared (goal.at.returns-then-count-gt1-clause-answer c).After-count c.if-count-gt1.true))
@@ -82,7 +85,7 @@ overflow_add-end c = omega (arith, within (goal.at.overflow_add-end c).After-cou
 pub returns-then-bytes-capacity-clause-after : goal.returns-then-bytes-capacity-clause-after
 returns-then-bytes-capacity-clause-after c =
     let before = (goal.at.returns-then-bytes-capacity-clause-after c).After-count in
-    sym (ap (after c.args.self.now) (full before c.if-count-gt1.false (omega (arith, c.if-bytes-capacity.true, c.cap-capacity.ensures.answer, within before))))
+    sym (ap (value_after c.args.self.now) (full before c.if-count-gt1.false (omega (arith, c.if-bytes-capacity.true, c.cap-capacity.ensures.answer, within before))))
 
 pub returns-then-bytes-capacity-clause-answer : goal.returns-then-bytes-capacity-clause-answer
 returns-then-bytes-capacity-clause-answer c =
@@ -113,10 +116,16 @@ invariant_of-self c =
     record { filled = is.filled; queued = c.self.invariant.queued ∙ ap (λ a. length (shelved_blocks a)) c.self.view_is ∙ ap length (sym is.shelved) }
 
 pub returns-clause-after : goal.returns-clause-after
-returns-clause-after c = sym (ap (after c.args.self.now) (is_written c).done)
+returns-clause-after c = sym (ap (value_after c.args.self.now) (is_written c).done)
 
 pub returns-clause-answer : goal.returns-clause-answer
 returns-clause-answer c = sym (ap answer_of (is_written c).done)
 
 pub returns-clause-had : goal.returns-clause-had
 returns-clause-had c = (is_written c).had
+
+pub returns-clause-others : goal.returns-clause-others
+returns-clause-others c =
+    let message = had_message c.args.self.now c.args.token.now c.requires in
+    subst (LeavesOthers (c.args.token.now.head ∷ []) c.args.self.now) (ap (value_after c.args.self.now) (is_written c).done)
+    (leaves_write c.args.self.now c.args.token.now.head message.0 message.1.held c.args.place c.args.bytes.now)

@@ -1,8 +1,8 @@
 use Rattle.std.proofs.Common.{ap, sym, ◌∙◌}
 use Rattle.strm_links.specs.Rows.{has}
 use Rattle.strm_mblk.specs.Shelves.{stands_on}
-use Rattle.strm_mblk.proofs.Shelving.{heads_at-seen}
-use Rattle.strm_mblk.proofs.Stands.{shelf_of-there}
+use Rattle.strm_mblk.proofs.shelving.Shelving.{heads_at-seen}
+use Rattle.strm_mblk.proofs.arena.Stands.{shelf_of-there}
 use Rattle.strm_mblk.proofs.blocks.beside.stands_on.Goals as goal
 
 pub returns-then-head-len-clause-there : goal.returns-then-head-len-clause-there

@@ -9,11 +9,11 @@ use Rattle.strm_mblk.specs.Block.{Block}
 use Rattle.strm_mblk.specs.BlocksLayout.{IsPlaced, block_at, block_of, fields_at, fields_of, message_of}
 use Rattle.strm_mblk.specs.Copying.{with_copy}
 use Rattle.strm_mblk.specs.NodeLists.{nodes_at}
-use Rattle.strm_mblk.proofs.Copies.{next_block}
-use Rattle.strm_mblk.proofs.CopiesMade.{IsCopying, next_copied, next_fits, none_copied, source_stays}
-use Rattle.strm_mblk.proofs.Places.{nodes_room}
-use Rattle.strm_mblk.proofs.Rewriting.{times_at}
-use Rattle.strm_mblk.proofs.Rooms.{placed-over}
+use Rattle.strm_mblk.proofs.making.CopiesCounted.{next_block}
+use Rattle.strm_mblk.proofs.making.CopiedBlocks.{IsCopying, next_copied, next_fits, none_copied, source_stays}
+use Rattle.strm_mblk.proofs.layout.Places.{nodes_room}
+use Rattle.strm_mblk.proofs.layout.Rewriting.{times_at}
+use Rattle.strm_mblk.proofs.layout.Rooms.{placed-over}
 use Rattle.strm_mblk.proofs.blocks.copying.copy_blocks.Goals as goal
 use Rattle.strm_mblk.proofs.blocks.copying.copy_blocks.Goals.{After-unwrap-written}
 

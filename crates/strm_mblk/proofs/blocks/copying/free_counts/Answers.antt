@@ -1,6 +1,6 @@
 use Rattle.std.proofs.Common.{◌≡◌, ℕ, ap, sym, ◌∙◌, arith, inl, inr, length-set, set, get_or, get_or-set_same, get_or-set_other}
 use Rattle.std.proofs.lemmas.Bool.{cases_eq, cases_lt}
-use Rattle.strm_mblk.proofs.ClassesLeft.{free_past, told, untold}
+use Rattle.strm_mblk.proofs.making.ClassesLeft.{free_past, told, untold}
 use Rattle.strm_mblk.proofs.blocks.copying.free_counts.Goals as goal
 
 pub returns-in_default : goal.returns-in_default

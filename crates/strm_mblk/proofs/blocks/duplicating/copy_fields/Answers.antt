@@ -3,9 +3,9 @@ use Rattle.std.specs.Prelude.{slice_get, take}
 use Rattle.std.proofs.lemmas.Option.{slice_get-get_or}
 use Rattle.strm_data.specs.DataStore.{times}
 use Rattle.strm_mblk.specs.NodeLists.{nodes_at}
-use Rattle.strm_mblk.proofs.Dropping.{slice_get-take}
-use Rattle.strm_mblk.proofs.FieldsCopied.{all_copied, next_copying}
-use Rattle.strm_mblk.proofs.Rewriting.{times_at}
+use Rattle.strm_mblk.proofs.freeing.Dropping.{slice_get-take}
+use Rattle.strm_mblk.proofs.making.FieldsCopied.{all_copied, next_copying}
+use Rattle.strm_mblk.proofs.layout.Rewriting.{times_at}
 use Rattle.strm_mblk.proofs.blocks.duplicating.copy_fields.Goals as goal
 use Rattle.strm_mblk.proofs.blocks.duplicating.copy_fields.Goals.{After-unwrap-read, After-unwrap-written}
 

@@ -2,7 +2,7 @@ use Rattle.std.proofs.Common.{◌≡◌, ◌<◌, length}
 use Rattle.std.specs.Prelude.{slice_get, take}
 use Rattle.std.specs.Option.{IfSome}
 use Rattle.strm_mblk.specs.NodeLists.{nodes_at}
-use Rattle.strm_mblk.proofs.FieldsCopied.{IsCopying}
+use Rattle.strm_mblk.proofs.making.FieldsCopied.{IsCopying}
 use Rattle.strm_mblk.proofs.blocks.duplicating.copy_fields.Given as goal
 
 -- the blocks at this step, and what is left to copy

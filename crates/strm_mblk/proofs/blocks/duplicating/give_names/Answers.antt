@@ -5,8 +5,8 @@ use Rattle.std.proofs.lemmas.Option.{slice_get-get_or}
 use Rattle.strm_data.specs.DataStore.{DataStore}
 use Rattle.strm_mblk.specs.BlocksLayout.{fields_at, named_by, with_names_given}
 use Rattle.strm_mblk.specs.NodeLists.{nodes_at}
-use Rattle.strm_mblk.proofs.Dropping.{named-get}
-use Rattle.strm_mblk.proofs.Giving.{back_now, few_now, named_now, next_full, next_given, next_used, store_now}
+use Rattle.strm_mblk.proofs.freeing.Dropping.{named-get}
+use Rattle.strm_mblk.proofs.making.Giving.{back_now, few_now, named_now, next_full, next_given, next_used, store_now}
 use Rattle.strm_mblk.proofs.blocks.duplicating.give_names.Goals as goal
 use Rattle.strm_mblk.proofs.blocks.duplicating.give_names.Goals.{After-loop-given, After-unwrap-node}
 

@@ -5,7 +5,7 @@ use Rattle.std.proofs.lemmas.Option.{slice_get-get_or}
 use Rattle.strm_data.specs.CountedStore.{IsKept}
 use Rattle.strm_mblk.specs.BlocksLayout.{fields_at, named_by}
 use Rattle.strm_mblk.specs.NodeLists.{nodes_at}
-use Rattle.strm_mblk.proofs.Dropping.{IsDropping, named-get, next_dropping, next_used, slice_get-take}
+use Rattle.strm_mblk.proofs.freeing.Dropping.{IsDropping, named-get, next_dropping, next_used, slice_get-take}
 use Rattle.strm_mblk.proofs.blocks.freeing.drop_names.Goals as goal
 use Rattle.strm_mblk.proofs.blocks.freeing.drop_names.Goals.{in-Some, in_default}
 

@@ -3,7 +3,7 @@ use Rattle.std.specs.Prelude.{drop, slice_get}
 use Rattle.strm_mblk.specs.BlocksLayout.{fields_at, with_bytes_cut}
 use Rattle.strm_mblk.specs.NodeLists.{nodes_at}
 use Rattle.strm_mblk.specs.Trimming.{along}
-use Rattle.strm_mblk.proofs.Cutting.{cut_none, next_cutting}
+use Rattle.strm_mblk.proofs.trimming.Cutting.{cut_none, next_cutting}
 use Rattle.strm_mblk.proofs.blocks.trimming.cut.Goals as goal
 
 pub returns-then-left-eq0 : goal.returns-then-left-eq0

@@ -1,5 +1,5 @@
 use Rattle.std.proofs.Common.{◌∙◌, arith}
-use Rattle.strm_mblk.proofs.Readings.{head_within, after_at}
+use Rattle.strm_mblk.proofs.links.Readings.{head_within, after_at}
 use Rattle.strm_mblk.proofs.chains.Chains.after.Goals as goal
 
 pub next-requires : goal.next-requires

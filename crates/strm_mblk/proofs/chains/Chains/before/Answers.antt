@@ -1,5 +1,5 @@
 use Rattle.std.proofs.Common.{◌∙◌, arith}
-use Rattle.strm_mblk.proofs.Readings.{head_within, before_at}
+use Rattle.strm_mblk.proofs.links.Readings.{head_within, before_at}
 use Rattle.strm_mblk.proofs.chains.Chains.before.Goals as goal
 
 pub prev-requires : goal.prev-requires

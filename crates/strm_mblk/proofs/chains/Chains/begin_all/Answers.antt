@@ -3,7 +3,7 @@ use Rattle.std.specs.Prelude.{IfSome}
 use Rattle.std.proofs.lemmas.Option.{same_Some}
 use Rattle.strm_links.specs.Rows.{first}
 use Rattle.strm_mblk.specs.Messages.{held_in, joined}
-use Rattle.strm_mblk.proofs.BegunLists.{after_begin_all, begun_first, begun_more, head_held, next_free, next_held, next_other}
+use Rattle.strm_mblk.proofs.making.BegunLists.{after_begin_all, begun_first, begun_more, head_held, next_free, next_held, next_other}
 use Rattle.strm_mblk.proofs.chains.Chains.begin_all.Goals as goal
 use Rattle.strm_mblk.proofs.chains.Chains.begin_all.Goals.{After-begin-in-loop-more, After-unwrap-head}
 

@@ -1,16 +1,15 @@
 use Rattle.std.proofs.Common.{◌≡◌, ◌<◌, ◌∷◌, [], Some, None, ap, sym, ◌∙◌, subst, arith}
 use Rattle.std.specs.List.{slice_get}
-use Rattle.strm_links.specs.Rows.{holder, next_in}
-use Rattle.strm_mblk.specs.ChainLayout.{IsParting}
+use Rattle.strm_links.specs.Rows.{IsParting, holder, next_in}
 use Rattle.strm_mblk.specs.Messages.{divided}
 use Rattle.strm_mblk.specs.NodeLists.{NodeLists, IsNodesParted, nodes_at}
-use Rattle.strm_mblk.proofs.Changed.{IsRemoved, IsPushed, IsAppended, lists_left, nodes_left, lists_appended, nodes_appended}
-use Rattle.strm_mblk.proofs.Divided.{undivided_is, chain_is, rest_other, rest_no_head, IsChained-divided, divided_is}
-use Rattle.strm_mblk.proofs.Parted.{IsNodesParted-chained}
-use Rattle.strm_mblk.proofs.Readings.{held_at, nodes_held_at}
-use Rattle.strm_mblk.proofs.Seen.{head_below}
+use Rattle.strm_mblk.proofs.links.Changed.{IsRemoved, IsPushed, IsAppended, lists_left, nodes_left, lists_appended, nodes_appended}
+use Rattle.strm_mblk.proofs.links.Divided.{undivided_is, chain_is, rest_other, rest_no_head, IsChained-divided, divided_is}
+use Rattle.strm_mblk.proofs.links.Parted.{IsNodesParted-chained}
+use Rattle.strm_mblk.proofs.links.Readings.{held_at, nodes_held_at}
+use Rattle.strm_mblk.proofs.links.Seen.{head_below}
 use Rattle.strm_mblk.proofs.chains.Chains.divide.Goals as goal
-use Rattle.strm_mblk.proofs.chains.Chains.divide.Goals.{After-self, In_ok-rest, After-remove, After-append, After-parts_nodes-2}
+use Rattle.strm_mblk.proofs.chains.Chains.divide.Goals.{After-self, In_ok-rest, After-remove, After-append, After-push_back-2}
 
 -- the message is held
 on : (c : After-self) → holder c.args.head c.self.inside.heads ≡ Some c.self.inside.shelves
@@ -50,17 +49,11 @@ removed c = record { lists = c.remove.ensures.lists; freed = c.remove.ensures.fr
 appended : (c : After-append) → IsAppended c.in_ok-rest.rest c.args.head c.remove.new.self c.append.new.self
 appended c = record { lists = c.append.ensures.lists; moved = c.append.ensures.moved; others = c.append.ensures.others }
 
-pushed : (c : After-parts_nodes-2) → IsPushed c.args.head c.args.head c.append.new.self c.push_back.new.self
+pushed : (c : After-push_back-2) → IsPushed c.args.head c.args.head c.append.new.self c.push_back.new.self
 pushed c = record { lists = c.push_back.ensures.lists; held = c.push_back.ensures.held; others = c.push_back.ensures.others }
 
-headed : (c : After-parts_nodes-2) → IsPushed c.self.inside.shelves c.in_ok-rest.rest c.self.inside.heads c.push_back-2.new.self
+headed : (c : After-push_back-2) → IsPushed c.self.inside.shelves c.in_ok-rest.rest c.self.inside.heads c.push_back-2.new.self
 headed c = record { lists = c.push_back-2.ensures.lists; held = c.push_back-2.ensures.held; others = c.push_back-2.ensures.others }
-
-chains_parting : (c : After-parts_nodes-2) → IsParting c.push_back.new.self
-chains_parting c = record { apart = c.parts_nodes.ensures.apart; within = c.parts_nodes.ensures.in_range }
-
-heads_parting : (c : After-parts_nodes-2) → IsParting c.push_back-2.new.self
-heads_parting c = record { apart = c.parts_nodes-2.ensures.apart; within = c.parts_nodes-2.ensures.in_range }
 
 pub append-requires-clause-from : goal.append-requires-clause-from
 append-requires-clause-from c =
@@ -89,7 +82,7 @@ pub invariant_of-self : goal.invariant_of-self
 invariant_of-self c =
     let at = goal.at.invariant_of-self c in
     IsChained-divided _ _ _ _ c.self.invariant c.args.head (on at.After-self) c.in_ok-rest.rest (next at.In_ok-rest) _ _ _ _
-    (removed at.After-remove) (appended at.After-append) (pushed c) (headed c) (chains_parting c) (heads_parting c)
+    (removed at.After-remove) (appended at.After-append) (pushed c) (headed c) c.push_back.ensures.parting c.push_back-2.ensures.parting
 
 pub returns-clause-answer : goal.returns-clause-answer
 returns-clause-answer c =
@@ -102,7 +95,7 @@ pub returns-clause-after : goal.returns-clause-after
 returns-clause-after c =
     let at = goal.at.returns-clause-after c in
     divided_is _ _ _ _ c.self.invariant c.args.head (on at.After-self) c.in_ok-rest.rest (next at.In_ok-rest) _ _ _ _
-    (removed at.After-remove) (appended at.After-append) (pushed c) (headed c) (chains_parting c) (heads_parting c)
+    (removed at.After-remove) (appended at.After-append) (pushed c) (headed c) c.push_back.ensures.parting c.push_back-2.ensures.parting
     ∙ ap (λ (v : NodeLists). record v { held = divided (λ n. n) c.args.head (nodes_at v c.args.head) v.held }) c.self.view_is
 
 pub returns-clause-parted : goal.returns-clause-parted

@@ -1,6 +1,6 @@
 use Rattle.std.proofs.Common.{◌<◌, ap, sym, ◌∙◌, arith}
 use Rattle.strm_links.specs.Rows.{first}
-use Rattle.strm_mblk.proofs.Readings.{shelf_within, heads_at}
+use Rattle.strm_mblk.proofs.links.Readings.{shelf_within, heads_at}
 use Rattle.strm_mblk.proofs.chains.Chains.first.Goals as goal
 use Rattle.strm_mblk.proofs.chains.Chains.first.Goals.{After-self}
 

@@ -1,6 +1,6 @@
 use Rattle.std.proofs.Common.{ap, sym, ◌∙◌, arith}
 use Rattle.strm_links.specs.Rows.{is_some_of}
-use Rattle.strm_mblk.proofs.Readings.{head_within, is_held_at, same_test}
+use Rattle.strm_mblk.proofs.links.Readings.{head_within, is_held_at, same_test}
 use Rattle.strm_mblk.proofs.chains.Chains.is_held.Goals as goal
 
 pub list_of-requires : goal.list_of-requires

@@ -1,15 +1,14 @@
 use Rattle.std.proofs.Common.{◌≡◌, Some, IsSome, ap, sym, ◌∙◌, subst, arith, refl}
-use Rattle.strm_links.specs.Rows.{holder}
-use Rattle.strm_mblk.specs.ChainLayout.{IsParting}
+use Rattle.strm_links.specs.Rows.{IsParting, holder}
 use Rattle.strm_mblk.specs.Messages.{joined}
 use Rattle.strm_mblk.specs.NodeLists.{NodeLists}
-use Rattle.strm_mblk.proofs.Changed.{IsRemoved, IsAppended}
-use Rattle.strm_mblk.proofs.Joined.{IsChained-joined, joined_is}
-use Rattle.strm_mblk.proofs.Parted.{IsNodesParted-chained}
-use Rattle.strm_mblk.proofs.Readings.{held_at}
-use Rattle.strm_mblk.proofs.Seen.{head_below}
+use Rattle.strm_mblk.proofs.links.Changed.{IsRemoved, IsAppended}
+use Rattle.strm_mblk.proofs.links.Joined.{IsChained-joined, joined_is}
+use Rattle.strm_mblk.proofs.links.Parted.{IsNodesParted-chained}
+use Rattle.strm_mblk.proofs.links.Readings.{held_at}
+use Rattle.strm_mblk.proofs.links.Seen.{head_below}
 use Rattle.strm_mblk.proofs.chains.Chains.join.Goals as goal
-use Rattle.strm_mblk.proofs.chains.Chains.join.Goals.{After-self, After-parts_nodes-2}
+use Rattle.strm_mblk.proofs.chains.Chains.join.Goals.{After-self, After-append}
 
 -- both messages are held
 head_on : (c : After-self) → holder c.args.head c.self.inside.heads ≡ Some c.self.inside.shelves
@@ -18,17 +17,11 @@ head_on c = held_at _ _ _ _ c.self.invariant _ c.self.view_is c.args.head c.requ
 tail_on : (c : After-self) → holder c.args.tail c.self.inside.heads ≡ Some c.self.inside.shelves
 tail_on c = held_at _ _ _ _ c.self.invariant _ c.self.view_is c.args.tail c.requires.tail
 
-removed : (c : After-parts_nodes-2) → IsRemoved c.args.tail c.self.inside.heads c.remove.new.self
+removed : (c : After-append) → IsRemoved c.args.tail c.self.inside.heads c.remove.new.self
 removed c = record { lists = c.remove.ensures.lists; freed = c.remove.ensures.freed; others = c.remove.ensures.others }
 
-appended : (c : After-parts_nodes-2) → IsAppended c.args.head c.args.tail c.self.inside.chains c.append.new.self
+appended : (c : After-append) → IsAppended c.args.head c.args.tail c.self.inside.chains c.append.new.self
 appended c = record { lists = c.append.ensures.lists; moved = c.append.ensures.moved; others = c.append.ensures.others }
-
-chains_parting : (c : After-parts_nodes-2) → IsParting c.append.new.self
-chains_parting c = record { apart = c.parts_nodes.ensures.apart; within = c.parts_nodes.ensures.in_range }
-
-heads_parting : (c : After-parts_nodes-2) → IsParting c.remove.new.self
-heads_parting c = record { apart = c.parts_nodes-2.ensures.apart; within = c.parts_nodes-2.ensures.in_range }
 
 pub remove-requires : goal.remove-requires
 remove-requires c = subst IsSome (sym (tail_on (goal.at.remove-requires c).After-self)) refl
@@ -44,12 +37,12 @@ append-requires-clause-from c =
 pub invariant_of-self : goal.invariant_of-self
 invariant_of-self c =
     let at = (goal.at.invariant_of-self c).After-self in
-    IsChained-joined _ _ _ _ c.self.invariant c.args.head c.args.tail (head_on at) (tail_on at) c.requires.others _ _ (removed c) (appended c) (chains_parting c) (heads_parting c)
+    IsChained-joined _ _ _ _ c.self.invariant c.args.head c.args.tail (head_on at) (tail_on at) c.requires.others _ _ (removed c) (appended c) c.append.ensures.parting c.remove.ensures.parting
 
 pub returns-clause-after : goal.returns-clause-after
 returns-clause-after c =
     let at = (goal.at.returns-clause-after c).After-self in
-    joined_is _ _ _ _ c.self.invariant c.args.head c.args.tail (head_on at) (tail_on at) c.requires.others _ _ (removed c) (appended c) (chains_parting c) (heads_parting c)
+    joined_is _ _ _ _ c.self.invariant c.args.head c.args.tail (head_on at) (tail_on at) c.requires.others _ _ (removed c) (appended c) c.append.ensures.parting c.remove.ensures.parting
     ∙ ap (λ (v : NodeLists). record v { held = joined c.args.head c.args.tail v.held }) c.self.view_is
 
 pub returns-clause-parted : goal.returns-clause-parted

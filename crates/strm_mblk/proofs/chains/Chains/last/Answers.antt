@@ -1,6 +1,6 @@
 use Rattle.std.proofs.Common.{◌<◌, ap, sym, ◌∙◌, arith}
 use Rattle.strm_links.specs.Rows.{last}
-use Rattle.strm_mblk.proofs.Readings.{shelf_within, heads_at}
+use Rattle.strm_mblk.proofs.links.Readings.{shelf_within, heads_at}
 use Rattle.strm_mblk.proofs.chains.Chains.last.Goals as goal
 use Rattle.strm_mblk.proofs.chains.Chains.last.Goals.{After-self}
 

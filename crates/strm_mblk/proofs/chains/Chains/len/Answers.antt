@@ -1,7 +1,7 @@
 use Rattle.std.proofs.Common.{◌≡◌, Some, length, ap, sym, ◌∙◌, arith}
 use Rattle.strm_links.specs.Rows.{holder}
-use Rattle.strm_mblk.proofs.Seen.{head_below}
-use Rattle.strm_mblk.proofs.Readings.{held_at, nodes_held_at}
+use Rattle.strm_mblk.proofs.links.Seen.{head_below}
+use Rattle.strm_mblk.proofs.links.Readings.{held_at, nodes_held_at}
 use Rattle.strm_mblk.proofs.chains.Chains.len.Goals as goal
 use Rattle.strm_mblk.proofs.chains.Chains.len.Goals.{After-self}
 

@@ -1,6 +1,6 @@
 use Rattle.std.proofs.Common.{◌≡◌, ◌≢◌, ℕ, ◌+◌, ◌<◌, ◌≤◌, [], IsSome, None, length}
 use Rattle.std.specs.List.{range_with_len}
-use Rattle.strm_links.specs.Rows.{holder, list_at}
+use Rattle.strm_links.specs.Rows.{IsParting, holder, list_at}
 use Rattle.strm_mblk.proofs.chains.Chains.new.Given as goal
 
 -- the numbers so far are free, and all other lists are empty
@@ -12,4 +12,5 @@ invariant-loop-node l = record {
   unlinked : (k : ℕ) → l.node ≤ k → holder k l.chains ≡ None;
   nodes : l.chains.nodes ≡ l.nodes;
   lists : length l.chains.lists ≡ l.nodes + 1;
+  parting : IsParting l.chains;
 }

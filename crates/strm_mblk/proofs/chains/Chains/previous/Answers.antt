@@ -1,8 +1,8 @@
 use Rattle.std.proofs.Common.{◌∙◌, ap, arith, length}
 use Rattle.std.proofs.lemmas.Option.{IfSome_then}
 use Rattle.strm_mblk.specs.NodeLists.{NodeLists}
-use Rattle.strm_mblk.proofs.Seen.{length-held}
-use Rattle.strm_mblk.proofs.Readings.{head_within, previous_held}
+use Rattle.strm_mblk.proofs.links.Seen.{length-held}
+use Rattle.strm_mblk.proofs.links.Readings.{head_within, previous_held}
 use Rattle.strm_mblk.proofs.chains.Chains.previous.Goals as goal
 
 pub prev-requires : goal.prev-requires

@@ -3,13 +3,13 @@ use Rattle.std.proofs.lemmas.Option.{same_Some}
 use Rattle.strm_links.specs.Rows.{Rows, has, holder, list_at}
 use Rattle.strm_links.proofs.AllLists.{holder_has}
 use Rattle.strm_mblk.specs.ChainLayout.{nodes_of, put_in}
-use Rattle.strm_mblk.specs.Messages.{shelf_in, placed}
+use Rattle.strm_mblk.specs.Messages.{shelf_in, put_before_head}
 use Rattle.strm_mblk.specs.NodeLists.{NodeLists, head_node, nodes_at}
-use Rattle.strm_mblk.proofs.Changed.{IsRemoved, list_stays, lists_left, nodes_left, list_set, list_kept, lists_set}
-use Rattle.strm_mblk.proofs.Shelved.{IsChained-reheaded, reheaded_is, placed_in}
-use Rattle.strm_mblk.proofs.Parted.{IsNodesParted-chained}
-use Rattle.strm_mblk.proofs.Readings.{shelf_within, held_at, shelved_at}
-use Rattle.strm_mblk.proofs.Seen.{chain, head_below, head_node-chain, held_off, nodes_held, shelf-get, on_list}
+use Rattle.strm_mblk.proofs.links.Changed.{IsRemoved, list_stays, lists_left, nodes_left, list_set, list_kept, lists_set}
+use Rattle.strm_mblk.proofs.links.OnShelves.{IsChained-reheaded, reheaded_is, placed_in}
+use Rattle.strm_mblk.proofs.links.Parted.{IsNodesParted-chained}
+use Rattle.strm_mblk.proofs.links.Readings.{shelf_within, held_at, shelved_at}
+use Rattle.strm_mblk.proofs.links.Seen.{chain, head_below, head_node-chain, held_off, nodes_held, shelf-get, on_list}
 use Rattle.strm_mblk.proofs.chains.Chains.shelve.Goals as goal
 use Rattle.strm_mblk.proofs.chains.Chains.shelve.Goals.{After-self, After-remove}
 
@@ -51,7 +51,7 @@ invariant_of-self c =
     IsChained-reheaded _ _ _ _ c.self.invariant c.args.head c.self.inside.shelves c.args.shelf (on (goal.at.invariant_of-self c).After-self) c.place.new.heads c.place.ensures.held
     (λ k other. c.place.ensures.others k other ∙ c.remove.ensures.others k other)
     (ap (λ (r : Rows). r.nodes) c.place.ensures.lists ∙ nodes_left _ _ _ left) (lists_set _ _ c.args.shelf _ c.place.ensures.lists ∙ lists_left _ _ _ left)
-    (record { apart = c.parts_nodes.ensures.apart; within = c.parts_nodes.ensures.in_range })
+    c.place.ensures.parting
 
 pub returns-clause-after : goal.returns-clause-after
 returns-clause-after c =
@@ -68,17 +68,17 @@ returns-clause-after c =
     reheaded_is _ _ _ _ c.self.invariant c.args.head c.self.inside.shelves c.args.shelf (on at) c.place.new.heads c.place.ensures.held
     (λ k other. c.place.ensures.others k other ∙ c.remove.ensures.others k other)
     (ap (λ (r : Rows). r.nodes) c.place.ensures.lists ∙ nodes_left _ _ _ left) (lists_set _ _ c.args.shelf _ c.place.ensures.lists ∙ lists_left _ _ _ left)
-    (record { apart = c.parts_nodes.ensures.apart; within = c.parts_nodes.ensures.in_range })
-    c.args.shelf None (placed head_node c.args.before (nodes_at v0 c.args.head) (shelf_in v0.shelves c.args.shelf)) (within at)
-    (held_off a.shelves c.args.head a.chains c.place.new.heads c.parts_nodes.ensures.apart
+    c.place.ensures.parting
+    c.args.shelf None (put_before_head head_node c.args.before (nodes_at v0 c.args.head) (shelf_in v0.shelves c.args.shelf)) (within at)
+    (held_off a.shelves c.args.head a.chains c.place.new.heads c.place.ensures.parting.apart
     (λ is. absurd (omega (arith, within at, same_Some c.args.shelf a.shelves (sym c.place.ensures.held ∙ is)))))
     (ap (map (chain a.chains)) (list_set _ _ c.args.shelf _ long c.place.ensures.lists ∙ ap (put_in c.args.before c.args.head) (stays c.args.shelf (within at)))
     ∙ placed_in a.chains c.args.before c.args.head (list_at c.args.shelf a.heads) begins (λ x is. (holder_has x c.args.shelf a.heads (there at x is)).1)
-    ∙ (λ i. placed head_node c.args.before (sym (nodes_held _ _ _ _ c.self.invariant c.args.head (on at)) i) (sym row i)))
+    ∙ (λ i. put_before_head head_node c.args.before (sym (nodes_held _ _ _ _ c.self.invariant c.args.head (on at)) i) (sym row i)))
     (λ k inside other. list_kept _ _ c.args.shelf k _ other c.place.ensures.lists ∙ stays k inside)
     ∙ ap (λ (v : NodeLists). record v {
       held = set v.held c.args.head None;
-      shelves = set v.shelves c.args.shelf (placed head_node c.args.before (nodes_at v c.args.head) (shelf_in v.shelves c.args.shelf));
+      shelves = set v.shelves c.args.shelf (put_before_head head_node c.args.before (nodes_at v c.args.head) (shelf_in v.shelves c.args.shelf));
     }) c.self.view_is
 
 pub returns-clause-parted : goal.returns-clause-parted

@@ -3,8 +3,8 @@ use Rattle.std.proofs.lemmas.Option.{IfSome_then}
 use Rattle.std.specs.List.{slice_get}
 use Rattle.strm_links.specs.Rows.{holder}
 use Rattle.strm_mblk.specs.NodeLists.{NodeLists}
-use Rattle.strm_mblk.proofs.Seen.{head_below, length-held}
-use Rattle.strm_mblk.proofs.Readings.{begins_at, held_at, nodes_held_at}
+use Rattle.strm_mblk.proofs.links.Seen.{head_below, length-held}
+use Rattle.strm_mblk.proofs.links.Readings.{begins_at, held_at, nodes_held_at}
 use Rattle.strm_mblk.proofs.chains.Chains.tail.Goals as goal
 use Rattle.strm_mblk.proofs.chains.Chains.tail.Goals.{After-self}
 

@@ -4,13 +4,13 @@ use Rattle.strm_links.proofs.AllLists.{holder_has}
 use Rattle.strm_mblk.specs.ChainLayout.{nodes_of}
 use Rattle.strm_mblk.specs.Messages.{shelf_in, with_head, without_head}
 use Rattle.strm_mblk.specs.NodeLists.{NodeLists, head_node}
-use Rattle.strm_mblk.proofs.Changed.{IsRemoved, IsPushed, list_left, list_stays, lists_left, nodes_left, list_beside, lists_pushed, nodes_pushed}
-use Rattle.strm_mblk.proofs.Shelved.{IsChained-reheaded, reheaded_is, without-map, with-map}
-use Rattle.strm_mblk.proofs.Parted.{IsNodesParted-chained}
-use Rattle.strm_mblk.proofs.Readings.{shelf_within, shelved_at}
-use Rattle.strm_mblk.proofs.Seen.{chain, head_below, head_node-chain, held_on, shelf-get, on_list}
+use Rattle.strm_mblk.proofs.links.Changed.{IsRemoved, IsPushed, list_left, list_stays, lists_left, nodes_left, list_beside, lists_pushed, nodes_pushed}
+use Rattle.strm_mblk.proofs.links.OnShelves.{IsChained-reheaded, reheaded_is, without-map, with-map}
+use Rattle.strm_mblk.proofs.links.Parted.{IsNodesParted-chained}
+use Rattle.strm_mblk.proofs.links.Readings.{shelf_within, shelved_at}
+use Rattle.strm_mblk.proofs.links.Seen.{chain, head_below, head_node-chain, held_on, shelf-get, on_list}
 use Rattle.strm_mblk.proofs.chains.Chains.unshelve.Goals as goal
-use Rattle.strm_mblk.proofs.chains.Chains.unshelve.Goals.{After-self, After-remove, After-parts_nodes}
+use Rattle.strm_mblk.proofs.chains.Chains.unshelve.Goals.{After-self, After-remove, After-push_back}
 
 within : (c : After-self) → c.args.shelf < c.self.inside.shelves
 within c = shelf_within _ _ _ _ c.self.invariant _ c.self.view_is c.args.shelf c.requires.shelf
@@ -22,7 +22,7 @@ on c = shelved_at _ _ _ _ c.self.invariant _ c.self.view_is c.args.head c.args.s
 removed : (c : After-remove) → IsRemoved c.args.head c.self.inside.heads c.remove.new.self
 removed c = record { lists = c.remove.ensures.lists; freed = c.remove.ensures.freed; others = c.remove.ensures.others }
 
-pushed : (c : After-parts_nodes) → IsPushed c.self.inside.shelves c.args.head c.remove.new.self c.push_back.new.self
+pushed : (c : After-push_back) → IsPushed c.self.inside.shelves c.args.head c.remove.new.self c.push_back.new.self
 pushed c = record { lists = c.push_back.ensures.lists; held = c.push_back.ensures.held; others = c.push_back.ensures.others }
 
 pub remove-requires : goal.remove-requires
@@ -38,7 +38,7 @@ invariant_of-self c =
     IsChained-reheaded _ _ _ _ c.self.invariant c.args.head c.args.shelf c.self.inside.shelves (on (goal.at.invariant_of-self c).After-self) c.push_back.new.self c.push_back.ensures.held
     (λ k other. c.push_back.ensures.others k other ∙ c.remove.ensures.others k other)
     (nodes_pushed _ _ _ _ (pushed c) ∙ nodes_left _ _ _ left) (lists_pushed _ _ _ _ (pushed c) ∙ lists_left _ _ _ left)
-    (record { apart = c.parts_nodes.ensures.apart; within = c.parts_nodes.ensures.in_range })
+    c.push_back.ensures.parting
 
 pub returns-clause-after : goal.returns-clause-after
 returns-clause-after c =
@@ -52,10 +52,10 @@ returns-clause-after c =
     reheaded_is _ _ _ _ c.self.invariant c.args.head c.args.shelf c.self.inside.shelves (on at) c.push_back.new.self c.push_back.ensures.held
     (λ k other. c.push_back.ensures.others k other ∙ c.remove.ensures.others k other)
     (nodes_pushed _ _ _ _ (pushed c) ∙ nodes_left _ _ _ left) (lists_pushed _ _ _ _ (pushed c) ∙ lists_left _ _ _ left)
-    (record { apart = c.parts_nodes.ensures.apart; within = c.parts_nodes.ensures.in_range })
+    c.push_back.ensures.parting
     c.args.shelf (with_head head_node c.args.head (shelf_in (nodes_of a.nodes a.shelves a.chains a.heads).shelves c.args.shelf))
     (without_head head_node c.args.head (shelf_in (nodes_of a.nodes a.shelves a.chains a.heads).shelves c.args.shelf)) (within at)
-    (held_on a.shelves c.args.head a.chains c.push_back.new.self c.parts_nodes.ensures.apart c.push_back.ensures.held
+    (held_on a.shelves c.args.head a.chains c.push_back.new.self c.push_back.ensures.parting.apart c.push_back.ensures.held
     ∙ with-map a.chains c.args.head (list_at c.args.shelf a.heads) begins there ∙ ap (with_head head_node c.args.head) (sym row))
     (ap (map (chain a.chains)) (list_beside _ _ _ _ (pushed c) c.args.shelf (λ same. absurd (omega (arith, same, within at))) ∙ list_left _ _ _ left c.args.shelf)
     ∙ without-map a.chains c.args.head (list_at c.args.shelf a.heads) begins ∙ ap (without_head head_node c.args.head) (sym row))

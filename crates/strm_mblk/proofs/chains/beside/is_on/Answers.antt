@@ -1,7 +1,7 @@
 use Rattle.std.proofs.Common.{ap, sym, ◌∙◌, arith}
 use Rattle.strm_links.specs.Rows.{has, is_some_of}
 use Rattle.strm_links.proofs.AllLists.{has-holder}
-use Rattle.strm_mblk.proofs.Readings.{head_within, heads_at, same_test, shelf_within}
+use Rattle.strm_mblk.proofs.links.Readings.{head_within, heads_at, same_test, shelf_within}
 use Rattle.strm_mblk.proofs.chains.beside.is_on.Goals as goal
 
 pub list_of-requires : goal.list_of-requires

@@ -4,7 +4,7 @@ use Rattle.std.proofs.lemmas.List.Sums.{take_while-cons}
 use Rattle.std.specs.List.{take_while}
 use Rattle.strm_data.specs.MsgType.{same_kind}
 use Rattle.strm_mblk.specs.Block.{Block, kind_of}
-use Rattle.strm_mblk.proofs.PlainSteps.{first_and_rest}
+use Rattle.strm_mblk.proofs.arena.PlainSteps.{first_and_rest}
 use Rattle.strm_mblk.proofs.plain.trimming.+leading.Goals as goal
 
 -- a block that passes leads the others that do

@@ -4,7 +4,7 @@ use Rattle.strm_data.specs.declared.msg_type.MsgType.{MsgType}
 use Rattle.strm_data.specs.MsgType.{same_kind}
 use Rattle.strm_mblk.specs.Block.{Block, kind_of}
 use Rattle.strm_mblk.specs.Trimming.{run_of}
-use Rattle.strm_mblk.proofs.PlainSteps.{first_and_rest}
+use Rattle.strm_mblk.proofs.arena.PlainSteps.{first_and_rest}
 use Rattle.strm_mblk.proofs.plain.trimming.run_of.Goals as goal
 
 pub returns-in-len1-up : goal.returns-in-len1-up

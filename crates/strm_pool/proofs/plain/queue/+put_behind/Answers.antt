@@ -2,7 +2,7 @@ use Rattle.std.proofs.Common.{◌≡◌, ℕ, ◌-◌, true, false, List, ◌∷
 use Rattle.std.specs.Prelude.{nat_le}
 use Rattle.std.specs.List.{list_any}
 use Rattle.strm_mblk.specs.Block.{Message}
-use Rattle.strm_mblk.proofs.PlainSteps.{first_and_rest}
+use Rattle.strm_mblk.proofs.arena.PlainSteps.{first_and_rest}
 use Rattle.strm_pool.specs.Queue.{rank_of, put_behind}
 use Rattle.strm_pool.proofs.plain.queue.+put_behind.Goals as goal
 

@@ -9,5 +9,5 @@ returns-in_ok-stepped-in-Putq c =
     let v = c.args.pool.now in
     let t = c.args.table.now in
     c.in_ok-stepped-in-Putq.ensures
-    ∙ ap (spending c.in-Putq.reg v t) (c.in_ok-given-in-Putq.ensures ∙ ap (λ (h : ℕ). putq c.in-Putq.queue h v) c.head_in-in-Putq.ensures)
+    ∙ ap (spending c.in-Putq.reg v t) (c.in_ok-given-in-Putq.ensures ∙ ap (λ (h : ℕ). putq c.in-Putq.queue h v) c.head_held-in-Putq.ensures)
     ∙ ap (λ (call : Call). act v t call) (sym c.in-Putq.is)

@@ -2,7 +2,7 @@ use Rattle.std.proofs.Common.{◌-◌, List, take, drop, length, ap, ◌∙◌}
 use Rattle.strm_mblk.specs.Block.{Block}
 use Rattle.strm_mblk.specs.Arena.{Arena}
 use Rattle.strm_mblk.specs.Freeing.{with_blocks_freed}
-use Rattle.strm_mblk.proofs.PlainSteps.{first_and_rest}
+use Rattle.strm_mblk.proofs.arena.PlainSteps.{first_and_rest}
 use Rattle.strm_mblk.proofs.plain.arena.Arena.+with_blocks_freed.Goals as goal
 
 pub returns-in-len1-up : goal.returns-in-len1-up

@@ -3,7 +3,7 @@ use Rattle.strm_mblk.specs.Block.{Block}
 use Rattle.strm_mblk.specs.Arena.{Arena, without_held}
 use Rattle.strm_mblk.specs.BlockCalls.{freeb_from, head_in, with_rest}
 use Rattle.strm_mblk.specs.Freeing.{with_block_freed}
-use Rattle.strm_mblk.proofs.PlainSteps.{first_and_rest}
+use Rattle.strm_mblk.proofs.arena.PlainSteps.{first_and_rest}
 use Rattle.strm_mblk.proofs.plain.arena.Arena.freeb_from.Goals as goal
 
 -- the first block is free once the others are held

@@ -4,7 +4,7 @@ use Rattle.strm_mblk.specs.Block.{Block}
 use Rattle.strm_mblk.specs.Arena.{Arena}
 use Rattle.strm_mblk.specs.Freeing.{with_blocks_freed, with_name_dropped}
 use Rattle.strm_mblk.specs.Trimming.{left_over, pulled, pulled_into, used_up}
-use Rattle.strm_mblk.proofs.PlainSteps.{first_and_rest}
+use Rattle.strm_mblk.proofs.arena.PlainSteps.{first_and_rest}
 use Rattle.strm_mblk.proofs.plain.arena.Arena.pulled.Goals as goal
 
 -- the arena once this message is held, and the data block d has the first n bytes of m

@@ -1,7 +1,7 @@
 use Rattle.std.proofs.Common.{ap, ◌∙◌}
 use Rattle.strm_mblk.specs.Arena.{Arena}
 use Rattle.strm_pool.proofs.plain.arena.Arena.with_block_freed.Goals as goal
-use Rattle.strm_mblk.proofs.PlainSteps.{freed_by}
+use Rattle.strm_mblk.proofs.arena.PlainSteps.{freed_by}
 
 pub returns : goal.returns
 returns c =

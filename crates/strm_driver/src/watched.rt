@@ -1,0 +1,64 @@
+//! A reader or a writer that is watched for failures.
+ghost use Rattle.std.specs.Prelude.{◌≡◌, ◌||◌, false, is_err};
+ghost use Rattle.std.specs.Io.{ReadsAtMost, WritesAtMost};
+ghost use Rattle.std.specs.Io.KnownBytes.{Keeps, ReadConsumes, WriteAppends};
+ghost use Rattle.strm_driver.specs.Watched.{took_none};
+
+use std::io;
+use std::io::{Read, Write};
+
+/// A reader or a writer, and whether a call on it has failed. Only its own calls can say that one has.
+#[derive(Drop)]
+pub struct Watched<T> {
+    inner: T,
+    failed: bool,
+}
+
+impl<T> Watched<T> {
+    /// A reader or a writer of which no call has failed.
+    pub fn new(inner: T) -> Watched<T>
+        ensures inner { result.inner ≡ inner }
+        ensures failed { result.failed ≡ false }
+    {
+        Watched {
+            inner,
+            failed: false,
+        }
+    }
+}
+
+impl<R: Read> Watched<R> {
+    /// Reads once.
+    pub fn read(&mut self, buf: &mut [u8]) -> io::Result<usize>
+        ensures bound { ReadsAtMost result buf.new }
+        ensures bytes { ReadConsumes (R.remaining self.old.inner) (R.remaining self.new.inner) result buf.new }
+        ensures failed { self.new.failed ≡ (self.old.failed || is_err result) }
+    {
+        let result = self.inner.read(buf);
+        self.failed = self.failed || result.is_err();
+        result
+    }
+}
+
+impl<W: Write> Watched<W> {
+    /// Writes once. A write that takes nothing has failed too.
+    pub fn write(&mut self, buf: &[u8]) -> io::Result<usize>
+        ensures bound { WritesAtMost result buf.now }
+        ensures bytes { WriteAppends (W.contents self.old.inner) (W.contents self.new.inner) result buf.now }
+        ensures failed { self.new.failed ≡ (self.old.failed || took_none result) }
+    {
+        let result = self.inner.write(buf);
+        self.failed = self.failed || matches!(result, Ok(0) | Err(_));
+        result
+    }
+
+    /// Flushes the writer.
+    pub fn flush(&mut self) -> io::Result<()>
+        ensures bytes { Keeps (W.contents self.old.inner) (W.contents self.new.inner) }
+        ensures failed { self.new.failed ≡ (self.old.failed || is_err result) }
+    {
+        let result = self.inner.flush();
+        self.failed = self.failed || result.is_err();
+        result
+    }
+}

@@ -1,0 +1,8 @@
+-- On the model alone: what is counted, named and left.
+pub mod Counts
+pub mod Moves
+pub mod Heads
+pub mod Tokens
+pub mod Frame
+pub mod Stands
+pub mod PlainSteps

@@ -1,0 +1,508 @@
+-- What each call of the model leaves as it was.
+use Rattle.std.proofs.Common.{◌≡◌, ◌≢◌, ℕ, zero, suc, ◌+◌, ◌<◌, ◌≤◌, Bool, true, false, ◌||◌, ◌&&◌, ◌==◌, ◌-◌, List, [], ◌∷◌, ◌++◌, length, get_or, set, Option, Some, None, Result, Ok, Err, refl, sym, ap, ◌∙◌, subst, inl, inr, arith, get_or-set_same, get_or-set_other, length-set, if◌then◌else◌}
+use Rattle.std.specs.Prelude.{IfOk, ℤ, count_by, drop, nat_le, nat_lt, ok_or, option_map, slice_get, take}
+use Rattle.std.specs.List.{All, flat_map, zip}
+use Rattle.std.proofs.lemmas.Bool.{cases_Bool, cases_eq, cases_lt, cond-true, cond-false, eq-eqb, ne_eqb, false≢true}
+use Rattle.std.proofs.lemmas.Bool.Decides.{nat_tests}
+use Rattle.std.proofs.lemmas.List.{get_or_past}
+use Rattle.std.proofs.lemmas.Option.{none-some, same_Some}
+use Rattle.strm_data.specs.declared.class_spec.ClassSpec.{ClassSpec}
+use Rattle.strm_data.specs.declared.msg_type.MsgType.{MsgType}
+use Rattle.strm_data.specs.declared.refusal.Refusal.{Refusal}
+use Rattle.strm_data.specs.declared.refusal.Refusal.TheVariants.{NoData, NoMblk, NoRoom, RefMax, Shared, Short, TooLarge}
+use Rattle.strm_data.specs.Classes.{fits_a_class}
+use Rattle.strm_data.specs.DataStore.{DataBlock, DataStore, capacity_of, class_of, data_block_at, fitting, free_of, no_data_block, take_data, times, with_bytes_written, with_data_freed, with_data_taken, with_kind}
+use Rattle.strm_data.proofs.Fitting.{if_fits}
+use Rattle.strm_data.proofs.Times.{one_if, times-append, times-cons, times_here}
+use Rattle.strm_links.specs.Rows.{has}
+use Rattle.strm_links.proofs.OneList.{has_head}
+use Rattle.strm_mblk.specs.declared.token.TokenValue.{TokenValue}
+use Rattle.strm_mblk.specs.Arena.{has as has_token}
+use Rattle.strm_mblk.specs.Arena.{Arena, IsParted, blocks_in, held_at, held_blocks, is_free_in, message_at, names_of, shelved_blocks, token_of, with_held, without_held}
+use Rattle.strm_mblk.specs.Block.{Block, Message, bytes_of, bytes_of_block, is_naming, kind_of, new_block, size_of}
+use Rattle.strm_mblk.specs.BlockCalls.{allocb, allocb_from, banded, copied, copied_into, copies, duplicated, exceeds_names, freeb, freeb_from, head_in, held_new, held_under, linkb, rmvb, rmvb_of, setband, settype, settype_of, unlinkb, with_rest, write, write_block}
+use Rattle.strm_mblk.specs.Frame.{IsSameData, LeavesOthers, head_answered, head_given, heads_parted}
+use Rattle.strm_mblk.specs.Freeing.{freemsg, spent, with_block_freed, with_blocks_freed, with_name_dropped}
+use Rattle.strm_mblk.specs.Given.{Given, value_after, and_then, answer_map, answer_of, or_rejected}
+use Rattle.strm_mblk.specs.Messages.{blocks_of, divided, held_in, joined}
+use Rattle.strm_mblk.specs.Trimming.{adjmsg, bytes_asked, cut, left_over, pull, pull_asked, pulled, pulled_into, pullupmsg, run_of, used_up}
+use Rattle.strm_mblk.proofs.arena.Counts.{blocks_in_adds, count_adds}
+use Rattle.strm_mblk.proofs.arena.Moves.{count_one, held_among, held_within, out_of_held}
+
+-- ---- heads that are not among some
+
+-- the first of them is another
+other_head : (h g : ℕ) (gs : List ℕ) → has h (g ∷ gs) ≡ false → h ≢ g
+other_head h g gs absent same = false≢true (sym absent ∙ has_head g h gs (sym same))
+
+later : (b c : Bool) → (b || c) ≡ false → c ≡ false
+later true c is = cc
+later false c is = is
+
+-- and so are the others
+other_heads : (h g : ℕ) (gs : List ℕ) → has h (g ∷ gs) ≡ false → has h gs ≡ false
+other_heads h g gs absent = later (g == h) (has h gs) absent
+
+-- ---- data blocks that stay
+
+-- the data blocks that these blocks name are the same, where each that is named so is
+same_data : (s t : DataStore) (bs : List Block) → ((d : ℕ) → 0 < count_by (is_naming d) bs → data_block_at t d ≡ data_block_at s d) → All (IsSameData s t) bs
+same_data s t [] same k e within = absurd (omega arith)
+same_data s t (b ∷ bs) same zero e within =
+    same b.data_number (omega (arith, (count_adds (is_naming b.data_number)).both (b ∷ []) bs, ap one_if (eq-eqb b.data_number b.data_number refl)))
+same_data s t (b ∷ bs) same (suc k) e within =
+    same_data s t bs (λ d some. same d (omega (arith, some, (count_adds (is_naming d)).both (b ∷ []) bs))) k e (omega arith)
+
+-- the blocks on shelves, and those of a held message, are among those that name a data block
+shelved_named : (a : Arena) (d : ℕ) → count_by (is_naming d) (shelved_blocks a) ≤ names_of a d
+shelved_named a d = omega (arith, blocks_in_adds (count_adds (is_naming d)) a)
+
+held_named : (a : Arena) (h d : ℕ) → count_by (is_naming d) (message_at a h) ≤ names_of a d
+held_named a h d =
+    elim (cases_lt h (length a.held)) [
+      | inl inside ↦ omega (arith, held_among a (is_naming d) h inside, blocks_in_adds (count_adds (is_naming d)) a)
+      | inr past ↦ omega (arith, ap (λ o. count_by (is_naming d) (blocks_of o)) (get_or_past a.held h None past), (count_adds (is_naming d)).none)
+    ]
+
+-- nothing changes
+pub leaves_same : (a : Arena) (heads : List ℕ) → LeavesOthers heads a a
+leaves_same a heads = record { id = refl; shelves = refl; shelved_data = λ k e within. refl; held = λ h other. refl; held_data = λ h other k e within. refl }
+
+module _ (a b : Arena) (heads : List ℕ) (id : b.id ≡ a.id) (shelves : b.shelves ≡ a.shelves) (held : (h : ℕ) → has h heads ≡ false → held_at b h ≡ held_at a h) where
+  -- each data block that some message names stays
+  pub leaves_named : ((d : ℕ) → 0 < names_of a d → data_block_at b.store d ≡ data_block_at a.store d) → LeavesOthers heads a b
+  leaves_named same = record {
+    id = id;
+    shelves = shelves;
+    shelved_data = same_data a.store b.store (shelved_blocks a) (λ d some. same d (omega (arith, some, shelved_named a d)));
+    held = held;
+    held_data = λ h other. same_data a.store b.store (message_at a h) (λ d some. same d (omega (arith, some, held_named a h d)));
+  }
+
+  -- each but one stays, which a message alone names that is held at one of the heads
+  module _ (g d : ℕ) (is_head : (h : ℕ) → has h heads ≡ false → h ≢ g) (m : Message) (is : held_at a g ≡ Some m) (once : names_of a d ≤ 1) (some : 0 < count_by (is_naming d) m) where
+    beside : (h : ℕ) → h ≢ g → count_by (is_naming d) (message_at a h) ≡ 0
+    beside h other =
+        omega (
+          arith,
+          out_of_held a g m (is_naming d) is,
+          held_named (without_held g a) h d,
+          ap (λ o. count_by (is_naming d) (blocks_of o)) (get_or-set_other a.held g h None None other),
+        )
+
+    pub leaves_own : ((e : ℕ) → e ≢ d → data_block_at b.store e ≡ data_block_at a.store e) → LeavesOthers heads a b
+    leaves_own same = record {
+      id = id;
+      shelves = shelves;
+      shelved_data = same_data a.store b.store (shelved_blocks a) (λ e named. same e (λ one. absurd (omega (
+        arith,
+        named,
+        ap (λ i. count_by (is_naming i) (shelved_blocks a)) one,
+        out_of_held a g m (is_naming d) is,
+        shelved_named (without_held g a) d,
+      ))));
+      held = held;
+      held_data = λ h other. same_data a.store b.store (message_at a h) (λ e named. same e (λ one. absurd (omega (
+        arith,
+        named,
+        ap (λ i. count_by (is_naming i) (message_at a h)) one,
+        beside h (is_head h other),
+      ))));
+    }
+
+-- ---- data blocks that are taken, and altered
+
+-- what stands at another place of a store whose blocks have changed at one
+other_block : (s : DataStore) (d e : ℕ) (x : DataBlock) (free : List (List ℕ)) → e ≢ d → data_block_at (record s { blocks = set s.blocks d x; free = free }) e ≡ data_block_at s e
+other_block s d e x free other = get_or-set_other s.blocks d e x no_data_block other
+
+-- the data block stands in no free list
+abbrev IsTaken : ℕ → DataStore → Type 0
+IsTaken d s = (c : ℕ) → times d (free_of s c) ≡ 0
+
+none_fitting : (d size : ℕ) (cs : List ClassSpec) (free : List (List ℕ)) → ((c : ℕ) → times d (get_or free c []) ≡ 0) → times d (flat_map (if_fits size) (zip cs free)) ≡ 0
+none_fitting d size [] free none = refl
+none_fitting d size (c ∷ cs) [] none = refl
+none_fitting d size (c ∷ cs) (xs ∷ free) none =
+    let here : times d (if_fits size (c, xs)) ≡ 0 =
+    elim (cases_Bool (nat_le size c.size)) [
+      | inl fits ↦ ap (times d) (cond-true _ xs [] fits) ∙ none 0
+      | inr small ↦ ap (times d) (cond-false _ xs [] small)
+    ] in
+    omega (arith, times-append d (if_fits size (c, xs)) (flat_map (if_fits size) (zip cs free)), here, none_fitting d size cs free (λ k. none (suc k)))
+
+first_other : (d e : ℕ) (xs : List ℕ) → times e xs ≡ 0 → ok_or (slice_get xs 0) NoData ≡ Ok d → e ≢ d
+first_other d e [] none is same = cc
+first_other d e (x ∷ xs) none is same =
+    let first : x ≡ d = cc in
+    absurd (omega (arith, none, times_here e x xs (first ∙ sym same)))
+
+-- another is taken
+take_other : (size d e : ℕ) (s : DataStore) → IsTaken e s → take_data size s ≡ Ok d → e ≢ d
+take_other size d e s taken is =
+    elim (cases_Bool (fits_a_class size s.classes)) [
+      | inl fits ↦
+          first_other d e (fitting size s) (none_fitting e size s.classes s.free taken)
+          (sym (cond-true _ (ok_or (slice_get (fitting size s) 0) NoData) (Err TooLarge) fits) ∙ is)
+      | inr large ↦ none_ok (sym (cond-false _ (ok_or (slice_get (fitting size s) 0) NoData) (Err TooLarge) large) ∙ is)
+    ]
+  where
+    none_ok : Err TooLarge ≡ Ok d → e ≢ d
+    none_ok is same = cc
+
+-- and it stays in none
+taken_stays : (d e : ℕ) (s : DataStore) → IsTaken e s → IsTaken e (with_data_taken d s)
+taken_stays d e s taken c =
+    let rest = drop 1 (free_of s (class_of s d)) in
+    elim (cases_eq c (class_of s d)) [
+      | inr other ↦ ap (times e) (get_or-set_other s.free (class_of s d) c rest [] other) ∙ taken c
+      | inl same ↦
+          elim (cases_lt (class_of s d) (length s.free)) [
+            | inl inside ↦
+                ap (λ k. times e (get_or (set s.free (class_of s d) rest) k [])) same ∙ ap (times e) (get_or-set_same s.free (class_of s d) rest [] inside)
+                ∙ fewer (free_of s (class_of s d)) (taken (class_of s d))
+            | inr past ↦ ap (times e) (get_or_past (set s.free (class_of s d) rest) c [] (omega (arith, same, past, length-set s.free (class_of s d) rest)))
+          ]
+    ]
+  where
+    fewer : (xs : List ℕ) → times e xs ≡ 0 → times e (drop 1 xs) ≡ 0
+    fewer [] none = none
+    fewer (x ∷ xs) none = omega (arith, none, times-cons e x xs)
+
+-- a data block that is taken, with a type and bytes of its own, leaves every other as it was
+filled_other : (d e at : ℕ) (kind : MsgType) (bytes : List ℕ) (s : DataStore) → e ≢ d → data_block_at (with_bytes_written d at bytes (with_kind d kind (with_data_taken d s))) e ≡ data_block_at s e
+filled_other d e at kind bytes s other =
+    get_or-set_other (with_kind d kind (with_data_taken d s)).blocks d e _ no_data_block other
+    ∙ get_or-set_other (with_data_taken d s).blocks d e _ no_data_block other ∙ get_or-set_other s.blocks d e _ no_data_block other
+
+-- copies leave every data block that was in use
+copies_leave : (bs : List Block) (s : DataStore) (e : ℕ) → IsTaken e s → IfOk (copies bs s) (λ g. data_block_at g.1 e ≡ data_block_at s e)
+copies_leave [] s e taken = refl
+copies_leave (b ∷ bs) s e taken =
+    elim (take_data (capacity_of s b.data_number) s) as (λ r. take_data (capacity_of s b.data_number) s ≡ r
+    → IfOk {T = List Block × DataStore} (and_then (λ d. answer_map (λ g. (record b { data_number = d } ∷ g.0, g.1)) (copies bs (copied_into b s d))) r) (λ g. data_block_at g.1 e ≡ data_block_at s e)) [
+      | Err why ↦ λ is. tt
+      | Ok d ↦ λ is.
+          let same = filled_other d e b.offset (kind_of s b) (bytes_of_block s b) s (take_other (capacity_of s b.data_number) d e s taken is) in
+          beside d (copies bs (copied_into b s d)) same (copies_leave bs (copied_into b s d) e (taken_stays d e s taken))
+    ] refl
+  where
+    beside : (d : ℕ) (r : Given DataStore (List Block)) → data_block_at (copied_into b s d) e ≡ data_block_at s e → IfOk r (λ g. data_block_at g.1 e ≡ data_block_at (copied_into b s d) e)
+        → IfOk {T = List Block × DataStore} (answer_map (λ g. (record b { data_number = d } ∷ g.0, g.1)) r) (λ g. data_block_at g.1 e ≡ data_block_at s e)
+    beside d (Ok g) same left = left ∙ same
+    beside d (Err why) same left = tt
+
+-- ---- blocks that are freed
+
+-- all but the free lists is as it was
+record AreFreed (old new : Arena) : Type 0 where
+  id : new.id ≡ old.id
+  shelves : new.shelves ≡ old.shelves
+  held : new.held ≡ old.held
+  blocks : new.store.blocks ≡ old.store.blocks
+
+name_drops : (d : ℕ) (loose : List Block) (a : Arena) → AreFreed a (with_name_dropped d loose a)
+name_drops d loose a = record {
+  id = refl;
+  shelves = refl;
+  held = refl;
+  blocks = either (names_of a d + count_by (is_naming d) loose == 0);
+}
+  where
+    either : (b : Bool) → (if b then with_data_freed d a.store else a.store).blocks ≡ a.store.blocks
+    either true = refl
+    either false = refl
+
+blocks_free : (bs : List Block) (a : Arena) → AreFreed a (with_blocks_freed bs a)
+blocks_free [] a = record { id = refl; shelves = refl; held = refl; blocks = refl }
+blocks_free (b ∷ loose) a =
+    let one = name_drops b.data_number loose (record a { free = b.number ∷ a.free }) in
+    let others = blocks_free loose (with_block_freed b loose a) in
+    record { id = others.id ∙ one.id; shelves = others.shelves ∙ one.shelves; held = others.held ∙ one.held; blocks = others.blocks ∙ one.blocks }
+
+-- ---- what calls leave that give an answer
+
+-- where it is not refused, it leaves all but the messages at these heads
+abbrev pub Leaving : {X : Type 0} → List ℕ → Arena → Given Arena X → Type 0
+Leaving heads a r = IfOk r (λ g. LeavesOthers heads a g.1)
+
+-- nothing changes where it is refused
+pub leaves_after : {X : Type 0} (a : Arena) (heads : List ℕ) (r : Given Arena X) → Leaving heads a r → LeavesOthers heads a (value_after a r)
+leaves_after a heads (Ok g) left = left
+leaves_after a heads (Err why) left = leaves_same a heads
+
+-- a call that gives a message leaves all others
+abbrev pub Gives : Arena → Given Arena ℕ → Type 0
+Gives a r = IfOk r (λ g. LeavesOthers (g.0 ∷ []) a g.1)
+
+pub leaves_given : (a b : Arena) (t : TokenValue) (n : ℕ) (r : Given Arena ℕ) → Gives a r → r ≡ Ok (n, b) → t ≡ token_of b n → LeavesOthers (t.head ∷ []) a b
+leaves_given a b t n r gives is token = subst (λ h. LeavesOthers (h ∷ []) a b) (ap (λ (x : TokenValue). x.head) (sym token)) (subst (Gives a) is gives)
+
+module _ (a : Arena) where
+  -- only what is held at some heads changes
+  leaves_held : (heads : List ℕ) (held : List (Option Message)) → ((h : ℕ) → has h heads ≡ false → held_in held h ≡ held_at a h) → LeavesOthers heads a (record a { held = held })
+  leaves_held heads held same = leaves_named a (record a { held = held }) heads refl refl same (λ d some. refl)
+
+  leaves_one : (h : ℕ) (o : Option Message) → LeavesOthers (h ∷ []) a (record a { held = set a.held h o })
+  leaves_one h o = leaves_held (h ∷ []) (set a.held h o) (λ g other. get_or-set_other a.held h g o None (other_head g h [] other))
+
+  pub leaves_setband : (h band : ℕ) → LeavesOthers (h ∷ []) a (setband h band a)
+  leaves_setband h band = leaves_one h (Some (banded band (message_at a h)))
+
+  pub leaves_adjmsg : (h : ℕ) (n : ℤ) → LeavesOthers (h ∷ []) a (value_after a (adjmsg h n a))
+  leaves_adjmsg h n =
+      leaves_after a (h ∷ []) (adjmsg h n a)
+      (elim (cut n a.store (message_at a h)) as (λ r. Leaving {X = Unit {0}} (h ∷ []) a (answer_map (λ m. (tt, record a { held = set a.held h (Some m) })) r)) [
+        | Ok m ↦ leaves_one h (Some m)
+        | Err why ↦ tt
+      ])
+
+  pub leaves_linkb : (h g : ℕ) → LeavesOthers (h ∷ g ∷ []) a (linkb h g a)
+  leaves_linkb h g =
+      elim (h == g) as (λ b. LeavesOthers (h ∷ g ∷ []) a (if b then a else record a { held = joined h g a.held })) [
+        | true ↦ leaves_same a (h ∷ g ∷ [])
+        | false ↦
+            leaves_held (h ∷ g ∷ []) (joined h g a.held)
+            (λ k other.
+            get_or-set_other (set a.held g None) h k _ None (other_head k h (g ∷ []) other)
+            ∙ get_or-set_other a.held g k None None (other_head k g [] (other_heads k h (g ∷ []) other)))
+      ]
+
+  -- the blocks behind the first become a message
+  parts : (x : Arena) (h : ℕ) (m : Message) → LeavesOthers (h ∷ head_given (option_map (token_of x) (head_in (drop 1 m)))) a (record a { held = divided (λ (b : Block). b.number) h m a.held })
+  parts x h [] = leaves_same a (h ∷ [])
+  parts x h (b ∷ []) = leaves_same a (h ∷ [])
+  parts x h (b ∷ c ∷ bs) =
+      leaves_held (h ∷ c.number ∷ []) (divided (λ (b : Block). b.number) h (b ∷ c ∷ bs) a.held)
+      (λ k other.
+      get_or-set_other (set a.held h (Some (b ∷ []))) c.number k (Some (c ∷ bs)) None (other_head k c.number [] (other_heads k h (c.number ∷ []) other))
+      ∙ get_or-set_other a.held h k (Some (b ∷ [])) None (other_head k h (c.number ∷ []) other))
+
+  pub leaves_unlinkb : (x : Arena) (h : ℕ) → LeavesOthers (h ∷ head_given (option_map (token_of x) (unlinkb h a).0)) a (unlinkb h a).1
+  leaves_unlinkb x h = parts x h (message_at a h)
+
+  -- a block becomes a message, and the others
+  rest_leaves : (h n : ℕ) (x : Arena) (rest : Message) (k : ℕ) → has k (h ∷ n ∷ head_given (option_map (token_of x) (head_in rest))) ≡ false → held_at (with_rest rest (without_held h a)) k ≡ held_at a k
+  rest_leaves h n x [] k other = get_or-set_other a.held h k None None (other_head k h (n ∷ []) other)
+  rest_leaves h n x (c ∷ cs) k other =
+      get_or-set_other (set a.held h None) c.number k (Some (c ∷ cs)) None (other_head k c.number [] (other_heads k n (c.number ∷ []) (other_heads k h (n ∷ c.number ∷ []) other)))
+      ∙ get_or-set_other a.held h k None None (other_head k h (n ∷ c.number ∷ []) other)
+
+  rest_shelves : (h : ℕ) (rest : Message) → (with_rest rest (without_held h a)).shelves ≡ a.shelves
+  rest_shelves h [] = refl
+  rest_shelves h (c ∷ cs) = refl
+
+  rest_id : (h : ℕ) (rest : Message) → (with_rest rest (without_held h a)).id ≡ a.id
+  rest_id h [] = refl
+  rest_id h (c ∷ cs) = refl
+
+  rest_store : (h : ℕ) (rest : Message) → (with_rest rest (without_held h a)).store ≡ a.store
+  rest_store h [] = refl
+  rest_store h (c ∷ cs) = refl
+
+  pub leaves_rmvb : (x : Arena) (t : TokenValue) (h k : ℕ)
+      → LeavesOthers (h ∷ heads_parted (or_rejected t (answer_map (λ heads. (token_of x heads.0, option_map (token_of x) heads.1)) (answer_of (rmvb h k a))))) a (value_after a (rmvb h k a))
+  leaves_rmvb x t h k =
+      elim (slice_get (message_at a h) k) as (λ o. LeavesOthers (h ∷ heads_parted (or_rejected t (answer_map (λ heads. (token_of x heads.0, option_map (token_of x) heads.1)) (answer_of (rmvb_of h a rest o))))) a (value_after a (rmvb_of h a rest o))) [
+        | None ↦ leaves_same a (h ∷ [])
+        | Some b ↦
+            leaves_named a (with_held (b ∷ []) (with_rest rest (without_held h a))) (h ∷ b.number ∷ head_given (option_map (token_of x) (head_in rest)))
+            (rest_id h rest) (rest_shelves h rest)
+            (λ g other.
+            get_or-set_other (with_rest rest (without_held h a)).held b.number g (Some (b ∷ [])) None
+            (other_head g b.number (head_given (option_map (token_of x) (head_in rest))) (other_heads g h (b.number ∷ head_given (option_map (token_of x) (head_in rest))) other))
+            ∙ rest_leaves h b.number x rest g other)
+            (λ d some. ap (λ s. data_block_at s d) (rest_store h rest))
+      ]
+    where
+      rest : Message
+      rest = take k (message_at a h) ++ drop (k + 1) (message_at a h)
+
+  -- blocks are freed, and only what is held at some heads changes beside them
+  leaves_freed : (heads : List ℕ) (old new : Arena) → AreFreed old new → LeavesOthers heads a old → LeavesOthers heads a new
+  leaves_freed heads old new freed left = record {
+    id = freed.id ∙ left.id;
+    shelves = freed.shelves ∙ left.shelves;
+    shelved_data = λ k e within. ap (λ xs. get_or xs (get_or (shelved_blocks a) k e).data_number no_data_block) freed.blocks ∙ left.shelved_data k e within;
+    held = λ h other. ap (λ xs. get_or xs h None) freed.held ∙ left.held h other;
+    held_data = λ h other k e within. ap (λ xs. get_or xs (get_or (message_at a h) k e).data_number no_data_block) freed.blocks ∙ left.held_data h other k e within;
+  }
+
+  pub leaves_freeb : (x : Arena) (h : ℕ) → LeavesOthers (h ∷ head_given (option_map (token_of x) (freeb h a).0)) a (freeb h a).1
+  leaves_freeb x h = of_blocks (message_at a h)
+    where
+      of_blocks : (m : Message) → LeavesOthers (h ∷ head_given (option_map (token_of x) (freeb_from h a m).0)) a (freeb_from h a m).1
+      of_blocks [] = leaves_same a (h ∷ [])
+      of_blocks (b ∷ rest) =
+          let heads = h ∷ head_given (option_map (token_of x) (head_in rest)) in
+          let out = with_rest rest (without_held h a) in
+          leaves_freed heads (record out { free = b.number ∷ out.free }) (with_block_freed b [] out) (name_drops b.data_number [] (record out { free = b.number ∷ out.free }))
+          (leaves_named a (record out { free = b.number ∷ out.free }) heads (rest_id h rest) (rest_shelves h rest)
+          (λ g other. rest_leaves_first rest g other) (λ d some. ap (λ s. data_block_at s d) (rest_store h rest)))
+        where
+          rest_leaves_first : (rest : Message) (k : ℕ) → has k (h ∷ head_given (option_map (token_of x) (head_in rest))) ≡ false → held_at (with_rest rest (without_held h a)) k ≡ held_at a k
+          rest_leaves_first [] k other = get_or-set_other a.held h k None None (other_head k h [] other)
+          rest_leaves_first (c ∷ cs) k other =
+              get_or-set_other (set a.held h None) c.number k (Some (c ∷ cs)) None (other_head k c.number [] (other_heads k h (c.number ∷ []) other))
+              ∙ get_or-set_other a.held h k None None (other_head k h (c.number ∷ []) other)
+
+  pub leaves_spent : (t : TokenValue) → LeavesOthers (t.head ∷ []) a (spent a t)
+  leaves_spent t =
+      elim (has_token a t) as (λ b. LeavesOthers (t.head ∷ []) a (if b then freemsg t.head a else a)) [
+        | true ↦ leaves_freed (t.head ∷ []) (without_held t.head a) (freemsg t.head a) (blocks_free (message_at a t.head) (without_held t.head a)) (leaves_one t.head None)
+        | false ↦ leaves_same a (t.head ∷ [])
+      ]
+
+-- ---- calls that take data blocks, or alter one
+
+module _ (a : Arena) (parted : IsParted a) where
+  -- what something names is in use
+  named_taken : (d : ℕ) → 0 < names_of a d → IsTaken d a.store
+  named_taken d some c =
+      parted.free_data c d
+      ∙ ap (λ b. one_if (nat_lt d (length a.store.blocks) && (class_of a.store d == c && b))) (ne_eqb (names_of a d) 0 (λ none. absurd (omega (arith, none, some))))
+      ∙ neither (nat_lt d (length a.store.blocks)) (class_of a.store d == c)
+    where
+      neither : (b c : Bool) → one_if (b && (c && false)) ≡ 0
+      neither true true = refl
+      neither true false = refl
+      neither false c = refl
+
+  pub leaves_allocb : (size : ℕ) → Gives a (allocb size a)
+  leaves_allocb size =
+      elim (fits_a_class size a.store.classes) as (λ b. Gives a (if b then allocb_from a.free size a else Err TooLarge)) [
+        | true ↦ from a.free
+        | false ↦ tt
+      ]
+    where
+      from : (ns : List ℕ) → Gives a (allocb_from ns size a)
+      from [] = tt
+      from (n ∷ ns) =
+          elim (take_data size a.store) as (λ r. take_data size a.store ≡ r → Gives a (held_new n ns a r)) [
+            | Err why ↦ λ is. tt
+            | Ok d ↦ λ is.
+                leaves_named a (with_held (new_block n d ∷ []) (record a { free = ns; store = with_data_taken d a.store })) (n ∷ []) refl refl
+                (λ h other. get_or-set_other a.held n h _ None (other_head h n [] other))
+                (λ e some. get_or-set_other a.store.blocks d e _ no_data_block (take_other size d e a.store (named_taken e some) is))
+          ] refl
+
+  -- a message of new blocks over a store in which all data blocks in use are the same
+  under_leaves : (bs : List Block) (s : DataStore) → ((d : ℕ) → 0 < names_of a d → data_block_at s d ≡ data_block_at a.store d) → LeavesOthers ((held_under bs s a).0 ∷ []) a (held_under bs s a).1
+  under_leaves bs s same =
+      leaves_named a (held_under bs s a).1 ((held_under bs s a).0 ∷ []) refl refl (λ h other. get_or-set_other a.held (held_under bs s a).0 h _ None (other_head h (held_under bs s a).0 [] other)) same
+
+  pub leaves_duplicated : (bs : List Block) → Gives a (duplicated bs a)
+  leaves_duplicated bs =
+      elim (nat_lt (length a.free) (length bs)) as (λ b. Gives a (if b then Err NoMblk else (if exceeds_names bs a then Err RefMax else Ok (held_under bs a.store a)))) [
+        | true ↦ tt
+        | false ↦
+            elim (exceeds_names bs a) as (λ b. Gives a (if b then Err RefMax else Ok (held_under bs a.store a))) [
+              | true ↦ tt
+              | false ↦ under_leaves bs a.store (λ d some. refl)
+            ]
+      ]
+
+  pub leaves_copied : (bs : List Block) → Gives a (copied bs a)
+  leaves_copied bs =
+      elim (nat_lt (length a.free) (length bs)) as (λ b. Gives a (if b then Err NoMblk else answer_map (λ g. held_under g.0 g.1 a) (copies bs a.store))) [
+        | true ↦ tt
+        | false ↦ of_copies (copies bs a.store) (λ d some. copies_leave bs a.store d (named_taken d some))
+      ]
+    where
+      of_copies : (r : Given DataStore (List Block)) → ((d : ℕ) → 0 < names_of a d → IfOk r (λ g. data_block_at g.1 d ≡ data_block_at a.store d))
+          → Gives a (answer_map (λ g. held_under g.0 g.1 a) r)
+      of_copies (Ok g) same = under_leaves g.0 g.1 same
+      of_copies (Err why) same = tt
+
+  pub leaves_pullupmsg : (h : ℕ) (n : ℤ) → LeavesOthers (h ∷ []) a (value_after a (pullupmsg h n a))
+  leaves_pullupmsg h n = leaves_after a (h ∷ []) (pullupmsg h n a) (asked (bytes_asked n (run_of a.store (message_at a h))) (message_at a h))
+    where
+      taken : (n : ℕ) (b : Block) (bs : Message) (r : Result ℕ Refusal) → take_data n a.store ≡ r → Leaving {X = Unit {0}} (h ∷ []) a (answer_map (λ d. (tt, pulled h n (b ∷ bs) a d)) r)
+      taken n b bs (Err why) is = tt
+      taken n b bs (Ok d) is =
+          let out = used_up (n - b.len) bs in
+          let new : Arena = record a {
+            store = pulled_into n (b ∷ bs) a.store d;
+            held = set a.held h (Some (record b { data_number = d; offset = 0; len = n } ∷ left_over (n - b.len) bs));
+          } in
+          leaves_freed a (h ∷ []) (with_name_dropped b.data_number out new) (pulled h n (b ∷ bs) a d) (blocks_free out (with_name_dropped b.data_number out new))
+          (leaves_freed a (h ∷ []) new (with_name_dropped b.data_number out new) (name_drops b.data_number out new)
+          (leaves_named a new (h ∷ []) refl refl (λ g other. get_or-set_other a.held h g _ None (other_head g h [] other))
+          (λ e some. filled_other d e 0 (kind_of a.store b) (take n (bytes_of a.store (b ∷ bs))) a.store (take_other n d e a.store (named_taken e some) is))))
+
+      pulls : (n : ℕ) (m : Message) → Leaving {X = Unit {0}} (h ∷ []) a (pull h n m a)
+      pulls n [] = tt
+      pulls n (b ∷ bs) =
+          elim (nat_lt (size_of (run_of a.store (b ∷ bs))) n) as (λ c. Leaving {X = Unit {0}} (h ∷ []) a (if c then Err Short else (if nat_le n b.len then Ok (tt, a) else answer_map (λ d. (tt, pulled h n (b ∷ bs) a d)) (take_data n a.store)))) [
+            | true ↦ tt
+            | false ↦
+                elim (nat_le n b.len) as (λ c. Leaving {X = Unit {0}} (h ∷ []) a (if c then Ok (tt, a) else answer_map (λ d. (tt, pulled h n (b ∷ bs) a d)) (take_data n a.store))) [
+                  | true ↦ leaves_same a (h ∷ [])
+                  | false ↦ taken n b bs (take_data n a.store) refl
+                ]
+          ]
+
+      asked : (o : Option ℕ) (m : Message) → Leaving {X = Unit {0}} (h ∷ []) a (pull_asked h o m a)
+      asked None m = tt
+      asked (Some n) m = pulls n m
+
+-- a block is one of those that name its data block
+naming_at : (m : Message) (k : ℕ) (b : Block) → slice_get m k ≡ Some b → 0 < count_by (is_naming b.data_number) m
+naming_at [] k b is = absurd (none-some b is)
+naming_at (c ∷ m) zero b is =
+    omega (arith, (count_adds (is_naming b.data_number)).both (c ∷ []) m, ap one_if (eq-eqb c.data_number b.data_number (ap (λ (x : Block). x.data_number) (same_Some c b is))))
+naming_at (c ∷ m) (suc k) b is = omega (arith, naming_at m k b is, (count_adds (is_naming b.data_number)).both (c ∷ []) m)
+
+module _ (a : Arena) (h : ℕ) (m : Message) (is : held_at a h ≡ Some m) where
+  -- a data block that no other block names is altered
+  altered : (k : ℕ) (b : Block) (new : Arena) → slice_get (message_at a h) k ≡ Some b → nat_lt 1 (names_of a b.data_number) ≡ false → new.id ≡ a.id → new.shelves ≡ a.shelves
+      → ((g : ℕ) → has g (h ∷ []) ≡ false → held_at new g ≡ held_at a g) → ((d : ℕ) → d ≢ b.data_number → data_block_at new.store d ≡ data_block_at a.store d) → LeavesOthers (h ∷ []) a new
+  altered k b new at lone id shelves held same =
+      leaves_own a new (h ∷ []) id shelves held h b.data_number (λ g other. other_head g h [] other) m is (most (names_of a b.data_number) lone)
+      (subst (λ x. 0 < count_by (is_naming b.data_number) x) (ap blocks_of is) (naming_at (message_at a h) k b at)) same
+    where
+      most : (n : ℕ) → nat_lt 1 n ≡ false → n ≤ 1
+      most n lone = grind (arith, nat_tests)
+
+  -- the arena once the bytes stand behind the write place of block k, which is b
+  abbrev written : ℕ → List ℕ → Block → Arena
+  written k bytes b = record a {
+    store = with_bytes_written b.data_number (b.offset + b.len) bytes a.store;
+    held = set a.held h (Some (set (message_at a h) k (record b { len = b.len + length bytes })));
+  }
+
+  pub leaves_write : (k : ℕ) (bytes : List ℕ) → LeavesOthers (h ∷ []) a (value_after a (write h k bytes a))
+  leaves_write k bytes = leaves_after a (h ∷ []) (write h k bytes a) (at (slice_get (message_at a h) k) refl)
+    where
+      room : (b : Block) → slice_get (message_at a h) k ≡ Some b → nat_lt 1 (names_of a b.data_number) ≡ false
+          → Leaving {X = Unit {0}} (h ∷ []) a (if nat_lt (capacity_of a.store b.data_number) (b.offset + b.len + length bytes) then Err NoRoom else Ok (tt, written k bytes b))
+      room b there lone =
+          elim (nat_lt (capacity_of a.store b.data_number) (b.offset + b.len + length bytes)) as (λ c. Leaving {X = Unit {0}} (h ∷ []) a (if c then Err NoRoom else Ok (tt, written k bytes b))) [
+            | true ↦ tt
+            | false ↦
+                altered k b (written k bytes b) there lone refl refl (λ g other. get_or-set_other a.held h g _ None (other_head g h [] other))
+                (λ d other. get_or-set_other a.store.blocks b.data_number d _ no_data_block other)
+          ]
+
+      at : (o : Option Block) → slice_get (message_at a h) k ≡ o → Leaving {X = Unit {0}} (h ∷ []) a (write_block h k bytes a (message_at a h) o)
+      at None there = tt
+      at (Some b) there =
+          elim (nat_lt 1 (names_of a b.data_number)) as (λ c. nat_lt 1 (names_of a b.data_number) ≡ c
+          → Leaving {X = Unit {0}} (h ∷ []) a (if c then Err Shared else (if nat_lt (capacity_of a.store b.data_number) (b.offset + b.len + length bytes) then Err NoRoom else Ok (tt, written k bytes b)))) [
+            | true ↦ λ many. tt
+            | false ↦ λ lone. room b there lone
+          ] refl
+
+  pub leaves_settype : (k : ℕ) (kind : MsgType) → LeavesOthers (h ∷ []) a (value_after a (settype h k kind a))
+  leaves_settype k kind = leaves_after a (h ∷ []) (settype h k kind a) (at (slice_get (message_at a h) k) refl)
+    where
+      at : (o : Option Block) → slice_get (message_at a h) k ≡ o → Leaving {X = Unit {0}} (h ∷ []) a (settype_of kind a o)
+      at None there = tt
+      at (Some b) there =
+          elim (nat_lt 1 (names_of a b.data_number)) as (λ c. nat_lt 1 (names_of a b.data_number) ≡ c
+          → Leaving {X = Unit {0}} (h ∷ []) a (if c then Err Shared else Ok (tt, record a { store = with_kind b.data_number kind a.store }))) [
+            | true ↦ λ many. tt
+            | false ↦ λ lone.
+                altered k b (record a { store = with_kind b.data_number kind a.store }) there lone refl refl (λ g other. refl)
+                (λ d other. get_or-set_other a.store.blocks b.data_number d _ no_data_block other)
+          ] refl

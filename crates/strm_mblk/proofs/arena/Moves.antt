@@ -1,0 +1,261 @@
+-- Each block stays counted once, and each name, when a call moves a message.
+use Rattle.std.proofs.Common.{◌≡◌, ◌≢◌, ℕ, ◌+◌, ◌<◌, ◌≤◌, Bool, true, false, eqb, ltb, List, [], ◌∷◌, ◌++◌, length, get_or, set, Option, Some, None, refl, sym, ap, ◌∙◌, subst, inl, inr, arith, if◌then◌else◌, get_or-set_same, get_or-set_other, length-set, length-append}
+use Rattle.std.specs.Prelude.{count_by}
+use Rattle.std.specs.List.{flat_map}
+use Rattle.std.specs.Option.{IfSome}
+use Rattle.std.proofs.lemmas.Bool.{cases_eq, cases_lt, eq-eqb}
+use Rattle.std.proofs.lemmas.List.{get_or_past, length-map}
+use Rattle.strm_mblk.specs.Arena.{Arena, held_at, shelf_at, shelved_blocks, held_blocks, blocks_in, names_of, with_held, without_held, with_shelf}
+use Rattle.strm_mblk.specs.Block.{Block, Message, head_of, is_naming, numbers_of, new_block}
+use Rattle.strm_mblk.specs.Messages.{blocks_of}
+use Rattle.strm_data.specs.DataStore.{times}
+use Rattle.strm_data.specs.CountedStore.{CountedStore, count_of}
+use Rattle.strm_data.proofs.Times.{as_many, one_if, times-cons}
+use Rattle.strm_mblk.proofs.arena.Counts.{count_adds, length_adds, held_moves, shelf_moves, blocks_in_adds, flat_map-set_adds, times-all}
+
+abbrev pub number_is : ℕ → Block → Bool
+number_is n b = eqb b.number n
+
+-- how many blocks of messages have this number
+abbrev pub blocks_numbered : Arena → ℕ → ℕ
+blocks_numbered a n = count_by (number_is n) (blocks_in a)
+
+-- each number stands once, a held message at its head, and counts are names
+pub record IsCounted (a : Arena) (s : CountedStore) : Type 0 where
+  pub numbers : (n : ℕ) → times n (a.free ++ numbers_of (blocks_in a)) ≡ (if ltb n (length a.held) then 1 else 0)
+  pub heads : (h : ℕ) → IfSome (held_at a h) (λ m. (0 < length m) × (head_of m ≡ h))
+  pub counts : (d : ℕ) → count_of s d ≡ names_of a d
+
+-- at most one
+pub one_most : (b : Bool) → (if b then 1 else 0) ≤ 1
+one_most true = omega arith
+one_most false = omega arith
+
+-- what is counted is in range
+pub in_range : (n k : ℕ) → 0 < (if ltb n k then 1 else 0) → n < k
+in_range n k some = elim (cases_lt n k) [ inl below ↦ below | inr past ↦ absurd (none (ltb n k) (not_below n k past) some) ]
+  where
+    none : (b : Bool) → b ≡ false → 0 < (if b then 1 else 0) → ⊥
+    none true is some = cc
+    none false is some = omega arith
+
+    not_below : (n k : ℕ) → k ≤ n → ltb n k ≡ false
+    not_below n k past = grind arith
+
+module _ (a : Arena) (s : CountedStore) (counted : IsCounted a s) where
+  pub numbers_sum : (n : ℕ) → times n a.free + blocks_numbered a n ≡ (if ltb n (length a.held) then 1 else 0)
+  numbers_sum n = sym (times-all n a) ∙ counted.numbers n
+
+  pub once : (n : ℕ) → times n a.free + blocks_numbered a n ≤ 1
+  once n = omega (arith, numbers_sum n, one_most (ltb n (length a.held)))
+
+  pub within : (n : ℕ) → 0 < times n a.free + blocks_numbered a n → n < length a.held
+  within n some = in_range n (length a.held) (omega (arith, numbers_sum n))
+
+-- a message has its head
+pub head_counts : (m : Message) (n : ℕ) → 0 < length m → head_of m ≡ n → 0 < count_by (number_is n) m
+head_counts [] n some is = absurd (omega arith)
+head_counts (b ∷ bs) n some is =
+    omega (arith, (count_adds (number_is n)).both (b ∷ []) bs, ap one_if (eq-eqb b.number n is))
+
+-- the blocks of a held message are among those of held messages
+pub held_among : (a : Arena) (p : Block → Bool) (h : ℕ) → h < length a.held → count_by p (blocks_of (held_at a h)) ≤ count_by p (held_blocks a)
+held_among a p h inside = omega (arith, flat_map-set_adds (count_adds p) blocks_of a.held h None None inside, (count_adds p).none)
+
+-- a held message lies in range
+pub held_within : (a : Arena) (h : ℕ) (m : Message) → held_at a h ≡ Some m → h < length a.held
+held_within a h m is =
+    elim (cases_lt h (length a.held)) [ inl inside ↦ inside | inr past ↦ absurd (cc (get_or_past a.held h None past)) ]
+
+module _ (a : Arena) (s : CountedStore) (counted : IsCounted a s) where
+  -- a held message is found where its number would be
+  pub held_there : (h : ℕ) (m : Message) → held_at a h ≡ Some m → 0 < count_by (number_is h) (held_blocks a)
+  held_there h m is =
+      let facts : (0 < length m) × (head_of m ≡ h) = subst (λ o. IfSome o (λ x. (0 < length x) × (head_of x ≡ h))) is (counted.heads h) in
+      omega (arith, head_counts m h facts.0 facts.1, held_among a (number_is h) h (held_within a h m is), ap (λ o. count_by (number_is h) (blocks_of o)) is)
+
+  -- no held message begins with a number that stands elsewhere
+  pub not_held : (n : ℕ) → 0 < times n a.free + count_by (number_is n) (shelved_blocks a) → held_at a n ≡ None
+  not_held n elsewhere =
+      elim (held_at a n) as (λ o. held_at a n ≡ o → o ≡ None) [
+        | None ↦ λ _. refl
+        | Some m ↦ λ is. absurd (omega (arith, held_there n m is, once a s counted n, blocks_in_adds (count_adds (number_is n)) a))
+      ] refl
+
+-- a test counts a lone item once or not at all
+pub count_one : {X : Type 0} (p : X → Bool) (x : X) → count_by p (x ∷ []) ≡ one_if (p x)
+count_one p x = omega arith
+
+-- what stands at one place of the held messages
+pub held_at-set_same : (a : Arena) (h : ℕ) (o : Option Message) → h < length a.held → held_at (record a { held = set a.held h o }) h ≡ o
+held_at-set_same a h o inside = get_or-set_same a.held h o None inside
+
+pub held_at-set_other : (a : Arena) (h k : ℕ) (o : Option Message) → k ≢ h → held_at (record a { held = set a.held h o }) k ≡ held_at a k
+held_at-set_other a h k o other = get_or-set_other a.held h k o None other
+
+-- heads stay where one held message is replaced by one with its head, or by none
+heads_kept : (a : Arena) (h : ℕ) (o : Option Message) → h < length a.held
+    → ((k : ℕ) → IfSome (held_at a k) (λ m. (0 < length m) × (head_of m ≡ k))) → IfSome o (λ m. (0 < length m) × (head_of m ≡ h))
+    → (k : ℕ) → IfSome (held_at (record a { held = set a.held h o }) k) (λ m. (0 < length m) × (head_of m ≡ k))
+heads_kept a h o inside heads new k =
+    elim (cases_eq k h) [
+      | inl same ↦
+          subst (λ j. IfSome (held_at (record a { held = set a.held h o }) j) (λ m. (0 < length m) × (head_of m ≡ j))) (sym same)
+          (subst (λ x. IfSome x (λ m. (0 < length m) × (head_of m ≡ h))) (sym (held_at-set_same a h o inside)) new)
+      | inr other ↦ subst (λ x. IfSome x (λ m. (0 < length m) × (head_of m ≡ k))) (sym (held_at-set_other a h k o other)) (heads k)
+    ]
+
+-- a free number becomes a message of one block over d, which nothing named
+pub allocated : (a : Arena) (s t : CountedStore) (n d : ℕ) (ns : List ℕ) → IsCounted a s → a.free ≡ n ∷ ns
+    → ((k : ℕ) → count_of t k ≡ count_of s k + one_if (eqb d k))
+    → IsCounted (with_held (new_block n d ∷ []) (record a { free = ns; store = t.store })) t
+allocated a s t n d ns counted is named =
+    let free_one : times n a.free ≡ 1 + times n ns = ap (times n) is ∙ times-cons n n ns ∙ ap (λ b. one_if b + times n ns) (eq-eqb n n refl) in
+    let absent : held_at a n ≡ None = not_held a s counted n (omega arith) in
+    let inside : n < length a.held = within a s counted n (omega arith) in
+    let rest : Arena = record a { free = ns; store = t.store } in
+    let moves : (p : Block → Bool) → count_by p (blocks_in (with_held (new_block n d ∷ []) rest)) ≡ count_by p (blocks_in a) + one_if (p (new_block n d)) =
+    λ p. omega (arith, held_moves (count_adds p) rest n (Some (new_block n d ∷ [])) inside, count_one p (new_block n d), (count_adds p).none, ap (λ o. count_by p (blocks_of o)) absent) in
+    record {
+      numbers = λ k.
+          times-all k (with_held (new_block n d ∷ []) rest)
+          ∙ (let sum : times k ns + count_by (number_is k) (blocks_in (with_held (new_block n d ∷ []) rest)) ≡ times k a.free + blocks_numbered a k =
+          omega (arith, moves (number_is k), times-cons k n ns, ap (times k) is) in
+          sum ∙ numbers_sum a s counted k ∙ ap (λ l. if ltb k l then 1 else 0) (sym (length-set a.held n (Some (new_block n d ∷ [])))));
+      heads = heads_kept rest n (Some (new_block n d ∷ [])) inside counted.heads (omega arith, refl);
+      counts = λ k. named k ∙ omega (arith, moves (is_naming k), counted.counts k);
+    }
+
+-- what leaves the held messages
+pub out_of_held : (a : Arena) (h : ℕ) (m : Message) (p : Block → Bool) → held_at a h ≡ Some m → count_by p (blocks_in (without_held h a)) + count_by p m ≡ count_by p (blocks_in a)
+out_of_held a h m p is =
+    omega (arith, held_moves (count_adds p) a h None (held_within a h m is), (count_adds p).none, ap (λ o. count_by p (blocks_of o)) is)
+
+-- a held message goes to the end of a shelf
+pub put_last : (a : Arena) (s : CountedStore) (q h : ℕ) (m : Message) → IsCounted a s → held_at a h ≡ Some m → q < length a.shelves
+    → IsCounted (with_shelf q (shelf_at a q ++ m ∷ []) (without_held h a)) s
+put_last a s q h m counted is inside =
+    let out = without_held h a in
+    let new = with_shelf q (shelf_at a q ++ m ∷ []) out in
+    let moves : (p : Block → Bool) → count_by p (blocks_in new) ≡ count_by p (blocks_in a) =
+    λ p. omega (arith, out_of_held a h m p is, shelf_moves (count_adds p) out q (shelf_at a q ++ m ∷ []) inside, shelved-push p (shelf_at a q) m) in
+    record {
+      numbers = λ k.
+          times-all k new
+          ∙ (let sum : times k a.free + count_by (number_is k) (blocks_in new) ≡ times k a.free + blocks_numbered a k = omega (arith, moves (number_is k)) in
+          sum ∙ numbers_sum a s counted k ∙ ap (λ l. if ltb k l then 1 else 0) (sym (length-set a.held h None)));
+      heads = heads_kept a h None (held_within a h m is) counted.heads tt;
+      counts = λ k. counted.counts k ∙ sym (moves (is_naming k));
+    }
+  where
+    shelved-push : (p : Block → Bool) (ms : List Message) (m : Message) → count_by p (flat_map (λ x. x) (ms ++ m ∷ [])) ≡ count_by p (flat_map (λ x. x) ms) + count_by p m
+    shelved-push p [] m = omega (arith, (count_adds p).both m [], (count_adds p).none)
+    shelved-push p (x ∷ ms) m = omega (arith, (count_adds p).both x (flat_map (λ x. x) (ms ++ m ∷ [])), (count_adds p).both x (flat_map (λ x. x) ms), shelved-push p ms m)
+
+-- the first message of a shelf is held
+module _ (a : Arena) (s : CountedStore) (q : ℕ) (m : Message) (ms : List Message) (counted : IsCounted a s) (is : shelf_at a q ≡ m ∷ ms) (some : 0 < length m) (inside : q < length a.shelves) where
+  out_of_shelf : (p : Block → Bool) → count_by p (blocks_in (with_shelf q ms a)) + count_by p m ≡ count_by p (blocks_in a)
+  out_of_shelf p =
+      omega (arith, shelf_moves (count_adds p) a q ms inside, ap (λ l. count_by p (flat_map (λ x. x) l)) is, (count_adds p).both m (flat_map (λ x. x) ms))
+
+  -- the blocks of a message on a shelf are among those of messages on shelves
+  among_shelved : (p : Block → Bool) → count_by p m ≤ count_by p (shelved_blocks a)
+  among_shelved p =
+      omega (
+        arith,
+        flat_map-set_adds (count_adds p) (flat_map (λ x. x)) a.shelves q [] [] inside,
+        (count_adds p).none,
+        ap (λ l. count_by p (flat_map (λ x. x) l)) is,
+        (count_adds p).both m (flat_map (λ x. x) ms),
+      )
+
+  pub head_shelved : 0 < count_by (number_is (head_of m)) (shelved_blocks a)
+  head_shelved = omega (arith, head_counts m (head_of m) some refl, among_shelved (number_is (head_of m)))
+
+  pub head_within : head_of m < length a.held
+  head_within = within a s counted (head_of m) (omega (arith, head_shelved, blocks_in_adds (count_adds (number_is (head_of m))) a))
+
+  pub head_absent : held_at a (head_of m) ≡ None
+  head_absent = not_held a s counted (head_of m) (omega (arith, head_shelved))
+
+  pub got_first : IsCounted (with_held m (with_shelf q ms a)) s
+  got_first =
+      let out = with_shelf q ms a in
+      let new = with_held m out in
+      let moves : (p : Block → Bool) → count_by p (blocks_in new) ≡ count_by p (blocks_in a) =
+      λ p. omega (arith, out_of_shelf p, held_moves (count_adds p) out (head_of m) (Some m) head_within, (count_adds p).none, ap (λ o. count_by p (blocks_of o)) head_absent) in
+      record {
+        numbers = λ k.
+            times-all k new
+            ∙ (let sum : times k a.free + count_by (number_is k) (blocks_in new) ≡ times k a.free + blocks_numbered a k = omega (arith, moves (number_is k)) in
+            sum ∙ numbers_sum a s counted k ∙ ap (λ l. if ltb k l then 1 else 0) (sym (length-set a.held (head_of m) (Some m))));
+        heads = heads_kept out (head_of m) (Some m) head_within counted.heads (some, refl);
+        counts = λ k. counted.counts k ∙ sym (moves (is_naming k));
+      }
+
+-- a held message is replaced by one with the same numbers and names
+pub rewritten : (a : Arena) (s t : CountedStore) (h : ℕ) (m n : Message) → IsCounted a s → held_at a h ≡ Some m
+    → ((p : Block → Bool) → ((b c : Block) → b.number ≡ c.number → b.data_number ≡ c.data_number → p b ≡ p c) → count_by p n ≡ count_by p m)
+    → 0 < length n → head_of n ≡ h → t.counts ≡ s.counts
+    → IsCounted (record a { store = t.store; held = set a.held h (Some n) }) t
+rewritten a s t h m n counted is alike some head same_counts =
+    let inside = held_within a h m is in
+    let new = record a { store = t.store; held = set a.held h (Some n) } in
+    let moves : (p : Block → Bool) → ((b c : Block) → b.number ≡ c.number → b.data_number ≡ c.data_number → p b ≡ p c) → count_by p (blocks_in new) ≡ count_by p (blocks_in a) =
+    λ p blind. omega (arith, held_moves (count_adds p) a h (Some n) inside, alike p blind, ap (λ o. count_by p (blocks_of o)) is) in
+    record {
+      numbers = λ k.
+          times-all k new
+          ∙ (let sum : times k a.free + count_by (number_is k) (blocks_in new) ≡ times k a.free + blocks_numbered a k = omega (arith, moves (number_is k) (λ b c same _. ap (λ j. eqb j k) same)) in
+          sum ∙ numbers_sum a s counted k ∙ ap (λ l. if ltb k l then 1 else 0) (sym (length-set a.held h (Some n))));
+      heads = heads_kept a h (Some n) inside counted.heads (some, head);
+      counts = λ k. ap (λ l. get_or l k 0) same_counts ∙ counted.counts k ∙ sym (moves (is_naming k) (λ b c _ same. ap (λ j. eqb j k) same));
+    }
+
+-- a held message of one block is free
+pub freed_one : (a : Arena) (s t : CountedStore) (h : ℕ) (b : Block) → IsCounted a s → held_at a h ≡ Some (b ∷ [])
+    → ((k : ℕ) → count_of t k + one_if (eqb b.data_number k) ≡ count_of s k)
+    → IsCounted (record (without_held h a) { free = b.number ∷ a.free; store = t.store }) t
+freed_one a s t h b counted is named =
+    let new = record (without_held h a) { free = b.number ∷ a.free; store = t.store } in
+    let moves : (p : Block → Bool) → count_by p (blocks_in new) + one_if (p b) ≡ count_by p (blocks_in a) =
+    λ p. omega (arith, out_of_held a h (b ∷ []) p is, count_one p b) in
+    record {
+      numbers = λ k.
+          times-all k new
+          ∙ (let sum : times k (b.number ∷ a.free) + count_by (number_is k) (blocks_in new) ≡ times k a.free + blocks_numbered a k = omega (arith, moves (number_is k), times-cons k b.number a.free) in
+          sum ∙ numbers_sum a s counted k ∙ ap (λ l. if ltb k l then 1 else 0) (sym (length-set a.held h None)));
+      heads = heads_kept a h None (held_within a h (b ∷ []) is) counted.heads tt;
+      counts = λ k. omega (arith, named k, moves (is_naming k), counted.counts k);
+    }
+
+-- free blocks, those of messages on shelves and those of held messages make the arena
+pub makes_arena : (a : Arena) (s : CountedStore) → IsCounted a s → length a.free + length (shelved_blocks a) + length (held_blocks a) ≡ length a.held
+makes_arena a s counted =
+    omega (arith, as_many (length a.held) (a.free ++ numbers_of (blocks_in a)) counted.numbers, length-append a.free (numbers_of (blocks_in a)), length-map (blocks_in a) (λ b. b.number), length-append (shelved_blocks a) (held_blocks a))
+
+-- a shelf's messages, and a held message, are among the blocks
+pub room_on_shelf : (a : Arena) (s : CountedStore) (q h : ℕ) (m : Message) → IsCounted a s → held_at a h ≡ Some m → q < length a.shelves
+    → length (flat_map (λ x. x) (shelf_at a q)) < length a.held
+room_on_shelf a s q h m counted is inside =
+    let some : 0 < length m = (subst (λ o. IfSome o (λ x. (0 < length x) × (head_of x ≡ h))) is (counted.heads h)).0 in
+    omega (
+      arith,
+      makes_arena a s counted,
+      some,
+      flat_map-set_adds length_adds (flat_map (λ x. x)) a.shelves q [] [] inside,
+      flat_map-set_adds length_adds blocks_of a.held h None None (held_within a h m is),
+      ap (λ o. length (blocks_of o)) is,
+    )
+
+-- a held message is not free
+pub room_to_free : (a : Arena) (s : CountedStore) (h : ℕ) (m : Message) → IsCounted a s → held_at a h ≡ Some m → length a.free < length a.held
+room_to_free a s h m counted is =
+    let some : 0 < length m = (subst (λ o. IfSome o (λ x. (0 < length x) × (head_of x ≡ h))) is (counted.heads h)).0 in
+    omega (
+      arith,
+      makes_arena a s counted,
+      some,
+      flat_map-set_adds length_adds blocks_of a.held h None None (held_within a h m is),
+      ap (λ o. length (blocks_of o)) is,
+    )

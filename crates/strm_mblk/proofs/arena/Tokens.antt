@@ -1,0 +1,51 @@
+-- Tokens of held messages, and what a call leaves and answers.
+use Rattle.std.proofs.Common.{◌≡◌, ℕ, ◌==◌, true, List, length, Option, Some, None, Ok, Err, refl, sym, ap, ◌∙◌, subst}
+use Rattle.std.specs.Option.{IsSome}
+use Rattle.std.proofs.lemmas.Bool.{and_from, eq-eqb, eqb-true, and_parts, false≢true}
+use Rattle.strm_data.specs.declared.refusal.Refusal.{Refusal}
+use Rattle.strm_mblk.specs.declared.token.TokenValue.{TokenValue}
+use Rattle.strm_mblk.specs.Arena.{Arena, has, held_at, is_of_length, token_of}
+use Rattle.strm_mblk.specs.Block.{Message}
+use Rattle.strm_mblk.specs.Given.{Given, value_after, answer_of}
+use Rattle.strm_mblk.specs.Messages.{blocks_of}
+
+-- the token of a held message is had
+pub token_had : (a : Arena) (h : ℕ) (m : Message) → held_at a h ≡ Some m → has a (token_of a h) ≡ true
+token_had a h m is =
+    and_from _ _ (eq-eqb a.id a.id refl)
+    (ap (λ o. is_of_length (length (blocks_of o)) o) is ∙ eq-eqb (length m) (length m) refl)
+
+-- a message that is held is its blocks
+pub held_is : {X : Type 0} (o : Option (List X)) → IsSome o → o ≡ Some (blocks_of o)
+held_is None none = absurd (false≢true none)
+held_is (Some m) _ = refl
+
+-- what a token that is had says
+pub record IsHad (a : Arena) (t : TokenValue) (m : Message) : Type 0 where
+  pub held : held_at a t.head ≡ Some m
+  pub pool : t.pool ≡ a.id
+  pub blocks : length m ≡ t.blocks
+
+pub had_message : (a : Arena) (t : TokenValue) → has a t ≡ true → (m : Message) × IsHad a t m
+had_message a t is = of_held (held_at a t.head) refl
+  where
+    parts : (t.pool ≡ a.id) × (is_of_length t.blocks (held_at a t.head) ≡ true)
+    parts = let both = and_parts (t.pool == a.id) _ is in (eqb-true t.pool a.id both.0, both.1)
+
+    of_held : (o : Option Message) → held_at a t.head ≡ o → (m : Message) × IsHad a t m
+    of_held None none = absurd (cc (parts.1, none))
+    of_held (Some m) some = (m, record { held = some; pool = parts.0; blocks = eqb-true (length m) t.blocks (sym (ap (is_of_length t.blocks) some) ∙ parts.1) })
+
+module _ {V X : Type 0} (call : V → Given V X) {v w : V} (same : v ≡ w) where
+  -- a call that is answered
+  pub settles : {new : V} {x : X} → call v ≡ Ok (x, new) → (new ≡ value_after w (call w)) × (answer_of (call w) ≡ Ok x)
+  settles {new} {x} given = subst (λ u. (new ≡ value_after u (call u)) × (answer_of (call u) ≡ Ok x)) same (sym (ap (value_after v) given), ap answer_of given)
+
+  -- and one that is refused
+  pub refuses : {why : Refusal} → call v ≡ Err why → (w ≡ value_after w (call w)) × (answer_of (call w) ≡ Err why)
+  refuses {why} given = subst (λ u. (u ≡ value_after u (call u)) × (answer_of (call u) ≡ Err why)) same (sym (ap (value_after v) given), ap answer_of given)
+
+-- a token is had again once its message is one of as many blocks
+pub had_again : (a b : Arena) (t : TokenValue) (m n : Message) → IsHad a t m → held_at b t.head ≡ Some n → length n ≡ length m → b.id ≡ a.id → has b t ≡ true
+had_again a b t m n had held same id =
+    and_from _ _ (eq-eqb t.pool b.id (had.pool ∙ sym id)) (ap (is_of_length t.blocks) held ∙ eq-eqb (length n) t.blocks (same ∙ had.blocks))

@@ -1,0 +1,3 @@
+-- Messages freed.
+pub mod Dropping
+pub mod Freemsg

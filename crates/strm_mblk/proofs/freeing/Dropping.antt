@@ -1,0 +1,152 @@
+-- Names that blocks taken out of all messages had are dropped, one after the other.
+use Rattle.std.proofs.Common.{◌≡◌, ℕ, zero, suc, ◌+◌, ◌-◌, ◌<◌, ◌≤◌, ◌==◌, Bool, true, false, eqb, List, [], ◌∷◌, ◌++◌, length, Option, Some, refl, sym, ap, ◌∙◌, inl, inr, arith, if◌then◌else◌}
+use Rattle.std.specs.Prelude.{count_by, drop, reverse, slice_get, option_map, take}
+use Rattle.std.proofs.lemmas.Bool.{cases_eq, cases_lt, eq-eqb, ne_eqb}
+use Rattle.std.proofs.lemmas.Bool.Decides.{eqb_tells}
+use Rattle.std.proofs.lemmas.List.{append_assoc, get_or_past, reverse-append}
+use Rattle.std.proofs.lemmas.Option.{same_Some, none-some}
+use Rattle.strm_data.specs.CountedStore.{CountedStore, count_of, without_name}
+use Rattle.strm_data.specs.DataStore.{DataStore, times, with_data_freed}
+use Rattle.strm_data.proofs.Times.{one_if, times-cons}
+use Rattle.strm_mblk.specs.declared.blocks.Fields.{Fields}
+use Rattle.strm_mblk.specs.Arena.{Arena}
+use Rattle.strm_mblk.specs.Block.{Message, is_naming}
+use Rattle.strm_mblk.specs.BlocksLayout.{block_at, fields_at, message_of, named_by, with_names_dropped}
+use Rattle.strm_mblk.specs.Freeing.{with_block_freed, with_blocks_freed}
+use Rattle.strm_mblk.specs.Messages.{blocks_held, blocks_on}
+use Rattle.strm_mblk.proofs.arena.Counts.{count_by-map}
+use Rattle.strm_mblk.proofs.layout.Rooms.{HasRooms, count_of-set}
+use Rattle.strm_mblk.proofs.layout.Shown.{slice_get-mapped}
+
+-- what is left of a list from one place on begins with what stands there
+pub drop_more : {X : Type 0} (ds : List X) (i : ℕ) (d : X) → slice_get ds i ≡ Some d → drop i ds ≡ d ∷ drop (i + 1) ds
+drop_more [] i d is = absurd (none-some d is)
+drop_more (x ∷ ds) zero d is = ap (λ y. y ∷ ds) (same_Some x d is)
+drop_more (x ∷ ds) (suc i) d is =
+    let next : suc (i + 1) ≡ suc i + 1 = omega arith in
+    drop_more ds i d is ∙ ap (λ j. d ∷ drop j (x ∷ ds)) next
+
+-- the data block that a block of a list names
+pub named-get : (fields : List Fields) (ns : List ℕ) (i n : ℕ) → slice_get ns i ≡ Some n → slice_get (named_by fields ns) i ≡ Some (fields_at fields n).data_number
+named-get fields ns i n is = slice_get-mapped (λ k. (fields_at fields k).data_number) ns i ∙ ap (option_map (λ k. (fields_at fields k).data_number)) is
+
+-- the first of them, beside others
+pub slice_get-take : {X : Type 0} (n i : ℕ) (xs : List X) → i < n → slice_get (take n xs) i ≡ slice_get xs i
+slice_get-take zero i xs inside = absurd (omega (arith, inside))
+slice_get-take (suc n) i [] inside = refl
+slice_get-take (suc n) zero (x ∷ xs) inside = refl
+slice_get-take (suc n) (suc i) (x ∷ xs) inside = slice_get-take n i xs (omega (arith, inside))
+
+-- a data block that has a name has a count
+pub counted_there : (s : CountedStore) (d : ℕ) → 0 < count_of s d → d < length s.counts
+counted_there s d used = elim (cases_lt d (length s.counts)) [ inl there ↦ there | inr past ↦ absurd (omega (arith, used, get_or_past s.counts d 0 past)) ]
+
+-- the counts once d has a name less
+pub named_less : (s : CountedStore) (d : ℕ) → 0 < count_of s d → (k : ℕ) → count_of (without_name d s) k + one_if (eqb d k) ≡ count_of s k
+named_less s d used k =
+    ap (λ c. c + one_if (eqb d k)) (count_of-set s (without_name d s).store d (count_of s d - 1) k (counted_there s d used))
+    ∙ elim (eqb_tells d k) [
+      | inl same ↦ rw same.0 (omega (arith, used, ap (count_of s) same.1))
+      | inr other ↦ rw other.0 (omega arith)
+    ]
+
+rooms-if : (s : DataStore) (d : ℕ) (last : Bool) → HasRooms s (if last then with_data_freed d s else s)
+rooms-if s d true = record { many = refl; room = λ k. refl }
+rooms-if s d false = record { many = refl; room = λ k. refl }
+
+-- data blocks keep their capacity when one loses a name
+pub rooms-less : (s : CountedStore) (d : ℕ) → HasRooms s.store (without_name d s).store
+rooms-less s d = rooms-if s.store d (count_of s d == 1)
+
+-- and when several do
+pub rooms-dropped : (ds : List ℕ) (s : CountedStore) → HasRooms s.store (with_names_dropped ds s).store
+rooms-dropped [] s = record { many = refl; room = λ k. refl }
+rooms-dropped (d ∷ ds) s =
+    let less = rooms-less s d in
+    let rest = rooms-dropped ds (without_name d s) in
+    record { many = rest.many ∙ less.many; room = λ k. rest.room k ∙ less.room k }
+
+-- ---- one step of the loop
+
+-- what the loop keeps while it drops the names of `ds`, from place i on
+pub record IsDropping (ds : List ℕ) (i : ℕ) (old s : CountedStore) : Type 0 where
+  pub after : with_names_dropped (drop i ds) s ≡ with_names_dropped ds old
+  pub named : (d : ℕ) → times d (drop i ds) ≤ count_of s d
+  pub many : length s.store.blocks ≡ length old.store.blocks
+
+module _ (ds : List ℕ) (i : ℕ) (old s : CountedStore) (dropping : IsDropping ds i old s) (d : ℕ) (is : slice_get ds i ≡ Some d) where
+  -- the next data block has a name
+  pub next_used : 0 < count_of s d
+  next_used = omega (arith, dropping.named d, ap (times d) (drop_more ds i d is), times-cons d d (drop (i + 1) ds), ap one_if (eq-eqb d d refl))
+
+  pub next_dropping : IsDropping ds (i + 1) old (without_name d s)
+  next_dropping = record {
+    after = ap (λ xs. with_names_dropped xs s) (sym (drop_more ds i d is)) ∙ dropping.after;
+    named = λ k. omega (arith, dropping.named k, ap (times k) (drop_more ds i d is), times-cons k d (drop (i + 1) ds), named_less s d next_used k);
+    many = (rooms-less s d).many ∙ dropping.many;
+  }
+
+-- ---- all blocks of a message
+
+-- how many blocks name a data block
+pub naming-named : (fields : List Fields) (d : ℕ) (ns : List ℕ) → count_by (is_naming d) (message_of fields ns) ≡ times d (named_by fields ns)
+naming-named fields d ns =
+    count_by-map (is_naming d) (block_at fields) ns ∙ sym (count_by-map (λ x. x == d) (λ n. (fields_at fields n).data_number) ns)
+
+-- none is left after one of two where one was all
+pub last_one : (x y : ℕ) → y ≡ suc x → (x == 0) ≡ (y == 1)
+last_one x y is =
+    elim (cases_eq x 0) [
+      | inl none ↦ eq-eqb x 0 none ∙ sym (eq-eqb y 1 (omega (arith, is, none)))
+      | inr some ↦ ne_eqb x 0 some ∙ sym (ne_eqb y 1 (λ one. some (omega (arith, is, one))))
+    ]
+
+-- a number joins the front of a list after those behind it
+reverse_onto : (n : ℕ) (ns free : List ℕ) → reverse ns ++ (n ∷ free) ≡ reverse (n ∷ ns) ++ free
+reverse_onto n ns free = sym (ap (λ xs. xs ++ free) (reverse-append (n ∷ []) ns) ∙ append_assoc (reverse ns) (n ∷ []) free)
+
+module _ (id : ℕ) (fields : List Fields) (held : List (Option Message)) (shelves : List (List Message)) where
+  abbrev over : CountedStore → List ℕ → Arena
+  over s free = record { id = id; store = s.store; free = free; held = held; shelves = shelves }
+
+  -- how many blocks of messages name a data block
+  abbrev names : ℕ → ℕ
+  names d = count_by (is_naming d) (blocks_on shelves ++ blocks_held held)
+
+  -- counts are the names that messages have, and those of blocks that are loose
+  abbrev AreCounted : CountedStore → List ℕ → Type 0
+  AreCounted s ns = (d : ℕ) → count_of s d ≡ names d + times d (named_by fields ns)
+
+  first_used : (s : CountedStore) (n : ℕ) (ns : List ℕ) → AreCounted s (n ∷ ns) → 0 < count_of s (fields_at fields n).data_number
+  first_used s n ns counts =
+      let d = (fields_at fields n).data_number in
+      omega (arith, counts d, times-cons d d (named_by fields ns), ap one_if (eq-eqb d d refl))
+
+  counted_less : (s : CountedStore) (n : ℕ) (ns : List ℕ) → AreCounted s (n ∷ ns) → AreCounted (without_name (fields_at fields n).data_number s) ns
+  counted_less s n ns counts k =
+      let d = (fields_at fields n).data_number in
+      omega (arith, counts k, times-cons k d (named_by fields ns), named_less s d (first_used s n ns counts) k)
+
+  -- counts are names again
+  pub counts_left : (ns : List ℕ) (s : CountedStore) → AreCounted s ns → (d : ℕ) → count_of (with_names_dropped (named_by fields ns) s) d ≡ names d
+  counts_left [] s counts d = omega (arith, counts d)
+  counts_left (n ∷ ns) s counts d = counts_left ns (without_name (fields_at fields n).data_number s) (counted_less s n ns counts) d
+
+  one_freed : (n : ℕ) (ns : List ℕ) (s : CountedStore) (free : List ℕ) → AreCounted s (n ∷ ns)
+      → with_block_freed (block_at fields n) (message_of fields ns) (over s free) ≡ over (without_name (fields_at fields n).data_number s) (n ∷ free)
+  one_freed n ns s free counts =
+      let d = (fields_at fields n).data_number in
+      let is : count_of s d ≡ suc (names d + count_by (is_naming d) (message_of fields ns)) =
+      omega (arith, counts d, times-cons d d (named_by fields ns), ap one_if (eq-eqb d d refl), naming-named fields d ns) in
+      ap (λ (last : Bool). let a : Arena = record { id = id; store = if last then with_data_freed d s.store else s.store; free = n ∷ free; held = held; shelves = shelves } in a)
+      (last_one (names d + count_by (is_naming d) (message_of fields ns)) (count_of s d) is)
+
+  -- blocks that are freed first to last leave what is left once their names are dropped
+  pub all_freed : (ns : List ℕ) (s : CountedStore) (free : List ℕ) → AreCounted s ns
+      → with_blocks_freed (message_of fields ns) (over s free) ≡ over (with_names_dropped (named_by fields ns) s) (reverse ns ++ free)
+  all_freed [] s free counts = refl
+  all_freed (n ∷ ns) s free counts =
+      let d = (fields_at fields n).data_number in
+      ap (with_blocks_freed (message_of fields ns)) (one_freed n ns s free counts)
+      ∙ all_freed ns (without_name d s) (n ∷ free) (counted_less s n ns counts)
+      ∙ ap (over (with_names_dropped (named_by fields (n ∷ ns)) s)) (reverse_onto n ns free)

@@ -1,0 +1,119 @@
+-- `freemsg`: the blocks of a held message are free, and their names are dropped.
+use Rattle.std.proofs.Common.{◌≡◌, ℕ, ◌+◌, ◌≤◌, Bool, true, if◌then◌else◌, List, ◌++◌, map, length, set, Some, None, sym, ap, ◌∙◌, subst, arith, length-set}
+use Rattle.std.specs.Prelude.{option_map, reverse, slice_get}
+use Rattle.std.proofs.Math.Seq.{take-length}
+use Rattle.std.specs.Prelude.{take}
+use Rattle.std.proofs.lemmas.List.{length-map, map-set}
+use Rattle.strm_data.specs.CountedStore.{CountedStore, IsKept, count_of}
+use Rattle.strm_data.specs.DataStore.{times}
+use Rattle.strm_mblk.specs.declared.blocks.Fields.{Fields}
+use Rattle.strm_mblk.specs.declared.token.TokenValue.{TokenValue}
+use Rattle.strm_mblk.specs.Arena.{Arena, has, names_of, shelved_blocks, without_held}
+use Rattle.strm_mblk.specs.Block.{is_naming}
+use Rattle.strm_mblk.specs.BlocksLayout.{IsFilled, arena_of, fields_at, message_of, named_by, with_names_dropped}
+use Rattle.strm_mblk.specs.Freeing.{freemsg, spent, with_blocks_freed}
+use Rattle.strm_mblk.specs.Messages.{blocks_of, held_in}
+use Rattle.strm_mblk.specs.NodeLists.{IsNodesParted, NodeLists, nodes_at}
+use Rattle.strm_mblk.proofs.freeing.Dropping.{all_freed, counts_left, naming-named, rooms-dropped}
+use Rattle.strm_mblk.proofs.arena.Moves.{out_of_held}
+use Rattle.strm_mblk.proofs.layout.Rewriting.{begins_with, held_nodes}
+use Rattle.strm_mblk.proofs.layout.Rooms.{HasRooms, placed-over}
+use Rattle.strm_mblk.proofs.altering.Setband.{at_first}
+use Rattle.strm_mblk.proofs.layout.Shown.{held_at-seen, message_at-seen}
+use Rattle.strm_mblk.proofs.arena.Tokens.{had_message}
+
+-- the numbers of the message that a token names
+pub token_nodes : (id : ℕ) (s : CountedStore) (fields : List Fields) (v : NodeLists) (t : TokenValue) → has (arena_of id s.store fields v) t ≡ true
+    → (held_in v.held t.head ≡ Some (nodes_at v t.head)) × (t.blocks ≡ length (nodes_at v t.head))
+token_nodes id s fields v t is =
+    let message = had_message (arena_of id s.store fields v) t is in
+    let nodes = held_nodes id s.store fields v t.head message.0 message.1.held in
+    let same : nodes.0 ≡ nodes_at v t.head = sym (ap blocks_of nodes.1.held) in (
+      nodes.1.held ∙ ap Some same,
+      sym message.1.blocks ∙ ap length nodes.1.message ∙ length-map nodes.0 _ ∙ ap length same,
+    )
+
+-- the same where the token is known under another name
+pub token_held : (id : ℕ) (s : CountedStore) (fields : List Fields) (v : NodeLists) (a : Arena) → arena_of id s.store fields v ≡ a → (t u : TokenValue) → u ≡ t → has a t ≡ true
+    → held_in v.held u.head ≡ Some (nodes_at v u.head)
+token_held id s fields v a is t u same had =
+    (token_nodes id s fields v u (subst (λ x. has x u ≡ true) (sym is) (ap (has a) same ∙ had))).0
+
+-- and its names are those of as many blocks as it tells
+pub token_named : (id : ℕ) (s : CountedStore) (fields : List Fields) (v : NodeLists) (a : Arena) → arena_of id s.store fields v ≡ a → (t u : TokenValue) → u ≡ t → has a t ≡ true
+    → take u.blocks (named_by fields (nodes_at v u.head)) ≡ named_by fields (nodes_at v u.head)
+token_named id s fields v a is t u same had =
+    let ns = nodes_at v u.head in
+    ap (λ k. take k (named_by fields ns))
+    ((token_nodes id s fields v u (subst (λ x. has x u ≡ true) (sym is) (ap (has a) same ∙ had))).1 ∙ sym (length-map ns (λ k. (fields_at fields k).data_number)))
+    ∙ take-length (named_by fields ns)
+
+-- a token that is had is spent on its message
+pub spent_had : (a : Arena) (t u : TokenValue) → u ≡ t → has a t ≡ true → freemsg u.head a ≡ spent a t
+spent_had a t u same had = ap (λ (x : TokenValue). freemsg x.head a) same ∙ ap (λ (b : Bool). if b then freemsg t.head a else a) (sym had)
+
+-- a is what was there, and the other lists what is there once the message at h was freed
+pub record IsFreed (a : Arena) (t : CountedStore) (fields : List Fields) (w : NodeLists) (id h : ℕ) : Type 0 where
+  pub filled : IsFilled t fields w (arena_of id t.store fields w)
+  pub shelved : shelved_blocks (arena_of id t.store fields w) ≡ shelved_blocks a
+  pub after : arena_of id t.store fields w ≡ freemsg h a
+
+module _ (id : ℕ) (s : CountedStore) (fields : List Fields) (v : NodeLists) (filled : IsFilled s fields v (arena_of id s.store fields v)) (h : ℕ) (held : held_in v.held h ≡ Some (nodes_at v h)) where
+  abbrev old : Arena
+  old = arena_of id s.store fields v
+
+  -- the message begins with its head
+  pub begins : slice_get (nodes_at v h) 0 ≡ Some h
+  begins = at_first (nodes_at v h) h (begins_with v filled.parted h (nodes_at v h) held)
+
+  -- its blocks name data blocks beside those that other messages name
+  loose : (d : ℕ) → count_of s d ≡ names_of (without_held h old) d + times d (named_by fields (nodes_at v h))
+  loose d =
+      omega (
+        arith,
+        filled.counts d,
+        out_of_held old h (message_of fields (nodes_at v h)) (is_naming d) (held_at-seen id s.store fields v h ∙ ap (option_map (message_of fields)) held),
+        naming-named fields d (nodes_at v h),
+      )
+
+  pub enough : (d : ℕ) → times d (named_by fields (nodes_at v h)) ≤ count_of s d
+  enough d = omega (arith, loose d)
+
+  module _ (t : CountedStore) (w : NodeLists) (t_is : t ≡ with_names_dropped (named_by fields (nodes_at v h)) s) (kept : IsKept t)
+      (w_is : w ≡ record v { free = reverse (nodes_at v h) ++ v.free; held = set v.held h None }) (parted : IsNodesParted w) where
+    held_now : map (option_map (message_of fields)) w.held ≡ set old.held h None
+    held_now = ap (λ (l : NodeLists). map (option_map (message_of fields)) l.held) w_is ∙ map-set (option_map (message_of fields)) v.held h None
+
+    shelves_now : map (map (message_of fields)) w.shelves ≡ old.shelves
+    shelves_now = ap (λ (l : NodeLists). map (map (message_of fields)) l.shelves) w_is
+
+    shows : arena_of id t.store fields w ≡ record (without_held h old) { store = t.store; free = reverse (nodes_at v h) ++ v.free }
+    shows =
+        let free_now : w.free ≡ reverse (nodes_at v h) ++ v.free = ap (λ (l : NodeLists). l.free) w_is in
+        λ i. record { id = id; store = t.store; free = free_now i; held = held_now i; shelves = shelves_now i }
+
+    rooms : HasRooms s.store t.store
+    rooms = subst (HasRooms s.store) (sym (ap (λ (c : CountedStore). c.store) t_is)) (rooms-dropped (named_by fields (nodes_at v h)) s)
+
+    pub frees : IsFreed old t fields w id h
+    frees = record {
+      filled = record {
+        kept = kept;
+        parted = parted;
+        few = omega (arith, filled.few, many);
+        listed = omega (arith, filled.listed, many);
+        placed = λ n within. placed-over s.store t.store (fields_at fields n) rooms (filled.placed n within);
+        counts = λ d.
+            ap (λ (c : CountedStore). count_of c d) t_is ∙ counts_left id fields (set old.held h None) old.shelves (nodes_at v h) s loose d
+            ∙ ap (λ a. names_of a d) (sym shows);
+      };
+      shelved = ap shelved_blocks shows;
+      after =
+          shows
+          ∙ ap (λ (c : CountedStore). record (without_held h old) { store = c.store; free = reverse (nodes_at v h) ++ v.free }) t_is
+          ∙ sym (all_freed id fields (set old.held h None) old.shelves (nodes_at v h) s v.free loose)
+          ∙ ap (λ m. with_blocks_freed m (without_held h old)) (sym (message_at-seen id s.store fields v h));
+    }
+      where
+        many : length w.held ≡ length v.held
+        many = ap (λ (l : NodeLists). length l.held) w_is ∙ length-set v.held h None

@@ -1,0 +1,4 @@
+-- Messages joined and parted.
+pub mod Linkb
+pub mod Unlinkb
+pub mod TakenOut

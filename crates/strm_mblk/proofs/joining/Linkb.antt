@@ -1,0 +1,47 @@
+-- `linkb`: a held message goes behind another.
+use Rattle.std.proofs.Common.{◌≡◌, ◌≢◌, ℕ, Bool, List, ◌++◌, map, length, Some, None, sym, ap, ◌∙◌, if◌then◌else◌, length-set}
+use Rattle.std.specs.Prelude.{option_map, slice_set}
+use Rattle.std.proofs.lemmas.Bool.{ne_eqb}
+use Rattle.std.proofs.lemmas.List.{map-append, map-set}
+use Rattle.strm_data.specs.CountedStore.{CountedStore}
+use Rattle.strm_mblk.specs.declared.blocks.Fields.{Fields}
+use Rattle.strm_mblk.specs.Arena.{Arena, shelved_blocks}
+use Rattle.strm_mblk.specs.BlockCalls.{linkb}
+use Rattle.strm_mblk.specs.BlocksLayout.{IsFilled, arena_of, block_at, message_of}
+use Rattle.strm_mblk.specs.Messages.{joined}
+use Rattle.strm_mblk.specs.NodeLists.{IsNodesParted, NodeLists, nodes_at}
+use Rattle.strm_mblk.proofs.layout.Linked.{moved_filled}
+use Rattle.strm_mblk.proofs.layout.Shown.{message_at-seen}
+
+-- a is what was there, and the other lists what is there once the message at g stands behind the one at h
+pub record IsJoined (a : Arena) (s : CountedStore) (fields : List Fields) (w : NodeLists) (id h g : ℕ) : Type 0 where
+  pub filled : IsFilled s fields w (arena_of id s.store fields w)
+  pub shelved : shelved_blocks (arena_of id s.store fields w) ≡ shelved_blocks a
+  pub after : arena_of id s.store fields w ≡ linkb h g a
+
+module _ (id : ℕ) (s : CountedStore) (fields : List Fields) (v w : NodeLists) (filled : IsFilled s fields v (arena_of id s.store fields v)) (h g : ℕ) (other : h ≢ g)
+    (w_is : w ≡ record v { held = joined h g v.held }) (parted : IsNodesParted w) where
+  abbrev old : Arena
+  old = arena_of id s.store fields v
+
+  joined-seen : map (option_map (message_of fields)) (joined h g v.held) ≡ joined h g old.held
+  joined-seen =
+      map-set (option_map (message_of fields)) (slice_set v.held g None) h (Some (nodes_at v h ++ nodes_at v g))
+      ∙ ap (λ held. slice_set held h (Some (message_of fields (nodes_at v h ++ nodes_at v g)))) (map-set (option_map (message_of fields)) v.held g None)
+      ∙ ap (λ m. slice_set (slice_set old.held g None) h (Some m)) (map-append (block_at fields) (nodes_at v h) (nodes_at v g))
+      ∙ (λ i. slice_set (slice_set old.held g None) h (Some (sym (message_at-seen id s.store fields v h) i ++ sym (message_at-seen id s.store fields v g) i)))
+
+  shows : arena_of id s.store fields w ≡ record old { held = joined h g old.held }
+  shows =
+      ap (arena_of id s.store fields) w_is
+      ∙ (λ i. record { id = id; store = s.store; free = v.free; held = joined-seen i; shelves = old.shelves })
+
+  many : length w.held ≡ length v.held
+  many = ap (λ (l : NodeLists). length l.held) w_is ∙ length-set (slice_set v.held g None) h _ ∙ length-set v.held g None
+
+  pub joins : IsJoined old s fields w id h g
+  joins = record {
+    filled = moved_filled id s fields v w filled (ap (λ (l : NodeLists). l.free) w_is) many parted;
+    shelved = ap shelved_blocks shows;
+    after = shows ∙ ap (λ (b : Bool). if b then old else record old { held = joined h g old.held }) (sym (ne_eqb h g other));
+  }

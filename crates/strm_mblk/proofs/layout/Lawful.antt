@@ -1,0 +1,101 @@
+-- What holds of all message blocks, whatever calls made them so.
+use Rattle.std.proofs.Common.{◌≡◌, ℕ, ◌+◌, ◌<◌, ◌≤◌, ◌&&◌, ◌==◌, List, [], ◌∷◌, ◌++◌, length, map, get_or, Option, Some, None, sym, ap, ◌∙◌, subst, inl, inr, arith, if◌then◌else◌}
+use Rattle.std.specs.Prelude.{nat_lt, option_map}
+use Rattle.std.specs.List.{All, range_with_len}
+use Rattle.std.proofs.lemmas.List.FromFn.{get_or-map-range_with_len, length-map-range_with_len}
+use Rattle.std.specs.Option.{IfSome}
+use Rattle.std.proofs.lemmas.Bool.{cases_lt}
+use Rattle.std.proofs.lemmas.List.{ext_get_or, get_or_past, length-map}
+use Rattle.std.proofs.lemmas.List.Elements.{All-map}
+use Rattle.std.proofs.lemmas.Option.{same_Some}
+use Rattle.strm_links.specs.Rows.{first}
+use Rattle.strm_data.specs.CountedStore.{CountedStore, IsKept, count_of}
+use Rattle.strm_data.specs.DataStore.{class_of, times}
+use Rattle.strm_mblk.specs.declared.blocks.Blocks.TheInside.{Inside}
+use Rattle.strm_mblk.specs.declared.blocks.Fields.{Fields}
+use Rattle.strm_mblk.specs.Arena.{Arena, IsParted, IsWithin, blocks_in, counted_in, held_blocks, names_of, shelved_blocks}
+use Rattle.strm_mblk.specs.Block.{head_of}
+use Rattle.strm_mblk.specs.BlocksLayout.{IsFilled, IsWhole, arena_in, arena_of, block_at, message_of, no_fields}
+use Rattle.strm_mblk.specs.Messages.{held_in, shelf_in}
+use Rattle.strm_mblk.specs.NodeLists.{NodeLists}
+use Rattle.strm_mblk.proofs.arena.Moves.{IsCounted, makes_arena}
+use Rattle.strm_mblk.proofs.layout.Shown.{blocks_in-seen, held_at-seen, nodes_in, numbers-seen, shelf_at-seen}
+use Rattle.strm_mblk.specs.Limits.{most_message_blocks}
+
+-- a message that begins with h
+head-seen : (fields : List Fields) (o : Option (List ℕ)) (h : ℕ) → IfSome o (λ m. first m ≡ Some h)
+    → IfSome (option_map (message_of fields) o) (λ m. (0 < length m) × (head_of m ≡ h))
+head-seen fields None h is = tt
+head-seen fields (Some []) h is = absurd (none_some is)
+  where
+    none_some : {x : ℕ} → None ≡ Some x → ⊥
+    none_some is = cc
+head-seen fields (Some (n ∷ ns)) h is = (omega arith, same_Some n h is)
+
+module _ (id : ℕ) (s : CountedStore) (fields : List Fields) (v : NodeLists) (filled : IsFilled s fields v (arena_of id s.store fields v)) where
+  -- each number stands once, a held message at its head, and counts are names
+  pub counted : IsCounted (arena_of id s.store fields v) s
+  counted = record {
+    numbers = λ n.
+        ap (λ ns. times n (v.free ++ ns)) (numbers-seen id s.store fields v) ∙ filled.parted.once n
+        ∙ ap (λ l. if nat_lt n l then 1 else 0) (sym (length-map v.held (option_map (message_of fields))));
+    heads = λ h. subst (λ o. IfSome o (λ m. (0 < length m) × (head_of m ≡ h))) (sym (held_at-seen id s.store fields v h)) (head-seen fields (held_in v.held h) h (filled.parted.heads h));
+    counts = filled.counts;
+  }
+
+  -- a data block that something names is there
+  named_there : (d : ℕ) → 0 < count_of s d → d < length s.store.blocks
+  named_there d some =
+      elim (cases_lt d (length s.store.blocks)) [
+        | inl there ↦ there
+        | inr past ↦ absurd (omega (arith, some, get_or_past s.counts d 0 (omega (arith, filled.kept.counted, past))))
+      ]
+
+  pub law_parted : IsParted (arena_of id s.store fields v)
+  law_parted = record {
+    blocks = counted.numbers;
+    heads = counted.heads;
+    shelved = λ q.
+        subst (All (λ m. 0 < length m)) (sym (shelf_at-seen id s.store fields v q))
+        (All-map (λ m. 0 < length m) (message_of fields) (shelf_in v.shelves q) (λ k d within. omega (arith, filled.parted.shelved q k d within, length-map (get_or (shelf_in v.shelves q) k d) (block_at fields))));
+    free_data = λ c d. filled.kept.listed c d ∙ ap (λ n. if nat_lt d (length s.store.blocks) && (class_of s.store d == c && n == 0) then 1 else 0) (filled.counts d);
+    named = λ d some. named_there d (omega (arith, some, filled.counts d));
+    few_names = λ d. omega (arith, filled.counts d, filled.kept.few_names d);
+  }
+
+  pub law_whole : length (arena_of id s.store fields v).free + length (shelved_blocks (arena_of id s.store fields v)) + length (held_blocks (arena_of id s.store fields v)) ≡ length (arena_of id s.store fields v).held
+  law_whole = makes_arena (arena_of id s.store fields v) s counted
+
+  -- the blocks on shelves, and those of held messages
+  pub all_there : length v.free + length (shelved_blocks (arena_of id s.store fields v)) + length (held_blocks (arena_of id s.store fields v)) ≡ length fields
+  all_there = omega (arith, law_whole, length-map v.held (option_map (message_of fields)), filled.listed)
+
+  -- the stored counts are the names
+  pub law_kept : IsKept (counted_in (arena_of id s.store fields v))
+  law_kept =
+      let a = arena_of id s.store fields v in
+      let many = length-map-range_with_len (names_of a) 0 (length s.store.blocks) in
+      let same : s.counts ≡ map (names_of a) (range_with_len 0 (length s.store.blocks)) =
+      ext_get_or 0 s.counts (map (names_of a) (range_with_len 0 (length s.store.blocks))) (filled.kept.counted ∙ sym many)
+      (λ d within. filled.counts d ∙ sym (get_or-map-range_with_len (names_of a) 0 (length s.store.blocks) d d 0 (omega (arith, within, filled.kept.counted)) (omega arith))) in
+      subst (λ (ns : List ℕ). IsKept (record { store = s.store; counts = ns })) same filled.kept
+
+  -- each block lies in its data block, and a number that is none says nothing
+  fields_within : (n : ℕ) → IsWithin s.store (block_at fields n)
+  fields_within n =
+      elim (cases_lt n (length fields)) [
+        | inl there ↦ (filled.placed n there).within
+        | inr past ↦ omega (arith, ap (λ (f : Fields). f.offset + f.len) (get_or_past fields n no_fields past))
+      ]
+
+  pub law_within : All (IsWithin s.store) (blocks_in (arena_of id s.store fields v))
+  law_within =
+      subst (All (IsWithin s.store)) (sym (blocks_in-seen id s.store fields v))
+      (All-map (IsWithin s.store) (block_at fields) (nodes_in v) (λ k d within. fields_within (get_or (nodes_in v) k d)))
+
+  pub law_few : length (arena_of id s.store fields v).held ≤ most_message_blocks
+  law_few = omega (arith, filled.few, length-map v.held (option_map (message_of fields)))
+
+-- message blocks as they lie in memory are parted
+pub parted_inside : (i : Inside) → IsWhole i → (a : Arena) → arena_in i ≡ a → IsParted a
+parted_inside i whole a is = subst IsParted is (law_parted i.id i.data i.blocks.items i.chains whole.filled)

@@ -1,0 +1,61 @@
+-- The blocks of a held message by their place, as the code finds them.
+use Rattle.std.proofs.Common.{◌≡◌, ℕ, ◌<◌, true, List, length, Some, None, sym, ap, ◌∙◌, inl, inr}
+use Rattle.std.specs.Prelude.{option_map, slice_get}
+use Rattle.std.proofs.lemmas.Bool.{cases_lt}
+use Rattle.std.proofs.lemmas.List.{get_or_past}
+use Rattle.std.proofs.lemmas.Option.{none-some}
+use Rattle.strm_data.specs.CountedStore.{CountedStore, count_of}
+use Rattle.strm_mblk.specs.declared.blocks.Fields.{Fields}
+use Rattle.strm_mblk.specs.declared.token.TokenValue.{TokenValue}
+use Rattle.strm_mblk.specs.Arena.{Arena, has, message_at, names_of}
+use Rattle.strm_mblk.specs.BlocksLayout.{IsFilled, IsPlaced, arena_of, block_at, fields_at, message_of}
+use Rattle.strm_mblk.specs.Messages.{blocks_of, held_in}
+use Rattle.strm_mblk.specs.NodeLists.{NodeLists, nodes_at}
+use Rattle.strm_mblk.proofs.layout.Rewriting.{held_nodes, node_room}
+use Rattle.strm_mblk.proofs.layout.Shown.{message_at-seen, slice_get-mapped}
+use Rattle.strm_mblk.proofs.arena.Tokens.{had_message}
+
+-- where a message stands there is a place for it
+pub nodes_room : (v : NodeLists) (h n : ℕ) → slice_get (nodes_at v h) 0 ≡ Some n → h < length v.held
+nodes_room v h n is =
+    elim (cases_lt h (length v.held)) [
+      | inl within ↦ within
+      | inr past ↦ absurd (none-some n (sym (ap (λ o. slice_get (blocks_of o) 0) (get_or_past v.held h None past)) ∙ is))
+    ]
+
+-- block n stands at place k of the message that a token names
+pub record IsAt (s : CountedStore) (fields : List Fields) (v : NodeLists) (a : Arena) (h k n : ℕ) (ns : List ℕ) : Type 0 where
+  pub held : held_in v.held h ≡ Some ns
+  pub at : slice_get ns k ≡ Some n
+  pub message : message_at a h ≡ message_of fields ns
+  pub block : slice_get (message_at a h) k ≡ Some (block_at fields n)
+  pub there : n < length fields
+  pub placed : IsPlaced s.store (fields_at fields n)
+  pub named : count_of s (fields_at fields n).data_number ≡ names_of a (fields_at fields n).data_number
+
+module _ (id : ℕ) (s : CountedStore) (fields : List Fields) (v : NodeLists) (filled : IsFilled s fields v (arena_of id s.store fields v)) (a : Arena) (is : arena_of id s.store fields v ≡ a) (h k : ℕ) where
+  -- the block at a place, if the message has so many
+  pub block-get : slice_get (message_at a h) k ≡ option_map (block_at fields) (slice_get (nodes_at v h) k)
+  block-get =
+      ap (λ x. slice_get (message_at x h) k) (sym is) ∙ ap (λ m. slice_get m k) (message_at-seen id s.store fields v h) ∙ slice_get-mapped (block_at fields) (nodes_at v h) k
+
+  -- there is none
+  pub block_none : slice_get (nodes_at v h) k ≡ None → slice_get (message_at a h) k ≡ None
+  block_none none = block-get ∙ ap (option_map (block_at fields)) none
+
+  -- there is one
+  pub block_some : (t : TokenValue) → t.head ≡ h → has a t ≡ true → (n : ℕ) → slice_get (nodes_at v h) k ≡ Some n → IsAt s fields v a h k n (nodes_at v h)
+  block_some t head had n found =
+      let message = had_message a t had in
+      let nodes = held_nodes id s.store fields v t.head message.0 (ap (λ x. Rattle.strm_mblk.specs.Arena.held_at x t.head) is ∙ message.1.held) in
+      let held : held_in v.held h ≡ Some (nodes_at v h) = ap (held_in v.held) (sym head) ∙ nodes.1.held ∙ ap Some (sym (ap (λ o. Rattle.strm_mblk.specs.Messages.blocks_of o) (ap (held_in v.held) (sym head) ∙ nodes.1.held))) in
+      let there : n < length fields = node_room id s fields v filled h k n (nodes_at v h) held found in
+      record {
+        held = held;
+        at = found;
+        message = ap (λ x. message_at x h) (sym is) ∙ message_at-seen id s.store fields v h;
+        block = block-get ∙ ap (option_map (block_at fields)) found;
+        there = there;
+        placed = filled.placed n there;
+        named = filled.counts (fields_at fields n).data_number ∙ ap (λ x. names_of x (fields_at fields n).data_number) is;
+      }

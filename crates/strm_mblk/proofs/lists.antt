@@ -1,0 +1,4 @@
+-- Plain lists.
+pub mod ListParts
+pub mod Overlaid
+pub mod Along

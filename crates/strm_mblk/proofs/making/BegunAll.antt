@@ -1,0 +1,211 @@
+-- The first free message blocks become one held message.
+use Rattle.std.proofs.Common.{◌≡◌, ◌≢◌, ℕ, suc, ◌+◌, ◌<◌, ◌≤◌, ltb, List, [], ◌∷◌, map, length, get_or, set, Option, Some, None, refl, sym, ap, ◌∙◌, inl, inr, arith, get_or-set_same, get_or-set_other, length-set}
+use Rattle.std.specs.Prelude.{count_by, drop, option_map, take}
+use Rattle.std.specs.List.{All}
+use Rattle.std.proofs.lemmas.Bool.{cases_eq}
+use Rattle.std.proofs.lemmas.List.{length-map, length-take-le, map-set, take-append-drop}
+use Rattle.std.proofs.lemmas.Option.{none-some, same_Some}
+use Rattle.strm_links.specs.Rows.{first}
+use Rattle.strm_data.specs.CountedStore.{CountedStore, IsKept, count_of}
+use Rattle.strm_data.specs.DataStore.{DataStore, times}
+use Rattle.strm_data.proofs.Times.{times-append, times-cons, times_here, times_other}
+use Rattle.strm_mblk.specs.declared.blocks.Fields.{Fields}
+use Rattle.strm_mblk.specs.Arena.{Arena, held_at, names_of, shelved_blocks, with_held}
+use Rattle.strm_mblk.specs.Block.{Block, Message, head_of, is_naming}
+use Rattle.strm_mblk.specs.BlockCalls.{held_under, renumbered}
+use Rattle.strm_mblk.specs.BlocksLayout.{IsFilled, IsPlaced, arena_of, block_of, fields_at, fields_of, message_of, no_fields, with_fields}
+use Rattle.strm_mblk.specs.Messages.{blocks_held, blocks_on, blocks_of}
+use Rattle.strm_mblk.specs.NodeLists.{IsNodesParted, NodeLists}
+use Rattle.strm_mblk.proofs.making.Begun.{alike_each, first_rest}
+use Rattle.strm_mblk.proofs.making.BegunLists.{after_begin_all, free_room, free_unheld}
+use Rattle.strm_mblk.proofs.arena.Counts.{count_adds, held_moves}
+use Rattle.strm_mblk.proofs.arena.Moves.{count_one, one_most}
+use Rattle.strm_mblk.proofs.layout.Rooms.{HasRooms, placed-over, placed-set}
+use Rattle.strm_mblk.proofs.layout.Shown.{AreAlike, held-alike, held_at-seen, nodes_in, shelves-alike}
+
+-- ---- several message blocks say something else
+
+pub length-with_fields : (ns : List ℕ) (xs fields : List Fields) → length (with_fields ns xs fields) ≡ length fields
+length-with_fields [] xs fields = refl
+length-with_fields (n ∷ ns) [] fields = refl
+length-with_fields (n ∷ ns) (x ∷ xs) fields = length-with_fields ns xs (set fields n x) ∙ length-set fields n x
+
+-- the others say what they said
+pub with_fields_other : (ns : List ℕ) (xs fields : List Fields) (k : ℕ) → times k ns ≡ 0 → fields_at (with_fields ns xs fields) k ≡ fields_at fields k
+with_fields_other [] xs fields k none = refl
+with_fields_other (n ∷ ns) [] fields k none = refl
+with_fields_other (n ∷ ns) (x ∷ xs) fields k none =
+    elim (cases_eq n k) [
+      | inl same ↦ absurd (omega (arith, none, times_here k n ns same))
+      | inr other ↦
+          with_fields_other ns xs (set fields n x) k (omega (arith, none, times_other k n ns other))
+          ∙ get_or-set_other fields n k x no_fields (λ same. other (sym same))
+    ]
+
+-- so of a list with none of them
+alike_others : (ns : List ℕ) (xs fields : List Fields) (ms : List ℕ) → ((k : ℕ) → times k ns + times k ms ≤ 1) → AreAlike fields (with_fields ns xs fields) ms
+alike_others ns xs fields ms once = alike_each fields (with_fields ns xs fields) ms (λ k some. with_fields_other ns xs fields k (omega (arith, some, once k)))
+
+-- places stay in data blocks
+placed-fields : (s : DataStore) (ns : List ℕ) (bs : List Block) (fields : List Fields) → All (λ b. IsPlaced s (fields_of b)) bs
+    → ((k : ℕ) → k < length fields → IsPlaced s (fields_at fields k)) → (k : ℕ) → k < length fields → IsPlaced s (fields_at (with_fields ns (map fields_of bs) fields) k)
+placed-fields s [] bs fields new old k within = old k within
+placed-fields s (n ∷ ns) [] fields new old k within = old k within
+placed-fields s (n ∷ ns) (b ∷ bs) fields new old k within =
+    placed-fields s ns bs (set fields n (fields_of b)) (λ i d inside. new (suc i) d (omega (arith, inside)))
+    (placed-set s s fields n (fields_of b) (record { many = refl; room = λ j. refl }) (new 0 b (omega arith)) old) k (omega (arith, within, length-set fields n (fields_of b)))
+
+-- they are these blocks under their own numbers
+message-fields : (ns : List ℕ) (bs : List Block) (fields : List Fields) → length ns ≡ length bs → ((k : ℕ) → times k ns ≤ 1) → ((k : ℕ) → 0 < times k ns → k < length fields)
+    → message_of (with_fields ns (map fields_of bs) fields) ns ≡ renumbered ns bs
+message-fields [] bs fields many once within = refl
+message-fields (n ∷ ns) [] fields many once within = absurd (omega (arith, many))
+message-fields (n ∷ ns) (b ∷ bs) fields many once within =
+    let here : times n (n ∷ ns) ≡ 1 + times n ns = times_here n n ns refl in
+    let said : fields_at (with_fields ns (map fields_of bs) (set fields n (fields_of b))) n ≡ fields_of b =
+    with_fields_other ns (map fields_of bs) (set fields n (fields_of b)) n (omega (arith, here, once n))
+    ∙ get_or-set_same fields n (fields_of b) no_fields (within n (omega (arith, here))) in
+    let rest =
+    message-fields ns bs (set fields n (fields_of b)) (omega (arith, many)) (λ k. omega (arith, once k, times-cons k n ns))
+    (λ k some. omega (arith, within k (omega (arith, some, times-cons k n ns)), length-set fields n (fields_of b))) in
+    λ i. block_of n (said i) ∷ rest i
+
+-- as many of them name a data block
+renumbered_names : (d : ℕ) (ns : List ℕ) (bs : List Block) → length ns ≡ length bs → count_by (is_naming d) (renumbered ns bs) ≡ count_by (is_naming d) bs
+renumbered_names d [] [] many = refl
+renumbered_names d [] (b ∷ bs) many = absurd (omega (arith, many))
+renumbered_names d (n ∷ ns) [] many = absurd (omega (arith, many))
+renumbered_names d (n ∷ ns) (b ∷ bs) many =
+    omega (
+      arith,
+      (count_adds (is_naming d)).both (record b { number = n } ∷ []) (renumbered ns bs),
+      (count_adds (is_naming d)).both (b ∷ []) bs,
+      count_one (is_naming d) b,
+      count_one (is_naming d) (record b { number = n }),
+      renumbered_names d ns bs (omega (arith, many)),
+    )
+
+-- the first has the first number
+renumbered_head : (ns : List ℕ) (bs : List Block) (h : ℕ) → first ns ≡ Some h → 0 < length bs → head_of (renumbered (take (length bs) ns) bs) ≡ h
+renumbered_head [] bs h begun some = absurd (none-some h begun)
+renumbered_head (n ∷ ns) [] h begun some = absurd (omega (arith, some))
+renumbered_head (n ∷ ns) (b ∷ bs) h begun some = same_Some n h begun
+
+-- ---- what is there once the first free numbers are a message of these blocks, held at h, and `a` was there before
+
+pub record IsBegunAll (a : Arena) (t : CountedStore) (fields : List Fields) (w : NodeLists) (id h : ℕ) (bs : List Block) : Type 0 where
+  pub filled : IsFilled t fields w (arena_of id t.store fields w)
+  pub shows : (h, arena_of id t.store fields w) ≡ held_under bs t.store a
+  pub held : held_at (arena_of id t.store fields w) h ≡ Some (renumbered (take (length bs) a.free) bs)
+  pub shelved : shelved_blocks (arena_of id t.store fields w) ≡ shelved_blocks a
+  pub others : (k : ℕ) → k ≢ h → held_at (arena_of id t.store fields w) k ≡ held_at a k
+  pub absent : held_at a h ≡ None
+
+module _ (id : ℕ) (s : CountedStore) (fields : List Fields) (v : NodeLists) (filled : IsFilled s fields v (arena_of id s.store fields v)) (h : ℕ) (begun : first v.free ≡ Some h) where
+  abbrev old : Arena
+  old = arena_of id s.store fields v
+
+  h_free : 0 < times h v.free
+  h_free = omega (arith, ap (times h) (first_rest v.free h begun), times_here h h (drop 1 v.free) refl)
+
+  room : h < length v.held
+  room = free_room v filled.parted h h_free
+
+  -- the first free block is one of all
+  pub begin_room : h < length fields
+  begin_room = omega (arith, room, filled.listed)
+
+  unheld : held_at old h ≡ None
+  unheld = held_at-seen id s.store fields v h ∙ ap (option_map (message_of fields)) (free_unheld v filled.parted h h_free)
+
+  module _ (bs : List Block) (some : 0 < length bs) (enough : length bs ≤ length v.free) where
+    abbrev ns : List ℕ
+    ns = take (length bs) v.free
+
+    -- a number is free or in a message
+    parts : (k : ℕ) → (times k v.free ≡ times k ns + times k (drop (length bs) v.free)) × (times k v.free + times k (nodes_in v) ≤ 1)
+    parts k = (
+      ap (times k) (sym (take-append-drop (length bs) v.free)) ∙ times-append k ns (drop (length bs) v.free),
+      omega (arith, times-append k v.free (nodes_in v), filled.parted.once k, one_most (ltb k (length v.held))),
+    )
+
+    apart : (k : ℕ) → times k ns + times k (nodes_in v) ≤ 1
+    apart k = omega (arith, (parts k).0, (parts k).1)
+
+    off : (k : ℕ) → times k (nodes_in v) ≡ times k (blocks_on v.shelves) + times k (blocks_held v.held)
+    off k = times-append k (blocks_on v.shelves) (blocks_held v.held)
+
+    within : (k : ℕ) → 0 < times k ns → k < length fields
+    within k inside = omega (arith, filled.listed, free_room v filled.parted k (omega (arith, (parts k).0, inside)))
+
+    many : length ns ≡ length bs
+    many = length-take-le (length bs) v.free enough
+
+    abbrev now : List Fields
+    now = with_fields ns (map fields_of bs) fields
+
+    abbrev m : Message
+    m = renumbered ns bs
+
+    message_is : message_of now ns ≡ m
+    message_is = message-fields ns bs fields many (λ k. omega (arith, apart k)) within
+
+    head_is : head_of m ≡ h
+    head_is = renumbered_head v.free bs h begun some
+
+    module _ (t : CountedStore) (w : NodeLists) (kept : IsKept t) (w_is : w ≡ after_begin_all v h (length bs)) (parted : IsNodesParted w)
+        (rooms : HasRooms s.store t.store) (placed : All (λ b. IsPlaced t.store (fields_of b)) bs) (named : (k : ℕ) → count_of t k ≡ count_of s k + count_by (is_naming k) bs) where
+      held_is : map (option_map (message_of now)) w.held ≡ set old.held h (Some m)
+      held_is =
+          ap (λ (l : NodeLists). map (option_map (message_of now)) l.held) w_is
+          ∙ map-set (option_map (message_of now)) v.held h (Some ns)
+          ∙ (λ i. set (held-alike fields now v.held (alike_others ns (map fields_of bs) fields (blocks_held v.held) (λ k. omega (arith, apart k, off k))) i) h (Some (message_is i)))
+
+      shelves_is : map (map (message_of now)) w.shelves ≡ old.shelves
+      shelves_is =
+          ap (λ (l : NodeLists). map (map (message_of now)) l.shelves) w_is
+          ∙ shelves-alike fields now v.shelves (alike_others ns (map fields_of bs) fields (blocks_on v.shelves) (λ k. omega (arith, apart k, off k)))
+
+      abbrev rest : Arena
+      rest = record old { free = drop (length bs) v.free; store = t.store }
+
+      arena_is : arena_of id t.store now w ≡ with_held m rest
+      arena_is =
+          let free_now : w.free ≡ drop (length bs) v.free = ap (λ (l : NodeLists). l.free) w_is in
+          let held_now : map (option_map (message_of now)) w.held ≡ set old.held (head_of m) (Some m) = held_is ∙ ap (λ j. set old.held j (Some m)) (sym head_is) in
+          λ i. record { id = id; store = t.store; free = free_now i; held = held_now i; shelves = shelves_is i }
+
+      held_many : length w.held ≡ length v.held
+      held_many = ap (λ (l : NodeLists). length l.held) w_is ∙ length-set v.held h (Some ns)
+
+      names_are : (k : ℕ) → names_of (with_held m rest) k ≡ names_of old k + count_by (is_naming k) bs
+      names_are k =
+          omega (
+            arith,
+            held_moves (count_adds (is_naming k)) rest (head_of m) (Some m) (omega (arith, head_is, room, length-map v.held (option_map (message_of fields)))),
+            ap (λ j. count_by (is_naming k) (blocks_of (held_at old j))) head_is,
+            ap (λ o. count_by (is_naming k) (blocks_of o)) unheld,
+            (count_adds (is_naming k)).none,
+            renumbered_names k ns bs many,
+          )
+
+      pub begins_all : IsBegunAll old t now w id h bs
+      begins_all = record {
+        filled = record {
+          kept = kept;
+          parted = parted;
+          few = omega (arith, filled.few, held_many);
+          listed = omega (arith, length-with_fields ns (map fields_of bs) fields, filled.listed, held_many);
+          placed = λ k inside.
+              placed-fields t.store ns bs fields placed (λ j there. placed-over s.store t.store (fields_at fields j) rooms (filled.placed j there)) k
+              (omega (arith, inside, length-with_fields ns (map fields_of bs) fields));
+          counts = λ k. named k ∙ omega (arith, filled.counts k, names_are k, ap (λ a. names_of a k) arena_is);
+        };
+        shows = λ i. (sym head_is i, arena_is i);
+        held =
+            ap (λ (ms : List (Option Message)). get_or ms h None) held_is
+            ∙ get_or-set_same old.held h (Some m) None (omega (arith, room, length-map v.held (option_map (message_of fields))));
+        shelved = ap blocks_on shelves_is;
+        others = λ k other. ap (λ (ms : List (Option Message)). get_or ms k None) held_is ∙ get_or-set_other old.held h k (Some m) None other;
+        absent = unheld;
+      }

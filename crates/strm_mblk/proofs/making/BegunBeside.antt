@@ -1,0 +1,84 @@
+-- The message that a token names, beside one just begun of the first free message blocks.
+use Rattle.std.proofs.Common.{◌≡◌, ◌≢◌, ℕ, ◌+◌, ◌<◌, ◌≤◌, ◌==◌, ltb, true, List, length, Some, None, refl, sym, ap, ◌∙◌, arith, get_or-set_same, get_or-set_other}
+use Rattle.std.specs.Prelude.{drop, slice_get, take}
+use Rattle.std.proofs.lemmas.List.{length-take-le}
+use Rattle.std.proofs.lemmas.Option.{none-some}
+use Rattle.strm_links.specs.Rows.{first}
+use Rattle.strm_data.specs.CountedStore.{CountedStore}
+use Rattle.strm_data.specs.DataStore.{times}
+use Rattle.strm_data.proofs.Times.{times-append, times_here}
+use Rattle.strm_mblk.specs.declared.blocks.Fields.{Fields}
+use Rattle.strm_mblk.specs.declared.token.TokenValue.{TokenValue}
+use Rattle.strm_mblk.specs.Arena.{has}
+use Rattle.strm_mblk.specs.BlocksLayout.{IsFilled, arena_of}
+use Rattle.strm_mblk.specs.Messages.{blocks_held, blocks_of, blocks_on, held_in}
+use Rattle.strm_mblk.specs.NodeLists.{NodeLists, nodes_at}
+use Rattle.strm_mblk.proofs.making.Begun.{first_rest}
+use Rattle.strm_mblk.proofs.making.BegunLists.{after_begin_all, free_room, free_unheld}
+use Rattle.strm_mblk.proofs.freeing.Dropping.{slice_get-take}
+use Rattle.strm_mblk.proofs.arena.Counts.{count_adds, flat_map-set_adds}
+use Rattle.strm_mblk.proofs.layout.Places.{nodes_room}
+use Rattle.strm_mblk.proofs.freeing.Freemsg.{token_nodes}
+use Rattle.strm_mblk.proofs.making.Giving.{times_part}
+use Rattle.strm_mblk.proofs.arena.Moves.{one_most}
+use Rattle.strm_mblk.proofs.layout.Rewriting.{begins_with}
+use Rattle.strm_mblk.proofs.altering.Setband.{at_first}
+use Rattle.strm_mblk.proofs.layout.Shown.{nodes_in}
+
+-- v was there before; in w the first `count` free numbers are a message, held at h, beside the one held at g
+pub record IsBeside (v w : NodeLists) (g h count : ℕ) : Type 0 where
+  pub enough : count ≤ length (nodes_at v g)
+  pub from_is : nodes_at w g ≡ nodes_at v g
+  pub from : slice_get (nodes_at v g) 0 ≡ Some g
+  pub into_is : nodes_at w h ≡ take count v.free
+  pub into : slice_get (nodes_at w h) 0 ≡ Some h
+  pub many : length (nodes_at w h) ≡ count
+  pub apart : (n : ℕ) → times n (nodes_at w g) + times n (nodes_at w h) ≤ 1
+  pub other : g ≢ h
+
+module _ (id : ℕ) (s : CountedStore) (fields : List Fields) (v : NodeLists) (filled : IsFilled s fields v (arena_of id s.store fields v)) (token : TokenValue) (had : has (arena_of id s.store fields v) token ≡ true)
+    (count : ℕ) (some : 0 < count) (enough : count ≤ token.blocks) (free : count ≤ length v.free) (h : ℕ) (begun : first v.free ≡ Some h) (w : NodeLists) (w_is : w ≡ after_begin_all v h count) where
+  abbrev g : ℕ
+  g = token.head
+
+  held : (held_in v.held g ≡ Some (nodes_at v g)) × (token.blocks ≡ length (nodes_at v g))
+  held = token_nodes id s fields v token had
+
+  h_free : 0 < times h v.free
+  h_free = omega (arith, ap (times h) (first_rest v.free h begun), times_here h h (drop 1 v.free) refl)
+
+  other : g ≢ h
+  other same = none-some (nodes_at v g) (sym (free_unheld v filled.parted h h_free) ∙ ap (held_in v.held) (sym same) ∙ held.0)
+
+  begins : slice_get (nodes_at v g) 0 ≡ Some g
+  begins = at_first (nodes_at v g) g (begins_with v filled.parted g (nodes_at v g) held.0)
+
+  from_same : nodes_at w g ≡ nodes_at v g
+  from_same = ap (λ (l : NodeLists). nodes_at l g) w_is ∙ ap blocks_of (get_or-set_other v.held h g (Some (take count v.free)) None other)
+
+  into_new : nodes_at w h ≡ take count v.free
+  into_new = ap (λ (l : NodeLists). nodes_at l h) w_is ∙ ap blocks_of (get_or-set_same v.held h (Some (take count v.free)) None (free_room v filled.parted h h_free))
+
+  pub beside : IsBeside v w g h count
+  beside = record {
+    enough = omega (arith, enough, held.1);
+    from_is = from_same;
+    from = begins;
+    into_is = into_new;
+    into = ap (λ ns. slice_get ns 0) into_new ∙ slice_get-take count 0 v.free some ∙ at_first v.free h begun;
+    many = ap length into_new ∙ length-take-le count v.free free;
+    apart = λ n.
+        omega (
+          arith,
+          ap (times n) from_same,
+          ap (times n) into_new,
+          times_part n count v.free,
+          times-append n v.free (nodes_in v),
+          times-append n (blocks_on v.shelves) (blocks_held v.held),
+          filled.parted.once n,
+          one_most (ltb n (length v.held)),
+          flat_map-set_adds (count_adds (λ x. x == n)) blocks_of v.held g None None (nodes_room v g g begins),
+          (count_adds (λ (x : ℕ). x == n)).none,
+        );
+    other = other;
+  }

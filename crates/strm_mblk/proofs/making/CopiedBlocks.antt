@@ -1,0 +1,136 @@
+-- Copies of blocks are made one after the other, each over a data block just taken.
+use Rattle.std.proofs.Common.{◌≡◌, ℕ, zero, suc, ◌+◌, ◌≤◌, true, eqb, List, [], ◌∷◌, ◌++◌, map, drop, take, get_or, set, length, Some, Ok, refl, sym, ap, ◌∙◌, inl, inr, arith, length-append}
+use Rattle.std.specs.Prelude.{count_by, slice_get}
+use Rattle.std.specs.List.{All}
+use Rattle.std.specs.Result.{is_ok}
+use Rattle.std.proofs.lemmas.Bool.Decides.{eqb_tells}
+use Rattle.std.proofs.lemmas.List.{append-nil, drop_all, length-map, length-take-le, map-append, take_all, take_more}
+use Rattle.std.proofs.lemmas.List.Elements.{All-append}
+use Rattle.std.proofs.lemmas.Option.{get_or_from_slice_get, slice_get_within}
+use Rattle.strm_data.specs.CountedStore.{CountedStore, IsUnused, count_of}
+use Rattle.strm_data.specs.DataStore.{capacity_of, take_data, times}
+use Rattle.strm_data.proofs.Times.{one_if}
+use Rattle.strm_mblk.specs.declared.blocks.Fields.{Fields}
+use Rattle.strm_mblk.specs.Block.{Block, is_naming}
+use Rattle.strm_mblk.specs.BlockCalls.{copied_into, copies}
+use Rattle.strm_mblk.specs.BlocksLayout.{IsPlaced, fields_at, fields_of, with_fields}
+use Rattle.strm_mblk.specs.Copying.{AreCopied, with_copy}
+use Rattle.strm_mblk.specs.Given.{answer_map}
+use Rattle.strm_mblk.proofs.making.BegunAll.{length-with_fields, with_fields_other}
+use Rattle.strm_mblk.proofs.making.CopiesCounted.{answer_more, can_take, in_front, in_front_none, rooms-copied}
+use Rattle.strm_mblk.proofs.arena.Counts.{count_adds}
+use Rattle.strm_mblk.proofs.making.Giving.{times_part}
+use Rattle.strm_mblk.proofs.arena.Moves.{count_one}
+use Rattle.strm_mblk.proofs.layout.Rooms.{HasRooms, count_of-set, placed-over}
+
+-- ---- lists
+
+-- one message block more says something
+with_fields_more : (ns : List ℕ) (xs fields : List Fields) (n : ℕ) (x : Fields) → length ns ≡ length xs → with_fields (ns ++ n ∷ []) (xs ++ x ∷ []) fields ≡ set (with_fields ns xs fields) n x
+with_fields_more [] [] fields n x same = refl
+with_fields_more [] (y ∷ xs) fields n x same = absurd (omega (arith, same))
+with_fields_more (m ∷ ns) [] fields n x same = absurd (omega (arith, same))
+with_fields_more (m ∷ ns) (y ∷ xs) fields n x same = with_fields_more ns xs (set fields m y) n x (omega (arith, same))
+
+-- what holds of one is true of all of it
+all_of_one : {X : Type 0} (P : X → Type 0) (x : X) → P x → All P (x ∷ [])
+all_of_one P x holds zero e below = holds
+all_of_one P x holds (suc k) e below = absurd (omega (arith, below))
+
+-- ---- the loop
+
+-- what the loop keeps while it copies: `made` are the copies of the blocks before i
+pub record IsCopying (bs : List Block) (ns : List ℕ) (i : ℕ) (old new : List Fields) (s t : CountedStore) : Type 0 where
+  pub made : List Block
+  pub answer : copies bs s.store ≡ answer_map (in_front made) (copies (drop i bs) t.store)
+  pub fields : new ≡ with_fields (take i ns) (map fields_of made) old
+  pub many : length made ≡ i
+  pub named : (d : ℕ) → count_of t d ≡ count_of s d + count_by (is_naming d) made
+  pub placed : All (λ b. IsPlaced t.store (fields_of b)) made
+  pub rooms : HasRooms s.store t.store
+
+-- nothing is copied yet
+pub none_copied : (bs : List Block) (ns : List ℕ) (fields : List Fields) (s : CountedStore) → IsCopying bs ns 0 fields fields s s
+none_copied bs ns fields s = record {
+  made = [];
+  answer = in_front_none (copies bs s.store);
+  fields = refl;
+  many = refl;
+  named = λ d. omega arith;
+  placed = λ k d within. absurd (omega (arith, within));
+  rooms = record { many = refl; room = λ d. refl };
+}
+
+module _ (bs : List Block) (ns : List ℕ) (i : ℕ) (old new : List Fields) (s t : CountedStore) (copying : IsCopying bs ns i old new s t) where
+  -- all are copied
+  pub all_copied : length bs ≡ i → length ns ≡ i → AreCopied bs ns old new s t
+  all_copied blocks numbers = record {
+    made = copying.made;
+    answer =
+        copying.answer ∙ ap (λ xs. answer_map (in_front copying.made) (copies xs t.store)) (drop_all i bs (omega (arith, blocks)))
+        ∙ (λ j. Ok (append-nil copying.made j, t.store));
+    fields = copying.fields ∙ ap (λ ks. with_fields ks (map fields_of copying.made) old) (take_all i ns (omega (arith, numbers)));
+    many = copying.many ∙ sym blocks;
+    named = copying.named;
+    placed = copying.placed;
+    blocks = copying.rooms.many;
+    rooms = copying.rooms.room;
+  }
+
+  -- a number that is none of the copies' says what it said
+  pub source_stays : (n : ℕ) → times n ns ≡ 0 → fields_at new n ≡ fields_at old n
+  source_stays n none =
+      ap (λ fs. fields_at fs n) copying.fields
+      ∙ with_fields_other (take i ns) (map fields_of copying.made) old n
+      (omega (arith, none, times_part n i ns))
+
+  pub as_many : length new ≡ length old
+  as_many = ap length copying.fields ∙ length-with_fields (take i ns) (map fields_of copying.made) old
+
+  module _ (b : Block) (next : drop i bs ≡ b ∷ drop (i + 1) bs) where
+    -- the next data block can be taken
+    pub next_fits : is_ok (copies bs s.store) ≡ true → is_ok (take_data (capacity_of t.store b.data_number) t.store) ≡ true
+    next_fits = can_take bs i s.store t.store copying.made copying.answer b next
+
+    -- the next block is copied
+    module _ (d n : ℕ) (taken : take_data (capacity_of t.store b.data_number) t.store ≡ Ok d) (unused : IsUnused t d) (room : capacity_of t.store b.data_number ≤ capacity_of t.store d)
+        (inside : b.offset + b.len ≤ capacity_of t.store b.data_number) (at : slice_get ns i ≡ Some n) where
+      abbrev copy : Block
+      copy = record b { data_number = d }
+
+      rooms_more : HasRooms t.store (copied_into b t.store d)
+      rooms_more = rooms-copied b t.store d (omega (arith, room, inside))
+
+      numbers_more : take (i + 1) ns ≡ take i ns ++ n ∷ []
+      numbers_more = take_more ns i n (slice_get_within ns i n at) ∙ ap (λ k. take i ns ++ k ∷ []) (get_or_from_slice_get ns i n n at)
+
+      many_before : length (take i ns) ≡ length (map fields_of copying.made)
+      many_before = omega (arith, length-take-le i ns (omega (arith, slice_get_within ns i n at)), length-map copying.made fields_of, copying.many)
+
+      named_more : (k : ℕ) → count_of (with_copy b t d) k ≡ count_of t k + one_if (eqb d k)
+      named_more k =
+          count_of-set t (copied_into b t.store d) d 1 k unused.counted
+          ∙ elim (eqb_tells d k) [
+            | inl same ↦ rw same.0 (omega (arith, unused.unnamed, ap (count_of t) same.1))
+            | inr other ↦ rw other.0 (omega arith)
+          ]
+
+      placed_copy : IsPlaced (copied_into b t.store d) (fields_of copy)
+      placed_copy = record { there = omega (arith, unused.there, rooms_more.many); within = omega (arith, inside, room, rooms_more.room d) }
+
+      pub next_copied : IsCopying bs ns (i + 1) old (set new n (fields_of copy)) s (with_copy b t d)
+      next_copied = record {
+        made = copying.made ++ copy ∷ [];
+        answer = answer_more bs i s.store t.store copying.made copying.answer b next d taken;
+        fields =
+            ap (λ fs. set fs n (fields_of copy)) copying.fields
+            ∙ sym (with_fields_more (take i ns) (map fields_of copying.made) old n (fields_of copy) many_before)
+            ∙ (λ j. with_fields (sym numbers_more j) (sym (map-append fields_of copying.made (copy ∷ [])) j) old);
+        many = omega (arith, length-append copying.made (copy ∷ []), copying.many);
+        named = λ k. omega (arith, named_more k, copying.named k, (count_adds (is_naming k)).both copying.made (copy ∷ []), count_one (is_naming k) copy);
+        placed =
+            All-append (λ x. IsPlaced (copied_into b t.store d) (fields_of x)) copying.made (copy ∷ [])
+            (λ k e below. placed-over t.store (copied_into b t.store d) (fields_of (get_or copying.made k e)) rooms_more (copying.placed k e below))
+            (all_of_one (λ x. IsPlaced (copied_into b t.store d) (fields_of x)) copy placed_copy);
+        rooms = record { many = rooms_more.many ∙ copying.rooms.many; room = λ k. rooms_more.room k ∙ copying.rooms.room k };
+      }

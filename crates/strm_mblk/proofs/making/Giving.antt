@@ -1,0 +1,181 @@
+-- Data blocks are named once more, one after the other, and lose those names again.
+use Rattle.std.proofs.Common.{◌≡◌, ℕ, zero, suc, ◌+◌, ◌-◌, ◌<◌, ◌≤◌, ◌==◌, ◌||◌, Bool, true, false, eqb, List, [], ◌∷◌, ◌++◌, get_or, set, Some, refl, sym, ap, ◌∙◌, if◌then◌else◌, subst, inl, inr, arith, get_or-set_same, get_or-set_other}
+use Rattle.std.specs.Prelude.{drop, nat_lt, slice_get, take}
+use Rattle.std.specs.List.{list_any}
+use Rattle.std.proofs.lemmas.Bool.{cases_eq, cond-false, eq-eqb, le-ltb, lt-ltb, ne_eqb}
+use Rattle.std.proofs.lemmas.Bool.Decides.{eqb_tells}
+use Rattle.std.proofs.lemmas.List.{set-get_or, set-set, take-append-drop}
+use Rattle.std.proofs.lemmas.List.Folds.{list_any_none}
+use Rattle.std.proofs.lemmas.Option.{none-some, same_Some}
+use Rattle.strm_data.specs.CountedStore.{CountedStore, IsKept, count_of, with_name, without_name}
+use Rattle.strm_data.specs.DataStore.{times, with_data_freed}
+use Rattle.strm_data.proofs.Times.{one_if, times-append, times-cons, times_here}
+use Rattle.strm_data.specs.Limits.{most_data_block_names}
+use Rattle.strm_mblk.specs.BlocksLayout.{exceeds_counts, with_names_dropped, with_names_given}
+use Rattle.strm_mblk.proofs.freeing.Dropping.{counted_there, slice_get-take}
+use Rattle.strm_mblk.proofs.arena.Heads.{set_apart}
+use Rattle.strm_mblk.proofs.layout.Rewriting.{times_at}
+use Rattle.strm_mblk.proofs.layout.Rooms.{count_of-set}
+
+-- the store that is counted stays
+pub store_given : (ds : List ℕ) (s : CountedStore) → (with_names_given ds s).store ≡ s.store
+store_given [] s = refl
+store_given (d ∷ ds) s = store_given ds (with_name d s)
+
+-- one more at the end
+pub given_more : (ds : List ℕ) (d : ℕ) (s : CountedStore) → with_names_given (ds ++ d ∷ []) s ≡ with_name d (with_names_given ds s)
+given_more [] d s = refl
+given_more (e ∷ ds) d s = given_more ds d (with_name e s)
+
+-- the counts once d has a name more
+named_more : (s : CountedStore) (d : ℕ) → 0 < count_of s d → (k : ℕ) → count_of (with_name d s) k ≡ count_of s k + one_if (eqb d k)
+named_more s d used k =
+    count_of-set s s.store d (count_of s d + 1) k (counted_there s d used)
+    ∙ elim (eqb_tells d k) [
+      | inl same ↦ rw same.0 (ap (λ j. count_of s j + 1) same.1)
+      | inr other ↦ rw other.0 (omega arith)
+    ]
+
+-- each of these data blocks is in use
+abbrev pub AreUsed : List ℕ → CountedStore → Type 0
+AreUsed ds s = (k : ℕ) → 0 < times k ds → 0 < count_of s k
+
+first_used : (d : ℕ) (ds : List ℕ) (s : CountedStore) → AreUsed (d ∷ ds) s → 0 < count_of s d
+first_used d ds s used = used d (omega (arith, times-cons d d ds, ap one_if (eq-eqb d d refl)))
+
+rest_used : (d : ℕ) (ds : List ℕ) (s : CountedStore) → AreUsed (d ∷ ds) s → AreUsed ds s
+rest_used d ds s used k some = used k (omega (arith, some, times-cons k d ds))
+
+more_used : (d : ℕ) (ds : List ℕ) (s : CountedStore) → AreUsed (d ∷ ds) s → AreUsed ds (with_name d s)
+more_used d ds s used k some = omega (arith, rest_used d ds s used k some, named_more s d (first_used d ds s used) k)
+
+-- the counts once several have a name more
+pub counts_given : (ds : List ℕ) (s : CountedStore) → AreUsed ds s → (k : ℕ) → count_of (with_names_given ds s) k ≡ count_of s k + times k ds
+counts_given [] s used k = omega arith
+counts_given (d ∷ ds) s used k =
+    omega (arith, counts_given ds (with_name d s) (more_used d ds s used) k, named_more s d (first_used d ds s used) k, times-cons k d ds)
+
+-- ---- back
+
+-- the order of names is no matter
+name_apart : (d e : ℕ) (s : CountedStore) → with_name d (with_name e s) ≡ with_name e (with_name d s)
+name_apart d e s =
+    elim (cases_eq d e) [
+      | inl same ↦ rw same refl
+      | inr other ↦
+          (λ i. record s { counts = set (set s.counts e (count_of s e + 1)) d (get_or-set_other s.counts e d (count_of s e + 1) 0 other i + 1) })
+          ∙ ap (λ cs. record s { counts = cs }) (set_apart s.counts e d (count_of s e + 1) (count_of s d + 1) (λ same. other (sym same)))
+          ∙ sym (λ i. record s { counts = set (set s.counts d (count_of s d + 1)) e (get_or-set_other s.counts d e (count_of s d + 1) 0 (λ same. other (sym same)) i + 1) })
+    ]
+
+name_first : (d : ℕ) (ds : List ℕ) (s : CountedStore) → with_names_given ds (with_name d s) ≡ with_name d (with_names_given ds s)
+name_first d [] s = refl
+name_first d (e ∷ ds) s = ap (with_names_given ds) (name_apart e d s) ∙ name_first d ds (with_name e s)
+
+-- a name that was given is taken back
+name_back : (d : ℕ) (s : CountedStore) → 0 < count_of s d → without_name d (with_name d s) ≡ s
+name_back d s used =
+    let more : count_of (with_name d s) d ≡ count_of s d + 1 = get_or-set_same s.counts d (count_of s d + 1) 0 (counted_there s d used) in
+    let store : (if count_of (with_name d s) d == 1 then with_data_freed d s.store else s.store) ≡ s.store =
+    cond-false _ _ _ (ne_eqb (count_of (with_name d s) d) 1 (λ one. absurd (omega (arith, used, more, one)))) in
+    let less : count_of (with_name d s) d - 1 ≡ count_of s d = omega (arith, more) in
+    let counts : set (set s.counts d (count_of s d + 1)) d (count_of (with_name d s) d - 1) ≡ s.counts =
+    set-set s.counts d (count_of s d + 1) (count_of (with_name d s) d - 1) ∙ ap (set s.counts d) less ∙ set-get_or s.counts d 0 in
+    λ i. record { store = store i; counts = counts i }
+
+-- and so are several
+pub given_back : (ds : List ℕ) (s : CountedStore) → AreUsed ds s → with_names_dropped ds (with_names_given ds s) ≡ s
+given_back [] s used = refl
+given_back (d ∷ ds) s used =
+    ap (λ t. with_names_dropped ds (without_name d t)) (name_first d ds s)
+    ∙ ap (with_names_dropped ds) (name_back d (with_names_given ds s) (omega (arith, first_used d ds s used, counts_given ds s (rest_used d ds s used) d)))
+    ∙ given_back ds s (rest_used d ds s used)
+
+-- ---- too many
+
+any_at : (p : ℕ → Bool) (xs : List ℕ) (i x : ℕ) → slice_get xs i ≡ Some x → p x ≡ true → list_any p xs ≡ true
+any_at p [] i x is passes = absurd (none-some x is)
+any_at p (y ∷ xs) zero x is passes = ap (λ b. b || list_any p xs) (ap p (same_Some y x is) ∙ passes)
+any_at p (y ∷ xs) (suc i) x is passes = ap (λ b. p y || b) (any_at p xs i x is passes) ∙ or_true (p y)
+  where
+    or_true : (b : Bool) → (b || true) ≡ true
+    or_true true = refl
+    or_true false = refl
+
+-- one of them would have more than most_data_block_names
+pub exceeds : (ds : List ℕ) (s : CountedStore) (i d : ℕ) → slice_get ds i ≡ Some d → most_data_block_names < count_of s d + times d ds → exceeds_counts ds s ≡ true
+exceeds ds s i d is many = any_at (λ k. nat_lt most_data_block_names (count_of s k + times k ds)) ds i d is (lt-ltb most_data_block_names (count_of s d + times d ds) many)
+
+-- none has
+pub not_exceeds : (ds : List ℕ) (s : CountedStore) → AreUsed ds s → IsKept (with_names_given ds s) → exceeds_counts ds s ≡ false
+not_exceeds ds s used kept =
+    list_any_none (λ k. nat_lt most_data_block_names (count_of s k + times k ds)) ds
+    (λ i d within. le-ltb most_data_block_names (count_of s (get_or ds i d) + times (get_or ds i d) ds) (omega (arith, kept.few_names (get_or ds i d), counts_given ds s used (get_or ds i d))))
+
+-- ---- one step of the loop
+
+-- the first of a list, and one more
+take_more : (ds : List ℕ) (i d : ℕ) → slice_get ds i ≡ Some d → take (i + 1) ds ≡ take i ds ++ d ∷ []
+take_more [] i d is = absurd (none-some d is)
+take_more (x ∷ ds) zero d is = ap (λ y. y ∷ []) (same_Some x d is)
+take_more (x ∷ ds) (suc i) d is =
+    let next : suc i + 1 ≡ suc (i + 1) = omega arith in
+    ap (λ j. take j (x ∷ ds)) next ∙ ap (λ ys. x ∷ ys) (take_more ds i d is)
+
+-- of the first of a list, the first
+take_first : (i n : ℕ) (ds : List ℕ) → i ≤ n → take i (take n ds) ≡ take i ds
+take_first zero n ds within = refl
+take_first (suc i) zero ds within = absurd (omega (arith, within))
+take_first (suc i) (suc n) [] within = refl
+take_first (suc i) (suc n) (x ∷ ds) within = ap (λ ys. x ∷ ys) (take_first i n ds (omega (arith, within)))
+
+-- a part of a list has a number no more often
+pub times_part : (k i : ℕ) (ds : List ℕ) → times k (take i ds) ≤ times k ds
+times_part k i ds = omega (arith, times-append k (take i ds) (drop i ds), ap (times k) (take-append-drop i ds))
+
+pub used_part : (i : ℕ) (ds : List ℕ) (s : CountedStore) → AreUsed ds s → AreUsed (take i ds) s
+used_part i ds s used k some = used k (omega (arith, some, times_part k i ds))
+
+-- the first i of all have a name more than they had
+module _ (all : List ℕ) (i : ℕ) (old s : CountedStore) (used : AreUsed all old) (s_is : s ≡ with_names_given (take i all) old) where
+  counts_now : (k : ℕ) → count_of s k ≡ count_of old k + times k (take i all)
+  counts_now k = ap (λ c. count_of c k) s_is ∙ counts_given (take i all) old (used_part i all old used) k
+
+  -- which are there as before
+  pub store_now : s.store ≡ old.store
+  store_now = ap (λ (c : CountedStore). c.store) s_is ∙ store_given (take i all) old
+
+  -- and may lose it
+  pub named_now : (k : ℕ) → times k (take i all) ≤ count_of s k
+  named_now k = omega (arith, counts_now k)
+
+  pub back_now : with_names_dropped (take i all) s ≡ old
+  back_now = ap (with_names_dropped (take i all)) s_is ∙ given_back (take i all) old (used_part i all old used)
+
+  -- no data block has too many once these are all
+  pub few_now : IsKept s → exceeds_counts (take i all) old ≡ false
+  few_now kept = not_exceeds (take i all) old (used_part i all old used) (subst IsKept s_is kept)
+
+  module _ (d : ℕ) (is : slice_get all i ≡ Some d) where
+    -- the next is in use
+    pub next_used : 0 < count_of s d
+    next_used = omega (arith, used d (times_at d all i is), counts_now d)
+
+    -- and has a name more, too
+    pub next_given : with_name d s ≡ with_names_given (take (i + 1) all) old
+    next_given = ap (with_name d) s_is ∙ sym (given_more (take i all) d old) ∙ ap (λ ds. with_names_given ds old) (sym (take_more all i d is))
+
+    -- unless it has all that it can have
+    pub next_full : (n : ℕ) → i < n → count_of s d ≡ most_data_block_names → exceeds_counts (take n all) old ≡ true
+    next_full n within full =
+        exceeds (take n all) old i d (slice_get-take n i all within ∙ is)
+        (omega (
+          arith,
+          full,
+          counts_now d,
+          ap (times d) (take_more all i d is),
+          times-append d (take i all) (d ∷ []),
+          times_here d d [] refl,
+          ap (times d) (take_first (i + 1) n all (omega (arith, within))),
+          times_part d (i + 1) (take n all),
+        ))

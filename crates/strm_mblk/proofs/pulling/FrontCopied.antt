@@ -1,0 +1,106 @@
+-- The bytes of a message are copied into a data block, one message block after the other.
+use Rattle.std.proofs.Common.{◌≡◌, ◌≢◌, ℕ, ◌+◌, ◌-◌, ◌<◌, ◌≤◌, List, ◌++◌, length, take, drop, set, Some, sym, ap, ◌∙◌, inl, inr, arith, append_assoc, length-append, get_or-set_same, get_or-set_other}
+use Rattle.std.specs.Prelude.{min, slice_get}
+use Rattle.std.proofs.Math.Seq.{drop-append-add, drop-append_seam, take-add, take-append_seam}
+use Rattle.std.proofs.lemmas.Bool.{cases_lt}
+use Rattle.std.proofs.lemmas.List.{drop-drop, drop-take, length-take-le, set-set, take-append-le, take-take}
+use Rattle.strm_data.specs.CountedStore.{CountedStore}
+use Rattle.strm_data.specs.DataStore.{DataBlock, DataStore, data_block_at, no_data_block, overwritten, with_bytes_copied, with_bytes_written}
+use Rattle.strm_mblk.specs.declared.blocks.Fields.{Fields}
+use Rattle.strm_mblk.specs.Block.{Block, bytes_of, bytes_of_block}
+use Rattle.strm_mblk.specs.BlocksLayout.{IsPlaced, block_of}
+use Rattle.strm_mblk.specs.Pulling.{with_front_copied}
+use Rattle.strm_mblk.proofs.reading.Bytes.{length-bytes_of_block}
+use Rattle.strm_mblk.proofs.lists.ListParts.{drop_from}
+
+-- bytes at the front, and more behind them
+overwritten_more : (front more old : List ℕ) → overwritten (length front) more (overwritten 0 front old) ≡ overwritten 0 (front ++ more) old
+overwritten_more front more old =
+    let n = length front in
+    let rest = drop (0 + n) old in
+    (λ i. take-append_seam front rest i ++ (more ++ drop-append-add front rest (length more) i))
+    ∙ ap (λ xs. front ++ (more ++ xs)) (drop-drop (length more) (0 + n) old)
+    ∙ sym (append_assoc front more (drop (0 + n + length more) old))
+    ∙ ap (λ k. (front ++ more) ++ drop k old) (omega (arith, length-append front more))
+
+module _ (s : DataStore) (d : ℕ) (there : d < length s.blocks) where
+  written_more : (front more : List ℕ) → with_bytes_written d (length front) more (with_bytes_written d 0 front s) ≡ with_bytes_written d 0 (front ++ more) s
+  written_more front more =
+      let b = data_block_at s d in
+      let first : DataBlock = record b { bytes = overwritten 0 front b.bytes } in
+      ap (λ (x : DataBlock). record s { blocks = set (set s.blocks d first) d (record x { bytes = overwritten (length front) more x.bytes }) }) (get_or-set_same s.blocks d first no_data_block there)
+      ∙ ap (λ bs. record s { blocks = bs }) (set-set s.blocks d first (record b { bytes = overwritten (length front) more (overwritten 0 front b.bytes) }))
+      ∙ ap (λ bytes. record s { blocks = set s.blocks d (record b { bytes = bytes }) }) (overwritten_more front more b.bytes)
+
+-- `done` of the `count` bytes, those of the blocks before k as far as they go, stand in the data block
+pub record IsFrontCopied (s : CountedStore) (m : List Block) (into count k done : ℕ) (t : CountedStore) : Type 0 where
+  pub few : done ≤ count
+  pub after : t ≡ with_front_copied into done m s
+  pub left : take (count - done) (drop done (bytes_of s.store m)) ≡ take (count - done) (bytes_of s.store (drop k m))
+
+module _ (s : CountedStore) (m : List Block) (into count k done : ℕ) (t : CountedStore) (copied : IsFrontCopied s m into count k done t) (enough : count ≤ length (bytes_of s.store m)) where
+  abbrev all : List ℕ
+  all = bytes_of s.store m
+
+  -- the next block, which does not name the data block
+  module _ (there : into < length s.store.blocks) (n : ℕ) (f : Fields) (at : slice_get m k ≡ Some (block_of n f)) (placed : IsPlaced s.store f) (other : f.data_number ≢ into) (len : ℕ) (len_is : len ≡ min f.len (count - done)) where
+    abbrev own : List ℕ
+    own = bytes_of_block s.store (block_of n f)
+
+    abbrev behind : List ℕ
+    behind = bytes_of s.store (drop (k + 1) m)
+
+    rest_is : bytes_of s.store (drop k m) ≡ own ++ behind
+    rest_is = ap (bytes_of s.store) (drop_from m k (block_of n f) at)
+
+    own_long : length own ≡ f.len
+    own_long = length-bytes_of_block s.store n f placed
+
+    left_is : take (count - done) (drop done all) ≡ take (count - done) (own ++ behind)
+    left_is = copied.left ∙ ap (take (count - done)) rest_is
+
+    -- the bytes that are copied are the next ones
+    abbrev more : List ℕ
+    more = take len (drop done all)
+
+    untouched : (data_block_at t.store f.data_number).bytes ≡ (data_block_at s.store f.data_number).bytes
+    untouched =
+        ap (λ (c : CountedStore). (data_block_at c.store f.data_number).bytes) copied.after
+        ∙ ap (λ (x : DataBlock). x.bytes) (get_or-set_other s.store.blocks into f.data_number _ no_data_block other)
+
+    more_is : take len (drop f.offset (data_block_at t.store f.data_number).bytes) ≡ more
+    more_is =
+        ap (λ bytes. take len (drop f.offset bytes)) untouched
+        ∙ sym (take-take len f.len (drop f.offset (data_block_at s.store f.data_number).bytes) (omega (arith, len_is)))
+        ∙ sym (take-append-le len own behind (omega (arith, own_long, len_is)))
+        ∙ sym (take-take len (count - done) (own ++ behind) (omega (arith, len_is)))
+        ∙ ap (take len) (sym left_is)
+        ∙ take-take len (count - done) (drop done all) (omega (arith, len_is))
+
+    next_after : (u : CountedStore) → u ≡ record t { store = with_bytes_copied f.data_number f.offset into done len t.store } → u ≡ with_front_copied into (done + len) m s
+    next_after u is =
+        let many : length (take done all) ≡ done = length-take-le done all (omega (arith, copied.few, enough)) in
+        is ∙ ap (λ bytes. record t { store = with_bytes_written into done bytes t.store }) more_is
+        ∙ ap (λ (c : CountedStore). record c { store = with_bytes_written into done more c.store }) copied.after
+        ∙ ap (λ j. record s { store = with_bytes_written into j more (with_bytes_written into 0 (take done all) s.store) }) (sym many)
+        ∙ ap (λ w. record s { store = w }) (written_more s.store into there (take done all) more)
+        ∙ ap (λ bytes. record s { store = with_bytes_written into 0 bytes s.store }) (sym (take-add done len all))
+
+    next_left : take (count - (done + len)) (drop (done + len) all) ≡ take (count - (done + len)) behind
+    next_left =
+        let r = count - (done + len) in
+        elim (cases_lt (count - done) f.len) [
+          | inl part ↦
+              let none : r ≡ 0 = omega (arith, len_is) in
+              (λ i. take (none i) (drop (done + len) all)) ∙ (λ i. take (sym none i) behind)
+          | inr whole ↦
+              let split : count - done ≡ len + r = omega (arith, len_is) in
+              ap (take r) (sym (drop-drop len done all)) ∙ sym (drop-take len r (drop done all))
+              ∙ ap (drop len) (ap (λ j. take j (drop done all)) (sym split) ∙ left_is ∙ ap (λ j. take j (own ++ behind)) split)
+              ∙ drop-take len r (own ++ behind)
+              ∙ ap (λ j. take r (drop j (own ++ behind))) (let e : len ≡ length own = omega (arith, len_is, own_long) in e)
+              ∙ ap (take r) (drop-append_seam own behind)
+        ]
+
+    pub next_copied : (u : CountedStore) → u ≡ record t { store = with_bytes_copied f.data_number f.offset into done len t.store } → IsFrontCopied s m into count (k + 1) (done + len) u
+    next_copied u is = record { few = omega (arith, len_is, copied.few); after = next_after u is; left = next_left }

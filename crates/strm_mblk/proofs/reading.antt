@@ -1,0 +1,3 @@
+-- Calls that read.
+pub mod Bytes
+pub mod Summing

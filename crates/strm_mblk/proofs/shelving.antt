@@ -1,0 +1,3 @@
+-- Messages on shelves.
+pub mod Shelving
+pub mod HeadSize

@@ -1,0 +1,4 @@
+-- `adjmsg`.
+pub mod Runs
+pub mod Cutting
+pub mod Adjmsg

@@ -1,0 +1,37 @@
+-- What a call on held messages leaves as it was: every shelf, and every message that it neither names nor gives.
+use Rattle.std.specs.Prelude.{◌≡◌, ℕ, Bool, false, List, [], ◌∷◌, Option, None, Some, Result, Ok, Err}
+use Rattle.std.specs.List.{All}
+use Rattle.strm_data.specs.declared.refusal.Refusal.{Refusal}
+use Rattle.strm_data.specs.DataStore.{DataStore, data_block_at}
+use Rattle.strm_links.specs.Rows as rows
+use Rattle.strm_mblk.specs.declared.rejected.Rejected.{Rejected}
+use Rattle.strm_mblk.specs.declared.token.TokenValue.{TokenValue}
+use Rattle.strm_mblk.specs.Arena.{Arena, held_at, message_at, shelved_blocks}
+use Rattle.strm_mblk.specs.Block.{Block}
+
+-- the data block that a block names is the same in both stores: its class, its type and its bytes
+abbrev pub IsSameData : DataStore → DataStore → Block → Type 0
+IsSameData s t b = data_block_at t b.data_number ≡ data_block_at s b.data_number
+
+-- All is as it was, save for the messages held at these heads: the id; each shelf with its messages and their blocks;
+-- what is held at every other head; and the type and the bytes of each data block that these messages name.
+pub record LeavesOthers (heads : List ℕ) (old new : Arena) : Type 0 where
+  pub id : new.id ≡ old.id
+  pub shelves : new.shelves ≡ old.shelves
+  pub shelved_data : All (IsSameData old.store new.store) (shelved_blocks old)
+  pub held : (h : ℕ) → rows.has h heads ≡ false → held_at new h ≡ held_at old h
+  pub held_data : (h : ℕ) → rows.has h heads ≡ false → All (IsSameData old.store new.store) (message_at old h)
+
+-- ---- the heads of the tokens that a call gives
+
+abbrev pub head_given : Option TokenValue → List ℕ
+head_given None = []
+head_given (Some t) = t.head ∷ []
+
+abbrev pub head_answered : Result TokenValue Refusal → List ℕ
+head_answered (Ok t) = t.head ∷ []
+head_answered (Err why) = []
+
+abbrev pub heads_parted : Result (TokenValue × Option TokenValue) Rejected → List ℕ
+heads_parted (Ok tokens) = tokens.0.head ∷ head_given tokens.1
+heads_parted (Err rejected) = []

@@ -1,0 +1,18 @@
+-- How many there may be of what this crate counts. Each number stands here once, and src/limits.rt has a constant of its name.
+use Rattle.std.specs.Prelude.{ℕ}
+
+-- the queues of one pool
+abbrev pub most_queues : ℕ
+most_queues = 16
+
+-- the registers of one desk, a to z: there are always so many
+abbrev pub most_registers : ℕ
+most_registers = 26
+
+-- the bufcall wishes that are recorded at one time
+abbrev pub most_wishes : ℕ
+most_wishes = 64
+
+-- the bytes that a call or a reply carries
+abbrev pub most_octets : ℕ
+most_octets = 64

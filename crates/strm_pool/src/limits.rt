@@ -1,0 +1,13 @@
+//! How many there may be of what this crate counts.
+
+/// The most queues of one pool.
+pub const MOST_QUEUES: usize = 16;
+
+/// The most registers, a to z. There are always so many.
+pub const MOST_REGISTERS: usize = 26;
+
+/// The most `bufcall` wishes that may be recorded at one time.
+pub const MOST_WISHES: u32 = 64;
+
+/// The most bytes that a call or a reply carries.
+pub const MOST_OCTETS: usize = 64;
