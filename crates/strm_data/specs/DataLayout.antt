@@ -56,7 +56,7 @@ counted classes regions blocks free = record {
 }
 
 abbrev pub counted_store : Inside → CountedStore
-counted_store a = counted a.classes.items (map (λ r. r.items) a.regions.items) a.blocks.items a.free.lists
+counted_store a = counted a.classes.items (bytes_of a.regions.items) a.blocks.items a.free.lists
 
 -- each class has a region with room for its data blocks, which have the numbers from its first one on
 pub record IsPlaced (classes : List Class) (regions : List (List ℕ)) (blocks : List DataBlock) : Type 0 where
@@ -68,5 +68,5 @@ pub record IsPlaced (classes : List Class) (regions : List (List ℕ)) (blocks :
 -- what stands in which list is in order, and the free lists link all data blocks
 pub record IsLaidOut (a : Inside) : Type 0 where
   pub kept : IsKept (counted_store a)
-  pub placed : IsPlaced a.classes.items (map (λ r. r.items) a.regions.items) a.blocks.items
+  pub placed : IsPlaced a.classes.items (bytes_of a.regions.items) a.blocks.items
   pub nodes : a.free.nodes ≡ length a.blocks.items

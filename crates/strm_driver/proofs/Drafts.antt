@@ -8,7 +8,7 @@ use Rattle.arrayvec.specs.ArrayVec.{ArrayVec}
 use Rattle.strm_pool.specs.declared.call.Call.{Call}
 use Rattle.strm_pool.specs.declared.call.Call.TheVariants as calls
 use Rattle.strm_data.specs.declared.class_spec.ClassSpec.{ClassSpec}
-use Rattle.strm_pool.specs.declared.queue_spec.QueueSpec.{QueueSpec}
+use Rattle.strm_queue.specs.declared.queue_spec.QueueSpec.{QueueSpec}
 use Rattle.strm_driver.specs.declared.draft.Draft.{Draft}
 use Rattle.strm_driver.specs.declared.line.Entry.{Entry}
 use Rattle.strm_driver.specs.declared.line.Entry.TheVariants.{Pool, Class, Queue, Bufcalls, Worker, Command}

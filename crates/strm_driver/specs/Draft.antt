@@ -3,7 +3,7 @@ use Rattle.std.specs.Prelude.{◌≡◌, ◌≢◌, ℕ, ◌<◌, true, List, []
 use Rattle.strm_pool.specs.declared.call.Call.{Call}
 use Rattle.strm_pool.specs.declared.call.Call.TheVariants as calls
 use Rattle.strm_data.specs.Limits.{most_classes}
-use Rattle.strm_pool.specs.Limits.{most_queues}
+use Rattle.strm_queue.specs.Limits.{most_queues}
 use Rattle.strm_driver.specs.declared.draft.Draft.{Draft}
 use Rattle.strm_driver.specs.declared.fault.Kind.{Kind}
 use Rattle.strm_driver.specs.declared.fault.ParseFault.{ParseFault}

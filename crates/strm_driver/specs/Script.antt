@@ -5,8 +5,8 @@ use Rattle.std.specs.Option.{option_map_or}
 use Rattle.strm_data.specs.declared.class_spec.ClassSpec.{ClassSpec}
 use Rattle.strm_data.specs.Limits.{most_classes}
 use Rattle.strm_pool.specs.declared.config.Config.{Config}
-use Rattle.strm_pool.specs.declared.queue_spec.QueueSpec.{QueueSpec}
-use Rattle.strm_pool.specs.Limits.{most_queues}
+use Rattle.strm_queue.specs.declared.queue_spec.QueueSpec.{QueueSpec}
+use Rattle.strm_queue.specs.Limits.{most_queues}
 use Rattle.strm_driver.specs.declared.fault.Fault.{Fault}
 use Rattle.strm_driver.specs.declared.fault.Kind.{Kind}
 use Rattle.strm_driver.specs.declared.fault.Kind.TheVariants.{Cut, Unknown, Order, Toomany, Missing}

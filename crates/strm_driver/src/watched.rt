@@ -1,5 +1,5 @@
 //! A reader or a writer that is watched for failures.
-ghost use Rattle.std.specs.Prelude.{◌≡◌, ◌||◌, false, is_err};
+ghost use Rattle.std.specs.Prelude.{◌≡◌, ◌||◌, ◌<◌, false, is_err, length};
 ghost use Rattle.std.specs.Io.{ReadsAtMost, WritesAtMost};
 ghost use Rattle.std.specs.Io.KnownBytes.{Keeps, ReadConsumes, WriteAppends};
 ghost use Rattle.strm_driver.specs.Watched.{took_none};
@@ -41,8 +41,9 @@ impl<R: Read> Watched<R> {
 }
 
 impl<W: Write> Watched<W> {
-    /// Writes once. A write that takes nothing has failed too.
+    /// Writes once, some bytes. A write that takes none of them has failed too.
     pub fn write(&mut self, buf: &[u8]) -> io::Result<usize>
+        requires { 0 < length buf.now }
         ensures bound { WritesAtMost result buf.now }
         ensures bytes { WriteAppends (W.contents self.old.inner) (W.contents self.new.inner) result buf.now }
         ensures failed { self.new.failed ≡ (self.old.failed || took_none result) }

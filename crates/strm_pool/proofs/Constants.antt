@@ -1,10 +1,7 @@
 -- The constants of the code are the numbers of the definitions.
 use Rattle.std.proofs.Common.{◌≡◌, refl}
-use Rattle.strm_pool.specs.declared.limits.TheConstants.{MOST_QUEUES, MOST_REGISTERS, MOST_WISHES, MOST_OCTETS}
-use Rattle.strm_pool.specs.Limits.{most_queues, most_registers, most_wishes, most_octets}
-
-pub queues : MOST_QUEUES ≡ most_queues
-queues = refl
+use Rattle.strm_pool.specs.declared.limits.TheConstants.{MOST_REGISTERS, MOST_WISHES, MOST_OCTETS}
+use Rattle.strm_pool.specs.Limits.{most_registers, most_wishes, most_octets}
 
 pub registers : MOST_REGISTERS ≡ most_registers
 registers = refl

@@ -9,7 +9,7 @@ use Rattle.strm_pool.specs.declared.pool.Pool.TheInside.{Inside}
 use Rattle.strm_mblk.specs.Block.{Message}
 use Rattle.strm_mblk.specs.Arena.{IsParted, shelf_at}
 use Rattle.strm_data.specs.DataStore.{DataStore, class_of}
-use Rattle.strm_pool.specs.Queue.{rank_of, is_ordered}
+use Rattle.strm_queue.specs.Rank.{rank_of, is_ordered}
 use Rattle.strm_pool.specs.PoolLayout.{message_of, arena_of, IsSound}
 use Rattle.strm_pool.proofs.Freemsg.{count_within}
 use Rattle.strm_pool.proofs.PoolMoves.{IsPlain, rank_is}

@@ -19,7 +19,8 @@ use Rattle.strm_mblk.specs.Arena.{Arena, has, is_of_length, held_at, shelf_at, t
 use Rattle.strm_mblk.specs.Messages.{blocks_of}
 use Rattle.strm_data.specs.CountedStore.{IsKept, count_of}
 use Rattle.strm_data.specs.DataStore.{DataStore, data_block_at}
-use Rattle.strm_pool.specs.Queue.{rank_of, as_queued, put_behind, put_on}
+use Rattle.strm_queue.specs.Rank.{rank_of, as_queued, put_behind}
+use Rattle.strm_pool.specs.Queue.{put_on}
 use Rattle.strm_pool.specs.PoolLayout.{message_of, arena_of, pool_value, IsSound}
 use Rattle.strm_mblk.specs.Given.{Given, value_after, answer_of}
 use Rattle.strm_pool.specs.PoolValue.{PoolValue, putq}

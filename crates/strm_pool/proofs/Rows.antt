@@ -4,7 +4,7 @@ use Rattle.std.specs.Prelude.{◌≡◌, ℕ, true, false, List, [], ◌∷◌, 
 use Rattle.std.specs.List.{range_with_len}
 use Rattle.std.proofs.Common.{refl}
 use Rattle.strm_data.specs.declared.class_spec.ClassSpec.{ClassSpec}
-use Rattle.strm_pool.specs.declared.queue_spec.QueueSpec.{QueueSpec}
+use Rattle.strm_queue.specs.declared.queue_spec.QueueSpec.{QueueSpec}
 use Rattle.strm_pool.specs.declared.config.Config.{Config}
 use Rattle.strm_pool.specs.declared.config.Which.TheVariants.{Mblks, Classes, ClassSize, ClassTotal, Queues, Marks, Next, Bufcalls, FirstId}
 use Rattle.strm_pool.specs.declared.call.Call.{Call}
@@ -27,7 +27,8 @@ use Rattle.strm_mblk.specs.Freeing.{with_blocks_freed}
 use Rattle.strm_data.specs.DataStore.{times}
 use Rattle.strm_mblk.specs.BlockCalls as blocks
 use Rattle.strm_mblk.specs.Freeing as freeing
-use Rattle.strm_pool.specs.Queue.{rank_of, is_ordered, as_queued, put_behind, has_queue}
+use Rattle.strm_queue.specs.Rank.{rank_of, is_ordered, as_queued, put_behind}
+use Rattle.strm_pool.specs.Queue.{has_queue}
 use Rattle.strm_mblk.specs.Given.{answer_of}
 use Rattle.strm_pool.specs.PoolValue.{PoolValue, opening, owns, spent, drained, rejecting}
 use Rattle.strm_pool.specs.PoolValue as pool

@@ -1,10 +1,9 @@
 -- When a configuration is lawful, and the first fault where it is not.
-use Rattle.std.specs.Prelude.{ℕ, Bool, true, false, not, ◌&&◌, ◌||◌, ◌==◌, nat_lt, nat_le, List, length, count_by, Option, Some, None, if◌then◌else◌, codes}
-use Rattle.std.specs.List.{list_all, list_any, enumerate_from}
+use Rattle.std.specs.Prelude.{ℕ, Bool, not, ◌&&◌, ◌||◌, ◌==◌, nat_lt, nat_le, List, length, Option, Some, None, if◌then◌else◌, codes}
 use Rattle.strm_data.specs.Classes.{sizes_rise, each_has_blocks, total_of}
 use Rattle.strm_data.specs.Limits.{most_data_blocks}
 use Rattle.strm_mblk.specs.Limits.{most_message_blocks}
-use Rattle.strm_pool.specs.declared.queue_spec.QueueSpec.{QueueSpec}
+use Rattle.strm_queue.specs.QueueSpecs.{marks_meet, nexts_fit}
 use Rattle.strm_pool.specs.declared.config.Config.{Config}
 use Rattle.strm_pool.specs.declared.config.Which.{Which}
 use Rattle.strm_pool.specs.declared.config.Which.TheVariants.{Mblks, Classes, ClassSize, ClassTotal, Queues, Marks, Next, Bufcalls, FirstId}
@@ -20,27 +19,6 @@ name_of Marks = codes "Marks"
 name_of Next = codes "Next"
 name_of Bufcalls = codes "Bufcalls"
 name_of FirstId = codes "FirstId"
-
--- some low water mark isn't below the high one
-abbrev pub marks_meet : List QueueSpec → Bool
-marks_meet qs = list_any (λ q. nat_le q.hiwat q.lowat) qs
-
--- whether this is the number
-abbrev pub is_number : ℕ → Option ℕ → Bool
-is_number n None = false
-is_number n (Some m) = m == n
-
--- how many queues name this one as their next
-abbrev pub times_next : List QueueSpec → ℕ → ℕ
-times_next qs n = count_by (λ q. is_number n q.next) qs
-
--- a next queue has a greater number than its queue, is there, and is named once
-abbrev pub next_fits : List QueueSpec → ℕ → Option ℕ → Bool
-next_fits qs q None = true
-next_fits qs q (Some n) = nat_lt q n && (nat_lt n (length qs) && nat_le (times_next qs n) 1)
-
-abbrev pub nexts_fit : List QueueSpec → Bool
-nexts_fit qs = list_all (λ p. next_fits qs p.0 p.1.next) (enumerate_from 0 qs)
 
 abbrev pub is_nil : {X : Type 0} → List X → Bool
 is_nil xs = length xs == 0

@@ -1,10 +1,6 @@
 -- How many there may be of what this crate counts. Each number stands here once, and src/limits.rt has a constant of its name.
 use Rattle.std.specs.Prelude.{ℕ}
 
--- the queues of one pool
-abbrev pub most_queues : ℕ
-most_queues = 16
-
 -- the registers of one desk, a to z: there are always so many
 abbrev pub most_registers : ℕ
 most_registers = 26

@@ -2,13 +2,14 @@
 ghost use Rattle.std.specs.Prelude.{◌≡◌, ◌≤◌, length};
 ghost use Rattle.strm_data.specs.Classes.{sizes_rise, each_has_blocks, total_of};
 ghost use Rattle.strm_data.specs.Limits.{most_classes};
-ghost use Rattle.strm_pool.specs.Config.{marks_meet, times_next, nexts_fit};
+ghost use Rattle.strm_queue.specs.QueueSpecs.{marks_meet, times_next, nexts_fit};
 
 use crate::class_spec::ClassSpecs;
 use crate::limits::MOST_WISHES;
-use crate::queue_spec::{QueueSpec, QueueSpecs};
+use crate::queue_specs::QueueSpecs;
 use strm_data::{ClassSpec, MOST_DATA_BLOCK_BYTES, MOST_DATA_BLOCKS};
 use strm_mblk::MOST_MESSAGE_BLOCKS;
+use strm_queue::QueueSpec;
 use thiserror::Error;
 
 /// What a pool is made with. The limits are this project's own choice.

@@ -10,7 +10,7 @@ mod octets;
 #[cfg(test)]
 mod plain;
 mod pool;
-mod queue_spec;
+mod queue_specs;
 mod regs;
 mod reply;
 #[cfg(test)]
@@ -20,12 +20,13 @@ mod token;
 pub use call::Call;
 pub use class_spec::ClassSpecs;
 pub use config::{Config, NewFault, Which};
-pub use limits::{MOST_OCTETS, MOST_QUEUES, MOST_REGISTERS, MOST_WISHES};
+pub use limits::{MOST_OCTETS, MOST_REGISTERS, MOST_WISHES};
 pub use octets::Octets;
 pub use pool::{Pool, Rejected};
-pub use queue_spec::{QueueSpec, QueueSpecs};
+pub use queue_specs::QueueSpecs;
 pub use regs::{Reg, Regs};
 pub use reply::Reply;
 pub use strm_data::{ClassInfo, ClassSpec, MsgType, Refusal};
 pub use strm_mblk::{Census, TokenValue};
+pub use strm_queue::{MOST_QUEUES, QueueSpec};
 pub use token::Token;

@@ -1,8 +1,5 @@
 //! How many there may be of what this crate counts.
 
-/// The most queues of one pool.
-pub const MOST_QUEUES: usize = 16;
-
 /// The most registers, a to z. There are always so many.
 pub const MOST_REGISTERS: usize = 26;
 

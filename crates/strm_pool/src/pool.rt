@@ -107,7 +107,8 @@ impl Pool {
     ghost use Rattle.strm_pool.specs.PoolValue.{Opens, owns, spent, drained, rejecting};
     ghost use Rattle.strm_mblk.specs.Arena.{has, held_at, is_of_length, opening_arena, shelf_at, token_of};
     ghost use Rattle.strm_data.specs.DataStore.{class_infos};
-    ghost use Rattle.strm_pool.specs.Queue.{has_queue, rank_of, is_ordered};
+    ghost use Rattle.strm_queue.specs.Rank.{rank_of, is_ordered};
+    ghost use Rattle.strm_pool.specs.Queue.{has_queue};
     ghost use Rattle.strm_pool.specs.PoolValue as model;
 
     /// The pool that a configuration opens: all blocks are free, and no queue has a message.

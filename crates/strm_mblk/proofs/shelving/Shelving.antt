@@ -90,7 +90,7 @@ placed_adds {n = n} adds head (Some at) m (x ∷ xs) =
     (omega (arith, adds.both x (flat_map (λ y. y) (put_before_head head (Some at) m xs)), adds.both x (flat_map (λ y. y) xs), placed_adds adds head (Some at) m xs))
 
 -- those with a head and those without it are all
-parted_adds : {n : List Block → ℕ} → IsAdditive n → (h : ℕ) (ms : List Message)
+pub parted_adds : {n : List Block → ℕ} → IsAdditive n → (h : ℕ) (ms : List Message)
     → n (flat_map (λ x. x) (without_head head_of h ms)) + n (flat_map (λ x. x) (filter (λ m. head_of m == h) ms)) ≡ n (flat_map (λ x. x) ms)
 parted_adds adds h [] = omega (arith, adds.none)
 parted_adds {n = n} adds h (x ∷ xs) = of_choice (head_of x == h) (parted_adds adds h xs)
@@ -101,7 +101,7 @@ parted_adds {n = n} adds h (x ∷ xs) = of_choice (head_of x == h) (parted_adds 
     of_choice false rest = omega (arith, rest, adds.both x (flat_map (λ y. y) xs), adds.both x (flat_map (λ y. y) (without_head head_of h xs)))
 
 -- where no block has a number, no message begins with it
-none_begins : (h : ℕ) (ms : List Message) → All (λ m. 0 < length m) ms → count_by (number_is h) (flat_map (λ x. x) ms) ≡ 0 → filter (λ m. head_of m == h) ms ≡ []
+pub none_begins : (h : ℕ) (ms : List Message) → All (λ m. 0 < length m) ms → count_by (number_is h) (flat_map (λ x. x) ms) ≡ 0 → filter (λ m. head_of m == h) ms ≡ []
 none_begins h [] some none = refl
 none_begins h (x ∷ xs) some none =
     elim (cases_eq (head_of x) h) [

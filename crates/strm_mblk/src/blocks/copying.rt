@@ -56,10 +56,10 @@ fn copies_fit(chains: &Chains, blocks: &[Fields], stored: &Data, head: u32, coun
     requires count { count ≤ length (nodes_at chains.now head) }
     requires listed { length blocks.now ≡ length chains.now.held }
     requires placed { (n : ℕ) → n < length blocks.now → IsPlaced stored.now.store (fields_at blocks.now n) }
+    requires kept { IsKept stored.now }
     ensures fit { result ≡ is_ok (model.copies (take count (message_of blocks.now (nodes_at chains.now head))) stored.now.store) }
     ensures refused { result ≡ false → model.copies (take count (message_of blocks.now (nodes_at chains.now head))) stored.now.store ≡ Err NoData }
 {
-    stored.accounts_for_blocks();
     let mut left = free_counts(stored);
     let mut at = Some(head);
     for _block in 0..count {

@@ -4,6 +4,7 @@ ghost use Rattle.std.specs.List.{list_any};
 ghost use Rattle.strm_mblk.specs.Block.{kind_of};
 ghost use Rattle.strm_mblk.specs.Arena.{shelf_at};
 ghost use Rattle.strm_data.specs.MsgType.{is_high_priority};
+ghost use Rattle.strm_queue.specs.Rank as ranks;
 ghost use Rattle.strm_pool.specs.Queue as model;
 
 use super::arena::{Arena, Given};
@@ -14,7 +15,7 @@ use std::alloc::{AllocError, Global};
 use strm_data::Refusal;
 
 pub(crate) fn rank_of(store: &DataStore, message: &[Block]) -> u32
-    ensures { result ≡ model.rank_of store.now message.now }
+    ensures { result ≡ ranks.rank_of store.now message.now }
 {
     match message {
         [] => 0,
@@ -29,7 +30,7 @@ pub(crate) fn rank_of(store: &DataStore, message: &[Block]) -> u32
 }
 
 fn as_queued(alloc: Global, store: &DataStore, message: &[Block]) -> Result<Message, AllocError>
-    ensures { IfOk result (λ queued. queued ≡ model.as_queued store.now message.now) }
+    ensures { IfOk result (λ queued. queued ≡ ranks.as_queued store.now message.now) }
 {
     match message {
         [] => Ok(List::empty(alloc)),
@@ -43,7 +44,7 @@ fn as_queued(alloc: Global, store: &DataStore, message: &[Block]) -> Result<Mess
 
 // Whether some message has this rank or a greater one.
 fn is_behind(store: &DataStore, rank: u32, messages: &[Message]) -> bool
-    ensures { result ≡ list_any (λ m. nat_le rank (model.rank_of store.now m)) messages.now }
+    ensures { result ≡ list_any (λ m. nat_le rank (ranks.rank_of store.now m)) messages.now }
 {
     messages
         .iter()
@@ -56,7 +57,7 @@ fn put_behind(
     message: Message,
     messages: &[Message],
 ) -> Result<List<Message>, AllocError>
-    ensures { IfOk result (λ queue. queue ≡ model.put_behind (model.rank_of store.now) message messages.now) }
+    ensures { IfOk result (λ queue. queue ≡ ranks.put_behind (ranks.rank_of store.now) message messages.now) }
 {
     match messages {
         [] => {
@@ -91,7 +92,7 @@ impl Arena {
         queue: u8,
         message: &[Block],
     ) -> Result<List<Message>, AllocError>
-        ensures { IfOk result (λ messages. messages ≡ model.put_behind (model.rank_of self.now.store) (model.as_queued self.now.store message.now) (shelf_at self.now queue)) }
+        ensures { IfOk result (λ messages. messages ≡ ranks.put_behind (ranks.rank_of self.now.store) (ranks.as_queued self.now.store message.now) (shelf_at self.now queue)) }
     {
         let queued = as_queued(alloc, self.store(), message)?;
         let messages = put_behind(alloc, self.store(), queued, self.shelf_at(queue))?;

@@ -1,6 +1,6 @@
 use Rattle.std.proofs.Common.{◌≡◌, drop}
 use Rattle.std.specs.List.{list_all, enumerate_from}
-use Rattle.strm_pool.specs.Config.{next_fits, nexts_fit}
+use Rattle.strm_queue.specs.QueueSpecs.{next_fits, nexts_fit}
 use Rattle.strm_pool.proofs.config.nexts_fit.Given as goal
 
 -- the queues that are left fit as all do

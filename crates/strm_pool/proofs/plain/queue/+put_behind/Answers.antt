@@ -3,7 +3,7 @@ use Rattle.std.specs.Prelude.{nat_le}
 use Rattle.std.specs.List.{list_any}
 use Rattle.strm_mblk.specs.Block.{Message}
 use Rattle.strm_mblk.proofs.arena.PlainSteps.{first_and_rest}
-use Rattle.strm_pool.specs.Queue.{rank_of, put_behind}
+use Rattle.strm_queue.specs.Rank.{rank_of, put_behind}
 use Rattle.strm_pool.proofs.plain.queue.+put_behind.Goals as goal
 
 -- a message that goes behind another leaves the first where it is

@@ -7,7 +7,7 @@ use Rattle.strm_data.specs.Limits.{most_classes}
 use Rattle.strm_mblk.specs.Arena.{IsParted, census_of, shelf_at}
 use Rattle.strm_pool.specs.PoolLayout.{arena_of}
 use Rattle.strm_pool.specs.PoolValue.{PoolValue}
-use Rattle.strm_pool.specs.Queue.{rank_of, is_ordered}
+use Rattle.strm_queue.specs.Rank.{rank_of, is_ordered}
 use Rattle.strm_pool.proofs.Laws.{law_parted, law_ordered}
 use Rattle.strm_mblk.proofs.arena.Moves.{makes_arena}
 use Rattle.strm_pool.proofs.PoolMoves.{counted_by}

@@ -1,24 +1,10 @@
 //! The queues of a pool.
 ghost use Rattle.std.specs.Prelude.{◌≡◌, ◌≤◌, length};
-ghost use Rattle.strm_pool.specs.Limits.{most_queues};
+ghost use Rattle.strm_queue.specs.Limits.{most_queues};
 
-use crate::limits::MOST_QUEUES;
 use arrayvec::ArrayVec;
 use std::marker::Model;
-
-/// One queue, as a pool is made with it.
-#[derive(Clone, Copy, Debug, Default, PartialEq, Eq)]
-pub struct QueueSpec {
-    /// The high water mark of each band, in bytes: a band with as many is full.
-    pub hiwat: u32,
-    /// The low water mark of each band, in bytes: a band that was found full back-enables once it has as many or
-    /// fewer.
-    pub lowat: u32,
-    /// Whether the queue has a service procedure.
-    pub service: bool,
-    /// The next queue's number, if there is one.
-    pub next: Option<u8>,
-}
+use strm_queue::{MOST_QUEUES, QueueSpec};
 
 /// At most `MOST_QUEUES` queues, numbered from 0.
 #[derive(Debug, Drop)]
@@ -28,7 +14,7 @@ pub struct QueueSpecs {
 
 impl Model for QueueSpecs {
     ghost use Rattle.std.specs.Prelude.{List};
-    ghost use Rattle.strm_pool.specs.declared.queue_spec.QueueSpec.{QueueSpec};
+    ghost use Rattle.strm_queue.specs.declared.queue_spec.QueueSpec.{QueueSpec};
 
     ghost Value = { List QueueSpec };
 

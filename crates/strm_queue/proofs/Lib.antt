@@ -1,0 +1,12 @@
+pub mod Constants
+pub mod Order
+pub mod OnShelf
+pub mod Across
+pub mod Ranks
+pub mod Walks
+pub mod Fits
+pub mod Shelve
+pub mod Agreeing
+pub mod Puts
+pub mod Gets
+pub mod Stored

@@ -1,0 +1,90 @@
+-- What the calls that put a message on a queue do, by the model.
+use Rattle.std.proofs.Common.{◌≡◌, ℕ, ◌+◌, ◌≤◌, true, false, List, length, take, drop, Option, Ok, Err, sym, ap, ◌∙◌, subst, arith, if◌then◌else◌}
+use Rattle.std.specs.Prelude.{nat_lt, slice_get}
+use Rattle.std.proofs.lemmas.Bool.{cond-true, cond-false, le-ltb, ltb-true, not_from_true}
+use Rattle.std.proofs.lemmas.List.{take-append-drop}
+use Rattle.strm_links.specs.Rows.{IsApart}
+use Rattle.strm_data.specs.declared.refusal.Refusal.TheVariants.{BadOrder}
+use Rattle.strm_mblk.specs.Arena.{Arena, IsParted, message_at, shelf_at, with_shelf, without_held}
+use Rattle.strm_mblk.specs.Block.{Message, head_of}
+use Rattle.strm_mblk.specs.Given.{value_after}
+use Rattle.strm_mblk.specs.Messages.{put_before_head}
+use Rattle.strm_mblk.specs.Shelves.{heads_at}
+use Rattle.strm_mblk.proofs.arena.Stands.{heads_apart}
+use Rattle.strm_queue.specs.QueueCalls.{insq, putbq, putq, with_put}
+use Rattle.strm_queue.specs.QueuedBlocks.{Agrees, QueuedBlocks, QueuesValue, tally_at, together, with_tally}
+use Rattle.strm_queue.specs.Rank.{as_queued, is_ordered, put_ahead, put_at, put_behind, rank_of}
+use Rattle.strm_queue.proofs.Agreeing.{agrees_put}
+use Rattle.strm_queue.proofs.OnShelf.{first_at, heads, placed-between}
+use Rattle.strm_queue.proofs.Order.{ordered_put_ahead, ordered_put_behind}
+
+module _ (v : QueuesValue) (a : Arena) (agrees : Agrees v a) (q h : ℕ) (there : nat_lt q (length v.state.specs) ≡ true) where
+  -- the message, as it stands on a queue
+  abbrev m : Message
+  m = as_queued a.store (message_at a h)
+
+  abbrev both : QueuedBlocks
+  both = together v a
+
+  -- the message was put there
+  pub record IsPut (before : Option ℕ) (w : QueuesValue) (b : Arena) : Type 0 where
+    pub len : ℕ
+    pub len_is : len ≡ (tally_at v q).len + 1
+    pub queues : w ≡ with_tally q (record { len = len }) v
+    pub arena : b ≡ with_shelf q (put_before_head head_of before m (shelf_at a q)) (without_held h a)
+
+  module _ (before : Option ℕ) (w : QueuesValue) (b : Arena) (put : IsPut before w b) where
+    put_together : (ms : List Message) → put_before_head head_of before m (shelf_at a q) ≡ ms → together w b ≡ with_put q h ms both
+    put_together ms is =
+        let state_is = ap (λ (x : QueuesValue). x.state) put.queues in
+        let arena_is = put.arena ∙ ap (λ xs. with_shelf q xs (without_held h a)) is in
+        λ i. record { queues = state_is i; arena = arena_is i }
+
+    put_agrees : is_ordered (rank_of a.store) (put_before_head head_of before m (shelf_at a q)) ≡ true → Agrees w b
+    put_agrees ordered =
+        subst (λ x. Agrees x b) (sym put.queues)
+        (agrees_put v a agrees q (ltb-true _ _ there) b (ap (λ (x : Arena). x.store) put.arena) put.len before m (ap (λ (x : Arena). x.shelves) put.arena) ordered put.len_is)
+
+    -- behind its equals
+    module _ (is : put_before_head head_of before m (shelf_at a q) ≡ put_behind (rank_of a.store) m (shelf_at a q)) where
+      pub putq_after : together w b ≡ value_after both (putq q h both)
+      putq_after = put_together (put_behind (rank_of a.store) m (shelf_at a q)) is ∙ sym (ap (value_after both) (cond-true _ _ _ there))
+
+      pub putq_agrees : Agrees w b
+      putq_agrees = put_agrees (ap (is_ordered (rank_of a.store)) is ∙ ordered_put_behind (rank_of a.store) m (shelf_at a q) (agrees.ordered q))
+
+    -- before its equals
+    module _ (is : put_before_head head_of before m (shelf_at a q) ≡ put_ahead (rank_of a.store) m (shelf_at a q)) where
+      pub putbq_after : together w b ≡ value_after both (putbq q h both)
+      putbq_after = put_together (put_ahead (rank_of a.store) m (shelf_at a q)) is ∙ sym (ap (value_after both) (cond-true _ _ _ there))
+
+      pub putbq_agrees : Agrees w b
+      putbq_agrees = put_agrees (ap (is_ordered (rank_of a.store)) is ∙ ordered_put_ahead (rank_of a.store) m (shelf_at a q) (agrees.ordered q))
+
+  -- ---- at a place
+
+  module _ (k : ℕ) (few : k ≤ (tally_at v q).len) (parted : IsParted a) (before : Option ℕ) (at : before ≡ slice_get (heads_at a q) k) where
+    placed_at : put_before_head head_of before m (shelf_at a q) ≡ put_at k m (shelf_at a q)
+    placed_at =
+        let ms = shelf_at a q in
+        let whole = take-append-drop k ms in
+        (λ i. put_before_head head_of ((at ∙ sym (first_at ms k)) i) m (sym whole i))
+        ∙ placed-between m (take k ms) (drop k ms) (subst (λ xs. IsApart (heads xs)) (sym whole) (heads_apart a parted q))
+
+    -- there is a place, so the order decides
+    insq_there : insq q k h both ≡ (if is_ordered (rank_of a.store) (put_at k m (shelf_at a q)) then Ok (tt, with_put q h (put_at k m (shelf_at a q)) both) else Err BadOrder)
+    insq_there =
+        cond-false _ _ _ (not_from_true _ there) ∙ cond-false _ _ _ (le-ltb (length (shelf_at a q)) k (omega (arith, few, (agrees.true_of q).len)))
+
+    pub insq_refused : is_ordered (rank_of a.store) (put_before_head head_of before m (shelf_at a q)) ≡ false → insq q k h both ≡ Err BadOrder
+    insq_refused not = insq_there ∙ cond-false _ _ _ (sym (ap (is_ordered (rank_of a.store)) placed_at) ∙ not)
+
+    module _ (ordered : is_ordered (rank_of a.store) (put_before_head head_of before m (shelf_at a q)) ≡ true) where
+      pub insq_given : insq q k h both ≡ Ok (tt, with_put q h (put_at k m (shelf_at a q)) both)
+      insq_given = insq_there ∙ cond-true _ _ _ (sym (ap (is_ordered (rank_of a.store)) placed_at) ∙ ordered)
+
+      pub insq_after : (w : QueuesValue) (b : Arena) → IsPut before w b → together w b ≡ value_after both (insq q k h both)
+      insq_after w b put = put_together before w b put (put_at k m (shelf_at a q)) placed_at ∙ sym (ap (value_after both) insq_given)
+
+      pub insq_agrees : (w : QueuesValue) (b : Arena) → IsPut before w b → Agrees w b
+      insq_agrees w b put = put_agrees before w b put ordered

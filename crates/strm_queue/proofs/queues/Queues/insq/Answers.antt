@@ -1,0 +1,61 @@
+use Rattle.std.proofs.Common.{◌≡◌, ◌+◌, true, length, ap, sym, ◌∙◌, arith}
+use Rattle.std.specs.Prelude.{nat_lt}
+use Rattle.strm_mblk.specs.Arena.{message_at, shelf_at}
+use Rattle.strm_mblk.specs.Block.{head_of}
+use Rattle.strm_mblk.specs.Given.{value_after, answer_of, or_rejected}
+use Rattle.strm_mblk.specs.Messages.{put_before_head}
+use Rattle.strm_queue.specs.QueuedBlocks.{together}
+use Rattle.strm_queue.specs.Rank.{as_queued, is_ordered, rank_of}
+use Rattle.strm_queue.proofs.Puts.{IsPut, insq_after, insq_agrees, insq_given, insq_refused}
+use Rattle.strm_queue.proofs.Ranks.{rank_of-queued}
+use Rattle.strm_queue.proofs.queues.Queues.insq.Goals as goal
+use Rattle.strm_queue.proofs.queues.Queues.insq.Goals.{After-fits_before, After-set_len}
+
+-- there is such a queue
+abbrev there : (c : After-fits_before) → nat_lt c.args.queue (length c.args.self.now.state.specs) ≡ true
+there c = sym c.has_queue.ensures ∙ c.if-not-has_queue.false
+
+-- whether the order is kept
+fits : (c : After-fits_before) → c.fits_before.result
+    ≡ is_ordered (rank_of c.args.blocks.now.store) (put_before_head head_of c.head_at-before.result (as_queued c.args.blocks.now.store (message_at c.args.blocks.now c.args.token.head)) (shelf_at c.args.blocks.now c.args.queue))
+fits c =
+    c.fits_before.ensures (as_queued c.args.blocks.now.store (message_at c.args.blocks.now c.args.token.head))
+    (rank_of-queued c.args.blocks.now.store (message_at c.args.blocks.now c.args.token.head) ∙ sym c.held_rank.ensures.value)
+
+pub returns-then-not-fits_before-clause-after : goal.returns-then-not-fits_before-clause-after
+returns-then-not-fits_before-clause-after c =
+    let here = (goal.at.returns-then-not-fits_before-clause-after c).After-fits_before in
+    sym (ap (value_after (together c.args.self.now c.args.blocks.now))
+    (insq_refused c.args.self.now c.args.blocks.now c.requires.agrees c.args.queue c.args.token.head (there here) c.args.place (omega (arith, c.len-len.ensures, c.if-place-len.false)) c.lawful.ensures.parted c.head_at-before.result
+    c.head_at-before.ensures.value (sym (fits here) ∙ c.if-not-fits_before.true)))
+
+pub returns-then-not-fits_before-clause-answer : goal.returns-then-not-fits_before-clause-answer
+returns-then-not-fits_before-clause-answer c =
+    let here = (goal.at.returns-then-not-fits_before-clause-answer c).After-fits_before in
+    sym (ap (λ g. or_rejected c.args.token (answer_of g))
+    (insq_refused c.args.self.now c.args.blocks.now c.requires.agrees c.args.queue c.args.token.head (there here) c.args.place (omega (arith, c.len-len.ensures, c.if-place-len.false)) c.lawful.ensures.parted c.head_at-before.result
+    c.head_at-before.ensures.value (sym (fits here) ∙ c.if-not-fits_before.true)))
+
+put : (c : After-set_len) → IsPut c.args.self.now c.args.blocks.now c.requires.agrees c.args.queue c.args.token.head (sym c.has_queue.ensures ∙ c.if-not-has_queue.false) c.head_at-before.result c.set_len.new.self c.shelve.new.blocks
+put c = record { len = c.len-len.result + 1; len_is = omega (arith, c.len-len.ensures); queues = c.set_len.ensures; arena = c.shelve.ensures.after }
+
+pub returns-clause-after : goal.returns-clause-after
+returns-clause-after c =
+    let end = (goal.at.returns-clause-after c).After-set_len in
+    let here = (goal.at.returns-clause-after c).After-fits_before in
+    insq_after c.args.self.now c.args.blocks.now c.requires.agrees c.args.queue c.args.token.head (there here) c.args.place (omega (arith, c.len-len.ensures, c.if-place-len.false)) c.lawful.ensures.parted c.head_at-before.result
+    c.head_at-before.ensures.value (sym (fits here) ∙ c.if-not-fits_before.false) c.set_len.new.self c.shelve.new.blocks (put end)
+
+pub returns-clause-answer : goal.returns-clause-answer
+returns-clause-answer c =
+    let here = (goal.at.returns-clause-answer c).After-fits_before in
+    sym (ap (λ g. or_rejected c.args.token (answer_of g))
+    (insq_given c.args.self.now c.args.blocks.now c.requires.agrees c.args.queue c.args.token.head (there here) c.args.place (omega (arith, c.len-len.ensures, c.if-place-len.false)) c.lawful.ensures.parted c.head_at-before.result
+    c.head_at-before.ensures.value (sym (fits here) ∙ c.if-not-fits_before.false)))
+
+pub returns-clause-agrees : goal.returns-clause-agrees
+returns-clause-agrees c =
+    let end = (goal.at.returns-clause-agrees c).After-set_len in
+    let here = (goal.at.returns-clause-agrees c).After-fits_before in
+    insq_agrees c.args.self.now c.args.blocks.now c.requires.agrees c.args.queue c.args.token.head (there here) c.args.place (omega (arith, c.len-len.ensures, c.if-place-len.false)) c.lawful.ensures.parted c.head_at-before.result
+    c.head_at-before.ensures.value (sym (fits here) ∙ c.if-not-fits_before.false) c.set_len.new.self c.shelve.new.blocks (put end)

@@ -1,0 +1,6 @@
+pub mod Limits
+pub mod QueueSpecs
+pub mod Rank
+pub mod QueuedBlocks
+pub mod QueueCalls
+pub mod QueuesLayout

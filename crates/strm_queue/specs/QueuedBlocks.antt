@@ -1,0 +1,59 @@
+-- Queues over message blocks: what each of the two is, and when they agree.
+use Rattle.std.specs.Prelude.{◌≡◌, ℕ, List, length, map, slice_index_or, slice_set, IsTrue}
+use Rattle.strm_queue.specs.declared.queue_spec.QueueSpec.{QueueSpec}
+use Rattle.strm_mblk.specs.Arena.{Arena, shelf_at}
+use Rattle.strm_mblk.specs.Block.{Message}
+use Rattle.strm_queue.specs.Rank.{is_ordered, rank_of}
+
+-- what is true of queues beside their messages: what they were made with
+pub record QueueState : Type 0 where
+  pub specs : List QueueSpec
+
+-- queues, and the message blocks whose messages stand on them: shelf q has those of queue q, front to back
+pub record QueuedBlocks : Type 0 where
+  pub queues : QueueState
+  pub arena : Arena
+
+-- ---- what `Queues` holds
+
+-- what is stored of a queue's messages: how many there are
+pub record Tally : Type 0 where
+  pub len : ℕ
+
+-- the state of the queues, and what is stored of the messages on each
+pub record QueuesValue : Type 0 where
+  pub state : QueueState
+  pub tallies : List Tally
+
+abbrev pub no_tally : Tally
+no_tally = record { len = 0 }
+
+abbrev pub tally_at : QueuesValue → ℕ → Tally
+tally_at v q = slice_index_or v.tallies q no_tally
+
+-- this is stored of the messages on queue q
+abbrev pub with_tally : ℕ → Tally → QueuesValue → QueuesValue
+with_tally q t v = record v { tallies = slice_set v.tallies q t }
+
+-- what is stored is true of these messages
+pub record IsTallyOf (ms : List Message) (t : Tally) : Type 0 where
+  pub len : t.len ≡ length ms
+
+-- `Queues` and message blocks belong together: there is a shelf for each queue, each is in priority order, and
+-- what is stored of it is true
+pub record Agrees (v : QueuesValue) (a : Arena) : Type 0 where
+  pub shelves : length a.shelves ≡ length v.state.specs
+  pub stored : length v.tallies ≡ length v.state.specs
+  pub ordered : (q : ℕ) → IsTrue (is_ordered (rank_of a.store) (shelf_at a q))
+  pub true_of : (q : ℕ) → IsTallyOf (shelf_at a q) (tally_at v q)
+
+-- new queues: nothing stands on them
+abbrev pub opening_queues : List QueueSpec → QueueState
+opening_queues specs = record { specs = specs }
+
+abbrev pub opening_value : List QueueSpec → QueuesValue
+opening_value specs = record { state = opening_queues specs; tallies = map (λ q. no_tally) specs }
+
+-- the queues and message blocks together, as the model sees them
+abbrev pub together : QueuesValue → Arena → QueuedBlocks
+together v a = record { queues = v.state; arena = a }

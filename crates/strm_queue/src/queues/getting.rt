@@ -1,0 +1,65 @@
+//! Messages are taken off queues.
+ghost use Rattle.std.specs.Prelude.{◌≡◌, IfOk, IfSome, IsTrue, None, option_map};
+ghost use Rattle.strm_mblk.specs.Arena.{has, held_at, token_of};
+ghost use Rattle.strm_mblk.specs.Given.{value_after, answer_map, answer_of};
+ghost use Rattle.strm_queue.specs.QueueCalls as model;
+ghost use Rattle.strm_queue.specs.QueuedBlocks.{Agrees, together};
+
+use super::Queues;
+use super::places::head_at;
+use strm_data::Refusal;
+use strm_mblk::{Blocks, Token};
+
+impl Queues {
+    /// Takes the first message off a queue, or nothing where the queue is empty. Takes constant time.
+    ///
+    /// Refused as `NoSuchQueue` where there is no such queue; nothing changes then.
+    pub fn getq(&mut self, blocks: &mut Blocks, queue: u8) -> Result<Option<Token>, Refusal>
+        requires { Agrees self.old blocks.old }
+        ensures after { together self.new blocks.new ≡ value_after (together self.old blocks.old) (model.getq queue (together self.old blocks.old)) }
+        ensures token { result ≡ answer_map (option_map (token_of blocks.new)) (answer_of (model.getq queue (together self.old blocks.old))) }
+        // The token is of these blocks, and no held message had its head.
+        ensures had { IfOk result (λ given. IfSome given (λ token. IsTrue (has blocks.new token))) }
+        ensures unheld { IfOk result (λ given. IfSome given (λ token. held_at blocks.old token.head ≡ None)) }
+        ensures agrees { Agrees self.new blocks.new }
+    {
+        blocks.lawful();
+        if !self.has_queue(queue) {
+            return Err(Refusal::NoSuchQueue);
+        }
+        let Some(head) = blocks.first(queue) else {
+            return Ok(None);
+        };
+        let token = blocks.unshelve(queue, head);
+        self.set_len(queue, self.len(queue) - 1);
+        Ok(Some(token))
+    }
+
+    /// Takes the message at `place`, counted from 0, off a queue. Takes `place` steps.
+    ///
+    /// Refused as `NoSuchQueue` where there is no such queue, then as `NoSuchPlace` where it has no such message; nothing
+    /// changes then.
+    pub fn rmvq(&mut self, blocks: &mut Blocks, queue: u8, place: u32) -> Result<Token, Refusal>
+        requires { Agrees self.old blocks.old }
+        ensures after { together self.new blocks.new ≡ value_after (together self.old blocks.old) (model.rmvq queue place (together self.old blocks.old)) }
+        ensures token { result ≡ answer_map (token_of blocks.new) (answer_of (model.rmvq queue place (together self.old blocks.old))) }
+        // The token is of these blocks, and no held message had its head.
+        ensures had { IfOk result (λ token. IsTrue (has blocks.new token)) }
+        ensures unheld { IfOk result (λ token. held_at blocks.old token.head ≡ None) }
+        ensures agrees { Agrees self.new blocks.new }
+    {
+        blocks.lawful();
+        if !self.has_queue(queue) {
+            return Err(Refusal::NoSuchQueue);
+        }
+        if place >= self.len(queue) {
+            return Err(Refusal::NoSuchPlace);
+        }
+        let Some(head) = head_at(blocks, queue, place) else {
+            return Err(Refusal::NoSuchPlace);
+        };
+        let token = blocks.unshelve(queue, head);
+        self.set_len(queue, self.len(queue) - 1);
+        Ok(token)
+    }
+}

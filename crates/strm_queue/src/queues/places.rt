@@ -1,0 +1,156 @@
+//! The rank of a message, and the place on a queue where it belongs.
+ghost use Rattle.std.specs.Prelude.{◌≡◌, ◌<◌, ℕ, true, List, ◌∷◌, ◌++◌, None, Some, IsSome, IsTrue, length, map, nat_le, slice_get, if◌then◌else◌};
+ghost use Rattle.std.specs.Option.{ForSome};
+ghost use Rattle.strm_data.specs.MsgType.{is_high_priority};
+ghost use Rattle.strm_links.specs.Rows as rows;
+ghost use Rattle.strm_mblk.specs.Arena.{has, message_at, shelf_at};
+ghost use Rattle.strm_mblk.specs.Block.{Message, head_of};
+ghost use Rattle.strm_mblk.specs.BlockCalls.{banded};
+ghost use Rattle.strm_mblk.specs.Messages.{put_before_head};
+ghost use Rattle.strm_mblk.specs.Shelves.{heads_at, shelf_of, stands_on};
+ghost use Rattle.strm_queue.specs.Rank.{as_queued, is_ordered, put_ahead, put_behind, rank_of};
+
+use strm_data::MsgType;
+use strm_mblk::{BlockNo, Blocks, Token};
+
+// The rank of a message whose first block is of this type and band.
+fn rank(kind: MsgType, band: u8) -> u16
+    ensures value { result ≡ (if is_high_priority kind then 256 else band) }
+    ensures high { result ≡ 256 → IsTrue (is_high_priority kind) }
+{
+    if kind.is_high_priority() {
+        256
+    } else {
+        u16::from(band)
+    }
+}
+
+// The rank of a held message. A rank of 256 means that the message has high priority.
+pub(super) fn held_rank(blocks: &Blocks, token: &Token) -> u16
+    requires { IsTrue (has blocks.now token.now) }
+    ensures value { result ≡ rank_of blocks.now.store (message_at blocks.now token.now.head) }
+    ensures high { let m = message_at blocks.now token.now.head in result ≡ 256 → as_queued blocks.now.store m ≡ banded 0 m }
+{
+    match blocks.block(token, 0) {
+        Ok(first) => rank(first.kind, first.band),
+        Err(_) => 0,
+    }
+}
+
+// The rank of a message on a queue.
+fn queued_rank(blocks: &Blocks, head: BlockNo) -> u16
+    requires { IsSome (shelf_of blocks.now head) }
+    ensures { (queue : ℕ) (pre post : List Message) (m : Message) → shelf_at blocks.now queue ≡ pre ++ m ∷ post → head_of m ≡ head
+        → result ≡ rank_of blocks.now.store m }
+{
+    blocks.lawful();
+    rank(blocks.head_kind(head), blocks.head_band(head))
+}
+
+// The head of the message before which one of this rank stands behind its equals, or none where it is last. Walks from
+// the back, over the messages of lower rank and one more.
+pub(super) fn place_behind(blocks: &Blocks, queue: u8, len: u32, rank: u16) -> Option<BlockNo>
+    requires queue { queue < length blocks.now.shelves }
+    requires len { len ≡ length (shelf_at blocks.now queue) }
+    ensures there { ForSome result (λ head. IsTrue (stands_on blocks.now queue head)) }
+    ensures place { (m : Message) → rank_of blocks.now.store m ≡ rank
+        → put_before_head head_of result m (shelf_at blocks.now queue) ≡ put_behind (rank_of blocks.now.store) m (shelf_at blocks.now queue) }
+{
+    blocks.lawful();
+    let mut before = None;
+    let mut at = blocks.last(queue);
+    for _message in 0..len {
+        let Some(head) = at else {
+            return before;
+        };
+        if queued_rank(blocks, head) >= rank {
+            return before;
+        }
+        before = at;
+        at = blocks.before(head);
+    }
+    before
+}
+
+// The head of the message before which one of this rank stands before its equals, or none where it is last. Walks from
+// the front, over the messages of greater rank and one more.
+pub(super) fn place_ahead(blocks: &Blocks, queue: u8, len: u32, rank: u16) -> Option<BlockNo>
+    requires queue { queue < length blocks.now.shelves }
+    requires len { len ≡ length (shelf_at blocks.now queue) }
+    ensures there { ForSome result (λ head. IsTrue (stands_on blocks.now queue head)) }
+    ensures place { (m : Message) → rank_of blocks.now.store m ≡ rank
+        → put_before_head head_of result m (shelf_at blocks.now queue) ≡ put_ahead (rank_of blocks.now.store) m (shelf_at blocks.now queue) }
+{
+    blocks.lawful();
+    let mut at = blocks.first(queue);
+    for _message in 0..len {
+        let Some(head) = at else {
+            return None;
+        };
+        if queued_rank(blocks, head) <= rank {
+            return at;
+        }
+        at = blocks.after(head);
+    }
+    at
+}
+
+// The head of the message at a place, counted from 0, if there is one. Takes as many steps.
+pub(super) fn head_at(blocks: &Blocks, queue: u8, place: u32) -> Option<BlockNo>
+    requires { queue < length blocks.now.shelves }
+    ensures value { result ≡ slice_get (heads_at blocks.now queue) place }
+    ensures there { ForSome result (λ head. IsTrue (stands_on blocks.now queue head)) }
+{
+    blocks.lawful();
+    let mut at = blocks.first(queue);
+    for _message in 0..place {
+        at = blocks.after(at?);
+    }
+    at
+}
+
+// Whether the message with this head, if there is one, has at most this rank.
+fn is_at_most(blocks: &Blocks, at: Option<BlockNo>, rank: u16) -> bool
+    requires { ForSome at (λ head. IsSome (shelf_of blocks.now head)) }
+    ensures none { at ≡ None → result ≡ true }
+    ensures some { (queue : ℕ) (pre post : List Message) (m : Message) → shelf_at blocks.now queue ≡ pre ++ m ∷ post → at ≡ Some (head_of m)
+        → result ≡ nat_le (rank_of blocks.now.store m) rank }
+{
+    match at {
+        Some(head) => queued_rank(blocks, head) <= rank,
+        None => true,
+    }
+}
+
+// The head of the last message ahead of a place: before the message with this head, or of all where none is given.
+fn ahead_of(blocks: &Blocks, queue: u8, before: Option<BlockNo>) -> Option<BlockNo>
+    requires queue { queue < length blocks.now.shelves }
+    requires before { ForSome before (λ head. IsTrue (stands_on blocks.now queue head)) }
+    ensures { (pre post : List Message) → shelf_at blocks.now queue ≡ pre ++ post → before ≡ rows.first (map head_of post)
+        → result ≡ rows.last (map head_of pre) }
+{
+    blocks.lawful();
+    match before {
+        Some(head) => blocks.before(head),
+        None => blocks.last(queue),
+    }
+}
+
+// Whether ranks do not rise once a message of this rank stands before the one with this head, or last where none is
+// given.
+pub(super) fn fits_before(blocks: &Blocks, queue: u8, before: Option<BlockNo>, rank: u16) -> bool
+    requires queue { queue < length blocks.now.shelves }
+    requires before { ForSome before (λ head. IsTrue (stands_on blocks.now queue head)) }
+    requires ordered { IsTrue (is_ordered (rank_of blocks.now.store) (shelf_at blocks.now queue)) }
+    ensures { (m : Message) → rank_of blocks.now.store m ≡ rank
+        → result ≡ is_ordered (rank_of blocks.now.store) (put_before_head head_of before m (shelf_at blocks.now queue)) }
+{
+    blocks.lawful();
+    if !is_at_most(blocks, before, rank) {
+        return false;
+    }
+    match ahead_of(blocks, queue, before) {
+        Some(head) => queued_rank(blocks, head) >= rank,
+        None => true,
+    }
+}
