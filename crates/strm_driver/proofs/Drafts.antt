@@ -6,7 +6,6 @@ use Rattle.std.proofs.lemmas.List.Elements.{filter_map-append}
 use Rattle.std.specs.Global.{Vec}
 use Rattle.arrayvec.specs.ArrayVec.{ArrayVec}
 use Rattle.strm_pool.specs.declared.call.Call.{Call}
-use Rattle.strm_pool.specs.declared.call.Call.TheVariants as calls
 use Rattle.strm_data.specs.declared.class_spec.ClassSpec.{ClassSpec}
 use Rattle.strm_queue.specs.declared.queue_spec.QueueSpec.{QueueSpec}
 use Rattle.strm_driver.specs.declared.draft.Draft.{Draft}
@@ -15,9 +14,10 @@ use Rattle.strm_driver.specs.declared.line.Entry.TheVariants.{Pool, Class, Queue
 use Rattle.strm_driver.specs.declared.line.Line.{Line}
 use Rattle.strm_driver.specs.declared.script.Stage.{Stage}
 use Rattle.strm_driver.specs.declared.script.Stage.TheVariants as stages
+use Rattle.strm_driver.specs.declared.verb.Verb.{Verb}
 use Rattle.strm_driver.specs.declared.word.Word.{Word}
 use Rattle.strm_driver.specs.declared.word.Word.TheVariants as words
-use Rattle.strm_driver.specs.Draft.{StandsFor, Takes, pool_at, wishes_at, parts_at, early_at, word_of_call}
+use Rattle.strm_driver.specs.Draft.{StandsFor, Takes, pool_at, wishes_at, parts_at, early_at}
 use Rattle.strm_driver.specs.Script.{Numbered, said, pool_line, class_line, queue_line, bufcalls_line, parts_of, lines_of_section, with_command, with_section, stage_of, stage_behind, may_stand}
 
 -- ---- one entry more
@@ -134,31 +134,13 @@ at_bufcalls stages.Bufcalls stands before = refl
 at_bufcalls stages.Body stands before = absurd (before refl)
 at_bufcalls _ stands before = cc
 
-abbrev is_command : Word → Bool
-is_command words.Allocb = true
-is_command words.Write = true
-is_command words.Putq = true
-is_command words.Getq = true
-is_command words.Freemsg = true
-is_command words.Census = true
-is_command _ = false
-
-in_body : (s : Stage) (w : Word) → is_command w ≡ true → may_stand s w ≡ true → s ≡ stages.Body
-in_body stages.Body w command stands = refl
-in_body s words.Pool command stands = cc
-in_body s w command stands = cc
-
-is_command-call : (call : Call) → is_command (word_of_call call) ≡ true
-is_command-call (calls.Allocb reg size) = refl
-is_command-call (calls.Write reg place bytes) = refl
-is_command-call (calls.Putq queue reg) = refl
-is_command-call (calls.Getq queue reg) = refl
-is_command-call (calls.Freemsg reg) = refl
-is_command-call calls.Census = refl
+in_body : (s : Stage) (verb : Verb) → may_stand s (words.Command verb) ≡ true → s ≡ stages.Body
+in_body stages.Body verb stands = refl
+in_body _ verb stands = cc
 
 -- ---- a line of each kind
 
-pub put_pool : (d : Draft) (es : List Numbered) (n id mblks : ℕ) → Takes d words.Pool → StandsFor d es → StandsFor (record d { stage = stages.Pool; id = id; mblks = mblks }) (es ++ record { number = n; entry = Pool id mblks } ∷ [])
+pub put_pool : (d : Draft) (es : List Numbered) (n id mblks : ℕ) → Takes d (Pool id mblks) → StandsFor d es → StandsFor (record d { stage = stages.Pool; id = id; mblks = mblks }) (es ++ record { number = n; entry = Pool id mblks } ∷ [])
 put_pool d es n id mblks takes so =
     let e : Numbered = record { number = n; entry = Pool id mblks } in
     let at = at_start d.stage takes.stands in
@@ -172,7 +154,7 @@ put_pool d es n id mblks takes so =
       idle = sym (ap (λ s. early_at s d.lines.items) at) ∙ so.idle;
     }
 
-pub put_class : (d : Draft) (es : List Numbered) (n : ℕ) (spec : ClassSpec) (classes : ArrayVec ClassSpec) → classes.items ≡ d.classes.items ++ spec ∷ [] → Takes d words.Class → StandsFor d es → StandsFor (record d { stage = stages.Class; classes = classes }) (es ++ record { number = n; entry = Class spec } ∷ [])
+pub put_class : (d : Draft) (es : List Numbered) (n : ℕ) (spec : ClassSpec) (classes : ArrayVec ClassSpec) → classes.items ≡ d.classes.items ++ spec ∷ [] → Takes d (Class spec) → StandsFor d es → StandsFor (record d { stage = stages.Class; classes = classes }) (es ++ record { number = n; entry = Class spec } ∷ [])
 put_class d es n spec classes pushed takes so =
     let e : Numbered = record { number = n; entry = Class spec } in
     let m = middle d.stage words.Class refl takes.stands in
@@ -186,7 +168,7 @@ put_class d es n spec classes pushed takes so =
       idle = sym (m.early d.lines.items) ∙ so.idle;
     }
 
-pub put_queue : (d : Draft) (es : List Numbered) (n : ℕ) (spec : QueueSpec) (queues : ArrayVec QueueSpec) → queues.items ≡ d.queues.items ++ spec ∷ [] → Takes d words.Queue → StandsFor d es → StandsFor (record d { stage = stages.Queue; queues = queues }) (es ++ record { number = n; entry = Queue spec } ∷ [])
+pub put_queue : (d : Draft) (es : List Numbered) (n : ℕ) (spec : QueueSpec) (queues : ArrayVec QueueSpec) → queues.items ≡ d.queues.items ++ spec ∷ [] → Takes d (Queue spec) → StandsFor d es → StandsFor (record d { stage = stages.Queue; queues = queues }) (es ++ record { number = n; entry = Queue spec } ∷ [])
 put_queue d es n spec queues pushed takes so =
     let e : Numbered = record { number = n; entry = Queue spec } in
     let m = middle d.stage words.Queue refl takes.stands in
@@ -200,7 +182,7 @@ put_queue d es n spec queues pushed takes so =
       idle = sym (m.early d.lines.items) ∙ so.idle;
     }
 
-pub put_bufcalls : (d : Draft) (es : List Numbered) (n bufcalls first_id : ℕ) → Takes d words.Bufcalls → StandsFor d es → StandsFor (record d { stage = stages.Bufcalls; bufcalls = bufcalls; first_id = first_id }) (es ++ record { number = n; entry = Bufcalls bufcalls first_id } ∷ [])
+pub put_bufcalls : (d : Draft) (es : List Numbered) (n bufcalls first_id : ℕ) → Takes d (Bufcalls bufcalls first_id) → StandsFor d es → StandsFor (record d { stage = stages.Bufcalls; bufcalls = bufcalls; first_id = first_id }) (es ++ record { number = n; entry = Bufcalls bufcalls first_id } ∷ [])
 put_bufcalls d es n bufcalls first_id takes so =
     let e : Numbered = record { number = n; entry = Bufcalls bufcalls first_id } in
     let m = middle d.stage words.Bufcalls refl takes.stands in
@@ -214,7 +196,7 @@ put_bufcalls d es n bufcalls first_id takes so =
       idle = sym (m.early d.lines.items) ∙ so.idle;
     }
 
-pub put_worker : (d : Draft) (es : List Numbered) (n : ℕ) → Takes d words.Worker → StandsFor d es → StandsFor (record d { stage = stages.Body }) (es ++ record { number = n; entry = Worker } ∷ [])
+pub put_worker : (d : Draft) (es : List Numbered) (n : ℕ) → Takes d Worker → StandsFor d es → StandsFor (record d { stage = stages.Body }) (es ++ record { number = n; entry = Worker } ∷ [])
 put_worker d es n takes so =
     let e : Numbered = record { number = n; entry = Worker } in
     let at = at_bufcalls d.stage takes.stands takes.room in
@@ -230,10 +212,10 @@ put_worker d es n takes so =
       idle = refl;
     }
 
-pub put_command : (d : Draft) (es : List Numbered) (n : ℕ) (call : Call) (lines : Vec Line) → lines.items ≡ d.lines.items ++ record { number = n; call = call } ∷ [] → Takes d (word_of_call call) → StandsFor d es → StandsFor (record d { lines = lines }) (es ++ record { number = n; entry = Command call } ∷ [])
+pub put_command : (d : Draft) (es : List Numbered) (n : ℕ) (call : Call) (lines : Vec Line) → lines.items ≡ d.lines.items ++ record { number = n; call = call } ∷ [] → Takes d (Command call) → StandsFor d es → StandsFor (record d { lines = lines }) (es ++ record { number = n; entry = Command call } ∷ [])
 put_command d es n call lines pushed takes so =
     let e = command n call in
-    let at = in_body d.stage (word_of_call call) (is_command-call call) takes.stands in
+    let at = in_body d.stage takes.verb takes.stands in
     record {
       stage = stage_of-push es e ∙ sym at;
       pool = said-same pool_line es e _ so.pool refl;

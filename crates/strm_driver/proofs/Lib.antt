@@ -1,6 +1,7 @@
 pub mod Constants
 pub mod Forms
 pub mod Cuts
+pub mod Shapes
 pub mod Entries
 pub mod Drafts
 pub mod Lines

@@ -5,17 +5,17 @@ use Rattle.std.specs.Result.{IfOk}
 use Rattle.std.proofs.lemmas.Result.{IfOk-weaker}
 use Rattle.strm_driver.specs.declared.draft.Draft.{Draft}
 use Rattle.strm_driver.specs.declared.word.Word.{Word}
-use Rattle.strm_driver.specs.Draft.{Takes, HasRoom, first_word}
+use Rattle.strm_driver.specs.Draft.{Takes, HasRoom}
 use Rattle.strm_driver.specs.Entry.{entry_of}
 use Rattle.strm_driver.specs.Script.{Numbered, may_stand, is_skipped, with_word, with_words, with_line}
 use Rattle.strm_driver.specs.Word.{word_of}
-use Rattle.strm_driver.proofs.Entries.{entry_of-word, entry_of-take}
+use Rattle.strm_driver.proofs.Entries.{Begins, entry_of-word, entry_of-take}
 
 -- what a line says that may stand, and for which there is room, is taken
-pub entry_of-takes : (d : Draft) (word : Word) (ws : List (List ℕ)) → may_stand d.stage word ≡ true → HasRoom d word → IfOk (entry_of word ws) (λ entry. Takes d (first_word entry))
+pub entry_of-takes : (d : Draft) (word : Word) (ws : List (List ℕ)) → may_stand d.stage word ≡ true → HasRoom d word → IfOk (entry_of word ws) (λ entry. Takes d entry)
 entry_of-takes d word ws stands room =
-    IfOk-weaker (entry_of word ws) (λ entry. first_word entry ≡ word) (λ entry. Takes d (first_word entry))
-    (λ entry is. rw is (record { stands = stands; room = room }))
+    IfOk-weaker (entry_of word ws) (Begins word) (λ entry. Takes d entry)
+    (λ entry so. record { verb = so.0; stands = rw so.1 stands; room = rw so.1 room })
     (entry_of-word word ws)
 
 with_word-take : (es : List Numbered) (n : ℕ) (word : Option Word) (ws : List (List ℕ)) → with_word es n word (take 5 ws) ≡ with_word es n word ws

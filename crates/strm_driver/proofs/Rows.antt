@@ -1,8 +1,12 @@
 -- Whole scripts, computed by the definitions alone: the texts that they give, and their first faults. Nothing else
 -- rests on these rows.
-use Rattle.std.proofs.Common.{◌≡◌, ℕ, List, ◌++◌, Option, None, Some, Result, Ok, Err, refl}
-use Rattle.std.specs.Prelude.{codes}
+use Rattle.std.proofs.Common.{◌≡◌, ℕ, pos, List, [], ◌∷◌, ◌++◌, map, Option, None, Some, Result, Ok, Err, refl}
+use Rattle.std.specs.Prelude.{codes, neg_ℤ}
 use Rattle.std.specs.Fmt.{digits}
+use Rattle.strm_data.specs.declared.msg_type.MsgType.TheVariants.{MProto, MIocdata}
+use Rattle.strm_pool.specs.declared.call.Call.{Call}
+use Rattle.strm_pool.specs.declared.call.Call.TheVariants.{Testb, Dupb, Settype, Rmvb, Adjmsg, Pullupmsg, Read, Putbq, Insq, Rmvq, Qsize}
+use Rattle.strm_pool.specs.declared.reply.Reply.TheVariants.{Size, Bytes, Block}
 use Rattle.strm_pool.specs.declared.config.Which.TheVariants.{Mblks}
 use Rattle.strm_driver.specs.declared.fault.Fault.{Fault}
 use Rattle.strm_driver.specs.declared.fault.Kind.{Kind}
@@ -12,7 +16,7 @@ use Rattle.strm_driver.specs.declared.fault.RunFault.TheVariants.{Script, Config
 use Rattle.strm_driver.specs.Merge.{serial_merge}
 use Rattle.strm_driver.specs.Outcome.{fault_of_input}
 use Rattle.strm_driver.specs.Script.{ScriptValue, script_of}
-use Rattle.strm_driver.specs.Text.{text_of}
+use Rattle.strm_driver.specs.Text.{reply_text, text_of}
 
 -- an input's first fault, or else the text of its script under the serial merge
 abbrev served : Option RunFault → Result ScriptValue Fault → Result (List ℕ) RunFault
@@ -55,6 +59,36 @@ pub first-refusals : run (codes "pool 1 2\nclass 16 1\nclass 64 1\nqueue 10 4 s 
 unfolding digits
 first-refusals = refl
 
+-- ---- calls that are read, and the text of what they answer
+
+-- the calls of each section
+abbrev calls_in : Result ScriptValue Fault → List (List Call)
+calls_in (Ok script) = map (λ lines. map (λ l. l.call) lines) script.parts
+calls_in (Err found) = []
+
+pub calls-on-blocks : calls_in (script_of (H ++ codes "testb 3\ndupb a b\nsettype c 1 M_PROTO\nrmvb d 2 e\nadjmsg f -2147483648\npullupmsg g 2147483647\nread h 9\n"))
+    ≡ (Testb 3 ∷ Dupb 0 1 ∷ Settype 2 1 MProto ∷ Rmvb 3 2 4 ∷ Adjmsg 5 (neg_ℤ (pos 2147483648)) ∷ Pullupmsg 6 (pos 2147483647) ∷ Read 7 9 ∷ []) ∷ []
+calls-on-blocks = refl
+
+pub calls-on-queues : calls_in (script_of (H ++ codes "putbq 1 a\ninsq 2 3 b\nrmvq 4 5 c\nqsize 255\n"))
+    ≡ (Putbq 1 0 ∷ Insq 2 3 1 ∷ Rmvq 4 5 2 ∷ Qsize 255 ∷ []) ∷ []
+calls-on-queues = refl
+
+pub some-bytes : reply_text (Bytes (0 ∷ 10 ∷ 171 ∷ 255 ∷ [])) ≡ codes "bytes 000aabff"
+unfolding digits
+some-bytes = refl
+
+pub no-bytes : reply_text (Bytes []) ≡ codes "bytes -"
+no-bytes = refl
+
+pub a-block : reply_text (Block (record { kind = MIocdata; len = 3; band = 255; room = 13; names = 2 })) ≡ codes "block M_IOCDATA len=3 band=255 room=13 names=2"
+unfolding digits
+a-block = refl
+
+pub a-size : reply_text (Size 4096) ≡ codes "size 4096"
+unfolding digits
+a-size = refl
+
 -- ---- faults
 
 pub cut : run (H ++ codes "allocb a 1") ≡ faulty 7 Cut
@@ -75,11 +109,20 @@ shape = refl
 pub number : run (H ++ codes "allocb a 01\n") ≡ faulty 7 Number
 number = refl
 
+pub minus-nothing : run (H ++ codes "adjmsg a -0\n") ≡ faulty 7 Number
+minus-nothing = refl
+
+pub number-too-small : run (H ++ codes "adjmsg a -2147483649\n") ≡ faulty 7 Number
+number-too-small = refl
+
 pub register : run (H ++ codes "allocb A x\n") ≡ faulty 7 Register
 register = refl
 
 pub word : run (codes "pool 1 8\nclass 16 4\nqueue 10 4 x -\n") ≡ faulty 3 Word
 word = refl
+
+pub no-type : run (H ++ codes "settype a 0 m_data\n") ≡ faulty 7 Word
+no-type = refl
 
 pub hex : run (H ++ codes "write a 0 0A\n") ≡ faulty 7 Hex
 hex = refl

@@ -1,6 +1,7 @@
 -- Serving lines one by one gives the text of all of them.
 use Rattle.std.proofs.Common.{◌≡◌, ℕ, zero, suc, ◌+◌, ◌<◌, ◌≤◌, List, [], ◌∷◌, ◌++◌, Option, None, Some, replicate, length, drop, get_or, sym, ap, ◌∙◌, append_assoc, append-nil}
 use Rattle.std.proofs.lemmas.List.{at_drop_more, at_drop_all}
+use Rattle.std.proofs.lemmas.Option.{none-some}
 use Rattle.strm_pool.specs.declared.config.Config.{Config}
 use Rattle.strm_pool.specs.declared.reply.Reply.{Reply}
 use Rattle.strm_mblk.specs.declared.token.TokenValue.{TokenValue}
@@ -8,7 +9,6 @@ use Rattle.strm_pool.specs.PoolValue.{PoolValue, opening}
 use Rattle.strm_pool.specs.Registers.{RegisterTable, register, table_of, AreDistinct}
 use Rattle.strm_pool.specs.Limits.{most_registers}
 use Rattle.strm_pool.specs.Step.{step, Stepped, replay_from}
-use Rattle.strm_pool.proofs.Steps.{none_not_some}
 use Rattle.strm_driver.specs.declared.line.Line.{Line}
 use Rattle.strm_driver.specs.Merge.{by_worker, serial_merge}
 use Rattle.strm_driver.specs.Outcome.{IsSerialText}
@@ -46,8 +46,8 @@ rest_text-end so_far all v t lines i past before =
 -- ---- one section, from the pool that its configuration opens
 
 empty_holds_none : (n x h : ℕ) → register (table_of (replicate n None)) x ≡ Some h → ⊥
-empty_holds_none zero x h is = none_not_some is
-empty_holds_none (suc n) zero h is = none_not_some is
+empty_holds_none zero x h is = none-some h is
+empty_holds_none (suc n) zero h is = none-some h is
 empty_holds_none (suc n) (suc x) h is = empty_holds_none n x h is
 
 -- empty registers hold no message twice

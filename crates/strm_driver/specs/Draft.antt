@@ -1,7 +1,5 @@
 -- What a script that is being read stands for. No clause of `parse` cites this.
 use Rattle.std.specs.Prelude.{◌≡◌, ◌≢◌, ℕ, ◌<◌, true, List, [], ◌∷◌, ◌++◌, length, Option, None, Some, Result, Ok, Err}
-use Rattle.strm_pool.specs.declared.call.Call.{Call}
-use Rattle.strm_pool.specs.declared.call.Call.TheVariants as calls
 use Rattle.strm_data.specs.Limits.{most_classes}
 use Rattle.strm_queue.specs.Limits.{most_queues}
 use Rattle.strm_driver.specs.declared.draft.Draft.{Draft}
@@ -13,6 +11,7 @@ use Rattle.strm_driver.specs.declared.line.Entry.TheVariants.{Pool, Class, Queue
 use Rattle.strm_driver.specs.declared.line.Line.{Line}
 use Rattle.strm_driver.specs.declared.script.Stage.{Stage}
 use Rattle.strm_driver.specs.declared.script.Stage.TheVariants as stages
+use Rattle.strm_driver.specs.declared.verb.Verb.{Verb}
 use Rattle.strm_driver.specs.declared.word.Word.{Word}
 use Rattle.strm_driver.specs.declared.word.Word.TheVariants as words
 use Rattle.strm_driver.specs.Script.{Numbered, pool_line, class_line, queue_line, bufcalls_line, said, parts_of, stage_of, may_stand}
@@ -48,22 +47,14 @@ pub record StandsFor (d : Draft) (es : List Numbered) : Type 0 where
   pub parts : parts_of es ≡ parts_at d.stage d.lines.items
   pub idle : early_at d.stage d.lines.items ≡ []
 
-abbrev pub word_of_call : Call → Word
-word_of_call (calls.Allocb reg size) = words.Allocb
-word_of_call (calls.Write reg place bytes) = words.Write
-word_of_call (calls.Putq queue reg) = words.Putq
-word_of_call (calls.Getq queue reg) = words.Getq
-word_of_call (calls.Freemsg reg) = words.Freemsg
-word_of_call calls.Census = words.Census
-
--- the first word of the line that says this
-abbrev pub first_word : Entry → Word
-first_word (Pool id mblks) = words.Pool
-first_word (Class spec) = words.Class
-first_word (Queue spec) = words.Queue
-first_word (Bufcalls wishes first_id) = words.Bufcalls
-first_word Worker = words.Worker
-first_word (Command call) = word_of_call call
+-- the first word of the line that says this; a command line's is this verb
+abbrev pub first_word : Verb → Entry → Word
+first_word verb (Pool id mblks) = words.Pool
+first_word verb (Class spec) = words.Class
+first_word verb (Queue spec) = words.Queue
+first_word verb (Bufcalls wishes first_id) = words.Bufcalls
+first_word verb Worker = words.Worker
+first_word verb (Command call) = words.Command verb
 
 -- there is room for what a line says that begins so
 abbrev pub HasRoom : Draft → Word → Type 0
@@ -72,9 +63,11 @@ HasRoom d words.Queue = length d.queues.items < most_queues
 HasRoom d words.Worker = d.stage ≢ stages.Body
 HasRoom d _ = Unit {0}
 
-pub record Takes (d : Draft) (word : Word) : Type 0 where
-  pub stands : may_stand d.stage word ≡ true
-  pub room : HasRoom d word
+-- a line that says this may stand, and there is room for it
+pub record Takes (d : Draft) (entry : Entry) : Type 0 where
+  pub verb : Verb
+  pub stands : may_stand d.stage (first_word verb entry) ≡ true
+  pub room : HasRoom d (first_word verb entry)
 
 -- the entries with what line n says, or its fault
 abbrev pub with_said : List Numbered → ℕ → Result (Option Entry) Kind → Result (List Numbered) Kind

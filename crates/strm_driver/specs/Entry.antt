@@ -1,74 +1,58 @@
 -- What a line of a script says, by its words.
-use Rattle.std.specs.Prelude.{ℕ, ◌-◌, ◌^◌, List, [], ◌∷◌, Result, Ok, Err}
+use Rattle.std.specs.Prelude.{ℕ, Bool, List, Option, Result, Ok}
 use Rattle.strm_pool.specs.declared.call.Call.{Call}
 use Rattle.strm_pool.specs.declared.call.Call.TheVariants as calls
 use Rattle.strm_driver.specs.declared.fault.Kind.{Kind}
-use Rattle.strm_driver.specs.declared.fault.Kind.TheVariants.{Shape}
 use Rattle.strm_driver.specs.declared.line.Entry.{Entry}
 use Rattle.strm_driver.specs.declared.line.Entry.TheVariants as entries
+use Rattle.strm_driver.specs.declared.verb.Verb.{Verb}
+use Rattle.strm_driver.specs.declared.verb.Verb.TheVariants as verbs
 use Rattle.strm_driver.specs.declared.word.Word.{Word}
-use Rattle.strm_driver.specs.declared.word.Word.TheVariants.{Pool, Class, Queue, Bufcalls, Worker, Allocb, Write, Putq, Getq, Freemsg, Census}
-use Rattle.strm_driver.specs.Form.{number_of, register_of, service_of, next_of, octets_of}
+use Rattle.strm_driver.specs.declared.word.Word.TheVariants as words
+use Rattle.strm_driver.specs.Shape.{◌>>=◌, none, one, two, three, four}
+use Rattle.strm_driver.specs.Form.{u32_of, u8_of, i32_of, register_of, type_of, service_of, next_of, octets_of}
 
--- one word's meaning, and then what is made of it; the first word that isn't of its form decides
-infixl 10 ◌>>=◌
-abbrev pub ◌>>=◌ : {A B : Type 0} → Result A Kind → (A → Result B Kind) → Result B Kind
-(Ok x) >>= f = f x
-(Err kind) >>= f = Err kind
+-- the call of a command line, by the words behind its first one
+abbrev pub call_of : Verb → List (List ℕ) → Result Call Kind
+call_of verbs.Allocb = two register_of u32_of calls.Allocb
+call_of verbs.Testb = one u32_of calls.Testb
+call_of verbs.Dupb = two register_of register_of calls.Dupb
+call_of verbs.Dupmsg = two register_of register_of calls.Dupmsg
+call_of verbs.Copyb = two register_of register_of calls.Copyb
+call_of verbs.Copymsg = two register_of register_of calls.Copymsg
+call_of verbs.Write = three register_of u32_of octets_of calls.Write
+call_of verbs.Settype = three register_of u32_of type_of calls.Settype
+call_of verbs.Setband = two register_of u8_of calls.Setband
+call_of verbs.Linkb = two register_of register_of calls.Linkb
+call_of verbs.Unlinkb = two register_of register_of calls.Unlinkb
+call_of verbs.Rmvb = three register_of u32_of register_of calls.Rmvb
+call_of verbs.Adjmsg = two register_of i32_of calls.Adjmsg
+call_of verbs.Pullupmsg = two register_of i32_of calls.Pullupmsg
+call_of verbs.Msgdsize = one register_of calls.Msgdsize
+call_of verbs.Size = one register_of calls.Size
+call_of verbs.Read = two register_of u32_of calls.Read
+call_of verbs.Block = two register_of u32_of calls.Block
+call_of verbs.Freeb = one register_of calls.Freeb
+call_of verbs.Freemsg = one register_of calls.Freemsg
+call_of verbs.Putq = two u8_of register_of calls.Putq
+call_of verbs.Putbq = two u8_of register_of calls.Putbq
+call_of verbs.Insq = three u8_of u32_of register_of calls.Insq
+call_of verbs.Getq = two u8_of register_of calls.Getq
+call_of verbs.Rmvq = three u8_of u32_of register_of calls.Rmvq
+call_of verbs.Qsize = one u8_of calls.Qsize
+call_of verbs.Census = none calls.Census
 
--- a number of 32 bits, and a queue
-abbrev pub u32_of : List ℕ → Result ℕ Kind
-u32_of word = number_of (2 ^ 32 - 1) word
+abbrev pub class_spec : ℕ → ℕ → Entry
+class_spec size count = entries.Class (record { size = size; count = count })
 
-abbrev pub u8_of : List ℕ → Result ℕ Kind
-u8_of word = number_of 255 word
+abbrev pub queue_spec : ℕ → ℕ → Bool → Option ℕ → Entry
+queue_spec hiwat lowat service next = entries.Queue (record { hiwat = hiwat; lowat = lowat; service = service; next = next })
 
--- the call of a command line that begins with this word and goes on with these
-abbrev pub call_of : Word → List (List ℕ) → Result Call Kind
-call_of Allocb (reg ∷ size ∷ []) = do
-  reg ← register_of reg
-  size ← u32_of size
-  Ok (calls.Allocb reg size)
-call_of Write (reg ∷ place ∷ bytes ∷ []) = do
-  reg ← register_of reg
-  place ← u32_of place
-  bytes ← octets_of bytes
-  Ok (calls.Write reg place bytes)
-call_of Putq (queue ∷ reg ∷ []) = do
-  queue ← u8_of queue
-  reg ← register_of reg
-  Ok (calls.Putq queue reg)
-call_of Getq (queue ∷ reg ∷ []) = do
-  queue ← u8_of queue
-  reg ← register_of reg
-  Ok (calls.Getq queue reg)
-call_of Freemsg (reg ∷ []) = do
-  reg ← register_of reg
-  Ok (calls.Freemsg reg)
-call_of Census [] = Ok calls.Census
-call_of _ _ = Err Shape
-
--- what a line says that begins with this word and goes on with these
+-- what a line says, by the words behind its first one
 abbrev pub entry_of : Word → List (List ℕ) → Result Entry Kind
-entry_of Pool (id ∷ mblks ∷ []) = do
-  id ← u32_of id
-  mblks ← u32_of mblks
-  Ok (entries.Pool id mblks)
-entry_of Class (size ∷ count ∷ []) = do
-  size ← u32_of size
-  count ← u32_of count
-  Ok (entries.Class (record { size = size; count = count }))
-entry_of Queue (hiwat ∷ lowat ∷ service ∷ next ∷ []) = do
-  hiwat ← u32_of hiwat
-  lowat ← u32_of lowat
-  service ← service_of service
-  next ← next_of next
-  Ok (entries.Queue (record { hiwat = hiwat; lowat = lowat; service = service; next = next }))
-entry_of Bufcalls (wishes ∷ first_id ∷ []) = do
-  wishes ← u32_of wishes
-  first_id ← u32_of first_id
-  Ok (entries.Bufcalls wishes first_id)
-entry_of Worker [] = Ok entries.Worker
-entry_of word arguments = do
-  call ← call_of word arguments
-  Ok (entries.Command call)
+entry_of words.Pool = two u32_of u32_of entries.Pool
+entry_of words.Class = two u32_of u32_of class_spec
+entry_of words.Queue = four u32_of u32_of service_of next_of queue_spec
+entry_of words.Bufcalls = two u32_of u32_of entries.Bufcalls
+entry_of words.Worker = none entries.Worker
+entry_of (words.Command verb) = λ ws. call_of verb ws >>= (λ call. Ok (entries.Command call))

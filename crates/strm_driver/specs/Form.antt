@@ -1,9 +1,18 @@
 -- What a word stands for, where a form wants a number, a register, a word or bytes.
-use Rattle.std.specs.Prelude.{ℕ, ◌+◌, ◌-◌, ◌*◌, Bool, true, false, not, ◌&&◌, ◌==◌, nat_lt, nat_le, fold, List, [], ◌∷◌, length, Option, None, Some, Result, Ok, Err, bytes_eq, option_and_then, option_map, ok_or, if◌then◌else◌, codes}
+use Rattle.std.specs.Prelude.{ℕ, ◌+◌, ◌-◌, ◌*◌, ◌^◌, ℤ, pos, neg_ℤ, Bool, true, false, not, ◌&&◌, ◌==◌, nat_lt, nat_le, fold, find, List, [], ◌∷◌, length, Option, None, Some, Result, Ok, Err, bytes_eq, option_and_then, option_map, ok_or, if◌then◌else◌, codes}
 use Rattle.std.specs.List.{list_all}
+use Rattle.strm_data.specs.MsgType.{name_of}
+use Rattle.strm_data.specs.declared.msg_type.MsgType.{MsgType}
+use Rattle.strm_data.specs.declared.msg_type.MsgType.TheVariants.{MData, MProto, MBreak, MPassfp, MSig, MDelay, MCtl, MIoctl, MSetopts, MIocack, MIocnak, MPcproto, MPcsig, MRead, MFlush, MStop, MStart, MHangup, MError, MCopyin, MCopyout, MIocdata}
 use Rattle.strm_pool.specs.Limits.{most_octets}
 use Rattle.strm_driver.specs.declared.fault.Kind.{Kind}
 use Rattle.strm_driver.specs.declared.fault.Kind.TheVariants.{Number, Register, Word, Hex}
+
+-- the types of messages
+abbrev pub all_types : List MsgType
+all_types =
+    MData ∷ MProto ∷ MBreak ∷ MPassfp ∷ MSig ∷ MDelay ∷ MCtl ∷ MIoctl ∷ MSetopts ∷ MIocack ∷ MIocnak ∷ MPcproto ∷ MPcsig ∷ MRead
+    ∷ MFlush ∷ MStop ∷ MStart ∷ MHangup ∷ MError ∷ MCopyin ∷ MCopyout ∷ MIocdata ∷ []
 
 -- one of `0` to `9`
 abbrev pub is_digit : ℕ → Bool
@@ -30,11 +39,39 @@ value_of digits = fold (λ n b. 10 * n + (b - 48)) 0 digits
 abbrev pub number_of : ℕ → List ℕ → Result ℕ Kind
 number_of most word = if is_numeral word && nat_le (value_of word) most then Ok (value_of word) else Err Number
 
+-- a number of 32 bits, and a queue or a band
+abbrev pub u32_of : List ℕ → Result ℕ Kind
+u32_of word = number_of (2 ^ 32 - 1) word
+
+abbrev pub u8_of : List ℕ → Result ℕ Kind
+u8_of word = number_of 255 word
+
+abbrev pub signed : (ℕ → ℤ) → Result ℕ Kind → Result ℤ Kind
+signed sign (Ok n) = Ok (sign n)
+signed sign (Err kind) = Err kind
+
+-- the number below 0 that `-` before these digits stands for; before `0` it stands for none
+abbrev pub negative_of : List ℕ → Result ℤ Kind
+negative_of digits = if bytes_eq digits (codes "0") then Err Number else signed (λ n. neg_ℤ (pos n)) (number_of (2 ^ 31) digits)
+
+-- a number of 32 bits with a sign: `-` may stand before a number that isn't `0`
+abbrev pub i32_of : List ℕ → Result ℤ Kind
+i32_of [] = Err Number
+i32_of (b ∷ bs) = if b == 45 then negative_of bs else signed (λ n. pos n) (number_of (2 ^ 31 - 1) (b ∷ bs))
+
 -- one letter of `a` to `z`, as its place in the alphabet
 abbrev pub register_of : List ℕ → Result ℕ Kind
 register_of [] = Err Register
 register_of (b ∷ []) = if nat_le 97 b && nat_le b 122 then Ok (b - 97) else Err Register
 register_of (b ∷ c ∷ bs) = Err Register
+
+-- the type of this name
+abbrev pub type_named : List ℕ → Option MsgType
+type_named word = find (λ t. bytes_eq (name_of t) word) all_types
+
+-- a type, by its name
+abbrev pub type_of : List ℕ → Result MsgType Kind
+type_of word = ok_or (type_named word) Word
 
 -- whether a queue has a service procedure: `s` or `n`
 abbrev pub service_of : List ℕ → Result Bool Kind

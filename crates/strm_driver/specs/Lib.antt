@@ -2,6 +2,7 @@ pub mod Limits
 pub mod Fault
 pub mod Word
 pub mod Form
+pub mod Shape
 pub mod Cut
 pub mod Entry
 pub mod Script

@@ -111,11 +111,8 @@ may_stand stages.Class words.Queue = true
 may_stand stages.Queue words.Queue = true
 may_stand stages.Queue words.Bufcalls = true
 may_stand stages.Bufcalls words.Worker = true
-may_stand stages.Body words.Pool = false
-may_stand stages.Body words.Class = false
-may_stand stages.Body words.Queue = false
-may_stand stages.Body words.Bufcalls = false
-may_stand stages.Body _ = true
+may_stand stages.Body words.Worker = true
+may_stand stages.Body (words.Command verb) = true
 may_stand _ _ = false
 
 -- whether there are as many lines already that begin so as there may be; commands are counted over all sections
@@ -125,7 +122,7 @@ is_full es words.Class = nat_le most_classes (length (said class_line es))
 is_full es words.Queue = nat_le most_queues (length (said queue_line es))
 is_full es words.Bufcalls = false
 is_full es words.Worker = nat_le 1 (length (parts_of es))
-is_full es _ = nat_le most_command_lines (sum_by length (parts_of es))
+is_full es (words.Command verb) = nat_le most_command_lines (sum_by length (parts_of es))
 
 -- ---- lines
 

@@ -1,11 +1,14 @@
 -- What is written for a script: a line for each reply, and then the report of the pool.
-use Rattle.std.specs.Prelude.{ℕ, ◌+◌, List, ◌++◌, length, map, codes, decimal}
+use Rattle.std.specs.Prelude.{ℕ, ◌+◌, ◌/◌, ◌%◌, false, List, [], ◌∷◌, ◌++◌, length, map, codes, decimal}
+use Rattle.std.specs.Fmt.{digits}
 use Rattle.std.specs.List.{flat_map, zip}
 use Rattle.strm_data.specs.declared.class_info.ClassInfo.{ClassInfo}
 use Rattle.strm_data.specs.DataStore.{class_infos}
+use Rattle.strm_data.specs.MsgType.{name_of as type_name}
+use Rattle.strm_mblk.specs.declared.block_info.BlockInfo.{BlockInfo}
 use Rattle.strm_mblk.specs.declared.census.Census.{Census}
 use Rattle.strm_pool.specs.declared.reply.Reply.{Reply}
-use Rattle.strm_pool.specs.declared.reply.Reply.TheVariants.{Done, Nothing, Empty, Taken, Refused}
+use Rattle.strm_pool.specs.declared.reply.Reply.TheVariants.{Done, Yes, No, Nothing, Empty, Taken, Bytes, Refused}
 use Rattle.strm_pool.specs.declared.reply.Reply.TheVariants as replies
 use Rattle.strm_mblk.specs.Arena.{census_of}
 use Rattle.strm_pool.specs.PoolValue.{PoolValue, opening}
@@ -14,11 +17,30 @@ use Rattle.strm_pool.specs.Step.{Turn, Replay, replay}
 use Rattle.strm_driver.specs.Merge.{Served}
 use Rattle.strm_driver.specs.Script.{ScriptValue}
 
+-- a byte as two digits in base 16, of which those from ten on are in lower case
+abbrev pub hex_text : ℕ → List ℕ
+hex_text b = digits 16 false (b / 16) ++ digits 16 false (b % 16)
+
+-- bytes, or `-` where there are none
+abbrev pub octets_text : List ℕ → List ℕ
+octets_text [] = codes "-"
+octets_text (b ∷ bs) = flat_map hex_text (b ∷ bs)
+
+abbrev pub block_text : BlockInfo → List ℕ
+block_text i =
+    codes "block " ++ (type_name i.kind ++ (codes " len=" ++ (decimal i.len ++ (codes " band=" ++ (decimal i.band
+    ++ (codes " room=" ++ (decimal i.room ++ (codes " names=" ++ decimal i.names))))))))
+
 abbrev pub reply_text : Reply → List ℕ
 reply_text Done = codes "ok"
+reply_text Yes = codes "yes"
+reply_text No = codes "no"
 reply_text Nothing = codes "none"
 reply_text Empty = codes "empty"
 reply_text Taken = codes "taken"
+reply_text (replies.Size n) = codes "size " ++ decimal n
+reply_text (Bytes bytes) = codes "bytes " ++ octets_text bytes
+reply_text (replies.Block info) = block_text info
 reply_text (replies.Census c) = codes "census " ++ (decimal c.free ++ (codes " " ++ (decimal c.queued ++ (codes " " ++ decimal c.held))))
 reply_text (Refused why) = codes "refused " ++ (decimal (number_of why) ++ (codes " " ++ name_of why))
 

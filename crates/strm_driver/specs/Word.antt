@@ -1,25 +1,50 @@
 -- The words that a line may begin with.
-use Rattle.std.specs.Prelude.{ℕ, List, [], ◌∷◌, Option, bytes_eq, find, codes}
+use Rattle.std.specs.Prelude.{ℕ, List, [], ◌∷◌, Option, None, Some, bytes_eq, if◌then◌else◌, codes}
+use Rattle.strm_driver.specs.declared.verb.Verb.TheVariants as verbs
 use Rattle.strm_driver.specs.declared.word.Word.{Word}
-use Rattle.strm_driver.specs.declared.word.Word.TheVariants.{Pool, Class, Queue, Bufcalls, Worker, Allocb, Write, Putq, Getq, Freemsg, Census}
+use Rattle.strm_driver.specs.declared.word.Word.TheVariants as words
 
-abbrev pub name_of : Word → List ℕ
-name_of Pool = codes "pool"
-name_of Class = codes "class"
-name_of Queue = codes "queue"
-name_of Bufcalls = codes "bufcalls"
-name_of Worker = codes "worker"
-name_of Allocb = codes "allocb"
-name_of Write = codes "write"
-name_of Putq = codes "putq"
-name_of Getq = codes "getq"
-name_of Freemsg = codes "freemsg"
-name_of Census = codes "census"
+-- all first words, as a script has them
+abbrev pub all_words : List (List ℕ × Word)
+all_words =
+    (codes "pool", words.Pool)
+    ∷ (codes "class", words.Class)
+    ∷ (codes "queue", words.Queue)
+    ∷ (codes "bufcalls", words.Bufcalls)
+    ∷ (codes "worker", words.Worker)
+    ∷ (codes "allocb", words.Command verbs.Allocb)
+    ∷ (codes "testb", words.Command verbs.Testb)
+    ∷ (codes "dupb", words.Command verbs.Dupb)
+    ∷ (codes "dupmsg", words.Command verbs.Dupmsg)
+    ∷ (codes "copyb", words.Command verbs.Copyb)
+    ∷ (codes "copymsg", words.Command verbs.Copymsg)
+    ∷ (codes "write", words.Command verbs.Write)
+    ∷ (codes "settype", words.Command verbs.Settype)
+    ∷ (codes "setband", words.Command verbs.Setband)
+    ∷ (codes "linkb", words.Command verbs.Linkb)
+    ∷ (codes "unlinkb", words.Command verbs.Unlinkb)
+    ∷ (codes "rmvb", words.Command verbs.Rmvb)
+    ∷ (codes "adjmsg", words.Command verbs.Adjmsg)
+    ∷ (codes "pullupmsg", words.Command verbs.Pullupmsg)
+    ∷ (codes "msgdsize", words.Command verbs.Msgdsize)
+    ∷ (codes "size", words.Command verbs.Size)
+    ∷ (codes "read", words.Command verbs.Read)
+    ∷ (codes "block", words.Command verbs.Block)
+    ∷ (codes "freeb", words.Command verbs.Freeb)
+    ∷ (codes "freemsg", words.Command verbs.Freemsg)
+    ∷ (codes "putq", words.Command verbs.Putq)
+    ∷ (codes "putbq", words.Command verbs.Putbq)
+    ∷ (codes "insq", words.Command verbs.Insq)
+    ∷ (codes "getq", words.Command verbs.Getq)
+    ∷ (codes "rmvq", words.Command verbs.Rmvq)
+    ∷ (codes "qsize", words.Command verbs.Qsize)
+    ∷ (codes "census", words.Command verbs.Census)
+    ∷ []
 
--- the words that there are
-abbrev pub all_words : List Word
-all_words = Pool ∷ Class ∷ Queue ∷ Bufcalls ∷ Worker ∷ Allocb ∷ Write ∷ Putq ∷ Getq ∷ Freemsg ∷ Census ∷ []
+-- the word that a text is in a table, byte for byte, or none
+abbrev pub word_among : List (List ℕ × Word) → List ℕ → Option Word
+word_among [] text = None
+word_among (w ∷ ws) text = if bytes_eq w.0 text then Some w.1 else word_among ws text
 
--- the word that a text is, byte for byte, or none
 abbrev pub word_of : List ℕ → Option Word
-word_of text = find (λ w. bytes_eq (name_of w) text) all_words
+word_of text = word_among all_words text

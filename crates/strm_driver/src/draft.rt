@@ -1,7 +1,7 @@
 //! A script that is being read.
 ghost use Rattle.std.specs.Prelude.{◌≡◌, ◌++◌, ◌∷◌, [], List, ℕ, Bool, true, false, map, Ok, IfOk, IfSome, OnOk};
 ghost use Rattle.strm_driver.specs.Script.{Numbered, is_full, with_words, with_entry, is_skipped, with_line, closed};
-ghost use Rattle.strm_driver.specs.Draft.{StandsFor, Takes, HasRoom, Reads, first_word, with_said};
+ghost use Rattle.strm_driver.specs.Draft.{StandsFor, Takes, HasRoom, Reads, with_said};
 ghost use Rattle.strm_driver.specs.Parsed.{Parses};
 
 use crate::cut::{cut_at, words_of};
@@ -63,13 +63,13 @@ impl Draft {
             Word::Queue => self.queues.is_full(),
             // There is one section at most.
             Word::Worker => self.stage == Stage::Body,
-            _ => self.lines.len() >= MOST_COMMAND_LINES,
+            Word::Command(_) => self.lines.len() >= MOST_COMMAND_LINES,
         }
     }
 
     // What a line says, by its words.
     fn entry_of_words(&self, first: &[u8], arguments: &[&[u8]]) -> Result<Entry, Kind>
-        ensures takes { IfOk result (λ entry. Takes self.now (first_word entry)) }
+        ensures takes { IfOk result (λ entry. Takes self.now entry) }
         ensures reads { (es : List Numbered) (n : ℕ) → StandsFor self.now es
             → with_words es n (first.now ∷ map (λ argument. argument.now) arguments.now) ≡ with_entry es n result }
     {
@@ -83,7 +83,7 @@ impl Draft {
 
     // What a line says, or nothing where it is empty or a comment.
     fn entry_of_line(&self, text: &[u8]) -> Result<Option<Entry>, Kind>
-        ensures takes { IfOk result (λ said. IfSome said (λ entry. Takes self.now (first_word entry))) }
+        ensures takes { IfOk result (λ said. IfSome said (λ entry. Takes self.now entry)) }
         ensures reads { (es : List Numbered) (n : ℕ) → StandsFor self.now es
             → with_line es n text.now ≡ with_said es n result }
     {
@@ -97,7 +97,7 @@ impl Draft {
 
     // Takes what a line says that may stand here and for which there is room.
     fn put(&mut self, number: u32, entry: Entry) -> Result<(), AllocError>
-        requires { Takes self.old (first_word entry) }
+        requires { Takes self.old entry }
         ensures { OnOk result ((es : List Numbered) → StandsFor self.old es
             → StandsFor self.new (es ++ record { number = number; entry = entry } ∷ [])) }
     {

@@ -4,7 +4,7 @@ ghost use Rattle.strm_driver.specs.Fault.{kind_text};
 
 use crate::input::ReadFault;
 use crate::output::WriteFault;
-use std::alloc::{AllocError, AllocFailed};
+use std::alloc::AllocError;
 use std::fmt;
 use strm_pool::{NewFault, Which};
 use thiserror::Error;
@@ -126,16 +126,6 @@ impl From<AllocError> for ParseFault {
     ghost from_gives = { λ _ e. e ≡ Memory };
 
     fn from(_error: AllocError) -> ParseFault {
-        ParseFault::Memory
-    }
-}
-
-impl<T: Drop> From<AllocFailed<T>> for ParseFault {
-    ghost use Rattle.strm_driver.specs.declared.fault.ParseFault.TheVariants.{Memory};
-
-    ghost from_gives = { λ _ e. e ≡ Memory };
-
-    fn from(_error: AllocFailed<T>) -> ParseFault {
         ParseFault::Memory
     }
 }

@@ -1,12 +1,50 @@
 //! What a word stands for, where the form of a line wants a number, a register, a word or bytes.
 ghost use Rattle.std.specs.Prelude.{◌≡◌, ◌*◌, ◌<◌, ◌≤◌, length, option_map, IfSome};
 ghost use Rattle.strm_pool.specs.Limits.{most_octets};
-ghost use Rattle.strm_driver.specs.Entry.{u32_of};
-ghost use Rattle.strm_driver.specs.Form.{are_digits, begins_well, number_of, register_of, is_dash, service_of, next_of, hex_digit, hex_pair, hex_bytes, octets_of};
+ghost use Rattle.strm_driver.specs.Form.{are_digits, begins_well, number_of, negative_of, is_dash, type_named, hex_digit, hex_pair, hex_bytes};
 
 use crate::fault::Kind;
 use arrayvec::ArrayVec;
-use strm_pool::{MOST_OCTETS, Octets, Reg};
+use strm_pool::{MOST_OCTETS, MsgType, Octets, Reg};
+
+/// What a word behind the first one of a line can stand for. Each type has one form, so the types of what is made of
+/// a line say the forms of its words.
+pub trait Argument: Sized {
+    ghost use Rattle.std.specs.Prelude.{ℕ, List, Result};
+    ghost use Rattle.strm_driver.specs.declared.fault.Kind.{Kind};
+
+    ghost form: { List ℕ → Result Self Kind };
+
+    /// What the word stands for, or what is wrong with it.
+    fn read(word: &[u8]) -> Result<Self, Kind>
+        ensures { result ≡ form word.now };
+}
+
+// All types of messages.
+const TYPES: [MsgType; 22] = [
+    MsgType::MData,
+    MsgType::MProto,
+    MsgType::MBreak,
+    MsgType::MPassfp,
+    MsgType::MSig,
+    MsgType::MDelay,
+    MsgType::MCtl,
+    MsgType::MIoctl,
+    MsgType::MSetopts,
+    MsgType::MIocack,
+    MsgType::MIocnak,
+    MsgType::MPcproto,
+    MsgType::MPcsig,
+    MsgType::MRead,
+    MsgType::MFlush,
+    MsgType::MStop,
+    MsgType::MStart,
+    MsgType::MHangup,
+    MsgType::MError,
+    MsgType::MCopyin,
+    MsgType::MCopyout,
+    MsgType::MIocdata,
+];
 
 // Whether all bytes are digits.
 fn are_digits(word: &[u8]) -> bool
@@ -43,39 +81,14 @@ fn number_of(most: u32, word: &[u8]) -> Result<u32, Kind>
     Ok(value as u32)
 }
 
-/// The number of 32 bits that a word stands for.
-pub fn u32_of(word: &[u8]) -> Result<u32, Kind>
-    ensures { result ≡ u32_of word.now }
+// The number below 0 that `-` before these digits stands for.
+fn negative_of(digits: &[u8]) -> Result<i32, Kind>
+    ensures { result ≡ negative_of digits.now }
 {
-    number_of(u32::MAX, word)
-}
-
-/// The queue that a word stands for.
-pub fn octet_of(word: &[u8]) -> Result<u8, Kind>
-    ensures { result ≡ number_of 255 word.now }
-{
-    Ok(number_of(255, word)? as u8)
-}
-
-/// The register that a word names.
-pub fn register_of(word: &[u8]) -> Result<Reg, Kind>
-    ensures { result ≡ register_of word.now }
-{
-    match word {
-        [letter @ b'a'..=b'z'] => Reg::new(*letter - b'a').ok_or(Kind::Register),
-        _ => Err(Kind::Register),
+    if digits == b"0".as_slice() {
+        return Err(Kind::Number);
     }
-}
-
-/// Whether a word says that a queue has a service procedure.
-pub fn service_of(word: &[u8]) -> Result<bool, Kind>
-    ensures { result ≡ service_of word.now }
-{
-    match word {
-        b"s" => Ok(true),
-        b"n" => Ok(false),
-        _ => Err(Kind::Word),
-    }
+    Ok((-i64::from(number_of(1 << 31, digits)?)) as i32)
 }
 
 // Whether a word is `-`.
@@ -85,14 +98,14 @@ fn is_dash(word: &[u8]) -> bool
     word == b"-".as_slice()
 }
 
-/// The next queue that a word names, or none.
-pub fn next_of(word: &[u8]) -> Result<Option<u8>, Kind>
-    ensures { result ≡ next_of word.now }
+// The type of this name.
+fn type_named(word: &[u8]) -> Option<MsgType>
+    ensures { result ≡ type_named word.now }
 {
-    if is_dash(word) {
-        return Ok(None);
-    }
-    Ok(Some(octet_of(word)?))
+    TYPES
+        .iter()
+        .copied()
+        .find(|kind| kind.name().as_bytes() == word)
 }
 
 // What a lower case hexadecimal digit stands for.
@@ -128,15 +141,108 @@ fn hex_bytes(word: &[u8]) -> Option<ArrayVec<u8, MOST_OCTETS>>
     rest.is_empty().then_some(bytes)
 }
 
-/// The bytes that a word stands for, two hexadecimal digits for each.
-pub fn octets_of(word: &[u8]) -> Result<Octets, Kind>
-    ensures { result ≡ octets_of word.now }
-{
-    if is_dash(word) {
-        return Ok(Octets::of(ArrayVec::new()));
+/// A number of 32 bits.
+impl Argument for u32 {
+    ghost use Rattle.strm_driver.specs.Form.{u32_of};
+
+    ghost form = { u32_of };
+
+    fn read(word: &[u8]) -> Result<u32, Kind> {
+        number_of(u32::MAX, word)
     }
-    if word.is_empty() || word.len() > 2 * MOST_OCTETS {
-        return Err(Kind::Hex);
+}
+
+/// A queue or a band.
+impl Argument for u8 {
+    ghost use Rattle.strm_driver.specs.Form.{u8_of};
+
+    ghost form = { u8_of };
+
+    fn read(word: &[u8]) -> Result<u8, Kind> {
+        Ok(number_of(255, word)? as u8)
     }
-    hex_bytes(word).map(Octets::of).ok_or(Kind::Hex)
+}
+
+/// A number of 32 bits with a sign.
+impl Argument for i32 {
+    ghost use Rattle.strm_driver.specs.Form.{i32_of};
+
+    ghost form = { i32_of };
+
+    fn read(word: &[u8]) -> Result<i32, Kind> {
+        match word {
+            [b'-', digits @ ..] => negative_of(digits),
+            _ => Ok(number_of(i32::MAX as u32, word)? as i32),
+        }
+    }
+}
+
+impl Argument for Reg {
+    ghost use Rattle.strm_driver.specs.Form.{register_of};
+
+    ghost form = { register_of };
+
+    fn read(word: &[u8]) -> Result<Reg, Kind> {
+        match word {
+            [letter @ b'a'..=b'z'] => Reg::new(*letter - b'a').ok_or(Kind::Register),
+            _ => Err(Kind::Register),
+        }
+    }
+}
+
+/// The type of a message.
+impl Argument for MsgType {
+    ghost use Rattle.strm_driver.specs.Form.{type_of};
+
+    ghost form = { type_of };
+
+    fn read(word: &[u8]) -> Result<MsgType, Kind> {
+        type_named(word).ok_or(Kind::Word)
+    }
+}
+
+/// Whether a queue has a service procedure.
+impl Argument for bool {
+    ghost use Rattle.strm_driver.specs.Form.{service_of};
+
+    ghost form = { service_of };
+
+    fn read(word: &[u8]) -> Result<bool, Kind> {
+        match word {
+            b"s" => Ok(true),
+            b"n" => Ok(false),
+            _ => Err(Kind::Word),
+        }
+    }
+}
+
+/// The next queue, or none.
+impl Argument for Option<u8> {
+    ghost use Rattle.strm_driver.specs.Form.{next_of};
+
+    ghost form = { next_of };
+
+    fn read(word: &[u8]) -> Result<Option<u8>, Kind> {
+        if is_dash(word) {
+            return Ok(None);
+        }
+        Ok(Some(u8::read(word)?))
+    }
+}
+
+/// Bytes, two hexadecimal digits for each.
+impl Argument for Octets {
+    ghost use Rattle.strm_driver.specs.Form.{octets_of};
+
+    ghost form = { octets_of };
+
+    fn read(word: &[u8]) -> Result<Octets, Kind> {
+        if is_dash(word) {
+            return Ok(Octets::of(ArrayVec::new()));
+        }
+        if word.is_empty() || word.len() > 2 * MOST_OCTETS {
+            return Err(Kind::Hex);
+        }
+        hex_bytes(word).map(Octets::of).ok_or(Kind::Hex)
+    }
 }

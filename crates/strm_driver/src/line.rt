@@ -3,7 +3,8 @@ ghost use Rattle.std.specs.Prelude.{◌≡◌, map};
 ghost use Rattle.strm_driver.specs.Entry.{call_of, entry_of};
 
 use crate::fault::Kind;
-use crate::form::{next_of, octet_of, octets_of, register_of, service_of, u32_of};
+use crate::shape::{four, none, one, three, two};
+use crate::verb::Verb;
 use crate::word::Word;
 use strm_pool::{Call, ClassSpec, QueueSpec};
 
@@ -32,21 +33,37 @@ pub enum Entry {
 }
 
 // The call of a command line that begins with this word and goes on with these.
-fn call_of(word: Word, arguments: &[&[u8]]) -> Result<Call, Kind>
-    ensures { result ≡ call_of word (map (λ argument. argument.now) arguments.now) }
+fn call_of(verb: Verb, arguments: &[&[u8]]) -> Result<Call, Kind>
+    ensures { result ≡ call_of verb (map (λ argument. argument.now) arguments.now) }
 {
-    match (word, arguments) {
-        (Word::Allocb, [reg, size]) => Ok(Call::Allocb(register_of(reg)?, u32_of(size)?)),
-        (Word::Write, [reg, place, bytes]) => Ok(Call::Write(
-            register_of(reg)?,
-            u32_of(place)?,
-            octets_of(bytes)?,
-        )),
-        (Word::Putq, [queue, reg]) => Ok(Call::Putq(octet_of(queue)?, register_of(reg)?)),
-        (Word::Getq, [queue, reg]) => Ok(Call::Getq(octet_of(queue)?, register_of(reg)?)),
-        (Word::Freemsg, [reg]) => Ok(Call::Freemsg(register_of(reg)?)),
-        (Word::Census, []) => Ok(Call::Census),
-        _ => Err(Kind::Shape),
+    match verb {
+        Verb::Allocb => two(arguments).map(|(reg, size)| Call::Allocb(reg, size)),
+        Verb::Testb => one(arguments).map(Call::Testb),
+        Verb::Dupb => two(arguments).map(|(reg, other)| Call::Dupb(reg, other)),
+        Verb::Dupmsg => two(arguments).map(|(reg, other)| Call::Dupmsg(reg, other)),
+        Verb::Copyb => two(arguments).map(|(reg, other)| Call::Copyb(reg, other)),
+        Verb::Copymsg => two(arguments).map(|(reg, other)| Call::Copymsg(reg, other)),
+        Verb::Write => three(arguments).map(|(reg, place, bytes)| Call::Write(reg, place, bytes)),
+        Verb::Settype => three(arguments).map(|(reg, place, kind)| Call::Settype(reg, place, kind)),
+        Verb::Setband => two(arguments).map(|(reg, band)| Call::Setband(reg, band)),
+        Verb::Linkb => two(arguments).map(|(reg, other)| Call::Linkb(reg, other)),
+        Verb::Unlinkb => two(arguments).map(|(reg, other)| Call::Unlinkb(reg, other)),
+        Verb::Rmvb => three(arguments).map(|(reg, place, rest)| Call::Rmvb(reg, place, rest)),
+        Verb::Adjmsg => two(arguments).map(|(reg, count)| Call::Adjmsg(reg, count)),
+        Verb::Pullupmsg => two(arguments).map(|(reg, count)| Call::Pullupmsg(reg, count)),
+        Verb::Msgdsize => one(arguments).map(Call::Msgdsize),
+        Verb::Size => one(arguments).map(Call::Size),
+        Verb::Read => two(arguments).map(|(reg, at)| Call::Read(reg, at)),
+        Verb::Block => two(arguments).map(|(reg, place)| Call::Block(reg, place)),
+        Verb::Freeb => one(arguments).map(Call::Freeb),
+        Verb::Freemsg => one(arguments).map(Call::Freemsg),
+        Verb::Putq => two(arguments).map(|(queue, reg)| Call::Putq(queue, reg)),
+        Verb::Putbq => two(arguments).map(|(queue, reg)| Call::Putbq(queue, reg)),
+        Verb::Insq => three(arguments).map(|(queue, place, reg)| Call::Insq(queue, place, reg)),
+        Verb::Getq => two(arguments).map(|(queue, reg)| Call::Getq(queue, reg)),
+        Verb::Rmvq => three(arguments).map(|(queue, place, reg)| Call::Rmvq(queue, place, reg)),
+        Verb::Qsize => one(arguments).map(Call::Qsize),
+        Verb::Census => none(arguments).map(|()| Call::Census),
     }
 }
 
@@ -54,23 +71,21 @@ fn call_of(word: Word, arguments: &[&[u8]]) -> Result<Call, Kind>
 pub fn entry_of(word: Word, arguments: &[&[u8]]) -> Result<Entry, Kind>
     ensures { result ≡ entry_of word (map (λ argument. argument.now) arguments.now) }
 {
-    match (word, arguments) {
-        (Word::Pool, [id, mblks]) => Ok(Entry::Pool(u32_of(id)?, u32_of(mblks)?)),
-        (Word::Class, [size, count]) => Ok(Entry::Class(ClassSpec {
-            size: u32_of(size)?,
-            count: u32_of(count)?,
-        })),
-        (Word::Queue, [hiwat, lowat, service, next]) => Ok(Entry::Queue(QueueSpec {
-            hiwat: u32_of(hiwat)?,
-            lowat: u32_of(lowat)?,
-            service: service_of(service)?,
-            next: next_of(next)?,
-        })),
-        (Word::Bufcalls, [wishes, first_id]) => Ok(Entry::Bufcalls(
-            u32_of(wishes)?,
-            u32_of(first_id)?,
-        )),
-        (Word::Worker, []) => Ok(Entry::Worker),
-        _ => Ok(Entry::Command(call_of(word, arguments)?)),
+    match word {
+        Word::Pool => two(arguments).map(|(id, mblks)| Entry::Pool(id, mblks)),
+        Word::Class => two(arguments).map(|(size, count)| Entry::Class(ClassSpec { size, count })),
+        Word::Queue => four(arguments).map(|(hiwat, lowat, service, next)| {
+            Entry::Queue(QueueSpec {
+                hiwat,
+                lowat,
+                service,
+                next,
+            })
+        }),
+        Word::Bufcalls => {
+            two(arguments).map(|(wishes, first_id)| Entry::Bufcalls(wishes, first_id))
+        }
+        Word::Worker => none(arguments).map(|()| Entry::Worker),
+        Word::Command(verb) => call_of(verb, arguments).map(Entry::Command),
     }
 }

@@ -31,15 +31,12 @@ impl Stage {
         ensures { result ≡ may_stand self word }
     {
         match self {
-            Stage::Start => word == Word::Pool,
-            Stage::Pool => word == Word::Class,
+            Stage::Start => matches!(word, Word::Pool),
+            Stage::Pool => matches!(word, Word::Class),
             Stage::Class => matches!(word, Word::Class | Word::Queue),
             Stage::Queue => matches!(word, Word::Queue | Word::Bufcalls),
-            Stage::Bufcalls => word == Word::Worker,
-            Stage::Body => !matches!(
-                word,
-                Word::Pool | Word::Class | Word::Queue | Word::Bufcalls
-            ),
+            Stage::Bufcalls => matches!(word, Word::Worker),
+            Stage::Body => matches!(word, Word::Worker | Word::Command(_)),
         }
     }
 }

@@ -4,7 +4,29 @@ ghost use Rattle.strm_driver.specs.Text.{reply_line, blocks_text, class_text, re
 
 use std::alloc::AllocError;
 use std::fmt;
-use strm_pool::{Census, ClassInfo, Pool, Reply};
+use strm_pool::{BlockInfo, Census, ClassInfo, Pool, Reply};
+
+// Bytes, in lower case hexadecimal digits.
+#[derive(Drop)]
+struct Hex<'a>(&'a [u8]);
+
+impl fmt::Display for Hex<'_> {
+    ghost use Rattle.std.specs.Prelude.{Some};
+    ghost use Rattle.strm_driver.specs.Text.{octets_text};
+
+    ghost output = { λ hex. Some (octets_text hex.0.now) };
+
+    fn fmt<W: fmt::Write>(&self, f: &mut fmt::Formatter<W>) -> fmt::Result {
+        if self.0.is_empty() {
+            return f.write_str("-");
+        }
+        for byte in self.0 {
+            let (high, low) = (byte / 16, byte % 16);
+            write!(f, "{high:x}{low:x}")?;
+        }
+        Ok(())
+    }
+}
 
 // What a line says of its reply.
 #[derive(Drop)]
@@ -17,15 +39,36 @@ impl fmt::Display for Shown<'_> {
     ghost output = { λ shown. Some (reply_text shown.0.now) };
 
     fn fmt<W: fmt::Write>(&self, f: &mut fmt::Formatter<W>) -> fmt::Result {
-        match *self.0 {
+        match self.0 {
             Reply::Done => f.write_str("ok"),
+            Reply::Yes => f.write_str("yes"),
+            Reply::No => f.write_str("no"),
             Reply::Nothing => f.write_str("none"),
             Reply::Empty => f.write_str("empty"),
             Reply::Taken => f.write_str("taken"),
-            Reply::Census(Census { free, queued, held }) => write!(
-                f,
-                "census {free} {queued} {held}"
-            ),
+            Reply::Size(size) => write!(f, "size {size}"),
+            Reply::Bytes(octets) => {
+                let hex = Hex(octets.items());
+                write!(f, "bytes {hex}")
+            }
+            Reply::Block(info) => {
+                let BlockInfo {
+                    kind,
+                    len,
+                    band,
+                    room,
+                    names,
+                } = *info;
+                let name = kind.name();
+                write!(
+                    f,
+                    "block {name} len={len} band={band} room={room} names={names}"
+                )
+            }
+            Reply::Census(census) => {
+                let Census { free, queued, held } = *census;
+                write!(f, "census {free} {queued} {held}")
+            }
             Reply::Refused(refusal) => {
                 let number = refusal.number();
                 let name = refusal.name();

@@ -6,12 +6,21 @@ ghost use Rattle.strm_driver.specs.Watched.{took_none};
 
 use std::io;
 use std::io::{Read, Write};
+use std::marker::Model;
 
 /// A reader or a writer, and whether a call on it has failed. Only its own calls can say that one has.
 #[derive(Drop)]
 pub struct Watched<T> {
     inner: T,
     failed: bool,
+}
+
+impl<T> Model for Watched<T> {
+    ghost use Rattle.strm_driver.specs.Watched.{Observed};
+
+    ghost Value = { Observed T };
+
+    ghost view = { λ w. record { inner = w.inner; failed = w.failed } };
 }
 
 impl<T> Watched<T> {

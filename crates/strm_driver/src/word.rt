@@ -1,6 +1,8 @@
 //! The words that a line of a script may begin with.
-ghost use Rattle.std.specs.Prelude.{◌≡◌};
-ghost use Rattle.strm_driver.specs.Word.{name_of, word_of};
+ghost use Rattle.std.specs.Prelude.{◌≡◌, map};
+ghost use Rattle.strm_driver.specs.Word.{word_among, word_of};
+
+use crate::verb::Verb;
 
 /// The first word of a line.
 #[derive(Clone, Copy, Debug, PartialEq, Eq)]
@@ -10,56 +12,62 @@ pub enum Word {
     Queue,
     Bufcalls,
     Worker,
-    Allocb,
-    Write,
-    Putq,
-    Getq,
-    Freemsg,
-    Census,
+    /// A command line's.
+    Command(Verb),
 }
 
-/// All first words.
-pub const WORDS: [Word; 11] = [
-    Word::Pool,
-    Word::Class,
-    Word::Queue,
-    Word::Bufcalls,
-    Word::Worker,
-    Word::Allocb,
-    Word::Write,
-    Word::Putq,
-    Word::Getq,
-    Word::Freemsg,
-    Word::Census,
+// All first words, as a script has them.
+const WORDS: &[(&str, Word)] = &[
+    ("pool", Word::Pool),
+    ("class", Word::Class),
+    ("queue", Word::Queue),
+    ("bufcalls", Word::Bufcalls),
+    ("worker", Word::Worker),
+    ("allocb", Word::Command(Verb::Allocb)),
+    ("testb", Word::Command(Verb::Testb)),
+    ("dupb", Word::Command(Verb::Dupb)),
+    ("dupmsg", Word::Command(Verb::Dupmsg)),
+    ("copyb", Word::Command(Verb::Copyb)),
+    ("copymsg", Word::Command(Verb::Copymsg)),
+    ("write", Word::Command(Verb::Write)),
+    ("settype", Word::Command(Verb::Settype)),
+    ("setband", Word::Command(Verb::Setband)),
+    ("linkb", Word::Command(Verb::Linkb)),
+    ("unlinkb", Word::Command(Verb::Unlinkb)),
+    ("rmvb", Word::Command(Verb::Rmvb)),
+    ("adjmsg", Word::Command(Verb::Adjmsg)),
+    ("pullupmsg", Word::Command(Verb::Pullupmsg)),
+    ("msgdsize", Word::Command(Verb::Msgdsize)),
+    ("size", Word::Command(Verb::Size)),
+    ("read", Word::Command(Verb::Read)),
+    ("block", Word::Command(Verb::Block)),
+    ("freeb", Word::Command(Verb::Freeb)),
+    ("freemsg", Word::Command(Verb::Freemsg)),
+    ("putq", Word::Command(Verb::Putq)),
+    ("putbq", Word::Command(Verb::Putbq)),
+    ("insq", Word::Command(Verb::Insq)),
+    ("getq", Word::Command(Verb::Getq)),
+    ("rmvq", Word::Command(Verb::Rmvq)),
+    ("qsize", Word::Command(Verb::Qsize)),
+    ("census", Word::Command(Verb::Census)),
 ];
 
-impl Word {
-    /// The word as a script has it.
-    pub fn name(self) -> &'static str
-        ensures { result.now ≡ name_of self }
-    {
-        match self {
-            Word::Pool => "pool",
-            Word::Class => "class",
-            Word::Queue => "queue",
-            Word::Bufcalls => "bufcalls",
-            Word::Worker => "worker",
-            Word::Allocb => "allocb",
-            Word::Write => "write",
-            Word::Putq => "putq",
-            Word::Getq => "getq",
-            Word::Freemsg => "freemsg",
-            Word::Census => "census",
+// The word that a text is in a table, or none.
+fn word_among(mut table: &[(&str, Word)], text: &[u8]) -> Option<Word>
+    ensures { result ≡ word_among (map (λ row. (row.0.now, row.1)) table.entry.now) text.now }
+{
+    while let [(name, word), rest @ ..] = table {
+        if name.as_bytes() == text {
+            return Some(*word);
         }
+        table = rest;
     }
+    None
 }
 
 /// The first word that a text is, or none.
 pub fn word_of(text: &[u8]) -> Option<Word>
     ensures { result ≡ word_of text.now }
 {
-    WORDS
-        .iter()
-        .copied()
-        .find(|word| word.name().as_bytes() == text)
+    word_among(WORDS, text)
 }

@@ -1,156 +1,79 @@
--- What a call on registers does to the tokens in them.
-use Rattle.std.proofs.Common.{◌≡◌, ◌≢◌, ℕ, zero, suc, ◌<◌, Bool, true, false, ◌&&◌, eqb, List, [], ◌∷◌, length, set, Option, Some, None, refl, sym, ap, ◌∙◌, subst, inl, inr, if◌then◌else◌, get_or-set_same, get_or-set_other}
-use Rattle.std.specs.Prelude.{◌⊎◌, option_map}
-use Rattle.std.specs.Option.{option_map_or}
-use Rattle.std.proofs.Math.ListN.{get_or-map}
-use Rattle.std.proofs.lemmas.Bool.{cases_eq, and_parts, and_from, eqb-true, eq-eqb, ne_eqb}
-use Rattle.std.proofs.lemmas.List.{map-set}
+-- When a call on registers is a step: by what it does to the tokens of the registers that it names.
+use Rattle.std.proofs.Common.{◌≡◌, ◌<◌, Bool, true, false, List, [], length, set, Option, Some, None, refl, sym, ap, ◌∙◌, subst, if◌then◌else◌}
+use Rattle.std.specs.Prelude.{option_map}
+use Rattle.std.specs.Option.{ForSome}
+use Rattle.std.proofs.lemmas.List.{set-get_or}
+use Rattle.strm_data.specs.declared.refusal.Refusal.TheVariants.{NoSuchQueue}
+use Rattle.strm_links.specs.Rows.{IsApart}
+use Rattle.strm_links.specs.Rows as rows
+use Rattle.strm_mblk.specs.declared.token.TokenValue.{TokenValue}
+use Rattle.strm_mblk.specs.Arena.{Arena, has, token_of}
 use Rattle.strm_pool.specs.declared.call.Call.{Call}
 use Rattle.strm_pool.specs.declared.reply.Reply.{Reply}
-use Rattle.strm_mblk.specs.declared.token.TokenValue.{TokenValue}
-use Rattle.strm_mblk.specs.Block.{Message}
-use Rattle.strm_mblk.specs.Arena.{Arena, has, is_of_length, token_of, held_at}
-use Rattle.strm_mblk.specs.Messages.{blocks_of}
+use Rattle.strm_pool.specs.declared.reply.Reply.TheVariants.{Empty, Taken, Refused}
+use Rattle.strm_pool.specs.Names.{names_of, registers_in}
 use Rattle.strm_pool.specs.PoolValue.{PoolValue, owns}
-use Rattle.strm_pool.specs.Registers.{RegisterTable, register, table_of, AreDistinct}
-use Rattle.strm_pool.specs.Step.{Applies, Stepped, step, replying, with_register, is_named}
+use Rattle.strm_pool.specs.Registers.{AreAccounted, AreDistinct, entries_of, register, table_of}
+use Rattle.strm_pool.specs.Step.{Applies, act, is_named, is_taken, misses_queue, misses_token, replying, step}
+use Rattle.strm_pool.proofs.Accounts.{Balanced, accounted_balanced, accounted_distinct, owned_balanced, owned_token, table-at}
+use Rattle.strm_pool.proofs.Moved.{Changes, Each, Moves, moves_balanced, moves_had, news, olds, registers_of, token-has, with_new, with_other, with_tokens}
 
--- what a table shows of a register
-pub table-at : (rs : List (Option TokenValue)) (x : ℕ) → register (table_of rs) x ≡ option_map (λ t. t.head) (register rs x)
-table-at rs x = get_or-map (option_map (λ (t : TokenValue). t.head)) rs x None
+-- its queue is there, its sources hold tokens, and its destination is there and holds none
+pub record Ready (v : PoolValue) (rs : List (Option TokenValue)) (call : Call) : Type 0 where
+  pub owned : owns v rs ≡ true
+  pub queue : misses_queue v (names_of call) ≡ false
+  pub sources : misses_token (table_of rs) (names_of call) ≡ false
+  pub free : is_taken (table_of rs) (names_of call) ≡ false
+  pub there : ForSome (names_of call).destination (λ x. x < length rs)
 
-pub table-set : (rs : List (Option TokenValue)) (x : ℕ) (o : Option TokenValue) → table_of (set rs x o) ≡ set (table_of rs) x (option_map (λ t. t.head) o)
-table-set rs x o = map-set (option_map (λ (t : TokenValue). t.head)) rs x o
+-- then it acts
+pub step_act : (v : PoolValue) (rs : List (Option TokenValue)) (call : Call) → Ready v rs call → step v (table_of rs) call ≡ act v (table_of rs) call
+step_act v rs call ready =
+    let t = table_of rs in
+    ap (λ b. if b then replying v t (Refused NoSuchQueue) else (if misses_token t (names_of call) then replying v t Empty else (if is_taken t (names_of call) then replying v t Taken else act v t call))) ready.queue
+    ∙ ap (λ b. if b then replying v t Empty else (if is_taken t (names_of call) then replying v t Taken else act v t call)) ready.sources
+    ∙ ap (λ b. if b then replying v t Taken else act v t call) ready.free
 
--- each token that the pool owns, it has
-owned_at : (v : PoolValue) (rs : List (Option TokenValue)) (x : ℕ) → owns v rs ≡ true → option_map_or (has v.arena) (register rs x) true ≡ true
-owned_at v [] x owned = refl
-owned_at v (r ∷ rs) zero owned = (and_parts _ _ owned).0
-owned_at v (r ∷ rs) (suc x) owned = owned_at v rs x (and_parts _ _ owned).1
+-- a token that the pool has, or none, is that of what the table shows
+shown : (a : Arena) (o : Option TokenValue) → ((t : TokenValue) → o ≡ Some t → has a t ≡ true) → o ≡ option_map (token_of a) (option_map (λ t. t.head) o)
+shown a None had = refl
+shown a (Some t) had = ap (λ (y : TokenValue). Some y) (token-has a t (had t refl))
 
-pub owned_token : (v : PoolValue) (rs : List (Option TokenValue)) (x : ℕ) (t : TokenValue) → owns v rs ≡ true → register rs x ≡ Some t → has v.arena t ≡ true
-owned_token v rs x t owned is = ap (λ (o : Option TokenValue). option_map_or (has v.arena) o true) (sym is) ∙ owned_at v rs x owned
+named_or_not : {X : Type 0} (b : Bool) (y z o : X) → (b ≡ true → o ≡ y) → (b ≡ false → o ≡ z) → o ≡ (if b then y else z)
+named_or_not true y z o first second = first refl
+named_or_not false y z o first second = second refl
 
--- a pool owns registers of which it has each token
-pub owns_from : (w : PoolValue) (rs : List (Option TokenValue)) → ((x : ℕ) (t : TokenValue) → register rs x ≡ Some t → has w.arena t ≡ true) → owns w rs ≡ true
-owns_from w [] each = refl
-owns_from w (r ∷ rs) each = and_from _ _ (here r (λ t is. each 0 t is)) (owns_from w rs (λ x. each (suc x)))
-  where
-    here : (o : Option TokenValue) → ((t : TokenValue) → o ≡ Some t → has w.arena t ≡ true) → option_map_or (has w.arena) o true ≡ true
-    here None each = refl
-    here (Some t) each = each t refl
+-- a call that changes nothing
+pub applies_nothing : (v : PoolValue) (rs : List (Option TokenValue)) (call : Call) (reply : Reply) → owns v rs ≡ true → step v (table_of rs) call ≡ replying v (table_of rs) reply → Applies v rs call v rs reply
+applies_nothing v rs call reply owned does = record {
+  step = does;
+  tokens = λ x.
+      named_or_not (is_named call x) _ _ (register rs x)
+      (λ _. shown v.arena (register rs x) (λ t is. owned_token v rs x t owned is) ∙ ap (option_map (token_of v.arena)) (sym (table-at rs x))) (λ _. refl);
+  owned = λ distinct. (owned, distinct);
+  accounted = λ desks desk within at all. subst (AreAccounted v.arena) (sym (ap (set desks desk) (sym at) ∙ set-get_or desks desk [])) all;
+}
 
--- a token that the pool has is that of its message
-pub token-has : (a : Arena) (t : TokenValue) → has a t ≡ true → t ≡ token_of a t.head
-token-has a t had =
-    let parts = and_parts (eqb t.pool a.id) (is_of_length t.blocks (held_at a t.head)) had in
-    same_token (eqb-true t.pool a.id parts.0) refl (long (held_at a t.head) t.blocks parts.1)
-  where
-    long : (o : Option Message) (n : ℕ) → is_of_length n o ≡ true → n ≡ length (blocks_of o)
-    long None n is = cc
-    long (Some m) n is = sym (eqb-true (length m) n is)
-
-    same_token : {p q h k b c : ℕ} → p ≡ q → h ≡ k → b ≡ c → let x : TokenValue = record { pool = p; head = h; blocks = b } in let y : TokenValue = record { pool = q; head = k; blocks = c } in x ≡ y
-    same_token p h b = cc
-
--- a message that is held still is had by the same token
-pub has-kept : (a b : Arena) (t : TokenValue) → b.id ≡ a.id → held_at b t.head ≡ held_at a t.head → has a t ≡ true → has b t ≡ true
-has-kept a b t id held had = ap (λ i. eqb t.pool i && is_of_length t.blocks (held_at b t.head)) id ∙ ap (λ (o : Option Message). eqb t.pool a.id && is_of_length t.blocks o) held ∙ had
-
--- ---- a call that changes nothing
-
-module _ (v : PoolValue) (rs : List (Option TokenValue)) (call : Call) (reply : Reply) (owned : owns v rs ≡ true) where
-  same_tokens : (x : ℕ) (o : Option TokenValue) → register rs x ≡ o → o ≡ option_map (token_of v.arena) (option_map (λ t. t.head) o)
-  same_tokens x None is = refl
-  same_tokens x (Some t) is = ap (λ (y : TokenValue). Some y) (token-has v.arena t (owned_token v rs x t owned is))
-
-  pub applies_nothing : step v (table_of rs) call ≡ replying v (table_of rs) reply → Applies v rs call v rs reply
-  applies_nothing does = record {
+-- a call that changes the registers that it names
+module _ (v w : PoolValue) (rs : List (Option TokenValue)) (call : Call) (reply : Reply) (us : Changes)
+    (owned : owns v rs ≡ true) (named : registers_of us ≡ registers_in (names_of call)) (apart : IsApart (registers_of us)) (within : Each (λ y. y < length rs) (registers_of us))
+    (now : Each (λ t. has w.arena t ≡ true) (news us)) (moves : AreDistinct (table_of rs) → Moves v.arena w.arena (olds us rs) (news us))
+    (does : step v (table_of rs) call ≡ replying w (table_of (with_tokens us rs)) reply) where
+  pub applies_by : Applies v rs call w (with_tokens us rs) reply
+  applies_by = record {
     step = does;
-    tokens = λ x. either (is_named call x) _ _ _ (same_tokens x (register rs x) refl ∙ ap (option_map (token_of v.arena)) (sym (table-at rs x))) refl;
-    owned = λ distinct. (owned, distinct);
+    tokens = λ x.
+        named_or_not (is_named call x) _ _ (register (with_tokens us rs) x)
+        (λ yes.
+        shown w.arena (register (with_tokens us rs) x) (λ t is. with_new (λ y. has w.arena y ≡ true) us rs x t apart within now (ap (rows.has x) named ∙ yes) is)
+        ∙ ap (option_map (token_of w.arena)) (sym (table-at (with_tokens us rs) x)))
+        (λ no. with_other us rs x (ap (rows.has x) named ∙ no));
+    owned = λ distinct.
+        owned_balanced v w rs (with_tokens us rs) (balanced distinct)
+        (moves_had v rs us w.arena (λ x t is. owned_token v rs x t owned is) apart within distinct (moves distinct)) owned distinct;
+    accounted = λ desks desk there at all.
+        accounted_balanced v.arena w.arena (entries_of rs) (entries_of (with_tokens us rs)) (balanced (accounted_distinct v.arena rs desks desk there at all)) desks desk there at all;
   }
     where
-      either : {X : Type 0} (b : Bool) (y z o : X) → o ≡ y → o ≡ z → o ≡ (if b then y else z)
-      either true y z o first second = first
-      either false y z o first second = second
-
--- ---- a call on one register
-
--- one register holds this, and the others what they held; the pool still has the tokens of the others, and its
--- messages are those of before, save the one at h
-module _ (v w : PoolValue) (rs : List (Option TokenValue)) (call : Call) (x h : ℕ) (o : Option TokenValue) (reply : Reply)
-    (owned : owns v rs ≡ true) (inside : x < length rs)
-    (id : w.arena.id ≡ v.arena.id) (others : (k : ℕ) → k ≢ h → held_at w.arena k ≡ held_at v.arena k)
-    (apart : (y : ℕ) (t : TokenValue) → y ≢ x → register rs y ≡ Some t → has v.arena t ≡ true → AreDistinct (table_of rs) → t.head ≢ h)
-    (new : (t : TokenValue) → o ≡ Some t → (has w.arena t ≡ true) × (t.head ≡ h))
-    (named : (y : ℕ) → is_named call y ≡ eqb y x) where
-  pub applies_at : step v (table_of rs) call ≡ with_register x (option_map (λ t. t.head) o) w (table_of rs) reply → Applies v rs call w (set rs x o) reply
-  applies_at does = record {
-    step = does ∙ ap (λ (t : RegisterTable). let s : Stepped = record { pool = w; table = t; reply = reply } in s) (sym (table-set rs x o));
-    tokens = tokens_are;
-    owned = λ distinct. (owns_from w (set rs x o) (had distinct), apart_still distinct);
-  }
-    where
-      here : register (set rs x o) x ≡ o
-      here = get_or-set_same rs x o None inside
-
-      there : (y : ℕ) → y ≢ x → register (set rs x o) y ≡ register rs y
-      there y other = get_or-set_other rs x y o None other
-
-      -- the token of the register is that of its message
-      its_token : (p : Option TokenValue) → p ≡ o → p ≡ option_map (token_of w.arena) (option_map (λ t. t.head) p)
-      its_token None is = refl
-      its_token (Some t) is = ap (λ (y : TokenValue). Some y) (token-has w.arena t (new t (sym is)).0)
-
-      tokens_are : (y : ℕ) → register (set rs x o) y ≡ (if is_named call y then option_map (token_of w.arena) (register (table_of (set rs x o)) y) else register rs y)
-      tokens_are y =
-          elim (cases_eq y x) [
-            | inl same ↦
-                rw (named y, eq-eqb y x same, table-at (set rs x o) y)
-                (subst (λ (p : Option TokenValue). p ≡ option_map (token_of w.arena) (option_map (λ t. t.head) p)) (sym (ap (register (set rs x o)) same ∙ here)) (its_token o refl))
-            | inr other ↦ rw (named y, ne_eqb y x other) (there y other)
-          ]
-
-      had : AreDistinct (table_of rs) → (y : ℕ) (t : TokenValue) → register (set rs x o) y ≡ Some t → has w.arena t ≡ true
-      had distinct y t is =
-          elim (cases_eq y x) [
-            | inl same ↦ (new t (sym (ap (register (set rs x o)) same ∙ here) ∙ is)).0
-            | inr other ↦
-                let was : register rs y ≡ Some t = sym (there y other) ∙ is in
-                let before = owned_token v rs y t owned was in
-                has-kept v.arena w.arena t id (others t.head (apart y t other was before distinct)) before
-          ]
-
-      -- a head in the new table is in the register, and then it is h, or it was in the table
-      found : (y k : ℕ) → register (table_of (set rs x o)) y ≡ Some k → ((y ≡ x) × (k ≡ h)) ⊎ ((y ≢ x) × (register (table_of rs) y ≡ Some k))
-      found y k is =
-          elim (cases_eq y x) [
-            | inl same ↦ inl (same, head_is o refl (sym (ap (option_map (λ (t : TokenValue). t.head)) (ap (register (set rs x o)) same ∙ here)) ∙ sym (table-at (set rs x o) y) ∙ is))
-            | inr other ↦ inr (other, table-at rs y ∙ ap (option_map (λ (t : TokenValue). t.head)) (sym (there y other)) ∙ sym (table-at (set rs x o) y) ∙ is)
-          ]
-        where
-          head_is : (p : Option TokenValue) → p ≡ o → option_map (λ t. t.head) p ≡ Some k → k ≡ h
-          head_is None is one = cc
-          head_is (Some t) is one = let e = (new t (sym is)).1 in cc
-
-      -- no other register had the head h
-      not_h : AreDistinct (table_of rs) → (y : ℕ) → y ≢ x → register (table_of rs) y ≡ Some h → ⊥
-      not_h distinct y other is = at (register rs y) refl (sym (table-at rs y) ∙ is)
-        where
-          at : (p : Option TokenValue) → register rs y ≡ p → option_map (λ t. t.head) p ≡ Some h → ⊥
-          at None was one = cc
-          at (Some t) was one = apart y t other was (owned_token v rs y t owned was) distinct cc
-
-      apart_still : AreDistinct (table_of rs) → AreDistinct (table_of (set rs x o))
-      apart_still distinct y z k first second =
-          elim (found y k first) [
-            | inl a ↦ elim (found z k second) [
-              | inl b ↦ a.0 ∙ sym b.0
-              | inr b ↦ absurd (not_h distinct z b.0 (b.1 ∙ ap (λ n. Some n) a.1))
-            ]
-            | inr a ↦ elim (found z k second) [
-              | inl b ↦ absurd (not_h distinct y a.0 (a.1 ∙ ap (λ n. Some n) b.1))
-              | inr b ↦ distinct y z k a.1 b.1
-            ]
-          ]
+      balanced : AreDistinct (table_of rs) → Balanced v.arena w.arena (entries_of rs) (entries_of (with_tokens us rs))
+      balanced distinct = moves_balanced v.arena w.arena us rs apart within distinct (moves distinct)

@@ -1,7 +1,9 @@
--- Registers by their places in the alphabet, and what they hold.
-use Rattle.std.specs.Prelude.{◌≡◌, ℕ, List, Option, None, Some, map, slice_index_or}
+-- Registers by their places in the alphabet, what they hold, and the tables that tell it.
+use Rattle.std.specs.Prelude.{◌≡◌, ℕ, Bool, false, ◌&&◌, ◌==◌, List, Option, None, Some, map, count_by, slice_index_or, if◌then◌else◌}
+use Rattle.std.specs.List.{flat_map}
 use Rattle.std.specs.Option.{option_map}
 use Rattle.strm_mblk.specs.declared.token.TokenValue.{TokenValue}
+use Rattle.strm_mblk.specs.Arena.{Arena, held_at, is_of_length}
 
 -- what a register holds
 abbrev pub register : {T : Type 0} → List (Option T) → ℕ → Option T
@@ -17,3 +19,29 @@ table_of rs = map (option_map (λ t. t.head)) rs
 -- no message is held by two registers
 abbrev pub AreDistinct : RegisterTable → Type 0
 AreDistinct t = (x y h : ℕ) → register t x ≡ Some h → register t y ≡ Some h → x ≡ y
+
+-- ---- the registers of several desks
+
+-- what a token tells of its message: the head, and the number of blocks
+abbrev pub entry_of : TokenValue → ℕ × ℕ
+entry_of t = (t.head, t.blocks)
+
+-- a desk's entries: for each register what its token tells, or none
+abbrev pub Entries : Type 0
+Entries = List (Option (ℕ × ℕ))
+
+abbrev pub entries_of : List (Option TokenValue) → Entries
+entries_of rs = map (option_map entry_of) rs
+
+-- whether a register tells of a message of n blocks with head h
+abbrev pub tells : ℕ → ℕ → Option (ℕ × ℕ) → Bool
+tells h n None = false
+tells h n (Some e) = e.0 == h && e.1 == n
+
+-- in how many registers of these desks that stands
+abbrev pub times_told : ℕ → ℕ → List Entries → ℕ
+times_told h n desks = count_by (tells h n) (flat_map (λ es. es) desks)
+
+-- each held message stands in one register of one desk, with its number of blocks, and no register tells of another
+abbrev pub AreAccounted : Arena → List Entries → Type 0
+AreAccounted a desks = (h n : ℕ) → times_told h n desks ≡ (if is_of_length n (held_at a h) then 1 else 0)

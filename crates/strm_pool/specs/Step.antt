@@ -1,20 +1,26 @@
 -- One call as a step of the model: on a pool and a register table, with its reply.
-use Rattle.std.specs.Prelude.{◌≡◌, ℕ, Bool, false, ◌||◌, ◌==◌, ◌++◌, not, IsTrue, option_map, List, [], ◌∷◌, Option, None, Some, Ok, Err, is_some, is_none, unwrap_or, slice_index_or, slice_set, replicate, if◌then◌else◌}
-use Rattle.std.specs.List.{list_any}
+use Rattle.std.specs.Prelude.{◌≡◌, ℕ, ◌<◌, Bool, false, ◌||◌, not, IsTrue, option_map, List, [], ◌∷◌, length, Option, None, Some, Ok, Err, is_some, is_none, unwrap_or, slice_index_or, slice_set, take, drop, replicate, if◌then◌else◌}
 use Rattle.std.specs.Option.{option_map_or}
-use Rattle.strm_pool.specs.declared.call.Call.{Call}
-use Rattle.strm_pool.specs.declared.call.Call.TheVariants.{Allocb, Write, Putq, Getq, Freemsg, Census}
 use Rattle.strm_data.specs.declared.refusal.Refusal.TheVariants.{NoSuchQueue}
-use Rattle.strm_pool.specs.declared.reply.Reply.{Reply}
-use Rattle.strm_pool.specs.declared.reply.Reply.TheVariants.{Done, Nothing, Empty, Taken, Refused}
-use Rattle.strm_pool.specs.declared.reply.Reply.TheVariants as replies
-use Rattle.strm_mblk.specs.Arena.{census_of, token_of}
-use Rattle.strm_mblk.specs.Given.{Given}
-use Rattle.strm_pool.specs.PoolValue.{PoolValue, owns, allocb, write, putq, getq, freemsg}
-use Rattle.strm_pool.specs.Queue.{has_queue}
-use Rattle.strm_pool.specs.Registers.{RegisterTable, register, table_of, AreDistinct}
+use Rattle.strm_links.specs.Rows as rows
 use Rattle.strm_mblk.specs.declared.token.TokenValue.{TokenValue}
-use Rattle.strm_pool.specs.Limits.{most_registers}
+use Rattle.strm_mblk.specs.Arena.{census_of, message_at, token_of}
+use Rattle.strm_mblk.specs.Block.{bytes_of, data_size_of, size_of}
+use Rattle.strm_mblk.specs.BlockCalls as blocks
+use Rattle.strm_mblk.specs.Freeing as freeing
+use Rattle.strm_mblk.specs.Given.{Given}
+use Rattle.strm_mblk.specs.Trimming as trimming
+use Rattle.strm_queue.specs.QueueCalls as queues
+use Rattle.strm_pool.specs.declared.call.Call.{Call}
+use Rattle.strm_pool.specs.declared.call.Call.TheVariants.{Allocb, Testb, Dupb, Dupmsg, Copyb, Copymsg, Write, Settype, Setband, Linkb, Unlinkb, Rmvb, Adjmsg, Pullupmsg, Msgdsize, Size, Read, Block, Freeb, Freemsg, Putq, Putbq, Insq, Getq, Rmvq, Qsize, Census}
+use Rattle.strm_pool.specs.declared.names.Names.{Names}
+use Rattle.strm_pool.specs.declared.reply.Reply.{Reply}
+use Rattle.strm_pool.specs.declared.reply.Reply.TheVariants.{Done, Yes, No, Nothing, Empty, Taken, Refused}
+use Rattle.strm_pool.specs.declared.reply.Reply.TheVariants as replies
+use Rattle.strm_pool.specs.Limits.{most_octets, most_registers}
+use Rattle.strm_pool.specs.Names.{names_of, registers_in}
+use Rattle.strm_pool.specs.PoolValue.{PoolValue, has_queue, on_arena, on_queues, owns, queued}
+use Rattle.strm_pool.specs.Registers.{AreAccounted, AreDistinct, Entries, RegisterTable, entries_of, register, table_of}
 
 -- a pool and a register table after a call, and the reply to it
 pub record Stepped : Type 0 where
@@ -22,114 +28,138 @@ pub record Stepped : Type 0 where
   pub table : RegisterTable
   pub reply : Reply
 
--- ---- what a call names
-
--- the queue
-abbrev pub queue_named : Call → Option ℕ
-queue_named (Allocb x size) = None
-queue_named (Write x k bytes) = None
-queue_named (Putq q x) = Some q
-queue_named (Getq q x) = Some q
-queue_named (Freemsg x) = None
-queue_named Census = None
-
--- the registers that it takes from, in written order
-abbrev pub sources : Call → List ℕ
-sources (Allocb x size) = []
-sources (Write x k bytes) = x ∷ []
-sources (Putq q x) = x ∷ []
-sources (Getq q x) = []
-sources (Freemsg x) = x ∷ []
-sources Census = []
-
--- the registers that it puts into
-abbrev pub destinations : Call → List ℕ
-destinations (Allocb x size) = x ∷ []
-destinations (Write x k bytes) = []
-destinations (Putq q x) = []
-destinations (Getq q x) = x ∷ []
-destinations (Freemsg x) = []
-destinations Census = []
-
 -- ---- the tests that come before the call's own
 
-abbrev pub misses_queue : PoolValue → Call → Bool
-misses_queue v call = option_map_or (λ q. not (has_queue v.arena q)) (queue_named call) false
+-- a queue that is not there
+abbrev pub misses_queue : PoolValue → Names → Bool
+misses_queue v names = option_map_or (λ q. not (has_queue v q)) names.queue false
 
--- whether one of these registers holds nothing, when those before it have been emptied
-abbrev pub misses_token : RegisterTable → List ℕ → Bool
-misses_token t [] = false
-misses_token t (x ∷ xs) = is_none (register t x) || misses_token (slice_set t x None) xs
+-- a source that holds nothing
+abbrev pub is_empty : RegisterTable → Option ℕ → Bool
+is_empty t source = option_map_or (λ x. is_none (register t x)) source false
 
-abbrev pub is_taken : RegisterTable → List ℕ → Bool
-is_taken t xs = list_any (λ x. is_some (register t x)) xs
+-- the registers once the message of a source has been taken out
+abbrev pub without_source : Option ℕ → RegisterTable → RegisterTable
+without_source source t = option_map_or (λ x. slice_set t x None) source t
+
+-- whether a source holds nothing, once those before it are empty
+abbrev pub misses_token : RegisterTable → Names → Bool
+misses_token t names = is_empty t names.source || is_empty (without_source names.source t) names.second
+
+-- whether the destination holds a token
+abbrev pub is_taken : RegisterTable → Names → Bool
+is_taken t names = option_map_or (λ x. is_some (register t x)) names.destination false
 
 -- ---- what the call does
+
+-- registers that change, each to hold the message with a head or nothing, and the reply
+abbrev pub Told : Type 0
+Told = List (ℕ × Option ℕ) × Reply
+
+abbrev pub with_changes : List (ℕ × Option ℕ) → RegisterTable → RegisterTable
+with_changes [] t = t
+with_changes (c ∷ cs) t = with_changes cs (slice_set t c.0 c.1)
 
 -- this pool and these registers, with this reply
 abbrev pub replying : PoolValue → RegisterTable → Reply → Stepped
 replying v t reply = record { pool = v; table = t; reply = reply }
 
--- a register holds this head, or nothing
-abbrev pub with_register : ℕ → Option ℕ → PoolValue → RegisterTable → Reply → Stepped
-with_register x h v t reply = record { pool = v; table = slice_set t x h; reply = reply }
+-- a call on the pool, whose answer tells how registers change and what the reply is; refused, it changes nothing
+abbrev pub doing : {X : Type 0} → PoolValue → RegisterTable → (X → Told) → Given PoolValue X → Stepped
+doing v t told (Ok given) = replying given.1 (with_changes (told given.0).0 t) (told given.0).1
+doing v t told (Err why) = replying v t (Refused why)
+
+-- the registers stay
+abbrev pub keeps : Unit {0} → Told
+keeps done = ([], Done)
+
+-- the message of x has gone
+abbrev pub spends : ℕ → Unit {0} → Told
+spends x done = ((x, None) ∷ [], Done)
+
+-- y has the message
+abbrev pub gives : ℕ → ℕ → Told
+gives y h = ((y, Some h) ∷ [], Done)
+
+-- y has the message, if there is one
+abbrev pub may_give : ℕ → Option ℕ → Told
+may_give y None = ([], Nothing)
+may_give y (Some h) = gives y h
+
+-- x has what is left, if anything is
+abbrev pub leaves : ℕ → Option ℕ → Told
+leaves x rest = ((x, rest) ∷ [], Done)
+
+-- y has the first message, and x the second, if there is one
+abbrev pub parts : ℕ → ℕ → ℕ × Option ℕ → Told
+parts x y heads = ((x, heads.1) ∷ (y, Some heads.0) ∷ [], Done)
+
+-- the reply is made of the answer
+abbrev pub answers : {X : Type 0} → (X → Reply) → X → Told
+answers reply given = ([], reply given)
+
+abbrev pub yes_or_no : Bool → Reply
+yes_or_no answer = if answer then Yes else No
 
 -- the head of the message whose token the register holds
 abbrev pub head_held : RegisterTable → ℕ → ℕ
 head_held t x = unwrap_or (register t x) 0
 
--- the call gave a token
-abbrev pub holding : ℕ → PoolValue → RegisterTable → Given PoolValue ℕ → Stepped
-holding x v t (Ok given) = with_register x (Some given.0) given.1 t Done
-holding x v t (Err why) = replying v t (Refused why)
-
--- the call gave a token, or there was none to give
-abbrev pub holding_any : ℕ → PoolValue → RegisterTable → Given PoolValue (Option ℕ) → Stepped
-holding_any x v t (Ok (Some h, w)) = with_register x (Some h) w t Done
-holding_any x v t (Ok (None, w)) = replying w t Nothing
-holding_any x v t (Err why) = replying v t (Refused why)
-
--- the call was done, and the tokens stay
-abbrev pub keeping : PoolValue → RegisterTable → Given PoolValue (Unit {0}) → Stepped
-keeping v t (Ok given) = replying given.1 t Done
-keeping v t (Err why) = replying v t (Refused why)
-
--- the call spent the token of a register
-abbrev pub spending : ℕ → PoolValue → RegisterTable → Given PoolValue (Unit {0}) → Stepped
-spending x v t (Ok given) = with_register x None given.1 t Done
-spending x v t (Err why) = replying v t (Refused why)
-
--- what a call does whose queue, sources and destinations are as they must be
+-- what a call does whose queue, sources and destination are as they must be
 abbrev pub act : PoolValue → RegisterTable → Call → Stepped
-act v t (Allocb x size) = holding x v t (allocb size v)
-act v t (Write x k bytes) = keeping v t (write (head_held t x) k bytes v)
-act v t (Putq q x) = spending x v t (putq q (head_held t x) v)
-act v t (Getq q x) = holding_any x v t (getq q v)
-act v t (Freemsg x) = with_register x None (freemsg (head_held t x) v) t Done
+act v t (Allocb x size) = doing v t (gives x) (on_arena v (blocks.allocb size v.arena))
+act v t (Testb size) = replying v t (yes_or_no (blocks.testb size v.arena))
+act v t (Dupb x y) = doing v t (gives y) (on_arena v (blocks.dupb (head_held t x) v.arena))
+act v t (Dupmsg x y) = doing v t (gives y) (on_arena v (blocks.dupmsg (head_held t x) v.arena))
+act v t (Copyb x y) = doing v t (gives y) (on_arena v (blocks.copyb (head_held t x) v.arena))
+act v t (Copymsg x y) = doing v t (gives y) (on_arena v (blocks.copymsg (head_held t x) v.arena))
+act v t (Write x k bytes) = doing v t keeps (on_arena v (blocks.write (head_held t x) k bytes v.arena))
+act v t (Settype x k kind) = doing v t keeps (on_arena v (blocks.settype (head_held t x) k kind v.arena))
+act v t (Setband x band) = doing v t keeps (on_arena v (Ok (tt, blocks.setband (head_held t x) band v.arena)))
+act v t (Linkb x y) = doing v t (spends y) (on_arena v (Ok (tt, blocks.linkb (head_held t x) (head_held t y) v.arena)))
+act v t (Unlinkb x y) = doing v t (may_give y) (on_arena v (Ok (blocks.unlinkb (head_held t x) v.arena)))
+act v t (Rmvb x k y) = doing v t (parts x y) (on_arena v (blocks.rmvb (head_held t x) k v.arena))
+act v t (Adjmsg x n) = doing v t keeps (on_arena v (trimming.adjmsg (head_held t x) n v.arena))
+act v t (Pullupmsg x n) = doing v t keeps (on_arena v (trimming.pullupmsg (head_held t x) n v.arena))
+act v t (Msgdsize x) = replying v t (replies.Size (data_size_of v.arena.store (message_at v.arena (head_held t x))))
+act v t (Size x) = replying v t (replies.Size (size_of (message_at v.arena (head_held t x))))
+act v t (Read x at) = replying v t (replies.Bytes (take most_octets (drop at (bytes_of v.arena.store (message_at v.arena (head_held t x))))))
+act v t (Block x k) = doing v t (answers (λ info. replies.Block info)) (on_arena v (blocks.block (head_held t x) k v.arena))
+act v t (Freeb x) = doing v t (leaves x) (on_arena v (Ok (blocks.freeb (head_held t x) v.arena)))
+act v t (Freemsg x) = doing v t (spends x) (on_arena v (Ok (tt, freeing.freemsg (head_held t x) v.arena)))
+act v t (Putq q x) = doing v t (spends x) (on_queues v (queues.putq q (head_held t x) (queued v)))
+act v t (Putbq q x) = doing v t (spends x) (on_queues v (queues.putbq q (head_held t x) (queued v)))
+act v t (Insq q k x) = doing v t (spends x) (on_queues v (queues.insq q k (head_held t x) (queued v)))
+act v t (Getq q y) = doing v t (may_give y) (on_queues v (queues.getq q (queued v)))
+act v t (Rmvq q k y) = doing v t (gives y) (on_queues v (queues.rmvq q k (queued v)))
+act v t (Qsize q) = doing v t (answers (λ size. replies.Size size)) (on_queues v (queues.qsize q (queued v)))
 act v t Census = replying v t (replies.Census (census_of v.arena))
 
 -- one call: a queue that is not there comes first, then a source that holds nothing, then a destination that
 -- holds a token, then the call's own refusals
 abbrev pub step : PoolValue → RegisterTable → Call → Stepped
 step v t call =
-    if misses_queue v call then replying v t (Refused NoSuchQueue)
-    else (if misses_token t (sources call) then replying v t Empty
-    else (if is_taken t (destinations call) then replying v t Taken
+    if misses_queue v (names_of call) then replying v t (Refused NoSuchQueue)
+    else (if misses_token t (names_of call) then replying v t Empty
+    else (if is_taken t (names_of call) then replying v t Taken
     else act v t call))
 
 -- ---- what a step does to tokens
 
 -- whether a call names a register
 abbrev pub is_named : Call → ℕ → Bool
-is_named call x = list_any (λ y. y == x) (sources call ++ destinations call)
+is_named call x = rows.has x (registers_in (names_of call))
 
 -- A call was applied: pool, registers and reply are those of a step. A register that the call names has the
 -- token of its message, if it holds one, and every other register what it had. Where no two registers held one
--- message, none do, and the pool has the token of each.
+-- message, none do, and the pool has the token of each. And where these registers were those of one of several
+-- desks, and each held message stood in one register of one desk, each does so now: the other desks have what they had.
 pub record Applies (v : PoolValue) (rs : List (Option TokenValue)) (call : Call) (w : PoolValue) (ss : List (Option TokenValue)) (reply : Reply) : Type 0 where
   pub step : step v (table_of rs) call ≡ record { pool = w; table = table_of ss; reply = reply }
   pub tokens : (x : ℕ) → register ss x ≡ (if is_named call x then option_map (token_of w.arena) (register (table_of ss) x) else register rs x)
   pub owned : AreDistinct (table_of rs) → IsTrue (owns w ss) × AreDistinct (table_of ss)
+  pub accounted : (desks : List Entries) (desk : ℕ) → desk < length desks → slice_index_or desks desk [] ≡ entries_of rs
+      → AreAccounted v.arena desks → AreAccounted w.arena (slice_set desks desk (entries_of ss))
 
 -- ---- replay
 

@@ -1,18 +1,22 @@
 //! Calls on registers.
-ghost use Rattle.std.specs.Prelude.{IsTrue};
-ghost use Rattle.strm_pool.specs.declared.call.Call.TheVariants as calls;
+ghost use Rattle.std.specs.Prelude.{◌≡◌, ◌<◌, false, IsSome, IsTrue, None, Some, length, slice_set};
+ghost use Rattle.std.specs.Option.{ForSome};
+ghost use Rattle.strm_mblk.specs.Arena.{has};
+ghost use Rattle.strm_pool.specs.Names.{names_of};
+ghost use Rattle.strm_pool.specs.PoolValue.{owns};
+ghost use Rattle.strm_pool.specs.Registers.{register, table_of};
+ghost use Rattle.strm_pool.specs.Step.{Applies, is_taken, misses_queue, misses_token};
 
 use crate::call::Call;
-use crate::octets::Octets;
-use crate::pool::{Pool, Rejected};
-use crate::regs::{Reg, Regs};
+use crate::names::Names;
+use crate::pool::Pool;
+use crate::reg::Reg;
+use crate::regs::Regs;
 use crate::reply::Reply;
 use strm_data::Refusal;
+use strm_mblk::Token;
 
 impl Pool {
-    ghost use Rattle.strm_pool.specs.PoolValue.{owns};
-    ghost use Rattle.strm_pool.specs.Step.{Applies};
-
     /// Does a call, with registers in the place of tokens, and answers its reply.
     ///
     /// A queue that is not there is answered first, as the refusal `NoSuchQueue`; then a register that the call
@@ -22,103 +26,143 @@ impl Pool {
         requires { IsTrue (owns self.old regs.old) }
         ensures { Applies self.old regs.old call.now self.new regs.new result }
     {
+        let names = call.names();
+        if self.misses_queue(&names) {
+            return Reply::Refused(Refusal::NoSuchQueue);
+        }
+        if regs.misses_token(&names) {
+            return Reply::Empty;
+        }
+        if regs.is_taken(&names) {
+            return Reply::Taken;
+        }
+        self.act(regs, call)
+    }
+
+    // Whether the queue that is named is not there.
+    fn misses_queue(&self, names: &Names) -> bool
+        ensures { result ≡ misses_queue self.now names.now }
+    {
+        match names.queue {
+            Some(queue) => !self.has_queue(queue),
+            None => false,
+        }
+    }
+
+    // The token of a register that holds one.
+    fn lent<'a>(&self, regs: &'a Regs, reg: Reg) -> &'a Token
+        requires owned { IsTrue (owns self.now regs.now) }
+        requires held { IsSome (register regs.now reg) }
+        ensures token { register regs.now reg ≡ Some result.now }
+        ensures had { IsTrue (has self.now.arena result.now) }
+    {
+        regs.token(reg)
+    }
+
+    // The token of a register that holds one, which then holds nothing.
+    fn picked(&self, regs: &mut Regs, reg: Reg) -> Token
+        requires owned { IsTrue (owns self.now regs.old) }
+        requires held { IsSome (register regs.old reg) }
+        ensures token { register regs.old reg ≡ Some result }
+        ensures empty { regs.new ≡ slice_set regs.old reg None }
+        ensures had { IsTrue (has self.now.arena result) }
+    {
+        regs.pick(reg)
+    }
+
+    // Does a call whose queue is there, whose sources hold tokens, and whose destination holds none.
+    fn act(&mut self, regs: &mut Regs, call: &Call) -> Reply
+        requires owned { IsTrue (owns self.old regs.old) }
+        requires queue { misses_queue self.old (names_of call.now) ≡ false }
+        requires sources { misses_token (table_of regs.old) (names_of call.now) ≡ false }
+        requires free { is_taken (table_of regs.old) (names_of call.now) ≡ false }
+        requires there { ForSome (names_of call.now).destination (λ reg. reg < length regs.old) }
+        ensures { Applies self.old regs.old call.now self.new regs.new result }
+    {
         match call {
-            Call::Allocb(reg, size) => self.apply_allocb(regs, *reg, *size),
-            Call::Write(reg, block, bytes) => self.apply_write(regs, *reg, *block, bytes),
-            Call::Putq(queue, reg) => self.apply_putq(regs, *queue, *reg),
-            Call::Getq(queue, reg) => self.apply_getq(regs, *queue, *reg),
-            Call::Freemsg(reg) => self.apply_freemsg(regs, *reg),
+            Call::Allocb(into, size) => regs.give(*into, self.allocb(*size)),
+            Call::Testb(size) => Reply::yes_or_no(self.testb(*size)),
+            Call::Dupb(from, into) => {
+                let copy = self.dupb(self.lent(regs, *from));
+                regs.give(*into, copy)
+            }
+            Call::Dupmsg(from, into) => {
+                let copy = self.dupmsg(self.lent(regs, *from));
+                regs.give(*into, copy)
+            }
+            Call::Copyb(from, into) => {
+                let copy = self.copyb(self.lent(regs, *from));
+                regs.give(*into, copy)
+            }
+            Call::Copymsg(from, into) => {
+                let copy = self.copymsg(self.lent(regs, *from));
+                regs.give(*into, copy)
+            }
+            Call::Write(reg, place, bytes) => {
+                Reply::done(self.write(self.lent(regs, *reg), *place, bytes.items()))
+            }
+            Call::Settype(reg, place, kind) => {
+                Reply::done(self.settype(self.lent(regs, *reg), *place, *kind))
+            }
+            Call::Setband(reg, band) => {
+                self.setband(self.lent(regs, *reg), *band);
+                Reply::Done
+            }
+            Call::Linkb(reg, behind) => {
+                let mut token = self.picked(regs, *reg);
+                let tail = self.picked(regs, *behind);
+                self.linkb(&mut token, tail);
+                regs.hold(*reg, token);
+                Reply::Done
+            }
+            Call::Unlinkb(reg, into) => {
+                let mut token = self.picked(regs, *reg);
+                let rest = self.unlinkb(&mut token);
+                regs.hold(*reg, token);
+                regs.give_any(*into, Ok(rest))
+            }
+            Call::Rmvb(reg, place, into) => {
+                let token = self.picked(regs, *reg);
+                regs.part(*reg, *into, self.rmvb(token, *place))
+            }
+            Call::Adjmsg(reg, count) => Reply::done(self.adjmsg(self.lent(regs, *reg), *count)),
+            Call::Pullupmsg(reg, count) => {
+                let mut token = self.picked(regs, *reg);
+                let pulled = self.pullupmsg(&mut token, *count);
+                regs.hold(*reg, token);
+                Reply::done(pulled)
+            }
+            Call::Msgdsize(reg) => Reply::Size(self.msgdsize(self.lent(regs, *reg))),
+            Call::Size(reg) => Reply::Size(self.size(self.lent(regs, *reg))),
+            Call::Read(reg, at) => Reply::Bytes(self.octets(self.lent(regs, *reg), *at)),
+            Call::Block(reg, place) => Reply::block(self.block(self.lent(regs, *reg), *place)),
+            Call::Freeb(reg) => {
+                let token = self.picked(regs, *reg);
+                let rest = self.freeb(token);
+                regs.hold_any(*reg, rest);
+                Reply::Done
+            }
+            Call::Freemsg(reg) => {
+                let token = self.picked(regs, *reg);
+                self.freemsg(token);
+                Reply::Done
+            }
+            Call::Putq(queue, reg) => {
+                let token = self.picked(regs, *reg);
+                regs.spend(*reg, self.putq(*queue, token))
+            }
+            Call::Putbq(queue, reg) => {
+                let token = self.picked(regs, *reg);
+                regs.spend(*reg, self.putbq(*queue, token))
+            }
+            Call::Insq(queue, place, reg) => {
+                let token = self.picked(regs, *reg);
+                regs.spend(*reg, self.insq(*queue, *place, token))
+            }
+            Call::Getq(queue, into) => regs.give_any(*into, self.getq(*queue)),
+            Call::Rmvq(queue, place, into) => regs.give(*into, self.rmvq(*queue, *place)),
+            Call::Qsize(queue) => Reply::size(self.qsize(*queue)),
             Call::Census => Reply::Census(self.census()),
         }
-    }
-
-    fn apply_allocb(&mut self, regs: &mut Regs, reg: Reg, size: u32) -> Reply
-        requires { IsTrue (owns self.old regs.old) }
-        ensures { Applies self.old regs.old (calls.Allocb reg size) self.new regs.new result }
-    {
-        if regs.holds(reg) {
-            return Reply::Taken;
-        }
-        match self.allocb(size) {
-            Ok(token) => {
-                regs.hold(reg, token);
-                Reply::Done
-            }
-            Err(why) => Reply::Refused(why),
-        }
-    }
-
-    fn apply_write(&mut self, regs: &mut Regs, reg: Reg, block: u32, bytes: &Octets) -> Reply
-        requires { IsTrue (owns self.old regs.old) }
-        ensures { Applies self.old regs.old (calls.Write reg block bytes.now) self.new regs.new result }
-    {
-        if !regs.holds(reg) {
-            return Reply::Empty;
-        }
-        let Some(token) = regs.take(reg) else {
-            unreachable!();
-        };
-        let written = self.write(&token, block, bytes.items());
-        regs.hold(reg, token);
-        match written {
-            Ok(()) => Reply::Done,
-            Err(why) => Reply::Refused(why),
-        }
-    }
-
-    fn apply_putq(&mut self, regs: &mut Regs, queue: u8, reg: Reg) -> Reply
-        requires { IsTrue (owns self.old regs.old) }
-        ensures { Applies self.old regs.old (calls.Putq queue reg) self.new regs.new result }
-    {
-        if !self.has_queue(queue) {
-            return Reply::Refused(Refusal::NoSuchQueue);
-        }
-        if !regs.holds(reg) {
-            return Reply::Empty;
-        }
-        let Some(token) = regs.take(reg) else {
-            unreachable!();
-        };
-        match self.putq(queue, token) {
-            Ok(()) => Reply::Done,
-            Err(Rejected { why, token }) => {
-                regs.hold(reg, token);
-                Reply::Refused(why)
-            }
-        }
-    }
-
-    fn apply_getq(&mut self, regs: &mut Regs, queue: u8, reg: Reg) -> Reply
-        requires { IsTrue (owns self.old regs.old) }
-        ensures { Applies self.old regs.old (calls.Getq queue reg) self.new regs.new result }
-    {
-        if !self.has_queue(queue) {
-            return Reply::Refused(Refusal::NoSuchQueue);
-        }
-        if regs.holds(reg) {
-            return Reply::Taken;
-        }
-        match self.getq(queue) {
-            Ok(Some(token)) => {
-                regs.hold(reg, token);
-                Reply::Done
-            }
-            Ok(None) => Reply::Nothing,
-            Err(why) => Reply::Refused(why),
-        }
-    }
-
-    fn apply_freemsg(&mut self, regs: &mut Regs, reg: Reg) -> Reply
-        requires { IsTrue (owns self.old regs.old) }
-        ensures { Applies self.old regs.old (calls.Freemsg reg) self.new regs.new result }
-    {
-        if !regs.holds(reg) {
-            return Reply::Empty;
-        }
-        let Some(token) = regs.take(reg) else {
-            unreachable!();
-        };
-        self.freemsg(token);
-        Reply::Done
     }
 }

@@ -1,22 +1,105 @@
 //! Calls as data.
-use crate::octets::Octets;
-use crate::regs::Reg;
+ghost use Rattle.std.specs.Prelude.{◌≡◌};
+ghost use Rattle.strm_pool.specs.Names.{names_of};
 
-/// A call on a pool, with registers in the place of tokens. Sizes are in bytes, and blocks of a message are
-/// counted from 0.
+use crate::names::Names;
+use crate::octets::Octets;
+use crate::reg::Reg;
+use strm_data::MsgType;
+
+/// A call on a pool, with registers in the place of tokens, and its numbers in the order in which a script has them.
+/// Sizes are in bytes; blocks of a message, its bytes and messages of a queue are counted from 0.
 #[derive(Debug, Drop)]
 pub enum Call {
     /// `allocb` of a size, into a register.
     Allocb(Reg, u32),
-    /// Bytes at the write place of a block of the message in a register: the register, the block's place in the
-    /// message, and the bytes.
+    /// Whether `allocb` of a size would give a message.
+    Testb(u32),
+    /// `dupb` of the message in a register, into another.
+    Dupb(Reg, Reg),
+    /// `dupmsg` of the message in a register, into another.
+    Dupmsg(Reg, Reg),
+    /// `copyb` of the message in a register, into another.
+    Copyb(Reg, Reg),
+    /// `copymsg` of the message in a register, into another.
+    Copymsg(Reg, Reg),
+    /// Bytes behind the write place of a block of the message in a register.
     Write(Reg, u32, Octets),
-    /// `putq` on a queue, of the message in a register.
-    Putq(u8, Reg),
-    /// `getq` from a queue, into a register.
-    Getq(u8, Reg),
+    /// The type of a block's data block, of the message in a register.
+    Settype(Reg, u32, MsgType),
+    /// The band of the first block of the message in a register.
+    Setband(Reg, u8),
+    /// `linkb`: the message in the second register goes behind the one in the first.
+    Linkb(Reg, Reg),
+    /// `unlinkb` of the message in a register, all but the first block into another.
+    Unlinkb(Reg, Reg),
+    /// `rmvb` of a block of the message in a register, into another.
+    Rmvb(Reg, u32, Reg),
+    /// `adjmsg` of the message in a register by a number of bytes: at the head, or where it is negative at the tail.
+    Adjmsg(Reg, i32),
+    /// `pullupmsg` of so many bytes of the message in a register; -1 stands for all.
+    Pullupmsg(Reg, i32),
+    /// How many bytes the message in a register has in its blocks of type M_DATA.
+    Msgdsize(Reg),
+    /// How many bytes the message in a register has.
+    Size(Reg),
+    /// The bytes of the message in a register from a place on.
+    Read(Reg, u32),
+    /// What there is to tell of a block of the message in a register.
+    Block(Reg, u32),
+    /// `freeb` of the first block of the message in a register.
+    Freeb(Reg),
     /// `freemsg` of the message in a register.
     Freemsg(Reg),
+    /// `putq` on a queue, of the message in a register.
+    Putq(u8, Reg),
+    /// `putbq` on a queue, of the message in a register.
+    Putbq(u8, Reg),
+    /// `insq` on a queue at a place, of the message in a register.
+    Insq(u8, u32, Reg),
+    /// `getq` from a queue, into a register.
+    Getq(u8, Reg),
+    /// `rmvq` of the message at a place of a queue, into a register.
+    Rmvq(u8, u32, Reg),
+    /// How many messages stand on a queue.
+    Qsize(u8),
     /// The census of message blocks.
     Census,
+}
+
+impl Call {
+    /// The queue and the registers that the call names.
+    pub fn names(&self) -> Names
+        ensures { result ≡ names_of self.now }
+    {
+        match *self {
+            Call::Testb(_) | Call::Census => Names::of(None, None, None, None),
+            Call::Allocb(into, _) => Names::of(None, None, None, Some(into)),
+            Call::Dupb(from, into)
+            | Call::Dupmsg(from, into)
+            | Call::Copyb(from, into)
+            | Call::Copymsg(from, into)
+            | Call::Unlinkb(from, into)
+            | Call::Rmvb(from, _, into) => Names::of(None, Some(from), None, Some(into)),
+            Call::Write(reg, _, _)
+            | Call::Settype(reg, _, _)
+            | Call::Setband(reg, _)
+            | Call::Adjmsg(reg, _)
+            | Call::Pullupmsg(reg, _)
+            | Call::Msgdsize(reg)
+            | Call::Size(reg)
+            | Call::Read(reg, _)
+            | Call::Block(reg, _)
+            | Call::Freeb(reg)
+            | Call::Freemsg(reg) => Names::of(None, Some(reg), None, None),
+            Call::Linkb(reg, behind) => Names::of(None, Some(reg), Some(behind), None),
+            Call::Putq(queue, reg) | Call::Putbq(queue, reg) | Call::Insq(queue, _, reg) => {
+                Names::of(Some(queue), Some(reg), None, None)
+            }
+            Call::Getq(queue, into) | Call::Rmvq(queue, _, into) => {
+                Names::of(Some(queue), None, None, Some(into))
+            }
+            Call::Qsize(queue) => Names::of(Some(queue), None, None, None),
+        }
+    }
 }

@@ -1,5 +1,7 @@
 //! A short string of bytes.
-ghost use Rattle.std.specs.Prelude.{◌≡◌, ◌≤◌, length};
+ghost use Rattle.std.specs.Prelude.{◌≡◌, ◌≤◌, length, nat_eq};
+ghost use Rattle.std.specs.Cmp.{partial_equiv_from_equiv};
+ghost use Rattle.std.specs.Cmp.Lexicographic.{nat_list_eq_equiv, pointwise};
 ghost use Rattle.strm_pool.specs.Limits.{most_octets};
 
 use crate::limits::MOST_OCTETS;
@@ -35,4 +37,18 @@ impl Octets {
     {
         self.bytes.as_slice()
     }
+}
+
+impl PartialEq for Octets {
+    ghost eq = { λ a b. pointwise nat_eq a b };
+
+    ghost laws = { partial_equiv_from_equiv nat_list_eq_equiv };
+
+    fn eq(&self, other: &Octets) -> bool {
+        self.items() == other.items()
+    }
+}
+
+impl Eq for Octets {
+    ghost laws = { nat_list_eq_equiv };
 }

@@ -1,58 +1,23 @@
 //! Registers that hold tokens.
-ghost use Rattle.std.specs.Prelude.{◌≡◌, ◌<◌, None, Some, IsNone, IsSome, is_some, length, replicate, slice_set};
-ghost use Rattle.std.specs.Option.{SomeIff};
-ghost use Rattle.strm_pool.specs.Registers.{register};
+ghost use Rattle.std.specs.Prelude.{◌≡◌, ◌≢◌, ◌<◌, None, Some, IsNone, IsSome, is_some, length, replicate, slice_set};
+ghost use Rattle.std.specs.Option.{ForSome};
 ghost use Rattle.strm_pool.specs.Limits.{most_registers};
+ghost use Rattle.strm_pool.specs.Registers.{register, table_of};
+ghost use Rattle.strm_pool.specs.Shapes.{any_given_to, given_to, parted_to, rejected_to};
+ghost use Rattle.strm_pool.specs.Step.{is_empty, is_taken, misses_token};
 
 use crate::limits::MOST_REGISTERS;
-use crate::token::Token;
+use crate::names::Names;
+use crate::reg::Reg;
+use crate::reply::Reply;
 use std::marker::Model;
-use strm_mblk::TokenValue;
-
-/// The name of a register, a to z, by its place in the alphabet from 0.
-#[derive(Clone, Copy, Debug)]
-pub struct Reg {
-    place: u8,
-}
-
-impl Model for Reg {
-    ghost use Rattle.std.specs.Prelude.{ℕ, ◌<◌};
-    ghost use Rattle.strm_pool.specs.Limits.{most_registers};
-
-    ghost Value = { ℕ };
-
-    ghost view = { λ r. r.place };
-
-    ghost invariant = { λ r. r.place < most_registers };
-
-    ghost inverse = { λ n. record { place = n } };
-}
-
-impl Reg {
-    /// The register with this place in the alphabet, or none above 25.
-    pub fn new(place: u8) -> Option<Reg>
-        ensures { SomeIff result (place < most_registers) place }
-    {
-        if usize::from(place) < MOST_REGISTERS {
-            Some(Reg { place })
-        } else {
-            None
-        }
-    }
-
-    // The place in the alphabet.
-    pub(crate) fn index(self) -> usize
-        ensures value { result ≡ self }
-        ensures small { result < most_registers }
-    {
-        usize::from(self.place)
-    }
-}
+use strm_data::Refusal;
+use strm_mblk::{Rejected, Token};
 
 /// Twenty-six registers, a to z, each of which holds a token or none. Registers must be spent, as tokens must:
 /// they can be neither cloned nor dropped.
 pub struct Regs {
-    slots: [Option<TokenValue>; MOST_REGISTERS],
+    slots: [Option<Token>; MOST_REGISTERS],
 }
 
 impl Model for Regs {
@@ -70,7 +35,10 @@ impl Regs {
         ensures { result ≡ replicate most_registers None }
     {
         Regs {
-            slots: [None; MOST_REGISTERS],
+            slots: [
+                None, None, None, None, None, None, None, None, None, None, None, None, None, None,
+                None, None, None, None, None, None, None, None, None, None, None, None,
+            ],
         }
     }
 
@@ -98,14 +66,6 @@ impl Regs {
         }
     }
 
-    // Puts a token into a register that holds none.
-    pub(crate) fn hold(&mut self, reg: Reg, token: Token)
-        requires { IsNone (register self.old reg) }
-        ensures { self.new ≡ slice_set self.old reg (Some token) }
-    {
-        self.slots[reg.index()] = Some(token.spend());
-    }
-
     /// Takes the token out of a register, or nothing where it holds none.
     pub fn take(&mut self, reg: Reg) -> Option<Token>
         ensures token { result ≡ register self.old reg }
@@ -113,22 +73,163 @@ impl Regs {
         ensures there { reg < length self.old }
         ensures count { length self.new ≡ most_registers }
     {
-        match self.slots[reg.index()].take() {
-            Some(value) => Some(Token::of(value)),
-            None => None,
+        self.slots[reg.index()].take()
+    }
+
+    // Puts a token into a register that holds none.
+    pub(crate) fn hold(&mut self, reg: Reg, token: Token)
+        requires { IsNone (register self.old reg) }
+        ensures { self.new ≡ slice_set self.old reg (Some token) }
+    {
+        match self.slots[reg.index()].replace(token) {
+            None => (),
+            Some(_held) => unreachable!(),
+        }
+    }
+
+    // The token that a register holds.
+    pub(crate) fn token(&self, reg: Reg) -> &Token
+        requires { IsSome (register self.now reg) }
+        ensures { register self.now reg ≡ Some result.now }
+    {
+        match &self.slots[reg.index()] {
+            Some(token) => token,
+            None => unreachable!(),
+        }
+    }
+
+    // Takes the token out of a register that holds one.
+    pub(crate) fn pick(&mut self, reg: Reg) -> Token
+        requires { IsSome (register self.old reg) }
+        ensures token { register self.old reg ≡ Some result }
+        ensures empty { self.new ≡ slice_set self.old reg None }
+    {
+        self.take(reg).unwrap()
+    }
+
+    // Puts a token into a register that holds none, if there is one.
+    pub(crate) fn hold_any(&mut self, reg: Reg, given: Option<Token>)
+        requires { IsNone (register self.old reg) }
+        ensures { self.new ≡ slice_set self.old reg given }
+    {
+        if let Some(token) = given {
+            self.hold(reg, token);
+        }
+    }
+
+    // Puts the token that a call gave into a register that holds none.
+    pub(crate) fn give(&mut self, into: Reg, given: Result<Token, Refusal>) -> Reply
+        requires { IsNone (register self.old into) }
+        ensures { (self.new, result) ≡ given_to into given self.old }
+    {
+        match given {
+            Ok(token) => {
+                self.hold(into, token);
+                Reply::Done
+            }
+            Err(why) => Reply::Refused(why),
+        }
+    }
+
+    // Puts the token that a call gave, if it gave one, into a register that holds none.
+    pub(crate) fn give_any(&mut self, into: Reg, given: Result<Option<Token>, Refusal>) -> Reply
+        requires { IsNone (register self.old into) }
+        ensures { (self.new, result) ≡ any_given_to into given self.old }
+    {
+        match given {
+            Ok(Some(token)) => {
+                self.hold(into, token);
+                Reply::Done
+            }
+            Ok(None) => Reply::Nothing,
+            Err(why) => Reply::Refused(why),
+        }
+    }
+
+    // Puts the token that a call rejected back into a register that holds none.
+    pub(crate) fn spend(&mut self, from: Reg, spent: Result<(), Rejected>) -> Reply
+        requires { IsNone (register self.old from) }
+        ensures { (self.new, result) ≡ rejected_to from spent self.old }
+    {
+        match spent {
+            Ok(()) => Reply::Done,
+            Err(Rejected { why, token }) => {
+                self.hold(from, token);
+                Reply::Refused(why)
+            }
+        }
+    }
+
+    // Puts the two tokens that a call gave, or the one that it rejected, into registers that hold none.
+    pub(crate) fn part(
+        &mut self,
+        from: Reg,
+        into: Reg,
+        parted: Result<(Token, Option<Token>), Rejected>,
+    ) -> Reply
+        requires from { IsNone (register self.old from) }
+        requires into { IsNone (register self.old into) }
+        requires apart { from ≢ into }
+        ensures { (self.new, result) ≡ parted_to from into parted self.old }
+    {
+        match parted {
+            Ok((first, rest)) => {
+                self.hold_any(from, rest);
+                self.hold(into, first);
+                Reply::Done
+            }
+            Err(Rejected { why, token }) => {
+                self.hold(from, token);
+                Reply::Refused(why)
+            }
+        }
+    }
+
+    // Whether a register that is named holds nothing.
+    fn is_empty(&self, source: Option<Reg>) -> bool
+        ensures { result ≡ is_empty (table_of self.now) source }
+    {
+        match source {
+            Some(reg) => !self.holds(reg),
+            None => false,
+        }
+    }
+
+    // Whether a source holds nothing, once those before it are empty.
+    pub(crate) fn misses_token(&self, names: &Names) -> bool
+        ensures { result ≡ misses_token (table_of self.now) names.now }
+    {
+        if self.is_empty(names.source) || self.is_empty(names.second) {
+            return true;
+        }
+        match (names.source, names.second) {
+            (Some(first), Some(second)) => first.index() == second.index(),
+            _ => false,
+        }
+    }
+
+    // Whether the destination, which is one of these registers, holds a token.
+    pub(crate) fn is_taken(&self, names: &Names) -> bool
+        ensures value { result ≡ is_taken (table_of self.now) names.now }
+        ensures there { ForSome names.now.destination (λ reg. reg < length self.now) }
+    {
+        match names.destination {
+            Some(reg) => self.holds(reg),
+            None => false,
         }
     }
 
     // What the registers hold, a to z.
-    pub(crate) fn slots(&self) -> &[Option<TokenValue>]
+    pub(crate) fn slots(&self) -> &[Option<Token>]
         ensures { result.now ≡ self.now }
     {
         &self.slots
     }
 
-    // Spends the registers: what they held, a to z.
-    pub(crate) fn spend(self) -> [Option<TokenValue>; MOST_REGISTERS]
-        ensures { result ≡ self }
+    // Takes the registers apart: what they held, a to z.
+    pub(crate) fn into_slots(self) -> [Option<Token>; MOST_REGISTERS]
+        ensures value { result ≡ self }
+        ensures count { length result ≡ most_registers }
     {
         let Regs { slots } = self;
         slots

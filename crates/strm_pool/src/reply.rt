@@ -1,20 +1,75 @@
 //! Replies as data.
+ghost use Rattle.std.specs.Prelude.{◌≡◌};
+ghost use Rattle.strm_pool.specs.declared.reply.Reply.TheVariants as replies;
+ghost use Rattle.strm_pool.specs.Shapes.{reply_done, reply_made};
+ghost use Rattle.strm_pool.specs.Step.{yes_or_no};
+
+use crate::octets::Octets;
 use strm_data::Refusal;
-use strm_mblk::Census;
+use strm_mblk::{BlockInfo, Census};
 
 /// The reply to a call.
-#[derive(Debug, Drop, PartialEq, Eq)]
+#[derive(Debug, PartialEq, Eq, Drop)]
 pub enum Reply {
     /// The call was done.
     Done,
+    /// It would be done.
+    Yes,
+    /// It would be refused.
+    No,
     /// The call was done, and there was nothing to give.
     Nothing,
     /// A register that the call takes from holds no token, and nothing was done.
     Empty,
     /// A register that the call puts into holds a token, and nothing was done.
     Taken,
+    /// How many bytes a message has, or how many messages a queue.
+    Size(u32),
+    /// Bytes of a message.
+    Bytes(Octets),
+    /// What there is to tell of a block.
+    Block(BlockInfo),
     /// How many message blocks are where.
     Census(Census),
     /// The call was refused, and nothing was done.
     Refused(Refusal),
+}
+
+impl Reply {
+    // `Yes` where it is true, else `No`.
+    pub(crate) fn yes_or_no(answer: bool) -> Reply
+        ensures { result ≡ yes_or_no answer }
+    {
+        if answer { Reply::Yes } else { Reply::No }
+    }
+
+    // `Done`, or the refusal.
+    pub(crate) fn done(answer: Result<(), Refusal>) -> Reply
+        ensures { result ≡ reply_done answer }
+    {
+        match answer {
+            Ok(()) => Reply::Done,
+            Err(why) => Reply::Refused(why),
+        }
+    }
+
+    // What there is to tell of a block, or the refusal.
+    pub(crate) fn block(answer: Result<BlockInfo, Refusal>) -> Reply
+        ensures { result ≡ reply_made (λ info. replies.Block info) answer }
+    {
+        match answer {
+            Ok(info) => Reply::Block(info),
+            Err(why) => Reply::Refused(why),
+        }
+    }
+
+    // A size, or the refusal.
+    pub(crate) fn size(answer: Result<u32, Refusal>) -> Reply
+        ensures { result ≡ reply_made (λ size. replies.Size size) answer }
+    {
+        match answer {
+            Ok(size) => Reply::Size(size),
+            Err(why) => Reply::Refused(why),
+        }
+    }
 }

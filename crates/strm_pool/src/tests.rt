@@ -1,23 +1,21 @@
-ghost use Rattle.std.specs.Prelude.{IsTrue};
-ghost use Rattle.strm_mblk.specs.Arena.{has};
-
-use crate::{
-    Census, ClassSpec, ClassSpecs, Config, Octets, Pool, QueueSpec, QueueSpecs, Reg, Regs, Token,
-};
+use crate::{Call, ClassSpec, ClassSpecs, Config, Octets, Pool, QueueSpec, QueueSpecs, Reg, Reply};
 use arrayvec::ArrayVec;
 use std::alloc::Global;
 use std::process::Abort;
 
-mod apply;
+mod bench;
+mod beside;
 mod config;
+mod long_run;
 mod names;
 mod pool;
 mod regs;
 mod rows;
+mod second;
+mod tally;
 
-const CLASSES: [(u32, u32); 2] = [(4, 1), (16, 2)];
-
-const QUEUES: [(u32, u32, Option<u8>); 2] = [(10, 4, Some(1)), (10, 4, None)];
+// Data blocks of two sizes, and how many.
+const SIZES: [(u32, u32); 2] = [(16, 4), (64, 2)];
 
 // Classes of a size and a count each.
 fn classes(rt: &impl Abort, specs: &[(u32, u32)]) -> ClassSpecs {
@@ -47,13 +45,19 @@ fn queues(rt: &impl Abort, specs: &[(u32, u32, Option<u8>)]) -> QueueSpecs {
     QueueSpecs::of(list)
 }
 
-// A pool with data blocks of 4, 16 and 16 bytes, and two queues.
-fn opened(rt: &impl Abort, alloc: Global, id: u32, mblks: u32) -> Pool {
+// A pool of an id and so many message blocks, with these classes and queues.
+fn opened(
+    rt: &impl Abort,
+    alloc: Global,
+    named: (u32, u32),
+    classes: ClassSpecs,
+    on: &[(u32, u32, Option<u8>)],
+) -> Pool {
     let config = Config {
-        id,
-        mblks,
-        classes: classes(rt, &CLASSES),
-        queues: queues(rt, &QUEUES),
+        id: named.0,
+        mblks: named.1,
+        classes,
+        queues: queues(rt, on),
         bufcalls: 2,
         first_id: 1,
     };
@@ -72,33 +76,7 @@ fn reg(rt: &impl Abort, letter: u8) -> Reg {
     Reg::new(letter.wrapping_sub(b'a')).expect(rt, "a letter")
 }
 
-// A new message.
-fn allocated(rt: &impl Abort, pool: &mut Pool, size: u32) -> Token
-    ensures { IsTrue (has pool.new.arena result) }
-{
-    let Ok(token) = pool.allocb(size) else {
-        panic!(rt; "refused");
-    };
-    token
-}
-
-// So many message blocks are free, on queues and held.
-fn assert_census(rt: &impl Abort, pool: &Pool, free: u32, queued: u32, held: u32) {
-    assert_eq!(rt; pool.census(), Census { free, queued, held });
-}
-
-// The token is that of a message of one block.
-fn assert_token(rt: &impl Abort, token: &Token, pool: u32, head: u32) {
-    assert_eq!(rt;
-        (token.pool(), token.head(), token.blocks()),
-        (pool, head, 1)
-    );
-}
-
-// Puts a token into a free register.
-fn hold(rt: &impl Abort, pool: &mut Pool, regs: &mut Regs, reg: Reg, token: Token) {
-    if let Some(token) = regs.put(reg, token) {
-        pool.freemsg(token);
-        panic!(rt; "a taken register");
-    }
+// A call was answered so.
+fn assert_reply(rt: &impl Abort, call: &Call, given: &Reply, reply: &Reply) {
+    assert!(rt; given == reply, "{call:?} {given:?}");
 }

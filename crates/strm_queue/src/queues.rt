@@ -69,8 +69,8 @@ impl Queues {
         Ok(Queues { queues })
     }
 
-    // Whether there is a queue of this number.
-    fn has_queue(&self, queue: u8) -> bool
+    /// Whether there is a queue of this number. Nothing changes.
+    pub fn has_queue(&self, queue: u8) -> bool
         ensures { result ≡ nat_lt queue (length self.now.state.specs) }
     {
         usize::from(queue) < self.queues.len()

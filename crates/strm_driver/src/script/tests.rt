@@ -67,14 +67,29 @@ fn reads_a_configuration(rt: HostRuntime) -> Result<(), Fail> {
     Ok(())
 }
 
+// The calls that the command lines of a text are read as, one on each line of the other.
+fn expect_calls(
+    rt: &(impl Abort + AllocGlobal),
+    commands: &str,
+    calls: &[(u32, &str)],
+) -> Result<(), Fail> {
+    let text = format!(in rt.alloc(); "{OPEN}{commands}")?;
+    assert!(rt; text.len() <= 16_777_216);
+    let script = parse(rt.alloc(), text.as_bytes())?;
+    assert_eq!(rt; script.lines.len(), calls.len());
+    for (line, (number, call)) in script.lines.iter().zip(calls) {
+        assert_eq!(rt; line.number, *number);
+        let found = format!(in rt.alloc(); "{:?}", line.call)?;
+        assert_eq!(rt; found.as_str(), *call);
+    }
+    Ok(())
+}
+
 #[test]
 fn reads_commands(rt: HostRuntime) -> Result<(), Fail> {
     let commands =
         "allocb a 10\nwrite b 0 68656aff\n# more\n\nputq 0 a\ngetq 255 z\nfreemsg c\ncensus\n\
         write d 4294967295 -\n";
-    let text = format!(in rt.alloc(); "{OPEN}{commands}")?;
-    assert!(rt; text.len() <= 16_777_216);
-    let script = parse(rt.alloc(), text.as_bytes())?;
     let write = "Write(Reg { place: 1 }, 0, Octets { bytes: [104, 101, 106, 255] })";
     let write_nothing = "Write(Reg { place: 3 }, 4294967295, Octets { bytes: [] })";
     let calls = [
@@ -86,13 +101,53 @@ fn reads_commands(rt: HostRuntime) -> Result<(), Fail> {
         (13, "Census"),
         (14, write_nothing),
     ];
-    assert_eq!(rt; script.lines.len(), calls.len());
-    for (line, (number, call)) in script.lines.iter().zip(calls) {
-        assert_eq!(rt; line.number, number);
-        let found = format!(in rt.alloc(); "{:?}", line.call)?;
-        assert_eq!(rt; found.as_str(), call);
-    }
-    Ok(())
+    expect_calls(&rt, commands, &calls)
+}
+
+#[test]
+fn reads_calls_on_blocks(rt: HostRuntime) -> Result<(), Fail> {
+    let commands =
+        "testb 0\ndupb a b\ndupmsg b c\ncopyb c d\ncopymsg d e\nsettype f 1 M_DATA\nsettype g 2 M_IOCDATA\n\
+        setband h 255\nlinkb i j\nunlinkb j k\nrmvb k 3 l\nadjmsg l -2147483648\nadjmsg m 2147483647\n\
+        pullupmsg n -1\npullupmsg o 0\nmsgdsize p\nsize q\nread r 4\nblock s 5\nfreeb t\n";
+    let calls = [
+        (6, "Testb(0)"),
+        (7, "Dupb(Reg { place: 0 }, Reg { place: 1 })"),
+        (8, "Dupmsg(Reg { place: 1 }, Reg { place: 2 })"),
+        (9, "Copyb(Reg { place: 2 }, Reg { place: 3 })"),
+        (10, "Copymsg(Reg { place: 3 }, Reg { place: 4 })"),
+        (11, "Settype(Reg { place: 5 }, 1, MData)"),
+        (12, "Settype(Reg { place: 6 }, 2, MIocdata)"),
+        (13, "Setband(Reg { place: 7 }, 255)"),
+        (14, "Linkb(Reg { place: 8 }, Reg { place: 9 })"),
+        (15, "Unlinkb(Reg { place: 9 }, Reg { place: 10 })"),
+        (16, "Rmvb(Reg { place: 10 }, 3, Reg { place: 11 })"),
+        (17, "Adjmsg(Reg { place: 11 }, -2147483648)"),
+        (18, "Adjmsg(Reg { place: 12 }, 2147483647)"),
+        (19, "Pullupmsg(Reg { place: 13 }, -1)"),
+        (20, "Pullupmsg(Reg { place: 14 }, 0)"),
+        (21, "Msgdsize(Reg { place: 15 })"),
+        (22, "Size(Reg { place: 16 })"),
+        (23, "Read(Reg { place: 17 }, 4)"),
+        (24, "Block(Reg { place: 18 }, 5)"),
+        (25, "Freeb(Reg { place: 19 })"),
+    ];
+    expect_calls(&rt, commands, &calls)
+}
+
+#[test]
+fn reads_calls_on_queues(rt: HostRuntime) -> Result<(), Fail> {
+    let calls = [
+        (6, "Putbq(1, Reg { place: 0 })"),
+        (7, "Insq(2, 4294967295, Reg { place: 1 })"),
+        (8, "Rmvq(3, 7, Reg { place: 2 })"),
+        (9, "Qsize(4)"),
+    ];
+    expect_calls(
+        &rt,
+        "putbq 1 a\ninsq 2 4294967295 b\nrmvq 3 7 c\nqsize 4\n",
+        &calls,
+    )
 }
 
 #[test]
@@ -105,6 +160,8 @@ fn finds_the_first_fault(rt: HostRuntime) -> Result<(), Fail> {
         (OPEN, "x\ncensus", 6, Kind::Unknown),
         ("", "Pool 1 4\n", 1, Kind::Unknown),
         ("", "pools 1 4\n", 1, Kind::Unknown),
+        (OPEN, "dup a b\n", 6, Kind::Unknown),
+        (OPEN, "dupmsgs a b\n", 6, Kind::Unknown),
         ("", " pool 1 4\n", 1, Kind::Unknown),
         ("", "pool\t1 4\n", 1, Kind::Unknown),
         ("", " \n", 1, Kind::Unknown),
@@ -113,6 +170,7 @@ fn finds_the_first_fault(rt: HostRuntime) -> Result<(), Fail> {
         ("", "class\n", 1, Kind::Order),
         ("", "worker\n", 1, Kind::Order),
         ("", "census\n", 1, Kind::Order),
+        ("", "rmvq x\n", 1, Kind::Order),
         ("", "pool 1 4\npool 1 4\n", 2, Kind::Order),
         ("", "pool 1 4\nqueue 2 1 s -\n", 2, Kind::Order),
         (CLASSES, "bufcalls 1 1\n", 3, Kind::Order),
@@ -144,6 +202,10 @@ fn finds_the_first_fault_of_a_form(rt: HostRuntime) -> Result<(), Fail> {
         (OPEN, "census \n", 6, Kind::Shape),
         (OPEN, "allocb  a 4\n", 6, Kind::Shape),
         (OPEN, "write a 0 00 1 2 3 4 5\n", 6, Kind::Shape),
+        (OPEN, "testb\n", 6, Kind::Shape),
+        (OPEN, "qsize 0 0\n", 6, Kind::Shape),
+        (OPEN, "rmvb a 0\n", 6, Kind::Shape),
+        (OPEN, "settype A x\n", 6, Kind::Shape),
         ("", "pool  4\n", 1, Kind::Number),
         ("", "pool 01 4\n", 1, Kind::Number),
         ("", "pool 00 4\n", 1, Kind::Number),
@@ -156,13 +218,32 @@ fn finds_the_first_fault_of_a_form(rt: HostRuntime) -> Result<(), Fail> {
         (OPEN, "allocb a 01\n", 6, Kind::Number),
         (OPEN, "putq 256 A\n", 6, Kind::Number),
         (OPEN, "write a x 0\n", 6, Kind::Number),
+        (OPEN, "adjmsg a -\n", 6, Kind::Number),
+        (OPEN, "adjmsg a -0\n", 6, Kind::Number),
+        (OPEN, "adjmsg a -01\n", 6, Kind::Number),
+        (OPEN, "adjmsg a --1\n", 6, Kind::Number),
+        (OPEN, "adjmsg a +1\n", 6, Kind::Number),
+        (OPEN, "adjmsg a 2147483648\n", 6, Kind::Number),
+        (OPEN, "pullupmsg a -2147483649\n", 6, Kind::Number),
+        (OPEN, "allocb a -1\n", 6, Kind::Number),
+        (OPEN, "setband a 256\n", 6, Kind::Number),
+        (OPEN, "insq 0 x A\n", 6, Kind::Number),
+        (OPEN, "settype a x M_NONE\n", 6, Kind::Number),
         (OPEN, "allocb A 4\n", 6, Kind::Register),
+        (OPEN, "adjmsg A -\n", 6, Kind::Register),
+        (OPEN, "dupb a A\n", 6, Kind::Register),
+        (OPEN, "rmvb a 0 1\n", 6, Kind::Register),
         (OPEN, "freemsg ab\n", 6, Kind::Register),
         (OPEN, "freemsg \n", 6, Kind::Register),
         (OPEN, "getq 0 {\n", 6, Kind::Register),
         (OPEN, "write 1 x 0\n", 6, Kind::Register),
         (CLASSES, "queue 2 1 S x\n", 3, Kind::Word),
         (CLASSES, "queue 2 1  -\n", 3, Kind::Word),
+        (OPEN, "settype a 0 M_NONE\n", 6, Kind::Word),
+        (OPEN, "settype a 0 m_data\n", 6, Kind::Word),
+        (OPEN, "settype a 0 M_DATA2\n", 6, Kind::Word),
+        (OPEN, "settype a 0 M_\n", 6, Kind::Word),
+        (OPEN, "settype a 0 \n", 6, Kind::Word),
         (OPEN, "write a 0 0\n", 6, Kind::Hex),
         (OPEN, "write a 0 0A\n", 6, Kind::Hex),
         (OPEN, "write a 0 --\n", 6, Kind::Hex),

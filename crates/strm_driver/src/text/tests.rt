@@ -1,6 +1,7 @@
 use super::{blocks_text, class_text, reply_text};
+use arrayvec::ArrayVec;
 use std::test::Fail;
-use strm_pool::{Census, ClassInfo, Refusal, Reply};
+use strm_pool::{BlockInfo, Census, ClassInfo, MsgType, Octets, Refusal, Reply};
 
 const CENSUS: Census = Census {
     free: 4095,
@@ -20,6 +21,34 @@ fn writes_a_line_for_each_reply(rt: HostRuntime) -> Result<(), Fail> {
     reply_text(&mut text, 0, 12, &Reply::Refused(Refusal::NoMblk))?;
     let wanted =
         "0:7 ok\n0:8 none\n15:1048599 empty\n255:4294967295 taken\n1:10 census 4095 0 12\n0:11 refused 21 BadShared\n0:12 refused 2 NoMblk\n";
+    assert_eq!(rt; text.as_str(), wanted);
+    Ok(())
+}
+
+#[test]
+fn writes_what_a_call_answers(rt: HostRuntime) -> Result<(), Fail> {
+    let mut text = String::new(rt.alloc());
+    let mut bytes = ArrayVec::new();
+    bytes
+        .try_extend_from_slice(&[0, 9, 10, 15, 16, 159, 160, 255])
+        .ok()
+        .ok_or("eight bytes have room")?;
+    let info = BlockInfo {
+        kind: MsgType::MPcproto,
+        len: 4096,
+        band: 255,
+        room: 0,
+        names: 12,
+    };
+    reply_text(&mut text, 0, 7, &Reply::Yes)?;
+    reply_text(&mut text, 0, 8, &Reply::No)?;
+    reply_text(&mut text, 0, 9, &Reply::Size(u32::MAX))?;
+    reply_text(&mut text, 0, 10, &Reply::Size(0))?;
+    reply_text(&mut text, 0, 11, &Reply::Bytes(Octets::of(bytes)))?;
+    reply_text(&mut text, 0, 12, &Reply::Bytes(Octets::of(ArrayVec::new())))?;
+    reply_text(&mut text, 0, 13, &Reply::Block(info))?;
+    let wanted =
+        "0:7 yes\n0:8 no\n0:9 size 4294967295\n0:10 size 0\n0:11 bytes 00090a0f109fa0ff\n0:12 bytes -\n0:13 block M_PCPROTO len=4096 band=255 room=0 names=12\n";
     assert_eq!(rt; text.as_str(), wanted);
     Ok(())
 }

@@ -353,6 +353,43 @@ module _ (a : Arena) where
         | false ↦ leaves_same a (t.head ∷ [])
       ]
 
+-- nothing is held where a message was taken out
+none_at : {X : Type 0} (xs : List (Option X)) (i : ℕ) → get_or (set xs i None) i None ≡ None
+none_at [] i = refl
+none_at (x ∷ xs) zero = refl
+none_at (x ∷ xs) (suc i) = none_at xs i
+
+-- the message of a token that is spent
+pub spent_gone : (a : Arena) (t : TokenValue) → has_token a t ≡ true → held_at (spent a t) t.head ≡ None
+spent_gone a t had =
+    ap (λ x. held_at x t.head) (cond-true (has_token a t) (freemsg t.head a) a had)
+    ∙ ap (λ (held : List (Option Message)). get_or held t.head None) (blocks_free (message_at a t.head) (without_held t.head a)).held ∙ none_at a.held t.head
+
+-- the one behind, of two that are joined
+pub linkb_gone : (a : Arena) (h g : ℕ) → h ≢ g → held_at (linkb h g a) g ≡ None
+linkb_gone a h g other =
+    ap (λ (x : Arena). held_at x g) (cond-false (h == g) a (record a { held = joined h g a.held }) (ne_eqb h g other))
+    ∙ get_or-set_other (set a.held g None) h g _ None (λ same. other (sym same)) ∙ none_at a.held g
+
+-- a message of which a block is taken out, where neither has its head
+pub rmvb_gone : (a b : Arena) (h k n : ℕ) (o : Option ℕ) → rmvb h k a ≡ Ok ((n, o), b) → n ≢ h → (o ≡ Some h → ⊥) → held_at b h ≡ None
+rmvb_gone a b h k n o is first second = parted (slice_get (message_at a h) k) is
+  where
+    rest : Message
+    rest = take k (message_at a h) ++ drop (k + 1) (message_at a h)
+
+    left : (m : Message) → (head_in m ≡ Some h → ⊥) → held_at (with_rest m (without_held h a)) h ≡ None
+    left [] other = none_at a.held h
+    left (c ∷ cs) other = get_or-set_other (set a.held h None) c.number h (Some (c ∷ cs)) None (λ same. other (ap (λ i. Some i) (sym same))) ∙ none_at a.held h
+
+    parted : (block : Option Block) → rmvb_of h a rest block ≡ Ok ((n, o), b) → held_at b h ≡ None
+    parted None is = absurd cc
+    parted (Some c) is =
+        let made : ((c.number, head_in rest), with_held (c ∷ []) (with_rest rest (without_held h a))) ≡ ((n, o), b) = cc in
+        subst (λ (x : Arena). held_at x h ≡ None) (ap (λ (p : (ℕ × Option ℕ) × Arena). p.1) made)
+        (get_or-set_other (with_rest rest (without_held h a)).held c.number h (Some (c ∷ [])) None (λ same. first (sym (ap (λ (p : (ℕ × Option ℕ) × Arena). p.0.0) made) ∙ sym same))
+        ∙ left rest (λ at. second (sym (ap (λ (p : (ℕ × Option ℕ) × Arena). p.0.1) made) ∙ at)))
+
 -- ---- calls that take data blocks, or alter one
 
 module _ (a : Arena) (parted : IsParted a) where

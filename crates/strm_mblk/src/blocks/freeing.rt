@@ -72,6 +72,8 @@ impl Blocks {
         // The token is of these blocks, and no held message had its head.
         ensures had { IfSome result (λ rest. IsTrue (has self.new rest)) }
         ensures unheld { IfSome result (λ rest. held_at self.old rest.head ≡ None) }
+        // No message is held at the old head.
+        ensures gone { held_at self.new token.head ≡ None }
         ensures others { LeavesOthers (token.head ∷ head_given result) self.old self.new }
     {
         self.lawful();

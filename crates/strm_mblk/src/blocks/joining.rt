@@ -61,6 +61,8 @@ impl Blocks {
         ensures rest_had { IfOk result (λ tokens. IfSome tokens.1 (λ rest. IsTrue (has self.new rest))) }
         ensures unheld { IfOk result (λ tokens. tokens.0.head ≢ token.head → held_at self.old tokens.0.head ≡ None) }
         ensures rest_unheld { IfOk result (λ tokens. IfSome tokens.1 (λ rest. rest.head ≢ token.head → held_at self.old rest.head ≡ None)) }
+        // They are of two messages.
+        ensures apart { IfOk result (λ tokens. IfSome tokens.1 (λ rest. rest.head ≢ tokens.0.head)) }
         ensures others { LeavesOthers (token.head ∷ heads_parted result) self.old self.new }
     {
         if place == 0 {

@@ -75,6 +75,8 @@ impl Blocks {
         requires { IsTrue (has self.now token.now) }
         ensures count { result ≡ min (length into.old) (size_of (message_at self.now token.now.head) - at) }
         ensures bytes { into.new ≡ take result (drop at (bytes_of self.now.store (message_at self.now token.now.head))) ++ drop result into.old }
+        // There are as many bytes as the message's size.
+        ensures sized { length (bytes_of self.now.store (message_at self.now token.now.head)) ≡ size_of (message_at self.now token.now.head) }
     {
         let mut skip = at;
         let mut done = 0;

@@ -1,7 +1,11 @@
-use super::{CLASSES, QUEUES, assert_census, classes, queues};
+use super::{classes, queues};
 use crate::{Config, NewFault, Pool, Which};
 use std::alloc::Global;
 use std::process::Abort;
+
+const CLASSES: [(u32, u32); 2] = [(4, 1), (16, 2)];
+
+const QUEUES: [(u32, u32, Option<u8>); 2] = [(10, 4, Some(1)), (10, 4, None)];
 
 type Row<'a> = (
     u32,
@@ -112,8 +116,7 @@ fn assert_fault(rt: &impl Abort, alloc: Global, config: Config, fault: Option<Wh
     assert!(rt; config.fault() == fault);
     match Pool::new(alloc, config) {
         Ok(pool) => {
-            assert_census(rt, &pool, mblks, 0, 0);
-            assert!(rt; fault.is_none());
+            assert!(rt; fault.is_none() && pool.census().free == mblks);
         }
         Err(NewFault::BadConfig(which)) => assert!(rt; fault == Some(which)),
         Err(NewFault::Memory) => panic!(rt; "out of memory"),

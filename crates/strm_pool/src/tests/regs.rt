@@ -1,5 +1,6 @@
-use super::{allocated, assert_census, hold, opened, reg};
-use crate::{Pool, Reg, Regs, Token};
+use super::bench::Bench;
+use super::{SIZES, reg};
+use crate::{Call, Reg, Regs, Token};
 use std::process::Abort;
 
 #[test]
@@ -17,43 +18,29 @@ fn assert_holds(rt: &impl Abort, regs: &Regs, a: bool, z: bool) {
 
 // The register keeps what it holds, and the token comes back.
 fn rejected(rt: &impl Abort, regs: &mut Regs, reg: Reg, token: Token) -> Token {
-    let Some(token) = regs.put(reg, token) else {
-        panic!(rt; "the register is taken");
-    };
-    token
-}
-
-// The token of a register, which then holds nothing.
-fn taken(rt: &impl Abort, pool: &mut Pool, regs: &mut Regs, reg: Reg) -> Token {
-    let Some(token) = regs.take(reg) else {
-        panic!(rt; "the register is taken");
-    };
-    if let Some(other) = regs.take(reg) {
-        pool.freemsg(token);
-        pool.freemsg(other);
-        panic!(rt; "the register is free");
+    match regs.put(reg, token) {
+        Some(token) => token,
+        None => panic!(rt; "the register was free"),
     }
-    token
 }
 
 #[test]
 fn registers_hold_tokens(rt: HostRuntime) {
-    let mut pool = opened(&rt, rt.alloc(), 7, 4);
-    let mut regs = Regs::new();
+    let mut bench = Bench::opened(&rt, rt.alloc(), (7, 4), &SIZES);
     let (a, z) = (reg(&rt, b'a'), reg(&rt, b'z'));
-    assert!(rt; pool.owns(&regs));
-    assert_holds(&rt, &regs, false, false);
-    let first = allocated(&rt, &mut pool, 1);
-    let second = allocated(&rt, &mut pool, 1);
-    hold(&rt, &mut pool, &mut regs, z, first);
-    assert_holds(&rt, &regs, false, true);
-    let second = rejected(&rt, &mut regs, z, second);
-    assert!(rt; second.head() == 1);
-    let first = taken(&rt, &mut pool, &mut regs, z);
-    assert!(rt; first.head() == 0);
-    assert_holds(&rt, &regs, false, false);
-    pool.freemsg(first);
-    hold(&rt, &mut pool, &mut regs, a, second);
-    pool.drain(regs);
-    assert_census(&rt, &pool, 4, 0, 0);
+    assert_holds(&rt, bench.regs(), false, false);
+    bench.done(&rt, &[Call::Allocb(z, 1), Call::Allocb(a, 1)], &[Some(1)]);
+    assert_holds(&rt, bench.regs(), true, true);
+    let second = bench.taken(&rt, a);
+    assert_holds(&rt, bench.regs(), false, true);
+    let second = rejected(&rt, bench.regs(), z, second);
+    assert_eq!(rt; second.head(), 1);
+    let first = bench.taken(&rt, z);
+    assert_eq!(rt; first.head(), 0);
+    assert_holds(&rt, bench.regs(), false, false);
+    bench.free(first);
+    bench.hold(&rt, a, second);
+    let bench = bench.drained();
+    bench.assert_census(&rt, 4, 0);
+    bench.end();
 }

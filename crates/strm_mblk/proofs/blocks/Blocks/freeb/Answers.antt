@@ -1,13 +1,13 @@
 use Rattle.std.proofs.Common.{◌∷◌, ◌≡◌, ap, subst, sym, ◌∙◌, true}
 use Rattle.std.specs.Option.{IfSome}
 use Rattle.strm_mblk.specs.declared.token.TokenValue.{TokenValue}
-use Rattle.strm_mblk.specs.Arena.{has, message_at, token_of}
+use Rattle.strm_mblk.specs.Arena.{has, held_at, message_at, token_of}
 use Rattle.std.specs.Prelude.{option_map}
 use Rattle.strm_mblk.specs.BlockCalls.{freeb, unlinkb}
 use Rattle.strm_mblk.specs.Freeing.{spent}
 use Rattle.strm_mblk.proofs.arena.Heads.{IsOneFreed, frees_one}
 use Rattle.strm_mblk.proofs.arena.Tokens.{had_message}
-use Rattle.strm_mblk.proofs.arena.Frame.{leaves_freeb}
+use Rattle.strm_mblk.proofs.arena.Frame.{leaves_freeb, spent_gone}
 use Rattle.strm_mblk.specs.Frame.{LeavesOthers, head_given}
 use Rattle.strm_mblk.proofs.blocks.Blocks.freeb.Goals as goal
 use Rattle.strm_mblk.proofs.blocks.Blocks.freeb.Goals.{After-freemsg}
@@ -43,3 +43,10 @@ returns-clause-others c =
     let made = freeb h c.args.self.now in
     subst (λ o. LeavesOthers (h ∷ head_given o) c.args.self.now c.freemsg.new.self) (sym (rest_is c))
     (subst (LeavesOthers (h ∷ head_given (option_map (token_of made.1) made.0)) c.args.self.now) (sym (after_is c)) (leaves_freeb c.args.self.now made.1 h))
+
+pub returns-clause-gone : goal.returns-clause-gone
+returns-clause-gone c =
+    let first = c.unlinkb-rest.new.token in
+    ap (λ a. held_at a c.args.token.head) c.freemsg.ensures.after
+    ∙ ap (held_at (spent c.unlinkb-rest.new.self first)) (sym (ap (λ (t : TokenValue). t.head) c.unlinkb-rest.ensures.token))
+    ∙ spent_gone c.unlinkb-rest.new.self first c.unlinkb-rest.ensures.had

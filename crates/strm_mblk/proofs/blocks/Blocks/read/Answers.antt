@@ -5,7 +5,7 @@ use Rattle.strm_mblk.specs.Arena.{Arena, message_at}
 use Rattle.strm_mblk.specs.Block.{bytes_of, bytes_of_block}
 use Rattle.strm_mblk.specs.BlocksLayout.{IsPlaced, block_of, fields_at, no_fields}
 use Rattle.strm_mblk.specs.NodeLists.{nodes_at}
-use Rattle.strm_mblk.proofs.reading.Bytes.{IsRead, all_read, bytes_from, length-bytes_of_block, past_last}
+use Rattle.strm_mblk.proofs.reading.Bytes.{IsRead, all_read, bytes_from, length-bytes_of_block, length-message, past_last}
 use Rattle.strm_mblk.proofs.lists.ListParts.{drop_past, put_rest}
 use Rattle.strm_mblk.proofs.lists.Overlaid.{IsLaid, laid_on}
 use Rattle.strm_mblk.proofs.layout.Places.{IsAt, block_none, block_some}
@@ -98,3 +98,9 @@ returns-clause-count c = (read_after c).count
 
 pub returns-clause-bytes : goal.returns-clause-bytes
 returns-clause-bytes c = (read_after c).bytes
+
+pub returns-in_default-clause-sized : goal.returns-in_default-clause-sized
+returns-in_default-clause-sized c = length-message c.self.inside.id c.self.inside.data c.self.inside.blocks.items c.self.inside.chains c.self.invariant.filled c.args.self.now c.self.view_is c.args.token.now c.requires
+
+pub returns-clause-sized : goal.returns-clause-sized
+returns-clause-sized c = length-message c.self.inside.id c.self.inside.data c.self.inside.blocks.items c.self.inside.chains c.self.invariant.filled c.args.self.now c.self.view_is c.args.token.now c.requires

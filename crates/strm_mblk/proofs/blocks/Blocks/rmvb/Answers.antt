@@ -1,8 +1,9 @@
-use Rattle.std.proofs.Common.{[], ◌∷◌, ◌≡◌, ℕ, Some, Ok, Err, Option, length, ap, subst, sym, ◌∙◌}
-use Rattle.std.specs.Prelude.{is_some, option_map, slice_get}
+use Rattle.std.proofs.Common.{[], ◌∷◌, ◌≡◌, ◌≢◌, ℕ, Some, None, Ok, Err, Option, length, ap, subst, sym, ◌∙◌}
+use Rattle.std.specs.Prelude.{IfSome, is_some, option_map, slice_get}
 use Rattle.strm_data.specs.declared.refusal.Refusal.TheVariants.{NoSuchBlock}
 use Rattle.strm_mblk.specs.declared.token.TokenValue.{TokenValue}
 use Rattle.strm_mblk.specs.Arena.{Arena, has, held_at, message_at, shelved_blocks, token_of}
+use Rattle.strm_mblk.specs.Block.{Message}
 use Rattle.strm_mblk.specs.BlockCalls.{rmvb, rmvb_of, unlinkb}
 use Rattle.strm_mblk.specs.BlocksLayout.{arena_of}
 use Rattle.strm_mblk.specs.Given.{Given, value_after, answer_map, answer_of, or_rejected}
@@ -110,3 +111,22 @@ returns-clause-others c =
     subst (LeavesOthers (c.args.token.head ∷ c.token.result.head ∷ c.token-2.result.head ∷ []) c.args.self.now) (ap (value_after c.args.self.now) (is_taken d).value)
     (subst (λ r. LeavesOthers (c.args.token.head ∷ heads_parted r) c.args.self.now (value_after c.args.self.now (rmvb c.args.token.head c.args.place c.args.self.now))) (sym (returns-clause-answer c))
     (leaves_rmvb c.args.self.now (new_arena d) c.args.token c.args.token.head c.args.place))
+
+pub returns-then-place-eq0-clause-apart : goal.returns-then-place-eq0-clause-apart
+returns-then-place-eq0-clause-apart c =
+    let message = had_message c.args.self.now c.args.token c.requires in
+    at message.0 message.1.held c.unlinkb-rest.result c.unlinkb-rest.ensures.unheld
+  where
+    at : (m : Message) → held_at c.args.self.now c.args.token.head ≡ Some m → (o : Option TokenValue) → IfSome o (λ rest. held_at c.args.self.now rest.head ≡ None)
+        → IfSome o (λ rest. rest.head ≢ c.unlinkb-rest.new.token.head)
+    at m held None unheld = tt
+    at m held (Some rest) unheld = λ same.
+        let none : Some m ≡ None =
+        sym held ∙ ap (held_at c.args.self.now) (sym (same ∙ ap (λ (t : TokenValue). t.head) c.unlinkb-rest.ensures.token)) ∙ unheld in
+        absurd cc
+
+pub returns-clause-apart : goal.returns-clause-apart
+returns-clause-apart c same =
+    none_first c.self.inside.id c.self.inside.data c.self.inside.blocks.items c.self.inside.chains c.self.invariant.filled c.args.self.now c.self.view_is c.args.token c.requires
+    c.head.result c.args.place c.in-Some.node c.node_at.result c.head.ensures c.node_at.ensures.value c.in-Some.is c.if-place-eq0.false
+    (sym (ap (λ (t : TokenValue). t.head) c.token.ensures) ∙ sym same ∙ ap (λ (t : TokenValue). t.head) c.token-2.ensures ∙ ap (λ (t : TokenValue). t.head) c.spend-head.ensures)

@@ -1,0 +1,22 @@
+-- A call on a part of a pool is one on the whole.
+use Rattle.std.proofs.Common.{◌≡◌, Ok, Err, refl, ap}
+use Rattle.strm_mblk.specs.Arena.{Arena}
+use Rattle.strm_mblk.specs.Given.{Given, answer_of, value_after}
+use Rattle.strm_queue.specs.QueuedBlocks.{QueuedBlocks}
+use Rattle.strm_pool.specs.PoolValue.{PoolValue, on_arena, on_queues, queued, with_arena, with_queued}
+
+pub arena_after : {X : Type 0} (v : PoolValue) (g : Given Arena X) (a : Arena) → a ≡ value_after v.arena g → with_arena v a ≡ value_after v (on_arena v g)
+arena_after v (Ok given) a is = ap (with_arena v) is
+arena_after v (Err why) a is = ap (with_arena v) is
+
+pub queues_after : {X : Type 0} (v : PoolValue) (g : Given QueuedBlocks X) (w : QueuedBlocks) → w ≡ value_after (queued v) g → with_queued v w ≡ value_after v (on_queues v g)
+queues_after v (Ok given) w is = ap (with_queued v) is
+queues_after v (Err why) w is = ap (with_queued v) is
+
+pub arena_answer : {X : Type 0} (v : PoolValue) (g : Given Arena X) → answer_of (on_arena v g) ≡ answer_of g
+arena_answer v (Ok given) = refl
+arena_answer v (Err why) = refl
+
+pub queues_answer : {X : Type 0} (v : PoolValue) (g : Given QueuedBlocks X) → answer_of (on_queues v g) ≡ answer_of g
+queues_answer v (Ok given) = refl
+queues_answer v (Err why) = refl

@@ -1,0 +1,113 @@
+-- What calls on queues leave of held messages.
+use Rattle.std.proofs.Common.{◌≡◌, ℕ, zero, suc, Bool, true, false, eqb, List, [], ◌∷◌, get_or, set, Option, Some, None, Ok, Err, refl, sym, ap, ◌∙◌, subst, if◌then◌else◌, get_or-set_other}
+use Rattle.std.specs.Prelude.{not, nat_lt, length, slice_get}
+use Rattle.std.proofs.lemmas.Bool.{eq-eqb, false≢true, or_parts}
+use Rattle.strm_data.specs.declared.refusal.Refusal.{Refusal}
+use Rattle.strm_data.specs.declared.refusal.Refusal.TheVariants.{BadOrder, NoSuchPlace, NoSuchQueue}
+use Rattle.strm_links.specs.Rows as rows
+use Rattle.strm_mblk.specs.Arena.{Arena, held_at}
+use Rattle.strm_mblk.specs.Block.{Message, head_of}
+use Rattle.strm_mblk.specs.Given.{Given}
+use Rattle.strm_queue.specs.QueueCalls.{got_at, got_first, getq, has_queue, insq, message_put, messages_on, putbq, putq, rmvq, with_got, with_put}
+use Rattle.strm_queue.specs.QueuedBlocks.{QueuedBlocks}
+use Rattle.strm_queue.specs.Rank.{is_ordered, put_ahead, put_at, put_behind, rank_of, without_place}
+
+-- two answers are one, and so are the values beside them
+same_answer : {X V : Type 0} {x y : X} {v w : V} → (let a : Given V X = Ok (x, v) in let b : Given V X = Ok (y, w) in a ≡ b) → (x ≡ y) × (v ≡ w)
+same_answer {X} {V} {x} {y} {v} {w} is =
+    let both : (x, v) ≡ (y, w) = cc in
+    (ap (λ (p : X × V). p.0) both, ap (λ (p : X × V). p.1) both)
+
+-- the id stays, and so does what is held, save at one head
+pub record LeavesHeld (a b : Arena) (h : ℕ) : Type 0 where
+  pub id : b.id ≡ a.id
+  pub others : (k : ℕ) → rows.has k (h ∷ []) ≡ false → held_at b k ≡ held_at a k
+
+other_head : (k h : ℕ) → rows.has k (h ∷ []) ≡ false → k ≡ h → ⊥
+other_head k h other same = false≢true (sym (or_parts (eqb h k) false other).0 ∙ eq-eqb h k (sym same))
+
+-- a message goes on a queue
+pub record IsPutAway (v w : QueuedBlocks) (h : ℕ) : Type 0 where
+  pub left : LeavesHeld v.arena w.arena h
+  pub gone : held_at w.arena h ≡ None
+
+put_away : (v : QueuedBlocks) (q h : ℕ) (ms : List Message) → IsPutAway v (with_put q h ms v) h
+put_away v q h ms = record {
+  left = record { id = refl; others = λ k other. get_or-set_other v.arena.held h k None None (other_head k h other) };
+  gone = none_at v.arena.held h;
+}
+  where
+    none_at : (xs : List (Option Message)) (i : ℕ) → get_or (set xs i None) i None ≡ None
+    none_at [] i = refl
+    none_at (x ∷ xs) zero = refl
+    none_at (x ∷ xs) (suc i) = none_at xs i
+
+module _ (v w : QueuedBlocks) (q h : ℕ) where
+  is_with : (ms : List Message) → (let g : Given QueuedBlocks (Unit {0}) = Ok (tt, with_put q h ms v) in g ≡ Ok (tt, w)) → IsPutAway v w h
+  is_with ms is = subst (λ (u : QueuedBlocks). IsPutAway v u h) (same_answer is).1 (put_away v q h ms)
+
+  refused : (why : Refusal) → (let g : Given QueuedBlocks (Unit {0}) = Err why in g ≡ Ok (tt, w)) → IsPutAway v w h
+  refused why is = absurd cc
+
+  pub put_left : (ms : List Message) (there : Bool) → (let g : Given QueuedBlocks (Unit {0}) = if there then Ok (tt, with_put q h ms v) else Err NoSuchQueue in g ≡ Ok (tt, w)) → IsPutAway v w h
+  put_left ms true is = is_with ms is
+  put_left ms false is = refused NoSuchQueue is
+
+  pub putq_left : putq q h v ≡ Ok (tt, w) → IsPutAway v w h
+  putq_left = put_left (put_behind (rank_of v.arena.store) (message_put h v) (messages_on v q)) (has_queue v q)
+
+  pub putbq_left : putbq q h v ≡ Ok (tt, w) → IsPutAway v w h
+  putbq_left = put_left (put_ahead (rank_of v.arena.store) (message_put h v) (messages_on v q)) (has_queue v q)
+
+  pub insq_left : (k : ℕ) → insq q k h v ≡ Ok (tt, w) → IsPutAway v w h
+  insq_left k = cases (not (has_queue v q)) (nat_lt (length (messages_on v q)) k) (is_ordered (rank_of v.arena.store) ms)
+    where
+      ms : List Message
+      ms = put_at k (message_put h v) (messages_on v q)
+
+      cases : (absent past fits : Bool)
+          → (let g : Given QueuedBlocks (Unit {0}) = if absent then Err NoSuchQueue else (if past then Err NoSuchPlace else (if fits then Ok (tt, with_put q h ms v) else Err BadOrder)) in g ≡ Ok (tt, w)) → IsPutAway v w h
+      cases true past fits is = refused NoSuchQueue is
+      cases false true fits is = refused NoSuchPlace is
+      cases false false true is = is_with ms is
+      cases false false false is = refused BadOrder is
+
+-- a message comes off a queue
+module _ (v w : QueuedBlocks) (q : ℕ) where
+  got : (m : Message) (ms : List Message) → LeavesHeld v.arena (with_got q m ms v).arena (head_of m)
+  got m ms = record { id = refl; others = λ k other. get_or-set_other v.arena.held (head_of m) k (Some m) None (other_head k (head_of m) other) }
+
+  pub getq_some : (n : ℕ) → getq q v ≡ Ok (Some n, w) → LeavesHeld v.arena w.arena n
+  getq_some n = asked (has_queue v q)
+    where
+      first : (ms : List Message) → got_first q ms v ≡ Ok (Some n, w) → LeavesHeld v.arena w.arena n
+      first [] is = absurd (let e : None ≡ Some n = (same_answer is).0 in cc)
+      first (m ∷ ms) is = subst (λ (u : QueuedBlocks). LeavesHeld v.arena u.arena n) (same_answer is).1 (subst (LeavesHeld v.arena (with_got q m ms v).arena) (let e : Some (head_of m) ≡ Some n = (same_answer is).0 in let f : head_of m ≡ n = cc in f) (got m ms))
+
+      asked : (there : Bool) → (let g : Given QueuedBlocks (Option ℕ) = if there then got_first q (messages_on v q) v else Err NoSuchQueue in g ≡ Ok (Some n, w)) → LeavesHeld v.arena w.arena n
+      asked true is = first (messages_on v q) is
+      asked false is = absurd cc
+
+  pub getq_none : getq q v ≡ Ok (None, w) → w.arena ≡ v.arena
+  getq_none = asked (has_queue v q)
+    where
+      first : (ms : List Message) → got_first q ms v ≡ Ok (None, w) → w.arena ≡ v.arena
+      first [] is = ap (λ (u : QueuedBlocks). u.arena) (sym (same_answer is).1)
+      first (m ∷ ms) is = absurd (let e : Some (head_of m) ≡ None = (same_answer is).0 in cc)
+
+      asked : (there : Bool) → (let g : Given QueuedBlocks (Option ℕ) = if there then got_first q (messages_on v q) v else Err NoSuchQueue in g ≡ Ok (None, w)) → w.arena ≡ v.arena
+      asked true is = first (messages_on v q) is
+      asked false is = absurd cc
+
+  pub rmvq_left : (k n : ℕ) → rmvq q k v ≡ Ok (n, w) → LeavesHeld v.arena w.arena n
+  rmvq_left k n = asked (has_queue v q)
+    where
+      at : (o : Option Message) → got_at q k o v ≡ Ok (n, w) → LeavesHeld v.arena w.arena n
+      at None is = absurd cc
+      at (Some m) is =
+          subst (λ (u : QueuedBlocks). LeavesHeld v.arena u.arena n) (same_answer is).1
+          (subst (LeavesHeld v.arena (with_got q m (without_place k (messages_on v q)) v).arena) (same_answer is).0 (got m (without_place k (messages_on v q))))
+
+      asked : (there : Bool) → (let g : Given QueuedBlocks ℕ = if there then got_at q k (slice_get (messages_on v q) k) v else Err NoSuchQueue in g ≡ Ok (n, w)) → LeavesHeld v.arena w.arena n
+      asked true is = at (slice_get (messages_on v q) k) is
+      asked false is = absurd cc

@@ -1,0 +1,48 @@
+-- What a call names: a queue, registers that it takes from, and one that it puts into.
+use Rattle.std.specs.Prelude.{ℕ, List, [], ◌∷◌, Option, None, Some}
+use Rattle.strm_pool.specs.declared.call.Call.{Call}
+use Rattle.strm_pool.specs.declared.call.Call.TheVariants.{Allocb, Testb, Dupb, Dupmsg, Copyb, Copymsg, Write, Settype, Setband, Linkb, Unlinkb, Rmvb, Adjmsg, Pullupmsg, Msgdsize, Size, Read, Block, Freeb, Freemsg, Putq, Putbq, Insq, Getq, Rmvq, Qsize, Census}
+use Rattle.strm_pool.specs.declared.names.Names.{Names}
+
+-- a queue, a first and a second source, and a destination
+abbrev pub naming : Option ℕ → Option ℕ → Option ℕ → Option ℕ → Names
+naming queue source second destination = record { queue = queue; source = source; second = second; destination = destination }
+
+-- what each call names, in the order: queue, sources, destination
+abbrev pub names_of : Call → Names
+names_of (Allocb x size) = naming None None None (Some x)
+names_of (Testb size) = naming None None None None
+names_of (Dupb x y) = naming None (Some x) None (Some y)
+names_of (Dupmsg x y) = naming None (Some x) None (Some y)
+names_of (Copyb x y) = naming None (Some x) None (Some y)
+names_of (Copymsg x y) = naming None (Some x) None (Some y)
+names_of (Write x k bytes) = naming None (Some x) None None
+names_of (Settype x k kind) = naming None (Some x) None None
+names_of (Setband x band) = naming None (Some x) None None
+names_of (Linkb x y) = naming None (Some x) (Some y) None
+names_of (Unlinkb x y) = naming None (Some x) None (Some y)
+names_of (Rmvb x k y) = naming None (Some x) None (Some y)
+names_of (Adjmsg x n) = naming None (Some x) None None
+names_of (Pullupmsg x n) = naming None (Some x) None None
+names_of (Msgdsize x) = naming None (Some x) None None
+names_of (Size x) = naming None (Some x) None None
+names_of (Read x at) = naming None (Some x) None None
+names_of (Block x k) = naming None (Some x) None None
+names_of (Freeb x) = naming None (Some x) None None
+names_of (Freemsg x) = naming None (Some x) None None
+names_of (Putq q x) = naming (Some q) (Some x) None None
+names_of (Putbq q x) = naming (Some q) (Some x) None None
+names_of (Insq q k x) = naming (Some q) (Some x) None None
+names_of (Getq q y) = naming (Some q) None None (Some y)
+names_of (Rmvq q k y) = naming (Some q) None None (Some y)
+names_of (Qsize q) = naming (Some q) None None None
+names_of Census = naming None None None None
+
+-- a register in front of others, if there is one
+abbrev pub listed : Option ℕ → List ℕ → List ℕ
+listed None xs = xs
+listed (Some x) xs = x ∷ xs
+
+-- the registers that are named: sources in written order, then the destination
+abbrev pub registers_in : Names → List ℕ
+registers_in names = listed names.source (listed names.second (listed names.destination []))

@@ -1,0 +1,41 @@
+-- What becomes of registers when a call that was made for them answers. No public clause cites this module.
+use Rattle.std.specs.Prelude.{ℕ, List, Option, None, Some, Result, Ok, Err, slice_set}
+use Rattle.strm_data.specs.declared.refusal.Refusal.{Refusal}
+use Rattle.strm_mblk.specs.declared.rejected.Rejected.{Rejected}
+use Rattle.strm_mblk.specs.declared.token.TokenValue.{TokenValue}
+use Rattle.strm_pool.specs.declared.reply.Reply.{Reply}
+use Rattle.strm_pool.specs.declared.reply.Reply.TheVariants.{Done, Nothing, Refused}
+
+-- registers, and the reply
+abbrev pub Settled : Type 0
+Settled = List (Option TokenValue) × Reply
+
+-- y has the token that was given
+abbrev pub given_to : ℕ → Result TokenValue Refusal → List (Option TokenValue) → Settled
+given_to y (Ok token) rs = (slice_set rs y (Some token), Done)
+given_to y (Err why) rs = (rs, Refused why)
+
+-- y has the token that was given, if one was
+abbrev pub any_given_to : ℕ → Result (Option TokenValue) Refusal → List (Option TokenValue) → Settled
+any_given_to y (Ok (Some token)) rs = (slice_set rs y (Some token), Done)
+any_given_to y (Ok None) rs = (rs, Nothing)
+any_given_to y (Err why) rs = (rs, Refused why)
+
+-- x has the token that comes back, if the call was refused
+abbrev pub rejected_to : ℕ → Result (Unit {0}) Rejected → List (Option TokenValue) → Settled
+rejected_to x (Ok done) rs = (rs, Done)
+rejected_to x (Err rejected) rs = (slice_set rs x (Some rejected.token), Refused rejected.why)
+
+-- y has the first token and x the second, if there is one; or x has the one that comes back
+abbrev pub parted_to : ℕ → ℕ → Result (TokenValue × Option TokenValue) Rejected → List (Option TokenValue) → Settled
+parted_to x y (Ok tokens) rs = (slice_set (slice_set rs x tokens.1) y (Some tokens.0), Done)
+parted_to x y (Err rejected) rs = (slice_set rs x (Some rejected.token), Refused rejected.why)
+
+-- the reply that is made of an answer
+abbrev pub reply_made : {X : Type 0} → (X → Reply) → Result X Refusal → Reply
+reply_made made (Ok answer) = made answer
+reply_made made (Err why) = Refused why
+
+-- the reply to a call that answers nothing else
+abbrev pub reply_done : Result (Unit {0}) Refusal → Reply
+reply_done answer = reply_made (λ done. Done) answer

@@ -1,0 +1,47 @@
+//! The names of registers.
+ghost use Rattle.std.specs.Prelude.{◌≡◌, ◌<◌};
+ghost use Rattle.std.specs.Option.{SomeIff};
+ghost use Rattle.strm_pool.specs.Limits.{most_registers};
+
+use crate::limits::MOST_REGISTERS;
+use std::marker::Model;
+
+/// The name of a register, a to z, by its place in the alphabet from 0.
+#[derive(Clone, Copy, Debug)]
+pub struct Reg {
+    place: u8,
+}
+
+impl Model for Reg {
+    ghost use Rattle.std.specs.Prelude.{ℕ, ◌<◌};
+    ghost use Rattle.strm_pool.specs.Limits.{most_registers};
+
+    ghost Value = { ℕ };
+
+    ghost view = { λ r. r.place };
+
+    ghost invariant = { λ r. r.place < most_registers };
+
+    ghost inverse = { λ n. record { place = n } };
+}
+
+impl Reg {
+    /// The register with this place in the alphabet, or none above 25.
+    pub fn new(place: u8) -> Option<Reg>
+        ensures { SomeIff result (place < most_registers) place }
+    {
+        if usize::from(place) < MOST_REGISTERS {
+            Some(Reg { place })
+        } else {
+            None
+        }
+    }
+
+    // The place in the alphabet.
+    pub(crate) fn index(self) -> usize
+        ensures value { result ≡ self }
+        ensures small { result < most_registers }
+    {
+        usize::from(self.place)
+    }
+}

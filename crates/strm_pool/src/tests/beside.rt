@@ -1,0 +1,83 @@
+//! A pool beside its calls done a second time: both answer alike, and have the same afterwards.
+use super::assert_reply;
+use super::second::{QUEUES, REGISTERS, Second};
+use crate::{Call, Pool, Refusal, Regs, Reply, Token};
+use std::process::Abort;
+use strm_mblk::Blocks;
+
+// The first block of a message, and those behind it: one more place than there are blocks.
+fn assert_blocks(rt: &impl Abort, pool: &Pool, blocks: &Blocks, token: &Token, other: &Token) {
+    assert!(rt; pool.has(token) && blocks.has(other));
+    for place in 0..=token.blocks() {
+        assert_eq!(rt; pool.block(token, place), blocks.block(other, place));
+    }
+}
+
+// A message has the same blocks, and the same bytes, as far as they are 64.
+fn assert_message(rt: &impl Abort, pool: &Pool, blocks: &Blocks, token: &Token, other: &Token) {
+    assert_eq!(rt;
+        (token.pool(), token.head(), token.blocks()),
+        (other.pool(), other.head(), other.blocks())
+    );
+    assert_blocks(rt, pool, blocks, token, other);
+    assert!(rt; pool.has(token) && blocks.has(other));
+    let (mut bytes, mut others) = ([0; 64], [0; 64]);
+    let count = pool.read(token, 0, &mut bytes);
+    assert_eq!(rt; count, blocks.read(other, 0, &mut others));
+    assert_eq!(rt; bytes, others);
+}
+
+// Two registers have the same message, or hold nothing.
+fn assert_slot(
+    rt: &impl Abort,
+    pool: &Pool,
+    blocks: &Blocks,
+    slot: &Option<Token>,
+    place: &Option<Token>,
+) {
+    match (slot, place) {
+        (Some(token), Some(other)) => assert_message(rt, pool, blocks, token, other),
+        (None, None) => {}
+        _ => panic!(rt; "one holds a message"),
+    }
+}
+
+// Each register of the pool has the message of its place. The pool has no message that stands on a queue.
+fn assert_places(rt: &impl Abort, pool: &Pool, regs: &Regs, second: &Second) {
+    let many = usize::from(REGISTERS);
+    for (slot, place) in regs.slots().iter().zip(second.places().slots()).take(many) {
+        assert_slot(rt, pool, second.blocks(), slot, place);
+    }
+    for token in second.places().slots().iter().skip(many).flatten() {
+        assert!(rt; !pool.has(token));
+    }
+}
+
+// The size classes are the same, and the queues are as long.
+fn assert_counts(rt: &impl Abort, pool: &Pool, second: &Second) {
+    for class in 0..4 {
+        assert_eq!(rt; pool.class_info(class), second.blocks().class_info(class));
+    }
+    for queue in 0..=QUEUES as u8 {
+        let len = second.queue_len(queue);
+        assert_eq!(rt; pool.qsize(queue), len.ok_or(Refusal::NoSuchQueue));
+    }
+}
+
+// Does a call on both, and answers its reply.
+pub(super) fn serve(
+    rt: &impl Abort,
+    pool: &mut Pool,
+    regs: &mut Regs,
+    second: &mut Second,
+    call: &Call,
+) -> Reply {
+    assert!(rt; pool.owns(regs));
+    let reply = pool.apply(regs, call);
+    assert_reply(rt, call, &reply, &second.serve(rt, call));
+    let census = Reply::Census(pool.census());
+    assert_reply(rt, &Call::Census, &census, &second.serve(rt, &Call::Census));
+    assert_places(rt, pool, regs, second);
+    assert_counts(rt, pool, second);
+    reply
+}
