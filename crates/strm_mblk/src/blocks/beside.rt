@@ -94,40 +94,72 @@ impl Blocks {
         assert_eq!(rt; self.census(), plain.census_of(rt));
         self.chains.assert_free(rt, plain.free());
         self.assert_held(rt, plain);
-        assert!(rt; self.shelf_count() as usize == plain.shelves().len());
-        for (shelf, messages) in (0..255u8).zip(plain.shelves()) {
-            self.assert_shelf(rt, shelf, messages.items());
-        }
+        self.assert_shelves(rt, plain.shelves());
         self.assert_data(rt, plain);
         self.assert_classes(rt, plain);
+    }
+
+    // The block here of a message is this. Gives the one behind it.
+    fn assert_block(&self, rt: &impl Abort, at: Option<u32>, block: &Block) -> Option<u32> {
+        assert!(rt; at == Some(block.number) && (block.number as usize) < self.blocks.len());
+        let fields = self.blocks[block.number as usize];
+        let own = Block {
+            number: block.number,
+            data_number: fields.data_number,
+            offset: fields.offset,
+            len: fields.len,
+            band: fields.band,
+        };
+        assert_eq!(rt; own, *block);
+        self.chains.next(block.number)
     }
 
     // The message that begins with this number has these blocks.
     fn assert_message(&self, rt: &impl Abort, head: u32, message: &[Block]) {
         let mut at = Some(head);
         for block in message {
-            assert!(rt; at == Some(block.number) && (block.number as usize) < self.blocks.len());
-            let fields = self.blocks[block.number as usize];
-            assert_eq!(rt;
-                (fields.data_number, fields.band),
-                (block.data_number, block.band)
-            );
-            assert_eq!(rt; (fields.offset, fields.len), (block.offset, block.len));
-            at = self.chains.next(block.number);
+            at = self.assert_block(rt, at, block);
         }
         assert!(rt; at.is_none());
+    }
+
+    // The message held at this number is this, or there is none.
+    fn assert_held_at(&self, rt: &impl Abort, head: u32, message: &Option<Message>) {
+        assert!(rt; (head as usize) < self.blocks.len());
+        assert!(rt; self.chains.is_held(head) == message.is_some());
+        if let Some(message) = message {
+            self.assert_message(rt, head, message.items());
+        }
     }
 
     // The held messages are these.
     fn assert_held(&self, rt: &impl Abort, plain: &Arena) {
         assert!(rt; self.blocks.len() == plain.held().len());
         for (head, message) in (0..4096u32).zip(plain.held()) {
-            assert!(rt; (head as usize) < self.blocks.len());
-            assert!(rt; self.chains.is_held(head) == message.is_some());
-            if let Some(message) = message {
-                self.assert_message(rt, head, message.items());
-            }
+            self.assert_held_at(rt, head, message);
         }
+    }
+
+    // The messages on the shelves are these.
+    fn assert_shelves(&self, rt: &impl Abort, shelves: &[List<Message>]) {
+        assert!(rt; self.shelf_count() as usize == shelves.len());
+        for (shelf, messages) in (0..255u8).zip(shelves) {
+            self.assert_shelf(rt, shelf, messages.items());
+        }
+    }
+
+    // The message at a place of a shelf is this. Gives what is behind it.
+    fn assert_shelved(
+        &self,
+        rt: &impl Abort,
+        shelf: u8,
+        at: Option<u32>,
+        message: &[Block],
+    ) -> Option<u32> {
+        let head = head_in(message).expect(rt, "a block");
+        assert!(rt; at == Some(head) && stands_on(self, shelf, head));
+        self.assert_message(rt, head, message);
+        self.after(head)
     }
 
     // The messages on a shelf are these, front to back.
@@ -135,10 +167,7 @@ impl Blocks {
         assert!(rt; u32::from(shelf) < self.shelf_count());
         let mut at = self.first(shelf);
         for message in messages {
-            let head = head_in(message.items()).expect(rt, "a block");
-            assert!(rt; at == Some(head) && stands_on(self, shelf, head));
-            self.assert_message(rt, head, message.items());
-            at = self.after(head);
+            at = self.assert_shelved(rt, shelf, at, message.items());
         }
         assert!(rt; at.is_none());
     }
@@ -155,16 +184,26 @@ impl Blocks {
         assert!(rt; *own == *other.bytes.items());
     }
 
+    // So many of these blocks name a data block.
+    fn assert_names(&self, rt: &impl Abort, number: u32, blocks: &[Block]) {
+        assert!(rt; (number as usize) < self.data.len());
+        let names = usize::from(self.data.count(number));
+        assert_eq!(rt; names, count_naming(number, blocks));
+    }
+
+    // These are the data blocks, and so many of these message blocks name each.
+    fn assert_named(&self, rt: &impl Abort, others: &[DataBlock], blocks: &[Block]) {
+        assert!(rt; self.data.len() == others.len());
+        for (number, other) in (0..4096u32).zip(others) {
+            self.assert_data_block(rt, number, other);
+            self.assert_names(rt, number, blocks);
+        }
+    }
+
     // The data blocks, and how many message blocks name each, are these.
     fn assert_data(&self, rt: &impl Abort, plain: &Arena) {
-        assert!(rt; self.data.len() == plain.store().blocks().len());
         let blocks = plain.blocks_in(rt);
-        for (number, other) in (0..4096u32).zip(plain.store().blocks()) {
-            self.assert_data_block(rt, number, other);
-            assert!(rt; (number as usize) < self.data.len());
-            let names = usize::from(self.data.count(number));
-            assert_eq!(rt; names, count_naming(number, blocks.items()));
-        }
+        self.assert_named(rt, plain.store().blocks(), blocks.items());
     }
 
     // The size of each class, and how many of its data blocks are free and there.

@@ -1,77 +1,99 @@
-use super::duplicates::duplicated;
-use super::joining::{join, of_bytes};
-use super::{
-    allocated, assert_bytes, assert_infos, assert_told, census, free_data, info, made, opened,
-    refusal, setband, settype, write,
-};
-use crate::{Blocks, Token};
+use super::bench::{Bench, assert_says, made, refused, spent};
+use super::info;
+use crate::TokenValue;
 use std::process::Abort;
 use strm_data::{ClassSpec, MsgType, Refusal};
 
-// A message of one block for so many bytes, of a type and a band, with these bytes.
-fn of_one(
-    rt: &impl Abort,
-    blocks: &mut Blocks,
-    size: u32,
-    kind: MsgType,
-    band: u8,
-    bytes: &[u8],
-) -> Token {
-    let message = allocated(rt, blocks, size);
-    assert_eq!(rt; settype(rt, blocks, &message, 0, kind), Ok(()));
-    assert_eq!(rt; write(rt, blocks, &message, 0, bytes), Ok(()));
-    setband(rt, blocks, &message, band);
-    message
-}
-
-// A message of three blocks of other types, bands and lengths: of 16, of 64 and of 16 bytes.
-fn of_three_types(rt: &impl Abort, blocks: &mut Blocks) -> Token {
-    let mut message = of_one(rt, blocks, 16, MsgType::MProto, 1, b"a");
-    for (size, kind, band, bytes) in [
-        (64, MsgType::MCtl, 255, &b"bc"[..]),
-        (1, MsgType::MData, 3, b"def"),
-    ] {
-        let tail = of_one(rt, blocks, size, kind, band, bytes);
-        join(rt, blocks, &mut message, tail);
+impl Bench {
+    // A message of one block for so many bytes, of a type and a band, with these bytes.
+    fn of_one(
+        &mut self,
+        rt: &impl Abort,
+        size: u32,
+        kind: MsgType,
+        band: u8,
+        bytes: &[u8],
+    ) -> TokenValue {
+        let message = self.allocated(rt, size);
+        self.settype(rt, message, 0, kind, Ok(()));
+        self.write(rt, message, 0, bytes, Ok(()));
+        self.setband(rt, message, band);
+        message
     }
-    message
-}
 
-// A copy of a message, or why it is refused.
-fn copied(rt: &impl Abort, blocks: &mut Blocks, message: &Token) -> Result<Token, Refusal> {
-    assert!(rt; blocks.has(message));
-    blocks.copymsg(message)
-}
+    // A message of three blocks of other types, bands and lengths: of 16, of 64 and of 16 bytes.
+    fn of_three_types(&mut self, rt: &impl Abort) -> TokenValue {
+        let mut message = self.of_one(rt, 16, MsgType::MProto, 1, b"a");
+        let tail = self.of_one(rt, 64, MsgType::MCtl, 255, b"bc");
+        self.linkb(rt, &mut message, tail);
+        let tail = self.of_one(rt, 1, MsgType::MData, 3, b"def");
+        self.linkb(rt, &mut message, tail);
+        message
+    }
 
-// A copy of a message's first block, or why it is refused.
-fn first_copied(rt: &impl Abort, blocks: &mut Blocks, message: &Token) -> Result<Token, Refusal> {
-    assert!(rt; blocks.has(message));
-    blocks.copyb(message)
+    // This is what there is to tell of the blocks of such a message.
+    fn assert_three_types(&self, rt: &impl Abort, message: TokenValue) {
+        let told = [
+            Some(info(MsgType::MProto, 1, 1, 15)),
+            Some(info(MsgType::MCtl, 2, 255, 62)),
+            Some(info(MsgType::MData, 3, 3, 13)),
+        ];
+        self.assert_infos(rt, message, told);
+    }
+
+    // A copy of a message, or why there is none.
+    pub(super) fn copymsg(
+        &mut self,
+        rt: &impl Abort,
+        message: TokenValue,
+    ) -> Result<TokenValue, Refusal> {
+        let token = self.token(rt, message);
+        let answer = self.blocks.copymsg(&token);
+        token.spend();
+        spent(answer)
+    }
+
+    // A copy of a message's first block, or why there is none.
+    pub(super) fn copyb(
+        &mut self,
+        rt: &impl Abort,
+        message: TokenValue,
+    ) -> Result<TokenValue, Refusal> {
+        let token = self.token(rt, message);
+        let answer = self.blocks.copyb(&token);
+        token.spend();
+        spent(answer)
+    }
+
+    // Copies a message of one block into the only data block of a larger class, and frees the copy.
+    fn copy_into_larger(&mut self, rt: &impl Abort, message: TokenValue) {
+        let copy = made(rt, self.copyb(rt, message));
+        self.assert_told(rt, copy, 0, Ok(info(MsgType::MSig, 16, 9, 48)));
+        self.assert_bytes(rt, copy, 0, b"0123456789abcdef");
+        refused(rt, self.copyb(rt, message), Refusal::NoData);
+        self.freemsg(copy);
+        self.assert_free_data(rt, [Some(0), Some(1)]);
+    }
 }
 
 #[test]
 fn copies_each_block(rt: HostRuntime) {
-    let mut blocks = opened(&rt, rt.alloc(), 7);
-    let a = of_three_types(&rt, &mut blocks);
-    let told = [
-        Some(info(MsgType::MProto, 1, 1, 15)),
-        Some(info(MsgType::MCtl, 2, 255, 62)),
-        Some(info(MsgType::MData, 3, 3, 13)),
-    ];
-    let answer = copied(&rt, &mut blocks, &a);
-    let copy = made(&rt, answer);
-    assert_eq!(rt; (copy.head(), copy.blocks()), (3, 3));
-    assert_infos(&rt, &blocks, &copy, told);
-    assert_infos(&rt, &blocks, &a, told);
-    assert_eq!(rt; free_data(&blocks), [Some(0), Some(0)]);
-    assert_eq!(rt; blocks.census(), census(2, 0, 6));
-    assert_eq!(rt; write(&rt, &mut blocks, &a, 2, b"g"), Ok(()));
-    assert_bytes(&rt, &blocks, &a, 0, b"abcdefg");
-    blocks.freemsg(a);
-    assert_infos(&rt, &blocks, &copy, told);
-    assert_bytes(&rt, &blocks, &copy, 0, b"abcdef");
-    blocks.freemsg(copy);
-    assert_eq!(rt; blocks.census(), census(8, 0, 0));
+    let mut bench = Bench::opened(&rt, rt.alloc(), 7);
+    let a = bench.of_three_types(&rt);
+    let copy = made(&rt, bench.copymsg(&rt, a));
+    assert_says(&rt, copy, 3, 3);
+    bench.assert_three_types(&rt, copy);
+    bench.assert_three_types(&rt, a);
+    bench.assert_free_data(&rt, [Some(0), Some(0)]);
+    bench.assert_census(&rt, 2, 0, 6);
+    bench.write(&rt, a, 2, b"g", Ok(()));
+    bench.assert_bytes(&rt, a, 0, b"abcdefg");
+    bench.freemsg(a);
+    bench.assert_three_types(&rt, copy);
+    bench.assert_bytes(&rt, copy, 0, b"abcdef");
+    bench.freemsg(copy);
+    bench.assert_census(&rt, 8, 0, 0);
+    bench.end();
 }
 
 #[test]
@@ -80,54 +102,43 @@ fn copies_into_a_larger_class(rt: HostRuntime) {
         ClassSpec { size: 16, count: 1 },
         ClassSpec { size: 64, count: 1 },
     ];
-    let mut blocks = Blocks::new(rt.alloc(), 1, 8, &classes, 0).expect(&rt, "memory");
-    let a = of_one(&rt, &mut blocks, 16, MsgType::MSig, 9, b"0123456789abcdef");
-    for _again in 0..2 {
-        let answer = first_copied(&rt, &mut blocks, &a);
-        let copy = made(&rt, answer);
-        assert_told(&rt, &blocks, &copy, 0, Ok(info(MsgType::MSig, 16, 9, 48)));
-        assert_bytes(&rt, &blocks, &copy, 0, b"0123456789abcdef");
-        let answer = first_copied(&rt, &mut blocks, &a);
-        assert_eq!(rt; refusal(&rt, &mut blocks, answer), Refusal::NoData);
-        blocks.freemsg(copy);
-        assert_eq!(rt; free_data(&blocks), [Some(0), Some(1)]);
-    }
-    blocks.freemsg(a);
+    let mut bench = Bench::over(&rt, rt.alloc(), (1, 8), &classes, 0);
+    let a = bench.of_one(&rt, 16, MsgType::MSig, 9, b"0123456789abcdef");
+    bench.copy_into_larger(&rt, a);
+    bench.copy_into_larger(&rt, a);
+    bench.freemsg(a);
+    bench.end();
 }
 
 // Where the second block finds no data block, the first isn't copied either.
 #[test]
 fn copies_all_or_nothing(rt: HostRuntime) {
     let classes = [ClassSpec { size: 16, count: 3 }];
-    let mut blocks = Blocks::new(rt.alloc(), 1, 4, &classes, 0).expect(&rt, "memory");
-    let a = of_bytes(&rt, &mut blocks, 1, b"ab", &[b"c"]);
-    let answer = copied(&rt, &mut blocks, &a);
-    assert_eq!(rt; refusal(&rt, &mut blocks, answer), Refusal::NoData);
-    assert_eq!(rt; blocks.census(), census(2, 0, 2));
-    let answer = first_copied(&rt, &mut blocks, &a);
-    let c = made(&rt, answer);
-    assert_told(&rt, &blocks, &c, 0, Ok(info(MsgType::MData, 2, 0, 14)));
-    assert_told(&rt, &blocks, &c, 1, Err(Refusal::NoSuchBlock));
-    assert_bytes(&rt, &blocks, &c, 0, b"ab");
-    let answer = duplicated(&rt, &mut blocks, &a);
-    assert_eq!(rt; refusal(&rt, &mut blocks, answer), Refusal::NoMblk);
-    blocks.freemsg(a);
-    blocks.freemsg(c);
+    let mut bench = Bench::over(&rt, rt.alloc(), (1, 4), &classes, 0);
+    let a = bench.of_bytes(&rt, 1, b"ab", &[b"c"]);
+    refused(&rt, bench.copymsg(&rt, a), Refusal::NoData);
+    bench.assert_census(&rt, 2, 0, 2);
+    let c = made(&rt, bench.copyb(&rt, a));
+    bench.assert_told(&rt, c, 0, Ok(info(MsgType::MData, 2, 0, 14)));
+    bench.assert_told(&rt, c, 1, Err(Refusal::NoSuchBlock));
+    bench.assert_bytes(&rt, c, 0, b"ab");
+    refused(&rt, bench.dupmsg(&rt, a), Refusal::NoMblk);
+    bench.freemsg(a);
+    bench.freemsg(c);
+    bench.end();
 }
 
 #[test]
 fn copies_into_free_message_blocks(rt: HostRuntime) {
     let classes = [ClassSpec { size: 16, count: 9 }];
-    let mut blocks = Blocks::new(rt.alloc(), 1, 3, &classes, 0).expect(&rt, "memory");
-    let a = of_bytes(&rt, &mut blocks, 1, b"ab", &[b"c"]);
-    let answer = copied(&rt, &mut blocks, &a);
-    assert_eq!(rt; refusal(&rt, &mut blocks, answer), Refusal::NoMblk);
-    assert_eq!(rt; free_data(&blocks), [Some(7), None]);
-    let answer = first_copied(&rt, &mut blocks, &a);
-    let b = made(&rt, answer);
-    let answer = first_copied(&rt, &mut blocks, &a);
-    assert_eq!(rt; refusal(&rt, &mut blocks, answer), Refusal::NoMblk);
-    blocks.freemsg(a);
-    blocks.freemsg(b);
-    assert_eq!(rt; blocks.census(), census(3, 0, 0));
+    let mut bench = Bench::over(&rt, rt.alloc(), (1, 3), &classes, 0);
+    let a = bench.of_bytes(&rt, 1, b"ab", &[b"c"]);
+    refused(&rt, bench.copymsg(&rt, a), Refusal::NoMblk);
+    bench.assert_free_data(&rt, [Some(7), None]);
+    let b = made(&rt, bench.copyb(&rt, a));
+    refused(&rt, bench.copyb(&rt, a), Refusal::NoMblk);
+    bench.freemsg(a);
+    bench.freemsg(b);
+    bench.assert_census(&rt, 3, 0, 0);
+    bench.end();
 }

@@ -1,82 +1,93 @@
-use super::joining::{join, of_three, rest_of};
-use super::names::repeated;
-use super::{allocated, assert_bytes, assert_infos, census, infos, made, opened, refusal, setband};
-use crate::{Blocks, Token};
+use super::bench::{Bench, assert_says, made, refused, spent};
+use crate::TokenValue;
 use std::process::Abort;
 use strm_data::{ClassSpec, Refusal};
 
-// How many message blocks name the data blocks of the first three blocks of a message.
-fn names(rt: &impl Abort, blocks: &Blocks, message: &Token) -> [Option<u8>; 3] {
-    assert!(rt; blocks.has(message));
-    [0, 1, 2].map(|place| blocks.block(message, place).ok().map(|info| info.names))
-}
+impl Bench {
+    // So many message blocks name the data blocks of the first three blocks of a message.
+    fn assert_names(&self, rt: &impl Abort, message: TokenValue, names: [Option<u8>; 3]) {
+        let given = self
+            .infos(rt, message)
+            .map(|told| told.map(|info| info.names));
+        assert_eq!(rt; given, names);
+    }
 
-// A duplicate of a message, or why it is refused.
-pub(super) fn duplicated(
-    rt: &impl Abort,
-    blocks: &mut Blocks,
-    message: &Token,
-) -> Result<Token, Refusal> {
-    assert!(rt; blocks.has(message));
-    blocks.dupmsg(message)
-}
+    // A duplicate of a message, or why there is none.
+    pub(super) fn dupmsg(
+        &mut self,
+        rt: &impl Abort,
+        message: TokenValue,
+    ) -> Result<TokenValue, Refusal> {
+        let token = self.token(rt, message);
+        let answer = self.blocks.dupmsg(&token);
+        token.spend();
+        spent(answer)
+    }
 
-// A duplicate of a message's first block, or why it is refused.
-pub(super) fn first_duplicated(
-    rt: &impl Abort,
-    blocks: &mut Blocks,
-    message: &Token,
-) -> Result<Token, Refusal> {
-    assert!(rt; blocks.has(message));
-    blocks.dupb(message)
+    // A duplicate of a message's first block, or why there is none.
+    pub(super) fn dupb(
+        &mut self,
+        rt: &impl Abort,
+        message: TokenValue,
+    ) -> Result<TokenValue, Refusal> {
+        let token = self.token(rt, message);
+        let answer = self.blocks.dupb(&token);
+        token.spend();
+        spent(answer)
+    }
+
+    // A message of three blocks, the middle one of which names a data block that has 255 names, and another message,
+    // whose blocks have the other 254.
+    fn of_named_often(&mut self, rt: &impl Abort) -> (TokenValue, TokenValue) {
+        let mut a = self.allocated(rt, 1);
+        let mut b = self.repeated(rt, 254);
+        let others = self.rest_of(rt, &mut b);
+        let c = self.allocated(rt, 1);
+        self.linkb(rt, &mut b, c);
+        self.linkb(rt, &mut a, b);
+        (a, others)
+    }
 }
 
 #[test]
 fn duplicates_each_block(rt: HostRuntime) {
-    let mut blocks = opened(&rt, rt.alloc(), 7);
-    let a = of_three(&rt, &mut blocks);
-    setband(&rt, &mut blocks, &a, 9);
-    let answer = duplicated(&rt, &mut blocks, &a);
-    let mut b = made(&rt, answer);
-    assert_eq!(rt; (b.head(), b.blocks()), (3, 3));
-    assert_infos(&rt, &blocks, &b, infos(&rt, &blocks, &a));
-    assert_bytes(&rt, &blocks, &b, 0, b"abcdef");
-    assert_eq!(rt; names(&rt, &blocks, &b), [Some(2); 3]);
-    let answer = duplicated(&rt, &mut blocks, &a);
-    assert_eq!(rt; refusal(&rt, &mut blocks, answer), Refusal::NoMblk);
-    assert_eq!(rt; names(&rt, &blocks, &a), [Some(2); 3]);
-    assert_eq!(rt; blocks.census(), census(2, 0, 6));
-    let c = rest_of(&rt, &mut blocks, &mut b);
-    blocks.freemsg(c);
-    assert_eq!(rt; names(&rt, &blocks, &a), [Some(2), Some(1), Some(1)]);
-    assert_bytes(&rt, &blocks, &a, 0, b"abcdef");
-    blocks.freemsg(a);
-    assert_bytes(&rt, &blocks, &b, 0, b"a");
-    blocks.freemsg(b);
-    assert_eq!(rt; blocks.census(), census(8, 0, 0));
+    let mut bench = Bench::opened(&rt, rt.alloc(), 7);
+    let a = bench.of_three(&rt);
+    bench.setband(&rt, a, 9);
+    let mut b = made(&rt, bench.dupmsg(&rt, a));
+    assert_says(&rt, b, 3, 3);
+    bench.assert_infos(&rt, b, bench.infos(&rt, a));
+    bench.assert_bytes(&rt, b, 0, b"abcdef");
+    bench.assert_names(&rt, b, [Some(2); 3]);
+    refused(&rt, bench.dupmsg(&rt, a), Refusal::NoMblk);
+    bench.assert_names(&rt, a, [Some(2); 3]);
+    bench.assert_census(&rt, 2, 0, 6);
+    let c = bench.rest_of(&rt, &mut b);
+    bench.freemsg(c);
+    bench.assert_names(&rt, a, [Some(2), Some(1), Some(1)]);
+    bench.assert_bytes(&rt, a, 0, b"abcdef");
+    bench.freemsg(a);
+    bench.assert_bytes(&rt, b, 0, b"a");
+    bench.freemsg(b);
+    bench.assert_census(&rt, 8, 0, 0);
+    bench.end();
 }
 
 #[test]
 fn takes_names_back(rt: HostRuntime) {
     let classes = [ClassSpec { size: 16, count: 3 }];
-    let mut blocks = Blocks::new(rt.alloc(), 1, 300, &classes, 0).expect(&rt, "memory");
-    let mut a = allocated(&rt, &mut blocks, 1);
-    let mut b = repeated(&rt, &mut blocks, 254);
-    let others = rest_of(&rt, &mut blocks, &mut b);
-    let c = allocated(&rt, &mut blocks, 1);
-    join(&rt, &mut blocks, &mut b, c);
-    join(&rt, &mut blocks, &mut a, b);
-    let before = infos(&rt, &blocks, &a);
-    assert_eq!(rt; names(&rt, &blocks, &a), [Some(1), Some(255), Some(1)]);
-    let answer = duplicated(&rt, &mut blocks, &a);
-    assert_eq!(rt; refusal(&rt, &mut blocks, answer), Refusal::RefMax);
-    assert_infos(&rt, &blocks, &a, before);
-    assert_eq!(rt; blocks.census(), census(43, 0, 257));
-    blocks.freemsg(others);
-    let answer = duplicated(&rt, &mut blocks, &a);
-    let d = made(&rt, answer);
-    assert_eq!(rt; names(&rt, &blocks, &a), [Some(2); 3]);
-    blocks.freemsg(a);
-    blocks.freemsg(d);
-    assert_eq!(rt; blocks.census(), census(300, 0, 0));
+    let mut bench = Bench::over(&rt, rt.alloc(), (1, 300), &classes, 0);
+    let (a, others) = bench.of_named_often(&rt);
+    let before = bench.infos(&rt, a);
+    bench.assert_names(&rt, a, [Some(1), Some(255), Some(1)]);
+    refused(&rt, bench.dupmsg(&rt, a), Refusal::RefMax);
+    bench.assert_infos(&rt, a, before);
+    bench.assert_census(&rt, 43, 0, 257);
+    bench.freemsg(others);
+    let d = made(&rt, bench.dupmsg(&rt, a));
+    bench.assert_names(&rt, a, [Some(2); 3]);
+    bench.freemsg(a);
+    bench.freemsg(d);
+    bench.assert_census(&rt, 300, 0, 0);
+    bench.end();
 }

@@ -1,11 +1,8 @@
 //! Thousands of calls beside a plain program.
-ghost use Rattle.std.specs.Prelude.{◌<◌, IsTrue};
-ghost use Rattle.strm_data.specs.Classes.{are_lawful};
+ghost use Rattle.std.specs.Prelude.{◌<◌};
 
 use super::beside::Beside;
-use crate::Blocks;
-use crate::plain::arena::Arena;
-use std::alloc::Global;
+use super::tally::Tally;
 use std::process::Abort;
 use strm_data::ClassSpec;
 
@@ -42,13 +39,11 @@ fn step(rt: &impl Abort, beside: &mut Beside, draw: &mut u32) {
     beside.assert_same(rt);
 }
 
-// New blocks and a new plain program: so many message blocks over the data blocks of these classes, and two shelves.
-fn opened(rt: &impl Abort, alloc: Global, mblks: u32, classes: &[ClassSpec]) -> (Blocks, Arena)
-    requires few_blocks { mblks < 4096 }
-    requires classes { IsTrue (are_lawful classes.now) }
-{
-    let blocks = Blocks::new(alloc, 7, mblks, classes, 2).expect(rt, "memory");
-    (blocks, Arena::opening(rt, alloc, 7, mblks, classes, 2))
+// So many drawn calls.
+fn serve_any(rt: &impl Abort, beside: &mut Beside, draw: &mut u32, calls: u32) {
+    for _call in 0..calls {
+        step(rt, beside, draw);
+    }
 }
 
 // Puts duplicates of the first block of the only message behind it, so many.
@@ -72,19 +67,13 @@ fn name_often(rt: &impl Abort, beside: &mut Beside) {
 
 #[test]
 fn long_run(rt: HostRuntime) {
-    let (blocks, plain) = opened(&rt, rt.alloc(), 16, &SMALL);
-    let mut beside = Beside::of(&rt, rt.alloc(), blocks, plain);
     let mut draw = 1;
-    for _call in 0..6000 {
-        step(&rt, &mut beside, &mut draw);
-    }
-    beside.end(&rt, 16);
-    let (blocks, plain) = opened(&rt, rt.alloc(), 300, &FEW);
-    beside.go_on(blocks, plain);
+    let tally = Tally::opening(&rt, rt.alloc());
+    let mut beside = Beside::opened(&rt, rt.alloc(), 16, &SMALL, tally);
+    serve_any(&rt, &mut beside, &mut draw, 6000);
+    let tally = beside.end(&rt, 16);
+    let mut beside = Beside::opened(&rt, rt.alloc(), 300, &FEW, tally);
     name_often(&rt, &mut beside);
-    for _call in 0..400 {
-        step(&rt, &mut beside, &mut draw);
-    }
-    beside.end(&rt, 300);
-    beside.tally().assert_each(&rt);
+    serve_any(&rt, &mut beside, &mut draw, 400);
+    beside.end(&rt, 300).assert_each(&rt);
 }

@@ -1,26 +1,22 @@
-use super::joining::of_three;
-use super::{allocated, census, opened};
+use super::bench::{Bench, assert_says, said};
+use super::tokens::assert_token;
 use crate::blocks::beside::stands_on;
-use crate::{Blocks, Token};
+use crate::{Blocks, TokenValue};
 use std::process::Abort;
 use strm_data::{ClassSpec, MsgType};
 
-// Puts a message on a shelf, before the one with a head that stands there, or last.
-fn shelve(rt: &impl Abort, blocks: &mut Blocks, shelf: u8, before: Option<u32>, message: Token) {
-    assert!(rt; u32::from(shelf) < blocks.shelf_count() && blocks.has(&message));
-    match before {
-        Some(at) => {
-            assert!(rt; stands_on(blocks, shelf, at));
-            blocks.shelve(shelf, Some(at), message);
-        }
-        None => blocks.shelve(shelf, None, message),
-    }
-}
-
-// Takes the message with this head off a shelf.
-fn unshelve(rt: &impl Abort, blocks: &mut Blocks, shelf: u8, head: u32) -> Token {
-    assert!(rt; stands_on(blocks, shelf, head));
-    blocks.unshelve(shelf, head)
+// What stands at a place of a shelf is the message with this head, behind the one with another. Gives what is next.
+fn next_head(
+    rt: &impl Abort,
+    blocks: &Blocks,
+    shelf: u8,
+    at: Option<u32>,
+    ahead: Option<u32>,
+    head: u32,
+) -> Option<u32> {
+    assert!(rt; at == Some(head) && stands_on(blocks, shelf, head));
+    assert!(rt; blocks.before(head) == ahead);
+    blocks.after(head)
 }
 
 // The shelf has the messages with these heads, front to back.
@@ -29,75 +25,146 @@ fn assert_heads(rt: &impl Abort, blocks: &Blocks, shelf: u8, heads: &[u32]) {
     let mut ahead = None;
     let mut at = blocks.first(shelf);
     for head in heads {
-        assert_eq!(rt; at, Some(*head));
-        assert!(rt; stands_on(blocks, shelf, *head));
-        assert_eq!(rt; blocks.before(*head), ahead);
+        at = next_head(rt, blocks, shelf, at, ahead, *head);
         ahead = Some(*head);
-        at = blocks.after(*head);
     }
-    assert_eq!(rt; at, None);
-    assert_eq!(rt; blocks.last(shelf), ahead);
+    assert_eq!(rt; (at, blocks.last(shelf)), (None, ahead));
+}
+
+impl Bench {
+    // Puts a message on a shelf, before the one with a head that stands there, or last.
+    pub(super) fn shelve(
+        &mut self,
+        rt: &impl Abort,
+        shelf: u8,
+        before: Option<u32>,
+        message: TokenValue,
+    ) {
+        assert!(rt; u32::from(shelf) < self.blocks.shelf_count());
+        match before {
+            Some(at) => {
+                assert!(rt; stands_on(&self.blocks, shelf, at));
+                let token = self.token(rt, message);
+                self.blocks.shelve(shelf, Some(at), token);
+            }
+            None => {
+                let token = self.token(rt, message);
+                self.blocks.shelve(shelf, None, token);
+            }
+        }
+    }
+
+    // Puts a new message on a shelf.
+    fn shelve_new(&mut self, rt: &impl Abort, shelf: u8, before: Option<u32>) {
+        let message = self.allocated(rt, 1);
+        self.shelve(rt, shelf, before, message);
+    }
+
+    // Takes the message with this head off a shelf.
+    pub(super) fn unshelve(&mut self, rt: &impl Abort, shelf: u8, head: u32) -> TokenValue {
+        assert!(rt; stands_on(&self.blocks, shelf, head));
+        said(self.blocks.unshelve(shelf, head))
+    }
+
+    // Takes the message with this head off a shelf, and frees it.
+    fn free_on(&mut self, rt: &impl Abort, shelf: u8, head: u32) {
+        let message = self.unshelve(rt, shelf, head);
+        self.freemsg(message);
+    }
+
+    // The shelf has the messages with these heads, front to back.
+    fn assert_heads(&self, rt: &impl Abort, shelf: u8, heads: &[u32]) {
+        assert_heads(rt, &self.blocks, shelf, heads);
+    }
+
+    // The heads of the first message on a shelf and of the last, if there are any.
+    pub(super) fn ends(&self, rt: &impl Abort, shelf: u8) -> (Option<u32>, Option<u32>) {
+        assert!(rt; u32::from(shelf) < self.blocks.shelf_count());
+        (self.blocks.first(shelf), self.blocks.last(shelf))
+    }
+
+    // The heads of the messages behind the one with this head and before it.
+    pub(super) fn neighbours(
+        &self,
+        rt: &impl Abort,
+        shelf: u8,
+        head: u32,
+    ) -> (Option<u32>, Option<u32>) {
+        assert!(rt; stands_on(&self.blocks, shelf, head));
+        (self.blocks.after(head), self.blocks.before(head))
+    }
+
+    // The message with this head is on the shelf: its type, its band, and how many bytes it has.
+    pub(super) fn head_told(&self, rt: &impl Abort, shelf: u8, head: u32) -> (MsgType, u8, u32) {
+        assert!(rt; stands_on(&self.blocks, shelf, head));
+        (
+            self.blocks.head_kind(head),
+            self.blocks.head_band(head),
+            self.blocks.head_size(head),
+        )
+    }
+
+    // A message on the first shelf has this type, this band and so many bytes.
+    fn assert_head(&self, rt: &impl Abort, head: u32, told: (MsgType, u8, u32)) {
+        assert_eq!(rt; self.head_told(rt, 0, head), told);
+    }
+
+    // A message has so many bytes.
+    fn assert_size(&self, rt: &impl Abort, message: TokenValue, size: u32) {
+        let token = self.token(rt, message);
+        let given = self.blocks.size(&token);
+        token.spend();
+        assert_eq!(rt; given, size);
+    }
 }
 
 #[test]
 fn shelves_in_order(rt: HostRuntime) {
     let classes = [ClassSpec { size: 16, count: 8 }];
-    let mut blocks = Blocks::new(rt.alloc(), 7, 8, &classes, 2).expect(&rt, "memory");
-    for (shelf, before) in [(0, None), (0, None), (0, Some(1)), (1, None), (0, Some(0))] {
-        let message = allocated(&rt, &mut blocks, 1);
-        shelve(&rt, &mut blocks, shelf, before, message);
-    }
-    assert_heads(&rt, &blocks, 0, &[4, 0, 2, 1]);
-    assert_heads(&rt, &blocks, 1, &[3]);
-    assert_eq!(rt; blocks.census(), census(3, 5, 0));
+    let mut bench = Bench::over(&rt, rt.alloc(), (7, 8), &classes, 2);
+    bench.shelve_new(&rt, 0, None);
+    bench.shelve_new(&rt, 0, None);
+    bench.shelve_new(&rt, 0, Some(1));
+    bench.shelve_new(&rt, 1, None);
+    bench.shelve_new(&rt, 0, Some(0));
+    bench.assert_heads(&rt, 0, &[4, 0, 2, 1]);
+    bench.assert_heads(&rt, 1, &[3]);
+    bench.assert_census(&rt, 3, 5, 0);
     // From the middle of one shelf to the front of the other.
-    let message = unshelve(&rt, &mut blocks, 0, 2);
-    assert_eq!(rt;
-        (message.pool(), message.head(), message.blocks()),
-        (7, 2, 1)
-    );
-    assert_heads(&rt, &blocks, 0, &[4, 0, 1]);
-    assert_eq!(rt; blocks.census(), census(3, 4, 1));
-    shelve(&rt, &mut blocks, 1, Some(3), message);
-    assert_heads(&rt, &blocks, 1, &[2, 3]);
-    for (shelf, head) in [(0, 4), (1, 3), (0, 1), (0, 0), (1, 2)] {
-        let message = unshelve(&rt, &mut blocks, shelf, head);
-        blocks.freemsg(message);
-    }
-    assert_heads(&rt, &blocks, 0, &[]);
-    assert_heads(&rt, &blocks, 1, &[]);
-    assert_eq!(rt; blocks.census(), census(8, 0, 0));
-}
-
-// What there is to tell of a message on the shelf: its type, its band and how many bytes it has.
-fn told(rt: &impl Abort, blocks: &Blocks, head: u32) -> (MsgType, u8, u32) {
-    assert!(rt; stands_on(blocks, 0, head));
-    (
-        blocks.head_kind(head),
-        blocks.head_band(head),
-        blocks.head_size(head),
-    )
+    let message = bench.unshelve(&rt, 0, 2);
+    assert_token(&rt, message, 7, 2);
+    bench.assert_heads(&rt, 0, &[4, 0, 1]);
+    bench.assert_census(&rt, 3, 4, 1);
+    bench.shelve(&rt, 1, Some(3), message);
+    bench.assert_heads(&rt, 1, &[2, 3]);
+    bench.free_on(&rt, 0, 4);
+    bench.free_on(&rt, 1, 3);
+    bench.free_on(&rt, 0, 1);
+    bench.free_on(&rt, 0, 0);
+    bench.free_on(&rt, 1, 2);
+    bench.assert_heads(&rt, 0, &[]);
+    bench.assert_heads(&rt, 1, &[]);
+    bench.assert_census(&rt, 8, 0, 0);
+    bench.end();
 }
 
 #[test]
 fn tells_of_a_shelved_message(rt: HostRuntime) {
-    let mut blocks = opened(&rt, rt.alloc(), 7);
-    let empty = allocated(&rt, &mut blocks, 0);
-    shelve(&rt, &mut blocks, 0, None, empty);
-    let message = of_three(&rt, &mut blocks);
-    assert!(rt; blocks.has(&message));
-    assert_eq!(rt; blocks.settype(&message, 0, MsgType::MPcproto), Ok(()));
-    blocks.setband(&message, 9);
-    shelve(&rt, &mut blocks, 0, Some(0), message);
-    assert_eq!(rt; told(&rt, &blocks, 1), (MsgType::MPcproto, 9, 6));
-    assert_eq!(rt; told(&rt, &blocks, 0), (MsgType::MData, 0, 0));
-    assert_eq!(rt; blocks.census(), census(4, 4, 0));
-    let message = unshelve(&rt, &mut blocks, 0, 1);
-    assert_eq!(rt; (message.head(), message.blocks()), (1, 3));
-    assert!(rt; blocks.has(&message));
-    assert_eq!(rt; blocks.size(&message), 6);
-    blocks.freemsg(message);
-    let empty = unshelve(&rt, &mut blocks, 0, 0);
-    blocks.freemsg(empty);
-    assert_eq!(rt; blocks.census(), census(8, 0, 0));
+    let mut bench = Bench::opened(&rt, rt.alloc(), 7);
+    let empty = bench.allocated(&rt, 0);
+    bench.shelve(&rt, 0, None, empty);
+    let message = bench.of_three(&rt);
+    bench.settype(&rt, message, 0, MsgType::MPcproto, Ok(()));
+    bench.setband(&rt, message, 9);
+    bench.shelve(&rt, 0, Some(0), message);
+    bench.assert_head(&rt, 1, (MsgType::MPcproto, 9, 6));
+    bench.assert_head(&rt, 0, (MsgType::MData, 0, 0));
+    bench.assert_census(&rt, 4, 4, 0);
+    let message = bench.unshelve(&rt, 0, 1);
+    assert_says(&rt, message, 1, 3);
+    bench.assert_size(&rt, message, 6);
+    bench.freemsg(message);
+    bench.free_on(&rt, 0, 0);
+    bench.assert_census(&rt, 8, 0, 0);
+    bench.end();
 }

@@ -1,5 +1,7 @@
 //! What a block of a message says is altered.
 use super::Beside;
+use crate::TokenValue;
+use crate::plain::block::Block;
 use crate::tests::long_run::below;
 use crate::tests::tally::{Answer, Call};
 use std::process::Abort;
@@ -38,68 +40,73 @@ impl Beside {
         self.write(rt, at, place, &bytes[..count]);
     }
 
-    pub(in crate::tests) fn write(&mut self, rt: &impl Abort, at: u32, place: u32, bytes: &[u8]) {
-        let Some(token) = self.taken(at) else {
+    fn write(&mut self, rt: &impl Abort, at: u32, place: u32, bytes: &[u8]) {
+        let Some(message) = self.taken(at) else {
             return;
         };
-        assert!(rt; self.blocks.has(&token));
-        let answer = self.blocks.write(&token, place, bytes);
-        let plain = self.plain.write(rt, token.head(), place, bytes);
-        assert_eq!(rt; answer, self.plain.go_on(plain));
+        let plain = self.plain.write(rt, message.head, place, bytes);
+        let answer = self.plain.go_on(plain);
+        self.bench.write(rt, message, place, bytes, answer);
         self.count(rt, Call::Write, Answer::unless(answer.err()));
-        self.keep(rt, token);
+        self.keep(rt, message);
     }
 
     fn settype(&mut self, rt: &impl Abort, at: u32, place: u32, kind: MsgType) {
-        let Some(token) = self.taken(at) else {
+        let Some(message) = self.taken(at) else {
             return;
         };
-        assert!(rt; self.blocks.has(&token));
-        let answer = self.blocks.settype(&token, place, kind);
-        let plain = self.plain.settype(rt, token.head(), place, kind);
-        assert_eq!(rt; answer, self.plain.go_on(plain));
+        let plain = self.plain.settype(rt, message.head, place, kind);
+        let answer = self.plain.go_on(plain);
+        self.bench.settype(rt, message, place, kind, answer);
         self.count(rt, Call::Settype, Answer::unless(answer.err()));
-        self.keep(rt, token);
+        self.keep(rt, message);
     }
 
     fn setband(&mut self, rt: &impl Abort, at: u32, band: u8) {
-        let Some(token) = self.taken(at) else {
+        let Some(message) = self.taken(at) else {
             return;
         };
-        assert!(rt; self.blocks.has(&token));
-        self.blocks.setband(&token, band);
-        self.plain = self.plain.setband(rt, token.head(), band);
+        self.bench.setband(rt, message, band);
+        let plain = self.plain.setband(rt, message.head, band);
+        self.set_plain(plain);
         self.count(rt, Call::Setband, Answer::Done);
-        self.keep(rt, token);
+        self.keep(rt, message);
     }
 
     fn adjmsg(&mut self, rt: &impl Abort, at: u32, count: i32) {
-        let Some(token) = self.taken(at) else {
+        let Some(message) = self.taken(at) else {
             return;
         };
-        assert!(rt; self.blocks.has(&token));
-        let answer = self.blocks.adjmsg(&token, count);
-        let plain = self.plain.adjmsg(rt, token.head(), count);
-        assert_eq!(rt; answer, self.plain.go_on(plain));
+        let plain = self.plain.adjmsg(rt, message.head, count);
+        let answer = self.plain.go_on(plain);
+        self.bench.adjmsg(rt, message, count, answer);
         self.count(rt, Call::Adjmsg, Answer::unless(answer.err()));
-        self.keep(rt, token);
+        self.keep(rt, message);
+    }
+
+    // The first block of a message in the plain program.
+    fn first_of(&self, head: u32) -> Option<Block> {
+        self.plain.message_at(head).first().copied()
+    }
+
+    // Pulls bytes up on both, and says whether that changed the first block, or why it was refused.
+    fn pulled(&mut self, rt: &impl Abort, message: &mut TokenValue, count: i32) -> Answer {
+        let first = self.first_of(message.head);
+        let plain = self.plain.pullupmsg(rt, message.head, count);
+        let answer = self.plain.go_on(plain);
+        self.bench.pullupmsg(rt, message, count, answer);
+        match answer {
+            Ok(()) => Answer::whether(self.first_of(message.head) != first),
+            Err(why) => Answer::Refused(why),
+        }
     }
 
     fn pullupmsg(&mut self, rt: &impl Abort, at: u32, count: i32) {
-        let Some(mut token) = self.taken(at) else {
+        let Some(mut message) = self.taken(at) else {
             return;
         };
-        assert!(rt; self.blocks.has(&token));
-        let first = self.plain.message_at(token.head()).first().copied();
-        let answer = self.blocks.pullupmsg(&mut token, count);
-        let plain = self.plain.pullupmsg(rt, token.head(), count);
-        assert_eq!(rt; answer, self.plain.go_on(plain));
-        let pulled = self.plain.message_at(token.head()).first().copied() != first;
-        let answer = match answer {
-            Ok(()) => Answer::whether(pulled),
-            Err(why) => Answer::Refused(why),
-        };
+        let answer = self.pulled(rt, &mut message, count);
         self.count(rt, Call::Pullupmsg, answer);
-        self.keep(rt, token);
+        self.keep(rt, message);
     }
 }

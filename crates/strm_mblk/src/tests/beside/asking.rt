@@ -1,10 +1,10 @@
 //! Calls that change nothing.
 use super::Beside;
-use crate::blocks::beside::stands_on;
+use crate::TokenValue;
 use crate::tests::long_run::below;
 use crate::tests::tally::{Answer, Call};
-use crate::{Token, TokenValue};
 use std::process::Abort;
+use strm_data::MsgType;
 
 impl Beside {
     // Any of the calls that change nothing.
@@ -32,76 +32,69 @@ impl Beside {
     }
 
     fn block(&mut self, rt: &impl Abort, at: u32, place: u32) {
-        let Some(token) = self.taken(at) else {
+        let Some(message) = self.taken(at) else {
             return;
         };
-        assert!(rt; self.blocks.has(&token));
-        let answer = self.blocks.block(&token, place);
-        assert_eq!(rt; answer, self.plain.block(rt, token.head(), place));
+        let answer = self.plain.block(rt, message.head, place);
+        self.bench.assert_told(rt, message, place, answer);
         self.count(rt, Call::Block, Answer::unless(answer.err()));
-        self.keep(rt, token);
+        self.keep(rt, message);
     }
 
     fn sizes(&mut self, rt: &impl Abort, at: u32) {
-        let Some(token) = self.taken(at) else {
+        let Some(message) = self.taken(at) else {
             return;
         };
-        assert!(rt; self.blocks.has(&token));
-        assert_eq!(rt; self.blocks.size(&token), self.plain.size(rt, token.head()));
-        assert_eq!(rt;
-            self.blocks.msgdsize(&token),
-            self.plain.msgdsize(rt, token.head())
-        );
+        let size = self.plain.size(rt, message.head);
+        let in_data = self.plain.msgdsize(rt, message.head);
+        self.bench.assert_sizes(rt, message, size, in_data);
         self.count(rt, Call::Sizes, Answer::Done);
-        self.keep(rt, token);
+        self.keep(rt, message);
     }
 
     // As many bytes as there is room for, at most 40, from a place on.
     fn read(&mut self, rt: &impl Abort, at: u32, from: u32, room: u32) {
-        let Some(token) = self.taken(at) else {
+        let Some(message) = self.taken(at) else {
             return;
         };
-        assert!(rt; room <= 40 && self.blocks.has(&token));
         let mut into = [255; 40];
-        let count = self.blocks.read(&token, from, &mut into[..room as usize]);
-        let bytes = self.plain.bytes(rt, token.head());
-        let wanted = bytes.items().iter().skip(from as usize).take(room as usize);
-        assert!(rt; count <= 40 && into[..count].iter().eq(wanted));
-        assert!(rt; into[count..].iter().all(|byte| *byte == 255));
+        assert!(rt; room <= 40);
+        let count = self
+            .bench
+            .read(rt, message, from, &mut into[..room as usize]);
+        let bytes = self.plain.bytes(rt, message.head);
+        assert_read(rt, &into, count, from, room, bytes.items());
         self.count(rt, Call::Read, Answer::whether(count > 0));
-        self.keep(rt, token);
+        self.keep(rt, message);
     }
 
     // Both have the token of a held message.
     fn has(&mut self, rt: &impl Abort, at: u32) {
-        let Some(token) = self.taken(at) else {
+        let Some(message) = self.taken(at) else {
             return;
         };
-        assert!(rt; self.blocks.has(&token));
-        self.keep(rt, token);
+        assert!(rt; self.bench.has(message));
+        self.keep(rt, message);
         self.assert_same(rt);
         self.count(rt, Call::Has, Answer::Done);
     }
 
     // Where both have no such token, it is spent, and nothing else is done.
     fn has_forged(&mut self, rt: &impl Abort, value: TokenValue) {
-        let token = Token::of(value);
-        let has = self.blocks.has(&token);
-        assert_eq!(rt; has, self.plain.has(&value));
-        if has {
-            token.spend();
-        } else {
-            self.blocks.freemsg(token);
-            self.plain = self.plain.spent(rt, &value);
+        let has = self.bench.has(value);
+        assert!(rt; has == self.plain.has(&value));
+        if !has {
+            self.bench.freemsg(value);
+            let plain = self.plain.spent(rt, &value);
+            self.set_plain(plain);
             self.count(rt, Call::Has, Answer::Nothing);
         }
     }
 
     fn ends(&mut self, rt: &impl Abort, shelf: u8) {
-        assert!(rt; u32::from(shelf) < self.blocks.shelf_count());
-        let first = self.blocks.first(shelf);
-        assert_eq!(rt; first, self.plain.first(rt, shelf));
-        assert_eq!(rt; self.blocks.last(shelf), self.plain.last(rt, shelf));
+        let first = self.plain.first(rt, shelf);
+        let last = self.plain.last(rt, shelf);
+        assert_eq!(rt; self.bench.ends(rt, shelf), (first, last));
         self.count(rt, Call::Ends, Answer::whether(first.is_some()));
     }
 
@@ -110,11 +103,9 @@ impl Beside {
         let Some(head) = self.plain.head_on(rt, shelf, place as usize) else {
             return;
         };
-        assert!(rt; stands_on(&self.blocks, shelf, head));
-        let after = self.blocks.after(head);
-        assert_eq!(rt; after, self.plain.after(rt, shelf, head));
-        let before = self.blocks.before(head);
-        assert_eq!(rt; before, self.plain.before(rt, shelf, head));
+        let after = self.plain.after(rt, shelf, head);
+        let before = self.plain.before(rt, shelf, head);
+        assert_eq!(rt; self.bench.neighbours(rt, shelf, head), (after, before));
         self.count(rt, Call::After, Answer::whether(after.is_some()));
         self.count(rt, Call::Before, Answer::whether(before.is_some()));
     }
@@ -124,16 +115,25 @@ impl Beside {
         let Some(head) = self.plain.head_on(rt, shelf, place as usize) else {
             return;
         };
-        assert!(rt; stands_on(&self.blocks, shelf, head));
-        assert_eq!(rt;
-            Some(self.blocks.head_kind(head)),
-            self.plain.head_kind(rt, head)
-        );
-        assert_eq!(rt;
-            Some(self.blocks.head_band(head)),
-            self.plain.head_band(rt, head)
-        );
-        assert_eq!(rt; self.blocks.head_size(head), self.plain.head_size(rt, head));
+        let (kind, band, size) = self.bench.head_told(rt, shelf, head);
+        assert_eq!(rt; (Some(kind), Some(band)), self.kind_and_band(rt, head));
+        assert_eq!(rt; size, self.plain.head_size(rt, head));
         self.count(rt, Call::Heads, Answer::Done);
     }
+
+    // The type and the band of a message on a shelf, in the plain program.
+    fn kind_and_band(&self, rt: &impl Abort, head: u32) -> (Option<MsgType>, Option<u8>) {
+        (
+            self.plain.head_kind(rt, head),
+            self.plain.head_band(rt, head),
+        )
+    }
+}
+
+// Of 40 bytes the first so many are those of a message from a place on, for which there was room, and the others as they
+// were.
+fn assert_read(rt: &impl Abort, into: &[u8; 40], count: usize, from: u32, room: u32, bytes: &[u8]) {
+    let wanted = bytes.iter().skip(from as usize).take(room as usize);
+    assert!(rt; count <= 40 && into[..count].iter().eq(wanted));
+    assert!(rt; into[count..].iter().all(|byte| *byte == 255));
 }

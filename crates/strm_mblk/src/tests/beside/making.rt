@@ -1,8 +1,10 @@
 //! New messages.
 use super::Beside;
+use crate::TokenValue;
 use crate::tests::long_run::below;
 use crate::tests::tally::{Answer, Call};
 use std::process::Abort;
+use strm_data::Refusal;
 
 impl Beside {
     // Any of the calls that make a message.
@@ -18,69 +20,72 @@ impl Beside {
         }
     }
 
+    // Keeps the message that was made, if one was: both answer alike.
+    fn make(
+        &mut self,
+        rt: &impl Abort,
+        call: Call,
+        given: Result<TokenValue, Refusal>,
+        plain: Result<u32, Refusal>,
+    ) {
+        assert_eq!(rt; self.kept(rt, given), plain);
+        self.count(rt, call, Answer::unless(plain.err()));
+    }
+
     pub(in crate::tests) fn allocb(&mut self, rt: &impl Abort, size: u32) {
-        let given = self.blocks.allocb(size);
-        let head = self.kept(rt, given);
+        let given = self.bench.allocb(size);
         let plain = self.plain.allocb(rt, size);
-        assert_eq!(rt; head, self.plain.go_on(plain));
-        self.count(rt, Call::Allocb, Answer::unless(head.err()));
+        let head = self.plain.go_on(plain);
+        self.make(rt, Call::Allocb, given, head);
     }
 
     fn testb(&mut self, rt: &impl Abort, size: u32) {
-        let fits = self.blocks.testb(size);
-        assert_eq!(rt; fits, self.plain.testb(rt, size));
+        let fits = self.plain.testb(rt, size);
+        self.bench.assert_fits(rt, size, fits);
         self.count(rt, Call::Testb, Answer::whether(fits));
     }
 
     pub(in crate::tests) fn dupb(&mut self, rt: &impl Abort, at: u32) {
-        let Some(token) = self.taken(at) else {
+        let Some(message) = self.taken(at) else {
             return;
         };
-        assert!(rt; self.blocks.has(&token));
-        let given = self.blocks.dupb(&token);
-        let head = self.kept(rt, given);
-        let plain = self.plain.dupb(rt, token.head());
-        assert_eq!(rt; head, self.plain.go_on(plain));
-        self.count(rt, Call::Dupb, Answer::unless(head.err()));
-        self.keep(rt, token);
+        let given = self.bench.dupb(rt, message);
+        let plain = self.plain.dupb(rt, message.head);
+        let head = self.plain.go_on(plain);
+        self.make(rt, Call::Dupb, given, head);
+        self.keep(rt, message);
     }
 
     pub(in crate::tests) fn dupmsg(&mut self, rt: &impl Abort, at: u32) {
-        let Some(token) = self.taken(at) else {
+        let Some(message) = self.taken(at) else {
             return;
         };
-        assert!(rt; self.blocks.has(&token));
-        let given = self.blocks.dupmsg(&token);
-        let head = self.kept(rt, given);
-        let plain = self.plain.dupmsg(rt, token.head());
-        assert_eq!(rt; head, self.plain.go_on(plain));
-        self.count(rt, Call::Dupmsg, Answer::unless(head.err()));
-        self.keep(rt, token);
+        let given = self.bench.dupmsg(rt, message);
+        let plain = self.plain.dupmsg(rt, message.head);
+        let head = self.plain.go_on(plain);
+        self.make(rt, Call::Dupmsg, given, head);
+        self.keep(rt, message);
     }
 
-    pub(in crate::tests) fn copyb(&mut self, rt: &impl Abort, at: u32) {
-        let Some(token) = self.taken(at) else {
+    fn copyb(&mut self, rt: &impl Abort, at: u32) {
+        let Some(message) = self.taken(at) else {
             return;
         };
-        assert!(rt; self.blocks.has(&token));
-        let given = self.blocks.copyb(&token);
-        let head = self.kept(rt, given);
-        let plain = self.plain.copyb(rt, token.head());
-        assert_eq!(rt; head, self.plain.go_on(plain));
-        self.count(rt, Call::Copyb, Answer::unless(head.err()));
-        self.keep(rt, token);
+        let given = self.bench.copyb(rt, message);
+        let plain = self.plain.copyb(rt, message.head);
+        let head = self.plain.go_on(plain);
+        self.make(rt, Call::Copyb, given, head);
+        self.keep(rt, message);
     }
 
-    pub(in crate::tests) fn copymsg(&mut self, rt: &impl Abort, at: u32) {
-        let Some(token) = self.taken(at) else {
+    fn copymsg(&mut self, rt: &impl Abort, at: u32) {
+        let Some(message) = self.taken(at) else {
             return;
         };
-        assert!(rt; self.blocks.has(&token));
-        let given = self.blocks.copymsg(&token);
-        let head = self.kept(rt, given);
-        let plain = self.plain.copymsg(rt, token.head());
-        assert_eq!(rt; head, self.plain.go_on(plain));
-        self.count(rt, Call::Copymsg, Answer::unless(head.err()));
-        self.keep(rt, token);
+        let given = self.bench.copymsg(rt, message);
+        let plain = self.plain.copymsg(rt, message.head);
+        let head = self.plain.go_on(plain);
+        self.make(rt, Call::Copymsg, given, head);
+        self.keep(rt, message);
     }
 }

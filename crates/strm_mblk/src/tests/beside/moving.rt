@@ -1,9 +1,9 @@
 //! Messages are joined, parted, shelved and freed.
 use super::Beside;
-use crate::blocks::beside::stands_on;
+use crate::TokenValue;
+use crate::plain::arena::Arena;
 use crate::tests::long_run::below;
 use crate::tests::tally::{Answer, Call};
-use crate::{Rejected, Token};
 use std::process::Abort;
 use strm_data::Refusal;
 
@@ -25,76 +25,85 @@ impl Beside {
         }
     }
 
+    // Puts a message behind another on both.
+    fn join(&mut self, rt: &impl Abort, message: &mut TokenValue, tail: TokenValue) {
+        let head = message.head;
+        self.bench.linkb(rt, message, tail);
+        let plain = self.plain.linkb(rt, head, tail.head);
+        self.set_plain(plain);
+    }
+
     pub(in crate::tests) fn linkb(&mut self, rt: &impl Abort, at: u32, other: u32) {
-        let Some(mut token) = self.taken(at) else {
+        let Some(mut message) = self.taken(at) else {
             return;
         };
         if let Some(tail) = self.taken(other) {
-            let (head, tail_head) = (token.head(), tail.head());
-            assert!(rt; self.blocks.has(&token) && self.blocks.has(&tail));
-            self.blocks.linkb(&mut token, tail);
-            self.plain = self.plain.linkb(rt, head, tail_head);
+            self.join(rt, &mut message, tail);
             self.count(rt, Call::Linkb, Answer::Done);
         }
-        self.keep(rt, token);
+        self.keep(rt, message);
     }
 
     // Two tokens of one message: one is spent.
     fn linkb_itself(&mut self, rt: &impl Abort, at: u32) {
-        let Some(token) = self.taken(at) else {
+        let Some(mut message) = self.taken(at) else {
             return;
         };
-        let value = token.spend();
-        let (mut token, tail) = (Token::of(value), Token::of(value));
-        assert!(rt; self.blocks.has(&token) && self.blocks.has(&tail));
-        self.blocks.linkb(&mut token, tail);
-        self.plain = self.plain.linkb(rt, value.head, value.head);
+        let tail = message;
+        self.join(rt, &mut message, tail);
         self.count(rt, Call::Linkb, Answer::Nothing);
-        self.keep(rt, token);
+        self.keep(rt, message);
+    }
+
+    // Keeps the rest of a message, if there is any: the plain program answers alike, and goes on.
+    fn keep_rest(
+        &mut self,
+        rt: &impl Abort,
+        call: Call,
+        rest: Option<TokenValue>,
+        plain: (Option<u32>, Arena),
+    ) {
+        let (plain_rest, plain) = plain;
+        self.set_plain(plain);
+        assert_eq!(rt; self.kept_rest(rt, rest), plain_rest);
+        self.count(rt, call, Answer::whether(plain_rest.is_some()));
     }
 
     fn unlinkb(&mut self, rt: &impl Abort, at: u32) {
-        let Some(mut token) = self.taken(at) else {
+        let Some(mut message) = self.taken(at) else {
             return;
         };
-        assert!(rt; self.blocks.has(&token));
-        let rest = self.blocks.unlinkb(&mut token);
-        let rest = self.kept_rest(rt, rest);
-        let (plain_rest, plain) = self.plain.unlinkb(rt, token.head());
-        assert_eq!(rt; rest, plain_rest);
-        self.plain = plain;
-        self.count(rt, Call::Unlinkb, Answer::whether(rest.is_some()));
-        self.keep(rt, token);
+        let rest = self.bench.unlinkb(rt, &mut message);
+        let plain = self.plain.unlinkb(rt, message.head);
+        self.keep_rest(rt, Call::Unlinkb, rest, plain);
+        self.keep(rt, message);
     }
 
     // Keeps the tokens that rmvb gave, or the one that it rejected.
     fn kept_both(
         &mut self,
         rt: &impl Abort,
-        given: Result<(Token, Option<Token>), Rejected>,
+        given: Result<(TokenValue, Option<TokenValue>), (Refusal, TokenValue)>,
     ) -> Result<(u32, Option<u32>), Refusal> {
         match given {
             Ok((block, rest)) => {
-                let head = block.head();
                 self.keep(rt, block);
-                Ok((head, self.kept_rest(rt, rest)))
+                Ok((block.head, self.kept_rest(rt, rest)))
             }
-            Err(Rejected { why, token }) => {
-                self.keep(rt, token);
+            Err((why, message)) => {
+                self.keep(rt, message);
                 Err(why)
             }
         }
     }
 
     fn rmvb(&mut self, rt: &impl Abort, at: u32, place: u32) {
-        let Some(token) = self.taken(at) else {
+        let Some(message) = self.taken(at) else {
             return;
         };
-        let head = token.head();
-        assert!(rt; self.blocks.has(&token));
-        let given = self.blocks.rmvb(token, place);
+        let given = self.bench.rmvb(rt, message, place);
         let heads = self.kept_both(rt, given);
-        let plain = self.plain.rmvb(rt, head, place);
+        let plain = self.plain.rmvb(rt, message.head, place);
         assert_eq!(rt; heads, self.plain.go_on(plain));
         let answer = match heads {
             Ok((_, rest)) => Answer::whether(rest.is_some()),
@@ -104,45 +113,33 @@ impl Beside {
     }
 
     fn freeb(&mut self, rt: &impl Abort, at: u32) {
-        let Some(token) = self.taken(at) else {
+        let Some(message) = self.taken(at) else {
             return;
         };
-        let head = token.head();
-        assert!(rt; self.blocks.has(&token));
-        let rest = self.blocks.freeb(token);
-        let rest = self.kept_rest(rt, rest);
-        let (plain_rest, plain) = self.plain.freeb(rt, head);
-        assert_eq!(rt; rest, plain_rest);
-        self.plain = plain;
-        self.count(rt, Call::Freeb, Answer::whether(rest.is_some()));
+        let rest = self.bench.freeb(rt, message);
+        let plain = self.plain.freeb(rt, message.head);
+        self.keep_rest(rt, Call::Freeb, rest, plain);
     }
 
     pub(in crate::tests) fn freemsg(&mut self, rt: &impl Abort, at: u32) {
-        let Some(token) = self.taken(at) else {
+        let Some(message) = self.taken(at) else {
             return;
         };
-        let value = token.spend();
-        self.blocks.freemsg(Token::of(value));
-        self.plain = self.plain.spent(rt, &value);
+        self.bench.freemsg(message);
+        let plain = self.plain.spent(rt, &message);
+        self.set_plain(plain);
         self.count(rt, Call::Freemsg, Answer::Done);
     }
 
     // Before the message at a place of the shelf, or last where it has no such place.
     fn shelve(&mut self, rt: &impl Abort, at: u32, shelf: u8, place: u32) {
         let before = self.plain.head_on(rt, shelf, place as usize);
-        let Some(token) = self.taken(at) else {
+        let Some(message) = self.taken(at) else {
             return;
         };
-        let head = token.head();
-        assert!(rt; u32::from(shelf) < self.blocks.shelf_count() && self.blocks.has(&token));
-        match before {
-            Some(at) => {
-                assert!(rt; stands_on(&self.blocks, shelf, at));
-                self.blocks.shelve(shelf, Some(at), token);
-            }
-            None => self.blocks.shelve(shelf, None, token),
-        }
-        self.plain = self.plain.shelve(rt, shelf, before, head);
+        self.bench.shelve(rt, shelf, before, message);
+        let plain = self.plain.shelve(rt, shelf, before, message.head);
+        self.set_plain(plain);
         self.count(rt, Call::Shelve, Answer::whether(before.is_some()));
     }
 
@@ -151,11 +148,11 @@ impl Beside {
         let Some(head) = self.plain.head_on(rt, shelf, place as usize) else {
             return;
         };
-        assert!(rt; stands_on(&self.blocks, shelf, head));
-        let token = self.blocks.unshelve(shelf, head);
-        assert_eq!(rt; token.head(), head);
-        self.keep(rt, token);
-        self.plain = self.plain.unshelve(rt, shelf, head);
+        let message = self.bench.unshelve(rt, shelf, head);
+        assert_eq!(rt; message.head, head);
+        self.keep(rt, message);
+        let plain = self.plain.unshelve(rt, shelf, head);
+        self.set_plain(plain);
         self.count(rt, Call::Unshelve, Answer::Done);
     }
 }

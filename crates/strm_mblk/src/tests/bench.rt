@@ -1,0 +1,229 @@
+//! Message blocks, each call on which is compared with what it should answer.
+ghost use Rattle.std.specs.Prelude.{◌≤◌, IsTrue};
+ghost use Rattle.strm_data.specs.Classes.{are_lawful};
+ghost use Rattle.strm_mblk.specs.Arena.{has};
+ghost use Rattle.strm_mblk.specs.Limits.{most_message_blocks};
+
+use super::CLASSES;
+use crate::{BlockInfo, Blocks, Token, TokenValue};
+use std::alloc::Global;
+use std::process::Abort;
+use strm_data::{ClassInfo, ClassSpec, MsgType, Refusal};
+
+// Message blocks. What a token says stands for the token, and each call has the token itself.
+#[derive(Drop)]
+pub(super) struct Bench {
+    pub(super) blocks: Blocks,
+}
+
+// What a token says, which is spent.
+pub(super) fn said(token: Token) -> TokenValue {
+    let value = TokenValue {
+        pool: token.pool(),
+        head: token.head(),
+        blocks: token.blocks(),
+    };
+    token.spend();
+    value
+}
+
+// What the token that a call gave says.
+pub(super) fn spent(given: Result<Token, Refusal>) -> Result<TokenValue, Refusal> {
+    match given {
+        Ok(token) => Ok(said(token)),
+        Err(why) => Err(why),
+    }
+}
+
+// What the token of the rest of a message says, if there is one.
+pub(super) fn rest_spent(rest: Option<Token>) -> Option<TokenValue> {
+    match rest {
+        Some(token) => Some(said(token)),
+        None => None,
+    }
+}
+
+// The message that was made.
+pub(super) fn made(rt: &impl Abort, answer: Result<TokenValue, Refusal>) -> TokenValue {
+    match answer {
+        Ok(message) => message,
+        Err(why) => panic!(rt; "{why:?}"),
+    }
+}
+
+// No message was made, for this reason.
+pub(super) fn refused(rt: &impl Abort, answer: Result<TokenValue, Refusal>, reason: Refusal) {
+    match answer {
+        Ok(_) => panic!(rt; "a message was made"),
+        Err(why) => assert_eq!(rt; why, reason),
+    }
+}
+
+impl Bench {
+    // Of an id and so many, over the data blocks of these classes, with so many shelves.
+    pub(super) fn over(
+        rt: &impl Abort,
+        alloc: Global,
+        named: (u32, u32),
+        classes: &[ClassSpec],
+        shelves: u8,
+    ) -> Bench
+        requires few_blocks { named.1 ≤ most_message_blocks }
+        requires classes { IsTrue (are_lawful classes.now) }
+    {
+        Bench {
+            blocks: Blocks::new(alloc, named.0, named.1, classes, shelves).expect(rt, "memory"),
+        }
+    }
+
+    // Eight message blocks, over six data blocks.
+    pub(super) fn opened(rt: &impl Abort, alloc: Global, id: u32) -> Bench {
+        Bench::over(rt, alloc, (id, 8), &CLASSES, 1)
+    }
+
+    // Ends the blocks.
+    pub(super) fn end(self) {}
+
+    // The token that says so, which the blocks have.
+    pub(super) fn token(&self, rt: &impl Abort, value: TokenValue) -> Token
+        ensures { IsTrue (has self.now.blocks result) }
+    {
+        let token = Token::of(value);
+        assert!(rt; self.blocks.has(&token));
+        token
+    }
+
+    // A message for so many bytes, or why there is none.
+    pub(super) fn allocb(&mut self, size: u32) -> Result<TokenValue, Refusal> {
+        spent(self.blocks.allocb(size))
+    }
+
+    // A message for so many bytes.
+    pub(super) fn allocated(&mut self, rt: &impl Abort, size: u32) -> TokenValue {
+        made(rt, self.allocb(size))
+    }
+
+    pub(super) fn freemsg(&mut self, message: TokenValue) {
+        self.blocks.freemsg(Token::of(message));
+    }
+
+    // Puts bytes into a block of a message.
+    pub(super) fn write(
+        &mut self,
+        rt: &impl Abort,
+        message: TokenValue,
+        place: u32,
+        bytes: &[u8],
+        answer: Result<(), Refusal>,
+    ) {
+        let token = self.token(rt, message);
+        let given = self.blocks.write(&token, place, bytes);
+        token.spend();
+        assert_eq!(rt; given, answer);
+    }
+
+    // Sets the type of a block of a message.
+    pub(super) fn settype(
+        &mut self,
+        rt: &impl Abort,
+        message: TokenValue,
+        place: u32,
+        kind: MsgType,
+        answer: Result<(), Refusal>,
+    ) {
+        let token = self.token(rt, message);
+        let given = self.blocks.settype(&token, place, kind);
+        token.spend();
+        assert_eq!(rt; given, answer);
+    }
+
+    // Sets the band of a message.
+    pub(super) fn setband(&mut self, rt: &impl Abort, message: TokenValue, band: u8) {
+        let token = self.token(rt, message);
+        self.blocks.setband(&token, band);
+        token.spend();
+    }
+
+    // What there is to tell of a block of a message.
+    pub(super) fn told(
+        &self,
+        rt: &impl Abort,
+        message: TokenValue,
+        place: u32,
+    ) -> Result<BlockInfo, Refusal> {
+        let token = self.token(rt, message);
+        let told = self.blocks.block(&token, place);
+        token.spend();
+        told
+    }
+
+    // This is what there is to tell of a block of a message.
+    pub(super) fn assert_told(
+        &self,
+        rt: &impl Abort,
+        message: TokenValue,
+        place: u32,
+        answer: Result<BlockInfo, Refusal>,
+    ) {
+        assert_eq!(rt; self.told(rt, message, place), answer);
+    }
+
+    // What there is to tell of the first three blocks of a message.
+    pub(super) fn infos(&self, rt: &impl Abort, message: TokenValue) -> [Option<BlockInfo>; 3] {
+        [0, 1, 2].map(|place| self.told(rt, message, place).ok())
+    }
+
+    // This is what there is to tell of the first three blocks of a message.
+    pub(super) fn assert_infos(
+        &self,
+        rt: &impl Abort,
+        message: TokenValue,
+        told: [Option<BlockInfo>; 3],
+    ) {
+        assert_eq!(rt; self.infos(rt, message), told);
+    }
+
+    // Reads the bytes of a message from a place on, as far as there is room, and says how many.
+    pub(super) fn read(
+        &self,
+        rt: &impl Abort,
+        message: TokenValue,
+        at: u32,
+        into: &mut [u8],
+    ) -> usize {
+        let token = self.token(rt, message);
+        let count = self.blocks.read(&token, at, into);
+        token.spend();
+        count
+    }
+
+    // The message has these bytes from a place on, 16 at most.
+    pub(super) fn assert_bytes(&self, rt: &impl Abort, message: TokenValue, at: u32, bytes: &[u8]) {
+        let mut room = [0; 17];
+        let count = self.read(rt, message, at, &mut room);
+        assert_eq!(rt; room.get(..count), Some(bytes));
+    }
+
+    // So many message blocks are free, stand on shelves, and are held.
+    pub(super) fn assert_census(&self, rt: &impl Abort, free: u32, queued: u32, held: u32) {
+        let census = self.blocks.census();
+        assert_eq!(rt;
+            (census.free, census.queued, census.held),
+            (free, queued, held)
+        );
+    }
+
+    // So many data blocks are free of each of two classes.
+    pub(super) fn assert_free_data(&self, rt: &impl Abort, free: [Option<u32>; 2]) {
+        let given = [0, 1].map(|class| self
+            .blocks
+            .class_info(class)
+            .map(|info: ClassInfo| info.free));
+        assert_eq!(rt; given, free);
+    }
+}
+
+// What a token says: the first block of the message, and how many it has.
+pub(super) fn assert_says(rt: &impl Abort, message: TokenValue, head: u32, blocks: u32) {
+    assert_eq!(rt; (message.head, message.blocks), (head, blocks));
+}
