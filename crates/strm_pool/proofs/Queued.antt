@@ -8,7 +8,8 @@ use Rattle.strm_links.specs.Rows as rows
 use Rattle.strm_mblk.specs.Arena.{Arena, held_at}
 use Rattle.strm_mblk.specs.Block.{Message, head_of}
 use Rattle.strm_mblk.specs.Given.{Given}
-use Rattle.strm_queue.specs.QueueCalls.{got_at, got_first, getq, has_queue, insq, message_put, messages_on, putbq, putq, rmvq, with_got, with_put}
+use Rattle.strm_queue.specs.Flow.{QueueState, enabled_where, enables_inserted, enables_put, enables_put_back}
+use Rattle.strm_queue.specs.QueueCalls.{got_at, got_first, getq, has_queue, insq, marks_of, message_put, messages_on, putbq, putq, rank_put, rmvq, with_got, with_put, with_state}
 use Rattle.strm_queue.specs.QueuedBlocks.{QueuedBlocks}
 use Rattle.strm_queue.specs.Rank.{is_ordered, put_ahead, put_at, put_behind, rank_of, without_place}
 
@@ -31,8 +32,8 @@ pub record IsPutAway (v w : QueuedBlocks) (h : ℕ) : Type 0 where
   pub left : LeavesHeld v.arena w.arena h
   pub gone : held_at w.arena h ≡ None
 
-put_away : (v : QueuedBlocks) (q h : ℕ) (ms : List Message) → IsPutAway v (with_put q h ms v) h
-put_away v q h ms = record {
+put_away : (v : QueuedBlocks) (q h : ℕ) (ms : List Message) (change : QueueState → QueueState) → IsPutAway v (with_state change (with_put q h ms v)) h
+put_away v q h ms change = record {
   left = record { id = refl; others = λ k other. get_or-set_other v.arena.held h k None None (other_head k h other) };
   gone = none_at v.arena.held h;
 }
@@ -43,21 +44,22 @@ put_away v q h ms = record {
     none_at (x ∷ xs) (suc i) = none_at xs i
 
 module _ (v w : QueuedBlocks) (q h : ℕ) where
-  is_with : (ms : List Message) → (let g : Given QueuedBlocks (Unit {0}) = Ok (tt, with_put q h ms v) in g ≡ Ok (tt, w)) → IsPutAway v w h
-  is_with ms is = subst (λ (u : QueuedBlocks). IsPutAway v u h) (same_answer is).1 (put_away v q h ms)
+  is_with : (ms : List Message) (change : QueueState → QueueState) → (let g : Given QueuedBlocks (Unit {0}) = Ok (tt, with_state change (with_put q h ms v)) in g ≡ Ok (tt, w)) → IsPutAway v w h
+  is_with ms change is = subst (λ (u : QueuedBlocks). IsPutAway v u h) (same_answer is).1 (put_away v q h ms change)
 
   refused : (why : Refusal) → (let g : Given QueuedBlocks (Unit {0}) = Err why in g ≡ Ok (tt, w)) → IsPutAway v w h
   refused why is = absurd cc
 
-  pub put_left : (ms : List Message) (there : Bool) → (let g : Given QueuedBlocks (Unit {0}) = if there then Ok (tt, with_put q h ms v) else Err NoSuchQueue in g ≡ Ok (tt, w)) → IsPutAway v w h
-  put_left ms true is = is_with ms is
-  put_left ms false is = refused NoSuchQueue is
+  put_left : (ms : List Message) (change : QueueState → QueueState) (there : Bool) → (let g : Given QueuedBlocks (Unit {0}) = if there then Ok (tt, with_state change (with_put q h ms v)) else Err NoSuchQueue in g ≡ Ok (tt, w))
+      → IsPutAway v w h
+  put_left ms change true is = is_with ms change is
+  put_left ms change false is = refused NoSuchQueue is
 
   pub putq_left : putq q h v ≡ Ok (tt, w) → IsPutAway v w h
-  putq_left = put_left (put_behind (rank_of v.arena.store) (message_put h v) (messages_on v q)) (has_queue v q)
+  putq_left = put_left (put_behind (rank_of v.arena.store) (message_put h v) (messages_on v q)) (enabled_where (enables_put (marks_of v q) (rank_put h v)) q) (has_queue v q)
 
   pub putbq_left : putbq q h v ≡ Ok (tt, w) → IsPutAway v w h
-  putbq_left = put_left (put_ahead (rank_of v.arena.store) (message_put h v) (messages_on v q)) (has_queue v q)
+  putbq_left = put_left (put_ahead (rank_of v.arena.store) (message_put h v) (messages_on v q)) (enabled_where (enables_put_back (marks_of v q) (rank_put h v)) q) (has_queue v q)
 
   pub insq_left : (k : ℕ) → insq q k h v ≡ Ok (tt, w) → IsPutAway v w h
   insq_left k = cases (not (has_queue v q)) (nat_lt (length (messages_on v q)) k) (is_ordered (rank_of v.arena.store) ms)
@@ -65,15 +67,19 @@ module _ (v w : QueuedBlocks) (q h : ℕ) where
       ms : List Message
       ms = put_at k (message_put h v) (messages_on v q)
 
+      change : QueueState → QueueState
+      change = enabled_where (enables_inserted (marks_of v q)) q
+
       cases : (absent past fits : Bool)
-          → (let g : Given QueuedBlocks (Unit {0}) = if absent then Err NoSuchQueue else (if past then Err NoSuchPlace else (if fits then Ok (tt, with_put q h ms v) else Err BadOrder)) in g ≡ Ok (tt, w)) → IsPutAway v w h
+          → (let g : Given QueuedBlocks (Unit {0}) = if absent then Err NoSuchQueue else (if past then Err NoSuchPlace else (if fits then Ok (tt, with_state change (with_put q h ms v)) else Err BadOrder)) in g ≡ Ok (tt, w)) → IsPutAway v w h
       cases true past fits is = refused NoSuchQueue is
       cases false true fits is = refused NoSuchPlace is
-      cases false false true is = is_with ms is
+      cases false false true is = is_with ms change is
       cases false false false is = refused BadOrder is
 
 -- a message comes off a queue
 module _ (v w : QueuedBlocks) (q : ℕ) where
+  -- settling and marks leave the arena
   got : (m : Message) (ms : List Message) → LeavesHeld v.arena (with_got q m ms v).arena (head_of m)
   got m ms = record { id = refl; others = λ k other. get_or-set_other v.arena.held (head_of m) k (Some m) None (other_head k (head_of m) other) }
 

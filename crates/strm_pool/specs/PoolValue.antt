@@ -11,7 +11,8 @@ use Rattle.strm_mblk.specs.Arena.{Arena, has, opening_arena}
 use Rattle.strm_mblk.specs.Freeing as freeing
 use Rattle.strm_mblk.specs.Given.{Given}
 use Rattle.strm_queue.specs.QueueCalls as queues
-use Rattle.strm_queue.specs.QueuedBlocks.{QueueState, QueuedBlocks, opening_queues}
+use Rattle.strm_queue.specs.Flow.{QueueState, opening_queues}
+use Rattle.strm_queue.specs.QueuedBlocks.{QueuedBlocks}
 
 -- the wishes for message blocks: how many may be recorded, and the id of the next
 pub record WishState : Type 0 where

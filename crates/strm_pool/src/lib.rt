@@ -27,7 +27,7 @@ pub use regs::Regs;
 pub use reply::Reply;
 pub use strm_data::{ClassInfo, ClassSpec, MsgType, Refusal};
 pub use strm_mblk::{BlockInfo, Census, Rejected, Token, TokenValue};
-pub use strm_queue::{MOST_QUEUES, QueueSpec};
+pub use strm_queue::{BANDS, BandInfo, Flush, MOST_QUEUES, QueueInfo, QueueSpec};
 
 #[cfg(test)]
 mod tests;

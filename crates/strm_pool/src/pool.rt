@@ -1,14 +1,18 @@
 //! The pool: messages held as tokens or put on queues.
-ghost use Rattle.std.specs.Prelude.{◌≡◌, ◌+◌, ◌≤◌, ℕ, true, IfOk, IsTrue, None, length, slice_get};
+ghost use Rattle.std.specs.Prelude.{◌≡◌, ◌+◌, ◌≤◌, ℕ, true, IfOk, IsTrue, None, length, reverse, slice_get, sum_by};
 ghost use Rattle.std.specs.List.{All};
 ghost use Rattle.std.specs.Option.{option_map_or};
 ghost use Rattle.strm_data.specs.CountedStore.{IsKept};
 ghost use Rattle.strm_data.specs.DataStore.{class_infos};
 ghost use Rattle.strm_data.specs.Limits.{most_classes};
+ghost use Rattle.strm_links.specs.Rows as rows;
 ghost use Rattle.strm_mblk.specs.Arena.{IsParted, IsWithin, blocks_in, census_of, counted_in, has, shelf_at};
 ghost use Rattle.strm_mblk.specs.Limits.{most_message_blocks};
+ghost use Rattle.strm_mblk.specs.Shelves.{heads_at};
 ghost use Rattle.strm_pool.specs.Config.{fault_of};
 ghost use Rattle.strm_pool.specs.PoolValue.{Opens, has_queue, opening, owns};
+ghost use Rattle.strm_queue.specs.Flow.{band_count, bytes_on, every_band, spec_at};
+ghost use Rattle.strm_queue.specs.QueuedBlocks.{AreMarksLawful};
 ghost use Rattle.strm_queue.specs.Rank.{is_ordered, rank_of};
 
 mod blocks;
@@ -96,12 +100,23 @@ impl Pool {
         ensures few { length self.now.arena.held ≤ most_message_blocks }
         // There are `MOST_CLASSES` size classes at most.
         ensures few_classes { length (class_infos self.now.arena.store) ≤ most_classes }
-        // Each queue is in order: ranks never rise from front to back.
-        ensures ordered { (queue : ℕ) → IsTrue (is_ordered (rank_of self.now.arena.store) (shelf_at self.now.arena queue)) }
         // There is a shelf of messages for each queue.
         ensures shelves { length self.now.arena.shelves ≡ length self.now.queues.specs }
+        // Each queue is in order, since ranks never rise from front to back, and reads alike both ways: going forward from
+        // the first head gives the heads of its messages, and going backward from the last gives their reverse.
+        ensures ordered { (queue : ℕ) → IsTrue (is_ordered (rank_of self.now.arena.store) (shelf_at self.now.arena queue)) }
+        ensures forward { (queue : ℕ) → let heads = heads_at self.now.arena queue in rows.Reads (λ head. rows.after head heads) (rows.first heads) heads }
+        ensures backward { (queue : ℕ) → let heads = heads_at self.now.arena queue in rows.Reads (λ head. rows.before head heads) (rows.last heads) (reverse heads) }
+        // A wanted mark stands only where the band has more bytes than the low water mark.
+        ensures marks { (queue : ℕ) → AreMarksLawful self.now.queues self.now.arena queue }
+        // The bytes of a queue's bands add up to those of its messages.
+        ensures bytes { (queue : ℕ) → sum_by (λ band. band_count self.now.arena.store band (shelf_at self.now.arena queue)) every_band ≡ bytes_on (shelf_at self.now.arena queue) }
+        // No queue is on the run list twice, and each that is has a service procedure.
+        ensures once { rows.IsApart self.now.queues.run }
+        ensures served { All (λ queue. IsTrue (spec_at self.now.queues.specs queue).service) self.now.queues.run }
     {
         self.blocks.lawful();
+        self.queues.lawful(&self.blocks);
     }
 
     /// Whether the token carries this pool's id and a held message has its head and its number of blocks.

@@ -1,27 +1,32 @@
 -- When queues and message blocks agree, and how calls keep it.
-use Rattle.std.proofs.Common.{◌≡◌, ℕ, zero, suc, ◌+◌, ◌-◌, ◌<◌, true, ◌&&◌, ◌==◌, List, [], ◌∷◌, ◌++◌, length, map, get_or, set, replicate, Option, Some, None, refl, sym, ap, ◌∙◌, subst, inl, inr, arith, if◌then◌else◌, length-set, length-append, get_or-set_same, get_or-set_other}
-use Rattle.std.specs.Prelude.{nat_le}
+use Rattle.std.proofs.Common.{◌≡◌, ℕ, zero, suc, Bool, ◌+◌, ◌-◌, ◌<◌, ◌≤◌, ◌≢◌, true, false, ◌&&◌, ◌==◌, List, [], ◌∷◌, ◌++◌, length, map, get_or, set, replicate, Option, Some, None, refl, sym, ap, ◌∙◌, subst, inl, inr, arith, if◌then◌else◌, length-set, length-append, get_or-set_same, get_or-set_other}
+use Rattle.std.specs.Prelude.{nat_le, not}
 use Rattle.std.specs.List.{All, flat_map, list_all}
-use Rattle.std.proofs.lemmas.Bool.{cases_Bool, cases_eq, cond-true, cond-false}
+use Rattle.std.proofs.lemmas.Bool.{cases_Bool, cases_eq, cond-true, cond-false, false≢true}
 use Rattle.std.proofs.lemmas.List.{get_or_append_left, get_or-append-add, length-map, length-replicate}
 use Rattle.strm_data.specs.declared.class_spec.ClassSpec.{ClassSpec}
 use Rattle.strm_data.specs.DataStore.{DataBlock, DataStore}
 use Rattle.strm_data.specs.MsgType.{is_high_priority}
-use Rattle.strm_mblk.specs.Arena.{Arena, opening_arena, shelf_at}
-use Rattle.strm_mblk.specs.Block.{Message, head_of}
+use Rattle.std.proofs.lemmas.List.Sums.{sum_by-cons}
+use Rattle.strm_mblk.specs.Arena.{Arena, opening_arena, shelf_at, shelved_blocks}
+use Rattle.strm_mblk.specs.Block.{Message, head_of, size_of}
 use Rattle.strm_mblk.specs.Frame.{IsSameData, LeavesOthers}
 use Rattle.strm_mblk.specs.Messages.{blocks_on, put_before_head}
+use Rattle.strm_links.specs.Rows as rows
 use Rattle.strm_queue.specs.declared.queue_spec.QueueSpec.{QueueSpec}
-use Rattle.strm_queue.specs.QueuedBlocks.{Agrees, IsTallyOf, QueuesValue, Tally, no_tally, opening_value, tally_at, with_tally}
+use Rattle.strm_queue.specs.Flow.{Marks, QueueState, band_count, band_of_rank, bands_where, enabled_where, every_band, is_of_band, is_wanted, marks_at, opening_marks, spec_at, with_read}
+use Rattle.strm_queue.specs.QueuedBlocks.{Agrees, AreInOrder, AreMarksLawful, IsTallyOf, QueuesValue, Tally, no_tally, opening_value, tally_at, with_tally}
 use Rattle.strm_queue.specs.Rank.{is_ordered, rank_of}
+use Rattle.strm_queue.proofs.Counts.{band_count-placed}
+use Rattle.strm_queue.proofs.Marks.{agrees_state}
 use Rattle.strm_queue.proofs.Order.{ordered_without}
 
 -- messages in order, and what is stored of them is true
-record IsKept (s : DataStore) (ms : List Message) (t : Tally) : Type 0 where
+pub record IsKept (s : DataStore) (ms : List Message) (t : Tally) : Type 0 where
   pub ordered : is_ordered (rank_of s) ms ≡ true
   pub true_of : IsTallyOf ms t
 
-module _ (v : QueuesValue) (a : Arena) (agrees : Agrees v a) (q : ℕ) (within : q < length v.state.specs) (ms : List Message) (t : Tally) (kept : IsKept a.store ms t)
+module _ (v : QueuesValue) (a : Arena) (in_order : AreInOrder v a) (q : ℕ) (within : q < length v.state.specs) (ms : List Message) (t : Tally) (kept : IsKept a.store ms t)
     (b : Arena) (store : b.store ≡ a.store) (shelves : b.shelves ≡ set a.shelves q ms) where
   kept_at : (p : ℕ) → IsKept b.store (shelf_at b p) (tally_at (with_tally q t v) p)
   kept_at p =
@@ -30,21 +35,36 @@ module _ (v : QueuesValue) (a : Arena) (agrees : Agrees v a) (q : ℕ) (within :
       (elim (cases_eq p q) [
         | inl same ↦
             subst (λ k. IsKept a.store (get_or (set a.shelves q ms) k []) (get_or (set v.tallies q t) k no_tally)) (sym same)
-            (subst (λ x. IsKept a.store x (get_or (set v.tallies q t) q no_tally)) (sym (get_or-set_same a.shelves q ms [] (omega (arith, within, agrees.shelves))))
-            (subst (IsKept a.store ms) (sym (get_or-set_same v.tallies q t no_tally (omega (arith, within, agrees.stored)))) kept))
+            (subst (λ x. IsKept a.store x (get_or (set v.tallies q t) q no_tally)) (sym (get_or-set_same a.shelves q ms [] (omega (arith, within, in_order.shelves))))
+            (subst (IsKept a.store ms) (sym (get_or-set_same v.tallies q t no_tally (omega (arith, within, in_order.stored)))) kept))
         | inr other ↦
             subst (λ x. IsKept a.store x (get_or (set v.tallies q t) p no_tally)) (sym (get_or-set_other a.shelves q p ms [] other))
-            (subst (IsKept a.store (shelf_at a p)) (sym (get_or-set_other v.tallies q p t no_tally other)) (record { ordered = agrees.ordered p; true_of = agrees.true_of p }))
+            (subst (IsKept a.store (shelf_at a p)) (sym (get_or-set_other v.tallies q p t no_tally other)) (record { ordered = in_order.ordered p; true_of = in_order.true_of p }))
       ]))
 
   -- queue q has other messages, and what is stored of it is other
-  agrees_set : Agrees (with_tally q t v) b
-  agrees_set = record {
-    shelves = ap length shelves ∙ length-set a.shelves q ms ∙ agrees.shelves;
-    stored = length-set v.tallies q t ∙ agrees.stored;
+  pub in_order_set : AreInOrder (with_tally q t v) b
+  in_order_set = record {
+    shelves = ap length shelves ∙ length-set a.shelves q ms ∙ in_order.shelves;
+    stored = length-set v.tallies q t ∙ in_order.stored;
     ordered = λ p. (kept_at p).ordered;
     true_of = λ p. (kept_at p).true_of;
   }
+
+-- ---- marks
+
+module _ (s : QueueState) (a : Arena) (q : ℕ) (ms : List Message) (b : Arena) (store : b.store ≡ a.store) (shelves : b.shelves ≡ set a.shelves q ms) where
+  -- marks of other queues are lawful as they were
+  pub marks_other : (p : ℕ) → p ≢ q → AreMarksLawful s a p → AreMarksLawful s b p
+  marks_other p other lawful band wanted =
+      subst (λ x. (spec_at s.specs p).lowat < band_count x band (shelf_at b p)) (sym store)
+      (subst (λ xs. (spec_at s.specs p).lowat < band_count a.store band xs) (sym (ap (λ x. get_or x p []) shelves ∙ get_or-set_other a.shelves q p ms [] other)) (lawful band wanted))
+
+  -- and so are those of q where no band lost bytes
+  marks_more : q < length a.shelves → ((band : ℕ) → band_count a.store band (shelf_at a q) ≤ band_count a.store band ms) → AreMarksLawful s a q → AreMarksLawful s b q
+  marks_more within more lawful band wanted =
+      subst (λ x. (spec_at s.specs q).lowat < band_count x band (shelf_at b q)) (sym store)
+      (subst (λ xs. (spec_at s.specs q).lowat < band_count a.store band xs) (sym (ap (λ x. get_or x q []) shelves ∙ get_or-set_same a.shelves q ms [] within)) (omega (arith, lawful band wanted, more band)))
 
 -- ---- one joins, one leaves
 
@@ -61,25 +81,75 @@ module _ (v : QueuesValue) (a : Arena) (agrees : Agrees v a) (q : ℕ) (within :
   -- a message joins where it keeps the order
   pub agrees_put : (before : Option ℕ) (m : Message) → b.shelves ≡ set a.shelves q (put_before_head head_of before m (shelf_at a q)) → is_ordered (rank_of a.store) (put_before_head head_of before m (shelf_at a q)) ≡ true
       → n ≡ (tally_at v q).len + 1 → Agrees (with_tally q (record { len = n }) v) b
-  agrees_put before m shelves ordered more =
-      agrees_set v a agrees q within (put_before_head head_of before m (shelf_at a q)) (record { len = n })
-      (record { ordered = ordered; true_of = record { len = omega (arith, more, (agrees.true_of q).len, length-placed before m (shelf_at a q)) } }) b store shelves
+  agrees_put before m shelves ordered more = record {
+    in_order =
+        in_order_set v a agrees.in_order q within (put_before_head head_of before m (shelf_at a q)) (record { len = n })
+        (record { ordered = ordered; true_of = record { len = omega (arith, more, (agrees.in_order.true_of q).len, length-placed before m (shelf_at a q)) } }) b store shelves;
+    marks = λ p.
+        elim (cases_eq p q) [
+          | inl same ↦
+              subst (AreMarksLawful v.state b) (sym same)
+              (marks_more v.state a q (put_before_head head_of before m (shelf_at a q)) b store shelves (omega (arith, within, agrees.in_order.shelves))
+              (λ band. omega (arith, band_count-placed a.store band before m (shelf_at a q))) (agrees.marks q))
+          | inr other ↦ marks_other v.state a q (put_before_head head_of before m (shelf_at a q)) b store shelves p other (agrees.marks p)
+        ];
+  }
 
-  -- a message leaves
-  pub agrees_got : (pre post : List Message) (m : Message) → shelf_at a q ≡ pre ++ m ∷ post → b.shelves ≡ set a.shelves q (pre ++ post) → n ≡ (tally_at v q).len - 1
-      → Agrees (with_tally q (record { len = n }) v) b
-  agrees_got pre post m is shelves less =
-      agrees_set v a agrees q within (pre ++ post) (record { len = n })
-      (record {
-        ordered = ordered_without (rank_of a.store) pre post m (subst (λ ms. is_ordered (rank_of a.store) ms ≡ true) is (agrees.ordered q));
-        true_of = record { len = omega (arith, less, (agrees.true_of q).len, ap length is, length-append pre (m ∷ post), length-append pre post) };
-      })
-      b store shelves
+  module _ (pre post : List Message) (m : Message) (is : shelf_at a q ≡ pre ++ m ∷ post) (shelves : b.shelves ≡ set a.shelves q (pre ++ post)) where
+    -- a message leaves
+    pub in_order_got : n ≡ (tally_at v q).len - 1 → AreInOrder (with_tally q (record { len = n }) v) b
+    in_order_got less =
+        in_order_set v a agrees.in_order q within (pre ++ post) (record { len = n })
+        (record {
+          ordered = ordered_without (rank_of a.store) pre post m (subst (λ ms. is_ordered (rank_of a.store) ms ≡ true) is (agrees.in_order.ordered q));
+          true_of = record { len = omega (arith, less, (agrees.in_order.true_of q).len, ap length is, length-append pre (m ∷ post), length-append pre post) };
+        })
+        b store shelves
+
+    -- the marks of other queues stay lawful
+    pub marks_got : (p : ℕ) → p ≢ q → AreMarksLawful v.state b p
+    marks_got p other = marks_other v.state a q (pre ++ post) b store shelves p other (agrees.marks p)
+
+-- ---- enabling
+
+-- enabling changes the run list alone
+module _ (so : Bool) (q : ℕ) (s : QueueState) where
+  pub enabled_specs : (enabled_where so q s).specs ≡ s.specs
+  enabled_specs = by_cases so ((spec_at s.specs q).service && not (rows.has q s.run))
+    where
+      by_cases : (so here : Bool) → (let t : QueueState = if so then (if here then record s { run = s.run ++ q ∷ [] } else s) else s in t).specs ≡ s.specs
+      by_cases true true = refl
+      by_cases true false = refl
+      by_cases false here = refl
+
+  pub enabled_marks : (enabled_where so q s).marks ≡ s.marks
+  enabled_marks = by_cases so ((spec_at s.specs q).service && not (rows.has q s.run))
+    where
+      by_cases : (so here : Bool) → (let t : QueueState = if so then (if here then record s { run = s.run ++ q ∷ [] } else s) else s in t).marks ≡ s.marks
+      by_cases true true = refl
+      by_cases true false = refl
+      by_cases false here = refl
+
+pub agrees_enabled : (v : QueuesValue) (a : Arena) (so : Bool) (q : ℕ) → Agrees v a → Agrees (record v { state = enabled_where so q v.state }) a
+agrees_enabled v a so q =
+    agrees_state v a (enabled_where so q v.state) (enabled_specs so q v.state)
+    (λ p. ap (λ ms. (get_or ms p opening_marks).wanted) (enabled_marks so q v.state))
+
+-- the want-to-read mark and the switched-off mark are other than wanted marks
+wanted_kept : (ms : List Marks) (q : ℕ) (m : Marks) → m.wanted ≡ (get_or ms q opening_marks).wanted → (p : ℕ) → (get_or (set ms q m) p opening_marks).wanted ≡ (get_or ms p opening_marks).wanted
+wanted_kept [] q m is p = refl
+wanted_kept (x ∷ xs) zero m is zero = is
+wanted_kept (x ∷ xs) zero m is (suc p) = refl
+wanted_kept (x ∷ xs) (suc q) m is zero = refl
+wanted_kept (x ∷ xs) (suc q) m is (suc p) = wanted_kept xs q m is p
+
+pub agrees_read : (v : QueuesValue) (a : Arena) (q : ℕ) (read : Bool) → Agrees v a → Agrees (record v { state = with_read q read v.state }) a
+agrees_read v a q read = agrees_state v a (with_read q read v.state) refl (wanted_kept v.state.marks q (record (marks_at v.state q) { read = read }) refl)
 
 -- ---- for callers
 
 -- a message whose data is the same has the same rank
-rank_of-same : (s t : DataStore) (m : Message) → All (IsSameData s t) m → rank_of t m ≡ rank_of s m
+pub rank_of-same : (s t : DataStore) (m : Message) → All (IsSameData s t) m → rank_of t m ≡ rank_of s m
 rank_of-same s t [] same = refl
 rank_of-same s t (b ∷ bs) same = ap (λ (d : DataBlock). if is_high_priority d.kind then 256 else b.band) (same 0 b (omega arith))
 
@@ -112,24 +182,47 @@ module _ (s t : DataStore) where
   shelf_same (ms ∷ shelves) zero same = (All-parts (IsSameData s t) (flat_map (λ m. m) ms) (blocks_on shelves) same).0
   shelf_same (ms ∷ shelves) (suc q) same = shelf_same shelves q (All-parts (IsSameData s t) (flat_map (λ m. m) ms) (blocks_on shelves) same).1
 
+-- what stands on shelves is as it was, and so are the bytes of bands
+count_same : (s t : DataStore) (band : ℕ) (ms : List Message) → All (IsSameData s t) (flat_map (λ m. m) ms) → band_count t band ms ≡ band_count s band ms
+count_same s t band [] same = refl
+count_same s t band (m ∷ ms) same =
+    let parts = All-parts (IsSameData s t) m (flat_map (λ x. x) ms) same in
+    sum_by-cons (λ x. if is_of_band t band x then size_of x else 0) m ms
+    ∙ (λ i. (if band_of_rank (rank_of-same s t m parts.0 i) == band then size_of m else 0) + count_same s t band ms parts.1 i)
+    ∙ sym (sum_by-cons (λ x. if is_of_band s band x then size_of x else 0) m ms)
+
 -- a call that leaves the shelves and what stands there keeps the agreement
+module _ (v : QueuesValue) (a b : Arena) (shelves : b.shelves ≡ a.shelves) (same : All (IsSameData a.store b.store) (shelved_blocks a)) where
+  pub in_order_left : AreInOrder v a → AreInOrder v b
+  in_order_left in_order = record {
+    shelves = ap length shelves ∙ in_order.shelves;
+    stored = in_order.stored;
+    ordered = λ q.
+        ap (λ x. is_ordered (rank_of b.store) (get_or x q [])) shelves
+        ∙ ordered_same a.store b.store (shelf_at a q) (shelf_same a.store b.store a.shelves q same) ∙ in_order.ordered q;
+    true_of = λ q. subst (λ x. IsTallyOf (get_or x q []) (tally_at v q)) (sym shelves) (in_order.true_of q);
+  }
+
+  pub marks_left_lawful : (q : ℕ) → AreMarksLawful v.state a q → AreMarksLawful v.state b q
+  marks_left_lawful q lawful band wanted =
+      omega (arith, lawful band wanted, ap (λ x. band_count b.store band (get_or x q [])) shelves, count_same a.store b.store band (shelf_at a q) (shelf_same a.store b.store a.shelves q same))
+
 pub agrees_left : (v : QueuesValue) (heads : List ℕ) (a b : Arena) → Agrees v a → LeavesOthers heads a b → Agrees v b
 agrees_left v heads a b agrees left = record {
-  shelves = ap length left.shelves ∙ agrees.shelves;
-  stored = agrees.stored;
-  ordered = λ q.
-      ap (λ x. is_ordered (rank_of b.store) (get_or x q [])) left.shelves
-      ∙ ordered_same a.store b.store (shelf_at a q) (shelf_same a.store b.store a.shelves q left.shelved_data) ∙ agrees.ordered q;
-  true_of = λ q. subst (λ x. IsTallyOf (get_or x q []) (tally_at v q)) (sym left.shelves) (agrees.true_of q);
+  in_order = in_order_left v a b left.shelves left.shelved_data agrees.in_order;
+  marks = λ q. marks_left_lawful v a b left.shelves left.shelved_data q (agrees.marks q);
 }
 
 -- new queues agree with new message blocks that have a shelf for each
 pub agrees_new : (specs : List QueueSpec) (id mblks : ℕ) (classes : List ClassSpec) → Agrees (opening_value specs) (opening_arena id mblks classes (length specs))
 agrees_new specs id mblks classes = record {
-  shelves = length-replicate (length specs) [];
-  stored = length-map specs (λ q. no_tally);
-  ordered = λ q. ap (is_ordered (rank_of (opening_arena id mblks classes (length specs)).store)) (empty (length specs) q);
-  true_of = λ q. record { len = ap (λ (t : Tally). t.len) (none specs q) ∙ ap length (sym (empty (length specs) q)) };
+  in_order = record {
+    shelves = length-replicate (length specs) [];
+    stored = length-map specs (λ q. no_tally);
+    ordered = λ q. ap (is_ordered (rank_of (opening_arena id mblks classes (length specs)).store)) (empty (length specs) q);
+    true_of = λ q. record { len = ap (λ (t : Tally). t.len) (none specs q) ∙ ap length (sym (empty (length specs) q)) };
+  };
+  marks = λ q band wanted. absurd (false≢true (sym (ap (λ (m : Marks). is_wanted m.wanted band) (unmarked specs q) ∙ none_wanted_at band) ∙ wanted));
 }
   where
     no_messages : List Message
@@ -144,3 +237,16 @@ agrees_new specs id mblks classes = record {
     none [] q = refl
     none (x ∷ xs) zero = refl
     none (x ∷ xs) (suc q) = none xs q
+
+    unmarked : (specs : List QueueSpec) (q : ℕ) → get_or (map (λ (s : QueueSpec). opening_marks) specs) q opening_marks ≡ opening_marks
+    unmarked [] q = refl
+    unmarked (x ∷ xs) zero = refl
+    unmarked (x ∷ xs) (suc q) = unmarked xs q
+
+    none_at : (xs : List ℕ) (band : ℕ) → get_or (map (λ x. false) xs) band false ≡ false
+    none_at [] band = refl
+    none_at (x ∷ xs) zero = refl
+    none_at (x ∷ xs) (suc band) = none_at xs band
+
+    none_wanted_at : (band : ℕ) → is_wanted (bands_where (λ x. false)) band ≡ false
+    none_wanted_at band = none_at every_band band

@@ -1,7 +1,10 @@
--- The constant of the code is the number of the definition.
+-- The constants of the code are the numbers of the definitions.
 use Rattle.std.proofs.Common.{◌≡◌, refl}
-use Rattle.strm_queue.specs.declared.limits.TheConstants.{MOST_QUEUES}
-use Rattle.strm_queue.specs.Limits.{most_queues}
+use Rattle.strm_queue.specs.declared.limits.TheConstants.{BANDS, MOST_QUEUES}
+use Rattle.strm_queue.specs.Limits.{bands, most_queues}
 
 pub queues : MOST_QUEUES ≡ most_queues
 queues = refl
+
+pub bands_there : BANDS ≡ bands
+bands_there = refl

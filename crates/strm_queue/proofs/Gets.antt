@@ -1,22 +1,22 @@
 -- What the calls that take a message off a queue do, by the model.
-use Rattle.std.proofs.Common.{◌≡◌, ℕ, ◌+◌, ◌-◌, ◌==◌, true, List, [], ◌∷◌, ◌++◌, length, set, take, drop, Option, Some, None, Ok, refl, sym, ap, ◌∙◌, subst}
-use Rattle.std.specs.Prelude.{filter, nat_lt, option_map, slice_get}
+use Rattle.std.proofs.Common.{◌≡◌, ◌≢◌, ℕ, false, ◌+◌, ◌-◌, true, List, [], ◌∷◌, ◌++◌, length, take, drop, Option, Some, None, Ok, refl, sym, ap, ◌∙◌, subst}
+use Rattle.std.specs.Prelude.{nat_lt, option_map, slice_get}
 use Rattle.std.proofs.lemmas.Bool.{cond-true, ltb-true}
 use Rattle.std.proofs.lemmas.List.{take-append-drop}
 use Rattle.std.proofs.lemmas.Option.{none-some, same_Some, slice_get-map}
-use Rattle.strm_links.specs.Rows.{IsApart, first}
+use Rattle.strm_links.specs.Rows.{first}
 use Rattle.strm_mblk.specs.Arena.{Arena, IsParted, shelf_at, with_held, with_shelf}
 use Rattle.strm_mblk.specs.Block.{Message, head_of}
 use Rattle.strm_mblk.specs.Given.{value_after}
-use Rattle.strm_mblk.specs.Messages.{without_head}
 use Rattle.strm_mblk.specs.Shelves.{heads_at, unshelve}
 use Rattle.strm_mblk.proofs.lists.ListParts.{drop_from}
 use Rattle.strm_mblk.proofs.arena.Stands.{heads_apart}
-use Rattle.strm_queue.specs.QueueCalls.{getq, got_at, got_first, rmvq, with_got}
-use Rattle.strm_queue.specs.QueuedBlocks.{Agrees, QueuedBlocks, QueuesValue, tally_at, together, with_tally}
+use Rattle.strm_queue.specs.Flow.{with_read}
+use Rattle.strm_queue.specs.QueueCalls.{getq, got_at, got_first, rmvq, settled, with_got, with_state}
+use Rattle.strm_queue.specs.QueuedBlocks.{Agrees, AreInOrder, AreMarksLawful, QueuedBlocks, QueuesValue, tally_at, together, with_tally}
 use Rattle.strm_queue.specs.Rank.{without_place}
-use Rattle.strm_queue.proofs.Agreeing.{agrees_got}
-use Rattle.strm_queue.proofs.OnShelf.{FirstParts, first_of, heads, with-at, without-at}
+use Rattle.strm_queue.proofs.Agreeing.{in_order_got, marks_got}
+use Rattle.strm_queue.proofs.OnShelf.{FirstParts, first_none, first_of, unshelved}
 
 module _ (v : QueuesValue) (a : Arena) (agrees : Agrees v a) (parted : IsParted a) (q : ℕ) (there : nat_lt q (length v.state.specs) ≡ true) (h : ℕ) where
   abbrev both : QueuedBlocks
@@ -29,25 +29,27 @@ module _ (v : QueuesValue) (a : Arena) (agrees : Agrees v a) (parted : IsParted 
     pub queues : w ≡ with_tally q (record { len = len }) v
     pub arena : b ≡ unshelve q h a
 
-  module _ (pre post : List Message) (m : Message) (is : shelf_at a q ≡ pre ++ m ∷ post) (head : head_of m ≡ h) (w : QueuesValue) (b : Arena) (got : IsGot w b) where
-    apart : IsApart (heads (pre ++ m ∷ post))
-    apart = subst (λ ms. IsApart (heads ms)) is (heads_apart a parted q)
+  -- what is left to do is to settle q
+  pub record IsLeft (w : QueuesValue) (b : Arena) : Type 0 where
+    pub in_order : AreInOrder w b
+    pub others : (p : ℕ) → p ≢ q → AreMarksLawful w.state b p
 
+  module _ (pre post : List Message) (m : Message) (is : shelf_at a q ≡ pre ++ m ∷ post) (head : head_of m ≡ h) (w : QueuesValue) (b : Arena) (got : IsGot w b) where
     arena_is : b ≡ with_held m (with_shelf q (pre ++ post) a)
-    arena_is =
-        got.arena ∙ ap (λ n. unshelve q n a) (sym head)
-        ∙ (λ i. let b : Arena = record a {
-          held = set a.held (head_of m) (slice_get ((ap (λ ms. filter (λ x. head_of x == head_of m) ms) is ∙ with-at pre post m apart) i) 0);
-          shelves = set a.shelves q ((ap (without_head head_of (head_of m)) is ∙ without-at pre post m apart) i);
-        } in b)
+    arena_is = got.arena ∙ ap (λ n. unshelve q n a) (sym head) ∙ unshelved a q pre post m is (heads_apart a parted q)
 
     got_together : together w b ≡ with_got q m (pre ++ post) both
     got_together = let state_is = ap (λ (x : QueuesValue). x.state) got.queues in λ i. record { queues = state_is i; arena = arena_is i }
 
-    got_agrees : Agrees w b
-    got_agrees =
-        subst (λ x. Agrees x b) (sym got.queues)
-        (agrees_got v a agrees q (ltb-true _ _ there) b (ap (λ (x : Arena). x.store) arena_is) got.len pre post m is (ap (λ (x : Arena). x.shelves) arena_is) got.len_is)
+    got_left : IsLeft w b
+    got_left = record {
+      in_order =
+          subst (λ x. AreInOrder x b) (sym got.queues)
+          (in_order_got v a agrees q (ltb-true _ _ there) b (ap (λ (x : Arena). x.store) arena_is) got.len pre post m is (ap (λ (x : Arena). x.shelves) arena_is) got.len_is);
+      others = λ p other.
+          subst (λ (x : QueuesValue). AreMarksLawful x.state b p) (sym got.queues)
+          (marks_got v a agrees q (ltb-true _ _ there) b (ap (λ (x : Arena). x.store) arena_is) got.len pre post m is (ap (λ (x : Arena). x.shelves) arena_is) p other);
+    }
 
   -- ---- the first one
 
@@ -55,17 +57,22 @@ module _ (v : QueuesValue) (a : Arena) (agrees : Agrees v a) (parted : IsParted 
     pub first_here : FirstParts h (shelf_at a q)
     first_here = first_of h (shelf_at a q) some
 
-    pub getq_given : getq q both ≡ Ok (Some h, with_got q first_here.at first_here.post both)
-    getq_given =
-        cond-true _ _ _ there ∙ ap (λ ms. got_first q ms both) first_here.is
-        ∙ ap (λ n. Ok (Some n, with_got q first_here.at first_here.post both)) first_here.head
+    abbrev first_got : QueuedBlocks
+    first_got = with_state (with_read q false) (settled q (with_got q first_here.at first_here.post both))
+
+    pub getq_given : getq q both ≡ Ok (Some h, first_got)
+    getq_given = cond-true _ _ _ there ∙ ap (λ ms. got_first q ms both) first_here.is ∙ ap (λ n. Ok (Some n, first_got)) first_here.head
 
     module _ (w : QueuesValue) (b : Arena) (got : IsGot w b) where
-      pub getq_after : together w b ≡ value_after both (getq q both)
-      getq_after = got_together [] first_here.post first_here.at first_here.is first_here.head w b got ∙ sym (ap (value_after both) getq_given)
+      pub getq_after : with_state (with_read q false) (settled q (together w b)) ≡ value_after both (getq q both)
+      getq_after = ap (λ x. with_state (with_read q false) (settled q x)) (got_together [] first_here.post first_here.at first_here.is first_here.head w b got) ∙ sym (ap (value_after both) getq_given)
 
-      pub getq_agrees : Agrees w b
-      getq_agrees = got_agrees [] first_here.post first_here.at first_here.is first_here.head w b got
+      pub getq_left : IsLeft w b
+      getq_left = got_left [] first_here.post first_here.at first_here.is first_here.head w b got
+
+  -- there is none
+  pub getq_none : first (heads_at a q) ≡ None → getq q both ≡ Ok (None, with_state (with_read q true) both)
+  getq_none none = cond-true _ _ _ there ∙ ap (λ ms. got_first q ms both) (first_none (shelf_at a q) none)
 
   -- ---- one at a place
 
@@ -81,14 +88,15 @@ module _ (v : QueuesValue) (a : Arena) (agrees : Agrees v a) (parted : IsParted 
     parts_here : shelf_at a q ≡ take k (shelf_at a q) ++ here.0 ∷ drop (k + 1) (shelf_at a q)
     parts_here = sym (take-append-drop k (shelf_at a q)) ∙ ap (λ ms. take k (shelf_at a q) ++ ms) (drop_from (shelf_at a q) k here.0 here.1.0)
 
-    pub rmvq_given : rmvq q k both ≡ Ok (h, with_got q here.0 (without_place k (shelf_at a q)) both)
-    rmvq_given =
-        cond-true _ _ _ there ∙ ap (λ o. got_at q k o both) here.1.0
-        ∙ ap (λ n. Ok (n, with_got q here.0 (without_place k (shelf_at a q)) both)) here.1.1
+    abbrev one_got : QueuedBlocks
+    one_got = settled q (with_got q here.0 (without_place k (shelf_at a q)) both)
+
+    pub rmvq_given : rmvq q k both ≡ Ok (h, one_got)
+    rmvq_given = cond-true _ _ _ there ∙ ap (λ o. got_at q k o both) here.1.0 ∙ ap (λ n. Ok (n, one_got)) here.1.1
 
     module _ (w : QueuesValue) (b : Arena) (got : IsGot w b) where
-      pub rmvq_after : together w b ≡ value_after both (rmvq q k both)
-      rmvq_after = got_together (take k (shelf_at a q)) (drop (k + 1) (shelf_at a q)) here.0 parts_here here.1.1 w b got ∙ sym (ap (value_after both) rmvq_given)
+      pub rmvq_after : settled q (together w b) ≡ value_after both (rmvq q k both)
+      rmvq_after = ap (settled q) (got_together (take k (shelf_at a q)) (drop (k + 1) (shelf_at a q)) here.0 parts_here here.1.1 w b got) ∙ sym (ap (value_after both) rmvq_given)
 
-      pub rmvq_agrees : Agrees w b
-      rmvq_agrees = got_agrees (take k (shelf_at a q)) (drop (k + 1) (shelf_at a q)) here.0 parts_here here.1.1 w b got
+      pub rmvq_left : IsLeft w b
+      rmvq_left = got_left (take k (shelf_at a q)) (drop (k + 1) (shelf_at a q)) here.0 parts_here here.1.1 w b got

@@ -1,4 +1,5 @@
 pub mod Constants
+pub mod Counts
 pub mod Order
 pub mod OnShelf
 pub mod Across
@@ -6,7 +7,15 @@ pub mod Ranks
 pub mod Walks
 pub mod Fits
 pub mod Shelve
+pub mod Lawful
+pub mod Bands
+pub mod Marks
 pub mod Agreeing
+pub mod Settling
+pub mod Wanting
 pub mod Puts
 pub mod Gets
+pub mod Targets
+pub mod Running
 pub mod Stored
+pub mod Flushing

@@ -1,13 +1,15 @@
 -- The messages of one shelf by their heads, none of which stands there twice.
-use Rattle.std.proofs.Common.{◌≡◌, ℕ, zero, suc, true, false, ◌==◌, List, [], ◌∷◌, ◌++◌, map, drop, Some, None, is_none, refl, sym, ap, ◌∙◌, subst, inl, inr}
+use Rattle.std.proofs.Common.{◌≡◌, ℕ, zero, suc, true, false, ◌==◌, List, [], ◌∷◌, ◌++◌, map, drop, set, Some, None, is_none, refl, sym, ap, ◌∙◌, subst, inl, inr}
 use Rattle.std.specs.Prelude.{filter, slice_get}
 use Rattle.std.proofs.lemmas.Bool.{cond-true, cond-false, eq-eqb, ne_eqb, false≢true, not_from_true, not_from_false}
 use Rattle.std.proofs.lemmas.List.{map-append, append-nil}
 use Rattle.std.proofs.lemmas.Option.{none-some, same_Some}
 use Rattle.strm_links.specs.Rows.{IsApart, after, before, first, has, last, last_or}
 use Rattle.strm_links.proofs.OneList.{absent_around, absent_parts, after-at, before-at, has_cases, has_head, has_right, last_some}
+use Rattle.strm_mblk.specs.Arena.{Arena, shelf_at, with_held, with_shelf}
 use Rattle.strm_mblk.specs.Block.{Message, head_of}
 use Rattle.strm_mblk.specs.Messages.{put_before_head, without_head}
+use Rattle.strm_mblk.specs.Shelves.{heads_at, unshelve}
 
 abbrev pub heads : List Message → List ℕ
 heads ms = map head_of ms
@@ -146,3 +148,12 @@ module _ (pre post : List Message) (x : Message) (apart : IsApart (heads (pre ++
   -- the others are left
   pub without-at : without_head head_of (head_of x) (pre ++ x ∷ post) ≡ pre ++ post
   without-at = let off = no_other pre post x apart in others x post off.1 pre off.0
+
+-- a message that stood between these has left its shelf, and is held
+pub unshelved : (a : Arena) (q : ℕ) (pre post : List Message) (x : Message) → shelf_at a q ≡ pre ++ x ∷ post → IsApart (heads_at a q) → unshelve q (head_of x) a ≡ with_held x (with_shelf q (pre ++ post) a)
+unshelved a q pre post x is apart =
+    let here = subst (λ ms. IsApart (heads ms)) is apart in
+    λ i. let b : Arena = record a {
+      held = set a.held (head_of x) (slice_get ((ap (λ ms. filter (λ m. head_of m == head_of x) ms) is ∙ with-at pre post x here) i) 0);
+      shelves = set a.shelves q ((ap (without_head head_of (head_of x)) is ∙ without-at pre post x here) i);
+    } in b

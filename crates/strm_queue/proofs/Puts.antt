@@ -1,5 +1,5 @@
 -- What the calls that put a message on a queue do, by the model.
-use Rattle.std.proofs.Common.{◌≡◌, ℕ, ◌+◌, ◌≤◌, true, false, List, length, take, drop, Option, Ok, Err, sym, ap, ◌∙◌, subst, arith, if◌then◌else◌}
+use Rattle.std.proofs.Common.{◌≡◌, ℕ, ◌+◌, ◌≤◌, Bool, true, false, List, length, take, drop, Option, Ok, Err, sym, ap, ◌∙◌, subst, arith, if◌then◌else◌}
 use Rattle.std.specs.Prelude.{nat_lt, slice_get}
 use Rattle.std.proofs.lemmas.Bool.{cond-true, cond-false, le-ltb, ltb-true, not_from_true}
 use Rattle.std.proofs.lemmas.List.{take-append-drop}
@@ -11,10 +11,11 @@ use Rattle.strm_mblk.specs.Given.{value_after}
 use Rattle.strm_mblk.specs.Messages.{put_before_head}
 use Rattle.strm_mblk.specs.Shelves.{heads_at}
 use Rattle.strm_mblk.proofs.arena.Stands.{heads_apart}
-use Rattle.strm_queue.specs.QueueCalls.{insq, putbq, putq, with_put}
+use Rattle.strm_queue.specs.Flow.{enabled_where, enables_inserted, enables_put, enables_put_back}
+use Rattle.strm_queue.specs.QueueCalls.{insq, marks_of, putbq, putq, rank_put, with_put, with_state}
 use Rattle.strm_queue.specs.QueuedBlocks.{Agrees, QueuedBlocks, QueuesValue, tally_at, together, with_tally}
 use Rattle.strm_queue.specs.Rank.{as_queued, is_ordered, put_ahead, put_at, put_behind, rank_of}
-use Rattle.strm_queue.proofs.Agreeing.{agrees_put}
+use Rattle.strm_queue.proofs.Agreeing.{agrees_enabled, agrees_put}
 use Rattle.strm_queue.proofs.OnShelf.{first_at, heads, placed-between}
 use Rattle.strm_queue.proofs.Order.{ordered_put_ahead, ordered_put_behind}
 
@@ -26,15 +27,15 @@ module _ (v : QueuesValue) (a : Arena) (agrees : Agrees v a) (q h : ℕ) (there 
   abbrev both : QueuedBlocks
   both = together v a
 
-  -- the message was put there
-  pub record IsPut (before : Option ℕ) (w : QueuesValue) (b : Arena) : Type 0 where
+  -- the message was put there, and the queue is enabled, where it is to be
+  pub record IsPut (so : Bool) (before : Option ℕ) (w : QueuesValue) (b : Arena) : Type 0 where
     pub len : ℕ
     pub len_is : len ≡ (tally_at v q).len + 1
-    pub queues : w ≡ with_tally q (record { len = len }) v
+    pub queues : w ≡ record (with_tally q (record { len = len }) v) { state = enabled_where so q v.state }
     pub arena : b ≡ with_shelf q (put_before_head head_of before m (shelf_at a q)) (without_held h a)
 
-  module _ (before : Option ℕ) (w : QueuesValue) (b : Arena) (put : IsPut before w b) where
-    put_together : (ms : List Message) → put_before_head head_of before m (shelf_at a q) ≡ ms → together w b ≡ with_put q h ms both
+  module _ (so : Bool) (before : Option ℕ) (w : QueuesValue) (b : Arena) (put : IsPut so before w b) where
+    put_together : (ms : List Message) → put_before_head head_of before m (shelf_at a q) ≡ ms → together w b ≡ with_state (enabled_where so q) (with_put q h ms both)
     put_together ms is =
         let state_is = ap (λ (x : QueuesValue). x.state) put.queues in
         let arena_is = put.arena ∙ ap (λ xs. with_shelf q xs (without_held h a)) is in
@@ -43,23 +44,28 @@ module _ (v : QueuesValue) (a : Arena) (agrees : Agrees v a) (q h : ℕ) (there 
     put_agrees : is_ordered (rank_of a.store) (put_before_head head_of before m (shelf_at a q)) ≡ true → Agrees w b
     put_agrees ordered =
         subst (λ x. Agrees x b) (sym put.queues)
-        (agrees_put v a agrees q (ltb-true _ _ there) b (ap (λ (x : Arena). x.store) put.arena) put.len before m (ap (λ (x : Arena). x.shelves) put.arena) ordered put.len_is)
+        (agrees_enabled (with_tally q (record { len = put.len }) v) b so q
+        (agrees_put v a agrees q (ltb-true _ _ there) b (ap (λ (x : Arena). x.store) put.arena) put.len before m (ap (λ (x : Arena). x.shelves) put.arena) ordered put.len_is))
 
     -- behind its equals
     module _ (is : put_before_head head_of before m (shelf_at a q) ≡ put_behind (rank_of a.store) m (shelf_at a q)) where
-      pub putq_after : together w b ≡ value_after both (putq q h both)
-      putq_after = put_together (put_behind (rank_of a.store) m (shelf_at a q)) is ∙ sym (ap (value_after both) (cond-true _ _ _ there))
+      pub putq_after : so ≡ enables_put (marks_of both q) (rank_put h both) → together w b ≡ value_after both (putq q h both)
+      putq_after enables =
+          put_together (put_behind (rank_of a.store) m (shelf_at a q)) is
+          ∙ ap (λ c. with_state (enabled_where c q) (with_put q h (put_behind (rank_of a.store) m (shelf_at a q)) both)) enables ∙ sym (ap (value_after both) (cond-true _ _ _ there))
 
       pub putq_agrees : Agrees w b
-      putq_agrees = put_agrees (ap (is_ordered (rank_of a.store)) is ∙ ordered_put_behind (rank_of a.store) m (shelf_at a q) (agrees.ordered q))
+      putq_agrees = put_agrees (ap (is_ordered (rank_of a.store)) is ∙ ordered_put_behind (rank_of a.store) m (shelf_at a q) (agrees.in_order.ordered q))
 
     -- before its equals
     module _ (is : put_before_head head_of before m (shelf_at a q) ≡ put_ahead (rank_of a.store) m (shelf_at a q)) where
-      pub putbq_after : together w b ≡ value_after both (putbq q h both)
-      putbq_after = put_together (put_ahead (rank_of a.store) m (shelf_at a q)) is ∙ sym (ap (value_after both) (cond-true _ _ _ there))
+      pub putbq_after : so ≡ enables_put_back (marks_of both q) (rank_put h both) → together w b ≡ value_after both (putbq q h both)
+      putbq_after enables =
+          put_together (put_ahead (rank_of a.store) m (shelf_at a q)) is
+          ∙ ap (λ c. with_state (enabled_where c q) (with_put q h (put_ahead (rank_of a.store) m (shelf_at a q)) both)) enables ∙ sym (ap (value_after both) (cond-true _ _ _ there))
 
       pub putbq_agrees : Agrees w b
-      putbq_agrees = put_agrees (ap (is_ordered (rank_of a.store)) is ∙ ordered_put_ahead (rank_of a.store) m (shelf_at a q) (agrees.ordered q))
+      putbq_agrees = put_agrees (ap (is_ordered (rank_of a.store)) is ∙ ordered_put_ahead (rank_of a.store) m (shelf_at a q) (agrees.in_order.ordered q))
 
   -- ---- at a place
 
@@ -71,20 +77,23 @@ module _ (v : QueuesValue) (a : Arena) (agrees : Agrees v a) (q h : ℕ) (there 
         (λ i. put_before_head head_of ((at ∙ sym (first_at ms k)) i) m (sym whole i))
         ∙ placed-between m (take k ms) (drop k ms) (subst (λ xs. IsApart (heads xs)) (sym whole) (heads_apart a parted q))
 
+    abbrev inserted : QueuedBlocks
+    inserted = with_state (enabled_where (enables_inserted (marks_of both q)) q) (with_put q h (put_at k m (shelf_at a q)) both)
+
     -- there is a place, so the order decides
-    insq_there : insq q k h both ≡ (if is_ordered (rank_of a.store) (put_at k m (shelf_at a q)) then Ok (tt, with_put q h (put_at k m (shelf_at a q)) both) else Err BadOrder)
+    insq_there : insq q k h both ≡ (if is_ordered (rank_of a.store) (put_at k m (shelf_at a q)) then Ok (tt, inserted) else Err BadOrder)
     insq_there =
-        cond-false _ _ _ (not_from_true _ there) ∙ cond-false _ _ _ (le-ltb (length (shelf_at a q)) k (omega (arith, few, (agrees.true_of q).len)))
+        cond-false _ _ _ (not_from_true _ there) ∙ cond-false _ _ _ (le-ltb (length (shelf_at a q)) k (omega (arith, few, (agrees.in_order.true_of q).len)))
 
     pub insq_refused : is_ordered (rank_of a.store) (put_before_head head_of before m (shelf_at a q)) ≡ false → insq q k h both ≡ Err BadOrder
     insq_refused not = insq_there ∙ cond-false _ _ _ (sym (ap (is_ordered (rank_of a.store)) placed_at) ∙ not)
 
     module _ (ordered : is_ordered (rank_of a.store) (put_before_head head_of before m (shelf_at a q)) ≡ true) where
-      pub insq_given : insq q k h both ≡ Ok (tt, with_put q h (put_at k m (shelf_at a q)) both)
+      pub insq_given : insq q k h both ≡ Ok (tt, inserted)
       insq_given = insq_there ∙ cond-true _ _ _ (sym (ap (is_ordered (rank_of a.store)) placed_at) ∙ ordered)
 
-      pub insq_after : (w : QueuesValue) (b : Arena) → IsPut before w b → together w b ≡ value_after both (insq q k h both)
-      insq_after w b put = put_together before w b put (put_at k m (shelf_at a q)) placed_at ∙ sym (ap (value_after both) insq_given)
+      pub insq_after : (w : QueuesValue) (b : Arena) → IsPut (enables_inserted (marks_of both q)) before w b → together w b ≡ value_after both (insq q k h both)
+      insq_after w b put = put_together (enables_inserted (marks_of both q)) before w b put (put_at k m (shelf_at a q)) placed_at ∙ sym (ap (value_after both) insq_given)
 
-      pub insq_agrees : (w : QueuesValue) (b : Arena) → IsPut before w b → Agrees w b
-      insq_agrees w b put = put_agrees before w b put ordered
+      pub insq_agrees : (w : QueuesValue) (b : Arena) → IsPut (enables_inserted (marks_of both q)) before w b → Agrees w b
+      insq_agrees w b put = put_agrees (enables_inserted (marks_of both q)) before w b put ordered

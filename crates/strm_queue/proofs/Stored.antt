@@ -1,40 +1,87 @@
 -- Queues as they lie in memory.
-use Rattle.std.proofs.Common.{◌≡◌, ℕ, ◌<◌, List, [], ◌∷◌, length, map, get_or, set, refl, sym, ap, ◌∙◌}
-use Rattle.std.proofs.lemmas.List.{map-set, set-get_or}
+use Rattle.std.proofs.Common.{◌≡◌, ℕ, ◌<◌, true, List, [], ◌∷◌, length, map, get_or, set, refl, sym, ap, ◌∙◌, subst, arith, length-set}
+use Rattle.std.specs.List.{All}
+use Rattle.std.specs.Vec.{with_item}
+use Rattle.std.proofs.lemmas.List.{get_or-map, length-map, map-set, set-get_or}
 use Rattle.strm_queue.specs.declared.queue_spec.QueueSpec.{QueueSpec}
 use Rattle.strm_queue.specs.declared.queues.Queue.{Queue}
-use Rattle.strm_queue.specs.QueuedBlocks.{QueuesValue, Tally, no_tally, opening_value, with_tally}
-
--- a queue as it is made
-abbrev pub new_queue : QueueSpec → Queue
-new_queue s = record { spec = s; len = 0 }
-
-abbrev spec_in : Queue → QueueSpec
-spec_in q = q.spec
-
-abbrev pub tally_in : Queue → Tally
-tally_in q = record { len = q.len }
-
--- what is seen of these queues
-abbrev pub seen : List Queue → QueuesValue
-seen queues = record { state = record { specs = map spec_in queues }; tallies = map tally_in queues }
-
-specs-new : (specs : List QueueSpec) → map spec_in (map new_queue specs) ≡ specs
-specs-new [] = refl
-specs-new (s ∷ specs) = ap (λ xs. s ∷ xs) (specs-new specs)
-
-tallies-new : (specs : List QueueSpec) → map tally_in (map new_queue specs) ≡ map (λ (s : QueueSpec). no_tally) specs
-tallies-new [] = refl
-tallies-new (s ∷ specs) = ap (λ xs. no_tally ∷ xs) (tallies-new specs)
+use Rattle.strm_queue.specs.declared.queues.Queues.TheInside.{Inside}
+use Rattle.strm_queue.specs.Flow.{Marks, marks_at, no_spec, opening_marks, spec_at, with_marks}
+use Rattle.strm_queue.specs.QueueSpecs.{are_lawful}
+use Rattle.strm_queue.specs.QueuedBlocks.{QueuesValue, Tally, opening_value, with_tally}
+use Rattle.strm_queue.specs.QueuesLayout.{IsLawful, marks_in, new_queue, spec_in, tally_in, value_of}
 
 -- new queues
-pub seen-new : (specs : List QueueSpec) → seen (map new_queue specs) ≡ opening_value specs
-seen-new specs = λ i. record { state = record { specs = specs-new specs i }; tallies = tallies-new specs i }
+map-new : {X : Type 0} (f : Queue → X) (specs : List QueueSpec) → map f (map new_queue specs) ≡ map (λ s. f (new_queue s)) specs
+map-new f [] = refl
+map-new f (s ∷ specs) = ap (λ xs. f (new_queue s) ∷ xs) (map-new f specs)
 
--- another number of messages is stored for one
-pub seen-set : (queues : List Queue) (q n : ℕ) (x : Queue) → q < length queues → x ≡ get_or queues q x → seen (set queues q (record { spec = x.spec; len = n })) ≡ with_tally q (record { len = n }) (seen queues)
-seen-set queues q n x within is =
-    let same : map spec_in (set queues q (record { spec = x.spec; len = n })) ≡ map spec_in queues =
-    map-set spec_in queues q (record { spec = x.spec; len = n }) ∙ sym (map-set spec_in queues q x) ∙ ap (λ y. map spec_in (set queues q y)) is ∙ ap (map spec_in) (set-get_or queues q x) in
-    let tallies : map tally_in (set queues q (record { spec = x.spec; len = n })) ≡ set (map tally_in queues) q (record { len = n }) = map-set tally_in queues q (record { spec = x.spec; len = n }) in
-    λ i. record { state = record { specs = same i }; tallies = tallies i }
+map-same : {X : Type 0} (xs : List X) → map (λ x. x) xs ≡ xs
+map-same [] = refl
+map-same (x ∷ xs) = ap (λ ys. x ∷ ys) (map-same xs)
+
+module _ (a : Inside) (specs : List QueueSpec) (queues : a.queues.items ≡ map new_queue specs) (none : (value_of a).state.run ≡ []) where
+  made_specs : (value_of a).state.specs ≡ specs
+  made_specs = ap (map spec_in) queues ∙ map-new spec_in specs ∙ map-same specs
+
+  pub value_made : value_of a ≡ opening_value specs
+  value_made = λ i. record {
+    state = record { specs = made_specs i; marks = (ap (map marks_in) queues ∙ map-new marks_in specs) i; run = none i };
+    tallies = (ap (map tally_in) queues ∙ map-new tally_in specs) i;
+  }
+
+  pub lawful_made : are_lawful specs ≡ true → a.run.nodes ≡ length specs → length a.run.lists ≡ 1 → IsLawful a
+  lawful_made lawful nodes lists = record {
+    specs = ap are_lawful made_specs ∙ lawful;
+    nodes = nodes ∙ sym (ap length queues ∙ length-map specs new_queue);
+    lists = lists;
+    served = subst (All (λ q. (spec_at (value_of a).state.specs q).service ≡ true)) (sym none) (λ k d within. absurd (omega (arith, within)));
+  }
+
+-- another queue is stored at a place, made with the same
+module _ (a : Inside) (q : ℕ) (x y : Queue) (is : x ≡ get_or a.queues.items q x) (spec : y.spec ≡ x.spec) where
+  abbrev changed : Inside
+  changed = record a { queues = with_item a.queues q y }
+
+  -- what does not change of the queue changes nowhere
+  stays : {X : Type 0} (f : Queue → X) → f y ≡ f x → map f (set a.queues.items q y) ≡ map f a.queues.items
+  stays f same =
+      map-set f a.queues.items q y ∙ ap (set (map f a.queues.items) q) same ∙ sym (map-set f a.queues.items q x) ∙ ap (λ z. map f (set a.queues.items q z)) is ∙ ap (map f) (set-get_or a.queues.items q x)
+
+  pub lawful_changed : IsLawful a → IsLawful changed
+  lawful_changed lawful = record {
+    specs = ap are_lawful (stays spec_in spec) ∙ lawful.specs;
+    nodes = lawful.nodes ∙ sym (length-set a.queues.items q y);
+    lists = lawful.lists;
+    served = subst (λ specs. All (λ p. (spec_at specs p).service ≡ true) (value_of a).state.run) (sym (stays spec_in spec)) lawful.served;
+  }
+
+  module _ (v : QueuesValue) (view : value_of a ≡ v) (p : ℕ) (place : q ≡ p) where
+    there : p < length v.state.specs → q < length a.queues.items
+    there within = omega (arith, place, within, ap (λ (w : QueuesValue). length w.state.specs) view, length-map a.queues.items spec_in)
+
+    -- what is seen of the queue that stood there
+    pub marks_seen : p < length v.state.specs → marks_in x ≡ marks_at v.state p
+    marks_seen within = ap marks_in is ∙ sym (get_or-map marks_in a.queues.items q x opening_marks (there within)) ∙ (λ i. marks_at (view i).state (place i))
+
+    pub spec_seen : p < length v.state.specs → x.spec ≡ spec_at v.state.specs p
+    spec_seen within = ap spec_in is ∙ sym (get_or-map spec_in a.queues.items q x no_spec (there within)) ∙ (λ i. spec_at (view i).state.specs (place i))
+
+    -- other marks
+    pub marks_changed : p < length v.state.specs → (change : Marks → Marks) → marks_in y ≡ change (marks_in x) → tally_in y ≡ tally_in x → value_of changed ≡ record v { state = with_marks p (change (marks_at v.state p)) v.state }
+    marks_changed within change marked same =
+        let at : marks_in x ≡ get_or (map marks_in a.queues.items) q opening_marks = ap marks_in is ∙ sym (get_or-map marks_in a.queues.items q x opening_marks (there within)) in
+        (λ i. let w : QueuesValue = record {
+          state = record { specs = stays spec_in spec i; marks = (map-set marks_in a.queues.items q y ∙ ap (set (map marks_in a.queues.items) q) (marked ∙ ap change at)) i; run = (value_of a).state.run };
+          tallies = stays tally_in same i;
+        } in w)
+        ∙ (λ i. record (view i) { state = with_marks (place i) (change (marks_at (view i).state (place i))) (view i).state })
+
+    -- another number of messages
+    pub tally_changed : (t : Tally) → tally_in y ≡ t → marks_in y ≡ marks_in x → value_of changed ≡ with_tally p t v
+    tally_changed t tallied same =
+        (λ i. let w : QueuesValue = record {
+          state = record { specs = stays spec_in spec i; marks = stays marks_in same i; run = (value_of a).state.run };
+          tallies = (map-set tally_in a.queues.items q y ∙ ap (set (map tally_in a.queues.items) q) tallied) i;
+        } in w)
+        ∙ (λ i. with_tally (place i) t (view i))

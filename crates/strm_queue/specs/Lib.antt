@@ -1,6 +1,9 @@
 pub mod Limits
 pub mod QueueSpecs
 pub mod Rank
+pub mod Flow
+pub mod Flush
+pub mod BandSets
 pub mod QueuedBlocks
 pub mod QueueCalls
 pub mod QueuesLayout

@@ -1,9 +1,18 @@
 -- What each call on queues does. A message that is put is held before, at the head that is given.
-use Rattle.std.specs.Prelude.{ℕ, Bool, not, nat_lt, List, [], ◌∷◌, length, Option, None, Some, Ok, Err, slice_get, if◌then◌else◌}
+use Rattle.std.specs.Prelude.{ℕ, Bool, true, false, not, ◌&&◌, nat_le, nat_lt, filter, List, [], ◌∷◌, drop, length, Option, None, Some, Ok, Err, slice_get, if◌then◌else◌}
+use Rattle.std.specs.List.{list_any}
+use Rattle.std.specs.Option.{option_map_or}
 use Rattle.strm_data.specs.declared.refusal.Refusal.TheVariants.{BadOrder, NoSuchPlace, NoSuchQueue}
+use Rattle.strm_links.specs.Rows as rows
 use Rattle.strm_mblk.specs.Arena.{message_at, shelf_at, with_held, with_shelf, without_held}
 use Rattle.strm_mblk.specs.Block.{Message, head_of}
 use Rattle.strm_mblk.specs.Given.{Given}
+use Rattle.strm_queue.specs.declared.band_info.BandInfo.{BandInfo}
+use Rattle.strm_queue.specs.declared.flush.Flush.{Flush}
+use Rattle.strm_queue.specs.declared.queue_info.QueueInfo.{QueueInfo}
+use Rattle.strm_queue.specs.declared.queue_spec.QueueSpec.{QueueSpec}
+use Rattle.strm_queue.specs.Flow.{Marks, QueueState, band_count, bands_where, bytes_on, enabled, enabled_where, enables_inserted, enables_put, enables_put_back, every_band, is_wanted, marks_at, spec_at, target, waker, with_marks, with_noenable, with_read, with_wanted}
+use Rattle.strm_queue.specs.Flush.{is_picked, with_freed}
 use Rattle.strm_queue.specs.QueuedBlocks.{QueuedBlocks}
 use Rattle.strm_queue.specs.Rank.{as_queued, is_ordered, put_ahead, put_at, put_behind, rank_of, without_place}
 
@@ -19,6 +28,10 @@ messages_on v q = shelf_at v.arena q
 abbrev pub message_put : ℕ → QueuedBlocks → Message
 message_put h v = as_queued v.arena.store (message_at v.arena h)
 
+-- its rank
+abbrev pub rank_put : ℕ → QueuedBlocks → ℕ
+rank_put h v = rank_of v.arena.store (message_at v.arena h)
+
 -- these are the messages of queue q, and nothing is held at h any more
 abbrev pub with_put : ℕ → ℕ → List Message → QueuedBlocks → QueuedBlocks
 with_put q h ms v = record v { arena = with_shelf q ms (without_held h v.arena) }
@@ -27,18 +40,65 @@ with_put q h ms v = record v { arena = with_shelf q ms (without_held h v.arena) 
 abbrev pub with_got : ℕ → Message → List Message → QueuedBlocks → QueuedBlocks
 with_got q m ms v = record v { arena = with_held m (with_shelf q ms v.arena) }
 
+-- the queues are so
+abbrev pub with_state : (QueueState → QueueState) → QueuedBlocks → QueuedBlocks
+with_state change v = record v { queues = change v.queues }
+
+-- what queue q was made with, and its marks
+abbrev pub spec_of : QueuedBlocks → ℕ → QueueSpec
+spec_of v q = spec_at v.queues.specs q
+
+abbrev pub marks_of : QueuedBlocks → ℕ → Marks
+marks_of v q = marks_at v.queues q
+
+-- ---- bands
+
+-- how many bytes a band of queue q has
+abbrev pub count_on : QueuedBlocks → ℕ → ℕ → ℕ
+count_on v q band = band_count v.arena.store band (messages_on v q)
+
+-- a band is full that has as many bytes as the high water mark
+abbrev pub is_full : QueuedBlocks → ℕ → ℕ → Bool
+is_full v q band = nat_le (spec_of v q).hiwat (count_on v q band)
+
+-- a band has room again that was found full and has no more bytes than the low water mark
+abbrev pub is_relieved : QueuedBlocks → ℕ → ℕ → Bool
+is_relieved v q band = is_wanted (marks_of v q).wanted band && nat_le (count_on v q band) (spec_of v q).lowat
+
+-- whether some band of queue q has room again
+abbrev pub some_relieved : QueuedBlocks → ℕ → Bool
+some_relieved v q = list_any (is_relieved v q) every_band
+
+-- the marks of q without the wanted marks of the bands that have room again
+abbrev pub marks_left : QueuedBlocks → ℕ → Marks
+marks_left v q = record (marks_of v q) { wanted = bands_where (λ band. is_wanted (marks_of v q).wanted band && not (is_relieved v q band)) }
+
+-- the nearest queue behind q with a service procedure, if there is one, is enabled
+abbrev pub waker_enabled : ℕ → QueueState → QueueState
+waker_enabled q s = option_map_or (λ p. enabled p s) (waker s.specs q) s
+
+-- so, where it is to be
+abbrev pub waker_enabled_where : Bool → ℕ → QueueState → QueueState
+waker_enabled_where so q s = if so then waker_enabled q s else s
+
+-- each band of q that has room again loses its wanted mark, and where one did, the queue behind is enabled
+abbrev pub settled : ℕ → QueuedBlocks → QueuedBlocks
+settled q v = with_state (λ s. waker_enabled_where (some_relieved v q) q (with_marks q (marks_left v q) s)) v
+
 -- ---- onto a queue
 
 -- behind its equals
 abbrev pub putq : ℕ → ℕ → QueuedBlocks → Given QueuedBlocks (Unit {0})
 putq q h v =
-    if has_queue v q then Ok (tt, with_put q h (put_behind (rank_of v.arena.store) (message_put h v) (messages_on v q)) v)
+    if has_queue v q
+    then Ok (tt, with_state (enabled_where (enables_put (marks_of v q) (rank_put h v)) q) (with_put q h (put_behind (rank_of v.arena.store) (message_put h v) (messages_on v q)) v))
     else Err NoSuchQueue
 
 -- before its equals
 abbrev pub putbq : ℕ → ℕ → QueuedBlocks → Given QueuedBlocks (Unit {0})
 putbq q h v =
-    if has_queue v q then Ok (tt, with_put q h (put_ahead (rank_of v.arena.store) (message_put h v) (messages_on v q)) v)
+    if has_queue v q
+    then Ok (tt, with_state (enabled_where (enables_put_back (marks_of v q) (rank_put h v)) q) (with_put q h (put_ahead (rank_of v.arena.store) (message_put h v) (messages_on v q)) v))
     else Err NoSuchQueue
 
 -- at place k, where ranks do not rise then
@@ -46,15 +106,16 @@ abbrev pub insq : ℕ → ℕ → ℕ → QueuedBlocks → Given QueuedBlocks (U
 insq q k h v =
     if not (has_queue v q) then Err NoSuchQueue
     else (if nat_lt (length (messages_on v q)) k then Err NoSuchPlace
-    else (if is_ordered (rank_of v.arena.store) (put_at k (message_put h v) (messages_on v q)) then Ok (tt, with_put q h (put_at k (message_put h v) (messages_on v q)) v)
+    else (if is_ordered (rank_of v.arena.store) (put_at k (message_put h v) (messages_on v q))
+    then Ok (tt, with_state (enabled_where (enables_inserted (marks_of v q)) q) (with_put q h (put_at k (message_put h v) (messages_on v q)) v))
     else Err BadOrder))
 
 -- ---- off a queue
 
--- the first of these messages, if there is one, is held; the answer is its head
+-- the first of these messages, if there is one, is held; the answer is its head. An empty queue has no wanted mark.
 abbrev pub got_first : ℕ → List Message → QueuedBlocks → Given QueuedBlocks (Option ℕ)
-got_first q [] v = Ok (None, v)
-got_first q (m ∷ ms) v = Ok (Some (head_of m), with_got q m ms v)
+got_first q [] v = Ok (None, with_state (with_read q true) v)
+got_first q (m ∷ ms) v = Ok (Some (head_of m), with_state (with_read q false) (settled q (with_got q m ms v)))
 
 abbrev pub getq : ℕ → QueuedBlocks → Given QueuedBlocks (Option ℕ)
 getq q v = if has_queue v q then got_first q (messages_on v q) v else Err NoSuchQueue
@@ -62,13 +123,82 @@ getq q v = if has_queue v q then got_first q (messages_on v q) v else Err NoSuch
 -- the message at place k, if there is one, is held; the answer is its head
 abbrev pub got_at : ℕ → ℕ → Option Message → QueuedBlocks → Given QueuedBlocks ℕ
 got_at q k None v = Err NoSuchPlace
-got_at q k (Some m) v = Ok (head_of m, with_got q m (without_place k (messages_on v q)) v)
+got_at q k (Some m) v = Ok (head_of m, settled q (with_got q m (without_place k (messages_on v q)) v))
 
 abbrev pub rmvq : ℕ → ℕ → QueuedBlocks → Given QueuedBlocks ℕ
 rmvq q k v = if has_queue v q then got_at q k (slice_get (messages_on v q) k) v else Err NoSuchQueue
+
+-- ---- flushed
+
+-- queue q without the messages that are picked, which are free
+abbrev pub with_flushed : ℕ → (Message → Bool) → QueuedBlocks → QueuedBlocks
+with_flushed q picked v = record v { arena = with_freed (filter picked (messages_on v q)) (with_shelf q (filter (λ m. not (picked m)) (messages_on v q)) v.arena) }
+
+-- the messages of queue q that a flush takes, of one band or of all, are free
+abbrev pub flushed : ℕ → Option ℕ → Flush → QueuedBlocks → Given QueuedBlocks (Unit {0})
+flushed q band flush v = if has_queue v q then Ok (tt, settled q (with_flushed q (is_picked v.arena.store band flush) v)) else Err NoSuchQueue
+
+abbrev pub flushq : ℕ → Flush → QueuedBlocks → Given QueuedBlocks (Unit {0})
+flushq q flush v = flushed q None flush v
+
+abbrev pub flushband : ℕ → ℕ → Flush → QueuedBlocks → Given QueuedBlocks (Unit {0})
+flushband q band flush v = flushed q (Some band) flush v
+
+-- ---- flow control
+
+-- whether a message of this band may be put on queue p; where it is full, somebody waits for room
+abbrev pub asked_for_room : ℕ → ℕ → QueuedBlocks → Bool × QueuedBlocks
+asked_for_room p band v = if is_full v p band then (false, with_state (with_wanted p band) v) else (true, v)
+
+-- asked of the first queue with a service procedure from q on, or of the last one
+abbrev pub bcanput : ℕ → ℕ → QueuedBlocks → Given QueuedBlocks Bool
+bcanput q band v = if has_queue v q then Ok (asked_for_room (target v.queues.specs q) band v) else Err NoSuchQueue
+
+-- ---- scheduling
+
+abbrev pub qenable : ℕ → QueuedBlocks → Given QueuedBlocks (Unit {0})
+qenable q v = if has_queue v q then Ok (tt, with_state (enabled_where true q) v) else Err NoSuchQueue
+
+-- whether putting on q is to enable it no more, save with high priority
+abbrev pub switched : ℕ → Bool → QueuedBlocks → Given QueuedBlocks (Unit {0})
+switched q off v = if has_queue v q then Ok (tt, with_state (with_noenable q off) v) else Err NoSuchQueue
+
+abbrev pub noenable : ℕ → QueuedBlocks → Given QueuedBlocks (Unit {0})
+noenable q v = switched q true v
+
+abbrev pub enableok : ℕ → QueuedBlocks → Given QueuedBlocks (Unit {0})
+enableok q v = switched q false v
+
+-- the queue that waits first to be served waits no more, if there is one; the answer is its number
+abbrev pub next_service : QueuedBlocks → Option ℕ × QueuedBlocks
+next_service v = (rows.first v.queues.run, with_state (λ s. record s { run = drop 1 s.run }) v)
 
 -- ---- asked
 
 -- how many messages a queue has
 abbrev pub qsize : ℕ → QueuedBlocks → Given QueuedBlocks ℕ
 qsize q v = if has_queue v q then Ok (length (messages_on v q), v) else Err NoSuchQueue
+
+-- what there is to say of a queue
+abbrev pub info_of : QueuedBlocks → ℕ → QueueInfo
+info_of v q = record {
+  msgs = length (messages_on v q);
+  bytes = bytes_on (messages_on v q);
+  read = (marks_of v q).read;
+  noenable = (marks_of v q).noenable;
+  enabled = rows.has q v.queues.run;
+}
+
+abbrev pub queue_info : ℕ → QueuedBlocks → Given QueuedBlocks QueueInfo
+queue_info q v = if has_queue v q then Ok (info_of v q, v) else Err NoSuchQueue
+
+-- what there is to say of a band of it
+abbrev pub band_info_of : QueuedBlocks → ℕ → ℕ → BandInfo
+band_info_of v q band = record { bytes = count_on v q band; full = is_full v q band; wanted = is_wanted (marks_of v q).wanted band }
+
+abbrev pub band_info : ℕ → ℕ → QueuedBlocks → Given QueuedBlocks BandInfo
+band_info q band v = if has_queue v q then Ok (band_info_of v q band, v) else Err NoSuchQueue
+
+-- the queue that waits at place k to be served, if there is one
+abbrev pub run_at : ℕ → QueuedBlocks → Option ℕ
+run_at k v = slice_get v.queues.run k

@@ -1,13 +1,10 @@
 -- Queues over message blocks: what each of the two is, and when they agree.
-use Rattle.std.specs.Prelude.{◌≡◌, ℕ, List, length, map, slice_index_or, slice_set, IsTrue}
+use Rattle.std.specs.Prelude.{◌≡◌, ℕ, ◌<◌, List, length, map, slice_index_or, slice_set, IsTrue}
 use Rattle.strm_queue.specs.declared.queue_spec.QueueSpec.{QueueSpec}
 use Rattle.strm_mblk.specs.Arena.{Arena, shelf_at}
 use Rattle.strm_mblk.specs.Block.{Message}
+use Rattle.strm_queue.specs.Flow.{QueueState, band_count, is_wanted, marks_at, opening_queues, spec_at}
 use Rattle.strm_queue.specs.Rank.{is_ordered, rank_of}
-
--- what is true of queues beside their messages: what they were made with
-pub record QueueState : Type 0 where
-  pub specs : List QueueSpec
 
 -- queues, and the message blocks whose messages stand on them: shelf q has those of queue q, front to back
 pub record QueuedBlocks : Type 0 where
@@ -39,17 +36,21 @@ with_tally q t v = record v { tallies = slice_set v.tallies q t }
 pub record IsTallyOf (ms : List Message) (t : Tally) : Type 0 where
   pub len : t.len ≡ length ms
 
--- `Queues` and message blocks belong together: there is a shelf for each queue, each is in priority order, and
--- what is stored of it is true
-pub record Agrees (v : QueuesValue) (a : Arena) : Type 0 where
+-- there is a shelf for each queue, each is in priority order, and what is stored of it is true
+pub record AreInOrder (v : QueuesValue) (a : Arena) : Type 0 where
   pub shelves : length a.shelves ≡ length v.state.specs
   pub stored : length v.tallies ≡ length v.state.specs
   pub ordered : (q : ℕ) → IsTrue (is_ordered (rank_of a.store) (shelf_at a q))
   pub true_of : (q : ℕ) → IsTallyOf (shelf_at a q) (tally_at v q)
 
--- new queues: nothing stands on them
-abbrev pub opening_queues : List QueueSpec → QueueState
-opening_queues specs = record { specs = specs }
+-- a wanted mark of this queue stands only where the band has more bytes than the low water mark
+abbrev pub AreMarksLawful : QueueState → Arena → ℕ → Type 0
+AreMarksLawful s a q = (band : ℕ) → IsTrue (is_wanted (marks_at s q).wanted band) → (spec_at s.specs q).lowat < band_count a.store band (shelf_at a q)
+
+-- `Queues` and message blocks belong together: messages are in order, what is stored is true, and so are the marks
+pub record Agrees (v : QueuesValue) (a : Arena) : Type 0 where
+  pub in_order : AreInOrder v a
+  pub marks : (q : ℕ) → AreMarksLawful v.state a q
 
 abbrev pub opening_value : List QueueSpec → QueuesValue
 opening_value specs = record { state = opening_queues specs; tallies = map (λ q. no_tally) specs }

@@ -1,11 +1,18 @@
 //! Queues of messages in priority order, over message blocks.
 #![tactic(auto)]
 
+mod band_info;
+mod band_set;
+mod flush;
 mod limits;
+mod queue_info;
 mod queue_spec;
 mod queues;
 
-pub use limits::MOST_QUEUES;
+pub use band_info::BandInfo;
+pub use flush::Flush;
+pub use limits::{BANDS, MOST_QUEUES};
+pub use queue_info::QueueInfo;
 pub use queue_spec::QueueSpec;
 pub use queues::Queues;
 

@@ -1,4 +1,7 @@
-//! How many queues there may be.
+//! How many queues and bands there may be.
 
 /// The most queues over one arena of message blocks.
 pub const MOST_QUEUES: usize = 16;
+
+/// The bands of a queue, numbered from 0.
+pub const BANDS: usize = 256;

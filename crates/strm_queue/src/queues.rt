@@ -1,43 +1,63 @@
 //! Queues by number, and the calls that put messages on them and take them off.
-ghost use Rattle.std.specs.Prelude.{◌≡◌, ◌<◌, ℕ, IfOk, IsTrue, length, nat_lt, reverse};
+ghost use Rattle.std.specs.Prelude.{◌≡◌, ◌<◌, ℕ, IfOk, IsTrue, length, nat_lt, reverse, sum_by};
+ghost use Rattle.std.specs.List.{All};
 ghost use Rattle.strm_links.specs.Rows as rows;
 ghost use Rattle.strm_mblk.specs.Arena.{shelf_at};
-ghost use Rattle.strm_mblk.specs.Given.{answer_of};
 ghost use Rattle.strm_mblk.specs.Shelves.{heads_at};
-ghost use Rattle.strm_queue.specs.QueueCalls as model;
+ghost use Rattle.strm_queue.specs.Flow.{band_count, bytes_on, every_band, spec_at};
 ghost use Rattle.strm_queue.specs.QueueSpecs.{are_lawful};
-ghost use Rattle.strm_queue.specs.QueuedBlocks.{Agrees, opening_value, tally_at, together, with_tally};
+ghost use Rattle.strm_queue.specs.QueuedBlocks.{Agrees, AreMarksLawful, opening_value, tally_at, with_tally};
+ghost use Rattle.strm_queue.specs.QueuesLayout.{new_queue};
 ghost use Rattle.strm_queue.specs.Rank.{is_ordered, rank_of};
 
+mod asking;
+mod counts;
+mod enabling;
+mod flushing;
 mod getting;
+mod marks;
 mod places;
 mod putting;
+mod settling;
 
+use crate::band_set::BandSet;
 use crate::queue_spec::QueueSpec;
 use std::alloc::{AllocError, Global};
 use std::marker::Model;
-use strm_data::Refusal;
+use strm_links::Links;
 use strm_mblk::Blocks;
 
 /// Queues of messages, numbered from 0, over message blocks: shelf q of the `Blocks` has the messages of queue q.
 ///
-/// High priority messages come first, then those of greater bands, and of equal ones that which came first. Each call
-/// that touches messages takes the `Blocks` too, and asks that the two agree (`Agrees`): that there is a shelf for each
-/// queue, that each is in priority order, and that what is stored of it is true. New `Queues` agree with new `Blocks`
-/// that have as many shelves, each call here keeps it, and so does every call of `Blocks` on tokens, since it leaves
-/// the shelves and what stands there (`LeavesOthers`).
+/// High priority messages come first, then those of greater bands, and of equal ones that which came first. Beside its
+/// messages a queue has marks: that somebody wants to read from it (at first, and after `getq` found it empty), that
+/// enabling is switched off, and for each band that it is wanted, since `bcanput` found it full. A queue that is
+/// enabled stands on the run list until `next_service` takes it off.
 ///
-/// No call but `new` takes memory. Queues, their order and the calls are those of UNIX System V Release 4 STREAMS.
+/// Each call that touches messages takes the `Blocks` too, and asks that the two agree (`Agrees`): that there is a shelf
+/// for each queue, that each is in priority order, that what is stored of it is true, and that a wanted mark stands only
+/// where the band has more bytes than the low water mark. New `Queues` agree with new `Blocks` that have as many
+/// shelves, each call here keeps it, and so does every call of `Blocks` on tokens, since it leaves the shelves and what
+/// stands there (`LeavesOthers`).
+///
+/// No call but `new` takes memory. Queues, their order, flow control and the calls are those of UNIX System V Release 4
+/// STREAMS.
 #[derive(Debug, Drop)]
 pub struct Queues {
     queues: Vec<Queue>,
+    // The queues that wait to be served are list 0, in which queue q is node q.
+    run: Links,
 }
 
-#[derive(Clone, Copy, Debug)]
+#[derive(Debug, Drop)]
 struct Queue {
     spec: QueueSpec,
     // How many messages stand on it.
     len: u32,
+    // Its marks.
+    read: bool,
+    noenable: bool,
+    wanted: BandSet,
 }
 
 impl Model for Queues {
@@ -45,9 +65,26 @@ impl Model for Queues {
 
     ghost Value = { QueuesValue };
 
-    ghost use Rattle.strm_queue.specs.QueuesLayout.{value_of};
+    ghost use Rattle.strm_queue.specs.QueuesLayout.{IsLawful, value_of};
 
     ghost view = { value_of };
+
+    ghost invariant = { IsLawful };
+}
+
+impl Queue {
+    // A queue on which nothing stands.
+    fn new(spec: QueueSpec) -> Queue
+        ensures { result ≡ new_queue spec }
+    {
+        Queue {
+            spec,
+            len: 0,
+            read: true,
+            noenable: false,
+            wanted: BandSet::new(),
+        }
+    }
 }
 
 impl Queues {
@@ -59,14 +96,13 @@ impl Queues {
         requires { IsTrue (are_lawful specs.now) }
         ensures { IfOk result (λ v. v ≡ opening_value specs.now) }
     {
+        let count = specs.len() as u32;
         let mut queues = Vec::with_capacity(alloc, specs.len())?;
         for spec in specs {
-            queues.push(Queue {
-                spec: *spec,
-                len: 0,
-            })?;
+            queues.push(Queue::new(*spec))?;
         }
-        Ok(Queues { queues })
+        let run = Links::new(alloc, count, 1)?;
+        Ok(Queues { queues, run })
     }
 
     /// Whether there is a queue of this number. Nothing changes.
@@ -92,27 +128,38 @@ impl Queues {
         self.queues[usize::from(queue)].len = len;
     }
 
-    /// How many messages stand on a queue. Takes constant time. Nothing changes.
-    ///
-    /// Refused as `NoSuchQueue` where there is no such queue.
-    pub fn qsize(&self, blocks: &Blocks, queue: u8) -> Result<u32, Refusal>
-        requires { Agrees self.now blocks.now }
-        ensures { result ≡ answer_of (model.qsize queue (together self.now blocks.now)) }
+    // What a queue was made with.
+    fn spec(&self, queue: u8) -> QueueSpec
+        requires { queue < length self.now.state.specs }
+        ensures { result ≡ spec_at self.now.state.specs queue }
     {
-        match self.queues.get(usize::from(queue)) {
-            Some(found) => Ok(found.len),
-            None => Err(Refusal::NoSuchQueue),
-        }
+        self.queues[usize::from(queue)].spec
     }
 
-    /// The law that each queue is in priority order, and reads alike both ways: following `after` from the first head on
-    /// its shelf gives the heads of its messages, and following `before` from the last gives their reverse. Does nothing.
-    pub fn reads_alike(&self, blocks: &Blocks)
+    // The law that the queues were lawful when they were made. Does nothing.
+    fn made_lawful(&self)
+        ensures { IsTrue (are_lawful self.now.state.specs) }
+    {
+        let _ = &self.queues;
+    }
+
+    /// The law of queues and the message blocks that they agree with, whatever calls made them so. Does nothing.
+    pub fn lawful(&self, blocks: &Blocks)
         requires { Agrees self.now blocks.now }
+        // Each queue is in priority order, and reads alike both ways: following `after` from the first head on its shelf
+        // gives the heads of its messages, and following `before` from the last gives their reverse.
         ensures ordered { (queue : ℕ) → IsTrue (is_ordered (rank_of blocks.now.store) (shelf_at blocks.now queue)) }
         ensures forward { (queue : ℕ) → let heads = heads_at blocks.now queue in rows.Reads (λ head. rows.after head heads) (rows.first heads) heads }
         ensures backward { (queue : ℕ) → let heads = heads_at blocks.now queue in rows.Reads (λ head. rows.before head heads) (rows.last heads) (reverse heads) }
+        // A wanted mark stands only where the band has more bytes than the low water mark.
+        ensures marks { (queue : ℕ) → AreMarksLawful self.now.state blocks.now queue }
+        // The bytes of a queue's bands add up to those of its messages.
+        ensures whole { (queue : ℕ) → sum_by (λ band. band_count blocks.now.store band (shelf_at blocks.now queue)) every_band ≡ bytes_on (shelf_at blocks.now queue) }
+        // No queue is on the run list twice, and each that is has a service procedure.
+        ensures once { rows.IsApart self.now.state.run }
+        ensures served { All (λ queue. IsTrue (spec_at self.now.state.specs queue).service) self.now.state.run }
     {
         blocks.reads_alike();
+        self.run.parts_nodes();
     }
 }

@@ -10,7 +10,7 @@ use std::process::Abort;
 use strm_data::{ClassSpec, MsgType, Refusal};
 use strm_mblk::{Blocks, Rejected, Token};
 
-mod beside;
+mod bench;
 mod plain;
 mod reading;
 mod rows;
@@ -23,6 +23,17 @@ const QUEUE: QueueSpec = QueueSpec {
     service: true,
     next: None,
 };
+
+// What a message of one block is made with.
+#[derive(Clone, Copy)]
+struct Draft {
+    kind: MsgType,
+    band: u8,
+    size: u32,
+}
+
+// As many bytes as a message may get.
+const BYTES: [u8; 8] = [7; 8];
 
 // New queues, and so many message blocks with a shelf for each.
 fn opened(
@@ -54,14 +65,14 @@ fn allocated(rt: &impl Abort, queues: &Queues, blocks: &mut Blocks) -> Token
     }
 }
 
-// Gives a message of one block high priority.
-fn set_high(rt: &impl Abort, queues: &Queues, blocks: &mut Blocks, token: &Token)
+// Gives a message of one block another type.
+fn set_kind(rt: &impl Abort, queues: &Queues, blocks: &mut Blocks, token: &Token, kind: MsgType)
     requires agrees { Agrees queues.now blocks.old }
     requires had { IsTrue (has blocks.old token.now) }
     ensures agrees { Agrees queues.now blocks.new }
     ensures had { IsTrue (has blocks.new token.now) }
 {
-    assert_eq!(rt; blocks.settype(token, 0, MsgType::MPcproto), Ok(()));
+    assert_eq!(rt; blocks.settype(token, 0, kind), Ok(()));
 }
 
 // Gives a message a band.
@@ -75,21 +86,65 @@ fn set_band(queues: &Queues, blocks: &mut Blocks, token: &Token, band: u8)
     blocks.setband(token, band);
 }
 
-// A new message of this rank: of high priority for 256, else of this band. One of high priority has band 9.
-fn message(rt: &impl Abort, queues: &Queues, blocks: &mut Blocks, rank: u16) -> Token
+// Writes so many bytes to a message of one block.
+fn write(rt: &impl Abort, queues: &Queues, blocks: &mut Blocks, token: &Token, size: u32)
+    requires agrees { Agrees queues.now blocks.old }
+    requires had { IsTrue (has blocks.old token.now) }
+    ensures agrees { Agrees queues.now blocks.new }
+    ensures had { IsTrue (has blocks.new token.now) }
+{
+    assert!(rt; size <= 8);
+    assert_eq!(rt; blocks.write(token, 0, &BYTES[..size as usize]), Ok(()));
+}
+
+// A new message of one block, made so.
+fn drafted(rt: &impl Abort, queues: &Queues, blocks: &mut Blocks, how: Draft) -> Token
     requires { Agrees queues.now blocks.old }
     ensures agrees { Agrees queues.now blocks.new }
     ensures had { IsTrue (has blocks.new result) }
 {
     let token = allocated(rt, queues, blocks);
-    match u8::try_from(rank) {
-        Ok(band) => set_band(queues, blocks, &token, band),
-        Err(_) => {
-            set_high(rt, queues, blocks, &token);
-            set_band(queues, blocks, &token, 9);
-        }
-    }
+    set_kind(rt, queues, blocks, &token, how.kind);
+    set_band(queues, blocks, &token, how.band);
+    write(rt, queues, blocks, &token, how.size);
     token
+}
+
+// How a message of no bytes and this rank is made: of high priority for 256, and then with band 9, else of this band.
+fn ranked(rank: u16) -> Draft {
+    match u8::try_from(rank) {
+        Ok(band) => Draft {
+            kind: MsgType::MData,
+            band,
+            size: 0,
+        },
+        Err(_) => Draft {
+            kind: MsgType::MPcproto,
+            band: 9,
+            size: 0,
+        },
+    }
+}
+
+// A new message of no bytes and this rank.
+fn message(rt: &impl Abort, queues: &Queues, blocks: &mut Blocks, rank: u16) -> Token
+    requires { Agrees queues.now blocks.old }
+    ensures agrees { Agrees queues.now blocks.new }
+    ensures had { IsTrue (has blocks.new result) }
+{
+    drafted(rt, queues, blocks, ranked(rank))
+}
+
+// A message that names the data of another.
+fn duplicated(rt: &impl Abort, queues: &Queues, blocks: &mut Blocks, token: &Token) -> Token
+    requires agrees { Agrees queues.now blocks.old }
+    requires had { IsTrue (has blocks.old token.now) }
+    ensures { Agrees queues.now blocks.new }
+{
+    match blocks.dupmsg(token) {
+        Ok(copy) => copy,
+        Err(why) => panic!(rt; "{why:?}"),
+    }
 }
 
 // Frees a message.

@@ -2,12 +2,13 @@
 ghost use Rattle.std.specs.Prelude.{◌≡◌, None, IfOk, IfSome, IsTrue, option_map};
 ghost use Rattle.strm_mblk.specs.Arena.{has, held_at, token_of};
 ghost use Rattle.strm_mblk.specs.Given.{answer_map, answer_of, or_rejected, value_after};
-ghost use Rattle.strm_pool.specs.PoolValue.{on_queues, queued};
+ghost use Rattle.strm_pool.specs.PoolValue.{on_queues, queued, with_queued};
 ghost use Rattle.strm_queue.specs.QueueCalls as queues;
 
 use super::Pool;
 use strm_data::Refusal;
 use strm_mblk::{Rejected, Token};
+use strm_queue::{BandInfo, Flush, QueueInfo};
 
 #[tactic(auto, using(crate::proofs::OnParts::queues_after))]
 impl Pool {
@@ -82,5 +83,103 @@ impl Pool {
         ensures { result ≡ answer_of (queues.qsize queue (queued self.now)) }
     {
         self.queues.qsize(&self.blocks, queue)
+    }
+
+    /// Frees the messages of a queue front to back: all, or those that carry data. What stays keeps its place.
+    ///
+    /// Refused as `NoSuchQueue` where there is no such queue; nothing changes then.
+    pub fn flushq(&mut self, queue: u8, flush: Flush) -> Result<(), Refusal>
+        ensures pool { self.new ≡ value_after self.old (on_queues self.old (queues.flushq queue flush (queued self.old))) }
+        ensures answer { result ≡ answer_of (queues.flushq queue flush (queued self.old)) }
+    {
+        self.queues.flushq(&mut self.blocks, queue, flush)
+    }
+
+    /// Frees the messages of one band of a queue, front to back: all of them, or those that carry data. High priority
+    /// messages are of band 0. What stays keeps its place.
+    ///
+    /// Refused as `NoSuchQueue` where there is no such queue; nothing changes then.
+    pub fn flushband(&mut self, queue: u8, band: u8, flush: Flush) -> Result<(), Refusal>
+        ensures pool { self.new ≡ value_after self.old (on_queues self.old (queues.flushband queue band flush (queued self.old))) }
+        ensures answer { result ≡ answer_of (queues.flushband queue band flush (queued self.old)) }
+    {
+        self.queues.flushband(&mut self.blocks, queue, band, flush)
+    }
+
+    /// Whether a message of a band may be put: asked of the first queue with a service procedure from this one on, or of
+    /// the last one there. Where the band has as many bytes as the high water mark there, its wanted mark is set, and the
+    /// answer is false.
+    ///
+    /// Refused as `NoSuchQueue` where there is no such queue; nothing changes then.
+    pub fn bcanput(&mut self, queue: u8, band: u8) -> Result<bool, Refusal>
+        ensures pool { self.new ≡ value_after self.old (on_queues self.old (queues.bcanput queue band (queued self.old))) }
+        ensures answer { result ≡ answer_of (queues.bcanput queue band (queued self.old)) }
+    {
+        self.queues.bcanput(&self.blocks, queue, band)
+    }
+
+    /// Enables a queue: adds it at the end of the run list, unless it is there or has no service procedure.
+    ///
+    /// Refused as `NoSuchQueue` where there is no such queue; nothing changes then.
+    pub fn qenable(&mut self, queue: u8) -> Result<(), Refusal>
+        ensures pool { self.new ≡ value_after self.old (on_queues self.old (queues.qenable queue (queued self.old))) }
+        ensures answer { result ≡ answer_of (queues.qenable queue (queued self.old)) }
+    {
+        self.queues.qenable(queue)
+    }
+
+    /// Switches enabling off: nothing but a high priority message put on the queue, `qenable`, and back-enabling enables
+    /// it any more.
+    ///
+    /// Refused as `NoSuchQueue` where there is no such queue; nothing changes then.
+    pub fn noenable(&mut self, queue: u8) -> Result<(), Refusal>
+        ensures pool { self.new ≡ value_after self.old (on_queues self.old (queues.noenable queue (queued self.old))) }
+        ensures answer { result ≡ answer_of (queues.noenable queue (queued self.old)) }
+    {
+        self.queues.noenable(queue)
+    }
+
+    /// Switches enabling on again. Enables nothing by itself.
+    ///
+    /// Refused as `NoSuchQueue` where there is no such queue; nothing changes then.
+    pub fn enableok(&mut self, queue: u8) -> Result<(), Refusal>
+        ensures pool { self.new ≡ value_after self.old (on_queues self.old (queues.enableok queue (queued self.old))) }
+        ensures answer { result ≡ answer_of (queues.enableok queue (queued self.old)) }
+    {
+        self.queues.enableok(queue)
+    }
+
+    /// Takes the first queue off the run list, to be served, or none where the list is empty.
+    pub fn next_service(&mut self) -> Option<u8>
+        ensures pool { self.new ≡ with_queued self.old (queues.next_service (queued self.old)).1 }
+        ensures answer { result ≡ (queues.next_service (queued self.old)).0 }
+    {
+        self.queues.next_service()
+    }
+
+    /// The queue at a place of the run list, counted from 0, or none where the list is not so long. Nothing changes.
+    pub fn run_at(&self, place: u32) -> Option<u8>
+        ensures { result ≡ queues.run_at place (queued self.now) }
+    {
+        self.queues.run_at(place)
+    }
+
+    /// What there is to tell of a queue: its messages, their bytes, and its marks. Nothing changes.
+    ///
+    /// Refused as `NoSuchQueue` where there is no such queue.
+    pub fn queue_info(&self, queue: u8) -> Result<QueueInfo, Refusal>
+        ensures { result ≡ answer_of (queues.queue_info queue (queued self.now)) }
+    {
+        self.queues.queue_info(&self.blocks, queue)
+    }
+
+    /// What there is to tell of one band of a queue: the bytes of its messages, of which those of high priority count with
+    /// band 0, and its marks. Nothing changes.
+    ///
+    /// Refused as `NoSuchQueue` where there is no such queue.
+    pub fn band_info(&self, queue: u8, band: u8) -> Result<BandInfo, Refusal>
+        ensures { result ≡ answer_of (queues.band_info queue band (queued self.now)) }
+    {
+        self.queues.band_info(&self.blocks, queue, band)
     }
 }

@@ -28,10 +28,13 @@ impl Queues {
             return Err(Refusal::NoSuchQueue);
         }
         let Some(head) = blocks.first(queue) else {
+            self.set_read(queue, true);
             return Ok(None);
         };
         let token = blocks.unshelve(queue, head);
         self.set_len(queue, self.len(queue) - 1);
+        self.settle(blocks, queue);
+        self.set_read(queue, false);
         Ok(Some(token))
     }
 
@@ -60,6 +63,7 @@ impl Queues {
         };
         let token = blocks.unshelve(queue, head);
         self.set_len(queue, self.len(queue) - 1);
+        self.settle(blocks, queue);
         Ok(token)
     }
 }

@@ -38,7 +38,7 @@ pub(super) fn held_rank(blocks: &Blocks, token: &Token) -> u16
 }
 
 // The rank of a message on a queue.
-fn queued_rank(blocks: &Blocks, head: BlockNo) -> u16
+pub(super) fn queued_rank(blocks: &Blocks, head: BlockNo) -> u16
     requires { IsSome (shelf_of blocks.now head) }
     ensures { (queue : ℕ) (pre post : List Message) (m : Message) → shelf_at blocks.now queue ≡ pre ++ m ∷ post → head_of m ≡ head
         → result ≡ rank_of blocks.now.store m }

@@ -48,9 +48,11 @@ impl Queues {
             return Err(Rejected { why, token });
         }
         let len = self.len(queue);
-        let before = place_behind(blocks, queue, len, held_rank(blocks, &token));
+        let rank = held_rank(blocks, &token);
+        let before = place_behind(blocks, queue, len, rank);
         shelve(blocks, queue, before, token);
         self.set_len(queue, len + 1);
+        self.enable_where(self.enables_put(queue, rank), queue);
         Ok(())
     }
 
@@ -70,9 +72,11 @@ impl Queues {
             return Err(Rejected { why, token });
         }
         let len = self.len(queue);
-        let before = place_ahead(blocks, queue, len, held_rank(blocks, &token));
+        let rank = held_rank(blocks, &token);
+        let before = place_ahead(blocks, queue, len, rank);
         shelve(blocks, queue, before, token);
         self.set_len(queue, len + 1);
+        self.enable_where(self.enables_put_back(queue, rank), queue);
         Ok(())
     }
 
@@ -111,6 +115,7 @@ impl Queues {
         }
         shelve(blocks, queue, before, token);
         self.set_len(queue, len + 1);
+        self.enable_where(self.enables_inserted(queue), queue);
         Ok(())
     }
 }

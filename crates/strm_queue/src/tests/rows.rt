@@ -1,6 +1,10 @@
 //! Queues step by step.
 ghost use Rattle.strm_queue.specs.QueuedBlocks.{Agrees};
 
+mod enabling;
+mod flow;
+mod flushing;
+
 use super::{QUEUE, assert_put, came_back, free, message, opened, rank_of};
 use crate::{QueueSpec, Queues};
 use std::process::Abort;

@@ -1,23 +1,128 @@
-//! Thousands of calls beside plain vectors, on queues of many shapes.
-ghost use Rattle.std.specs.Prelude.{◌<◌};
+//! Thousands of calls beside plain queues, on queues of many shapes.
+ghost use Rattle.std.specs.Prelude.{◌<◌, IsTrue};
+ghost use Rattle.strm_queue.specs.QueueSpecs.{are_lawful};
 ghost use Rattle.strm_queue.specs.QueuedBlocks.{Agrees};
 
-use super::beside::{assert_put, assert_same, getq, insq, put_new, putbq, putq, rmvq};
-use super::plain::Plain;
-use super::{QUEUE, free, opened};
-use crate::{QueueSpec, Queues};
+use super::bench::Bench;
+use super::{Draft, ranked};
+use crate::{Flush, QueueSpec};
 use std::alloc::Global;
 use std::process::Abort;
-use strm_data::ClassSpec;
-use strm_mblk::{Blocks, Census, Token};
+use strm_data::{ClassSpec, MsgType};
+use strm_mblk::{Census, Token};
 
 // As many data blocks as there can be message blocks.
 const CLASSES: [ClassSpec; 1] = [ClassSpec {
-    size: 1,
+    size: 8,
     count: 4095,
 }];
 
-const QUEUES: [QueueSpec; 3] = [QUEUE, QUEUE, QUEUE];
+// A queue that messages are handed past, and one with a service procedure.
+const PASSES: QueueSpec = QueueSpec {
+    hiwat: 10,
+    lowat: 4,
+    service: false,
+    next: None,
+};
+
+const SERVES: QueueSpec = QueueSpec {
+    hiwat: 10,
+    lowat: 4,
+    service: true,
+    next: None,
+};
+
+// Three queues of their own.
+const APART: [QueueSpec; 3] = [SERVES, SERVES, SERVES];
+
+// A short chain.
+const SHORT: [QueueSpec; 3] = [
+    QueueSpec {
+        next: Some(1),
+        ..SERVES
+    },
+    QueueSpec {
+        next: Some(2),
+        ..PASSES
+    },
+    SERVES,
+];
+
+// As many queues as there may be, in two chains: of 14, and of 2.
+const MANY: [QueueSpec; 16] = [
+    QueueSpec {
+        next: Some(1),
+        ..PASSES
+    },
+    QueueSpec {
+        next: Some(2),
+        ..SERVES
+    },
+    QueueSpec {
+        next: Some(4),
+        ..PASSES
+    },
+    QueueSpec {
+        next: Some(15),
+        ..SERVES
+    },
+    QueueSpec {
+        next: Some(5),
+        ..SERVES
+    },
+    QueueSpec {
+        next: Some(6),
+        ..SERVES
+    },
+    QueueSpec {
+        next: Some(7),
+        ..PASSES
+    },
+    QueueSpec {
+        next: Some(8),
+        ..PASSES
+    },
+    QueueSpec {
+        next: Some(9),
+        ..PASSES
+    },
+    QueueSpec {
+        next: Some(10),
+        ..SERVES
+    },
+    QueueSpec {
+        next: Some(11),
+        ..PASSES
+    },
+    QueueSpec {
+        next: Some(12),
+        ..SERVES
+    },
+    QueueSpec {
+        next: Some(13),
+        ..SERVES
+    },
+    QueueSpec {
+        next: Some(14),
+        ..PASSES
+    },
+    PASSES,
+    PASSES,
+];
+
+// The types of messages that are put: some carry data and some do not, and of either some are of high priority.
+const KINDS: [MsgType; 7] = [
+    MsgType::MData,
+    MsgType::MData,
+    MsgType::MDelay,
+    MsgType::MProto,
+    MsgType::MPcproto,
+    MsgType::MCtl,
+    MsgType::MFlush,
+];
+
+// Bands that come often.
+const BANDS: [u8; 8] = [0, 0, 0, 0, 1, 1, 2, 255];
 
 // The next number below `limit` of a fixed sequence.
 fn below(draw: &mut u32, limit: u32) -> u32
@@ -28,161 +133,245 @@ fn below(draw: &mut u32, limit: u32) -> u32
     (*draw >> 8) % limit
 }
 
-// One of the queues, or the number of none.
-fn some_queue(draw: &mut u32) -> u8 {
-    below(draw, 4) as u8
+// One of so many queues, or at times the number of none.
+fn some_queue(draw: &mut u32, queues: u8) -> u8 {
+    below(draw, u32::from(queues) + 1) as u8
 }
 
-// Takes some message off a queue, where there is one.
-fn take(
-    rt: &impl Abort,
-    queues: &mut Queues,
-    blocks: &mut Blocks,
-    plain: &mut Plain,
-    queue: u8,
-    draw: &mut u32,
-) -> Option<Token>
-    requires { Agrees queues.old blocks.old }
-    ensures { Agrees queues.new blocks.new }
-{
-    if below(draw, 3) == 0 {
-        getq(rt, queues, blocks, plain, queue)
+// One of a few bands, or at times any.
+fn some_band(draw: &mut u32) -> u8 {
+    if below(draw, 16) == 0 {
+        below(draw, 256) as u8
     } else {
-        rmvq(rt, queues, blocks, plain, queue, below(draw, 8))
+        BANDS[below(draw, 8) as usize]
     }
 }
 
-// Puts a message on a queue in some way; it may come back.
-fn put(
-    rt: &impl Abort,
-    queues: &mut Queues,
-    blocks: &mut Blocks,
-    plain: &mut Plain,
-    queue: u8,
-    draw: &mut u32,
-    token: Token,
-) -> Option<Token>
-    requires { Agrees queues.old blocks.old }
-    ensures { Agrees queues.new blocks.new }
-{
-    match below(draw, 4) {
-        0 => putq(rt, queues, blocks, plain, queue, token),
-        1 => putbq(rt, queues, blocks, plain, queue, token),
-        _ => insq(rt, queues, blocks, plain, queue, below(draw, 8), token),
+// All messages, or those that carry data.
+fn some_flush(draw: &mut u32) -> Flush {
+    if below(draw, 2) == 0 {
+        Flush::All
+    } else {
+        Flush::Data
     }
 }
 
-// A message goes from one queue to another, or back where it came from.
-fn step(
-    rt: &impl Abort,
-    queues: &mut Queues,
-    blocks: &mut Blocks,
-    plain: &mut Plain,
-    draw: &mut u32,
-)
-    requires { Agrees queues.old blocks.old }
-    ensures { Agrees queues.new blocks.new }
-{
-    let from = some_queue(draw);
-    let to = some_queue(draw);
-    let Some(token) = take(rt, queues, blocks, plain, from, draw) else {
-        return;
-    };
-    let Some(token) = put(rt, queues, blocks, plain, to, draw, token) else {
-        return;
-    };
-    let back = putbq(rt, queues, blocks, plain, from, token);
-    assert_put(rt, blocks, back);
-}
-
-// So many steps.
-fn walk(rt: &impl Abort, queues: &mut Queues, blocks: &mut Blocks, plain: &mut Plain, steps: u32)
-    requires { Agrees queues.old blocks.old }
-    ensures { Agrees queues.new blocks.new }
-{
-    let mut draw = 1;
-    for _step in 0..steps {
-        step(rt, queues, blocks, plain, &mut draw);
-        let queue = some_queue(&mut draw);
-        assert_same(rt, queues, blocks, plain, queue);
+// How some message is made.
+fn some_message(draw: &mut u32) -> Draft {
+    Draft {
+        kind: KINDS[below(draw, 7) as usize],
+        band: some_band(draw),
+        size: below(draw, 9),
     }
 }
 
-// Queue 0 gets so many messages: of one rank, or of all ranks in turn.
-fn fill(
-    rt: &impl Abort,
-    queues: &mut Queues,
-    blocks: &mut Blocks,
-    plain: &mut Plain,
-    many: u32,
-    one: Option<u16>,
-)
-    requires { Agrees queues.old blocks.old }
-    ensures { Agrees queues.new blocks.new }
-{
-    for number in 0..many {
-        let rank = one.unwrap_or((number % 257) as u16);
-        put_new(rt, queues, blocks, plain, 0, rank);
-    }
-    assert_same(rt, queues, blocks, plain, 0);
-}
-
-// Takes all messages off a queue, first to last, and frees them.
-fn empty(
-    rt: &impl Abort,
-    queues: &mut Queues,
-    blocks: &mut Blocks,
-    plain: &mut Plain,
-    queue: u8,
-    many: u32,
-)
-    requires { Agrees queues.old blocks.old }
-    ensures { Agrees queues.new blocks.new }
-{
-    for _message in 0..many {
-        if let Some(token) = getq(rt, queues, blocks, plain, queue) {
-            free(queues, blocks, token);
+impl Bench {
+    // Puts a message on a queue in some way; it may come back.
+    fn put_somehow(
+        &mut self,
+        rt: &impl Abort,
+        queue: u8,
+        draw: &mut u32,
+        token: Token,
+    ) -> Option<Token>
+        requires { Agrees self.old.queues self.old.blocks }
+        ensures { Agrees self.new.queues self.new.blocks }
+    {
+        match below(draw, 4) {
+            0 => self.putbq(rt, queue, token),
+            1 => self.insq(rt, queue, below(draw, 8), token),
+            _ => self.putq(rt, queue, token),
         }
     }
-    assert_same(rt, queues, blocks, plain, queue);
+
+    // Puts a new message on a queue in some way, where there is room for it.
+    fn put_some(&mut self, rt: &impl Abort, queue: u8, draw: &mut u32)
+        requires { Agrees self.old.queues self.old.blocks }
+        ensures { Agrees self.new.queues self.new.blocks }
+    {
+        if self.has_free() {
+            let token = self.drafted(rt, some_message(draw));
+            let back = self.put_somehow(rt, queue, draw, token);
+            self.drop_any(back);
+        }
+    }
+
+    // Takes some message off a queue, where there is one.
+    fn take_some(&mut self, rt: &impl Abort, queue: u8, draw: &mut u32) -> Option<Token>
+        requires { Agrees self.old.queues self.old.blocks }
+        ensures { Agrees self.new.queues self.new.blocks }
+    {
+        if below(draw, 3) == 0 {
+            self.rmvq(rt, queue, below(draw, 8))
+        } else {
+            self.getq(rt, queue)
+        }
+    }
+
+    // A message goes from one queue to another, or back where it came from.
+    fn move_some(&mut self, rt: &impl Abort, from: u8, to: u8, draw: &mut u32)
+        requires { Agrees self.old.queues self.old.blocks }
+        ensures { Agrees self.new.queues self.new.blocks }
+    {
+        let Some(token) = self.take_some(rt, from, draw) else {
+            return;
+        };
+        let Some(token) = self.put_somehow(rt, to, draw, token) else {
+            return;
+        };
+        let back = self.putbq(rt, from, token);
+        self.assert_put(rt, back);
+    }
+
+    // Takes some message off a queue, where there is one, and frees it.
+    fn drop_some(&mut self, rt: &impl Abort, queue: u8, draw: &mut u32)
+        requires { Agrees self.old.queues self.old.blocks }
+        ensures { Agrees self.new.queues self.new.blocks }
+    {
+        let given = self.take_some(rt, queue, draw);
+        self.drop_any(given);
+    }
+
+    // Asks for room, or changes what waits to be served.
+    fn schedule_some(&mut self, rt: &impl Abort, queue: u8, draw: &mut u32)
+        requires { Agrees self.old.queues self.old.blocks }
+        ensures { Agrees self.new.queues self.new.blocks }
+    {
+        match below(draw, 20) {
+            0 => self.qenable(rt, queue),
+            1 => self.noenable(rt, queue),
+            2..=3 => self.enableok(rt, queue),
+            4..=7 => {
+                let _ = self.next_service(rt);
+            }
+            _ => {
+                let _ = self.bcanput(rt, queue, some_band(draw));
+            }
+        }
+    }
+
+    // Some call, or a few of them. The queue that it was on.
+    fn step(&mut self, rt: &impl Abort, queues: u8, draw: &mut u32) -> u8
+        requires { Agrees self.old.queues self.old.blocks }
+        ensures { Agrees self.new.queues self.new.blocks }
+    {
+        let queue = some_queue(draw, queues);
+        match below(draw, 32) {
+            0..=9 => self.put_some(rt, queue, draw),
+            10..=19 => self.drop_some(rt, queue, draw),
+            20..=21 => self.move_some(rt, queue, some_queue(draw, queues), draw),
+            22 => self.flushband(rt, queue, some_band(draw), some_flush(draw)),
+            23 if below(draw, 4) == 0 => self.flushq(rt, queue, some_flush(draw)),
+            _ => self.schedule_some(rt, queue, draw),
+        }
+        queue
+    }
+
+    // So many steps. Both sides are compared after each.
+    fn walk(&mut self, rt: &impl Abort, queues: u8, steps: u32)
+        requires { Agrees self.old.queues self.old.blocks }
+        ensures { Agrees self.new.queues self.new.blocks }
+    {
+        let mut draw = 1;
+        for step in 0..steps {
+            let queue = self.step(rt, queues, &mut draw);
+            self.assert_around(rt, queue);
+            if step % 32 == 0 {
+                self.assert_all_bands(rt, queue);
+            }
+        }
+    }
+
+    // Queue 0 gets so many messages of no bytes: of one rank, or of all ranks in turn.
+    fn fill(&mut self, rt: &impl Abort, many: u32, one: Option<u16>)
+        requires { Agrees self.old.queues self.old.blocks }
+        ensures { Agrees self.new.queues self.new.blocks }
+    {
+        for number in 0..many {
+            self.put_new(rt, 0, ranked(one.unwrap_or((number % 257) as u16)));
+        }
+        self.assert_around(rt, 0);
+    }
+
+    // Takes all messages off a queue, first to last, and frees them.
+    fn empty(&mut self, rt: &impl Abort, queue: u8, many: u32)
+        requires { Agrees self.old.queues self.old.blocks }
+        ensures { Agrees self.new.queues self.new.blocks }
+    {
+        self.assert_all(rt, queue);
+        for _message in 0..many {
+            self.drop_first(rt, queue);
+        }
+        self.assert_around(rt, queue);
+    }
+
+    // Empties the queues. Then all message blocks are free.
+    fn end(&mut self, rt: &impl Abort, queues: u8, many: u32)
+        requires { Agrees self.old.queues self.old.blocks }
+        ensures { Agrees self.new.queues self.new.blocks }
+    {
+        for queue in 0..queues {
+            self.empty(rt, queue, many);
+        }
+        let all_free = Census {
+            free: many,
+            queued: 0,
+            held: 0,
+        };
+        assert_eq!(rt; self.census(), all_free);
+    }
 }
 
-// So many messages of one rank, or of all, are put on queue 0, go to and fro in so many steps, and are freed.
-fn run(rt: &impl Abort, alloc: Global, many: u32, one: Option<u16>, steps: u32)
-    requires { many < 4096 }
+// So many messages of one rank, or of all, are put on queue 0; then come so many steps, and the messages are freed.
+fn run(rt: &impl Abort, alloc: Global, specs: &[QueueSpec], many: u32, one: Option<u16>, steps: u32)
+    requires few { many < 4096 }
+    requires queues { IsTrue (are_lawful specs.now) }
 {
-    let (mut queues, mut blocks) = opened(rt, alloc, many, &CLASSES, &QUEUES);
-    let mut plain = Plain::opened(rt, alloc, 3);
-    fill(rt, &mut queues, &mut blocks, &mut plain, many, one);
-    walk(rt, &mut queues, &mut blocks, &mut plain, steps);
-    empty(rt, &mut queues, &mut blocks, &mut plain, 0, many);
-    empty(rt, &mut queues, &mut blocks, &mut plain, 1, many);
-    empty(rt, &mut queues, &mut blocks, &mut plain, 2, many);
-    let all_free = Census {
-        free: many,
-        queued: 0,
-        held: 0,
-    };
-    assert_eq!(rt; blocks.census(), all_free);
+    let queues = specs.len() as u8;
+    let mut bench = Bench::opened(rt, alloc, many, &CLASSES, specs);
+    bench.fill(rt, many, one);
+    bench.walk(rt, queues, steps);
+    bench.end(rt, queues, many);
+}
+
+// So many steps with so many message blocks, in which queues behind are enabled so often at the least.
+fn flow(rt: &impl Abort, alloc: Global, specs: &[QueueSpec], many: u32, steps: u32, woken: u32)
+    requires few { many < 4096 }
+    requires queues { IsTrue (are_lawful specs.now) }
+{
+    let queues = specs.len() as u8;
+    let mut bench = Bench::opened(rt, alloc, many, &CLASSES, specs);
+    bench.walk(rt, queues, steps);
+    assert!(rt; bench.woken() >= woken);
+    bench.end(rt, queues, many);
 }
 
 #[test]
 fn one_message(rt: HostRuntime) {
-    run(&rt, rt.alloc(), 1, Some(3), 400);
+    run(&rt, rt.alloc(), &APART, 1, Some(3), 400);
 }
 
 #[test]
 fn one_rank(rt: HostRuntime) {
-    run(&rt, rt.alloc(), 12, Some(0), 2000);
+    run(&rt, rt.alloc(), &APART, 12, Some(0), 1000);
 }
 
 #[test]
 fn all_ranks(rt: HostRuntime) {
-    run(&rt, rt.alloc(), 300, None, 2000);
+    run(&rt, rt.alloc(), &SHORT, 300, None, 1000);
 }
 
 #[test]
 fn most_messages(rt: HostRuntime) {
-    run(&rt, rt.alloc(), 4095, Some(256), 40);
-    run(&rt, rt.alloc(), 4095, None, 40);
+    run(&rt, rt.alloc(), &SHORT, 4095, None, 8);
+}
+
+#[test]
+fn short_chain(rt: HostRuntime) {
+    flow(&rt, rt.alloc(), &SHORT, 24, 5000, 20);
+}
+
+#[test]
+fn many_queues(rt: HostRuntime) {
+    flow(&rt, rt.alloc(), &MANY, 80, 8000, 40);
 }

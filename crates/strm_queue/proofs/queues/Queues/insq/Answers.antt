@@ -4,12 +4,13 @@ use Rattle.strm_mblk.specs.Arena.{message_at, shelf_at}
 use Rattle.strm_mblk.specs.Block.{head_of}
 use Rattle.strm_mblk.specs.Given.{value_after, answer_of, or_rejected}
 use Rattle.strm_mblk.specs.Messages.{put_before_head}
-use Rattle.strm_queue.specs.QueuedBlocks.{together}
+use Rattle.strm_queue.specs.Flow.{enabled_where, enables_inserted, marks_at}
+use Rattle.strm_queue.specs.QueuedBlocks.{QueuesValue, together, with_tally}
 use Rattle.strm_queue.specs.Rank.{as_queued, is_ordered, rank_of}
 use Rattle.strm_queue.proofs.Puts.{IsPut, insq_after, insq_agrees, insq_given, insq_refused}
 use Rattle.strm_queue.proofs.Ranks.{rank_of-queued}
 use Rattle.strm_queue.proofs.queues.Queues.insq.Goals as goal
-use Rattle.strm_queue.proofs.queues.Queues.insq.Goals.{After-fits_before, After-set_len}
+use Rattle.strm_queue.proofs.queues.Queues.insq.Goals.{After-enable_where, After-fits_before}
 
 -- there is such a queue
 abbrev there : (c : After-fits_before) → nat_lt c.args.queue (length c.args.self.now.state.specs) ≡ true
@@ -36,15 +37,23 @@ returns-then-not-fits_before-clause-answer c =
     (insq_refused c.args.self.now c.args.blocks.now c.requires.agrees c.args.queue c.args.token.head (there here) c.args.place (omega (arith, c.len-len.ensures, c.if-place-len.false)) c.lawful.ensures.parted c.head_at-before.result
     c.head_at-before.ensures.value (sym (fits here) ∙ c.if-not-fits_before.true)))
 
-put : (c : After-set_len) → IsPut c.args.self.now c.args.blocks.now c.requires.agrees c.args.queue c.args.token.head (sym c.has_queue.ensures ∙ c.if-not-has_queue.false) c.head_at-before.result c.set_len.new.self c.shelve.new.blocks
-put c = record { len = c.len-len.result + 1; len_is = omega (arith, c.len-len.ensures); queues = c.set_len.ensures; arena = c.shelve.ensures.after }
+put : (c : After-enable_where) → IsPut c.args.self.now c.args.blocks.now c.requires.agrees c.args.queue c.args.token.head (sym c.has_queue.ensures ∙ c.if-not-has_queue.false) (enables_inserted (marks_at c.args.self.now.state c.args.queue)) c.head_at-before.result c.enable_where.new.self c.shelve.new.blocks
+put c = record {
+  len = c.len-len.result + 1;
+  len_is = omega (arith, c.len-len.ensures);
+  queues =
+      c.enable_where.ensures ∙ ap (λ (w : QueuesValue). record w { state = enabled_where c.enables_inserted.result c.args.queue w.state }) c.set_len.ensures
+      ∙ ap (λ so. let w = with_tally c.args.queue (record { len = c.len-len.result + 1 }) c.args.self.now in record w { state = enabled_where so c.args.queue w.state })
+      (c.enables_inserted.ensures ∙ ap (λ (w : QueuesValue). enables_inserted (marks_at w.state c.args.queue)) c.set_len.ensures);
+  arena = c.shelve.ensures.after;
+}
 
 pub returns-clause-after : goal.returns-clause-after
 returns-clause-after c =
-    let end = (goal.at.returns-clause-after c).After-set_len in
+    let end = (goal.at.returns-clause-after c).After-enable_where in
     let here = (goal.at.returns-clause-after c).After-fits_before in
     insq_after c.args.self.now c.args.blocks.now c.requires.agrees c.args.queue c.args.token.head (there here) c.args.place (omega (arith, c.len-len.ensures, c.if-place-len.false)) c.lawful.ensures.parted c.head_at-before.result
-    c.head_at-before.ensures.value (sym (fits here) ∙ c.if-not-fits_before.false) c.set_len.new.self c.shelve.new.blocks (put end)
+    c.head_at-before.ensures.value (sym (fits here) ∙ c.if-not-fits_before.false) c.enable_where.new.self c.shelve.new.blocks (put end)
 
 pub returns-clause-answer : goal.returns-clause-answer
 returns-clause-answer c =
@@ -55,7 +64,7 @@ returns-clause-answer c =
 
 pub returns-clause-agrees : goal.returns-clause-agrees
 returns-clause-agrees c =
-    let end = (goal.at.returns-clause-agrees c).After-set_len in
+    let end = (goal.at.returns-clause-agrees c).After-enable_where in
     let here = (goal.at.returns-clause-agrees c).After-fits_before in
     insq_agrees c.args.self.now c.args.blocks.now c.requires.agrees c.args.queue c.args.token.head (there here) c.args.place (omega (arith, c.len-len.ensures, c.if-place-len.false)) c.lawful.ensures.parted c.head_at-before.result
-    c.head_at-before.ensures.value (sym (fits here) ∙ c.if-not-fits_before.false) c.set_len.new.self c.shelve.new.blocks (put end)
+    c.head_at-before.ensures.value (sym (fits here) ∙ c.if-not-fits_before.false) c.enable_where.new.self c.shelve.new.blocks (put end)

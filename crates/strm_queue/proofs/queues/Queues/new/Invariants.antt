@@ -1,5 +1,5 @@
 use Rattle.std.proofs.Common.{◌≡◌, map, take}
-use Rattle.strm_queue.proofs.Stored.{new_queue}
+use Rattle.strm_queue.specs.QueuesLayout.{new_queue}
 use Rattle.strm_queue.proofs.queues.Queues.new.Given as goal
 
 -- so many queues were made

@@ -3,7 +3,7 @@ use Rattle.std.specs.Prelude.{nat_lt, slice_get}
 use Rattle.strm_mblk.specs.Arena.{token_of}
 use Rattle.strm_mblk.specs.Given.{answer_map, answer_of}
 use Rattle.strm_mblk.specs.Shelves.{heads_at}
-use Rattle.strm_queue.proofs.Gets.{IsGot, rmvq_after, rmvq_agrees, rmvq_given}
+use Rattle.strm_queue.proofs.Gets.{IsGot, IsLeft, rmvq_after, rmvq_given, rmvq_left}
 use Rattle.strm_queue.proofs.queues.Queues.rmvq.Goals as goal
 use Rattle.strm_queue.proofs.queues.Queues.rmvq.Goals.{After-set_len}
 
@@ -18,10 +18,21 @@ some c = sym c.head_at.ensures.value ∙ c.in-Some.is
 got : (c : After-set_len) → IsGot c.args.self.now c.args.blocks.now c.requires c.lawful.ensures.parted c.args.queue (there c) c.in-Some.head c.set_len.new.self c.unshelve-token.new.self
 got c = record { len = c.len-2.result - 1; len_is = omega (arith, c.len-2.ensures); queues = c.set_len.ensures; arena = c.unshelve-token.ensures.after }
 
+-- what is left is to settle the queue
+left : (c : After-set_len) → IsLeft c.args.self.now c.args.blocks.now c.requires c.lawful.ensures.parted c.args.queue (there c) c.in-Some.head c.set_len.new.self c.unshelve-token.new.self
+left c = rmvq_left c.args.self.now c.args.blocks.now c.requires c.lawful.ensures.parted c.args.queue (there c) c.in-Some.head c.args.place (some c) c.set_len.new.self c.unshelve-token.new.self (got c)
+
+pub settle-requires-clause-in_order : goal.settle-requires-clause-in_order
+settle-requires-clause-in_order c = (left ((goal.at.settle-requires-clause-in_order c).After-set_len)).in_order
+
+pub settle-requires-clause-marks : goal.settle-requires-clause-marks
+settle-requires-clause-marks c = (left ((goal.at.settle-requires-clause-marks c).After-set_len)).others
+
 pub returns-clause-after : goal.returns-clause-after
 returns-clause-after c =
     let here = (goal.at.returns-clause-after c).After-set_len in
-    rmvq_after c.args.self.now c.args.blocks.now c.requires c.lawful.ensures.parted c.args.queue (there here) c.in-Some.head c.args.place (some here) c.set_len.new.self c.unshelve-token.new.self (got here)
+    c.settle.ensures.state
+    ∙ rmvq_after c.args.self.now c.args.blocks.now c.requires c.lawful.ensures.parted c.args.queue (there here) c.in-Some.head c.args.place (some here) c.set_len.new.self c.unshelve-token.new.self (got here)
 
 pub returns-clause-token : goal.returns-clause-token
 returns-clause-token c =
@@ -29,8 +40,3 @@ returns-clause-token c =
     ap Ok c.unshelve-token.ensures.token
     ∙ sym (ap (λ g. answer_map (token_of c.unshelve-token.new.self) (answer_of g))
     (rmvq_given c.args.self.now c.args.blocks.now c.requires c.lawful.ensures.parted c.args.queue (there here) c.in-Some.head c.args.place (some here)))
-
-pub returns-clause-agrees : goal.returns-clause-agrees
-returns-clause-agrees c =
-    let here = (goal.at.returns-clause-agrees c).After-set_len in
-    rmvq_agrees c.args.self.now c.args.blocks.now c.requires c.lawful.ensures.parted c.args.queue (there here) c.in-Some.head c.args.place (some here) c.set_len.new.self c.unshelve-token.new.self (got here)

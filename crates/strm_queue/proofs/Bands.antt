@@ -1,0 +1,291 @@
+-- Sets of bands: lists of marks, one for each band.
+use Rattle.std.proofs.Common.{◌≡◌, ℕ, suc, zero, ◌+◌, ◌*◌, ◌/◌, ◌%◌, ◌^◌, ◌<◌, ◌≤◌, bit_and, bit_or, w64, Bool, true, false, not, ◌&&◌, ◌||◌, ◌==◌, List, [], ◌∷◌, length, map, get_or, inl, inr, refl, sym, ap, ◌∙◌, arith}
+use Rattle.std.specs.Int.{bit_at, bit_not, trailing_zeros}
+use Rattle.std.specs.Prelude.{if◌then◌else◌, nat_lt, slice_index_or, slice_set}
+use Rattle.std.specs.List.{list_any, range_with_len}
+use Rattle.std.proofs.lemmas.Bool.{and_right, cases_eq, cases_order, eq-eqb, le-ltb, lt-ltb, ne_eqb, or_parts, or_right}
+use Rattle.std.proofs.lemmas.List.{ext_get_or, get_or-map, get_or-set_other, get_or_past, length-map, length-set}
+use Rattle.std.proofs.lemmas.Grind.{get_or-set_at}
+use Rattle.std.proofs.lemmas.List.Folds.{list_any_at, list_any_none}
+use Rattle.std.proofs.lemmas.List.FromFn.{get_or-range_with_len, length-range_with_len}
+use Rattle.std.proofs.lemmas.Nat.Bits.{bit_at-trailing_zeros, bit_at-zero, bit_at_clear_other, bit_at_clear_same, bit_at_set_other, bit_at_set_same}
+use Rattle.strm_queue.specs.BandSets.{is_in}
+use Rattle.strm_queue.specs.Flow.{bands_where, every_band, is_wanted}
+use Rattle.strm_queue.specs.Limits.{bands}
+
+-- ---- every band
+
+-- its only unfolding
+every_is : every_band ≡ range_with_len 0 bands
+unfolding every_band
+every_is = refl
+
+-- there are as many bands as the limit says
+pub length-every_band : length every_band ≡ bands
+length-every_band = ap length every_is ∙ length-range_with_len 0 bands
+
+-- each stands at its own place
+pub get_or-every_band : (band : ℕ) → band < bands → get_or every_band band 0 ≡ band
+get_or-every_band band below = ap (λ l. get_or l band 0) every_is ∙ omega (arith, get_or-range_with_len 0 bands band 0 below)
+
+-- ---- marks
+
+-- the mark of a band
+pub is_wanted_where : (p : ℕ → Bool) (band : ℕ) → band < bands → is_wanted (bands_where p) band ≡ p band
+is_wanted_where p band below = get_or-map p every_band band 0 false (omega (arith, below, length-every_band)) ∙ ap p (get_or-every_band band below)
+
+-- there are as many marks as bands
+pub length-bands_where : (p : ℕ → Bool) → length (bands_where p) ≡ length every_band
+length-bands_where p = length-map every_band p
+
+-- past the last band there is no mark
+pub wanted_past : (p : ℕ → Bool) (band : ℕ) → bands ≤ band → is_wanted (bands_where p) band ≡ false
+wanted_past p band past = get_or_past (bands_where p) band false (omega (arith, past, length-bands_where p, length-every_band))
+
+-- marks that are those of p, band by band
+pub marks_are : (ms : List Bool) (p : ℕ → Bool) → length ms ≡ length every_band → ((band : ℕ) → band < bands → is_wanted ms band ≡ p band) → ms ≡ bands_where p
+marks_are ms p long same =
+    ext_get_or false ms (bands_where p) (long ∙ sym (length-bands_where p))
+    (λ band below. let low : band < bands = omega (arith, below, long, length-every_band) in same band low ∙ sym (is_wanted_where p band low))
+
+-- the marks of what is the same of each band
+pub bands_where-same : (p q : ℕ → Bool) → ((band : ℕ) → band < bands → p band ≡ q band) → bands_where p ≡ bands_where q
+bands_where-same p q same = marks_are (bands_where p) q (length-bands_where p) (λ band below. is_wanted_where p band below ∙ same band below)
+
+-- the marks of the bands that are marked are those there are
+pub where-is : (ms : List Bool) → length ms ≡ length every_band → bands_where (is_wanted ms) ≡ ms
+where-is ms long = sym (marks_are ms (is_wanted ms) long (λ band below. refl))
+
+-- ---- one mark set
+
+-- one more band
+pub bands_where-set : (p : ℕ → Bool) (b : ℕ) → b < bands → slice_set (bands_where p) b true ≡ bands_where (λ band. band == b || p band)
+bands_where-set p b low = marks_are (slice_set (bands_where p) b true) (λ band. band == b || p band) (length-set (bands_where p) b true ∙ length-bands_where p) at
+  where
+    at : (band : ℕ) → band < bands → is_wanted (slice_set (bands_where p) b true) band ≡ (band == b || p band)
+    at band below =
+        elim (cases_eq band b) [
+          | inl is ↦
+              get_or-set_at (bands_where p) b band true false is (omega (arith, low, length-bands_where p, length-every_band)) ∙ sym (ap (λ t. t || p band) (eq-eqb band b is))
+          | inr other ↦
+              get_or-set_other (bands_where p) b band true false other ∙ is_wanted_where p band below ∙ sym (ap (λ t. t || p band) (ne_eqb band b other))
+        ]
+
+-- one band less
+pub bands_where-unset : (p : ℕ → Bool) (b : ℕ) → b < bands → slice_set (bands_where p) b false ≡ bands_where (λ band. not (band == b) && p band)
+bands_where-unset p b low = marks_are (slice_set (bands_where p) b false) (λ band. not (band == b) && p band) (length-set (bands_where p) b false ∙ length-bands_where p) at
+  where
+    at : (band : ℕ) → band < bands → is_wanted (slice_set (bands_where p) b false) band ≡ (not (band == b) && p band)
+    at band below =
+        elim (cases_eq band b) [
+          | inl is ↦
+              get_or-set_at (bands_where p) b band false false is (omega (arith, low, length-bands_where p, length-every_band)) ∙ sym (ap (λ t. not t && p band) (eq-eqb band b is))
+          | inr other ↦
+              get_or-set_other (bands_where p) b band false false other ∙ is_wanted_where p band below ∙ sym (ap (λ t. not t && p band) (ne_eqb band b other))
+        ]
+
+-- ---- whether there is one
+
+-- whether a mark is set
+abbrev pub any_in : List Bool → Bool
+any_in ms = list_any (λ mark. mark) ms
+
+-- where no mark is set, none is at a place
+pub none_wanted : (ms : List Bool) → any_in ms ≡ false → (band : ℕ) → is_wanted ms band ≡ false
+none_wanted [] none band = refl
+none_wanted (m ∷ ms) none zero = (or_parts m (any_in ms) none).0
+none_wanted (m ∷ ms) none (suc band) = none_wanted ms (or_parts m (any_in ms) none).1 band
+
+any-map : (p : ℕ → Bool) (xs : List ℕ) → any_in (map p xs) ≡ list_any p xs
+any-map p [] = refl
+any-map p (x ∷ xs) = ap (λ t. p x || t) (any-map p xs)
+
+-- one of the marks is set where p is true of one of the bands
+pub some_where : (p : ℕ → Bool) → any_in (bands_where p) ≡ list_any p every_band
+some_where p = any-map p every_band
+
+-- so it is for what is the same of each band
+pub some_same : (p q : ℕ → Bool) → ((band : ℕ) → band < bands → p band ≡ q band) → list_any p every_band ≡ list_any q every_band
+some_same p q same = sym (some_where p) ∙ ap any_in (bands_where-same p q same) ∙ some_where q
+
+-- ---- bits of words
+
+-- whether the set with these words has a band
+abbrev bit_in : List ℕ → ℕ → Bool
+bit_in words = is_in (record { words = words })
+
+module _ (words : List ℕ) (b word : ℕ) (within : b / 64 < length words) where
+  -- the word that is set has the bit
+  bit_in-set_same : bit_in (slice_set words (b / 64) word) b ≡ (bit_at word (b % 64) == 1)
+  bit_in-set_same = ap (λ n. bit_at n (b % 64) == 1) (get_or-set_at words (b / 64) (b / 64) word 0 refl within)
+
+  -- a word that keeps its other bits keeps the bits of all others
+  bit_in-set_other : ((i : ℕ) → i < 64 → (i ≡ b % 64 → ⊥) → bit_at word i ≡ bit_at (slice_index_or words (b / 64) 0) i)
+      → (other : ℕ) → (other ≡ b → ⊥) → bit_in (slice_set words (b / 64) word) other ≡ bit_in words other
+  bit_in-set_other kept other differs =
+      elim (cases_eq (other / 64) (b / 64)) [
+        | inl here ↦
+            rw (here, get_or-set_at words (b / 64) (b / 64) word 0 refl within) (ap (λ n. n == 1) (kept (other % 64) (omega arith) (λ index. differs (omega arith))))
+        | inr apart ↦ ap (λ n. bit_at n (other % 64) == 1) (get_or-set_other words (b / 64) (other / 64) word 0 apart)
+      ]
+
+module _ (words : List ℕ) (b : ℕ) (long : length words ≡ 4) (low : b < bands) where
+  -- a bit is set
+  pub marks-insert : bands_where (bit_in (slice_set words (b / 64) (bit_or (slice_index_or words (b / 64) 0) (1 * 2 ^ (b % 64) % 2 ^ 64)))) ≡ slice_set (bands_where (bit_in words)) b true
+  marks-insert = bands_where-same _ (λ band. band == b || bit_in words band) (λ band below. at band) ∙ sym (bands_where-set (bit_in words) b low)
+    where
+      word : ℕ
+      word = bit_or (slice_index_or words (b / 64) 0) (1 * 2 ^ (b % 64) % 2 ^ 64)
+
+      within : b / 64 < length words
+      within = omega (arith, long, low)
+
+      at : (band : ℕ) → bit_in (slice_set words (b / 64) word) band ≡ (band == b || bit_in words band)
+      at band =
+          elim (cases_eq band b) [
+            | inl here ↦
+                ap (bit_in (slice_set words (b / 64) word)) here ∙ bit_in-set_same words b word within
+                ∙ ap (λ n. n == 1) (bit_at_set_same w64 (slice_index_or words (b / 64) 0) (b % 64) (omega arith)) ∙ sym (ap (λ t. t || bit_in words band) (eq-eqb band b here))
+            | inr other ↦
+                bit_in-set_other words b word within (λ i below differs. bit_at_set_other w64 (slice_index_or words (b / 64) 0) (b % 64) (omega arith) i differs) band other
+                ∙ sym (ap (λ t. t || bit_in words band) (ne_eqb band b other))
+          ]
+
+  -- a bit is cleared
+  pub marks-remove : bands_where (bit_in (slice_set words (b / 64) (bit_and (slice_index_or words (b / 64) 0) (bit_not w64 (1 * 2 ^ (b % 64) % 2 ^ 64))))) ≡ slice_set (bands_where (bit_in words)) b false
+  marks-remove = bands_where-same _ (λ band. not (band == b) && bit_in words band) (λ band below. at band) ∙ sym (bands_where-unset (bit_in words) b low)
+    where
+      word : ℕ
+      word = bit_and (slice_index_or words (b / 64) 0) (bit_not w64 (1 * 2 ^ (b % 64) % 2 ^ 64))
+
+      within : b / 64 < length words
+      within = omega (arith, long, low)
+
+      at : (band : ℕ) → bit_in (slice_set words (b / 64) word) band ≡ (not (band == b) && bit_in words band)
+      at band =
+          elim (cases_eq band b) [
+            | inl here ↦
+                ap (bit_in (slice_set words (b / 64) word)) here ∙ bit_in-set_same words b word within
+                ∙ ap (λ n. n == 1) (bit_at_clear_same w64 (slice_index_or words (b / 64) 0) (b % 64) (omega arith)) ∙ sym (ap (λ t. not t && bit_in words band) (eq-eqb band b here))
+            | inr other ↦
+                bit_in-set_other words b word within (λ i below differs. bit_at_clear_other w64 (slice_index_or words (b / 64) 0) (b % 64) (omega arith) i below differs) band other
+                ∙ sym (ap (λ t. not t && bit_in words band) (ne_eqb band b other))
+          ]
+
+module _ (words : List ℕ) where
+  -- no bit is set where each word is 0
+  pub none_in : ((k : ℕ) → k < 4 → slice_index_or words k 0 ≡ 0) → any_in (bands_where (bit_in words)) ≡ false
+  none_in zeros = some_where (bit_in words) ∙ some_same (bit_in words) (λ band. false) at ∙ list_any_none (λ band. false) every_band (λ k d l. refl)
+    where
+      at : (band : ℕ) → band < bands → bit_in words band ≡ false
+      at band below = ap (λ w. bit_at w (band % 64) == 1) (zeros (band / 64) (omega (arith, below))) ∙ ap (λ n. n == 1) (bit_at-zero (band % 64))
+
+  -- one is set where a word is not
+  pub some_in : (k : ℕ) → k < 4 → 0 < slice_index_or words k 0 → slice_index_or words k 0 < 2 ^ 64 → any_in (bands_where (bit_in words)) ≡ true
+  some_in k low some fits =
+      let bit = trailing_zeros w64 (slice_index_or words k 0) in
+      let lowest = bit_at-trailing_zeros w64 (slice_index_or words k 0) some fits in
+      let below : k * 64 + bit < bands = omega (arith, low, lowest.0) in
+      let word : (k * 64 + bit) / 64 ≡ k = omega (arith, lowest.0) in
+      let place : (k * 64 + bit) % 64 ≡ bit = omega (arith, lowest.0) in
+      list_any_at (λ mark. mark) (bands_where (bit_in words)) (k * 64 + bit) false (omega (arith, below, length-bands_where (bit_in words), length-every_band))
+      (is_wanted_where (bit_in words) (k * 64 + bit) below ∙ (λ i. bit_at (slice_index_or words (word i) 0) (place i) == 1) ∙ ap (λ n. n == 1) lowest.1)
+
+-- ---- marks taken out, one band after the other
+
+-- `true` and `false` change nothing there
+and-true : (b : Bool) → (b && true) ≡ b
+and-true true = refl
+and-true false = refl
+
+or-false : (b : Bool) → (b || false) ≡ b
+or-false true = refl
+or-false false = refl
+
+module _ (old : List Bool) (may : ℕ → Bool) where
+  -- whether a band leaves: it is marked and may
+  abbrev pub leaves : ℕ → Bool
+  leaves band = is_wanted old band && may band
+
+  -- so, among the bands before this one
+  abbrev pub leaves_before : ℕ → ℕ → Bool
+  leaves_before n band = nat_lt band n && leaves band
+
+  -- what is left when all the bands before this one were looked at
+  abbrev pub left_before : ℕ → List Bool
+  left_before n = bands_where (λ band. is_wanted old band && not (leaves_before n band))
+
+  -- a band from this one on is not among them, and one before it is
+  none_before : (n band : ℕ) → n ≤ band → leaves_before n band ≡ false
+  none_before n band from = ap (λ t. t && leaves band) (le-ltb band n from)
+
+  all_before : (n band : ℕ) → band < n → leaves_before n band ≡ leaves band
+  all_before n band below = ap (λ t. t && leaves band) (lt-ltb band n below)
+
+  -- at first none was looked at
+  pub left_at_first : length old ≡ length every_band → old ≡ left_before 0
+  left_at_first long = marks_are old _ long (λ band below. sym (ap (λ t. is_wanted old band && not t) (none_before 0 band (omega arith)) ∙ and-true (is_wanted old band)))
+
+  pub some_at_first : false ≡ list_any (leaves_before 0) every_band
+  some_at_first = sym (some_same (leaves_before 0) (λ band. false) (λ band below. none_before 0 band (omega arith)) ∙ list_any_none (λ band. false) every_band (λ k d l. refl))
+
+  -- at last all were
+  pub left_at_last : (n : ℕ) → bands ≤ n → left_before n ≡ bands_where (λ band. is_wanted old band && not (leaves band))
+  left_at_last n all = bands_where-same _ _ (λ band below. ap (λ t. is_wanted old band && not t) (all_before n band (omega (arith, below, all))))
+
+  pub some_at_last : (n : ℕ) → bands ≤ n → list_any (leaves_before n) every_band ≡ list_any leaves every_band
+  some_at_last n all = some_same (leaves_before n) leaves (λ band below. all_before n band (omega (arith, below, all)))
+
+  module _ (n : ℕ) (low : n < bands) where
+    -- the band itself was not looked at
+    wanted_still : is_wanted (left_before n) n ≡ is_wanted old n
+    wanted_still = is_wanted_where _ n low ∙ ap (λ t. is_wanted old n && not t) (none_before n n (omega arith)) ∙ and-true (is_wanted old n)
+
+    -- it stays: nothing changes
+    same_if : leaves n ≡ false → (band : ℕ) → leaves_before n band ≡ leaves_before (n + 1) band
+    same_if stays band =
+        elim (cases_order band n) [
+          | inl here ↦ none_before n band (omega (arith, here)) ∙ sym (all_before (n + 1) band (omega (arith, here)) ∙ ap leaves here ∙ stays)
+          | inr (inl below) ↦ all_before n band below ∙ sym (all_before (n + 1) band (omega (arith, below)))
+          | inr (inr above) ↦ none_before n band (omega (arith, above)) ∙ sym (none_before (n + 1) band (omega (arith, above)))
+        ]
+
+    -- it leaves: its mark is no more
+    less_if : leaves n ≡ true → (band : ℕ) → (not (band == n) && (is_wanted old band && not (leaves_before n band))) ≡ (is_wanted old band && not (leaves_before (n + 1) band))
+    less_if goes band =
+        elim (cases_order band n) [
+          | inl here ↦
+              ap (λ t. not t && (is_wanted old band && not (leaves_before n band))) (eq-eqb band n here)
+              ∙ sym (ap (λ t. is_wanted old band && not t) (all_before (n + 1) band (omega (arith, here)) ∙ ap leaves here ∙ goes) ∙ and_right (is_wanted old band) false refl)
+          | inr (inl below) ↦
+              ap (λ t. not t && (is_wanted old band && not (leaves_before n band))) (ne_eqb band n (λ here. absurd (omega (arith, here, below))))
+              ∙ ap (λ t. is_wanted old band && not t) (all_before n band below ∙ sym (all_before (n + 1) band (omega (arith, below))))
+          | inr (inr above) ↦
+              ap (λ t. not t && (is_wanted old band && not (leaves_before n band))) (ne_eqb band n (λ here. absurd (omega (arith, here, above))))
+              ∙ ap (λ t. is_wanted old band && not t) (none_before n band (omega (arith, above)) ∙ sym (none_before (n + 1) band (omega (arith, above))))
+        ]
+
+    -- what is left behind it, by whether it leaves
+    left_if : (b : Bool) → leaves n ≡ b → (if b then slice_set (left_before n) n false else left_before n) ≡ left_before (n + 1)
+    left_if true goes = bands_where-unset _ n low ∙ bands_where-same _ _ (λ band below. less_if goes band)
+    left_if false stays = bands_where-same _ _ (λ band below. ap (λ t. is_wanted old band && not t) (same_if stays band))
+
+    -- whether one left, by whether it leaves
+    some_if : (b : Bool) → leaves n ≡ b → (list_any (leaves_before n) every_band || b) ≡ list_any (leaves_before (n + 1)) every_band
+    some_if true goes =
+        or_right (list_any (leaves_before n) every_band) true refl
+        ∙ sym (list_any_at (leaves_before (n + 1)) every_band n 0 (omega (arith, low, length-every_band))
+        (ap (leaves_before (n + 1)) (get_or-every_band n low) ∙ all_before (n + 1) n (omega arith) ∙ goes))
+    some_if false stays = or-false (list_any (leaves_before n) every_band) ∙ some_same (leaves_before n) (leaves_before (n + 1)) (λ band below. same_if stays band)
+
+    -- the band is looked at among the marks that are left
+    module _ (now : List Bool) (are : now ≡ left_before n) where
+      -- whether it leaves is seen on them
+      leaves_now : (is_wanted now n && may n) ≡ leaves n
+      leaves_now = ap (λ ms. is_wanted ms n && may n) are ∙ ap (λ t. t && may n) wanted_still
+
+      pub left_next : (if is_wanted now n && may n then slice_set now n false else now) ≡ left_before (n + 1)
+      left_next = (λ i. if leaves_now i then slice_set (are i) n false else are i) ∙ left_if (leaves n) refl
+
+      pub some_next : (some : Bool) → some ≡ list_any (leaves_before n) every_band → (some || (is_wanted now n && may n)) ≡ list_any (leaves_before (n + 1)) every_band
+      some_next some is = (λ i. is i || leaves_now i) ∙ some_if (leaves n) refl

@@ -1,0 +1,22 @@
+-- The agreement of queues and message blocks rests on their wanted marks alone, of all their state.
+use Rattle.std.proofs.Common.{◌≡◌, ℕ, ◌<◌, true, length, sym, ap, ◌∙◌, subst}
+use Rattle.strm_mblk.specs.Arena.{Arena, shelf_at}
+use Rattle.strm_queue.specs.Flow.{QueueState, band_count, is_wanted, marks_at, spec_at}
+use Rattle.strm_queue.specs.QueuedBlocks.{Agrees, AreInOrder, QueuesValue}
+
+module _ (v : QueuesValue) (a : Arena) (s : QueueState) (specs : s.specs ≡ v.state.specs) where
+  in_order_state : AreInOrder v a → AreInOrder (record v { state = s }) a
+  in_order_state in_order = record {
+    shelves = in_order.shelves ∙ sym (ap length specs);
+    stored = in_order.stored ∙ sym (ap length specs);
+    ordered = in_order.ordered;
+    true_of = in_order.true_of;
+  }
+
+  pub agrees_state : ((q : ℕ) → (marks_at s q).wanted ≡ (marks_at v.state q).wanted) → Agrees v a → Agrees (record v { state = s }) a
+  agrees_state wanted agrees = record {
+    in_order = in_order_state agrees.in_order;
+    marks = λ q band is.
+        subst (λ ss. (spec_at ss q).lowat < band_count a.store band (shelf_at a q)) (sym specs)
+        (agrees.marks q band (subst (λ ws. is_wanted ws band ≡ true) (wanted q) is));
+  }

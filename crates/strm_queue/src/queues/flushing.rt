@@ -1,0 +1,131 @@
+//! Messages are flushed.
+ghost use Rattle.std.specs.Prelude.{◌≡◌, ◌<◌, ◌∷◌, ◌++◌, ℕ, IsSome, List, filter, length, not};
+ghost use Rattle.std.specs.List.{All};
+ghost use Rattle.strm_mblk.specs.Arena.{shelf_at, shelved_blocks, with_shelf};
+ghost use Rattle.strm_mblk.specs.Block.{Message, head_of};
+ghost use Rattle.strm_mblk.specs.Frame.{IsSameData};
+ghost use Rattle.strm_mblk.specs.Given.{answer_of, value_after};
+ghost use Rattle.strm_mblk.specs.Shelves.{shelf_of};
+ghost use Rattle.strm_queue.specs.Flush.{carries_data, is_picked, with_freed};
+ghost use Rattle.strm_queue.specs.QueueCalls as model;
+ghost use Rattle.strm_queue.specs.QueuedBlocks.{Agrees, together};
+
+use super::Queues;
+use super::counts::counted_band;
+use crate::Flush;
+use strm_data::{MsgType, Refusal};
+use strm_mblk::{BlockNo, Blocks};
+
+// Whether messages of this type carry data, so that flushing data takes them.
+fn carries_data(kind: MsgType) -> bool
+    ensures { result ≡ carries_data kind }
+{
+    matches!(
+        kind,
+        MsgType::MData | MsgType::MProto | MsgType::MPcproto | MsgType::MDelay
+    )
+}
+
+// Whether a flush of one band, or of all, takes the message with this head.
+fn picks(blocks: &Blocks, head: BlockNo, band: Option<u8>, flush: Flush) -> bool
+    requires { IsSome (shelf_of blocks.now head) }
+    ensures { (queue : ℕ) (pre post : List Message) (m : Message) → shelf_at blocks.now queue ≡ pre ++ m ∷ post → head_of m ≡ head
+        → result ≡ is_picked blocks.now.store band flush m }
+{
+    blocks.lawful();
+    let of_band = match band {
+        Some(band) => counted_band(blocks, head) == band,
+        None => true,
+    };
+    of_band
+        && match flush {
+            Flush::All => true,
+            Flush::Data => carries_data(blocks.head_kind(head)),
+        }
+}
+
+// Frees the messages of a shelf that a flush takes, front to back. How many stay.
+fn flush_shelf(blocks: &mut Blocks, queue: u8, len: u32, band: Option<u8>, flush: Flush) -> u32
+    requires queue { queue < length blocks.old.shelves }
+    requires len { len ≡ length (shelf_at blocks.old queue) }
+    ensures after { let picked = is_picked blocks.old.store band flush in let ms = shelf_at blocks.old queue in
+        blocks.new ≡ with_freed (filter picked ms) (with_shelf queue (filter (λ m. not (picked m)) ms) blocks.old) }
+    ensures left { result ≡ length (shelf_at blocks.new queue) }
+    // What stands on shelves has the data that it had.
+    ensures data { All (IsSameData blocks.old.store blocks.new.store) (shelved_blocks blocks.new) }
+{
+    let mut left = 0;
+    let mut at = blocks.first(queue);
+    for _message in 0..len {
+        let Some(head) = at else {
+            return left;
+        };
+        blocks.reads_alike();
+        at = blocks.after(head);
+        if picks(blocks, head, band, flush) {
+            let token = blocks.unshelve(queue, head);
+            blocks.freemsg(token);
+        } else {
+            left += 1;
+        }
+    }
+    left
+}
+
+impl Queues {
+    /// Frees the messages of a queue front to back: all, or those that carry data. What stays keeps its place and enables
+    /// nothing; a band that has room again may enable a queue behind. Takes a step for each message, and one for each
+    /// block that is freed.
+    ///
+    /// Refused as `NoSuchQueue` where there is no such queue; nothing changes then.
+    pub fn flushq(&mut self, blocks: &mut Blocks, queue: u8, flush: Flush) -> Result<(), Refusal>
+        requires { Agrees self.old blocks.old }
+        ensures after { together self.new blocks.new ≡ value_after (together self.old blocks.old) (model.flushq queue flush (together self.old blocks.old)) }
+        ensures answer { result ≡ answer_of (model.flushq queue flush (together self.old blocks.old)) }
+        ensures agrees { Agrees self.new blocks.new }
+    {
+        self.flush_band(blocks, queue, None, flush)
+    }
+
+    /// Frees the messages of one band of a queue, front to back: all of them, or those that carry data. High priority
+    /// messages are of band 0. What stays keeps its place and enables nothing; a band that has room again may enable a
+    /// queue behind. Takes a step for each message, and one for each block that is freed.
+    ///
+    /// Refused as `NoSuchQueue` where there is no such queue; nothing changes then.
+    pub fn flushband(
+        &mut self,
+        blocks: &mut Blocks,
+        queue: u8,
+        band: u8,
+        flush: Flush,
+    ) -> Result<(), Refusal>
+        requires { Agrees self.old blocks.old }
+        ensures after { together self.new blocks.new ≡ value_after (together self.old blocks.old) (model.flushband queue band flush (together self.old blocks.old)) }
+        ensures answer { result ≡ answer_of (model.flushband queue band flush (together self.old blocks.old)) }
+        ensures agrees { Agrees self.new blocks.new }
+    {
+        self.flush_band(blocks, queue, Some(band), flush)
+    }
+
+    // Frees the messages of a queue, or of one band of it, that a flush takes.
+    fn flush_band(
+        &mut self,
+        blocks: &mut Blocks,
+        queue: u8,
+        band: Option<u8>,
+        flush: Flush,
+    ) -> Result<(), Refusal>
+        requires { Agrees self.old blocks.old }
+        ensures after { together self.new blocks.new ≡ value_after (together self.old blocks.old) (model.flushed queue band flush (together self.old blocks.old)) }
+        ensures answer { result ≡ answer_of (model.flushed queue band flush (together self.old blocks.old)) }
+        ensures agrees { Agrees self.new blocks.new }
+    {
+        if !self.has_queue(queue) {
+            return Err(Refusal::NoSuchQueue);
+        }
+        let left = flush_shelf(blocks, queue, self.len(queue), band, flush);
+        self.set_len(queue, left);
+        self.settle(blocks, queue);
+        Ok(())
+    }
+}

@@ -1,0 +1,103 @@
+//! The marks of queues.
+ghost use Rattle.std.specs.Prelude.{◌≡◌, ◌<◌, ◌&&◌, not, length, nat_le, slice_index_or};
+ghost use Rattle.std.specs.List.{list_any};
+ghost use Rattle.strm_queue.specs.Flow.{bands_where, every_band, is_wanted, marks_at, spec_at, with_marks, with_noenable, with_read, with_wanted};
+ghost use Rattle.strm_mblk.specs.Arena.{Arena};
+ghost use Rattle.strm_mblk.specs.Given.{answer_of, value_after};
+ghost use Rattle.strm_queue.specs.QueueCalls.{switched};
+ghost use Rattle.strm_queue.specs.QueuedBlocks.{Agrees, together};
+
+use super::{Queue, Queues};
+use crate::limits::BANDS;
+use strm_data::Refusal;
+
+impl Queues {
+    // Whether somebody wants to read from a queue.
+    pub(super) fn is_read(&self, queue: u8) -> bool
+        requires { queue < length self.now.state.specs }
+        ensures { result ≡ (marks_at self.now.state queue).read }
+    {
+        self.queues[usize::from(queue)].read
+    }
+
+    // Whether enabling is switched off.
+    pub(super) fn is_off(&self, queue: u8) -> bool
+        requires { queue < length self.now.state.specs }
+        ensures { result ≡ (marks_at self.now.state queue).noenable }
+    {
+        self.queues[usize::from(queue)].noenable
+    }
+
+    // Whether somebody waits for room in a band.
+    pub(super) fn is_wanted(&self, queue: u8, band: u8) -> bool
+        requires { queue < length self.now.state.specs }
+        ensures { result ≡ is_wanted (marks_at self.now.state queue).wanted band }
+    {
+        self.queues[usize::from(queue)].wanted.has(band)
+    }
+
+    // Whether somebody waits for room in any band.
+    pub(super) fn is_any_wanted(&self, queue: u8) -> bool
+        requires { queue < length self.now.state.specs }
+        ensures { result ≡ list_any (λ mark. mark) (marks_at self.now.state queue).wanted }
+    {
+        !self.queues[usize::from(queue)].wanted.is_empty()
+    }
+
+    // The law that there is a wanted mark for each band. Does nothing.
+    pub(super) fn marks_bands(&self, queue: u8)
+        requires { queue < length self.now.state.specs }
+        ensures { length (marks_at self.now.state queue).wanted ≡ length every_band }
+    {
+        self.queues[usize::from(queue)].wanted.lawful();
+    }
+
+    // Sets or clears the want-to-read mark.
+    pub(super) fn set_read(&mut self, queue: u8, read: bool)
+        requires { queue < length self.old.state.specs }
+        ensures { self.new ≡ record self.old { state = with_read queue read self.old.state } }
+    {
+        self.queues[usize::from(queue)].read = read;
+    }
+
+    // Switches enabling off or on.
+    pub(super) fn set_off(&mut self, queue: u8, off: bool)
+        requires { queue < length self.old.state.specs }
+        ensures { self.new ≡ record self.old { state = with_noenable queue off self.old.state } }
+    {
+        self.queues[usize::from(queue)].noenable = off;
+    }
+
+    // Switches enabling off or on, where there is the queue.
+    pub(super) fn switch(&mut self, queue: u8, off: bool) -> Result<(), Refusal>
+        ensures after { (arena : Arena) → together self.new arena ≡ value_after (together self.old arena) (switched queue off (together self.old arena)) }
+        ensures answer { (arena : Arena) → result ≡ answer_of (switched queue off (together self.old arena)) }
+        ensures agrees { (arena : Arena) → Agrees self.old arena → Agrees self.new arena }
+    {
+        if !self.has_queue(queue) {
+            return Err(Refusal::NoSuchQueue);
+        }
+        self.set_off(queue, off);
+        Ok(())
+    }
+
+    // Sets the wanted mark of a band.
+    pub(super) fn set_wanted(&mut self, queue: u8, band: u8)
+        requires { queue < length self.old.state.specs }
+        ensures { self.new ≡ record self.old { state = with_wanted queue band self.old.state } }
+    {
+        self.queues[usize::from(queue)].wanted.insert(band);
+    }
+
+    // Takes away the wanted marks of bands with so few bytes as the low water mark. Whether there was one.
+    pub(super) fn relieve(&mut self, queue: u8, counts: &[u32; BANDS]) -> bool
+        requires { queue < length self.old.state.specs }
+        ensures marks { let lowat = (spec_at self.old.state.specs queue).lowat in let marks = marks_at self.old.state queue in
+            self.new ≡ record self.old { state = with_marks queue (record marks { wanted = bands_where (λ band. is_wanted marks.wanted band && not (is_wanted marks.wanted band && nat_le (slice_index_or counts.now band 0) lowat)) }) self.old.state } }
+        ensures some { let lowat = (spec_at self.old.state.specs queue).lowat in
+            result ≡ list_any (λ band. is_wanted (marks_at self.old.state queue).wanted band && nat_le (slice_index_or counts.now band 0) lowat) every_band }
+    {
+        let Queue { spec, wanted, .. } = &mut self.queues[usize::from(queue)];
+        wanted.remove_at_most(counts, spec.lowat)
+    }
+}
