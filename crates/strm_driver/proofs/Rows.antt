@@ -5,9 +5,12 @@ use Rattle.std.specs.Prelude.{codes, neg_ℤ}
 use Rattle.std.specs.Fmt.{digits}
 use Rattle.strm_data.specs.declared.msg_type.MsgType.TheVariants.{MProto, MIocdata}
 use Rattle.strm_pool.specs.declared.call.Call.{Call}
-use Rattle.strm_pool.specs.declared.call.Call.TheVariants.{Testb, Dupb, Settype, Rmvb, Adjmsg, Pullupmsg, Read, Putbq, Insq, Rmvq, Qsize}
-use Rattle.strm_pool.specs.declared.reply.Reply.TheVariants.{Size, Bytes, Block}
+use Rattle.strm_pool.specs.declared.call.Call.TheVariants.{Testb, Dupb, Settype, Rmvb, Adjmsg, Pullupmsg, Read, Putbq, Insq, Rmvq, Flushq, Flushband, Bcanput, Qsize, Qenable, Noenable, Enableok, Service, Bufcall, Unbufcall, Ready}
+use Rattle.strm_pool.specs.declared.reply.Reply.TheVariants.{Size, Bytes, Block, Id, Queue}
+use Rattle.strm_pool.specs.declared.reply.Reply.TheVariants as replies
 use Rattle.strm_pool.specs.declared.config.Which.TheVariants.{Mblks}
+use Rattle.strm_queue.specs.declared.flush.Flush.TheVariants.{All, Data}
+use Rattle.strm_queue.specs.Flow.{every_band}
 use Rattle.strm_driver.specs.declared.fault.Fault.{Fault}
 use Rattle.strm_driver.specs.declared.fault.Kind.{Kind}
 use Rattle.strm_driver.specs.declared.fault.Kind.TheVariants.{Cut, Unknown, Order, Toomany, Shape, Number, Register, Word, Hex, Missing}
@@ -41,23 +44,33 @@ faulty line kind = Err (Script (record { line = line; kind = kind }))
 -- ---- texts
 
 pub first-run : run (H ++ codes "allocb a 3\nwrite a 0 616263\nputq 0 a\ngetq 0 b\ncensus\nfreemsg b\ncensus\n")
-    ≡ Ok (codes "0:7 ok\n0:8 ok\n0:9 ok\n0:10 ok\n0:11 census 7 0 1\n0:12 ok\n0:13 census 8 0 0\nblocks free=8 queued=0 held=0 total=8\ndata size=16 free=4 total=4\ndata size=64 free=2 total=2\n")
-unfolding digits
+    ≡ Ok (codes "0:7 ok\n0:8 ok\n0:9 ok\n0:10 ok\n0:11 census 7 0 1\n0:12 ok\n0:13 census 8 0 0\nblocks free=8 queued=0 held=0 total=8\ndata size=16 free=4 total=4\ndata size=64 free=2 total=2\nqueue 0 msgs=0 bytes=0 read=0 noenable=0 enabled=1\nrun 0\nwishes -\n")
+unfolding digits every_band
 first-run = refl
 
-pub empty-pool : run H ≡ Ok (codes "blocks free=8 queued=0 held=0 total=8\ndata size=16 free=4 total=4\ndata size=64 free=2 total=2\n")
-unfolding digits
+pub empty-pool : run H ≡ Ok (codes "blocks free=8 queued=0 held=0 total=8\ndata size=16 free=4 total=4\ndata size=64 free=2 total=2\nqueue 0 msgs=0 bytes=0 read=1 noenable=0 enabled=0\nrun -\nwishes -\n")
+unfolding digits every_band
 empty-pool = refl
 
 pub empty-register : run (H ++ codes "allocb a 1\nputq 0 a\nputq 0 a\n")
-    ≡ Ok (codes "0:7 ok\n0:8 ok\n0:9 empty\nblocks free=7 queued=1 held=0 total=8\ndata size=16 free=3 total=4\ndata size=64 free=2 total=2\n")
-unfolding digits
+    ≡ Ok (codes "0:7 ok\n0:8 ok\n0:9 empty\nblocks free=7 queued=1 held=0 total=8\ndata size=16 free=3 total=4\ndata size=64 free=2 total=2\nqueue 0 msgs=1 bytes=0 read=1 noenable=0 enabled=1\nrun 0\nwishes -\n")
+unfolding digits every_band
 empty-register = refl
 
 pub first-refusals : run (codes "pool 1 2\nclass 16 1\nclass 64 1\nqueue 10 4 s -\nbufcalls 2 1\nworker\nallocb a 65\nallocb a 16\nallocb a 16\nwrite a 1 00\nallocb b 16\nallocb c 65\nallocb c 1\nfreemsg a\ncensus\n")
-    ≡ Ok (codes "0:7 refused 1 TooLarge\n0:8 ok\n0:9 taken\n0:10 refused 5 NoSuchBlock\n0:11 ok\n0:12 refused 1 TooLarge\n0:13 refused 2 NoMblk\n0:14 ok\n0:15 census 1 0 1\nblocks free=1 queued=0 held=1 total=2\ndata size=16 free=1 total=1\ndata size=64 free=0 total=1\n")
-unfolding digits
+    ≡ Ok (codes "0:7 refused 1 TooLarge\n0:8 ok\n0:9 taken\n0:10 refused 5 NoSuchBlock\n0:11 ok\n0:12 refused 1 TooLarge\n0:13 refused 2 NoMblk\n0:14 ok\n0:15 census 1 0 1\nblocks free=1 queued=0 held=1 total=2\ndata size=16 free=1 total=1\ndata size=64 free=0 total=1\nqueue 0 msgs=0 bytes=0 read=1 noenable=0 enabled=0\nrun -\nwishes -\n")
+unfolding digits every_band
 first-refusals = refl
+
+pub back-enabling : run (codes "pool 7 8\nclass 16 4\nqueue 10 4 s 1\nqueue 10 4 s -\nbufcalls 0 1\nworker\nallocb a 4\nwrite a 0 00010203\nallocb b 3\nwrite b 0 040506\nallocb c 3\nwrite c 0 070809\nputq 1 a\nputq 1 b\nbcanput 1 0\nputq 1 c\nbcanput 1 0\ngetq 1 a\ngetq 1 b\nread b 0\nservice\nservice\nservice\nfreemsg a\n")
+    ≡ Ok (codes "0:7 ok\n0:8 ok\n0:9 ok\n0:10 ok\n0:11 ok\n0:12 ok\n0:13 ok\n0:14 ok\n0:15 yes\n0:16 ok\n0:17 no\n0:18 ok\n0:19 ok\n0:20 bytes 040506\n0:21 queue 1\n0:22 queue 0\n0:23 none\n0:24 ok\nblocks free=6 queued=1 held=1 total=8\ndata size=16 free=2 total=4\nqueue 0 msgs=0 bytes=0 read=1 noenable=0 enabled=0\nqueue 1 msgs=1 bytes=3 read=0 noenable=0 enabled=0\nband 0 bytes=3 full=0 wanted=0\nrun -\nwishes -\n")
+unfolding digits every_band
+back-enabling = refl
+
+pub bands-downwards : run (H ++ codes "allocb a 12\nwrite a 0 000102030405060708090a0b\nsetband a 255\nputq 0 a\nallocb a 1\nwrite a 0 00\nsettype a 0 M_PCPROTO\nputq 0 a\n")
+    ≡ Ok (codes "0:7 ok\n0:8 ok\n0:9 ok\n0:10 ok\n0:11 ok\n0:12 ok\n0:13 ok\n0:14 ok\nblocks free=6 queued=2 held=0 total=8\ndata size=16 free=2 total=4\ndata size=64 free=2 total=2\nqueue 0 msgs=2 bytes=13 read=1 noenable=0 enabled=1\nband 255 bytes=12 full=1 wanted=0\nband 0 bytes=1 full=0 wanted=0\nrun 0\nwishes -\n")
+unfolding digits every_band
+bands-downwards = refl
 
 -- ---- calls that are read, and the text of what they answer
 
@@ -73,6 +86,25 @@ calls-on-blocks = refl
 pub calls-on-queues : calls_in (script_of (H ++ codes "putbq 1 a\ninsq 2 3 b\nrmvq 4 5 c\nqsize 255\n"))
     ≡ (Putbq 1 0 ∷ Insq 2 3 1 ∷ Rmvq 4 5 2 ∷ Qsize 255 ∷ []) ∷ []
 calls-on-queues = refl
+
+pub calls-on-flow : calls_in (script_of (H ++ codes "flushq 1 all\nflushband 2 3 data\nbcanput 4 255\nqenable 5\nnoenable 6\nenableok 7\nservice\n"))
+    ≡ (Flushq 1 All ∷ Flushband 2 3 Data ∷ Bcanput 4 255 ∷ Qenable 5 ∷ Noenable 6 ∷ Enableok 7 ∷ Service ∷ []) ∷ []
+calls-on-flow = refl
+
+pub calls-on-wishes : calls_in (script_of (H ++ codes "bufcall 64\nunbufcall 4294967295\nready\n")) ≡ (Bufcall 64 ∷ Unbufcall 4294967295 ∷ Ready ∷ []) ∷ []
+calls-on-wishes = refl
+
+pub an-id : reply_text (Id 4294967295) ≡ codes "id 4294967295"
+unfolding digits
+an-id = refl
+
+pub a-ready-wish : reply_text (replies.Ready 2 16) ≡ codes "ready 2 16"
+unfolding digits
+a-ready-wish = refl
+
+pub a-queue : reply_text (Queue 15) ≡ codes "queue 15"
+unfolding digits
+a-queue = refl
 
 pub some-bytes : reply_text (Bytes (0 ∷ 10 ∷ 171 ∷ 255 ∷ [])) ≡ codes "bytes 000aabff"
 unfolding digits
@@ -123,6 +155,9 @@ word = refl
 
 pub no-type : run (H ++ codes "settype a 0 m_data\n") ≡ faulty 7 Word
 no-type = refl
+
+pub no-flush : run (H ++ codes "flushband 0 0 both\n") ≡ faulty 7 Word
+no-flush = refl
 
 pub hex : run (H ++ codes "write a 0 0A\n") ≡ faulty 7 Hex
 hex = refl

@@ -10,7 +10,7 @@ use Rattle.strm_driver.specs.declared.verb.Verb.TheVariants as verbs
 use Rattle.strm_driver.specs.declared.word.Word.{Word}
 use Rattle.strm_driver.specs.declared.word.Word.TheVariants as words
 use Rattle.strm_driver.specs.Shape.{◌>>=◌, none, one, two, three, four}
-use Rattle.strm_driver.specs.Form.{u32_of, u8_of, i32_of, register_of, type_of, service_of, next_of, octets_of}
+use Rattle.strm_driver.specs.Form.{u32_of, u8_of, i32_of, register_of, type_of, flush_of, service_of, next_of, octets_of}
 
 -- the call of a command line, by the words behind its first one
 abbrev pub call_of : Verb → List (List ℕ) → Result Call Kind
@@ -39,7 +39,17 @@ call_of verbs.Putbq = two u8_of register_of calls.Putbq
 call_of verbs.Insq = three u8_of u32_of register_of calls.Insq
 call_of verbs.Getq = two u8_of register_of calls.Getq
 call_of verbs.Rmvq = three u8_of u32_of register_of calls.Rmvq
+call_of verbs.Flushq = two u8_of flush_of calls.Flushq
+call_of verbs.Flushband = three u8_of u8_of flush_of calls.Flushband
+call_of verbs.Bcanput = two u8_of u8_of calls.Bcanput
 call_of verbs.Qsize = one u8_of calls.Qsize
+call_of verbs.Qenable = one u8_of calls.Qenable
+call_of verbs.Noenable = one u8_of calls.Noenable
+call_of verbs.Enableok = one u8_of calls.Enableok
+call_of verbs.Service = none calls.Service
+call_of verbs.Bufcall = one u32_of calls.Bufcall
+call_of verbs.Unbufcall = one u32_of calls.Unbufcall
+call_of verbs.Ready = none calls.Ready
 call_of verbs.Census = none calls.Census
 
 abbrev pub class_spec : ℕ → ℕ → Entry

@@ -5,6 +5,8 @@ use Rattle.strm_data.specs.MsgType.{name_of}
 use Rattle.strm_data.specs.declared.msg_type.MsgType.{MsgType}
 use Rattle.strm_data.specs.declared.msg_type.MsgType.TheVariants.{MData, MProto, MBreak, MPassfp, MSig, MDelay, MCtl, MIoctl, MSetopts, MIocack, MIocnak, MPcproto, MPcsig, MRead, MFlush, MStop, MStart, MHangup, MError, MCopyin, MCopyout, MIocdata}
 use Rattle.strm_pool.specs.Limits.{most_octets}
+use Rattle.strm_queue.specs.declared.flush.Flush.{Flush}
+use Rattle.strm_queue.specs.declared.flush.Flush.TheVariants.{All, Data}
 use Rattle.strm_driver.specs.declared.fault.Kind.{Kind}
 use Rattle.strm_driver.specs.declared.fault.Kind.TheVariants.{Number, Register, Word, Hex}
 
@@ -72,6 +74,10 @@ type_named word = find (λ t. bytes_eq (name_of t) word) all_types
 -- a type, by its name
 abbrev pub type_of : List ℕ → Result MsgType Kind
 type_of word = ok_or (type_named word) Word
+
+-- which messages a flush takes: `all` or `data`
+abbrev pub flush_of : List ℕ → Result Flush Kind
+flush_of word = if bytes_eq word (codes "all") then Ok All else (if bytes_eq word (codes "data") then Ok Data else Err Word)
 
 -- whether a queue has a service procedure: `s` or `n`
 abbrev pub service_of : List ℕ → Result Bool Kind

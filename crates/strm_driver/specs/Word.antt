@@ -37,7 +37,17 @@ all_words =
     ∷ (codes "insq", words.Command verbs.Insq)
     ∷ (codes "getq", words.Command verbs.Getq)
     ∷ (codes "rmvq", words.Command verbs.Rmvq)
+    ∷ (codes "flushq", words.Command verbs.Flushq)
+    ∷ (codes "flushband", words.Command verbs.Flushband)
+    ∷ (codes "bcanput", words.Command verbs.Bcanput)
     ∷ (codes "qsize", words.Command verbs.Qsize)
+    ∷ (codes "qenable", words.Command verbs.Qenable)
+    ∷ (codes "noenable", words.Command verbs.Noenable)
+    ∷ (codes "enableok", words.Command verbs.Enableok)
+    ∷ (codes "service", words.Command verbs.Service)
+    ∷ (codes "bufcall", words.Command verbs.Bufcall)
+    ∷ (codes "unbufcall", words.Command verbs.Unbufcall)
+    ∷ (codes "ready", words.Command verbs.Ready)
     ∷ (codes "census", words.Command verbs.Census)
     ∷ []
 

@@ -5,7 +5,7 @@ ghost use Rattle.strm_driver.specs.Form.{are_digits, begins_well, number_of, neg
 
 use crate::fault::Kind;
 use arrayvec::ArrayVec;
-use strm_pool::{MOST_OCTETS, MsgType, Octets, Reg};
+use strm_pool::{Flush, MOST_OCTETS, MsgType, Octets, Reg};
 
 /// What a word behind the first one of a line can stand for. Each type has one form, so the types of what is made of
 /// a line say the forms of its words.
@@ -198,6 +198,21 @@ impl Argument for MsgType {
 
     fn read(word: &[u8]) -> Result<MsgType, Kind> {
         type_named(word).ok_or(Kind::Word)
+    }
+}
+
+/// Which messages a flush takes.
+impl Argument for Flush {
+    ghost use Rattle.strm_driver.specs.Form.{flush_of};
+
+    ghost form = { flush_of };
+
+    fn read(word: &[u8]) -> Result<Flush, Kind> {
+        match word {
+            b"all" => Ok(Flush::All),
+            b"data" => Ok(Flush::Data),
+            _ => Err(Kind::Word),
+        }
     }
 }
 

@@ -62,7 +62,19 @@ fn call_of(verb: Verb, arguments: &[&[u8]]) -> Result<Call, Kind>
         Verb::Insq => three(arguments).map(|(queue, place, reg)| Call::Insq(queue, place, reg)),
         Verb::Getq => two(arguments).map(|(queue, reg)| Call::Getq(queue, reg)),
         Verb::Rmvq => three(arguments).map(|(queue, place, reg)| Call::Rmvq(queue, place, reg)),
+        Verb::Flushq => two(arguments).map(|(queue, flush)| Call::Flushq(queue, flush)),
+        Verb::Flushband => {
+            three(arguments).map(|(queue, band, flush)| Call::Flushband(queue, band, flush))
+        }
+        Verb::Bcanput => two(arguments).map(|(queue, band)| Call::Bcanput(queue, band)),
         Verb::Qsize => one(arguments).map(Call::Qsize),
+        Verb::Qenable => one(arguments).map(Call::Qenable),
+        Verb::Noenable => one(arguments).map(Call::Noenable),
+        Verb::Enableok => one(arguments).map(Call::Enableok),
+        Verb::Service => none(arguments).map(|()| Call::Service),
+        Verb::Bufcall => one(arguments).map(Call::Bufcall),
+        Verb::Unbufcall => one(arguments).map(Call::Unbufcall),
+        Verb::Ready => none(arguments).map(|()| Call::Ready),
         Verb::Census => none(arguments).map(|()| Call::Census),
     }
 }

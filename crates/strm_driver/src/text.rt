@@ -1,10 +1,12 @@
 //! The text of a run: a line for each reply, and then the report.
-ghost use Rattle.std.specs.Prelude.{◌≡◌, ◌++◌, IfOk, string_bytes};
-ghost use Rattle.strm_driver.specs.Text.{reply_line, blocks_text, class_text, report_text};
+ghost use Rattle.std.specs.Prelude.{◌≡◌, ◌++◌, IfOk, IsTrue, string_bytes};
+ghost use Rattle.strm_data.specs.DataStore.{class_infos};
+ghost use Rattle.strm_driver.specs.Text.{reply_line, blocks_text, class_text, classes_text, queue_text, band_text, bands_text, queues_text, run_text, wishes_text, report_text};
+ghost use Rattle.strm_pool.specs.PoolValue.{has_queue, queued};
 
 use std::alloc::AllocError;
 use std::fmt;
-use strm_pool::{BlockInfo, Census, ClassInfo, Pool, Reply};
+use strm_pool::{BandInfo, BlockInfo, Census, ClassInfo, Pool, QueueInfo, Reply};
 
 // Bytes, in lower case hexadecimal digits.
 #[derive(Drop)]
@@ -65,6 +67,9 @@ impl fmt::Display for Shown<'_> {
                     "block {name} len={len} band={band} room={room} names={names}"
                 )
             }
+            Reply::Id(id) => write!(f, "id {id}"),
+            Reply::Ready(id, size) => write!(f, "ready {id} {size}"),
+            Reply::Queue(queue) => write!(f, "queue {queue}"),
             Reply::Census(census) => {
                 let Census { free, queued, held } = *census;
                 write!(f, "census {free} {queued} {held}")
@@ -106,18 +111,128 @@ fn class_text(text: &mut String, info: ClassInfo) -> Result<(), AllocError>
     writeln!(text, "data size={size} free={free} total={total}")
 }
 
-/// Appends the report of a pool: a line on its message blocks, and one on each size class.
-pub fn report_text(text: &mut String, pool: &Pool) -> Result<(), AllocError>
-    ensures { IfOk result (λ _. string_bytes text.new ≡ string_bytes text.old ++ report_text pool.now) }
+// Appends the report's lines on size classes.
+fn classes_text(text: &mut String, pool: &Pool) -> Result<(), AllocError>
+    ensures { IfOk result (λ _. string_bytes text.new ≡ string_bytes text.old ++ classes_text (class_infos pool.now.arena.store)) }
 {
     pool.lawful();
-    blocks_text(text, pool.census())?;
     let mut class = 0;
     while let Some(info) = pool.class_info(class) {
         class_text(text, info)?;
         class += 1;
     }
     Ok(())
+}
+
+// Appends the report's line on a queue.
+fn queue_text(text: &mut String, queue: u8, info: QueueInfo) -> Result<(), AllocError>
+    ensures { IfOk result (λ _. string_bytes text.new ≡ string_bytes text.old ++ queue_text queue info) }
+{
+    let QueueInfo {
+        msgs,
+        bytes,
+        read,
+        noenable,
+        enabled,
+    } = info;
+    let (read, noenable, enabled) = (u8::from(read), u8::from(noenable), u8::from(enabled));
+    writeln!(
+        text,
+        "queue {queue} msgs={msgs} bytes={bytes} read={read} noenable={noenable} enabled={enabled}"
+    )
+}
+
+// Appends the report's line on a band, or nothing where it has no bytes.
+fn band_text(text: &mut String, band: u8, info: BandInfo) -> Result<(), AllocError>
+    ensures { IfOk result (λ _. string_bytes text.new ≡ string_bytes text.old ++ band_text band info) }
+{
+    let BandInfo {
+        bytes,
+        full,
+        wanted,
+    } = info;
+    if bytes == 0 {
+        return Ok(());
+    }
+    let (full, wanted) = (u8::from(full), u8::from(wanted));
+    writeln!(
+        text,
+        "band {band} bytes={bytes} full={full} wanted={wanted}"
+    )
+}
+
+// Appends the report's lines on the bands of a queue.
+fn bands_text(text: &mut String, pool: &Pool, queue: u8) -> Result<(), AllocError>
+    requires { IsTrue (has_queue pool.now queue) }
+    ensures { IfOk result (λ _. string_bytes text.new ≡ string_bytes text.old ++ bands_text (queued pool.now) queue) }
+{
+    for band in (0..=u8::MAX).rev() {
+        let Ok(info) = pool.band_info(queue, band) else {
+            return Ok(());
+        };
+        band_text(text, band, info)?;
+    }
+    Ok(())
+}
+
+// Appends the report's lines on queues.
+fn queues_text(text: &mut String, pool: &Pool) -> Result<(), AllocError>
+    ensures { IfOk result (λ _. string_bytes text.new ≡ string_bytes text.old ++ queues_text (queued pool.now)) }
+{
+    pool.lawful();
+    let mut queue = 0;
+    while let Ok(info) = pool.queue_info(queue) {
+        queue_text(text, queue, info)?;
+        bands_text(text, pool, queue)?;
+        queue += 1;
+    }
+    Ok(())
+}
+
+// Appends the report's line on the run list.
+fn run_text(text: &mut String, pool: &Pool) -> Result<(), AllocError>
+    ensures { IfOk result (λ _. string_bytes text.new ≡ string_bytes text.old ++ run_text pool.now.queues.run) }
+{
+    if pool.run_at(0).is_none() {
+        return writeln!(text, "run -");
+    }
+    pool.lawful();
+    write!(text, "run")?;
+    let mut place = 0;
+    while let Some(queue) = pool.run_at(place) {
+        write!(text, " {queue}")?;
+        place += 1;
+    }
+    writeln!(text)
+}
+
+// Appends the report's line on wishes.
+fn wishes_text(text: &mut String, pool: &Pool) -> Result<(), AllocError>
+    ensures { IfOk result (λ _. string_bytes text.new ≡ string_bytes text.old ++ wishes_text pool.now.wishes.pending) }
+{
+    if pool.wish_at(0).is_none() {
+        return writeln!(text, "wishes -");
+    }
+    pool.lawful();
+    write!(text, "wishes")?;
+    let mut place = 0;
+    while let Some((id, size)) = pool.wish_at(place) {
+        write!(text, " {id}:{size}")?;
+        place += 1;
+    }
+    writeln!(text)
+}
+
+/// Appends the report of a pool: a line on its message blocks, one on each size class, one on each queue with one on
+/// each of its bands that has bytes, one on the run list, and one on wishes.
+pub fn report_text(text: &mut String, pool: &Pool) -> Result<(), AllocError>
+    ensures { IfOk result (λ _. string_bytes text.new ≡ string_bytes text.old ++ report_text pool.now) }
+{
+    blocks_text(text, pool.census())?;
+    classes_text(text, pool)?;
+    queues_text(text, pool)?;
+    run_text(text, pool)?;
+    wishes_text(text, pool)
 }
 
 #[cfg(test)]

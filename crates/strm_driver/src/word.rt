@@ -48,7 +48,17 @@ const WORDS: &[(&str, Word)] = &[
     ("insq", Word::Command(Verb::Insq)),
     ("getq", Word::Command(Verb::Getq)),
     ("rmvq", Word::Command(Verb::Rmvq)),
+    ("flushq", Word::Command(Verb::Flushq)),
+    ("flushband", Word::Command(Verb::Flushband)),
+    ("bcanput", Word::Command(Verb::Bcanput)),
     ("qsize", Word::Command(Verb::Qsize)),
+    ("qenable", Word::Command(Verb::Qenable)),
+    ("noenable", Word::Command(Verb::Noenable)),
+    ("enableok", Word::Command(Verb::Enableok)),
+    ("service", Word::Command(Verb::Service)),
+    ("bufcall", Word::Command(Verb::Bufcall)),
+    ("unbufcall", Word::Command(Verb::Unbufcall)),
+    ("ready", Word::Command(Verb::Ready)),
     ("census", Word::Command(Verb::Census)),
 ];
 

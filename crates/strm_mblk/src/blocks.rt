@@ -1,7 +1,7 @@
 //! Message blocks by number, and the messages that they make.
 ghost use Rattle.std.specs.Prelude.{◌≡◌, ◌≢◌, ◌+◌, ◌<◌, ◌≤◌, ℕ, IfOk, IfSome, IsTrue, Some, None, is_some, length, option_map, slice_get};
 ghost use Rattle.std.specs.List.{All};
-ghost use Rattle.strm_data.specs.Classes.{are_lawful};
+ghost use Rattle.strm_data.specs.Classes.{are_lawful, fits_a_class};
 ghost use Rattle.strm_data.specs.DataStore.{class_infos};
 ghost use Rattle.strm_data.specs.CountedStore.{IsKept};
 ghost use Rattle.strm_mblk.specs.Arena.{IsParted, IsWithin, blocks_in, census_of, counted_in, has, held_at, message_at, opening_arena, token_of};
@@ -161,6 +161,14 @@ impl Blocks {
         ensures { result ≡ slice_get (class_infos self.now.store) class }
     {
         self.data.class_info(class)
+    }
+
+    /// Whether some class has data blocks of `size` bytes or more, free or not: where none has, `allocb` is refused as
+    /// `TooLarge`. Nothing changes.
+    pub fn has_class_for(&self, size: u32) -> bool
+        ensures { result ≡ fits_a_class size self.now.store.classes }
+    {
+        self.data.has_class_for(size)
     }
 
     /// How many message blocks are free, in messages on shelves, and in messages held as tokens. Nothing changes.

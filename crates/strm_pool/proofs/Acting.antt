@@ -17,13 +17,13 @@ use Rattle.strm_pool.specs.declared.reply.Reply.{Reply}
 use Rattle.strm_pool.specs.Names.{names_of, registers_in}
 use Rattle.strm_pool.specs.PoolValue.{PoolValue, on_arena, on_queues, owns, queued, with_arena, with_queued}
 use Rattle.strm_pool.specs.Registers.{register, table_of}
-use Rattle.strm_pool.specs.Shapes.{Settled, given_to, rejected_to, reply_done}
-use Rattle.strm_pool.specs.Step.{Applies, act, doing, gives, head_held, keeps, spends}
+use Rattle.strm_pool.specs.Shapes.{Settled, given_to, rejected_to, reply_done, reply_made}
+use Rattle.strm_pool.specs.Step.{Applies, act, answers, doing, gives, head_held, keeps, spends}
 use Rattle.strm_pool.proofs.Accounts.{table-at}
 use Rattle.strm_pool.proofs.Applied.{Ready}
-use Rattle.strm_pool.proofs.OnParts.{arena_answer, queues_answer}
-use Rattle.strm_pool.proofs.Queued.{IsPutAway, getq_none, getq_some, rmvq_left}
-use Rattle.strm_pool.proofs.Shaped.{err_not_ok, gives_beside, keeps_one, put_back, same_ok, same_some, spends_one}
+use Rattle.strm_pool.proofs.OnParts.{arena_answer, queues_after, queues_answer}
+use Rattle.strm_pool.proofs.Queued.{IsPutAway, LeavesHeld, getq_none, getq_some, rmvq_left}
+use Rattle.strm_pool.proofs.Shaped.{err_not_ok, gives_beside, keeps_one, put_back, same_ok, same_some, spends_one, tells}
 
 -- the head of a register that holds a token
 pub head_is : (rs : List (Option TokenValue)) (x : ℕ) (t : TokenValue) → register rs x ≡ Some t → head_held (table_of rs) x ≡ t.head
@@ -89,6 +89,14 @@ module _ (v w : PoolValue) (rs : List (Option TokenValue)) (call : Call) (ready 
       each (Ok (a, u)) left after answer (Err r) same = tt
       each (Err why) left after answer (Ok b) same = absurd (let e : Ok b ≡ Err (record { why = why; token = t }) = sym same ∙ answer in cc)
       each (Err why) left after answer (Err r) same = tt
+
+  -- a call on queues tells its answer, and all messages that are held stay
+  pub tells_queues : {X : Type 0} (made : X → Reply) (g : Given QueuedBlocks X) (answer : Result X Refusal) (reply : Reply) → [] ≡ registers_in (names_of call) → LeavesHeld v.arena (value_after (queued v) g).arena []
+      → act v (table_of rs) call ≡ doing v (table_of rs) (answers made) (on_queues v g) → w ≡ value_after v (on_queues v g) → answer ≡ answer_of g → reply ≡ reply_made made answer → Applies v rs call w rs reply
+  tells_queues made g answer reply named left does after is told =
+      subst (Applies v rs call w rs) (sym told)
+      (tells v w rs call ready made (on_queues v g) answer named
+      (subst (λ (a : Arena). LeavesHeld v.arena a []) (ap (λ (p : PoolValue). p.arena) (queues_after v g (value_after (queued v) g) refl ∙ sym after)) left) does after (is ∙ sym (queues_answer v g)))
 
 -- a call on the arena answered, and so did the one on the pool
 pub on_arena_is : {X : Type 0} (v u : PoolValue) (g : Given Arena X) (x : X) → on_arena v g ≡ Ok (x, u) → g ≡ Ok (x, u.arena)

@@ -7,5 +7,6 @@ pub mod Moved
 pub mod Applied
 pub mod Shaped
 pub mod Queued
+pub mod Waiting
 pub mod Acting
 pub mod Kept

@@ -1,15 +1,19 @@
 -- What calls on queues leave of held messages.
 use Rattle.std.proofs.Common.{◌≡◌, ℕ, zero, suc, Bool, true, false, eqb, List, [], ◌∷◌, get_or, set, Option, Some, None, Ok, Err, refl, sym, ap, ◌∙◌, subst, if◌then◌else◌, get_or-set_other}
-use Rattle.std.specs.Prelude.{not, nat_lt, length, slice_get}
+use Rattle.std.specs.Prelude.{filter, not, nat_lt, length, slice_get}
+use Rattle.std.specs.List.{flat_map}
 use Rattle.std.proofs.lemmas.Bool.{eq-eqb, false≢true, or_parts}
 use Rattle.strm_data.specs.declared.refusal.Refusal.{Refusal}
 use Rattle.strm_data.specs.declared.refusal.Refusal.TheVariants.{BadOrder, NoSuchPlace, NoSuchQueue}
 use Rattle.strm_links.specs.Rows as rows
-use Rattle.strm_mblk.specs.Arena.{Arena, held_at}
+use Rattle.strm_mblk.specs.Arena.{Arena, held_at, with_shelf}
 use Rattle.strm_mblk.specs.Block.{Message, head_of}
-use Rattle.strm_mblk.specs.Given.{Given}
-use Rattle.strm_queue.specs.Flow.{QueueState, enabled_where, enables_inserted, enables_put, enables_put_back}
-use Rattle.strm_queue.specs.QueueCalls.{got_at, got_first, getq, has_queue, insq, marks_of, message_put, messages_on, putbq, putq, rank_put, rmvq, with_got, with_put, with_state}
+use Rattle.strm_mblk.specs.Given.{Given, value_after}
+use Rattle.strm_mblk.proofs.pulling.Drained.{freed_held, freed_id}
+use Rattle.strm_queue.specs.Flow.{QueueState, enabled_where, enables_inserted, enables_put, enables_put_back, target, with_noenable, with_wanted}
+use Rattle.strm_queue.specs.declared.flush.Flush.{Flush}
+use Rattle.strm_queue.specs.Flush.{is_picked}
+use Rattle.strm_queue.specs.QueueCalls.{asked_for_room, bcanput, flushed, got_at, got_first, getq, has_queue, insq, is_full, marks_of, message_put, messages_on, putbq, putq, qenable, rank_put, rmvq, settled, switched, with_flushed, with_got, with_put, with_state}
 use Rattle.strm_queue.specs.QueuedBlocks.{QueuedBlocks}
 use Rattle.strm_queue.specs.Rank.{is_ordered, put_ahead, put_at, put_behind, rank_of, without_place}
 
@@ -19,17 +23,24 @@ same_answer {X} {V} {x} {y} {v} {w} is =
     let both : (x, v) ≡ (y, w) = cc in
     (ap (λ (p : X × V). p.0) both, ap (λ (p : X × V). p.1) both)
 
--- the id stays, and so does what is held, save at one head
-pub record LeavesHeld (a b : Arena) (h : ℕ) : Type 0 where
+-- the id stays, and so does what is held, save at these heads
+pub record LeavesHeld (a b : Arena) (heads : List ℕ) : Type 0 where
   pub id : b.id ≡ a.id
-  pub others : (k : ℕ) → rows.has k (h ∷ []) ≡ false → held_at b k ≡ held_at a k
+  pub others : (k : ℕ) → rows.has k heads ≡ false → held_at b k ≡ held_at a k
+
+-- all that is held stays
+pub held_stay : (a : Arena) → LeavesHeld a a []
+held_stay a = record { id = refl; others = λ k none. refl }
+
+pub all_stays : (a b : Arena) → b ≡ a → LeavesHeld a b []
+all_stays a b same = record { id = ap (λ (c : Arena). c.id) same; others = λ k none. ap (λ (c : Arena). held_at c k) same }
 
 other_head : (k h : ℕ) → rows.has k (h ∷ []) ≡ false → k ≡ h → ⊥
 other_head k h other same = false≢true (sym (or_parts (eqb h k) false other).0 ∙ eq-eqb h k (sym same))
 
 -- a message goes on a queue
 pub record IsPutAway (v w : QueuedBlocks) (h : ℕ) : Type 0 where
-  pub left : LeavesHeld v.arena w.arena h
+  pub left : LeavesHeld v.arena w.arena (h ∷ [])
   pub gone : held_at w.arena h ≡ None
 
 put_away : (v : QueuedBlocks) (q h : ℕ) (ms : List Message) (change : QueueState → QueueState) → IsPutAway v (with_state change (with_put q h ms v)) h
@@ -80,17 +91,17 @@ module _ (v w : QueuedBlocks) (q h : ℕ) where
 -- a message comes off a queue
 module _ (v w : QueuedBlocks) (q : ℕ) where
   -- settling and marks leave the arena
-  got : (m : Message) (ms : List Message) → LeavesHeld v.arena (with_got q m ms v).arena (head_of m)
+  got : (m : Message) (ms : List Message) → LeavesHeld v.arena (with_got q m ms v).arena (head_of m ∷ [])
   got m ms = record { id = refl; others = λ k other. get_or-set_other v.arena.held (head_of m) k (Some m) None (other_head k (head_of m) other) }
 
-  pub getq_some : (n : ℕ) → getq q v ≡ Ok (Some n, w) → LeavesHeld v.arena w.arena n
+  pub getq_some : (n : ℕ) → getq q v ≡ Ok (Some n, w) → LeavesHeld v.arena w.arena (n ∷ [])
   getq_some n = asked (has_queue v q)
     where
-      first : (ms : List Message) → got_first q ms v ≡ Ok (Some n, w) → LeavesHeld v.arena w.arena n
+      first : (ms : List Message) → got_first q ms v ≡ Ok (Some n, w) → LeavesHeld v.arena w.arena (n ∷ [])
       first [] is = absurd (let e : None ≡ Some n = (same_answer is).0 in cc)
-      first (m ∷ ms) is = subst (λ (u : QueuedBlocks). LeavesHeld v.arena u.arena n) (same_answer is).1 (subst (LeavesHeld v.arena (with_got q m ms v).arena) (let e : Some (head_of m) ≡ Some n = (same_answer is).0 in let f : head_of m ≡ n = cc in f) (got m ms))
+      first (m ∷ ms) is = subst (λ (u : QueuedBlocks). LeavesHeld v.arena u.arena (n ∷ [])) (same_answer is).1 (subst (λ h. LeavesHeld v.arena (with_got q m ms v).arena (h ∷ [])) (let e : Some (head_of m) ≡ Some n = (same_answer is).0 in let f : head_of m ≡ n = cc in f) (got m ms))
 
-      asked : (there : Bool) → (let g : Given QueuedBlocks (Option ℕ) = if there then got_first q (messages_on v q) v else Err NoSuchQueue in g ≡ Ok (Some n, w)) → LeavesHeld v.arena w.arena n
+      asked : (there : Bool) → (let g : Given QueuedBlocks (Option ℕ) = if there then got_first q (messages_on v q) v else Err NoSuchQueue in g ≡ Ok (Some n, w)) → LeavesHeld v.arena w.arena (n ∷ [])
       asked true is = first (messages_on v q) is
       asked false is = absurd cc
 
@@ -105,15 +116,51 @@ module _ (v w : QueuedBlocks) (q : ℕ) where
       asked true is = first (messages_on v q) is
       asked false is = absurd cc
 
-  pub rmvq_left : (k n : ℕ) → rmvq q k v ≡ Ok (n, w) → LeavesHeld v.arena w.arena n
+  pub rmvq_left : (k n : ℕ) → rmvq q k v ≡ Ok (n, w) → LeavesHeld v.arena w.arena (n ∷ [])
   rmvq_left k n = asked (has_queue v q)
     where
-      at : (o : Option Message) → got_at q k o v ≡ Ok (n, w) → LeavesHeld v.arena w.arena n
+      at : (o : Option Message) → got_at q k o v ≡ Ok (n, w) → LeavesHeld v.arena w.arena (n ∷ [])
       at None is = absurd cc
       at (Some m) is =
-          subst (λ (u : QueuedBlocks). LeavesHeld v.arena u.arena n) (same_answer is).1
-          (subst (LeavesHeld v.arena (with_got q m (without_place k (messages_on v q)) v).arena) (same_answer is).0 (got m (without_place k (messages_on v q))))
+          subst (λ (u : QueuedBlocks). LeavesHeld v.arena u.arena (n ∷ [])) (same_answer is).1
+          (subst (λ h. LeavesHeld v.arena (with_got q m (without_place k (messages_on v q)) v).arena (h ∷ [])) (same_answer is).0 (got m (without_place k (messages_on v q))))
 
-      asked : (there : Bool) → (let g : Given QueuedBlocks ℕ = if there then got_at q k (slice_get (messages_on v q) k) v else Err NoSuchQueue in g ≡ Ok (n, w)) → LeavesHeld v.arena w.arena n
+      asked : (there : Bool) → (let g : Given QueuedBlocks ℕ = if there then got_at q k (slice_get (messages_on v q) k) v else Err NoSuchQueue in g ≡ Ok (n, w)) → LeavesHeld v.arena w.arena (n ∷ [])
       asked true is = at (slice_get (messages_on v q) k) is
       asked false is = absurd cc
+
+-- no message comes or goes
+module _ (v : QueuedBlocks) (q : ℕ) where
+  where_there : {X : Type 0} (given : X) (w : QueuedBlocks) → LeavesHeld v.arena w.arena [] → (there : Bool)
+      → (let g : Given QueuedBlocks X = if there then Ok (given, w) else Err NoSuchQueue in LeavesHeld v.arena (value_after v g).arena [])
+  where_there given w left true = left
+  where_there given w left false = held_stay v.arena
+
+  pub flushed_left : (band : Option ℕ) (flush : Flush) → LeavesHeld v.arena (value_after v (flushed q band flush v)).arena []
+  flushed_left band flush =
+      where_there tt (settled q (with_flushed q picked v)) (record { id = freed_id loose kept; others = λ k none. ap (λ (l : List (Option Message)). get_or l k None) (freed_held loose kept) }) (has_queue v q)
+    where
+      picked : Message → Bool
+      picked = is_picked v.arena.store band flush
+
+      loose : Message
+      loose = flat_map (λ m. m) (filter picked (messages_on v q))
+
+      kept : Arena
+      kept = with_shelf q (filter (λ m. not (picked m)) (messages_on v q)) v.arena
+
+  pub qenable_left : LeavesHeld v.arena (value_after v (qenable q v)).arena []
+  qenable_left = where_there tt (with_state (enabled_where true q) v) (held_stay v.arena) (has_queue v q)
+
+  pub switched_left : (off : Bool) → LeavesHeld v.arena (value_after v (switched q off v)).arena []
+  switched_left off = where_there tt (with_state (with_noenable q off) v) (held_stay v.arena) (has_queue v q)
+
+  pub bcanput_left : (band : ℕ) → LeavesHeld v.arena (value_after v (bcanput q band v)).arena []
+  bcanput_left band = where_there (asked_for_room p band v).0 (asked_for_room p band v).1 (asked (is_full v p band)) (has_queue v q)
+    where
+      p : ℕ
+      p = target v.queues.specs q
+
+      asked : (full : Bool) → (let o : Bool × QueuedBlocks = if full then (false, with_state (with_wanted p band) v) else (true, v) in LeavesHeld v.arena o.1.arena [])
+      asked true = held_stay v.arena
+      asked false = held_stay v.arena

@@ -21,6 +21,7 @@ use Rattle.strm_pool.specs.Shapes.{any_given_to, given_to, parted_to, rejected_t
 use Rattle.strm_pool.specs.Step.{Applies, act, answers, doing, gives, keeps, may_give, misses_token, parts, replying, spends}
 use Rattle.strm_pool.proofs.Accounts.{owned_token, table-at}
 use Rattle.strm_pool.proofs.Applied.{Ready, applies_by, applies_nothing, step_act}
+use Rattle.strm_pool.proofs.Queued.{LeavesHeld}
 use Rattle.strm_pool.proofs.Moved.{Each, Moves, held_has, news, table-set, tokens_in}
 
 pub err_not_ok : {X Y : Type 0} {e : Y} {x : X} → Err e ≡ Ok x → ⊥
@@ -72,6 +73,31 @@ module _ (v w : PoolValue) (rs : List (Option TokenValue)) (call : Call) (ready 
   refused : {X : Type 0} (told : X → List (ℕ × Option ℕ) × Reply) (why : Refusal) → act v (table_of rs) call ≡ doing v (table_of rs) told (Err why) → w ≡ v → Applies v rs call w rs (Refused why)
   refused told why does same =
       subst (λ u. Applies v rs call u rs (Refused why)) (sym same) (applies_nothing v rs call (Refused why) ready.owned (step_act v rs call ready ∙ does))
+
+  -- ---- no register takes part, and all messages that are held stay
+
+  pub leaves_held : (reply : Reply) → [] ≡ registers_in (names_of call) → LeavesHeld v.arena w.arena [] → act v (table_of rs) call ≡ replying w (table_of rs) reply → Applies v rs call w rs reply
+  leaves_held reply named left does =
+      applies_by v w rs call reply [] ready.owned named tt tt tt
+      (λ distinct. record {
+        id = left.id;
+        others = λ h before after. left.others h refl;
+        had = tt;
+        has_now = tt;
+        apart = tt;
+        gone = λ h before after. absurd (false≢true before);
+        new = λ h before after. absurd (false≢true after);
+      })
+      (step_act v rs call ready ∙ does)
+
+  -- the reply is made of the answer
+  pub tells : {X : Type 0} (made : X → Reply) (g : Given PoolValue X) (answer : Result X Refusal) → [] ≡ registers_in (names_of call) → LeavesHeld v.arena w.arena []
+      → act v (table_of rs) call ≡ doing v (table_of rs) (answers made) g → w ≡ value_after v g → answer ≡ answer_of g → Applies v rs call w rs (reply_made made answer)
+  tells {X} made g answer named left does after is = leaves_held (reply_made made answer) named left (does ∙ told g after is)
+    where
+      told : (g : Given PoolValue X) → w ≡ value_after v g → answer ≡ answer_of g → doing v (table_of rs) (answers made) g ≡ replying w (table_of rs) (reply_made made answer)
+      told (Ok given) after is = ap (λ u. replying u (table_of rs) (made given.0)) (sym after) ∙ ap (λ a. replying w (table_of rs) (reply_made made a)) (sym is)
+      told (Err why) after is = ap (λ u. replying u (table_of rs) (Refused why)) (sym after) ∙ ap (λ a. replying w (table_of rs) (reply_made made a)) (sym is)
 
   -- a call that asks
   pub asks : {X : Type 0} (made : X → Reply) (g : Given PoolValue X) (answer : Result X Refusal) → act v (table_of rs) call ≡ doing v (table_of rs) (answers made) g → v ≡ value_after v g → answer ≡ answer_of g

@@ -1,8 +1,10 @@
 pub mod Limits
 pub mod Config
 pub mod PoolValue
+pub mod Wishes
 pub mod Registers
 pub mod Names
 pub mod Step
 pub mod Shapes
 pub mod PoolLayout
+pub mod WishesLayout

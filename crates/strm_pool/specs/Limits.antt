@@ -9,6 +9,10 @@ most_registers = 26
 abbrev pub most_wishes : ℕ
 most_wishes = 64
 
+-- the id of the last wish that can be recorded
+abbrev pub last_id : ℕ
+last_id = 4294967295
+
 -- the bytes that a call or a reply carries
 abbrev pub most_octets : ℕ
 most_octets = 64

@@ -1,7 +1,7 @@
 -- What a call names: a queue, registers that it takes from, and one that it puts into.
 use Rattle.std.specs.Prelude.{ℕ, List, [], ◌∷◌, Option, None, Some}
 use Rattle.strm_pool.specs.declared.call.Call.{Call}
-use Rattle.strm_pool.specs.declared.call.Call.TheVariants.{Allocb, Testb, Dupb, Dupmsg, Copyb, Copymsg, Write, Settype, Setband, Linkb, Unlinkb, Rmvb, Adjmsg, Pullupmsg, Msgdsize, Size, Read, Block, Freeb, Freemsg, Putq, Putbq, Insq, Getq, Rmvq, Qsize, Census}
+use Rattle.strm_pool.specs.declared.call.Call.TheVariants.{Allocb, Testb, Dupb, Dupmsg, Copyb, Copymsg, Write, Settype, Setband, Linkb, Unlinkb, Rmvb, Adjmsg, Pullupmsg, Msgdsize, Size, Read, Block, Freeb, Freemsg, Putq, Putbq, Insq, Getq, Rmvq, Flushq, Flushband, Bcanput, Qsize, Qenable, Noenable, Enableok, Service, Bufcall, Unbufcall, Ready, Census}
 use Rattle.strm_pool.specs.declared.names.Names.{Names}
 
 -- a queue, a first and a second source, and a destination
@@ -35,7 +35,17 @@ names_of (Putbq q x) = naming (Some q) (Some x) None None
 names_of (Insq q k x) = naming (Some q) (Some x) None None
 names_of (Getq q y) = naming (Some q) None None (Some y)
 names_of (Rmvq q k y) = naming (Some q) None None (Some y)
+names_of (Flushq q flush) = naming (Some q) None None None
+names_of (Flushband q band flush) = naming (Some q) None None None
+names_of (Bcanput q band) = naming (Some q) None None None
 names_of (Qsize q) = naming (Some q) None None None
+names_of (Qenable q) = naming (Some q) None None None
+names_of (Noenable q) = naming (Some q) None None None
+names_of (Enableok q) = naming (Some q) None None None
+names_of Service = naming None None None None
+names_of (Bufcall size) = naming None None None None
+names_of (Unbufcall id) = naming None None None None
+names_of Ready = naming None None None None
 names_of Census = naming None None None None
 
 -- a register in front of others, if there is one

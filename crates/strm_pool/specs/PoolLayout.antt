@@ -4,7 +4,7 @@ use Rattle.strm_pool.specs.declared.pool.Pool.TheInside.{Inside}
 use Rattle.strm_pool.specs.PoolValue.{PoolValue}
 
 abbrev pub pool_value : Inside → PoolValue
-pool_value a = record { arena = a.blocks; queues = a.queues.state; wishes = record { most = a.most_wishes; next_id = a.next_wish } }
+pool_value a = record { arena = a.blocks; queues = a.queues.state; wishes = a.wishes }
 
 -- the message blocks are those of the queues
 abbrev pub IsSound : Inside → Type 0

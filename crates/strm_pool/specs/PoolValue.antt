@@ -1,5 +1,5 @@
 -- A pool as lists, and how a call on a part of it is one on the whole.
-use Rattle.std.specs.Prelude.{◌≡◌, ℕ, Bool, true, fold, List, length, Option, None, Some, Result, Ok, Err}
+use Rattle.std.specs.Prelude.{◌≡◌, ℕ, Bool, true, fold, List, [], length, Option, None, Some, Result, Ok, Err}
 use Rattle.std.specs.List.{list_all}
 use Rattle.std.specs.Option.{option_map_or}
 use Rattle.strm_pool.specs.declared.config.Config.{Config}
@@ -14,10 +14,16 @@ use Rattle.strm_queue.specs.QueueCalls as queues
 use Rattle.strm_queue.specs.Flow.{QueueState, opening_queues}
 use Rattle.strm_queue.specs.QueuedBlocks.{QueuedBlocks}
 
--- the wishes for message blocks: how many may be recorded, and the id of the next
+-- a wish for message blocks: its id and a size
+abbrev pub Wish : Type 0
+Wish = ℕ × ℕ
+
+-- the wishes: how many may be recorded at one time, the id of the next, until all have been given, and those that are
+-- recorded, in that order
 pub record WishState : Type 0 where
   pub most : ℕ
-  pub next_id : ℕ
+  pub next : Option ℕ
+  pub pending : List Wish
 
 -- a pool: its blocks and messages, of which shelf q has those of queue q; what is true of the queues besides; and the
 -- wishes
@@ -31,7 +37,7 @@ abbrev pub opening : Config → PoolValue
 opening c = record {
   arena = opening_arena c.id c.mblks c.classes (length c.queues);
   queues = opening_queues c.queues;
-  wishes = record { most = c.bufcalls; next_id = c.first_id };
+  wishes = record { most = c.bufcalls; next = Some c.first_id; pending = [] };
 }
 
 -- a pool is what its lawful configuration opens; else the first fault comes, before any want of memory
@@ -63,6 +69,15 @@ with_queued v w = record v { arena = w.arena; queues = w.queues }
 abbrev pub on_queues : {X : Type 0} → PoolValue → Given QueuedBlocks X → Given PoolValue X
 on_queues v (Ok given) = Ok (given.0, with_queued v given.1)
 on_queues v (Err why) = Err why
+
+-- a pool with other wishes
+abbrev pub with_wishes : PoolValue → WishState → PoolValue
+with_wishes v s = record v { wishes = s }
+
+-- a call on the wishes of a pool
+abbrev pub on_wishes : {X : Type 0} → PoolValue → Given WishState X → Given PoolValue X
+on_wishes v (Ok given) = Ok (given.0, with_wishes v given.1)
+on_wishes v (Err why) = Err why
 
 -- whether there is a queue of this number
 abbrev pub has_queue : PoolValue → ℕ → Bool

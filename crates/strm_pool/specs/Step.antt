@@ -12,14 +12,15 @@ use Rattle.strm_mblk.specs.Given.{Given}
 use Rattle.strm_mblk.specs.Trimming as trimming
 use Rattle.strm_queue.specs.QueueCalls as queues
 use Rattle.strm_pool.specs.declared.call.Call.{Call}
-use Rattle.strm_pool.specs.declared.call.Call.TheVariants.{Allocb, Testb, Dupb, Dupmsg, Copyb, Copymsg, Write, Settype, Setband, Linkb, Unlinkb, Rmvb, Adjmsg, Pullupmsg, Msgdsize, Size, Read, Block, Freeb, Freemsg, Putq, Putbq, Insq, Getq, Rmvq, Qsize, Census}
+use Rattle.strm_pool.specs.declared.call.Call.TheVariants.{Allocb, Testb, Dupb, Dupmsg, Copyb, Copymsg, Write, Settype, Setband, Linkb, Unlinkb, Rmvb, Adjmsg, Pullupmsg, Msgdsize, Size, Read, Block, Freeb, Freemsg, Putq, Putbq, Insq, Getq, Rmvq, Flushq, Flushband, Bcanput, Qsize, Qenable, Noenable, Enableok, Service, Bufcall, Unbufcall, Ready, Census}
 use Rattle.strm_pool.specs.declared.names.Names.{Names}
 use Rattle.strm_pool.specs.declared.reply.Reply.{Reply}
 use Rattle.strm_pool.specs.declared.reply.Reply.TheVariants.{Done, Yes, No, Nothing, Empty, Taken, Refused}
 use Rattle.strm_pool.specs.declared.reply.Reply.TheVariants as replies
 use Rattle.strm_pool.specs.Limits.{most_octets, most_registers}
 use Rattle.strm_pool.specs.Names.{names_of, registers_in}
-use Rattle.strm_pool.specs.PoolValue.{PoolValue, has_queue, on_arena, on_queues, owns, queued}
+use Rattle.strm_pool.specs.PoolValue.{PoolValue, Wish, has_queue, on_arena, on_queues, owns, queued, with_queued}
+use Rattle.strm_pool.specs.Wishes as wishes
 use Rattle.strm_pool.specs.Registers.{AreAccounted, AreDistinct, Entries, RegisterTable, entries_of, register, table_of}
 
 -- a pool and a register table after a call, and the reply to it
@@ -101,6 +102,14 @@ answers reply given = ([], reply given)
 abbrev pub yes_or_no : Bool → Reply
 yes_or_no answer = if answer then Yes else No
 
+abbrev pub queue_or_nothing : Option ℕ → Reply
+queue_or_nothing None = Nothing
+queue_or_nothing (Some q) = replies.Queue q
+
+abbrev pub ready_or_nothing : Option Wish → Reply
+ready_or_nothing None = Nothing
+ready_or_nothing (Some w) = replies.Ready w.0 w.1
+
 -- the head of the message whose token the register holds
 abbrev pub head_held : RegisterTable → ℕ → ℕ
 head_held t x = unwrap_or (register t x) 0
@@ -132,7 +141,17 @@ act v t (Putbq q x) = doing v t (spends x) (on_queues v (queues.putbq q (head_he
 act v t (Insq q k x) = doing v t (spends x) (on_queues v (queues.insq q k (head_held t x) (queued v)))
 act v t (Getq q y) = doing v t (may_give y) (on_queues v (queues.getq q (queued v)))
 act v t (Rmvq q k y) = doing v t (gives y) (on_queues v (queues.rmvq q k (queued v)))
+act v t (Flushq q flush) = doing v t keeps (on_queues v (queues.flushq q flush (queued v)))
+act v t (Flushband q band flush) = doing v t keeps (on_queues v (queues.flushband q band flush (queued v)))
+act v t (Bcanput q band) = doing v t (answers yes_or_no) (on_queues v (queues.bcanput q band (queued v)))
 act v t (Qsize q) = doing v t (answers (λ size. replies.Size size)) (on_queues v (queues.qsize q (queued v)))
+act v t (Qenable q) = doing v t keeps (on_queues v (queues.qenable q (queued v)))
+act v t (Noenable q) = doing v t keeps (on_queues v (queues.noenable q (queued v)))
+act v t (Enableok q) = doing v t keeps (on_queues v (queues.enableok q (queued v)))
+act v t Service = replying (with_queued v (queues.next_service (queued v)).1) t (queue_or_nothing (queues.next_service (queued v)).0)
+act v t (Bufcall size) = doing v t (answers (λ id. replies.Id id)) (wishes.bufcall size v)
+act v t (Unbufcall id) = doing v t keeps (wishes.unbufcall id v)
+act v t Ready = replying (wishes.take_ready v).1 t (ready_or_nothing (wishes.take_ready v).0)
 act v t Census = replying v t (replies.Census (census_of v.arena))
 
 -- one call: a queue that is not there comes first, then a source that holds nothing, then a destination that

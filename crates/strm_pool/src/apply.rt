@@ -161,7 +161,19 @@ impl Pool {
             }
             Call::Getq(queue, into) => regs.give_any(*into, self.getq(*queue)),
             Call::Rmvq(queue, place, into) => regs.give(*into, self.rmvq(*queue, *place)),
+            Call::Flushq(queue, flush) => Reply::done(self.flushq(*queue, *flush)),
+            Call::Flushband(queue, band, flush) => Reply::done(self.flushband(
+                *queue, *band, *flush,
+            )),
+            Call::Bcanput(queue, band) => Reply::truth(self.bcanput(*queue, *band)),
             Call::Qsize(queue) => Reply::size(self.qsize(*queue)),
+            Call::Qenable(queue) => Reply::done(self.qenable(*queue)),
+            Call::Noenable(queue) => Reply::done(self.noenable(*queue)),
+            Call::Enableok(queue) => Reply::done(self.enableok(*queue)),
+            Call::Service => Reply::queue(self.next_service()),
+            Call::Bufcall(size) => Reply::id(self.bufcall(*size)),
+            Call::Unbufcall(id) => Reply::done(self.unbufcall(*id)),
+            Call::Ready => Reply::ready(self.take_ready()),
             Call::Census => Reply::Census(self.census()),
         }
     }

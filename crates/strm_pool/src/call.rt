@@ -6,6 +6,7 @@ use crate::names::Names;
 use crate::octets::Octets;
 use crate::reg::Reg;
 use strm_data::MsgType;
+use strm_queue::Flush;
 
 /// A call on a pool, with registers in the place of tokens, and its numbers in the order in which a script has them.
 /// Sizes are in bytes; blocks of a message, its bytes and messages of a queue are counted from 0.
@@ -61,8 +62,28 @@ pub enum Call {
     Getq(u8, Reg),
     /// `rmvq` of the message at a place of a queue, into a register.
     Rmvq(u8, u32, Reg),
+    /// `flushq` of a queue.
+    Flushq(u8, Flush),
+    /// `flushband` of a band of a queue.
+    Flushband(u8, u8, Flush),
+    /// Whether a message of a band may be put on a queue.
+    Bcanput(u8, u8),
     /// How many messages stand on a queue.
     Qsize(u8),
+    /// `qenable` of a queue.
+    Qenable(u8),
+    /// `noenable` of a queue.
+    Noenable(u8),
+    /// `enableok` of a queue.
+    Enableok(u8),
+    /// The queue that is to be served next, which then waits no more.
+    Service,
+    /// `bufcall` of a size.
+    Bufcall(u32),
+    /// `unbufcall` of an id.
+    Unbufcall(u32),
+    /// The first wish that `allocb` would serve now, which then is no more.
+    Ready,
     /// The census of message blocks.
     Census,
 }
@@ -73,7 +94,12 @@ impl Call {
         ensures { result ≡ names_of self.now }
     {
         match *self {
-            Call::Testb(_) | Call::Census => Names::of(None, None, None, None),
+            Call::Testb(_)
+            | Call::Service
+            | Call::Bufcall(_)
+            | Call::Unbufcall(_)
+            | Call::Ready
+            | Call::Census => Names::of(None, None, None, None),
             Call::Allocb(into, _) => Names::of(None, None, None, Some(into)),
             Call::Dupb(from, into)
             | Call::Dupmsg(from, into)
@@ -99,7 +125,13 @@ impl Call {
             Call::Getq(queue, into) | Call::Rmvq(queue, _, into) => {
                 Names::of(Some(queue), None, None, Some(into))
             }
-            Call::Qsize(queue) => Names::of(Some(queue), None, None, None),
+            Call::Flushq(queue, _)
+            | Call::Flushband(queue, _, _)
+            | Call::Bcanput(queue, _)
+            | Call::Qsize(queue)
+            | Call::Qenable(queue)
+            | Call::Noenable(queue)
+            | Call::Enableok(queue) => Names::of(Some(queue), None, None, None),
         }
     }
 }

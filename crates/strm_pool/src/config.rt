@@ -161,7 +161,7 @@ impl Config {
             Some(Which::Marks)
         } else if !nexts_fit(queues) {
             Some(Which::Next)
-        } else if self.bufcalls > MOST_WISHES {
+        } else if self.bufcalls as usize > MOST_WISHES {
             Some(Which::Bufcalls)
         } else if self.first_id == 0 {
             Some(Which::FirstId)

@@ -4,7 +4,7 @@
 pub const MOST_REGISTERS: usize = 26;
 
 /// The most `bufcall` wishes that may be recorded at one time.
-pub const MOST_WISHES: u32 = 64;
+pub const MOST_WISHES: usize = 64;
 
 /// The most bytes that a call or a reply carries.
 pub const MOST_OCTETS: usize = 64;

@@ -10,16 +10,21 @@ ghost use Rattle.strm_mblk.specs.Arena.{IsParted, IsWithin, blocks_in, census_of
 ghost use Rattle.strm_mblk.specs.Limits.{most_message_blocks};
 ghost use Rattle.strm_mblk.specs.Shelves.{heads_at};
 ghost use Rattle.strm_pool.specs.Config.{fault_of};
+ghost use Rattle.strm_pool.specs.Limits.{most_wishes};
 ghost use Rattle.strm_pool.specs.PoolValue.{Opens, has_queue, opening, owns};
 ghost use Rattle.strm_queue.specs.Flow.{band_count, bytes_on, every_band, spec_at};
+ghost use Rattle.strm_queue.specs.Limits.{most_queues};
+ghost use Rattle.strm_queue.specs.QueueSpecs.{are_lawful};
 ghost use Rattle.strm_queue.specs.QueuedBlocks.{AreMarksLawful};
 ghost use Rattle.strm_queue.specs.Rank.{is_ordered, rank_of};
 
 mod blocks;
 mod queues;
+mod wishes;
 
 use crate::config::{Config, NewFault};
 use crate::regs::Regs;
+use crate::wishes::Wishes;
 use std::alloc::{AllocError, Global};
 use std::marker::Model;
 use strm_data::ClassInfo;
@@ -32,9 +37,7 @@ use strm_queue::Queues;
 pub struct Pool {
     blocks: Blocks,
     queues: Queues,
-    // How many wishes may be recorded, and the id of the next.
-    most_wishes: u32,
-    next_wish: u32,
+    wishes: Wishes,
 }
 
 impl Model for Pool {
@@ -80,8 +83,7 @@ impl Pool {
                 queues.len() as u8,
             )?,
             queues: Queues::new(alloc, queues)?,
-            most_wishes: config.bufcalls,
-            next_wish: config.first_id,
+            wishes: Wishes::new(config.bufcalls, config.first_id),
         })
     }
 
@@ -100,7 +102,10 @@ impl Pool {
         ensures few { length self.now.arena.held ≤ most_message_blocks }
         // There are `MOST_CLASSES` size classes at most.
         ensures few_classes { length (class_infos self.now.arena.store) ≤ most_classes }
-        // There is a shelf of messages for each queue.
+        // The queues are lawful, of which there are `MOST_QUEUES` at most, each with marks and a shelf of messages.
+        ensures lawful_queues { IsTrue (are_lawful self.now.queues.specs) }
+        ensures few_queues { length self.now.queues.specs ≤ most_queues }
+        ensures marked { length self.now.queues.marks ≡ length self.now.queues.specs }
         ensures shelves { length self.now.arena.shelves ≡ length self.now.queues.specs }
         // Each queue is in order, since ranks never rise from front to back, and reads alike both ways: going forward from
         // the first head gives the heads of its messages, and going backward from the last gives their reverse.
@@ -111,12 +116,16 @@ impl Pool {
         ensures marks { (queue : ℕ) → AreMarksLawful self.now.queues self.now.arena queue }
         // The bytes of a queue's bands add up to those of its messages.
         ensures bytes { (queue : ℕ) → sum_by (λ band. band_count self.now.arena.store band (shelf_at self.now.arena queue)) every_band ≡ bytes_on (shelf_at self.now.arena queue) }
-        // No queue is on the run list twice, and each that is has a service procedure.
+        // There are `MOST_WISHES` wishes at most.
+        ensures few_wishes { length self.now.wishes.pending ≤ most_wishes }
+        // No queue is on the run list twice, each that is has a service procedure, and there are no more of them than queues.
+        ensures short { length self.now.queues.run ≤ length self.now.queues.specs }
         ensures once { rows.IsApart self.now.queues.run }
         ensures served { All (λ queue. IsTrue (spec_at self.now.queues.specs queue).service) self.now.queues.run }
     {
         self.blocks.lawful();
         self.queues.lawful(&self.blocks);
+        let _ = self.wishes.items();
     }
 
     /// Whether the token carries this pool's id and a held message has its head and its number of blocks.

@@ -2,7 +2,7 @@
 ghost use Rattle.std.specs.Prelude.{◌≡◌};
 ghost use Rattle.strm_pool.specs.declared.reply.Reply.TheVariants as replies;
 ghost use Rattle.strm_pool.specs.Shapes.{reply_done, reply_made};
-ghost use Rattle.strm_pool.specs.Step.{yes_or_no};
+ghost use Rattle.strm_pool.specs.Step.{queue_or_nothing, ready_or_nothing, yes_or_no};
 
 use crate::octets::Octets;
 use strm_data::Refusal;
@@ -29,6 +29,12 @@ pub enum Reply {
     Bytes(Octets),
     /// What there is to tell of a block.
     Block(BlockInfo),
+    /// The id of a wish.
+    Id(u32),
+    /// The id and the size of a wish.
+    Ready(u32, u32),
+    /// The number of a queue.
+    Queue(u8),
     /// How many message blocks are where.
     Census(Census),
     /// The call was refused, and nothing was done.
@@ -41,6 +47,46 @@ impl Reply {
         ensures { result ≡ yes_or_no answer }
     {
         if answer { Reply::Yes } else { Reply::No }
+    }
+
+    // Whether it is true, or the refusal.
+    pub(crate) fn truth(answer: Result<bool, Refusal>) -> Reply
+        ensures { result ≡ reply_made yes_or_no answer }
+    {
+        match answer {
+            Ok(answer) => Reply::yes_or_no(answer),
+            Err(why) => Reply::Refused(why),
+        }
+    }
+
+    // The number of a queue, or that there is none.
+    pub(crate) fn queue(answer: Option<u8>) -> Reply
+        ensures { result ≡ queue_or_nothing answer }
+    {
+        match answer {
+            Some(queue) => Reply::Queue(queue),
+            None => Reply::Nothing,
+        }
+    }
+
+    // The id of a wish, or the refusal.
+    pub(crate) fn id(answer: Result<u32, Refusal>) -> Reply
+        ensures { result ≡ reply_made (λ id. replies.Id id) answer }
+    {
+        match answer {
+            Ok(id) => Reply::Id(id),
+            Err(why) => Reply::Refused(why),
+        }
+    }
+
+    // A wish, or that there is none.
+    pub(crate) fn ready(answer: Option<(u32, u32)>) -> Reply
+        ensures { result ≡ ready_or_nothing answer }
+    {
+        match answer {
+            Some((id, size)) => Reply::Ready(id, size),
+            None => Reply::Nothing,
+        }
     }
 
     // `Done`, or the refusal.

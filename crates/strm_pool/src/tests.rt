@@ -6,6 +6,7 @@ use std::process::Abort;
 mod bench;
 mod beside;
 mod config;
+mod flow;
 mod long_run;
 mod names;
 mod pool;
@@ -45,21 +46,22 @@ fn queues(rt: &impl Abort, specs: &[(u32, u32, Option<u8>)]) -> QueueSpecs {
     QueueSpecs::of(list)
 }
 
-// A pool of an id and so many message blocks, with these classes and queues.
+// A pool of an id and so many message blocks, with these classes and queues, and so many wishes, the first with this id.
 fn opened(
     rt: &impl Abort,
     alloc: Global,
     named: (u32, u32),
     classes: ClassSpecs,
-    on: &[(u32, u32, Option<u8>)],
+    queues: QueueSpecs,
+    wishes: (u32, u32),
 ) -> Pool {
     let config = Config {
         id: named.0,
         mblks: named.1,
         classes,
-        queues: queues(rt, on),
-        bufcalls: 2,
-        first_id: 1,
+        queues,
+        bufcalls: wishes.0,
+        first_id: wishes.1,
     };
     Pool::new(alloc, config).expect(rt, "a lawful configuration")
 }

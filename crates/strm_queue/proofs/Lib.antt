@@ -19,3 +19,4 @@ pub mod Targets
 pub mod Running
 pub mod Stored
 pub mod Flushing
+pub mod Rows

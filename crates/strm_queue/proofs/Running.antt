@@ -7,7 +7,7 @@ use Rattle.std.proofs.lemmas.List.{get_or-map, length-map}
 use Rattle.std.proofs.lemmas.Option.{none-some}
 use Rattle.strm_links.specs.Rows.{IsParting, Rows, after, first, holder, list_at, next_in, without}
 use Rattle.strm_links.proofs.AllLists.{All-listed, IsApart-list_at, has-holder}
-use Rattle.strm_links.proofs.OneList.{after-get, first-without, has_get, some_of}
+use Rattle.strm_links.proofs.OneList.{after-get, first-without, has_get, length_below, some_of}
 use Rattle.strm_queue.specs.declared.queues.Queues.TheInside.{Inside}
 use Rattle.strm_queue.specs.Flow.{spec_at}
 use Rattle.strm_queue.specs.QueuesLayout.{IsLawful, spec_in, value_of}
@@ -35,6 +35,13 @@ module _ (run : Rows) (parting : IsParting run) (lists : length run.lists ≡ 1)
 -- queues are few, so that a node's number is a queue's
 pub run_fits : (a : Inside) → IsLawful a → (n : ℕ) → n < a.run.nodes → n < 256
 run_fits a lawful n within = omega (arith, within, lawful.nodes, few_queues (value_of a).state.specs lawful.specs, length-map a.queues.items spec_in)
+
+-- and no more of them wait than there are
+pub run_short : (a : Inside) → IsParting a.run → IsLawful a → length (value_of a).state.run ≤ length (value_of a).state.specs
+run_short a parting lawful =
+    let short : length (list_at 0 a.run) ≤ a.run.nodes =
+    length_below a.run.nodes (list_at 0 a.run) (IsApart-list_at 0 a.run.lists parting.apart) (λ n here. All-listed (λ node. node < a.run.nodes) n 0 a.run.lists parting.within here) in
+    omega (arith, short, lawful.nodes, length-map a.queues.items spec_in)
 
 -- steps along it
 module _ (run : Rows) (parting : IsParting run) where

@@ -1,4 +1,4 @@
--- Sets of bands as bits, and  public clause cites this module.
+-- Sets of bands as bits. No public clause cites this module.
 use Rattle.std.specs.Prelude.{ℕ, Bool, ◌==◌, ◌/◌, ◌%◌, List, slice_index_or}
 use Rattle.std.specs.Int.{bit_at}
 use Rattle.strm_queue.specs.Flow.{bands_where}

@@ -1,10 +1,11 @@
 //! Queues by number, and the calls that put messages on them and take them off.
-ghost use Rattle.std.specs.Prelude.{◌≡◌, ◌<◌, ℕ, IfOk, IsTrue, length, nat_lt, reverse, sum_by};
+ghost use Rattle.std.specs.Prelude.{◌≡◌, ◌<◌, ◌≤◌, ℕ, IfOk, IsTrue, length, nat_lt, reverse, sum_by};
 ghost use Rattle.std.specs.List.{All};
 ghost use Rattle.strm_links.specs.Rows as rows;
 ghost use Rattle.strm_mblk.specs.Arena.{shelf_at};
 ghost use Rattle.strm_mblk.specs.Shelves.{heads_at};
 ghost use Rattle.strm_queue.specs.Flow.{band_count, bytes_on, every_band, spec_at};
+ghost use Rattle.strm_queue.specs.Limits.{most_queues};
 ghost use Rattle.strm_queue.specs.QueueSpecs.{are_lawful};
 ghost use Rattle.strm_queue.specs.QueuedBlocks.{Agrees, AreMarksLawful, opening_value, tally_at, with_tally};
 ghost use Rattle.strm_queue.specs.QueuesLayout.{new_queue};
@@ -146,6 +147,12 @@ impl Queues {
     /// The law of queues and the message blocks that they agree with, whatever calls made them so. Does nothing.
     pub fn lawful(&self, blocks: &Blocks)
         requires { Agrees self.now blocks.now }
+        // The queues are lawful, of which there are `MOST_QUEUES` at most; each has marks, and no more of them are on the
+        // run list than there are.
+        ensures specs { IsTrue (are_lawful self.now.state.specs) }
+        ensures few { length self.now.state.specs ≤ most_queues }
+        ensures marked { length self.now.state.marks ≡ length self.now.state.specs }
+        ensures short { length self.now.state.run ≤ length self.now.state.specs }
         // Each queue is in priority order, and reads alike both ways: following `after` from the first head on its shelf
         // gives the heads of its messages, and following `before` from the last gives their reverse.
         ensures ordered { (queue : ℕ) → IsTrue (is_ordered (rank_of blocks.now.store) (shelf_at blocks.now queue)) }

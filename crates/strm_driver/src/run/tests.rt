@@ -12,7 +12,7 @@ const SCRIPT: &[u8] =
 
 // The message got from the queue is still held when the script ends.
 const TEXT: &[u8] =
-    b"0:6 ok\n0:7 ok\n0:8 ok\n0:9 census 7 1 0\n0:10 refused 1 TooLarge\n0:11 ok\nblocks free=7 queued=0 held=1 total=8\ndata size=16 free=3 total=4\n";
+    b"0:6 ok\n0:7 ok\n0:8 ok\n0:9 census 7 1 0\n0:10 refused 1 TooLarge\n0:11 ok\nblocks free=7 queued=0 held=1 total=8\ndata size=16 free=3 total=4\nqueue 0 msgs=0 bytes=0 read=0 noenable=0 enabled=1\nrun 0\nwishes -\n";
 
 const MAX: u32 = 1_048_576;
 

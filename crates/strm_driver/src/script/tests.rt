@@ -142,12 +142,22 @@ fn reads_calls_on_queues(rt: HostRuntime) -> Result<(), Fail> {
         (7, "Insq(2, 4294967295, Reg { place: 1 })"),
         (8, "Rmvq(3, 7, Reg { place: 2 })"),
         (9, "Qsize(4)"),
+        (10, "Flushq(5, All)"),
+        (11, "Flushband(6, 255, Data)"),
+        (12, "Bcanput(7, 8)"),
+        (13, "Qenable(9)"),
+        (14, "Noenable(10)"),
+        (15, "Enableok(255)"),
+        (16, "Service"),
+        (17, "Bufcall(0)"),
+        (18, "Unbufcall(4294967295)"),
+        (19, "Ready"),
     ];
-    expect_calls(
-        &rt,
-        "putbq 1 a\ninsq 2 4294967295 b\nrmvq 3 7 c\nqsize 4\n",
-        &calls,
-    )
+    let commands =
+        "putbq 1 a\ninsq 2 4294967295 b\nrmvq 3 7 c\nqsize 4\nflushq 5 all\nflushband 6 255 data\n\
+        bcanput 7 8\nqenable 9\nnoenable 10\nenableok 255\nservice\n\
+        bufcall 0\nunbufcall 4294967295\nready\n";
+    expect_calls(&rt, commands, &calls)
 }
 
 #[test]
@@ -248,6 +258,26 @@ fn finds_the_first_fault_of_a_form(rt: HostRuntime) -> Result<(), Fail> {
         (OPEN, "write a 0 0A\n", 6, Kind::Hex),
         (OPEN, "write a 0 --\n", 6, Kind::Hex),
         (OPEN, "write a 0 \n", 6, Kind::Hex),
+    ];
+    for (start, end, line, kind) in faults {
+        expect(&rt, start, end, line, kind)?;
+    }
+    Ok(())
+}
+
+#[test]
+fn finds_the_first_fault_of_a_queue_or_a_wish(rt: HostRuntime) -> Result<(), Fail> {
+    let faults = [
+        (OPEN, "flushq all\n", 6, Kind::Shape),
+        (OPEN, "service 0\n", 6, Kind::Shape),
+        (OPEN, "bufcall\n", 6, Kind::Shape),
+        (OPEN, "ready \n", 6, Kind::Shape),
+        (OPEN, "flushband 0 256 none\n", 6, Kind::Number),
+        (OPEN, "bcanput 0 -1\n", 6, Kind::Number),
+        (OPEN, "unbufcall 4294967296\n", 6, Kind::Number),
+        (OPEN, "flushq 0 All\n", 6, Kind::Word),
+        (OPEN, "flushq 0 \n", 6, Kind::Word),
+        (OPEN, "flushband 0 0 datas\n", 6, Kind::Word),
     ];
     for (start, end, line, kind) in faults {
         expect(&rt, start, end, line, kind)?;

@@ -1,5 +1,5 @@
 //! A pool with registers of its own.
-use super::{assert_reply, classes, opened};
+use super::{assert_reply, classes, opened, queues};
 use crate::{Call, Pool, Refusal, Reg, Regs, Rejected, Reply, Token};
 use std::alloc::Global;
 use std::process::Abort;
@@ -19,9 +19,21 @@ impl Bench {
         named: (u32, u32),
         sizes: &[(u32, u32)],
     ) -> Bench {
+        Bench::wishing(rt, alloc, named, sizes, (2, 1))
+    }
+
+    // So too, with so many wishes at one time and the id of the first.
+    pub(super) fn wishing(
+        rt: &impl Abort,
+        alloc: Global,
+        named: (u32, u32),
+        sizes: &[(u32, u32)],
+        wishes: (u32, u32),
+    ) -> Bench {
         let sizes = classes(rt, sizes);
+        let queues = queues(rt, &[(10, 4, None)]);
         Bench {
-            pool: opened(rt, alloc, named, sizes, &[(10, 4, None)]),
+            pool: opened(rt, alloc, named, sizes, queues, wishes),
             regs: Regs::new(),
         }
     }

@@ -64,6 +64,32 @@ fn assert_counts(rt: &impl Abort, pool: &Pool, second: &Second) {
     }
 }
 
+// A queue has the same counts and marks, and so has each band that messages are put into.
+fn assert_queue(rt: &impl Abort, pool: &Pool, second: &Second, queue: u8) {
+    let info = second.queue_info(rt, usize::from(queue));
+    assert_eq!(rt; pool.queue_info(queue), Ok(info));
+    for band in 0..4 {
+        let info = second.band_info(rt, usize::from(queue), band);
+        assert_eq!(rt; pool.band_info(queue, band), Ok(info));
+    }
+}
+
+// So has each queue, and the same ones wait to be served. Wishes are the same.
+fn assert_queues(rt: &impl Abort, pool: &Pool, second: &Second) {
+    for queue in 0..QUEUES as u8 {
+        assert_queue(rt, pool, second, queue);
+    }
+    for place in 0..=QUEUES as u32 {
+        assert_eq!(rt;
+            pool.run_at(place),
+            second.run().get(place as usize).copied()
+        );
+    }
+    for place in 0..3 {
+        assert_eq!(rt; pool.wish_at(place), second.wish_at(place as usize));
+    }
+}
+
 // Does a call on both, and answers its reply.
 pub(super) fn serve(
     rt: &impl Abort,
@@ -79,5 +105,6 @@ pub(super) fn serve(
     assert_reply(rt, &Call::Census, &census, &second.serve(rt, &Call::Census));
     assert_places(rt, pool, regs, second);
     assert_counts(rt, pool, second);
+    assert_queues(rt, pool, second);
     reply
 }

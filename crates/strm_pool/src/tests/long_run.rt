@@ -3,10 +3,11 @@ ghost use Rattle.std.specs.Prelude.{◌<◌, IsTrue};
 ghost use Rattle.strm_data.specs.Classes.{are_lawful};
 
 use super::beside::serve;
+use super::flow::SPECS;
 use super::second::{REGISTERS, Second};
 use super::tally::Tally;
 use super::{octets, opened, reg};
-use crate::{Call, ClassSpec, ClassSpecs, MsgType, Pool, Reg, Regs};
+use crate::{Call, ClassSpec, ClassSpecs, Flush, MsgType, Pool, QueueSpecs, Reg, Regs};
 use arrayvec::ArrayVec;
 use std::alloc::Global;
 use std::process::Abort;
@@ -81,6 +82,32 @@ fn any_alteration(rt: &impl Abort, draw: &mut u32, reg: Reg) -> Call {
     }
 }
 
+// Any of the calls that take and give no message of a queue, of which there are three.
+fn any_control(draw: &mut u32) -> Call {
+    let queue = (below(draw, 13) / 4) as u8;
+    let band = below(draw, 3) as u8;
+    match below(draw, 16) {
+        0 => Call::Flushq(queue, Flush::All),
+        1 => Call::Flushq(queue, Flush::Data),
+        2 => Call::Flushband(queue, band, Flush::All),
+        3 => Call::Flushband(queue, band, Flush::Data),
+        4..10 => Call::Bcanput(queue, band),
+        10 => Call::Qenable(queue),
+        11 => Call::Noenable(queue),
+        12..14 => Call::Enableok(queue),
+        _ => Call::Service,
+    }
+}
+
+// Any of the calls on wishes. Their ids are not far apart.
+fn any_wish(draw: &mut u32, wished: u32) -> Call {
+    match below(draw, 8) {
+        0..4 => Call::Bufcall(below(draw, 36)),
+        4 => Call::Unbufcall(wished.wrapping_sub(below(draw, 3))),
+        _ => Call::Ready,
+    }
+}
+
 // Any of the calls that change nothing.
 fn any_question(draw: &mut u32, reg: Reg) -> Call {
     match below(draw, 8) {
@@ -116,15 +143,17 @@ fn any_on_queue(draw: &mut u32, reg: Reg) -> Call {
     }
 }
 
-fn any_call(rt: &impl Abort, draw: &mut u32) -> Call {
+fn any_call(rt: &impl Abort, draw: &mut u32, wished: u32) -> Call {
     let reg = any_reg(rt, draw);
     let other = any_reg(rt, draw);
-    match below(draw, 16) {
-        0..5 => any_new(draw, reg, other),
-        5..9 => any_alteration(rt, draw, reg),
-        9 => any_question(draw, reg),
-        10..12 => any_move(draw, reg, other),
-        _ => any_on_queue(draw, reg),
+    match below(draw, 34) {
+        0..10 => any_new(draw, reg, other),
+        10..18 => any_alteration(rt, draw, reg),
+        18..20 => any_question(draw, reg),
+        20..24 => any_move(draw, reg, other),
+        24..26 => any_control(draw),
+        26..32 => any_on_queue(draw, reg),
+        _ => any_wish(draw, wished),
     }
 }
 
@@ -134,11 +163,13 @@ impl Both {
         requires few_blocks { mblks < 4096 }
         requires classes { IsTrue (are_lawful classes.now) }
     {
-        let queues = [(10, 4, Some(1)), (10, 4, Some(2)), (10, 4, None)];
         let mut specs = ArrayVec::new();
         assert!(rt; specs.try_extend_from_slice(classes).is_ok());
+        let mut queues = ArrayVec::new();
+        assert!(rt; queues.try_extend_from_slice(&SPECS).is_ok());
+        let (sizes, queues) = (ClassSpecs::of(specs), QueueSpecs::of(queues));
         Both {
-            pool: opened(rt, alloc, (7, mblks), ClassSpecs::of(specs), &queues),
+            pool: opened(rt, alloc, (7, mblks), sizes, queues, (2, 1)),
             regs: Regs::new(),
             second: Second::opened(rt, alloc, 7, mblks, classes),
         }
@@ -167,7 +198,7 @@ impl Both {
 fn serve_any(rt: &impl Abort, both: &mut Both, tally: &mut Tally, calls: u32) {
     let mut draw = 1;
     for _call in 0..calls {
-        let call = any_call(rt, &mut draw);
+        let call = any_call(rt, &mut draw, both.second.wished());
         both.serve(rt, tally, &call);
     }
 }
@@ -203,7 +234,7 @@ fn name_often(rt: &impl Abort, both: &mut Both, tally: &mut Tally) {
 fn any_calls(rt: HostRuntime) {
     let mut tally = Tally::opening(&rt, rt.alloc());
     let mut both = Both::opened(&rt, rt.alloc(), 16, &SMALL);
-    serve_any(&rt, &mut both, &mut tally, 6000);
+    serve_any(&rt, &mut both, &mut tally, 8000);
     both.end(&rt);
     let mut both = Both::opened(&rt, rt.alloc(), 300, &SMALL);
     name_often(&rt, &mut both, &mut tally);

@@ -200,3 +200,49 @@ fn queues_in_priority_order(rt: HostRuntime) {
     ];
     bench.serve(&rt, &rows, &[Some(2), Some(4), Some(3)]);
 }
+
+#[test]
+fn the_last_id_is_given_once(rt: HostRuntime) {
+    let bench = Bench::wishing(&rt, rt.alloc(), (1, 8), &SIZES, (2, u32::MAX));
+    let rows = [
+        (Call::Bufcall(65), refused(Refusal::TooLarge)),
+        (Call::Bufcall(16), Reply::Id(u32::MAX)),
+        (Call::Bufcall(65), refused(Refusal::TooLarge)),
+        (Call::Bufcall(16), refused(Refusal::IdsSpent)),
+        (Call::Unbufcall(1), refused(Refusal::NotPending)),
+        (Call::Unbufcall(u32::MAX), Reply::Done),
+        (Call::Unbufcall(u32::MAX), refused(Refusal::NotPending)),
+        (Call::Bufcall(16), refused(Refusal::IdsSpent)),
+        (Call::Ready, Reply::Nothing),
+    ];
+    bench.serve(&rt, &rows, &[]);
+    let bench = Bench::wishing(&rt, rt.alloc(), (1, 8), &SIZES, (1, u32::MAX));
+    let rows = [
+        (Call::Bufcall(16), Reply::Id(u32::MAX)),
+        (Call::Bufcall(65), refused(Refusal::TooLarge)),
+        (Call::Bufcall(16), refused(Refusal::Full)),
+    ];
+    bench.serve(&rt, &rows, &[]);
+}
+
+#[test]
+fn serves_the_first_wish_that_fits(rt: HostRuntime) {
+    let bench = Bench::opened(&rt, rt.alloc(), (1, 8), &[(16, 1), (64, 1)]);
+    let (a, b) = (reg(&rt, b'a'), reg(&rt, b'b'));
+    let rows = [
+        (Call::Allocb(a, 64), Reply::Done),
+        (Call::Bufcall(64), Reply::Id(1)),
+        (Call::Bufcall(16), Reply::Id(2)),
+        (Call::Bufcall(16), refused(Refusal::Full)),
+        (Call::Ready, Reply::Ready(2, 16)),
+        (Call::Ready, Reply::Nothing),
+        (Call::Bufcall(0), Reply::Id(3)),
+        (Call::Allocb(b, 16), Reply::Done),
+        (Call::Ready, Reply::Nothing),
+        (Call::Freemsg(a), Reply::Done),
+        (Call::Ready, Reply::Ready(1, 64)),
+        (Call::Ready, Reply::Ready(3, 0)),
+        (Call::Ready, Reply::Nothing),
+    ];
+    bench.serve(&rt, &rows, &[None, Some(1)]);
+}

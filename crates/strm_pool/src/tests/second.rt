@@ -2,8 +2,12 @@
 ghost use Rattle.std.specs.Prelude.{◌<◌, IsTrue};
 ghost use Rattle.strm_data.specs.Classes.{are_lawful};
 
+use super::flow::{Flow, SPECS, target, waker};
 use crate::limits::MOST_OCTETS;
-use crate::{Call, Census, ClassSpec, Octets, Pool, Refusal, Reg, Regs, Rejected, Reply, Token};
+use crate::{
+    BandInfo, Call, Census, ClassSpec, Flush, MsgType, Octets, Pool, QueueInfo, Refusal, Reg, Regs,
+    Rejected, Reply, Token,
+};
 use arrayvec::ArrayVec;
 use std::alloc::Global;
 use std::process::Abort;
@@ -15,18 +19,26 @@ pub(super) const QUEUES: usize = 3;
 // Calls have these registers: the first so many. Messages on queues have the others.
 pub(super) const REGISTERS: u8 = 8;
 
-// A message on a queue: its rank when it was put, and where its token is.
+// A message on a queue: its rank when it was put, its bytes, whether it is of a type that carries data, and where its
+// token is.
 #[derive(Clone, Copy)]
 struct Entry {
     rank: u16,
+    bytes: u32,
+    data: bool,
     place: Reg,
 }
 
-// Message blocks, the tokens of all messages, and the messages of each queue, front to back.
+// Message blocks, the tokens of all messages, the messages of each queue, front to back, what is true of queues
+// besides, and wishes, of which there may be two.
 pub(super) struct Second {
     blocks: Blocks,
     places: Regs,
     queues: [Vec<Entry>; QUEUES],
+    flow: Flow,
+    // The id and the size of each wish, and how many there have been.
+    wishes: Vec<(u32, u32)>,
+    wished: u32,
 }
 
 // The rank of a message.
@@ -37,6 +49,38 @@ fn rank_of(rt: &impl Abort, blocks: &Blocks, token: &Token) -> u16 {
         Ok(first) => u16::from(first.band),
         Err(_) => panic!(rt; "no block"),
     }
+}
+
+// What stands on a queue for a message, which is kept at this place.
+fn entry_of(rt: &impl Abort, blocks: &Blocks, token: &Token, place: Reg) -> Entry {
+    let rank = rank_of(rt, blocks, token);
+    assert!(rt; blocks.has(token));
+    let data = match blocks.block(token, 0) {
+        Ok(first) => [MsgType::MData, MsgType::MPcproto].contains(&first.kind),
+        Err(_) => panic!(rt; "no block"),
+    };
+    Entry {
+        rank,
+        bytes: blocks.size(token),
+        data,
+        place,
+    }
+}
+
+// Whether a message counts with a band.
+fn is_of_band(entry: &Entry, band: u8) -> bool {
+    entry.rank % 256 == u16::from(band)
+}
+
+// How many bytes a band has.
+fn bytes_of_band(entries: &[Entry], band: u8) -> u32 {
+    let mut bytes = 0u32;
+    for entry in entries {
+        if is_of_band(entry, band) {
+            bytes = bytes.wrapping_add(entry.bytes);
+        }
+    }
+    bytes
 }
 
 // How many messages of a queue rank above this, and how many below.
@@ -179,6 +223,9 @@ impl Second {
             blocks: Blocks::new(alloc, id, mblks, classes, 0).expect(rt, "memory"),
             places: Regs::new(),
             queues: [Vec::new(alloc), Vec::new(alloc), Vec::new(alloc)],
+            flow: Flow::opening(alloc),
+            wishes: Vec::new(alloc),
+            wished: 0,
         }
     }
 
@@ -376,12 +423,160 @@ impl Second {
         let entries = &mut self.queues[queue];
         assert!(rt; place < entries.len());
         let entry = entries.remove(place);
+        self.settle(rt, queue);
         match self.places.take(entry.place) {
             Some(token) => {
                 self.keep(rt, into, token);
                 Reply::Done
             }
             None => panic!(rt; "no token"),
+        }
+    }
+
+    // How many bytes a band of a queue has.
+    fn count(&self, rt: &impl Abort, queue: usize, band: u8) -> u32 {
+        assert!(rt; queue < QUEUES);
+        bytes_of_band(&self.queues[queue], band)
+    }
+
+    // Messages left a queue: a queue behind is enabled where somebody waited for room and there is some.
+    fn settle(&mut self, rt: &impl Abort, queue: usize) {
+        let mut some = false;
+        for band in 0..=u8::MAX {
+            if self.count(rt, queue, band) <= 4 {
+                some = self.flow.relieve(rt, queue, band) || some;
+            }
+        }
+        if let Some(behind) = waker(queue)
+            && some
+        {
+            self.flow.enable(rt, behind);
+        }
+    }
+
+    // Frees the messages of a queue that a flush takes, of one band or of all.
+    fn flush(&mut self, rt: &impl Abort, queue: usize, band: Option<u8>, flush: Flush) {
+        assert!(rt; queue < QUEUES);
+        let mut at = 0;
+        for _message in 0..self.queues[queue].len() {
+            assert!(rt; at < self.queues[queue].len());
+            let entry = self.queues[queue][at];
+            let picked = match band {
+                Some(band) => is_of_band(&entry, band),
+                None => true,
+            };
+            if picked && (entry.data || flush == Flush::All) {
+                let _ = self.queues[queue].remove(at);
+                self.freemsg(entry.place);
+            } else {
+                at = at.wrapping_add(1);
+            }
+        }
+        self.settle(rt, queue);
+    }
+
+    fn bcanput(&mut self, rt: &impl Abort, queue: usize, band: u8) -> Reply {
+        let asked = target(queue);
+        if self.count(rt, asked, band) < 10 {
+            return Reply::Yes;
+        }
+        self.flow.want(rt, asked, band);
+        Reply::No
+    }
+
+    // Does a call that takes and gives no message, on a queue that is there.
+    fn control(&mut self, rt: &impl Abort, call: &Call, queue: usize) -> Reply {
+        match *call {
+            Call::Flushq(_, flush) => self.flush(rt, queue, None, flush),
+            Call::Flushband(_, band, flush) => self.flush(rt, queue, Some(band), flush),
+            Call::Bcanput(_, band) => return self.bcanput(rt, queue, band),
+            Call::Qenable(_) => self.flow.enable(rt, queue),
+            Call::Noenable(_) => self.flow.switch(rt, queue, true),
+            _ => self.flow.switch(rt, queue, false),
+        }
+        Reply::Done
+    }
+
+    fn service(&mut self) -> Reply {
+        match self.flow.next() {
+            Some(queue) => Reply::Queue(queue),
+            None => Reply::Nothing,
+        }
+    }
+
+    fn bufcall(&mut self, rt: &impl Abort, size: u32) -> Reply {
+        if !self.blocks.has_class_for(size) {
+            return Reply::Refused(Refusal::TooLarge);
+        }
+        if self.wishes.len() == 2 {
+            return Reply::Refused(Refusal::Full);
+        }
+        self.wished = self.wished.wrapping_add(1);
+        assert!(rt; self.wishes.push((self.wished, size)).is_ok());
+        Reply::Id(self.wished)
+    }
+
+    fn unbufcall(&mut self, id: u32) -> Reply {
+        for place in 0..self.wishes.len() {
+            if self.wishes.get(place).is_some_and(|wish| wish.0 == id) {
+                self.wishes.remove(place);
+                return Reply::Done;
+            }
+        }
+        Reply::Refused(Refusal::NotPending)
+    }
+
+    fn ready(&mut self) -> Reply {
+        for place in 0..self.wishes.len() {
+            if let Some((id, size)) = self.wish_at(place)
+                && self.blocks.testb(size)
+            {
+                self.wishes.remove(place);
+                return Reply::Ready(id, size);
+            }
+        }
+        Reply::Nothing
+    }
+
+    // How many wishes there have been.
+    pub(super) fn wished(&self) -> u32 {
+        self.wished
+    }
+
+    // The id and the size of a wish, in order of recording.
+    pub(super) fn wish_at(&self, place: usize) -> Option<(u32, u32)> {
+        self.wishes.get(place).copied()
+    }
+
+    // The queues that wait to be served, the next one first.
+    pub(super) fn run(&self) -> &[u8] {
+        self.flow.run()
+    }
+
+    // What there is to tell of a queue that is there.
+    pub(super) fn queue_info(&self, rt: &impl Abort, queue: usize) -> QueueInfo {
+        assert!(rt; queue < QUEUES);
+        let mut bytes = 0u32;
+        for entry in &self.queues[queue] {
+            bytes = bytes.wrapping_add(entry.bytes);
+        }
+        let (read, noenable) = self.flow.marks(rt, queue);
+        QueueInfo {
+            msgs: u32::try_from(self.queues[queue].len()).unwrap_or(u32::MAX),
+            bytes,
+            read,
+            noenable,
+            enabled: self.flow.run().contains(&(queue as u8)),
+        }
+    }
+
+    // What there is to tell of one band of it.
+    pub(super) fn band_info(&self, rt: &impl Abort, queue: usize, band: u8) -> BandInfo {
+        let bytes = self.count(rt, queue, band);
+        BandInfo {
+            bytes,
+            full: bytes >= 10,
+            wanted: self.flow.is_wanted(rt, queue, band),
         }
     }
 
@@ -400,8 +595,10 @@ impl Second {
             Ok(at) => {
                 clear_band(rt, &mut self.blocks, &token, rank);
                 let place = self.free_place(rt);
+                let entry = entry_of(rt, &self.blocks, &token, place);
                 self.keep(rt, place, token);
-                self.insert(rt, queue, at, Entry { rank, place });
+                self.insert(rt, queue, at, entry);
+                self.flow.put(rt, call, queue, rank);
                 Reply::Done
             }
             Err(why) => {
@@ -425,8 +622,14 @@ impl Second {
         match self.queue_len(queue) {
             None => Reply::Refused(Refusal::NoSuchQueue),
             Some(_) if self.places.holds(into) => Reply::Taken,
-            Some(0) => Reply::Nothing,
-            Some(_) => self.remove(rt, usize::from(queue), 0, into),
+            Some(0) => {
+                self.flow.read(rt, usize::from(queue), true);
+                Reply::Nothing
+            }
+            Some(_) => {
+                self.flow.read(rt, usize::from(queue), false);
+                self.remove(rt, usize::from(queue), 0, into)
+            }
         }
     }
 
@@ -489,7 +692,20 @@ impl Second {
             }
             Call::Getq(queue, into) => self.getq(rt, queue, into),
             Call::Rmvq(queue, place, into) => self.rmvq(rt, queue, place, into),
+            Call::Flushq(queue, _)
+            | Call::Flushband(queue, _, _)
+            | Call::Bcanput(queue, _)
+            | Call::Qenable(queue)
+            | Call::Noenable(queue)
+            | Call::Enableok(queue) => match self.queue_len(queue) {
+                None => Reply::Refused(Refusal::NoSuchQueue),
+                Some(_) => self.control(rt, call, usize::from(queue)),
+            },
             Call::Qsize(queue) => self.qsize(queue),
+            Call::Service => self.service(),
+            Call::Bufcall(size) => self.bufcall(rt, size),
+            Call::Unbufcall(id) => self.unbufcall(id),
+            Call::Ready => self.ready(),
             Call::Census => self.census(),
         }
     }
@@ -500,6 +716,9 @@ impl Second {
             mut blocks,
             mut places,
             queues: _,
+            flow: _,
+            wishes: _,
+            wished: _,
         } = self;
         for place in 0..26 {
             let place = Reg::new(place).expect(rt, "a place");

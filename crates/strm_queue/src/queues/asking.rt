@@ -67,7 +67,7 @@ impl Queues {
     /// Whether a message of a band may be put: asked of the first queue with a service procedure from this one on, or of
     /// the last one there. Where the band has as many bytes as the high water mark there, it is full: its wanted mark is
     /// set, and the answer is false. Takes a step for each queue that is passed, and one for each message of the queue
-    /// that is asked.
+    /// that is asked and for each of its blocks.
     ///
     /// Refused as `NoSuchQueue` where there is no such queue; nothing changes then.
     pub fn bcanput(&mut self, blocks: &Blocks, queue: u8, band: u8) -> Result<bool, Refusal>

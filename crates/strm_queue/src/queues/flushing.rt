@@ -74,8 +74,8 @@ fn flush_shelf(blocks: &mut Blocks, queue: u8, len: u32, band: Option<u8>, flush
 
 impl Queues {
     /// Frees the messages of a queue front to back: all, or those that carry data. What stays keeps its place and enables
-    /// nothing; a band that has room again may enable a queue behind. Takes a step for each message, and one for each
-    /// block that is freed.
+    /// nothing; a band that has room again may enable a queue behind. Takes a step for each message, one for each block that
+    /// is freed, and a walk of what stays where some band is wanted.
     ///
     /// Refused as `NoSuchQueue` where there is no such queue; nothing changes then.
     pub fn flushq(&mut self, blocks: &mut Blocks, queue: u8, flush: Flush) -> Result<(), Refusal>
@@ -89,7 +89,8 @@ impl Queues {
 
     /// Frees the messages of one band of a queue, front to back: all of them, or those that carry data. High priority
     /// messages are of band 0. What stays keeps its place and enables nothing; a band that has room again may enable a
-    /// queue behind. Takes a step for each message, and one for each block that is freed.
+    /// queue behind. Takes a step for each message, one for each block that is freed, and a walk of what stays where some
+    /// band is wanted.
     ///
     /// Refused as `NoSuchQueue` where there is no such queue; nothing changes then.
     pub fn flushband(

@@ -11,7 +11,8 @@ use strm_data::Refusal;
 use strm_mblk::{Blocks, Token};
 
 impl Queues {
-    /// Takes the first message off a queue, or nothing where the queue is empty. Takes constant time.
+    /// Takes the first message off a queue, or nothing where the queue is empty, and settles it. Takes constant time, and a
+    /// walk of the queue where some band of it is wanted.
     ///
     /// Refused as `NoSuchQueue` where there is no such queue; nothing changes then.
     pub fn getq(&mut self, blocks: &mut Blocks, queue: u8) -> Result<Option<Token>, Refusal>
@@ -38,7 +39,8 @@ impl Queues {
         Ok(Some(token))
     }
 
-    /// Takes the message at `place`, counted from 0, off a queue. Takes `place` steps.
+    /// Takes the message at `place`, counted from 0, off a queue, and settles it. Takes `place` steps, and a walk of the
+    /// queue where some band of it is wanted.
     ///
     /// Refused as `NoSuchQueue` where there is no such queue, then as `NoSuchPlace` where it has no such message; nothing
     /// changes then.

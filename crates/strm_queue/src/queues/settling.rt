@@ -8,8 +8,9 @@ use super::counts::band_counts;
 use strm_mblk::Blocks;
 
 impl Queues {
-    // Takes away the wanted mark of each band that has room again, and enables the queue behind where there was one. Walks
-    // the messages once where some band is wanted, and else takes constant time.
+    // Takes away the wanted mark of each band that has room again, and enables the nearest queue behind with a service
+    // procedure where there was one. Walks the messages and their blocks once where some band is wanted, and else takes
+    // constant time.
     pub(super) fn settle(&mut self, blocks: &Blocks, queue: u8)
         requires queue { queue < length self.old.state.specs }
         requires in_order { AreInOrder self.old blocks.now }

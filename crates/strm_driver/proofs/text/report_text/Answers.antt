@@ -1,14 +1,15 @@
-use Rattle.std.proofs.Common.{sym, ◌∙◌}
-use Rattle.std.specs.Prelude.{string_bytes}
+use Rattle.std.proofs.Common.{ap, ◌∙◌, ◌++◌, string_bytes}
+use Rattle.std.proofs.lemmas.Result.{IfOk-equal}
 use Rattle.strm_data.specs.DataStore.{class_infos}
-use Rattle.strm_driver.proofs.Reports.{classes_text-next, classes_text-end}
+use Rattle.strm_mblk.specs.Arena.{census_of}
+use Rattle.strm_pool.specs.PoolValue.{queued}
+use Rattle.strm_driver.specs.Text.{blocks_text, classes_text, queues_text, run_text, wishes_text}
+use Rattle.strm_driver.proofs.Reports.{five_parts}
 use Rattle.strm_driver.proofs.text.report_text.Goals as goal
-
-pub loop-info-preserved : goal.loop-info-preserved
-loop-info-preserved c =
-    classes_text-next (string_bytes c.loop-info.text) (string_bytes c.class_text.new.text) _ (class_infos c.args.pool.now.arena.store) c.loop-info.class c.in-Some.info
-    (sym c.class_info.ensures ∙ c.in-Some.is) c.in_ok-class_text.ensures c.loop-info.invariant
 
 pub returns : goal.returns
 returns c =
-    classes_text-end (string_bytes c.loop-info.text) _ (class_infos c.args.pool.now.arena.store) c.loop-info.class (sym c.class_info.ensures ∙ c.in_default.is) c.loop-info.invariant
+    IfOk-equal c.wishes_text.result _ _ _ c.wishes_text.ensures
+    (five_parts (string_bytes c.args.text.now) (string_bytes c.blocks_text.new.text) (string_bytes c.classes_text.new.text) (string_bytes c.queues_text.new.text) (string_bytes c.run_text.new.text)
+    (blocks_text (census_of c.args.pool.now.arena)) (classes_text (class_infos c.args.pool.now.arena.store)) (queues_text (queued c.args.pool.now)) (run_text c.args.pool.now.queues.run) (wishes_text c.args.pool.now.wishes.pending)
+    (c.in_ok-blocks_text.ensures ∙ ap (λ census. string_bytes c.args.text.now ++ blocks_text census) c.census.ensures) c.in_ok-classes_text.ensures c.in_ok-queues_text.ensures c.in_ok-run_text.ensures)

@@ -1,4 +1,4 @@
-use Rattle.std.proofs.Common.{rules, FitsSigned, of_z, to_z, w32, ◌≡◌, ℕ, true, List, set, Option, Some, None, Ok, refl, sym, ap, ◌∙◌, subst, get_or-set_other}
+use Rattle.std.proofs.Common.{rules, FitsSigned, of_z, to_z, w32, ◌≡◌, ℕ, true, false, List, [], set, Option, Some, None, Ok, refl, sym, ap, ◌∙◌, subst, get_or-set_other}
 use Rattle.std.specs.Prelude.{option_map, slice_get}
 use Rattle.std.proofs.lemmas.Bool.{cond-true}
 use Rattle.std.proofs.lemmas.Int.{to_z-of_z}
@@ -12,17 +12,19 @@ use Rattle.strm_mblk.specs.Given.{answer_map, or_rejected, value_after}
 use Rattle.strm_mblk.specs.Trimming as trimming
 use Rattle.strm_mblk.proofs.arena.Frame.{linkb_gone, rmvb_gone, spent_gone}
 use Rattle.strm_queue.specs.QueueCalls as queues
-use Rattle.strm_pool.specs.declared.call.Call.TheVariants.{Allocb, Dupb, Dupmsg, Copyb, Copymsg, Write, Settype, Setband, Linkb, Unlinkb, Rmvb, Adjmsg, Pullupmsg, Block, Freeb, Freemsg, Putq, Putbq, Insq, Getq, Rmvq}
+use Rattle.strm_pool.specs.declared.call.Call.TheVariants.{Allocb, Dupb, Dupmsg, Copyb, Copymsg, Write, Settype, Setband, Linkb, Unlinkb, Rmvb, Adjmsg, Pullupmsg, Block, Freeb, Freemsg, Putq, Putbq, Insq, Getq, Rmvq, Flushq, Flushband, Bcanput, Qenable, Noenable, Enableok, Service, Bufcall, Unbufcall, Ready}
 use Rattle.strm_pool.specs.declared.reply.Reply.TheVariants.{Done}
 use Rattle.strm_pool.specs.declared.reply.Reply.TheVariants as replies
 use Rattle.strm_pool.specs.PoolValue.{PoolValue, on_arena, on_queues, owns, queued, with_arena}
 use Rattle.strm_pool.specs.Registers.{register, table_of}
 use Rattle.strm_pool.specs.Shapes.{Settled, any_given_to, parted_to}
-use Rattle.strm_pool.specs.Step.{Applies, answers, doing, head_held, keeps, leaves, may_give, parts, replying, spends}
-use Rattle.strm_pool.proofs.Acting.{alters, alters_kept, copies, gets, head_is, on_arena_is, owns_less, puts, takes}
+use Rattle.strm_pool.specs.Step.{Applies, answers, doing, head_held, keeps, leaves, may_give, parts, queue_or_nothing, ready_or_nothing, replying, spends, yes_or_no}
+use Rattle.strm_pool.proofs.Acting.{alters, alters_kept, copies, gets, head_is, on_arena_is, owns_less, puts, takes, tells_queues}
 use Rattle.strm_pool.proofs.OnParts.{arena_answer, queues_answer}
-use Rattle.strm_pool.proofs.Queued.{insq_left, putbq_left, putq_left}
-use Rattle.strm_pool.proofs.Shaped.{asks, at_call, gives_one, is_free, leaves_one, links, may_give_one, parts_two, sources_apart, spends_one, unlinks}
+use Rattle.strm_pool.proofs.Queued.{LeavesHeld, all_stays, bcanput_left, flushed_left, held_stay, insq_left, putbq_left, putq_left, qenable_left, switched_left}
+use Rattle.strm_pool.proofs.Shaped.{asks, at_call, gives_one, is_free, leaves_held, leaves_one, links, may_give_one, parts_two, sources_apart, spends_one, tells, unlinks}
+use Rattle.strm_pool.proofs.Waiting.{bufcall_stays, take_ready_stays, unbufcall_stays}
+use Rattle.strm_pool.specs.Wishes as wishes
 use Rattle.strm_pool.proofs.pool.Pool.act.Goals as goal
 
 -- asking leaves the pool as it was
@@ -185,6 +187,84 @@ returns-in-Rmvq c =
     (gives_one c.args.self.now c.rmvq.new.self c.args.regs.now (Rmvq c.in-Rmvq.queue c.in-Rmvq.place c.in-Rmvq.into) here c.in-Rmvq.into refl (is_free c.args.regs.now c.in-Rmvq.into here.free) (here.there c.in-Rmvq.into refl) left.0
     (on_queues c.args.self.now made) c.rmvq.result refl c.rmvq.ensures.pool (c.rmvq.ensures.token ∙ ap (answer_map (token_of c.rmvq.new.self.arena)) (sym (queues_answer c.args.self.now made)))
     c.rmvq.ensures.had c.rmvq.ensures.unheld left.1))
+
+-- ---- the messages that are held stay
+
+pub returns-in-Flushq : goal.returns-in-Flushq
+returns-in-Flushq c =
+    at_call c.args.self.now c.flushq.new.self c.args.regs.now c.args.regs.now c.args.call.now (Flushq c.in-Flushq.queue c.in-Flushq.flush) c.done-in-Flushq.result c.in-Flushq.is
+    (record { owned = c.requires.owned; queue = c.requires.queue; sources = c.requires.sources; free = c.requires.free; there = c.requires.there })
+    (λ here. tells_queues c.args.self.now c.flushq.new.self c.args.regs.now (Flushq c.in-Flushq.queue c.in-Flushq.flush) here (λ done. Done) (queues.flushq c.in-Flushq.queue c.in-Flushq.flush (queued c.args.self.now)) c.flushq.result c.done-in-Flushq.result refl
+    (flushed_left (queued c.args.self.now) c.in-Flushq.queue None c.in-Flushq.flush) refl c.flushq.ensures.pool c.flushq.ensures.answer c.done-in-Flushq.ensures)
+
+pub returns-in-Flushband : goal.returns-in-Flushband
+returns-in-Flushband c =
+    at_call c.args.self.now c.flushband.new.self c.args.regs.now c.args.regs.now c.args.call.now (Flushband c.in-Flushband.queue c.in-Flushband.band c.in-Flushband.flush) c.done-in-Flushband.result c.in-Flushband.is
+    (record { owned = c.requires.owned; queue = c.requires.queue; sources = c.requires.sources; free = c.requires.free; there = c.requires.there })
+    (λ here. tells_queues c.args.self.now c.flushband.new.self c.args.regs.now (Flushband c.in-Flushband.queue c.in-Flushband.band c.in-Flushband.flush) here (λ done. Done) (queues.flushband c.in-Flushband.queue c.in-Flushband.band c.in-Flushband.flush (queued c.args.self.now)) c.flushband.result c.done-in-Flushband.result refl
+    (flushed_left (queued c.args.self.now) c.in-Flushband.queue (Some c.in-Flushband.band) c.in-Flushband.flush) refl c.flushband.ensures.pool c.flushband.ensures.answer c.done-in-Flushband.ensures)
+
+pub returns-in-Bcanput : goal.returns-in-Bcanput
+returns-in-Bcanput c =
+    at_call c.args.self.now c.bcanput.new.self c.args.regs.now c.args.regs.now c.args.call.now (Bcanput c.in-Bcanput.queue c.in-Bcanput.band) c.truth.result c.in-Bcanput.is
+    (record { owned = c.requires.owned; queue = c.requires.queue; sources = c.requires.sources; free = c.requires.free; there = c.requires.there })
+    (λ here. tells_queues c.args.self.now c.bcanput.new.self c.args.regs.now (Bcanput c.in-Bcanput.queue c.in-Bcanput.band) here yes_or_no (queues.bcanput c.in-Bcanput.queue c.in-Bcanput.band (queued c.args.self.now)) c.bcanput.result c.truth.result refl
+    (bcanput_left (queued c.args.self.now) c.in-Bcanput.queue c.in-Bcanput.band) refl c.bcanput.ensures.pool c.bcanput.ensures.answer c.truth.ensures)
+
+pub returns-in-Qenable : goal.returns-in-Qenable
+returns-in-Qenable c =
+    at_call c.args.self.now c.qenable.new.self c.args.regs.now c.args.regs.now c.args.call.now (Qenable c.in-Qenable.queue) c.done-in-Qenable.result c.in-Qenable.is
+    (record { owned = c.requires.owned; queue = c.requires.queue; sources = c.requires.sources; free = c.requires.free; there = c.requires.there })
+    (λ here. tells_queues c.args.self.now c.qenable.new.self c.args.regs.now (Qenable c.in-Qenable.queue) here (λ done. Done) (queues.qenable c.in-Qenable.queue (queued c.args.self.now)) c.qenable.result c.done-in-Qenable.result refl
+    (qenable_left (queued c.args.self.now) c.in-Qenable.queue) refl c.qenable.ensures.pool c.qenable.ensures.answer c.done-in-Qenable.ensures)
+
+pub returns-in-Noenable : goal.returns-in-Noenable
+returns-in-Noenable c =
+    at_call c.args.self.now c.noenable.new.self c.args.regs.now c.args.regs.now c.args.call.now (Noenable c.in-Noenable.queue) c.done-in-Noenable.result c.in-Noenable.is
+    (record { owned = c.requires.owned; queue = c.requires.queue; sources = c.requires.sources; free = c.requires.free; there = c.requires.there })
+    (λ here. tells_queues c.args.self.now c.noenable.new.self c.args.regs.now (Noenable c.in-Noenable.queue) here (λ done. Done) (queues.noenable c.in-Noenable.queue (queued c.args.self.now)) c.noenable.result c.done-in-Noenable.result refl
+    (switched_left (queued c.args.self.now) c.in-Noenable.queue true) refl c.noenable.ensures.pool c.noenable.ensures.answer c.done-in-Noenable.ensures)
+
+pub returns-in-Enableok : goal.returns-in-Enableok
+returns-in-Enableok c =
+    at_call c.args.self.now c.enableok.new.self c.args.regs.now c.args.regs.now c.args.call.now (Enableok c.in-Enableok.queue) c.done-in-Enableok.result c.in-Enableok.is
+    (record { owned = c.requires.owned; queue = c.requires.queue; sources = c.requires.sources; free = c.requires.free; there = c.requires.there })
+    (λ here. tells_queues c.args.self.now c.enableok.new.self c.args.regs.now (Enableok c.in-Enableok.queue) here (λ done. Done) (queues.enableok c.in-Enableok.queue (queued c.args.self.now)) c.enableok.result c.done-in-Enableok.result refl
+    (switched_left (queued c.args.self.now) c.in-Enableok.queue false) refl c.enableok.ensures.pool c.enableok.ensures.answer c.done-in-Enableok.ensures)
+
+pub returns-in-Service : goal.returns-in-Service
+returns-in-Service c =
+    at_call c.args.self.now c.next_service.new.self c.args.regs.now c.args.regs.now c.args.call.now Service c.queue.result c.in-Service.is
+    (record { owned = c.requires.owned; queue = c.requires.queue; sources = c.requires.sources; free = c.requires.free; there = c.requires.there })
+    (λ here. leaves_held c.args.self.now c.next_service.new.self c.args.regs.now Service here c.queue.result refl
+    (subst (λ (v : PoolValue). LeavesHeld c.args.self.now.arena v.arena []) (sym c.next_service.ensures.pool) (held_stay c.args.self.now.arena))
+    (ap (λ v. replying v (table_of c.args.regs.now) (queue_or_nothing (queues.next_service (queued c.args.self.now)).0)) (sym c.next_service.ensures.pool)
+    ∙ ap (λ o. replying c.next_service.new.self (table_of c.args.regs.now) (queue_or_nothing o)) (sym c.next_service.ensures.answer) ∙ ap (replying c.next_service.new.self (table_of c.args.regs.now)) (sym c.queue.ensures)))
+
+pub returns-in-Bufcall : goal.returns-in-Bufcall
+returns-in-Bufcall c =
+    at_call c.args.self.now c.bufcall.new.self c.args.regs.now c.args.regs.now c.args.call.now (Bufcall c.in-Bufcall.size) c.id.result c.in-Bufcall.is
+    (record { owned = c.requires.owned; queue = c.requires.queue; sources = c.requires.sources; free = c.requires.free; there = c.requires.there })
+    (λ here. subst (Applies c.args.self.now c.args.regs.now (Bufcall c.in-Bufcall.size) c.bufcall.new.self c.args.regs.now) (sym c.id.ensures)
+    (tells c.args.self.now c.bufcall.new.self c.args.regs.now (Bufcall c.in-Bufcall.size) here (λ id. replies.Id id) (wishes.bufcall c.in-Bufcall.size c.args.self.now) c.bufcall.result refl
+    (all_stays c.args.self.now.arena c.bufcall.new.self.arena (ap (λ (v : PoolValue). v.arena) c.bufcall.ensures.pool ∙ bufcall_stays c.args.self.now c.in-Bufcall.size)) refl c.bufcall.ensures.pool c.bufcall.ensures.answer))
+
+pub returns-in-Unbufcall : goal.returns-in-Unbufcall
+returns-in-Unbufcall c =
+    at_call c.args.self.now c.unbufcall.new.self c.args.regs.now c.args.regs.now c.args.call.now (Unbufcall c.in-Unbufcall.id) c.done-in-Unbufcall.result c.in-Unbufcall.is
+    (record { owned = c.requires.owned; queue = c.requires.queue; sources = c.requires.sources; free = c.requires.free; there = c.requires.there })
+    (λ here. subst (Applies c.args.self.now c.args.regs.now (Unbufcall c.in-Unbufcall.id) c.unbufcall.new.self c.args.regs.now) (sym c.done-in-Unbufcall.ensures)
+    (tells c.args.self.now c.unbufcall.new.self c.args.regs.now (Unbufcall c.in-Unbufcall.id) here (λ done. Done) (wishes.unbufcall c.in-Unbufcall.id c.args.self.now) c.unbufcall.result refl
+    (all_stays c.args.self.now.arena c.unbufcall.new.self.arena (ap (λ (v : PoolValue). v.arena) c.unbufcall.ensures.pool ∙ unbufcall_stays c.args.self.now c.in-Unbufcall.id)) refl c.unbufcall.ensures.pool c.unbufcall.ensures.answer))
+
+pub returns-in-Ready : goal.returns-in-Ready
+returns-in-Ready c =
+    at_call c.args.self.now c.take_ready.new.self c.args.regs.now c.args.regs.now c.args.call.now Ready c.ready.result c.in-Ready.is
+    (record { owned = c.requires.owned; queue = c.requires.queue; sources = c.requires.sources; free = c.requires.free; there = c.requires.there })
+    (λ here. leaves_held c.args.self.now c.take_ready.new.self c.args.regs.now Ready here c.ready.result refl
+    (all_stays c.args.self.now.arena c.take_ready.new.self.arena (ap (λ (v : PoolValue). v.arena) c.take_ready.ensures.pool ∙ take_ready_stays c.args.self.now))
+    (ap (λ v. replying v (table_of c.args.regs.now) (ready_or_nothing (wishes.take_ready c.args.self.now).0)) (sym c.take_ready.ensures.pool)
+    ∙ ap (λ o. replying c.take_ready.new.self (table_of c.args.regs.now) (ready_or_nothing o)) (sym c.take_ready.ensures.answer) ∙ ap (replying c.take_ready.new.self (table_of c.args.regs.now)) (sym c.ready.ensures)))
 
 -- ---- it is freed
 

@@ -1,13 +1,13 @@
 use Rattle.std.proofs.Common.{◌≡◌, ◌-◌, ◌++◌, length, drop, string_bytes}
 use Rattle.std.specs.List.{flat_map}
 use Rattle.strm_data.specs.DataStore.{class_infos}
-use Rattle.strm_driver.specs.Text.{class_text, report_text}
-use Rattle.strm_driver.proofs.text.report_text.Given as goal
+use Rattle.strm_driver.specs.Text.{class_text, classes_text}
+use Rattle.strm_driver.proofs.text.classes_text.Given as goal
 
 -- the text so far, and the lines of the classes that are left
 abbrev pub invariant-loop-info : goal.invariant-loop-info
 invariant-loop-info l =
-    string_bytes l.text ++ flat_map class_text (drop l.class (class_infos l.pool.arena.store)) ≡ string_bytes l.fn.text ++ report_text l.pool
+    string_bytes l.text ++ flat_map class_text (drop l.class (class_infos l.pool.arena.store)) ≡ string_bytes l.fn.text ++ classes_text (class_infos l.pool.arena.store)
 
 -- the classes that are left
 abbrev pub decreases-loop-info : goal.decreases-loop-info

@@ -1,0 +1,62 @@
+-- Wishes for message blocks: what each call on them does.
+use Rattle.std.specs.Prelude.{ℕ, ◌+◌, Bool, not, ◌==◌, nat_le, nat_lt, List, [], ◌∷◌, ◌++◌, length, Option, None, Some, Ok, Err, slice_get, if◌then◌else◌}
+use Rattle.std.specs.List.{position, remove}
+use Rattle.strm_data.specs.declared.refusal.Refusal.TheVariants.{Full, IdsSpent, NotPending, TooLarge}
+use Rattle.strm_data.specs.Classes.{fits_a_class}
+use Rattle.strm_mblk.specs.BlockCalls as blocks
+use Rattle.strm_mblk.specs.Given.{Given}
+use Rattle.strm_pool.specs.Limits.{last_id}
+use Rattle.strm_pool.specs.PoolValue.{PoolValue, Wish, WishState, on_wishes, with_wishes}
+
+-- the id behind this one, if it is not the last
+abbrev pub id_after : ℕ → Option ℕ
+id_after id = if nat_lt id last_id then Some (id + 1) else None
+
+-- a wish with this id, if there is one left, stands behind all others
+abbrev pub recorded_as : ℕ → Option ℕ → WishState → Given WishState ℕ
+recorded_as size None s = Err IdsSpent
+recorded_as size (Some id) s = Ok (id, record s { next = id_after id; pending = s.pending ++ (id, size) ∷ [] })
+
+-- so, where there is room
+abbrev pub recorded : ℕ → WishState → Given WishState ℕ
+recorded size s = if nat_le s.most (length s.pending) then Err Full else recorded_as size s.next s
+
+-- without the wish at place k
+abbrev pub wishes_without : ℕ → WishState → WishState
+wishes_without k s = record s { pending = remove s.pending k }
+
+-- ---- the calls
+
+-- a wish of a size that `allocb` may serve some time; the answer is its id
+abbrev pub bufcall : ℕ → PoolValue → Given PoolValue ℕ
+bufcall size v = if not (fits_a_class size v.arena.store.classes) then Err TooLarge else on_wishes v (recorded size v.wishes)
+
+-- whether a wish has this id
+abbrev pub has_id : ℕ → Wish → Bool
+has_id id w = w.0 == id
+
+-- without the wish at the place that was found
+abbrev pub withdrawn : PoolValue → Option ℕ → Given PoolValue (Unit {0})
+withdrawn v None = Err NotPending
+withdrawn v (Some k) = Ok (tt, with_wishes v (wishes_without k v.wishes))
+
+-- the wish with this id is no more
+abbrev pub unbufcall : ℕ → PoolValue → Given PoolValue (Unit {0})
+unbufcall id v = withdrawn v (position (has_id id) v.wishes.pending)
+
+-- whether `allocb` would serve a wish now
+abbrev pub is_ready : PoolValue → Wish → Bool
+is_ready v w = blocks.testb w.1 v.arena
+
+-- the wish at the place that was found, which is no more
+abbrev pub readied : PoolValue → Option ℕ → Option Wish × PoolValue
+readied v None = (None, v)
+readied v (Some k) = (slice_get v.wishes.pending k, with_wishes v (wishes_without k v.wishes))
+
+-- the first wish that `allocb` would serve now, if there is one, which is no more; nothing is kept for it
+abbrev pub take_ready : PoolValue → Option Wish × PoolValue
+take_ready v = readied v (position (is_ready v) v.wishes.pending)
+
+-- the wish at place k, in order of recording
+abbrev pub wish_at : ℕ → PoolValue → Option Wish
+wish_at k v = slice_get v.wishes.pending k

@@ -1,0 +1,88 @@
+//! Wishes for message blocks, in the order in which they were recorded.
+ghost use Rattle.std.specs.Prelude.{◌≡◌, ◌<◌, ◌≤◌, IfSome, Some, [], length, slice_get};
+ghost use Rattle.std.specs.List.{position};
+ghost use Rattle.strm_mblk.specs.Given.{answer_of, value_after};
+ghost use Rattle.strm_pool.specs.Limits.{most_wishes};
+ghost use Rattle.strm_pool.specs.Wishes.{has_id, recorded, wishes_without};
+
+use crate::limits::MOST_WISHES;
+use arrayvec::ArrayVec;
+use std::marker::Model;
+use strm_data::Refusal;
+
+// Wishes, each an id and a size.
+#[derive(Debug, Drop)]
+pub(crate) struct Wishes {
+    pending: ArrayVec<(u32, u32), MOST_WISHES>,
+    // How many may be recorded at one time.
+    most: u32,
+    // The id of the next one, until all ids have been given.
+    next: Option<u32>,
+}
+
+impl Model for Wishes {
+    ghost use Rattle.strm_pool.specs.PoolValue.{WishState};
+
+    ghost Value = { WishState };
+
+    ghost use Rattle.strm_pool.specs.WishesLayout.{wishes_in, IsRoomy};
+
+    ghost view = { wishes_in };
+
+    ghost invariant = { IsRoomy };
+}
+
+impl Wishes {
+    // No wishes, of which so many may be recorded, the first with this id.
+    pub(crate) fn new(most: u32, first_id: u32) -> Wishes
+        requires { most ≤ most_wishes }
+        ensures { result ≡ record { most = most; next = Some first_id; pending = [] } }
+    {
+        Wishes {
+            pending: ArrayVec::new(),
+            most,
+            next: Some(first_id),
+        }
+    }
+
+    // The wishes, the one that was recorded first in front.
+    pub(crate) fn items(&self) -> &[(u32, u32)]
+        ensures value { result.now ≡ self.now.pending }
+        ensures few { length result.now ≤ most_wishes }
+    {
+        self.pending.as_slice()
+    }
+
+    // Records a wish of a size, and answers its id.
+    pub(crate) fn record(&mut self, size: u32) -> Result<u32, Refusal>
+        ensures after { self.new ≡ value_after self.old (recorded size self.old) }
+        ensures answer { result ≡ answer_of (recorded size self.old) }
+    {
+        if self.pending.len() >= self.most as usize {
+            return Err(Refusal::Full);
+        }
+        let Some(id) = self.next else {
+            return Err(Refusal::IdsSpent);
+        };
+        self.pending.push((id, size));
+        self.next = id.checked_add(1);
+        Ok(id)
+    }
+
+    // The place of the wish with an id.
+    pub(crate) fn place_of(&self, id: u32) -> Option<usize>
+        ensures place { result ≡ position (has_id id) self.now.pending }
+        ensures there { IfSome result (λ place. place < length self.now.pending) }
+    {
+        self.items().iter().position(|wish| wish.0 == id)
+    }
+
+    // Takes out the wish at a place, counted from 0.
+    pub(crate) fn remove(&mut self, place: usize) -> Option<(u32, u32)>
+        requires { place < length self.old.pending }
+        ensures after { self.new ≡ wishes_without place self.old }
+        ensures wish { result ≡ slice_get self.old.pending place }
+    {
+        self.pending.pop_at(place)
+    }
+}
