@@ -4,7 +4,7 @@ PREFIX ?= /usr/local
 BUILT := crates/strm_driver/out/strm_driver
 SOURCES := crates.txt HANDLES $(shell find crates -path '*/out' -prune -o \( -name '*.rt' -o -name '*.antt' \) -print)
 
-.PHONY: run test strm install
+.PHONY: run test bench strm install
 
 # Runs the first run's script, once the program is proved.
 run: $(BUILT)
@@ -13,6 +13,10 @@ run: $(BUILT)
 # Proves everything from nothing, and runs all tests and cases.
 test:
 	@.ci/run
+
+# Prints what a line and a call cost. OPTIONS are words of bench/run.py, as --instructions, or --write for docs/.
+bench: $(BUILT)
+	@python3 bench/run.py $(OPTIONS) $(BUILT)
 
 # Puts the proved program at build/strm.
 strm: build/strm

@@ -1,0 +1,231 @@
+#!/usr/bin/env python3
+"""Measures what a line and a call of the program `strm` cost, and prints tables. bench/README.md says how."""
+import argparse
+import math
+import os
+import re
+import shutil
+import statistics
+import subprocess
+import sys
+import tempfile
+
+from script import WORDS, drawn
+
+SIZES = (1_000, 10_000, 100_000, 1_000_000)
+POOLS = (16, 255, 4_095)
+DOCS = os.path.join(os.path.dirname(os.path.abspath(__file__)), "..", "docs")
+BEGIN, END = "<!-- bench: begin -->\n", "<!-- bench: end -->\n"
+# Runs a program, and then tells its peak memory in KiB. Without the shell between, that would be Python's at least.
+TELL_PEAK = """"$@" && exec "$0" -c 'import resource, sys
+print(resource.getrusage(resource.RUSAGE_CHILDREN).ru_maxrss, file=sys.stderr)'"""
+
+
+def run(words, script):
+    """Runs a program on a script, and gives what it used and what it wrote to standard error."""
+    with open(script, "rb") as given:
+        child = subprocess.Popen(words, stdin=given, stdout=subprocess.DEVNULL, stderr=subprocess.PIPE, text=True)
+    with child.stderr:
+        said = child.stderr.read()
+    _, status, used = os.wait4(child.pid, 0)
+    child.returncode = os.waitstatus_to_exitcode(status)
+    if child.returncode != 0:
+        sys.exit(f"{' '.join(words)}: status {child.returncode}\n{said}")
+    return used, said
+
+
+class Meter:
+    """Measures a program, by processor time or by instructions, so many times for a median."""
+
+    def __init__(self, program, rounds, instructions, folder):
+        self.words = [program, "--serial", "--max", "16777216"]
+        self.rounds = rounds
+        self.instructions = instructions
+        self.folder = folder
+
+    def write(self, name, lines):
+        """Writes a script, and gives its path."""
+        path = os.path.join(self.folder, name)
+        with open(path, "w") as text:
+            text.writelines(f"{line}\n" for line in lines)
+        return path
+
+    def cost(self, script):
+        """The nanoseconds of processor time, or the instructions, of one run."""
+        if self.instructions:
+            counter = ["valgrind", "--tool=cachegrind", "--cache-sim=no", "--cachegrind-out-file=/dev/null"]
+            _, said = run(counter + self.words, script)
+            return int(re.search(r"I +refs: +([\d,]+)", said)[1].replace(",", ""))
+        used, _ = run(self.words, script)
+        return (used.ru_utime + used.ru_stime) * 1e9
+
+    def more(self, short, long):
+        """How much more a script costs than another: the median of runs that take turns."""
+        return statistics.median(self.cost(long) - self.cost(short) for _ in range(self.rounds))
+
+    def peak(self, script):
+        """The median of the peak memory, in MiB."""
+        words = ["sh", "-c", TELL_PEAK, sys.executable, *self.words]
+        return statistics.median(int(run(words, script)[1]) / 1024 for _ in range(self.rounds))
+
+    def check(self, script):
+        """Ends where a call in a script was not done, and so was not measured."""
+        with open(script, "rb") as given:
+            text = subprocess.run(self.words, stdin=given, stdout=subprocess.PIPE, text=True, check=True).stdout
+        failed = re.search(r"^0:(\d+) (refused|empty|taken|none).*", text, re.MULTILINE)
+        if failed:
+            with open(script) as given:
+                sys.exit(f"{given.read().splitlines()[int(failed[1]) - 1]}: {failed[0]}")
+
+
+def line_costs(meter):
+    """For each number of lines, the cost of one, and the peak memory."""
+    none = meter.write("none", drawn(0))
+    rows = {}
+    for size in SIZES:
+        script = meter.write("lines", drawn(size))
+        rows[size] = meter.more(none, script) / size, meter.peak(script)
+    return rows
+
+
+def numbers(blocks):
+    """The numbers that measured lines may name, over a pool of so many message blocks."""
+    half = (blocks - 4) // 2
+    return {"blocks": half, "last": half - 1, "bytes": 2 * half, "end": 2 * half - 1, "middle": half}
+
+
+def lines_to_fill(filled, blocks):
+    """The lines up to a pool that is filled with one message, or with a queue of messages. README.md describes it."""
+    yield from (f"pool 1 {blocks}", f"class 16 {min(blocks, 4_091)}", "class 4096 4")
+    yield from ("queue 65536 0 s -", "bufcalls 64 1", "worker", "allocb c 16", "setband c 1")
+    if filled == "message":
+        yield from ("allocb a 16", "write a 0 6162")
+        for _ in range(numbers(blocks)["last"]):
+            yield from ("allocb b 16", "write b 0 6162", "linkb a b")
+    else:
+        for place in range(blocks - 4):
+            band = int(place < numbers(blocks)["middle"])
+            yield from ("allocb b 16", "write b 0 61", "settype b 0 M_CTL", f"setband b {band}", "putq 0 b")
+
+
+def round_cost(meter, filled, lines, blocks):
+    """The cost of one round of the lines, those in parentheses not counted. Most take some 50 milliseconds together."""
+
+    def scripts(rounds):
+        every = [lines.format(round=place + 1, **numbers(blocks)) for place in range(rounds)]
+        every = "; ".join(every).split("; ")
+        kept = [line for line in every if line.startswith("(")]
+        for name, some in (("short", kept), ("long", every)):
+            yield meter.write(name, [*lines_to_fill(filled, blocks), *(line.strip("()") for line in some)])
+
+    rounds = 500
+    short, long = scripts(rounds)
+    meter.check(long)
+    if not meter.instructions:
+        one = max(meter.cost(long) - meter.cost(short), 1) / rounds
+        rounds = min(max(rounds, int(5e7 / one)), 100_000)
+        short, long = scripts(rounds)
+    return meter.more(short, long) / rounds
+
+
+def call_costs(meter):
+    """For each round of lines, the words that it measures, and its cost for each size of the pool."""
+    rounds = {}
+    for word, row in WORDS.items():
+        rounds.setdefault((row.filled, row.lines), []).append(word)
+    return [
+        (words, lines, [round_cost(meter, filled, lines, blocks) for blocks in POOLS])
+        for (filled, lines), words in rounds.items()
+    ]
+
+
+def tables(meter, by_line, by_call):
+    """Both tables, in markdown."""
+    unit = "Instructions" if meter.instructions else "Nanoseconds"
+    shown = {name: name.upper() for name in ["round", *numbers(16)]}
+    yield from (f"| Lines | {unit} a line | Peak memory, MiB |", "|---|---|---|")
+    for size, (cost, peak) in by_line.items():
+        yield f"| {size:,} | {cost:,.0f} | {peak:,.1f} |"
+    yield from ("", f"{unit} of a round of lines, at so many message blocks:", "")
+    yield from (f"| Word | Lines | {' | '.join(f'{blocks:,}' for blocks in POOLS)} |", "|---|---|---|---|---|")
+    for words, lines, costs in by_call:
+        code = ", ".join(f"`{line}`" for line in lines.format(**shown).split("; "))
+        named = ", ".join(f"`{word}`" for word in words)
+        yield f"| {named} | {code} | {' | '.join(f'{cost:,.0f}' for cost in costs)} |"
+
+
+def panel(left, top, width, height, title, xs, curves):
+    """One plot with both axes logarithmic. A curve is a label, which may be empty, and a value for each x."""
+    values = [max(value, 1e-3) for _, ys in curves for value in ys]
+    low = math.floor(math.log10(min(values)))
+    high = max(low + 1, math.ceil(math.log10(max(values))))
+
+    def across(x):
+        return left + width * math.log(x / xs[0]) / math.log(xs[-1] / xs[0])
+
+    def down(y):
+        return top + height * (high - math.log10(max(y, 1e-3))) / (high - low)
+
+    yield f'<text x="{left}" y="{top - 12}" font-weight="bold">{title}</text>'
+    for power in range(low, high + 1):
+        y = down(10**power)
+        yield f'<line x1="{left}" y1="{y:.1f}" x2="{left + width}" y2="{y:.1f}" stroke="#ddd"/>'
+        yield f'<text x="{left - 6}" y="{y + 4:.1f}" text-anchor="end">{10**power:,}</text>'
+    for x in xs:
+        yield f'<text x="{across(x):.1f}" y="{top + height + 16}" text-anchor="middle">{x:,}</text>'
+    lowest = math.inf
+    for label, ys in sorted(curves, key=lambda curve: curve[1][-1]):
+        points = " ".join(f"{across(x):.1f},{down(y):.1f}" for x, y in zip(xs, ys))
+        yield f'<polyline points="{points}" fill="none" stroke="{"#1f5fa8" if label else "#bbb"}" stroke-width="1.5"/>'
+        if label:
+            lowest = min(down(ys[-1]) + 4, lowest - 12)
+            yield f'<text x="{left + width + 6}" y="{lowest:.1f}">{label}</text>'
+
+
+def plot(meter, by_line, by_call):
+    """Both tables as a picture. Only words are named that cost four times as much at 4,095 message blocks as at 16."""
+    unit = "Instructions" if meter.instructions else "Nanoseconds"
+    costs, peaks = zip(*by_line.values())
+    growing = [(", ".join(words) if costs[-1] > 4 * costs[0] else "", costs) for words, _, costs in by_call]
+    yield '<svg xmlns="http://www.w3.org/2000/svg" width="900" height="520" font-family="sans-serif" font-size="11">'
+    yield '<rect width="900" height="520" fill="white"/>'
+    yield from panel(70, 40, 240, 180, f"{unit} a line, by lines", SIZES, [(f"{costs[-1]:,.0f}", costs)])
+    yield from panel(70, 290, 240, 180, "Peak memory in MiB, by lines", SIZES, [(f"{peaks[-1]:,.0f}", peaks)])
+    yield from panel(430, 40, 310, 430, f"{unit} a round, by message blocks", POOLS, growing)
+    yield "</svg>"
+
+
+def rewrite(lines, picture):
+    """Puts the tables between the marks of docs/COST.md, and the plot into docs/cost.svg."""
+    page = os.path.join(DOCS, "COST.md")
+    with open(page) as text:
+        before, rest = text.read().split(BEGIN)
+    written = "\n".join([*lines, "", "![How the cost grows](cost.svg)"])
+    with open(page, "w") as text:
+        text.write(f"{before}{BEGIN}\n{written}\n\n{END}{rest.split(END)[1]}")
+    with open(os.path.join(DOCS, "cost.svg"), "w") as text:
+        text.writelines(f"{line}\n" for line in picture)
+
+
+def main():
+    """Measures, prints, and rewrites docs/ where that was asked for."""
+    words = argparse.ArgumentParser(description=__doc__)
+    words.add_argument("program", help="the path of strm")
+    words.add_argument("--rounds", type=int, default=5, help="runs for each median")
+    words.add_argument("--instructions", action="store_true", help="instructions in place of time, by valgrind")
+    words.add_argument("--write", action="store_true", help="put tables and plot into docs/")
+    given = words.parse_args()
+    if given.instructions and not shutil.which("valgrind"):
+        sys.exit("valgrind is not there")
+    rounds = 1 if given.instructions else given.rounds
+    with tempfile.TemporaryDirectory() as folder:
+        meter = Meter(os.path.abspath(given.program), rounds, given.instructions, folder)
+        by_line, by_call = line_costs(meter), call_costs(meter)
+    lines = list(tables(meter, by_line, by_call))
+    print("\n".join(lines))
+    if given.write:
+        rewrite(lines, plot(meter, by_line, by_call))
+
+
+if __name__ == "__main__":
+    main()
