@@ -1,9 +1,12 @@
 -- A text cut at its first separator.
-use Rattle.std.proofs.Common.{◌≡◌, ℕ, ◌+◌, ◌-◌, ◌≤◌, Bool, true, false, not, cond, List, [], ◌∷◌, ◌++◌, length, take, drop, None, Some, refl, sym, ap, ◌∙◌, arith}
+use Rattle.std.proofs.Common.{◌≡◌, ℕ, ◌+◌, ◌-◌, ◌≤◌, Option, inl, inr, Bool, true, false, not, cond, List, [], ◌∷◌, ◌++◌, length, take, drop, None, Some, refl, sym, ap, ◌∙◌, arith}
 use Rattle.std.specs.List.{slice_split, onto_first, position, position_or_len, prefix_len}
-use Rattle.std.proofs.lemmas.Bool.{ltb-true, ltb-false}
+use Rattle.std.proofs.lemmas.Bool.{cases_Bool, cond-false, cond-true, le-ltb, lt-ltb, ltb-true, ltb-false}
 use Rattle.std.proofs.lemmas.List.{take_rest, take_at}
 use Rattle.std.proofs.lemmas.List.Splits.{slice_split_first}
+use Rattle.std.proofs.lemmas.List.Sums.{position_or_len_is}
+use Rattle.std.specs.Prelude.{nat_lt}
+use Rattle.memchr.specs.Find.{IsFirstByte}
 use Rattle.std.proofs.lemmas.Option.{cond_some}
 
 slice_split-uncut : {X : Type 0} (p : X → Bool) (xs : List X) → length xs ≤ position_or_len p xs → slice_split p xs ≡ xs ∷ []
@@ -33,3 +36,17 @@ slice_split-Some p xs at d found =
 
 pub take-front : {X : Type 0} (n : ℕ) (xs ys all : List X) → xs ++ ys ≡ all → length xs ≡ n → xs ≡ take n all
 take-front n xs ys all joined count = sym (ap (take n) (sym joined) ∙ take_at xs ys n count)
+
+fails : {b : Bool} → ¬ b ≡ true → b ≡ false
+fails {b} never = elim (cases_Bool b) [ inl passes ↦ absurd (never passes) | inr is ↦ is ]
+
+-- the first place at which a byte passes, as a search tells it
+pub position-first : (p : ℕ → Bool) (bytes : List ℕ) (place : Option ℕ) → IsFirstByte p bytes place → position p bytes ≡ place
+position-first p bytes None nowhere =
+    let past : position_or_len p bytes ≡ length bytes =
+    position_or_len_is p bytes (length bytes) 0 (omega arith) (λ k below. fails (nowhere k (omega arith) below)) (λ inside. absurd (omega (arith, inside))) in
+    cond-false (nat_lt (position_or_len p bytes) (length bytes)) _ _ (le-ltb (position_or_len p bytes) (length bytes) (omega (arith, past)))
+position-first p bytes (Some k) (first, passes) =
+    let at : position_or_len p bytes ≡ k =
+    position_or_len_is p bytes k 0 (omega (arith, first.high)) (λ i below. fails (first.before i (omega arith) below)) (λ inside. passes) in
+    cond-true (nat_lt (position_or_len p bytes) (length bytes)) _ _ (lt-ltb (position_or_len p bytes) (length bytes) (omega (arith, at, first.high))) ∙ ap Some at

@@ -4,21 +4,20 @@ use Rattle.strm_driver.specs.declared.verb.Verb.TheVariants as verbs
 use Rattle.strm_driver.specs.declared.word.Word.{Word}
 use Rattle.strm_driver.specs.declared.word.Word.TheVariants as words
 
--- all first words, as a script has them
+-- all first words, as a script has them, those that scripts have most of first
 abbrev pub all_words : List (List ℕ × Word)
 all_words =
-    (codes "pool", words.Pool)
-    ∷ (codes "class", words.Class)
-    ∷ (codes "queue", words.Queue)
-    ∷ (codes "bufcalls", words.Bufcalls)
-    ∷ (codes "worker", words.Worker)
-    ∷ (codes "allocb", words.Command verbs.Allocb)
+    (codes "allocb", words.Command verbs.Allocb)
+    ∷ (codes "write", words.Command verbs.Write)
+    ∷ (codes "putq", words.Command verbs.Putq)
+    ∷ (codes "getq", words.Command verbs.Getq)
+    ∷ (codes "freemsg", words.Command verbs.Freemsg)
+    ∷ (codes "census", words.Command verbs.Census)
     ∷ (codes "testb", words.Command verbs.Testb)
     ∷ (codes "dupb", words.Command verbs.Dupb)
     ∷ (codes "dupmsg", words.Command verbs.Dupmsg)
     ∷ (codes "copyb", words.Command verbs.Copyb)
     ∷ (codes "copymsg", words.Command verbs.Copymsg)
-    ∷ (codes "write", words.Command verbs.Write)
     ∷ (codes "settype", words.Command verbs.Settype)
     ∷ (codes "setband", words.Command verbs.Setband)
     ∷ (codes "linkb", words.Command verbs.Linkb)
@@ -31,11 +30,8 @@ all_words =
     ∷ (codes "read", words.Command verbs.Read)
     ∷ (codes "block", words.Command verbs.Block)
     ∷ (codes "freeb", words.Command verbs.Freeb)
-    ∷ (codes "freemsg", words.Command verbs.Freemsg)
-    ∷ (codes "putq", words.Command verbs.Putq)
     ∷ (codes "putbq", words.Command verbs.Putbq)
     ∷ (codes "insq", words.Command verbs.Insq)
-    ∷ (codes "getq", words.Command verbs.Getq)
     ∷ (codes "rmvq", words.Command verbs.Rmvq)
     ∷ (codes "flushq", words.Command verbs.Flushq)
     ∷ (codes "flushband", words.Command verbs.Flushband)
@@ -48,7 +44,11 @@ all_words =
     ∷ (codes "bufcall", words.Command verbs.Bufcall)
     ∷ (codes "unbufcall", words.Command verbs.Unbufcall)
     ∷ (codes "ready", words.Command verbs.Ready)
-    ∷ (codes "census", words.Command verbs.Census)
+    ∷ (codes "pool", words.Pool)
+    ∷ (codes "class", words.Class)
+    ∷ (codes "queue", words.Queue)
+    ∷ (codes "bufcalls", words.Bufcalls)
+    ∷ (codes "worker", words.Worker)
     ∷ []
 
 -- the word that a text is in a table, byte for byte, or none

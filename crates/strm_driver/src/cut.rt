@@ -1,26 +1,52 @@
-//! A text cut at a byte.
-ghost use Rattle.std.specs.Prelude.{◌≡◌, ◌==◌, ◌∷◌, map, take, position};
+//! A text cut at line ends and at spaces.
+ghost use Rattle.std.specs.Prelude.{◌≡◌, ◌<◌, ◌==◌, ◌∷◌, ℕ, IfSome, length, map, take, position};
 ghost use Rattle.std.specs.List.{slice_split};
 ghost use Rattle.std.specs.Option.{option_copied};
 ghost use Rattle.strm_driver.specs.Cut.{pieces_behind};
 
 use arrayvec::ArrayVec;
+use memchr::memchr;
 
-// Where the first such byte stands.
-fn place_of(text: &[u8], byte: u8) -> Option<usize>
-    ensures { result ≡ position (λ b. b == byte) text.now }
+// The bytes before a place, and those behind it where there is one.
+fn cut_at(text: &[u8], place: Option<usize>) -> (&[u8], Option<&[u8]>)
+    requires { IfSome place (λ at. at < length text.now) }
+    ensures { (byte : ℕ) → place ≡ position (λ b. b == byte) text.now
+        → slice_split (λ b. b == byte) text.now ≡ result.0.now ∷ pieces_behind byte (option_copied result.1) }
 {
-    text.iter().position(|b| *b == byte)
-}
-
-/// The bytes before the first such byte, and those behind it where there is one.
-pub fn cut_at(text: &[u8], byte: u8) -> (&[u8], Option<&[u8]>)
-    ensures { slice_split (λ b. b == byte) text.now ≡ result.0.now ∷ pieces_behind byte (option_copied result.1) }
-{
-    match place_of(text, byte) {
+    match place {
         Some(at) => (&text[..at], Some(&text[at + 1..])),
         None => (text, None),
     }
+}
+
+// Where the first line end stands.
+fn line_end(text: &[u8]) -> Option<usize>
+    ensures place { result ≡ position (λ b. b == 10) text.now }
+    ensures there { IfSome result (λ at. at < length text.now) }
+{
+    memchr(b'\n', text)
+}
+
+// Where the first space stands. Words are short, so that no search pays.
+fn space(text: &[u8]) -> Option<usize>
+    ensures place { result ≡ position (λ b. b == 32) text.now }
+    ensures there { IfSome result (λ at. at < length text.now) }
+{
+    text.iter().position(|b| *b == b' ')
+}
+
+/// The bytes before the first line end, and those behind it where there is one.
+pub fn cut_line(text: &[u8]) -> (&[u8], Option<&[u8]>)
+    ensures { slice_split (λ b. b == 10) text.now ≡ result.0.now ∷ pieces_behind 10 (option_copied result.1) }
+{
+    cut_at(text, line_end(text))
+}
+
+/// The bytes before the first space, and those behind it where there is one.
+pub fn cut_word(text: &[u8]) -> (&[u8], Option<&[u8]>)
+    ensures { slice_split (λ b. b == 32) text.now ≡ result.0.now ∷ pieces_behind 32 (option_copied result.1) }
+{
+    cut_at(text, space(text))
 }
 
 /// The first five words of a text, of which each space ends one.
@@ -32,7 +58,7 @@ pub fn words_of(text: Option<&[u8]>) -> ArrayVec<&[u8], 5>
     while let Some(some) = rest
         && !words.is_full()
     {
-        let (word, behind) = cut_at(some, b' ');
+        let (word, behind) = cut_word(some);
         words.push(word);
         rest = behind;
     }

@@ -4,7 +4,7 @@ ghost use Rattle.strm_driver.specs.Script.{Numbered, is_full, with_words, with_e
 ghost use Rattle.strm_driver.specs.Draft.{StandsFor, Takes, HasRoom, Reads, with_said};
 ghost use Rattle.strm_driver.specs.Parsed.{Parses};
 
-use crate::cut::{cut_at, words_of};
+use crate::cut::{cut_word, words_of};
 use crate::fault::{Fault, Kind, ParseFault};
 use crate::limits::MOST_COMMAND_LINES;
 use crate::line::{Entry, Line, entry_of};
@@ -90,7 +90,7 @@ impl Draft {
         if is_skipped(text) {
             return Ok(None);
         }
-        let (first, rest) = cut_at(text, b' ');
+        let (first, rest) = cut_word(text);
         let entry = self.entry_of_words(first, words_of(rest).as_slice())?;
         Ok(Some(entry))
     }

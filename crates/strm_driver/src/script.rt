@@ -4,7 +4,7 @@ ghost use Rattle.strm_driver.specs.Script.{may_stand, script_of};
 ghost use Rattle.strm_driver.specs.Parsed.{Parses};
 ghost use Rattle.strm_driver.specs.Limits.{most_input_bytes};
 
-use crate::cut::cut_at;
+use crate::cut::cut_line;
 use crate::draft::Draft;
 use crate::fault::{Fault, Kind, ParseFault};
 use crate::line::Line;
@@ -60,7 +60,7 @@ pub fn parse(alloc: Global, bytes: &[u8]) -> Result<Script, ParseFault>
     let mut text = bytes;
     let mut number: u32 = 1;
     loop {
-        let (line, rest) = cut_at(text, b'\n');
+        let (line, rest) = cut_line(text);
         match rest {
             Some(rest) => {
                 draft.read(number, line)?;

@@ -1,9 +1,10 @@
 //! The text of a run: a line for each reply, and then the report.
-ghost use Rattle.std.specs.Prelude.{◌≡◌, ◌++◌, IfOk, IsTrue, string_bytes};
+ghost use Rattle.std.specs.Prelude.{◌≡◌, ◌++◌, IfOk, IsTrue, codes, decimal, string_bytes};
 ghost use Rattle.strm_data.specs.DataStore.{class_infos};
-ghost use Rattle.strm_driver.specs.Text.{reply_line, blocks_text, class_text, classes_text, queue_text, band_text, bands_text, queues_text, run_text, wishes_text, report_text};
+ghost use Rattle.strm_driver.specs.Text.{reply_line, reply_text, blocks_text, class_text, classes_text, queue_text, band_text, bands_text, queues_text, run_text, wishes_text, report_text};
 ghost use Rattle.strm_pool.specs.PoolValue.{has_queue, queued};
 
+use itoa::Buffer;
 use std::alloc::AllocError;
 use std::fmt;
 use strm_pool::{BandInfo, BlockInfo, Census, ClassInfo, Pool, QueueInfo, Reply};
@@ -83,12 +84,33 @@ impl fmt::Display for Shown<'_> {
     }
 }
 
+// Appends a number.
+fn number_text(text: &mut String, number: u32) -> Result<(), AllocError>
+    ensures { IfOk result (λ _. string_bytes text.new ≡ string_bytes text.old ++ decimal number) }
+{
+    text.push_str(Buffer::new().format(number))
+}
+
+// Appends what a line says of its reply, and ends the line.
+fn answer_text(text: &mut String, reply: &Reply) -> Result<(), AllocError>
+    ensures { IfOk result (λ _. string_bytes text.new ≡ string_bytes text.old ++ (codes " " ++ (reply_text reply.now ++ codes "\n"))) }
+{
+    // Most replies say no more.
+    if let Reply::Done = reply {
+        return text.push_str(" ok\n");
+    }
+    let shown = Shown(reply);
+    writeln!(text, " {shown}")
+}
+
 /// Appends the line for a worker's reply to a line of the script.
 pub fn reply_text(text: &mut String, worker: u8, line: u32, reply: &Reply) -> Result<(), AllocError>
     ensures { IfOk result (λ _. string_bytes text.new ≡ string_bytes text.old ++ reply_line worker line reply.now) }
 {
-    let shown = Shown(reply);
-    writeln!(text, "{worker}:{line} {shown}")
+    number_text(text, u32::from(worker))?;
+    text.push_str(":")?;
+    number_text(text, line)?;
+    answer_text(text, reply)
 }
 
 // Appends the report's line on message blocks.

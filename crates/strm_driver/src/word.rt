@@ -16,20 +16,20 @@ pub enum Word {
     Command(Verb),
 }
 
-// All first words, as a script has them.
+// All first words, as a script has them. They are looked for in this order, and those that scripts have most of come
+// first.
 const WORDS: &[(&str, Word)] = &[
-    ("pool", Word::Pool),
-    ("class", Word::Class),
-    ("queue", Word::Queue),
-    ("bufcalls", Word::Bufcalls),
-    ("worker", Word::Worker),
     ("allocb", Word::Command(Verb::Allocb)),
+    ("write", Word::Command(Verb::Write)),
+    ("putq", Word::Command(Verb::Putq)),
+    ("getq", Word::Command(Verb::Getq)),
+    ("freemsg", Word::Command(Verb::Freemsg)),
+    ("census", Word::Command(Verb::Census)),
     ("testb", Word::Command(Verb::Testb)),
     ("dupb", Word::Command(Verb::Dupb)),
     ("dupmsg", Word::Command(Verb::Dupmsg)),
     ("copyb", Word::Command(Verb::Copyb)),
     ("copymsg", Word::Command(Verb::Copymsg)),
-    ("write", Word::Command(Verb::Write)),
     ("settype", Word::Command(Verb::Settype)),
     ("setband", Word::Command(Verb::Setband)),
     ("linkb", Word::Command(Verb::Linkb)),
@@ -42,11 +42,8 @@ const WORDS: &[(&str, Word)] = &[
     ("read", Word::Command(Verb::Read)),
     ("block", Word::Command(Verb::Block)),
     ("freeb", Word::Command(Verb::Freeb)),
-    ("freemsg", Word::Command(Verb::Freemsg)),
-    ("putq", Word::Command(Verb::Putq)),
     ("putbq", Word::Command(Verb::Putbq)),
     ("insq", Word::Command(Verb::Insq)),
-    ("getq", Word::Command(Verb::Getq)),
     ("rmvq", Word::Command(Verb::Rmvq)),
     ("flushq", Word::Command(Verb::Flushq)),
     ("flushband", Word::Command(Verb::Flushband)),
@@ -59,7 +56,11 @@ const WORDS: &[(&str, Word)] = &[
     ("bufcall", Word::Command(Verb::Bufcall)),
     ("unbufcall", Word::Command(Verb::Unbufcall)),
     ("ready", Word::Command(Verb::Ready)),
-    ("census", Word::Command(Verb::Census)),
+    ("pool", Word::Pool),
+    ("class", Word::Class),
+    ("queue", Word::Queue),
+    ("bufcalls", Word::Bufcalls),
+    ("worker", Word::Worker),
 ];
 
 // The word that a text is in a table, or none.

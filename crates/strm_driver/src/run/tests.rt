@@ -14,6 +14,18 @@ const SCRIPT: &[u8] =
 const TEXT: &[u8] =
     b"0:6 ok\n0:7 ok\n0:8 ok\n0:9 census 7 1 0\n0:10 refused 1 TooLarge\n0:11 ok\nblocks free=7 queued=0 held=1 total=8\ndata size=16 free=3 total=4\nqueue 0 msgs=0 bytes=0 read=0 noenable=0 enabled=1\nrun 0\nwishes -\n";
 
+// The stored run: six lines of a header, and then commands.
+const STORED: &[u8] =
+    b"pool 7 8\nclass 16 4\nqueue 10 4 s 1\nqueue 10 4 s -\nbufcalls 0 1\nworker\nallocb a 4\n\
+      write a 0 00010203\nallocb b 3\nwrite b 0 040506\nallocb c 3\nwrite c 0 070809\nputq 1 a\n\
+      putq 1 b\nbcanput 1 0\nputq 1 c\nbcanput 1 0\ngetq 1 a\ngetq 1 b\nread b 0\nservice\nservice\n\
+      service\nfreemsg a\n";
+
+// The replies to its commands.
+const REPLIES: &[u8] =
+    b"0:7 ok\n0:8 ok\n0:9 ok\n0:10 ok\n0:11 ok\n0:12 ok\n0:13 ok\n0:14 ok\n0:15 yes\n0:16 ok\n\
+      0:17 no\n0:18 ok\n0:19 ok\n0:20 bytes 040506\n0:21 queue 1\n0:22 queue 0\n0:23 none\n0:24 ok\n";
+
 const MAX: u32 = 1_048_576;
 
 #[test]
@@ -94,4 +106,70 @@ fn tells_the_first_fault(rt: HostRuntime) {
     assert!(rt; fault_of(&rt, MAX, b"pool 1 0\nalloc a 3\n") == Some(RunFault::Script(unknown)));
     let unlawful = b"pool 1 0\nclass 16 4\nqueue 10 4 s -\nbufcalls 2 0\nworker\n";
     assert!(rt; fault_of(&rt, MAX, unlawful) == Some(RunFault::Config(Which::Mblks)));
+}
+
+// How many lines a text has.
+fn count_lines(text: &[u8]) -> u32 {
+    let mut count: u32 = 0;
+    for byte in text {
+        if *byte == b'\n' {
+            count = count.wrapping_add(1);
+        }
+    }
+    count
+}
+
+// The fault of the beginning of a lawful script with a header of six lines, if there is one.
+fn fault_of_prefix(prefix: &[u8]) -> Option<RunFault> {
+    let whole = count_lines(prefix);
+    let kind = match prefix {
+        [.., last] if *last != b'\n' => Kind::Cut,
+        _ if whole < 6 => Kind::Missing,
+        _ => return None,
+    };
+    let line = whole.wrapping_add(1);
+    Some(RunFault::Script(Fault { line, kind }))
+}
+
+// Whether a text begins with so many lines of the replies, and then goes on with the report.
+fn has_replies(text: &[u8], count: u32) -> bool {
+    let mut left = count;
+    let mut at = 0;
+    for byte in REPLIES {
+        if left == 0 {
+            break;
+        }
+        if text.get(at) != Some(byte) {
+            return false;
+        }
+        at = at.wrapping_add(1);
+        if *byte == b'\n' {
+            left = left.wrapping_sub(1);
+        }
+    }
+    left == 0 && text.get(at) == Some(&b'b')
+}
+
+#[test]
+fn every_prefix_is_refused_or_served(rt: HostRuntime) {
+    for cut in 0..=STORED.len() {
+        let prefix = &STORED[..cut];
+        let mut writer = choppy_writer(rt.alloc(), 100, None, true);
+        let fault = run(
+            &rt,
+            Mode::Serial,
+            MAX,
+            &mut Watched::new(slow_reader(prefix, None)),
+            &mut Watched::new(&mut writer),
+        )
+        .err();
+        let wanted = fault_of_prefix(prefix);
+        assert!(rt; fault == wanted, "of {cut} bytes");
+        let commands = count_lines(prefix).saturating_sub(6);
+        assert!(rt;
+            wanted.is_some() || has_replies(&writer.got, commands),
+            "of {cut} bytes"
+        );
+        assert!(rt; wanted.is_none() || writer.got.is_empty(), "of {cut} bytes");
+    }
 }

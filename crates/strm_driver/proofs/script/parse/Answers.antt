@@ -10,7 +10,7 @@ pub loop-rest-preserved : goal.loop-rest-preserved
 loop-rest-preserved c =
     let so_far = c.loop-rest.invariant in
     continues-line c.loop-rest.draft c.loop-rest.number c.loop-rest.text.now c.args.bytes.now _ c.in-Some.rest.now so_far c.read.new.self
-    (rw c.in-Some.is at c.cut_at.ensures)
+    (rw c.in-Some.is at c.cut_line.ensures)
     (c.in_ok-read-in-Some.ensures so_far.es so_far.stands)
 
 pub returns-in_err-read-in-Some : goal.returns-in_err-read-in-Some
@@ -19,5 +19,5 @@ returns-in_err-read-in-Some c =
     let found = err_from_is_err_and c.from_residual.result c.from_residual.ensures.1 in
     rw (found.1, found.2)
     (stops-line c.loop-rest.draft c.loop-rest.number c.loop-rest.text.now c.args.bytes.now _ c.in-Some.rest.now so_far c.read.new.self _
-    (rw c.in-Some.is at c.cut_at.ensures)
+    (rw c.in-Some.is at c.cut_line.ensures)
     (c.in_err-read-in-Some.ensures so_far.es so_far.stands))
