@@ -8,5 +8,6 @@ pub mod Applied
 pub mod Shaped
 pub mod Queued
 pub mod Waiting
+pub mod Wishing
 pub mod Acting
 pub mod Kept

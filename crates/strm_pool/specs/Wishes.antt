@@ -1,6 +1,6 @@
 -- Wishes for message blocks: what each call on them does.
-use Rattle.std.specs.Prelude.{ℕ, ◌+◌, Bool, not, ◌==◌, nat_le, nat_lt, List, [], ◌∷◌, ◌++◌, length, Option, None, Some, Ok, Err, slice_get, if◌then◌else◌}
-use Rattle.std.specs.List.{position, remove}
+use Rattle.std.specs.Prelude.{ℕ, ◌+◌, ◌<◌, ◌≤◌, Bool, not, ◌==◌, nat_le, nat_lt, [], ◌∷◌, ◌++◌, length, Option, None, Some, Ok, Err, slice_get, if◌then◌else◌}
+use Rattle.std.specs.List.{All, AllPairs, position, remove}
 use Rattle.strm_data.specs.declared.refusal.Refusal.TheVariants.{Full, IdsSpent, NotPending, TooLarge}
 use Rattle.strm_data.specs.Classes.{fits_a_class}
 use Rattle.strm_mblk.specs.BlockCalls as blocks
@@ -60,3 +60,20 @@ take_ready v = readied v (position (is_ready v) v.wishes.pending)
 -- the wish at place k, in order of recording
 abbrev pub wish_at : ℕ → PoolValue → Option Wish
 wish_at k v = slice_get v.wishes.pending k
+
+-- ---- the law
+
+-- an id is below the next one, where there is a next one
+abbrev pub IsGiven : Option ℕ → ℕ → Type 0
+IsGiven None id = Unit {0}
+IsGiven (Some next) id = id < next
+
+-- the id of one wish is below that of another
+abbrev pub Rises : Wish → Wish → Type 0
+Rises first second = first.0 < second.0
+
+-- there are no more wishes than may be recorded, and their ids rise in order of recording, below the next one
+pub record AreLawful (s : WishState) : Type 0 where
+  pub few : length s.pending ≤ s.most
+  pub rising : AllPairs Rises s.pending
+  pub given : All (λ w. IsGiven s.next w.0) s.pending

@@ -12,6 +12,7 @@ ghost use Rattle.strm_mblk.specs.Shelves.{heads_at};
 ghost use Rattle.strm_pool.specs.Config.{fault_of};
 ghost use Rattle.strm_pool.specs.Limits.{most_wishes};
 ghost use Rattle.strm_pool.specs.PoolValue.{Opens, has_queue, opening, owns};
+ghost use Rattle.strm_pool.specs.Wishes as wishes;
 ghost use Rattle.strm_queue.specs.Flow.{band_count, bytes_on, every_band, spec_at};
 ghost use Rattle.strm_queue.specs.Limits.{most_queues};
 ghost use Rattle.strm_queue.specs.QueueSpecs.{are_lawful};
@@ -116,7 +117,9 @@ impl Pool {
         ensures marks { (queue : ℕ) → AreMarksLawful self.now.queues self.now.arena queue }
         // The bytes of a queue's bands add up to those of its messages.
         ensures bytes { (queue : ℕ) → sum_by (λ band. band_count self.now.arena.store band (shelf_at self.now.arena queue)) every_band ≡ bytes_on (shelf_at self.now.arena queue) }
-        // There are `MOST_WISHES` wishes at most.
+        // There are no more wishes than the configuration allows, and their ids rise in order of recording, below the
+        // next one. There are `MOST_WISHES` at most.
+        ensures lawful_wishes { wishes.AreLawful self.now.wishes }
         ensures few_wishes { length self.now.wishes.pending ≤ most_wishes }
         // No queue is on the run list twice, each that is has a service procedure, and there are no more of them than queues.
         ensures short { length self.now.queues.run ≤ length self.now.queues.specs }
@@ -125,7 +128,7 @@ impl Pool {
     {
         self.blocks.lawful();
         self.queues.lawful(&self.blocks);
-        let _ = self.wishes.items();
+        self.wishes.lawful();
     }
 
     /// Whether the token carries this pool's id and a held message has its head and its number of blocks.

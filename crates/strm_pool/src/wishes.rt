@@ -3,7 +3,7 @@ ghost use Rattle.std.specs.Prelude.{◌≡◌, ◌<◌, ◌≤◌, IfSome, Some,
 ghost use Rattle.std.specs.List.{position};
 ghost use Rattle.strm_mblk.specs.Given.{answer_of, value_after};
 ghost use Rattle.strm_pool.specs.Limits.{most_wishes};
-ghost use Rattle.strm_pool.specs.Wishes.{has_id, recorded, wishes_without};
+ghost use Rattle.strm_pool.specs.Wishes.{AreLawful, has_id, recorded, wishes_without};
 
 use crate::limits::MOST_WISHES;
 use arrayvec::ArrayVec;
@@ -25,11 +25,11 @@ impl Model for Wishes {
 
     ghost Value = { WishState };
 
-    ghost use Rattle.strm_pool.specs.WishesLayout.{wishes_in, IsRoomy};
+    ghost use Rattle.strm_pool.specs.WishesLayout.{wishes_in, IsSound};
 
     ghost view = { wishes_in };
 
-    ghost invariant = { IsRoomy };
+    ghost invariant = { IsSound };
 }
 
 impl Wishes {
@@ -45,10 +45,17 @@ impl Wishes {
         }
     }
 
+    // What holds of all wishes, whatever calls made them so. Does nothing.
+    pub(crate) fn lawful(&self)
+        ensures lawful { AreLawful self.now }
+        ensures few { length self.now.pending ≤ most_wishes }
+    {
+        let _ = &self.pending;
+    }
+
     // The wishes, the one that was recorded first in front.
     pub(crate) fn items(&self) -> &[(u32, u32)]
-        ensures value { result.now ≡ self.now.pending }
-        ensures few { length result.now ≤ most_wishes }
+        ensures { result.now ≡ self.now.pending }
     {
         self.pending.as_slice()
     }
