@@ -1,12 +1,3 @@
-pub mod Constants
-pub mod Forms
-pub mod Cuts
-pub mod Shapes
-pub mod Entries
-pub mod Drafts
-pub mod Lines
-pub mod Scripts
 pub mod Merges
 pub mod Serving
-pub mod Reports
 pub mod Rows

@@ -1,8 +1,9 @@
 -- Whole scripts, computed by the definitions alone: the texts that they give, and their first faults. Nothing else
 -- rests on these rows.
-use Rattle.std.proofs.Common.{◌≡◌, ℕ, pos, List, [], ◌∷◌, ◌++◌, map, Option, None, Some, Result, Ok, Err, refl}
+use Rattle.std.proofs.Common.{◌≡◌, ℕ, pos, List, [], ◌∷◌, ◌++◌, map, replicate, Option, None, Some, Result, Ok, Err, refl}
 use Rattle.std.specs.Prelude.{codes, neg_ℤ}
 use Rattle.std.specs.Fmt.{digits}
+use Rattle.std.specs.List.{flat_map}
 use Rattle.strm_data.specs.declared.msg_type.MsgType.TheVariants.{MProto, MIocdata}
 use Rattle.strm_pool.specs.declared.call.Call.{Call}
 use Rattle.strm_pool.specs.declared.call.Call.TheVariants.{Testb, Dupb, Settype, Rmvb, Adjmsg, Pullupmsg, Read, Putbq, Insq, Rmvq, Flushq, Flushband, Bcanput, Qsize, Qenable, Noenable, Enableok, Service, Bufcall, Unbufcall, Ready}
@@ -11,15 +12,16 @@ use Rattle.strm_pool.specs.declared.reply.Reply.TheVariants as replies
 use Rattle.strm_pool.specs.declared.config.Which.TheVariants.{Mblks}
 use Rattle.strm_queue.specs.declared.flush.Flush.TheVariants.{All, Data}
 use Rattle.strm_queue.specs.Flow.{every_band}
-use Rattle.strm_driver.specs.declared.fault.Fault.{Fault}
-use Rattle.strm_driver.specs.declared.fault.Kind.{Kind}
-use Rattle.strm_driver.specs.declared.fault.Kind.TheVariants.{Cut, Unknown, Order, Toomany, Shape, Number, Register, Word, Hex, Missing}
+use Rattle.strm_script.specs.declared.fault.Fault.{Fault}
+use Rattle.strm_script.specs.declared.fault.Kind.{Kind}
+use Rattle.strm_script.specs.declared.fault.Kind.TheVariants.{Cut, Unknown, Order, Toomany, Shape, Number, Register, Word, Hex, Missing}
 use Rattle.strm_driver.specs.declared.fault.RunFault.{RunFault}
 use Rattle.strm_driver.specs.declared.fault.RunFault.TheVariants.{Script, Config, TooLong}
-use Rattle.strm_driver.specs.Merge.{serial_merge}
+use Rattle.strm_script.specs.Merge.{serial_merge}
 use Rattle.strm_driver.specs.Outcome.{fault_of_input}
-use Rattle.strm_driver.specs.Script.{ScriptValue, script_of}
-use Rattle.strm_driver.specs.Text.{reply_text, text_of}
+use Rattle.strm_script.specs.declared.script.Script.{Script as ScriptValue}
+use Rattle.strm_script.specs.Script.{script_of}
+use Rattle.strm_script.specs.Text.{reply_text, text_of}
 
 -- an input's first fault, or else the text of its script under the serial merge
 abbrev served : Option RunFault → Result ScriptValue Fault → Result (List ℕ) RunFault
@@ -47,6 +49,11 @@ pub first-run : run (H ++ codes "allocb a 3\nwrite a 0 616263\nputq 0 a\ngetq 0 
     ≡ Ok (codes "0:7 ok\n0:8 ok\n0:9 ok\n0:10 ok\n0:11 census 7 0 1\n0:12 ok\n0:13 census 8 0 0\nblocks free=8 queued=0 held=0 total=8\ndata size=16 free=4 total=4\ndata size=64 free=2 total=2\nqueue 0 msgs=0 bytes=0 read=0 noenable=0 enabled=1\nrun 0\nwishes -\n")
 unfolding digits every_band
 first-run = refl
+
+pub two-sections : run (H ++ codes "allocb a 3\nworker\nfreemsg a\nallocb a 4\ncensus\n")
+    ≡ Ok (codes "0:7 ok\n1:9 empty\n1:10 ok\n1:11 census 6 0 2\nblocks free=6 queued=0 held=2 total=8\ndata size=16 free=2 total=4\ndata size=64 free=2 total=2\nqueue 0 msgs=0 bytes=0 read=1 noenable=0 enabled=0\nrun -\nwishes -\n")
+unfolding digits every_band
+two-sections = refl
 
 pub empty-pool : run H ≡ Ok (codes "blocks free=8 queued=0 held=0 total=8\ndata size=16 free=4 total=4\ndata size=64 free=2 total=2\nqueue 0 msgs=0 bytes=0 read=1 noenable=0 enabled=0\nrun -\nwishes -\n")
 unfolding digits every_band
@@ -132,7 +139,7 @@ unknown = refl
 pub order : run (H ++ codes "class 16 4\n") ≡ faulty 7 Order
 order = refl
 
-pub toomany : run (H ++ codes "worker\n") ≡ faulty 7 Toomany
+pub toomany : run (H ++ flat_map {X = ℕ} (λ n. codes "worker\n") (replicate 16 0)) ≡ faulty 22 Toomany
 toomany = refl
 
 pub shape : run (H ++ codes "allocb  a 1\n") ≡ faulty 7 Shape

@@ -2,15 +2,16 @@
 use Rattle.std.specs.Prelude.{◌≡◌, ℕ, nat_lt, List, ◌∷◌, length, Option, None, Some, Result, Ok, Err, IsOkAnd, if◌then◌else◌}
 use Rattle.std.specs.Option.{option_map}
 use Rattle.strm_pool.specs.Config.{fault_of}
-use Rattle.strm_driver.specs.declared.fault.Fault.{Fault}
+use Rattle.strm_script.specs.declared.fault.Fault.{Fault}
 use Rattle.strm_driver.specs.declared.fault.RunFault.{RunFault}
 use Rattle.strm_driver.specs.declared.fault.RunFault.TheVariants.{TooLong, Script, Config}
-use Rattle.strm_driver.specs.declared.line.Line.{Line}
+use Rattle.strm_shared.specs.declared.line.Line.{Line}
 use Rattle.strm_driver.specs.declared.run.Mode.{Mode}
 use Rattle.strm_driver.specs.declared.run.Mode.TheVariants.{Serial, Workers}
-use Rattle.strm_driver.specs.Merge.{Served, IsMerge, serial_merge}
-use Rattle.strm_driver.specs.Script.{ScriptValue, script_of}
-use Rattle.strm_driver.specs.Text.{text_of}
+use Rattle.strm_script.specs.Merge.{Served, IsMerge, serial_merge}
+use Rattle.strm_script.specs.declared.script.Script.{Script as ScriptValue}
+use Rattle.strm_script.specs.Script.{script_of}
+use Rattle.strm_script.specs.Text.{text_of}
 
 -- ---- the fault
 

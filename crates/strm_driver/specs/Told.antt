@@ -3,8 +3,8 @@ use Rattle.std.specs.Prelude.{◌≡◌, Bool, true, false, Option, None, Some, 
 use Rattle.strm_pool.specs.declared.config.NewFault.{NewFault}
 use Rattle.strm_pool.specs.declared.config.NewFault.TheVariants as new_faults
 use Rattle.strm_pool.specs.declared.config.Which.{Which}
-use Rattle.strm_driver.specs.declared.fault.ParseFault.{ParseFault}
-use Rattle.strm_driver.specs.declared.fault.ParseFault.TheVariants as parse_faults
+use Rattle.strm_script.specs.declared.fault.ParseFault.{ParseFault}
+use Rattle.strm_script.specs.declared.fault.ParseFault.TheVariants as parse_faults
 use Rattle.strm_driver.specs.declared.fault.RunFault.{RunFault}
 use Rattle.strm_driver.specs.declared.fault.RunFault.TheVariants.{Read, TooLong, Write, Script, Config, Memory}
 use Rattle.strm_driver.specs.declared.fault.TextFault.{TextFault}

@@ -1,55 +1,11 @@
-//! What is wrong with a script, and why a run fails.
+//! Why a run fails.
 ghost use Rattle.std.specs.Prelude.{◌≡◌};
-ghost use Rattle.strm_driver.specs.Fault.{kind_text};
 
 use crate::input::ReadFault;
 use crate::output::WriteFault;
-use std::alloc::AllocError;
-use std::fmt;
 use strm_pool::{NewFault, Which};
+use strm_script::{Fault, ParseFault};
 use thiserror::Error;
-
-/// What is wrong with a line of a script. On one line the kinds are looked for in this order; those of a word,
-/// from `Number` to `Hex`, come word by word from the left.
-#[derive(Clone, Copy, Debug, PartialEq, Eq)]
-pub enum Kind {
-    /// The last line has no line end.
-    Cut,
-    /// The first word is none of a script's.
-    Unknown,
-    /// The line may not stand here.
-    Order,
-    /// There are as many such lines already as there may be.
-    Toomany,
-    /// The line has another number of words than its form.
-    Shape,
-    /// A word is not a number, or not one in range.
-    Number,
-    /// A word is not a register.
-    Register,
-    /// A word is none of those that may stand there.
-    Word,
-    /// A word is not a string of bytes.
-    Hex,
-    /// The script ends before its first worker section.
-    Missing,
-}
-
-/// The first fault of a script: its line, counted from 1, and what is wrong there.
-#[derive(Clone, Copy, Debug, PartialEq, Eq)]
-pub struct Fault {
-    pub line: u32,
-    pub kind: Kind,
-}
-
-/// Why a script was not read.
-#[derive(Clone, Copy, Debug, PartialEq, Eq, Error)]
-pub enum ParseFault {
-    #[error("{0}")]
-    Script(Fault),
-    #[error("memory")]
-    Memory,
-}
 
 /// Why there is no text of a script.
 #[derive(Clone, Copy, Debug, PartialEq, Eq, Error)]
@@ -86,48 +42,6 @@ pub enum RunFault {
     /// There is not enough memory.
     #[error("memory")]
     Memory,
-}
-
-impl Kind {
-    /// The kind's name.
-    pub fn name(self) -> &'static str
-        ensures { result.now ≡ kind_text self }
-    {
-        match self {
-            Kind::Cut => "cut",
-            Kind::Unknown => "unknown",
-            Kind::Order => "order",
-            Kind::Toomany => "toomany",
-            Kind::Shape => "shape",
-            Kind::Number => "number",
-            Kind::Register => "register",
-            Kind::Word => "word",
-            Kind::Hex => "hex",
-            Kind::Missing => "missing",
-        }
-    }
-}
-
-impl fmt::Display for Fault {
-    ghost use Rattle.std.specs.Prelude.{Some, ◌++◌, codes, decimal};
-
-    ghost output = { λ fault. Some (codes "line " ++ (decimal fault.line ++ (codes ": " ++ kind_text fault.kind))) };
-
-    fn fmt<W: fmt::Write>(&self, f: &mut fmt::Formatter<W>) -> fmt::Result {
-        let line = self.line;
-        let kind = self.kind.name();
-        write!(f, "line {line}: {kind}")
-    }
-}
-
-impl From<AllocError> for ParseFault {
-    ghost use Rattle.strm_driver.specs.declared.fault.ParseFault.TheVariants.{Memory};
-
-    ghost from_gives = { λ _ e. e ≡ Memory };
-
-    fn from(_error: AllocError) -> ParseFault {
-        ParseFault::Memory
-    }
 }
 
 impl From<ParseFault> for TextFault {

@@ -1,7 +1,7 @@
 //! The input of a run.
 ghost use Rattle.std.specs.Prelude.{◌≡◌, ◌||◌, ◌≤◌, ◌<◌, ◌+◌, ℕ, List, length, IfOk, IfSome, Err};
 ghost use Rattle.std.specs.Io.KnownBytes.{Consumes};
-ghost use Rattle.strm_driver.specs.Limits.{most_input_bytes};
+ghost use Rattle.strm_script.specs.Limits.{most_script_bytes};
 ghost use Rattle.strm_driver.specs.Told.{errs, is_read, run_fault_of_read};
 
 use crate::watched::Watched;
@@ -45,7 +45,7 @@ pub fn read_input<R: Read>(
     reader: &mut Watched<R>,
 ) -> Result<Vec<u8>, ReadFault>
     requires least { 1 ≤ max }
-    requires most { max ≤ most_input_bytes }
+    requires most { max ≤ most_script_bytes }
     ensures ok { IfOk result (λ v. (length v.items ≤ max) × IfSome (R.remaining reader.old.inner) (λ input. v.items ≡ input)) }
     ensures too_long { result ≡ Err ReadFault.TooLong → IfSome (R.remaining reader.old.inner) (λ input. max < length input) }
     ensures reader { reader.new.failed ≡ (reader.old.failed || errs (λ fault. is_read (run_fault_of_read fault)) result) }

@@ -2,25 +2,15 @@
 #![tactic(auto)]
 
 ghost use Rattle.std.specs.Prelude.{◌≤◌};
-ghost use Rattle.strm_driver.specs.Limits.{most_input_bytes};
+ghost use Rattle.strm_script.specs.Limits.{most_script_bytes};
 
-mod cut;
-mod draft;
 mod fault;
 #[cfg(test)]
 mod faulty;
-mod form;
 mod input;
-mod limits;
-mod line;
 mod output;
 mod run;
-mod script;
-mod shape;
-mod text;
-mod verb;
 mod watched;
-mod word;
 mod words;
 
 use clap::error::ErrorKind;
@@ -68,7 +58,7 @@ fn answered(rt: &(impl Print + Eprint), error: &clap::Error) -> ExitCode {
 // Runs the script on standard input.
 fn served(rt: &(impl AllocGlobal + Input + Print + Eprint), options: Options) -> ExitCode
     requires least { 1 ≤ options.max }
-    requires most { options.max ≤ most_input_bytes }
+    requires most { options.max ≤ most_script_bytes }
 {
     let mut reader = Watched::new(rt.reader());
     let mut writer = Watched::new(io::writer(rt));

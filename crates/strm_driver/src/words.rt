@@ -1,11 +1,11 @@
 //! The program's words.
 ghost use Rattle.std.specs.Prelude.{◌≤◌, IfOk};
-ghost use Rattle.strm_driver.specs.Limits.{most_input_bytes};
+ghost use Rattle.strm_script.specs.Limits.{most_script_bytes};
 
-use crate::limits::MOST_INPUT_BYTES;
 use crate::run::Mode;
 use clap::{Arg, ArgAction, Command, Error, value_parser};
 use std::alloc::Global;
+use strm_script::MOST_SCRIPT_BYTES;
 
 // How many bytes the input may have where no word says so.
 const DEFAULT_MAX: u32 = 1_048_576;
@@ -22,7 +22,7 @@ pub struct Options {
 /// What words ask for, the first of which is the program's name. The error is a mistake in the words, a request
 /// for help, or want of memory.
 pub fn options_of(alloc: Global, words: &[String]) -> Result<Options, Error>
-    ensures { IfOk result (λ options. (1 ≤ options.max) × (options.max ≤ most_input_bytes)) }
+    ensures { IfOk result (λ options. (1 ≤ options.max) × (options.max ≤ most_script_bytes)) }
 {
     let serial = Arg::new(alloc, "serial")
         .long("serial")
@@ -32,7 +32,7 @@ pub fn options_of(alloc: Global, words: &[String]) -> Result<Options, Error>
         .long("max")
         .value_name("N")
         .help("Take at most N bytes of input, 1 to 16777216 [default: 1048576]")
-        .value_parser(value_parser!(u32).range(1..=i64::from(MOST_INPUT_BYTES)));
+        .value_parser(value_parser!(u32).range(1..=i64::from(MOST_SCRIPT_BYTES)));
     let command = Command::new(alloc, "strm")
         .bin_name("strm")?
         .about("Serves a script of STREAMS calls, from standard input to standard output")
@@ -48,7 +48,7 @@ pub fn options_of(alloc: Global, words: &[String]) -> Result<Options, Error>
     Ok(Options {
         mode,
         // The parser of `--max` has refused every other number.
-        max: max.clamp(1, MOST_INPUT_BYTES),
+        max: max.clamp(1, MOST_SCRIPT_BYTES),
     })
 }
 

@@ -1,11 +1,12 @@
 ghost use Rattle.std.specs.Prelude.{◌≤◌};
 
 use super::{Mode, run};
-use crate::fault::{Fault, Kind, RunFault};
+use crate::fault::RunFault;
 use crate::faulty::{choppy_writer, slow_reader};
 use crate::watched::Watched;
 use std::test::Fail;
 use strm_pool::Which;
+use strm_script::{Fault, Kind};
 
 const SCRIPT: &[u8] =
     b"pool 1 8\nclass 16 4\nqueue 10 4 s -\nbufcalls 2 1\nworker\nallocb a 3\nwrite a 0 616263\nputq 0 a\ncensus\nallocb b 17\ngetq 0 c\n";
@@ -28,19 +29,41 @@ const REPLIES: &[u8] =
 
 const MAX: u32 = 1_048_576;
 
+// Two sections, of which the second takes from the queue what the first one put there.
+const SECTIONS: &[u8] =
+    b"pool 1 8\nclass 16 4\nqueue 10 4 s -\nbufcalls 2 1\nworker\nallocb a 3\nputq 0 a\nallocb a 1\n\
+      worker\nfreemsg a\ngetq 0 a\ncensus\n";
+
+// Each has a register a of its own, and what they hold at the end counts as held.
+const SECTIONS_TEXT: &[u8] =
+    b"0:6 ok\n0:7 ok\n0:8 ok\n1:10 empty\n1:11 ok\n1:12 census 6 0 2\nblocks free=6 queued=0 held=2 total=8\n\
+      data size=16 free=2 total=4\nqueue 0 msgs=0 bytes=0 read=0 noenable=0 enabled=1\nrun 0\nwishes -\n";
+
+// What is written for a script to a writer that takes one byte at a time.
+fn written(rt: &HostRuntime, mode: Mode, script: &[u8]) -> Result<Vec<u8>, Fail> {
+    let mut writer = choppy_writer(rt.alloc(), 1, None, true);
+    run(
+        rt,
+        mode,
+        MAX,
+        &mut Watched::new(slow_reader(script, None)),
+        &mut Watched::new(&mut writer),
+    )?;
+    Ok(writer.got)
+}
+
 #[test]
 fn goes_byte_by_byte(rt: HostRuntime) -> Result<(), Fail> {
     for mode in [Mode::Serial, Mode::Workers] {
-        let reader = slow_reader(SCRIPT, None);
-        let mut writer = choppy_writer(rt.alloc(), 1, None, true);
-        run(
-            &rt,
-            mode,
-            MAX,
-            &mut Watched::new(reader),
-            &mut Watched::new(&mut writer),
-        )?;
-        assert_eq!(rt; writer.got.as_slice(), TEXT);
+        assert_eq!(rt; written(&rt, mode, SCRIPT)?.as_slice(), TEXT);
+    }
+    Ok(())
+}
+
+#[test]
+fn serves_one_section_after_the_other(rt: HostRuntime) -> Result<(), Fail> {
+    for mode in [Mode::Serial, Mode::Workers] {
+        assert_eq!(rt; written(&rt, mode, SECTIONS)?.as_slice(), SECTIONS_TEXT);
     }
     Ok(())
 }

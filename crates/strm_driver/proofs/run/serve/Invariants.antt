@@ -1,8 +1,9 @@
-use Rattle.std.proofs.Common.{◌≡◌, ◌++◌, drop}
-use Rattle.std.specs.Prelude.{IsTrue, string_bytes}
+use Rattle.std.proofs.Common.{◌≡◌, ◌++◌, List, drop, length}
+use Rattle.std.specs.Prelude.{IsTrue}
 use Rattle.strm_pool.specs.PoolValue.{owns}
-use Rattle.strm_pool.specs.Registers.{table_of, AreDistinct}
-use Rattle.strm_driver.proofs.Serving.{rest_text}
+use Rattle.strm_pool.specs.Registers.{RegisterTable, table_of, AreDistinct}
+use Rattle.strm_script.specs.Merge.{Served}
+use Rattle.strm_driver.proofs.Serving.{part_text}
 use Rattle.strm_driver.proofs.run.serve.Given as goal
 
 -- the text so far, and what is written for the lines that are left
@@ -10,5 +11,7 @@ abbrev pub invariant-loop-line : goal.invariant-loop-line
 invariant-loop-line l = record {
   owned : IsTrue (owns l.pool l.regs);
   distinct : AreDistinct (table_of l.regs);
-  text : string_bytes l.text ++ rest_text l.pool (table_of l.regs) (drop l.line-index l.lines) ≡ string_bytes l.fn.text ++ rest_text l.fn.pool (table_of l.fn.regs) l.lines;
+  text : (before behind : List RegisterTable) (later : List Served) → length before ≡ l.worker
+      → l.text.items ++ part_text before behind later l.worker l.pool (table_of l.regs) (drop l.line-index l.lines)
+      ≡ l.fn.text.items ++ part_text before behind later l.worker l.fn.pool (table_of l.fn.regs) l.lines;
 }

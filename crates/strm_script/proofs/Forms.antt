@@ -1,0 +1,45 @@
+-- Digits of a number, and pairs of digits of a byte.
+use Rattle.std.proofs.Common.{◌≡◌, ℕ, ◌+◌, ◌-◌, ◌*◌, ◌<◌, ◌≤◌, true, false, ◌&&◌, cond, nat_le, List, [], ◌∷◌, ◌++◌, length, get_or, take, drop, Ok, Err, Option, None, Some, fold, option_map, sym, refl, ap, ◌∙◌, arith, append_assoc, take-append-drop}
+use Rattle.std.proofs.lemmas.List.Sums.{fold-append}
+use Rattle.std.proofs.lemmas.List.{take_rest}
+use Rattle.std.proofs.lemmas.Bool.{lt-leb}
+use Rattle.strm_script.specs.declared.fault.Kind.TheVariants.{Number}
+use Rattle.strm_script.specs.Form.{is_numeral, value_of, number_of, hex_pair, hex_bytes, before_bytes}
+
+-- more digits never make a number smaller
+value-grows : (n : ℕ) (digits : List ℕ) → n ≤ fold (λ n b. 10 * n + (b - 48)) n digits
+value-grows n [] = omega arith
+value-grows n (b ∷ bs) = omega (arith, value-grows (10 * n + (b - 48)) bs)
+
+value_of-take : (k : ℕ) (word : List ℕ) → value_of (take k word) ≤ value_of word
+value_of-take k word =
+    let whole = ap value_of (take-append-drop k word) in
+    let parts = fold-append (λ n b. 10 * n + (b - 48)) 0 (take k word) (drop k word) in
+    omega (arith, whole, parts, value-grows (value_of (take k word)) (drop k word))
+
+-- where the first digits are above the greatest number, so is the whole
+pub number_of-above : (most : ℕ) (word : List ℕ) (k : ℕ) → most < value_of (take k word) → number_of most word ≡ Err Number
+number_of-above most word k above =
+    let small : most < value_of word = omega (arith, value_of-take k word) in
+    elim (is_numeral word) as (λ b. cond (b && nat_le (value_of word) most) (Ok (value_of word)) (Err Number) ≡ Err Number) [
+      | true ↦ ap (λ b. cond b (Ok (value_of word)) (Err Number)) (lt-leb (value_of word) most small)
+      | false ↦ refl
+    ]
+
+-- these bytes before the others, where those are there
+abbrev pub with_front : List ℕ → Option (List ℕ) → Option (List ℕ)
+with_front front read = option_map (λ bytes. front ++ bytes) read
+
+pub with_front-before : (front : List ℕ) (b : ℕ) (read : Option (List ℕ)) → with_front front (before_bytes (Some b) read) ≡ with_front (front ++ b ∷ []) read
+with_front-before front b None = refl
+with_front-before front b (Some bytes) = ap (λ (bs : List ℕ). Some bs) (sym (append_assoc front (b ∷ []) bytes))
+
+-- the first two digits, and what the rest gives
+pub hex_bytes-step : (front : List ℕ) (rest : List ℕ) (word : List ℕ) (b : ℕ) → 2 ≤ length rest → hex_pair (get_or rest 0 0) (get_or rest 1 0) ≡ Some b → with_front front (hex_bytes rest) ≡ hex_bytes word → with_front (front ++ b ∷ []) (hex_bytes (take (length rest - 2) (drop 2 rest))) ≡ hex_bytes word
+hex_bytes-step front [] word b long pair so = absurd (omega arith)
+hex_bytes-step front (x ∷ []) word b long pair so = absurd (omega arith)
+hex_bytes-step front (x ∷ y ∷ rest) word b long pair so =
+    ap (λ bytes. with_front (front ++ b ∷ []) (hex_bytes bytes)) (take_rest (x ∷ y ∷ rest) 2)
+    ∙ sym (with_front-before front b (hex_bytes rest))
+    ∙ ap (λ byte. with_front front (before_bytes byte (hex_bytes rest))) (sym pair)
+    ∙ so

@@ -1,0 +1,10 @@
+pub mod Constants
+pub mod Forms
+pub mod Cuts
+pub mod Shapes
+pub mod Entries
+pub mod Drafts
+pub mod Reading
+pub mod Scripts
+pub mod Digits
+pub mod Reports

@@ -1,0 +1,16 @@
+-- The name of each kind of fault.
+use Rattle.std.specs.Prelude.{ℕ, List, codes}
+use Rattle.strm_script.specs.declared.fault.Kind.{Kind}
+use Rattle.strm_script.specs.declared.fault.Kind.TheVariants.{Cut, Unknown, Order, Toomany, Shape, Number, Register, Word, Hex, Missing}
+
+abbrev pub kind_text : Kind → List ℕ
+kind_text Cut = codes "cut"
+kind_text Unknown = codes "unknown"
+kind_text Order = codes "order"
+kind_text Toomany = codes "toomany"
+kind_text Shape = codes "shape"
+kind_text Number = codes "number"
+kind_text Register = codes "register"
+kind_text Word = codes "word"
+kind_text Hex = codes "hex"
+kind_text Missing = codes "missing"

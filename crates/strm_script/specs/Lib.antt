@@ -1,0 +1,13 @@
+pub mod Limits
+pub mod Fault
+pub mod Word
+pub mod Form
+pub mod Shape
+pub mod Cut
+pub mod Entry
+pub mod Script
+pub mod Parsed
+pub mod Draft
+pub mod Merge
+pub mod Text
+pub mod Piece

@@ -1,0 +1,29 @@
+-- In which order the lines of several workers are served.
+use Rattle.std.specs.Prelude.{◌≡◌, ℕ, ◌==◌, List, [], filter, map, slice_index_or}
+use Rattle.std.specs.List.{flat_map, enumerate_from}
+use Rattle.strm_shared.specs.declared.line.Line.{Line}
+
+-- a line of a worker
+pub record Served : Type 0 where
+  pub worker : ℕ
+  pub line : Line
+
+-- the lines of one worker, in the order in which they are served
+abbrev pub part_of : ℕ → List Served → List Line
+part_of worker served = map (λ s. s.line) (filter (λ s. s.worker == worker) served)
+
+-- the lines of all workers are served, each worker's in order
+abbrev pub IsMerge : List (List Line) → List Served → Type 0
+IsMerge parts served = (worker : ℕ) → part_of worker served ≡ slice_index_or parts worker []
+
+-- these lines, as one worker's
+abbrev pub by_worker : ℕ → List Line → List Served
+by_worker worker lines = map (λ line. record { worker = worker; line = line }) lines
+
+-- worker k's lines, then worker k + 1's, and so on
+abbrev pub serial_from : ℕ → List (List Line) → List Served
+serial_from k parts = flat_map (λ p. by_worker p.0 p.1) (enumerate_from k parts)
+
+-- worker 0's lines, then worker 1's, and so on
+abbrev pub serial_merge : List (List Line) → List Served
+serial_merge parts = serial_from 0 parts

@@ -1,0 +1,66 @@
+//! A text cut at line ends and at spaces.
+ghost use Rattle.std.specs.Prelude.{◌≡◌, ◌<◌, ◌==◌, ◌∷◌, ℕ, IfSome, length, map, take, position};
+ghost use Rattle.std.specs.List.{slice_split};
+ghost use Rattle.std.specs.Option.{option_copied};
+ghost use Rattle.strm_script.specs.Cut.{pieces_behind};
+
+use arrayvec::ArrayVec;
+use memchr::memchr;
+
+// The bytes before a place, and those behind it where there is one.
+fn cut_at(text: &[u8], place: Option<usize>) -> (&[u8], Option<&[u8]>)
+    requires { IfSome place (λ at. at < length text.now) }
+    ensures { (byte : ℕ) → place ≡ position (λ b. b == byte) text.now
+        → slice_split (λ b. b == byte) text.now ≡ result.0.now ∷ pieces_behind byte (option_copied result.1) }
+{
+    match place {
+        Some(at) => (&text[..at], Some(&text[at + 1..])),
+        None => (text, None),
+    }
+}
+
+// Where the first line end stands.
+fn line_end(text: &[u8]) -> Option<usize>
+    ensures place { result ≡ position (λ b. b == 10) text.now }
+    ensures there { IfSome result (λ at. at < length text.now) }
+{
+    memchr(b'\n', text)
+}
+
+// Where the first space stands. Words are short, so that no search pays.
+fn space(text: &[u8]) -> Option<usize>
+    ensures place { result ≡ position (λ b. b == 32) text.now }
+    ensures there { IfSome result (λ at. at < length text.now) }
+{
+    text.iter().position(|b| *b == b' ')
+}
+
+/// The bytes before the first line end, and those behind it where there is one.
+pub fn cut_line(text: &[u8]) -> (&[u8], Option<&[u8]>)
+    ensures { slice_split (λ b. b == 10) text.now ≡ result.0.now ∷ pieces_behind 10 (option_copied result.1) }
+{
+    cut_at(text, line_end(text))
+}
+
+/// The bytes before the first space, and those behind it where there is one.
+pub fn cut_word(text: &[u8]) -> (&[u8], Option<&[u8]>)
+    ensures { slice_split (λ b. b == 32) text.now ≡ result.0.now ∷ pieces_behind 32 (option_copied result.1) }
+{
+    cut_at(text, space(text))
+}
+
+/// The first five words of a text, of which each space ends one.
+pub fn words_of(text: Option<&[u8]>) -> ArrayVec<&[u8], 5>
+    ensures { map (λ word. word.now) result.items ≡ take 5 (pieces_behind 32 (option_copied text.entry)) }
+{
+    let mut words = ArrayVec::new();
+    let mut rest = text;
+    while let Some(some) = rest
+        && !words.is_full()
+    {
+        let (word, behind) = cut_word(some);
+        words.push(word);
+        rest = behind;
+    }
+    words
+}

@@ -1,0 +1,263 @@
+//! What a word stands for, where the form of a line wants a number, a register, a word or bytes.
+ghost use Rattle.std.specs.Prelude.{◌≡◌, ◌*◌, ◌<◌, ◌≤◌, length, option_map, IfSome};
+ghost use Rattle.strm_pool.specs.Limits.{most_octets};
+ghost use Rattle.strm_script.specs.Form.{are_digits, begins_well, number_of, negative_of, is_dash, type_named, hex_digit, hex_pair, hex_bytes};
+
+use crate::fault::Kind;
+use arrayvec::ArrayVec;
+use strm_pool::{Flush, MOST_OCTETS, MsgType, Octets, Reg};
+
+/// What a word behind the first one of a line can stand for. Each type has one form, so the types of what is made of
+/// a line say the forms of its words.
+pub trait Argument: Sized {
+    ghost use Rattle.std.specs.Prelude.{ℕ, List, Result};
+    ghost use Rattle.strm_script.specs.declared.fault.Kind.{Kind};
+
+    ghost form: { List ℕ → Result Self Kind };
+
+    /// What the word stands for, or what is wrong with it.
+    fn read(word: &[u8]) -> Result<Self, Kind>
+        ensures { result ≡ form word.now };
+}
+
+// All types of messages.
+const TYPES: [MsgType; 22] = [
+    MsgType::MData,
+    MsgType::MProto,
+    MsgType::MBreak,
+    MsgType::MPassfp,
+    MsgType::MSig,
+    MsgType::MDelay,
+    MsgType::MCtl,
+    MsgType::MIoctl,
+    MsgType::MSetopts,
+    MsgType::MIocack,
+    MsgType::MIocnak,
+    MsgType::MPcproto,
+    MsgType::MPcsig,
+    MsgType::MRead,
+    MsgType::MFlush,
+    MsgType::MStop,
+    MsgType::MStart,
+    MsgType::MHangup,
+    MsgType::MError,
+    MsgType::MCopyin,
+    MsgType::MCopyout,
+    MsgType::MIocdata,
+];
+
+// Whether all bytes are digits.
+fn are_digits(word: &[u8]) -> bool
+    ensures { result ≡ are_digits word.now }
+{
+    word.iter().all(|byte| (48..=57).contains(byte))
+}
+
+// Whether a word has a first byte, which is not `0` unless it is the only one.
+fn begins_well(word: &[u8]) -> bool
+    ensures { result ≡ begins_well word.now }
+{
+    match word {
+        [] => false,
+        [_] => true,
+        [first, ..] => *first != b'0',
+    }
+}
+
+// The number that a word stands for, at most `most`.
+fn number_of(most: u32, word: &[u8]) -> Result<u32, Kind>
+    ensures { result ≡ number_of most word.now }
+{
+    if !(are_digits(word) && begins_well(word)) {
+        return Err(Kind::Number);
+    }
+    let mut value: u64 = 0;
+    for byte in word {
+        value = 10 * value + u64::from(*byte - b'0');
+        if value > u64::from(most) {
+            return Err(Kind::Number);
+        }
+    }
+    Ok(value as u32)
+}
+
+// The number below 0 that `-` before these digits stands for.
+fn negative_of(digits: &[u8]) -> Result<i32, Kind>
+    ensures { result ≡ negative_of digits.now }
+{
+    if digits == b"0".as_slice() {
+        return Err(Kind::Number);
+    }
+    Ok((-i64::from(number_of(1 << 31, digits)?)) as i32)
+}
+
+// Whether a word is `-`.
+fn is_dash(word: &[u8]) -> bool
+    ensures { result ≡ is_dash word.now }
+{
+    word == b"-".as_slice()
+}
+
+// The type of this name.
+fn type_named(word: &[u8]) -> Option<MsgType>
+    ensures { result ≡ type_named word.now }
+{
+    TYPES
+        .iter()
+        .copied()
+        .find(|kind| kind.name().as_bytes() == word)
+}
+
+// What a lower case hexadecimal digit stands for.
+fn hex_digit(byte: u8) -> Option<u8>
+    ensures value { result ≡ hex_digit byte }
+    ensures small { IfSome result (λ d. d < 16) }
+{
+    match byte {
+        b'0'..=b'9' => Some(byte - b'0'),
+        b'a'..=b'f' => Some(byte - b'a' + 10),
+        _ => None,
+    }
+}
+
+// The byte that two hexadecimal digits stand for.
+fn hex_byte(high: u8, low: u8) -> Option<u8>
+    ensures { result ≡ hex_pair high low }
+{
+    Some(16 * hex_digit(high)? + hex_digit(low)?)
+}
+
+// The bytes that pairs of hexadecimal digits stand for.
+fn hex_bytes(word: &[u8]) -> Option<ArrayVec<u8, MOST_OCTETS>>
+    requires { length word.now ≤ 2 * most_octets }
+    ensures { option_map (λ bytes. bytes.items) result ≡ hex_bytes word.now }
+{
+    let mut bytes = ArrayVec::new();
+    let mut rest = word;
+    while let [high, low, others @ ..] = rest {
+        bytes.push(hex_byte(*high, *low)?);
+        rest = others;
+    }
+    rest.is_empty().then_some(bytes)
+}
+
+/// A number of 32 bits.
+impl Argument for u32 {
+    ghost use Rattle.strm_script.specs.Form.{u32_of};
+
+    ghost form = { u32_of };
+
+    fn read(word: &[u8]) -> Result<u32, Kind> {
+        number_of(u32::MAX, word)
+    }
+}
+
+/// A queue or a band.
+impl Argument for u8 {
+    ghost use Rattle.strm_script.specs.Form.{u8_of};
+
+    ghost form = { u8_of };
+
+    fn read(word: &[u8]) -> Result<u8, Kind> {
+        Ok(number_of(255, word)? as u8)
+    }
+}
+
+/// A number of 32 bits with a sign.
+impl Argument for i32 {
+    ghost use Rattle.strm_script.specs.Form.{i32_of};
+
+    ghost form = { i32_of };
+
+    fn read(word: &[u8]) -> Result<i32, Kind> {
+        match word {
+            [b'-', digits @ ..] => negative_of(digits),
+            _ => Ok(number_of(i32::MAX as u32, word)? as i32),
+        }
+    }
+}
+
+impl Argument for Reg {
+    ghost use Rattle.strm_script.specs.Form.{register_of};
+
+    ghost form = { register_of };
+
+    fn read(word: &[u8]) -> Result<Reg, Kind> {
+        match word {
+            [letter @ b'a'..=b'z'] => Reg::new(*letter - b'a').ok_or(Kind::Register),
+            _ => Err(Kind::Register),
+        }
+    }
+}
+
+/// The type of a message.
+impl Argument for MsgType {
+    ghost use Rattle.strm_script.specs.Form.{type_of};
+
+    ghost form = { type_of };
+
+    fn read(word: &[u8]) -> Result<MsgType, Kind> {
+        type_named(word).ok_or(Kind::Word)
+    }
+}
+
+/// Which messages a flush takes.
+impl Argument for Flush {
+    ghost use Rattle.strm_script.specs.Form.{flush_of};
+
+    ghost form = { flush_of };
+
+    fn read(word: &[u8]) -> Result<Flush, Kind> {
+        match word {
+            b"all" => Ok(Flush::All),
+            b"data" => Ok(Flush::Data),
+            _ => Err(Kind::Word),
+        }
+    }
+}
+
+/// Whether a queue has a service procedure.
+impl Argument for bool {
+    ghost use Rattle.strm_script.specs.Form.{service_of};
+
+    ghost form = { service_of };
+
+    fn read(word: &[u8]) -> Result<bool, Kind> {
+        match word {
+            b"s" => Ok(true),
+            b"n" => Ok(false),
+            _ => Err(Kind::Word),
+        }
+    }
+}
+
+/// The next queue, or none.
+impl Argument for Option<u8> {
+    ghost use Rattle.strm_script.specs.Form.{next_of};
+
+    ghost form = { next_of };
+
+    fn read(word: &[u8]) -> Result<Option<u8>, Kind> {
+        if is_dash(word) {
+            return Ok(None);
+        }
+        Ok(Some(u8::read(word)?))
+    }
+}
+
+/// Bytes, two hexadecimal digits for each.
+impl Argument for Octets {
+    ghost use Rattle.strm_script.specs.Form.{octets_of};
+
+    ghost form = { octets_of };
+
+    fn read(word: &[u8]) -> Result<Octets, Kind> {
+        if is_dash(word) {
+            return Ok(Octets::of(ArrayVec::new()));
+        }
+        if word.is_empty() || word.len() > 2 * MOST_OCTETS {
+            return Err(Kind::Hex);
+        }
+        hex_bytes(word).map(Octets::of).ok_or(Kind::Hex)
+    }
+}

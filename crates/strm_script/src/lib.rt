@@ -1,0 +1,24 @@
+//! The script of a pool, read from bytes, and the text that is written for it.
+#![tactic(auto)]
+
+mod cut;
+mod draft;
+mod entry;
+mod fault;
+mod form;
+mod limits;
+mod piece;
+mod report;
+mod script;
+mod shape;
+mod stage;
+mod transcript;
+mod verb;
+mod word;
+
+pub use fault::{Fault, Kind, ParseFault};
+pub use limits::{MOST_COMMAND_LINES, MOST_SCRIPT_BYTES};
+pub use report::report_text;
+pub use script::{Script, parse};
+pub use strm_shared::{Line, Lines, MOST_WORKERS, Parts};
+pub use transcript::reply_text;

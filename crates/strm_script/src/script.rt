@@ -1,0 +1,52 @@
+//! A script: a pool's configuration, and what its workers do.
+ghost use Rattle.std.specs.Prelude.{◌≤◌, IfOk, length};
+ghost use Rattle.strm_shared.specs.Limits.{most_workers};
+ghost use Rattle.strm_script.specs.Limits.{most_script_bytes};
+ghost use Rattle.strm_script.specs.Parsed.{Parses};
+ghost use Rattle.strm_script.specs.Script.{script_of};
+
+use crate::cut::cut_line;
+use crate::draft::Draft;
+use crate::fault::{Fault, Kind, ParseFault};
+use std::alloc::Global;
+use strm_pool::Config;
+use strm_shared::Parts;
+
+/// A script.
+#[derive(Debug, Drop)]
+pub struct Script {
+    /// What the pool is made with.
+    pub config: Config,
+    /// The command lines of each of its 1 to `MOST_WORKERS` sections.
+    pub parts: Parts,
+}
+
+/// Reads a script of at most `MOST_SCRIPT_BYTES` bytes: the script, or its first fault, or want of memory, whichever is
+/// met first, line by line.
+pub fn parse(alloc: Global, bytes: &[u8]) -> Result<Script, ParseFault>
+    requires { length bytes.now ≤ most_script_bytes }
+    ensures parses { Parses result (script_of bytes.now) }
+    ensures few { IfOk result (λ script. length script.parts ≤ most_workers) }
+{
+    let mut draft = Draft::new(alloc);
+    let mut text = bytes;
+    let mut number: u32 = 1;
+    loop {
+        let (line, rest) = cut_line(text);
+        match rest {
+            Some(rest) => {
+                draft.read(number, line)?;
+                text = rest;
+                number += 1;
+            }
+            None if line.is_empty() => return draft.finish(number),
+            None => {
+                let kind = Kind::Cut;
+                return Err(ParseFault::Script(Fault { line: number, kind }));
+            }
+        }
+    }
+}
+
+#[cfg(test)]
+mod tests;

@@ -1,0 +1,131 @@
+//! The transcript: a line for each reply.
+ghost use Rattle.std.specs.Prelude.{◌≡◌, ◌++◌, OnOk, OnErr};
+ghost use Rattle.strm_script.specs.Text.{reply_line};
+
+use crate::piece::{Piece, append_whole, pieces};
+use itoa::write_digits;
+use std::alloc::AllocError;
+use strm_pool::{BlockInfo, Census, Reply};
+
+// How many bytes a worker, a colon and a line have at most.
+const MOST_PLACE: usize = 14;
+
+// The digits of base 16.
+const DIGITS: [u8; 16] = *b"0123456789abcdef";
+
+// A worker, and a line of the script.
+#[derive(Clone, Copy)]
+struct Place {
+    worker: u8,
+    line: u32,
+}
+
+impl Piece for Place {
+    ghost use Rattle.std.specs.Prelude.{codes, decimal};
+
+    ghost bytes = { λ place. decimal place.worker ++ (codes ":" ++ decimal place.line) };
+
+    #[inline(always)]
+    fn append(self, text: &mut Vec<u8>) -> Result<(), AllocError> {
+        let mut place = [0; MOST_PLACE];
+        let colon = write_digits(u64::from(self.line), &mut place, MOST_PLACE) - 1;
+        place[colon] = b':';
+        let start = write_digits(u64::from(self.worker), &mut place, colon);
+        text.extend_from_slice(&place[start..])
+    }
+}
+
+// Bytes, in lower case hexadecimal digits.
+#[derive(Clone, Copy)]
+struct Hex<'a>(&'a [u8]);
+
+impl Piece for Hex<'_> {
+    ghost use Rattle.strm_script.specs.Text.{octets_text};
+
+    ghost bytes = { λ hex. octets_text hex.0.now };
+
+    fn append(self, text: &mut Vec<u8>) -> Result<(), AllocError> {
+        if self.0.is_empty() {
+            return "-".append(text);
+        }
+        for byte in self.0 {
+            let (high, low) = (byte / 16, byte % 16);
+            text.extend_from_slice(&[DIGITS[high as usize], DIGITS[low as usize]])?;
+        }
+        Ok(())
+    }
+}
+
+impl Piece for BlockInfo {
+    ghost use Rattle.strm_script.specs.Text.{block_text};
+
+    ghost bytes = { block_text };
+
+    fn append(self, text: &mut Vec<u8>) -> Result<(), AllocError> {
+        let BlockInfo {
+            kind,
+            len,
+            band,
+            room,
+            names,
+        } = self;
+        let name = kind.name();
+        let line = pieces!(
+            ("block ", name),
+            (" len=", len),
+            (" band=", band),
+            (" room=", room),
+            (" names=", names)
+        );
+        line.append(text)
+    }
+}
+
+// What a line says of its reply, and its end.
+impl Piece for &Reply {
+    ghost use Rattle.std.specs.Prelude.{codes};
+    ghost use Rattle.strm_script.specs.Text.{reply_text};
+
+    ghost bytes = { λ reply. codes " " ++ (reply_text reply.now ++ codes "\n") };
+
+    fn append(self, text: &mut Vec<u8>) -> Result<(), AllocError> {
+        match self {
+            Reply::Done => " ok\n".append(text),
+            Reply::Yes => " yes\n".append(text),
+            Reply::No => " no\n".append(text),
+            Reply::Nothing => " none\n".append(text),
+            Reply::Empty => " empty\n".append(text),
+            Reply::Taken => " taken\n".append(text),
+            Reply::Size(size) => pieces!(" size ", *size, "\n").append(text),
+            Reply::Bytes(octets) => pieces!(" bytes ", Hex(octets.items()), "\n").append(text),
+            Reply::Block(info) => pieces!(" ", *info, "\n").append(text),
+            Reply::Id(id) => pieces!(" id ", *id, "\n").append(text),
+            Reply::Ready(id, size) => pieces!(" ready ", *id, " ", *size, "\n").append(text),
+            Reply::Queue(queue) => pieces!(" queue ", *queue, "\n").append(text),
+            Reply::Census(census) => {
+                let Census { free, queued, held } = *census;
+                pieces!(" census ", free, " ", queued, " ", held, "\n").append(text)
+            }
+            Reply::Refused(refusal) => {
+                let (number, name) = (refusal.number(), refusal.name());
+                pieces!(" refused ", number, " ", name, "\n").append(text)
+            }
+        }
+    }
+}
+
+/// Appends the line for a worker's reply to a line of the script. Where memory is refused the text is as it was.
+pub fn reply_text(
+    text: &mut Vec<u8>,
+    worker: u8,
+    line: u32,
+    reply: &Reply,
+) -> Result<(), AllocError>
+    ensures ok { OnOk result (text.new.items ≡ text.old.items ++ reply_line worker line reply.now) }
+    ensures refused { OnErr result (text.new.items ≡ text.old.items) }
+{
+    append_whole(text, (Place { worker, line }, reply))
+}
+
+#[cfg(test)]
+mod tests;

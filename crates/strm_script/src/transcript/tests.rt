@@ -1,0 +1,66 @@
+use super::reply_text;
+use arrayvec::ArrayVec;
+use std::test::Fail;
+use strm_pool::{BlockInfo, Census, MsgType, Octets, Refusal, Reply};
+
+const CENSUS: Census = Census {
+    free: 4095,
+    queued: 0,
+    held: 12,
+};
+
+#[test]
+fn writes_a_line_for_each_reply(rt: HostRuntime) -> Result<(), Fail> {
+    let mut text = Vec::new(rt.alloc());
+    reply_text(&mut text, 0, 7, &Reply::Done)?;
+    reply_text(&mut text, 0, 8, &Reply::Nothing)?;
+    reply_text(&mut text, 15, 1_048_599, &Reply::Empty)?;
+    reply_text(&mut text, 255, u32::MAX, &Reply::Taken)?;
+    reply_text(&mut text, 1, 10, &Reply::Census(CENSUS))?;
+    reply_text(&mut text, 0, 11, &Reply::Refused(Refusal::BadShared))?;
+    reply_text(&mut text, 0, 12, &Reply::Refused(Refusal::NoMblk))?;
+    let wanted =
+        b"0:7 ok\n0:8 none\n15:1048599 empty\n255:4294967295 taken\n1:10 census 4095 0 12\n0:11 refused 21 BadShared\n0:12 refused 2 NoMblk\n";
+    assert_eq!(rt; text.as_slice(), wanted.as_slice());
+    Ok(())
+}
+
+#[test]
+fn writes_what_a_call_answers(rt: HostRuntime) -> Result<(), Fail> {
+    let mut text = Vec::new(rt.alloc());
+    let mut bytes = ArrayVec::new();
+    bytes
+        .try_extend_from_slice(&[0, 9, 10, 15, 16, 159, 160, 255])
+        .ok()
+        .ok_or("eight bytes have room")?;
+    let info = BlockInfo {
+        kind: MsgType::MPcproto,
+        len: 4096,
+        band: 255,
+        room: 0,
+        names: 12,
+    };
+    reply_text(&mut text, 0, 7, &Reply::Yes)?;
+    reply_text(&mut text, 0, 8, &Reply::No)?;
+    reply_text(&mut text, 0, 9, &Reply::Size(u32::MAX))?;
+    reply_text(&mut text, 0, 10, &Reply::Size(0))?;
+    reply_text(&mut text, 0, 11, &Reply::Bytes(Octets::of(bytes)))?;
+    reply_text(&mut text, 0, 12, &Reply::Bytes(Octets::of(ArrayVec::new())))?;
+    reply_text(&mut text, 0, 13, &Reply::Block(info))?;
+    reply_text(&mut text, 0, 14, &Reply::Queue(0))?;
+    reply_text(&mut text, 0, 15, &Reply::Queue(255))?;
+    reply_text(&mut text, 0, 16, &Reply::Id(u32::MAX))?;
+    reply_text(&mut text, 0, 17, &Reply::Ready(1, 0))?;
+    let wanted =
+        b"0:7 yes\n0:8 no\n0:9 size 4294967295\n0:10 size 0\n0:11 bytes 00090a0f109fa0ff\n0:12 bytes -\n0:13 block M_PCPROTO len=4096 band=255 room=0 names=12\n0:14 queue 0\n0:15 queue 255\n0:16 id 4294967295\n0:17 ready 1 0\n";
+    assert_eq!(rt; text.as_slice(), wanted.as_slice());
+    Ok(())
+}
+
+#[test]
+fn leaves_what_stood_there_in_front(rt: HostRuntime) -> Result<(), Fail> {
+    let mut text = Vec::from_slice(rt.alloc(), b"before\n")?;
+    reply_text(&mut text, 3, 9, &Reply::Done)?;
+    assert_eq!(rt; text.as_slice(), b"before\n3:9 ok\n".as_slice());
+    Ok(())
+}

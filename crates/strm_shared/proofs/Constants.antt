@@ -1,0 +1,7 @@
+-- The constants of the code are the numbers of the definitions.
+use Rattle.std.proofs.Common.{◌≡◌, refl}
+use Rattle.strm_shared.specs.declared.limits.TheConstants.{MOST_WORKERS}
+use Rattle.strm_shared.specs.Limits.{most_workers}
+
+pub workers : MOST_WORKERS ≡ most_workers
+workers = refl

@@ -1,0 +1,120 @@
+"""Draws lines of all words, and answers them by the model."""
+from model import HIGH_PRIORITY, ORDINARY, Model
+from served import write_served
+
+REGISTERS = "abcdefghijklmz"
+
+
+class Dice:
+    """Numbers that look random, the same on every run."""
+
+    def __init__(self):
+        self.state = 1
+
+    def below(self, bound):
+        self.state = (self.state * 6364136223846793005 + 1442695040888963407) % 2**64
+        return (self.state >> 33) % bound
+
+    def one_of(self, items):
+        return items[self.below(len(items))]
+
+
+# The words with what stands behind each, and how often each comes for one `census`.
+WORDS = {
+    "allocb": ("to size", 10),
+    "testb": ("size", 1),
+    "dupb": ("from to", 2),
+    "dupmsg": ("from to", 2),
+    "copyb": ("from to", 1),
+    "copymsg": ("from to", 2),
+    "write": ("from block octets", 16),
+    "settype": ("from block kind", 4),
+    "setband": ("from band", 3),
+    "linkb": ("from from", 5),
+    "unlinkb": ("from to", 2),
+    "rmvb": ("from block to", 2),
+    "adjmsg": ("from count", 4),
+    "pullupmsg": ("from count", 5),
+    "msgdsize": ("from", 1),
+    "size": ("from", 1),
+    "read": ("from at", 3),
+    "block": ("from block", 4),
+    "freeb": ("from", 2),
+    "freemsg": ("from", 3),
+    "putq": ("queue from", 6),
+    "putbq": ("queue from", 2),
+    "insq": ("queue place from", 3),
+    "getq": ("queue to", 6),
+    "rmvq": ("queue place to", 3),
+    "flushq": ("queue flag", 2),
+    "flushband": ("queue band flag", 2),
+    "bcanput": ("queue band", 10),
+    "qsize": ("queue", 1),
+    "qenable": ("queue", 1),
+    "noenable": ("queue", 1),
+    "enableok": ("queue", 2),
+    "service": ("", 2),
+    "bufcall": ("size", 4),
+    "unbufcall": ("id", 2),
+    "ready": ("", 3),
+    "census": ("", 1),
+}
+BAG = [word for word, (_, often) in WORDS.items() for _ in range(often)]
+
+
+def value_of(what, model, dice):
+    """What may stand behind a word. Mostly, a source holds a message and a destination doesn't."""
+    if what in ("from", "to"):
+        fitting = [register for register in REGISTERS if (register in model.held) == (what == "from")]
+        return dice.one_of(fitting if fitting and dice.below(8) > 0 else REGISTERS)
+    if what == "size":
+        return dice.below(70) if dice.below(3) > 0 else dice.below(280)
+    if what == "block":
+        return 0 if dice.below(5) > 1 else dice.below(4)
+    if what == "octets":
+        return bytes(dice.below(256) for _ in range(dice.below(12) if dice.below(4) > 0 else dice.below(41)))
+    if what == "kind":
+        return dice.one_of(dice.one_of([["M_DATA"], ["M_DATA", "M_PROTO"], ORDINARY, HIGH_PRIORITY]))
+    if what == "band":
+        return dice.below(3) if dice.below(6) > 0 else dice.below(256)
+    if what == "count":
+        return dice.one_of([-1, dice.below(10) - 3, dice.below(60) - 20, dice.below(2**32) - 2**31])
+    if what == "at":
+        return dice.below(12) if dice.below(4) > 0 else dice.below(100)
+    if what == "place":
+        return dice.below(5)
+    if what == "id":
+        pending = [own for own, _ in model.wishes]
+        return dice.one_of(pending) if pending and dice.below(3) > 0 else dice.below(model.next_id + 3)
+    if what == "flag":
+        return dice.one_of(["all", "data"])
+    queues = len(model.queues)
+    return dice.below(queues) if dice.below(12) > 0 else queues
+
+
+def written(value):
+    return value.hex() or "-" if isinstance(value, bytes) else str(value)
+
+
+def turn(model, dice):
+    """A line, and the reply to it, or None where it is none of a command."""
+    if dice.below(20) == 0:
+        return dice.one_of(["", "#", "# more"]), None
+    word = dice.one_of(BAG)
+    items = WORDS[word][0].split()
+    values = [value_of(what, model, dice) for what in items]
+    return " ".join([word, *map(written, values)]), model.answer(word, items, values)
+
+
+def section(model, dice, lines):
+    """So many lines of another worker, with their replies."""
+    model.begin()
+    return [turn(model, dice) for _ in range(lines)]
+
+
+def write_mixed(folder, pool, workers, lines):
+    """Writes a script of so many sections of so many lines, and its text."""
+    model = Model(pool)
+    dice = Dice()
+    sections = [section(model, dice, lines) for _ in range(workers)]
+    write_served(folder, pool.header(), sections, model.report())
