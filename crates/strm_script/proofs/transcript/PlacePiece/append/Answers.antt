@@ -16,5 +16,8 @@ write_digits-start-requires c =
 pub returns-clause-ok : goal.returns-clause-ok
 returns-clause-ok c =
     let short = length_line c.from.result (omega arith) in
-    let whole = placed c.write_digits-colon.new.buf c.write_digits-start.new.buf _ _ c.write_digits-colon.result c.write_digits-start.result (omega (arith, short, c.write_digits-colon.ensures.start)) (omega (arith, c.write_digits-colon.auto.buf, c.write_digits-colon.ensures.start)) c.write_digits-colon.ensures.written c.write_digits-start.ensures.written in
+    let start = c.write_digits-colon.ensures.start in
+    let whole =
+    placed c.write_digits-colon.new.buf c.write_digits-start.new.buf _ _ c.write_digits-colon.result c.write_digits-start.result
+    (omega (arith, short, start)) (omega (arith, c.write_digits-colon.auto.buf, start)) c.write_digits-colon.ensures.written c.write_digits-start.ensures.written in
     grind (arith, common_steps)
