@@ -1,8 +1,8 @@
 -- A text cut at its first separator.
-use Rattle.std.proofs.Common.{◌≡◌, ℕ, ◌+◌, ◌-◌, ◌≤◌, Option, inl, inr, Bool, true, false, not, cond, List, [], ◌∷◌, ◌++◌, length, take, drop, None, Some, refl, sym, ap, ◌∙◌, arith}
+use Rattle.std.proofs.Common.{◌≡◌, ℕ, ◌+◌, ◌-◌, ◌≤◌, Option, inl, inr, Bool, true, false, not, cond, List, [], ◌∷◌, length, take, drop, None, Some, refl, ap, ◌∙◌, arith}
 use Rattle.std.specs.List.{slice_split, onto_first, position, position_or_len, prefix_len}
 use Rattle.std.proofs.lemmas.Bool.{cases_Bool, cond-false, cond-true, le-ltb, lt-ltb, ltb-true, ltb-false}
-use Rattle.std.proofs.lemmas.List.{take_rest, take_at}
+use Rattle.std.proofs.lemmas.List.{take_rest}
 use Rattle.std.proofs.lemmas.List.Splits.{slice_split_first}
 use Rattle.std.proofs.lemmas.List.Sums.{position_or_len_is}
 use Rattle.std.specs.Prelude.{nat_lt}
@@ -33,9 +33,6 @@ slice_split-Some p xs at d found =
     let first = slice_split_first p xs d (ltb-true _ _ place.0) in
     let rest = take_rest xs (at + 1) in
     rw (rest, ← place.1) first
-
-pub take-front : {X : Type 0} (n : ℕ) (xs ys all : List X) → xs ++ ys ≡ all → length xs ≡ n → xs ≡ take n all
-take-front n xs ys all joined count = sym (ap (take n) (sym joined) ∙ take_at xs ys n count)
 
 fails : {b : Bool} → ¬ b ≡ true → b ≡ false
 fails {b} never = elim (cases_Bool b) [ inl passes ↦ absurd (never passes) | inr is ↦ is ]

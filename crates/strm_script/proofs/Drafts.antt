@@ -15,10 +15,9 @@ use Rattle.strm_script.specs.declared.entry.Entry.TheVariants.{Pool, Class, Queu
 use Rattle.strm_shared.specs.declared.line.Line.{Line}
 use Rattle.strm_script.specs.declared.stage.Stage.{Stage}
 use Rattle.strm_script.specs.declared.stage.Stage.TheVariants as stages
-use Rattle.strm_script.specs.declared.verb.Verb.{Verb}
 use Rattle.strm_script.specs.declared.word.Word.{Word}
 use Rattle.strm_script.specs.declared.word.Word.TheVariants as words
-use Rattle.strm_script.specs.Draft.{StandsFor, Takes, pool_at, wishes_at, parts_at, IsIdleAt}
+use Rattle.strm_script.specs.Draft.{StandsFor, HasRoom, pool_at, wishes_at, parts_at, IsIdleAt}
 use Rattle.strm_script.specs.Limits.{most_command_lines}
 use Rattle.strm_script.specs.Script.{Numbered, said, pool_line, class_line, queue_line, bufcalls_line, parts_of, lines_of_section, with_command, with_section, stage_of, stage_behind, may_stand}
 
@@ -170,16 +169,12 @@ at_bufcalls stages.Bufcalls stands before = refl
 at_bufcalls stages.Body stands before = absurd (before refl)
 at_bufcalls _ stands before = cc
 
-in_body : (s : Stage) (verb : Verb) → may_stand s (words.Command verb) ≡ true → s ≡ stages.Body
-in_body stages.Body verb stands = refl
-in_body _ verb stands = cc
-
 -- ---- a line of each kind
 
-pub put_pool : (d : Draft) (es : List Numbered) (n id mblks : ℕ) → Takes d (Pool id mblks) → StandsFor d es → StandsFor (record d { stage = stages.Pool; id = id; mblks = mblks }) (es ++ record { number = n; entry = Pool id mblks } ∷ [])
-put_pool d es n id mblks takes so =
+pub put_pool : (d : Draft) (es : List Numbered) (n id mblks : ℕ) → may_stand d.stage words.Pool ≡ true → StandsFor d es → StandsFor (record d { stage = stages.Pool; id = id; mblks = mblks }) (es ++ record { number = n; entry = Pool id mblks } ∷ [])
+put_pool d es n id mblks stands so =
     let e : Numbered = record { number = n; entry = Pool id mblks } in
-    let at = at_start d.stage takes.stands in
+    let at = at_start d.stage stands in
     record {
       stage = stage_of-push es e;
       pool = said-more pool_line es e [] _ (so.pool ∙ ap (λ s. pool_at s (d.id, d.mblks)) at) refl;
@@ -192,10 +187,10 @@ put_pool d es n id mblks takes so =
       idle = rw at at so.idle;
     }
 
-pub put_class : (d : Draft) (es : List Numbered) (n : ℕ) (spec : ClassSpec) (classes : ArrayVec ClassSpec) → classes.items ≡ d.classes.items ++ spec ∷ [] → Takes d (Class spec) → StandsFor d es → StandsFor (record d { stage = stages.Class; classes = classes }) (es ++ record { number = n; entry = Class spec } ∷ [])
-put_class d es n spec classes pushed takes so =
+pub put_class : (d : Draft) (es : List Numbered) (n : ℕ) (spec : ClassSpec) (classes : ArrayVec ClassSpec) → classes.items ≡ d.classes.items ++ spec ∷ [] → may_stand d.stage words.Class ≡ true → StandsFor d es → StandsFor (record d { stage = stages.Class; classes = classes }) (es ++ record { number = n; entry = Class spec } ∷ [])
+put_class d es n spec classes pushed stands so =
     let e : Numbered = record { number = n; entry = Class spec } in
-    let m = middle d.stage words.Class refl takes.stands in
+    let m = middle d.stage words.Class refl stands in
     record {
       stage = stage_of-push es e;
       pool = said-same pool_line es e _ (so.pool ∙ m.pool _) refl;
@@ -208,10 +203,10 @@ put_class d es n spec classes pushed takes so =
       idle = m.idle _ _ so.idle;
     }
 
-pub put_queue : (d : Draft) (es : List Numbered) (n : ℕ) (spec : QueueSpec) (queues : ArrayVec QueueSpec) → queues.items ≡ d.queues.items ++ spec ∷ [] → Takes d (Queue spec) → StandsFor d es → StandsFor (record d { stage = stages.Queue; queues = queues }) (es ++ record { number = n; entry = Queue spec } ∷ [])
-put_queue d es n spec queues pushed takes so =
+pub put_queue : (d : Draft) (es : List Numbered) (n : ℕ) (spec : QueueSpec) (queues : ArrayVec QueueSpec) → queues.items ≡ d.queues.items ++ spec ∷ [] → may_stand d.stage words.Queue ≡ true → StandsFor d es → StandsFor (record d { stage = stages.Queue; queues = queues }) (es ++ record { number = n; entry = Queue spec } ∷ [])
+put_queue d es n spec queues pushed stands so =
     let e : Numbered = record { number = n; entry = Queue spec } in
-    let m = middle d.stage words.Queue refl takes.stands in
+    let m = middle d.stage words.Queue refl stands in
     record {
       stage = stage_of-push es e;
       pool = said-same pool_line es e _ (so.pool ∙ m.pool _) refl;
@@ -224,10 +219,10 @@ put_queue d es n spec queues pushed takes so =
       idle = m.idle _ _ so.idle;
     }
 
-pub put_bufcalls : (d : Draft) (es : List Numbered) (n bufcalls first_id : ℕ) → Takes d (Bufcalls bufcalls first_id) → StandsFor d es → StandsFor (record d { stage = stages.Bufcalls; bufcalls = bufcalls; first_id = first_id }) (es ++ record { number = n; entry = Bufcalls bufcalls first_id } ∷ [])
-put_bufcalls d es n bufcalls first_id takes so =
+pub put_bufcalls : (d : Draft) (es : List Numbered) (n bufcalls first_id : ℕ) → may_stand d.stage words.Bufcalls ≡ true → StandsFor d es → StandsFor (record d { stage = stages.Bufcalls; bufcalls = bufcalls; first_id = first_id }) (es ++ record { number = n; entry = Bufcalls bufcalls first_id } ∷ [])
+put_bufcalls d es n bufcalls first_id stands so =
     let e : Numbered = record { number = n; entry = Bufcalls bufcalls first_id } in
-    let m = middle d.stage words.Bufcalls refl takes.stands in
+    let m = middle d.stage words.Bufcalls refl stands in
     record {
       stage = stage_of-push es e;
       pool = said-same pool_line es e _ (so.pool ∙ m.pool _) refl;
@@ -240,10 +235,10 @@ put_bufcalls d es n bufcalls first_id takes so =
       idle = m.idle _ _ so.idle;
     }
 
-pub first_section : (d : Draft) (es : List Numbered) (n : ℕ) → Takes d Worker → d.stage ≢ stages.Body → StandsFor d es → StandsFor (record d { stage = stages.Body }) (es ++ record { number = n; entry = Worker } ∷ [])
-first_section d es n takes before so =
+pub first_section : (d : Draft) (es : List Numbered) (n : ℕ) → may_stand d.stage words.Worker ≡ true → d.stage ≢ stages.Body → StandsFor d es → StandsFor (record d { stage = stages.Body }) (es ++ record { number = n; entry = Worker } ∷ [])
+first_section d es n stands before so =
     let e : Numbered = record { number = n; entry = Worker } in
-    let at = at_bufcalls d.stage takes.stands before in
+    let at = at_bufcalls d.stage stands before in
     let idle : (d.parts.items ≡ []) × (d.lines.items ≡ []) = rw at at so.idle in
     let none : parts_of es ≡ [] = so.parts ∙ ap (λ s. parts_at s d.parts.items d.lines.items) at in
     record {
@@ -259,8 +254,8 @@ first_section d es n takes before so =
     }
 
 pub next_section : (d : Draft) (es : List Numbered) (n : ℕ) (parts : Vec (List Line)) (lines : Vec Line) → parts.items ≡ d.parts.items ++ d.lines.items ∷ [] → lines.items ≡ []
-    → Takes d Worker → d.stage ≡ stages.Body → StandsFor d es → StandsFor (record d { parts = parts; lines = lines }) (es ++ record { number = n; entry = Worker } ∷ [])
-next_section d es n parts lines pushed blank takes at so =
+    → HasRoom d words.Worker → d.stage ≡ stages.Body → StandsFor d es → StandsFor (record d { parts = parts; lines = lines }) (es ++ record { number = n; entry = Worker } ∷ [])
+next_section d es n parts lines pushed blank room at so =
     let e : Numbered = record { number = n; entry = Worker } in
     record {
       stage = stage_of-push es e ∙ sym at;
@@ -274,15 +269,14 @@ next_section d es n parts lines pushed blank takes at so =
           ∙ ap (λ (ls : List Line). parts.items ++ ls ∷ []) (sym blank)
           ∙ sym (ap (λ s. parts_at s parts.items lines.items) at);
       left = left-section es e d.left so.left refl refl;
-      few = omega (arith, takes.room, ap length pushed, length_push d.parts.items d.lines.items);
+      few = omega (arith, room, ap length pushed, length_push d.parts.items d.lines.items);
       idle = rw at tt;
     }
 
 pub put_command : (d : Draft) (es : List Numbered) (n : ℕ) (call : Call) (lines : Vec Line) (left : ℕ) → lines.items ≡ d.lines.items ++ record { number = n; call = call } ∷ [] → left + 1 ≡ d.left
-    → Takes d (Command call) → StandsFor d es → StandsFor (record d { lines = lines; left = left }) (es ++ record { number = n; entry = Command call } ∷ [])
-put_command d es n call lines left pushed fewer takes so =
+    → d.stage ≡ stages.Body → StandsFor d es → StandsFor (record d { lines = lines; left = left }) (es ++ record { number = n; entry = Command call } ∷ [])
+put_command d es n call lines left pushed fewer at so =
     let e = command n call in
-    let at = in_body d.stage takes.verb takes.stands in
     let begun : parts_of es ≡ d.parts.items ++ d.lines.items ∷ [] = so.parts ∙ ap (λ s. parts_at s d.parts.items d.lines.items) at in
     let more : parts_of (es ++ e ∷ []) ≡ d.parts.items ++ (d.lines.items ++ line_of n call ∷ []) ∷ [] = (grown es n call d.parts.items d.lines.items begun).parts in
     record {

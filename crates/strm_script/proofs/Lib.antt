@@ -2,7 +2,6 @@ pub mod Constants
 pub mod Forms
 pub mod Cuts
 pub mod Shapes
-pub mod Entries
 pub mod Drafts
 pub mod Reading
 pub mod Scripts

@@ -3,9 +3,10 @@ use Rattle.std.proofs.Common.{◌≡◌, ℕ, ◌+◌, ◌<◌, ◌≤◌, ◌==
 use Rattle.std.proofs.lemmas.List.Splits.{length-slice_split}
 use Rattle.std.proofs.lemmas.List.Sums.{count_by-le-length}
 use Rattle.strm_script.specs.declared.draft.Draft.{Draft}
-use Rattle.strm_script.specs.declared.fault.ParseFault.{ParseFault}
-use Rattle.strm_script.specs.declared.fault.ParseFault.TheVariants as faults
+use Rattle.strm_script.specs.declared.fault.LineFault.{LineFault}
+use Rattle.strm_script.specs.declared.fault.LineFault.TheVariants as faults
 use Rattle.strm_script.specs.Draft.{StandsFor, Reads}
+use Rattle.strm_script.specs.Fault.{on_line}
 use Rattle.strm_script.specs.Parsed.{Parses}
 use Rattle.strm_script.specs.Script.{Numbered, with_line, then_lines, entries_from, pieces_of, closed, script_of}
 use Rattle.strm_script.specs.Limits.{most_script_bytes}
@@ -52,9 +53,8 @@ continues-line d n text bytes line rest k new cut read = record {
 }
 
 -- a line has a fault, or memory ran out
-pub stops-line : (d : Draft) (n : ℕ) (text bytes line rest : List ℕ) (k : Continues d n text bytes) (new : Draft) (e : ParseFault) → pieces_of text ≡ line ∷ pieces_of rest → Reads n new (Err e) (with_line k.es n line) → Parses (Err e) (script_of bytes)
-stops-line d n text bytes line rest k new (faults.Script found) cut read =
+pub stops-line : (d : Draft) (n : ℕ) (text bytes line rest : List ℕ) (k : Continues d n text bytes) (new : Draft) (fault : LineFault) → pieces_of text ≡ line ∷ pieces_of rest → Reads new (Err fault) (with_line k.es n line) → Parses (Err (on_line n fault)) (script_of bytes)
+stops-line d n text bytes line rest k new (faults.Kind kind) cut read =
     sym (given-line d n text bytes line rest k cut)
-    ∙ ap (λ r. closed (length (pieces_of bytes)) (then_lines n r (λ more. entries_from more (n + 1) (pieces_of rest)))) read.0
-    ∙ ap (λ (line : ℕ). Err (record { line = line; kind = found.kind })) (sym read.1)
+    ∙ ap (λ r. closed (length (pieces_of bytes)) (then_lines n r (λ more. entries_from more (n + 1) (pieces_of rest)))) read
 stops-line d n text bytes line rest k new faults.Memory cut read = tt

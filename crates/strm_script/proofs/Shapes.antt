@@ -1,9 +1,10 @@
 -- Words read from left to right.
-use Rattle.std.proofs.Common.{◌≡◌, ℕ, ◌<◌, ◌≤◌, List, [], ◌∷◌, length, slice_index_or, Result, Ok, Err, Bor, refl, ap, ◌∙◌, arith}
+use Rattle.std.proofs.Common.{◌≡◌, ℕ, ◌<◌, List, [], ◌∷◌, length, Result, Ok, Err, refl, ap, ◌∙◌, arith}
 use Rattle.std.specs.Result.{IsErrAnd}
 use Rattle.std.proofs.lemmas.Result.{err_from_is_err_and}
 use Rattle.strm_script.specs.declared.fault.Kind.{Kind}
-use Rattle.strm_script.specs.Shape.{◌>>=◌}
+use Rattle.strm_script.specs.declared.fault.Kind.TheVariants.{Shape}
+use Rattle.strm_script.specs.Shape.{◌>>=◌, read_none}
 
 -- ---- the first word that isn't of its form decides
 
@@ -15,22 +16,17 @@ exits result made f kind out is_made =
 pub goes_on : {A B : Type 0} (result : Result B Kind) (made : Result A Kind) (f : A → Result B Kind) (x : A) → Ok x ≡ made → result ≡ f x → result ≡ (made >>= f)
 goes_on result made f x is_made then = then ∙ ap (λ r. r >>= f) is_made
 
--- ---- lists by their length
+-- ---- words cut one by one
 
-abbrev pub item : List (Bor (List ℕ)) → ℕ → Bor (List ℕ)
-item ws k = slice_index_or ws k (record { ref_ptr = (0, 0); now = [] })
+-- where there is a word
+pub read_none-some : (ws : List (List ℕ)) → 0 < length ws → read_none ws ≡ Err Shape
+read_none-some [] some = absurd (omega arith)
+read_none-some (a ∷ ws) some = refl
 
-pub three_items : (ws : List (Bor (List ℕ))) → 3 ≤ length ws → length ws < 4 → ws ≡ item ws 0 ∷ item ws 1 ∷ item ws 2 ∷ []
-three_items [] least most = absurd (omega arith)
-three_items (a ∷ []) least most = absurd (omega arith)
-three_items (a ∷ b ∷ []) least most = absurd (omega arith)
-three_items (a ∷ b ∷ c ∷ []) least most = refl
-three_items (a ∷ b ∷ c ∷ d ∷ ws) least most = absurd (omega arith)
+no_words : (ws : List (List ℕ)) → Ok tt ≡ read_none ws → ws ≡ []
+no_words [] none = refl
+no_words (a ∷ ws) none = cc
 
-pub four_items : (ws : List (Bor (List ℕ))) → 4 ≤ length ws → length ws < 5 → ws ≡ item ws 0 ∷ item ws 1 ∷ item ws 2 ∷ item ws 3 ∷ []
-four_items [] least most = absurd (omega arith)
-four_items (a ∷ []) least most = absurd (omega arith)
-four_items (a ∷ b ∷ []) least most = absurd (omega arith)
-four_items (a ∷ b ∷ c ∷ []) least most = absurd (omega arith)
-four_items (a ∷ b ∷ c ∷ d ∷ []) least most = refl
-four_items (a ∷ b ∷ c ∷ d ∷ e ∷ ws) least most = absurd (omega arith)
+pub four_words : {a b c d : List ℕ} (ws behind_a behind_b behind_c behind_d : List (List ℕ)) → ws ≡ a ∷ behind_a → behind_a ≡ b ∷ behind_b → behind_b ≡ c ∷ behind_c → behind_c ≡ d ∷ behind_d → Ok tt ≡ read_none behind_d → ws ≡ a ∷ b ∷ c ∷ d ∷ []
+four_words {a} {b} {c} {d} ws behind_a behind_b behind_c behind_d first second third fourth none =
+    first ∙ ap (λ ws. a ∷ ws) (second ∙ ap (λ ws. b ∷ ws) (third ∙ ap (λ ws. c ∷ ws) (fourth ∙ ap (λ ws. d ∷ ws) (no_words behind_d none))))

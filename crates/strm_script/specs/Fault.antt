@@ -1,6 +1,10 @@
--- The name of each kind of fault.
+-- The name of each kind of fault, and the fault of a script that a line has.
 use Rattle.std.specs.Prelude.{ℕ, List, codes}
 use Rattle.strm_script.specs.declared.fault.Kind.{Kind}
+use Rattle.strm_script.specs.declared.fault.LineFault.{LineFault}
+use Rattle.strm_script.specs.declared.fault.LineFault.TheVariants as lines
+use Rattle.strm_script.specs.declared.fault.ParseFault.{ParseFault}
+use Rattle.strm_script.specs.declared.fault.ParseFault.TheVariants as faults
 use Rattle.strm_script.specs.declared.fault.Kind.TheVariants.{Cut, Unknown, Order, Toomany, Shape, Number, Register, Word, Hex, Missing}
 
 abbrev pub kind_text : Kind → List ℕ
@@ -14,3 +18,8 @@ kind_text Register = codes "register"
 kind_text Word = codes "word"
 kind_text Hex = codes "hex"
 kind_text Missing = codes "missing"
+
+-- why a script is not read of which a line is not
+abbrev pub on_line : ℕ → LineFault → ParseFault
+on_line n (lines.Kind kind) = faults.Script (record { line = n; kind = kind })
+on_line n lines.Memory = faults.Memory

@@ -1,10 +1,9 @@
 //! A text cut at line ends and at spaces.
-ghost use Rattle.std.specs.Prelude.{◌≡◌, ◌<◌, ◌==◌, ◌∷◌, ℕ, IfSome, length, map, take, position};
+ghost use Rattle.std.specs.Prelude.{◌≡◌, ◌<◌, ◌==◌, ◌∷◌, ℕ, IfSome, length, position};
 ghost use Rattle.std.specs.List.{slice_split};
 ghost use Rattle.std.specs.Option.{option_copied};
 ghost use Rattle.strm_script.specs.Cut.{pieces_behind};
 
-use arrayvec::ArrayVec;
 use memchr::memchr;
 
 // The bytes before a place, and those behind it where there is one.
@@ -47,20 +46,4 @@ pub fn cut_word(text: &[u8]) -> (&[u8], Option<&[u8]>)
     ensures { slice_split (λ b. b == 32) text.now ≡ result.0.now ∷ pieces_behind 32 (option_copied result.1) }
 {
     cut_at(text, space(text))
-}
-
-/// The first five words of a text, of which each space ends one.
-pub fn words_of(text: Option<&[u8]>) -> ArrayVec<&[u8], 5>
-    ensures { map (λ word. word.now) result.items ≡ take 5 (pieces_behind 32 (option_copied text.entry)) }
-{
-    let mut words = ArrayVec::new();
-    let mut rest = text;
-    while let Some(some) = rest
-        && !words.is_full()
-    {
-        let (word, behind) = cut_word(some);
-        words.push(word);
-        rest = behind;
-    }
-    words
 }

@@ -1,23 +1,26 @@
 //! A script that is being read.
-ghost use Rattle.std.specs.Prelude.{◌≡◌, ◌≤◌, ◌++◌, ◌∷◌, [], List, ℕ, Bool, true, false, length, map, Ok, IfOk, IfSome, OnOk};
+ghost use Rattle.std.specs.Prelude.{◌≡◌, ◌<◌, ◌≤◌, ◌++◌, ◌∷◌, [], List, ℕ, Bool, true, false, length, Ok, IfOk, OnOk};
+ghost use Rattle.strm_script.specs.Cut.{words_behind};
 ghost use Rattle.strm_shared.specs.Limits.{most_workers};
-ghost use Rattle.strm_script.specs.Script.{Numbered, is_full, with_words, with_entry, is_skipped, with_line, closed};
-ghost use Rattle.strm_script.specs.Draft.{StandsFor, Takes, HasRoom, Reads, with_said};
-ghost use Rattle.strm_script.specs.declared.entry.Entry.TheVariants.{Worker};
+ghost use Rattle.strm_script.specs.Entry.{entry_of};
+ghost use Rattle.strm_script.specs.Script.{Numbered, is_full, may_stand, with_words, with_entry, is_skipped, with_line, closed};
+ghost use Rattle.strm_script.specs.Draft.{StandsFor, HasRoom, Reads, with_first};
+ghost use Rattle.strm_script.specs.declared.entry.Entry.TheVariants.{Worker, Command};
 ghost use Rattle.strm_script.specs.Parsed.{Parses};
 
-use crate::cut::{cut_word, words_of};
-use crate::entry::{Entry, entry_of};
-use crate::fault::{Fault, Kind, ParseFault};
+use crate::cut::cut_word;
+use crate::entry::call_of;
+use crate::fault::{Fault, Kind, LineFault, ParseFault};
 use crate::limits::MOST_COMMAND_LINES;
 use crate::script::Script;
+use crate::shape::{four, none, two};
 use crate::stage::Stage;
 use crate::word::{Word, word_of};
 use arrayvec::ArrayVec;
 use std::alloc::{AllocError, Global};
 use std::mem;
 use strm_data::MOST_CLASSES;
-use strm_pool::{ClassSpec, ClassSpecs, Config, MOST_QUEUES, QueueSpec, QueueSpecs};
+use strm_pool::{Call, ClassSpec, ClassSpecs, Config, MOST_QUEUES, QueueSpec, QueueSpecs};
 use strm_shared::{Line, Lines, MOST_WORKERS, Parts};
 
 /// What the lines of a script have said so far.
@@ -80,37 +83,25 @@ impl Draft {
         }
     }
 
-    // What a line says, by its words.
-    fn entry_of_words(&self, first: &[u8], arguments: &[&[u8]]) -> Result<Entry, Kind>
-        ensures takes { IfOk result (λ entry. Takes self.now entry) }
-        ensures reads { (es : List Numbered) (n : ℕ) → StandsFor self.now es
-            → with_words es n (first.now ∷ map (λ argument. argument.now) arguments.now) ≡ with_entry es n result }
+    // The word that a line begins with, where it may stand here and there is room for it.
+    fn first_word(&self, text: &[u8]) -> Result<Word, Kind>
+        ensures stands { IfOk result (λ word. may_stand self.now.stage word ≡ true) }
+        ensures room { IfOk result (λ word. HasRoom self.now word) }
+        ensures reads { (es : List Numbered) (n : ℕ) (arguments : List (List ℕ)) → StandsFor self.now es
+            → with_words es n (text.now ∷ arguments) ≡ with_first es n result arguments }
     {
-        match word_of(first) {
+        match word_of(text) {
             None => Err(Kind::Unknown),
             Some(word) if !self.stage.allows(word) => Err(Kind::Order),
             Some(word) if self.is_full(word) => Err(Kind::Toomany),
-            Some(word) => entry_of(word, arguments),
+            Some(word) => Ok(word),
         }
-    }
-
-    // What a line says, or nothing where it is empty or a comment.
-    fn entry_of_line(&self, text: &[u8]) -> Result<Option<Entry>, Kind>
-        ensures takes { IfOk result (λ said. IfSome said (λ entry. Takes self.now entry)) }
-        ensures reads { (es : List Numbered) (n : ℕ) → StandsFor self.now es
-            → with_line es n text.now ≡ with_said es n result }
-    {
-        if is_skipped(text) {
-            return Ok(None);
-        }
-        let (first, rest) = cut_word(text);
-        let entry = self.entry_of_words(first, words_of(rest).as_slice())?;
-        Ok(Some(entry))
     }
 
     // Begins a section. The one that was being read is whole.
     fn begin_section(&mut self) -> Result<(), AllocError>
-        requires { Takes self.old Worker }
+        requires stands { may_stand self.old.stage Word.Worker ≡ true }
+        requires room { HasRoom self.old Word.Worker }
         ensures { OnOk result ((es : List Numbered) (n : ℕ) → StandsFor self.old es
             → StandsFor self.new (es ++ record { number = n; entry = Worker } ∷ [])) }
     {
@@ -122,50 +113,72 @@ impl Draft {
         Ok(self.parts.push(Lines::of(lines))?)
     }
 
-    // Takes what a line says that may stand here and for which there is room.
-    fn put(&mut self, number: u32, entry: Entry) -> Result<(), AllocError>
-        requires { Takes self.old entry }
+    // Puts a line behind those of the section that is being read.
+    fn put_call(&mut self, number: u32, call: Call) -> Result<(), AllocError>
+        requires begun { self.old.stage ≡ Stage.Body }
+        requires room { 0 < self.old.left }
         ensures { OnOk result ((es : List Numbered) → StandsFor self.old es
-            → StandsFor self.new (es ++ record { number = number; entry = entry } ∷ [])) }
+            → StandsFor self.new (es ++ record { number = number; entry = Command call } ∷ [])) }
     {
-        match entry {
-            Entry::Pool(id, mblks) => {
+        self.lines.push(Line { number, call })?;
+        self.left -= 1;
+        Ok(())
+    }
+
+    // Takes what a line says that begins with this word, behind which these stand.
+    fn take(&mut self, number: u32, word: Word, arguments: Option<&[u8]>) -> Result<(), LineFault>
+        requires stands { may_stand self.old.stage word ≡ true }
+        requires room { HasRoom self.old word }
+        ensures { (es : List Numbered) → StandsFor self.old es
+            → Reads self.new result (with_entry es number (entry_of word (words_behind arguments.entry))) }
+    {
+        match word {
+            Word::Pool => {
+                (self.id, self.mblks) = two(arguments)?;
                 self.stage = Stage::Pool;
-                self.id = id;
-                self.mblks = mblks;
             }
-            Entry::Class(spec) => {
+            Word::Class => {
+                let (size, count) = two(arguments)?;
+                self.classes.push(ClassSpec { size, count });
                 self.stage = Stage::Class;
-                self.classes.push(spec);
             }
-            Entry::Queue(spec) => {
+            Word::Queue => {
+                let (hiwat, lowat, service, next) = four(arguments)?;
+                self.queues.push(QueueSpec {
+                    hiwat,
+                    lowat,
+                    service,
+                    next,
+                });
                 self.stage = Stage::Queue;
-                self.queues.push(spec);
             }
-            Entry::Bufcalls(bufcalls, first_id) => {
+            Word::Bufcalls => {
+                (self.bufcalls, self.first_id) = two(arguments)?;
                 self.stage = Stage::Bufcalls;
-                self.bufcalls = bufcalls;
-                self.first_id = first_id;
             }
-            Entry::Worker => self.begin_section()?,
-            Entry::Command(call) => {
-                self.lines.push(Line { number, call })?;
-                self.left -= 1;
+            Word::Worker => {
+                none(arguments)?;
+                self.begin_section()?;
+            }
+            Word::Command(verb) => {
+                let call = call_of(verb, arguments)?;
+                self.put_call(number, call)?;
             }
         }
         Ok(())
     }
 
     /// Reads line `number`.
-    pub fn read(&mut self, number: u32, text: &[u8]) -> Result<(), ParseFault>
+    pub fn read(&mut self, number: u32, text: &[u8]) -> Result<(), LineFault>
         ensures { (es : List Numbered) → StandsFor self.old es
-            → Reads number self.new result (with_line es number text.now) }
+            → Reads self.new result (with_line es number text.now) }
     {
-        match self.entry_of_line(text) {
-            Ok(None) => Ok(()),
-            Ok(Some(entry)) => Ok(self.put(number, entry)?),
-            Err(kind) => Err(ParseFault::Script(Fault { line: number, kind })),
+        if is_skipped(text) {
+            return Ok(());
         }
+        let (first, arguments) = cut_word(text);
+        let word = self.first_word(first)?;
+        self.take(number, word, arguments)
     }
 
     /// The script that ends before line `number`. Where no worker section has begun, one is missing on that line.

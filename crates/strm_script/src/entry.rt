@@ -1,14 +1,14 @@
 //! What the lines of a script say.
-ghost use Rattle.std.specs.Prelude.{◌≡◌, map};
-ghost use Rattle.strm_script.specs.Entry.{call_of, entry_of};
+ghost use Rattle.std.specs.Prelude.{◌≡◌};
+ghost use Rattle.strm_script.specs.Cut.{words_behind};
+ghost use Rattle.strm_script.specs.Entry.{call_of};
 
 use crate::fault::Kind;
-use crate::shape::{four, none, one, three, two};
+use crate::shape::{none, one, three, two};
 use crate::verb::Verb;
-use crate::word::Word;
 use strm_pool::{Call, ClassSpec, QueueSpec};
 
-/// What a line says.
+/// What a line says. Only the definitions speak of it: what the code reads of a line it takes in at once.
 #[derive(Debug, Drop)]
 pub enum Entry {
     /// The pool's id and the number of its message blocks.
@@ -25,9 +25,9 @@ pub enum Entry {
     Command(Call),
 }
 
-// The call of a command line that begins with this word and goes on with these.
-fn call_of(verb: Verb, arguments: &[&[u8]]) -> Result<Call, Kind>
-    ensures { result ≡ call_of verb (map (λ argument. argument.now) arguments.now) }
+/// The call of a command line that begins with this word, behind which these stand.
+pub fn call_of(verb: Verb, arguments: Option<&[u8]>) -> Result<Call, Kind>
+    ensures { result ≡ call_of verb (words_behind arguments.entry) }
 {
     match verb {
         Verb::Allocb => two(arguments).map(|(reg, size)| Call::Allocb(reg, size)),
@@ -69,28 +69,5 @@ fn call_of(verb: Verb, arguments: &[&[u8]]) -> Result<Call, Kind>
         Verb::Unbufcall => one(arguments).map(Call::Unbufcall),
         Verb::Ready => none(arguments).map(|()| Call::Ready),
         Verb::Census => none(arguments).map(|()| Call::Census),
-    }
-}
-
-/// What a line says that begins with this word and goes on with these.
-pub fn entry_of(word: Word, arguments: &[&[u8]]) -> Result<Entry, Kind>
-    ensures { result ≡ entry_of word (map (λ argument. argument.now) arguments.now) }
-{
-    match word {
-        Word::Pool => two(arguments).map(|(id, mblks)| Entry::Pool(id, mblks)),
-        Word::Class => two(arguments).map(|(size, count)| Entry::Class(ClassSpec { size, count })),
-        Word::Queue => four(arguments).map(|(hiwat, lowat, service, next)| {
-            Entry::Queue(QueueSpec {
-                hiwat,
-                lowat,
-                service,
-                next,
-            })
-        }),
-        Word::Bufcalls => {
-            two(arguments).map(|(wishes, first_id)| Entry::Bufcalls(wishes, first_id))
-        }
-        Word::Worker => none(arguments).map(|()| Entry::Worker),
-        Word::Command(verb) => call_of(verb, arguments).map(Entry::Command),
     }
 }

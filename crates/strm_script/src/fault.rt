@@ -1,6 +1,6 @@
 //! What is wrong with a script, and why it is not read.
 ghost use Rattle.std.specs.Prelude.{◌≡◌};
-ghost use Rattle.strm_script.specs.Fault.{kind_text};
+ghost use Rattle.strm_script.specs.Fault.{kind_text, on_line};
 
 use std::alloc::AllocError;
 use std::fmt;
@@ -48,6 +48,15 @@ pub enum ParseFault {
     Memory,
 }
 
+/// Why a line was not read.
+#[derive(Clone, Copy, Debug, PartialEq, Eq)]
+pub enum LineFault {
+    /// What is wrong with it.
+    Kind(Kind),
+    /// There is not enough memory.
+    Memory,
+}
+
 impl Kind {
     /// The kind's name.
     pub fn name(self) -> &'static str
@@ -64,6 +73,18 @@ impl Kind {
             Kind::Word => "word",
             Kind::Hex => "hex",
             Kind::Missing => "missing",
+        }
+    }
+}
+
+impl LineFault {
+    /// The same, of the script that has this line.
+    pub fn on_line(self, line: u32) -> ParseFault
+        ensures { result ≡ on_line line self }
+    {
+        match self {
+            LineFault::Kind(kind) => ParseFault::Script(Fault { line, kind }),
+            LineFault::Memory => ParseFault::Memory,
         }
     }
 }
@@ -87,5 +108,25 @@ impl From<AllocError> for ParseFault {
 
     fn from(_error: AllocError) -> ParseFault {
         ParseFault::Memory
+    }
+}
+
+impl From<AllocError> for LineFault {
+    ghost use Rattle.strm_script.specs.declared.fault.LineFault.TheVariants.{Memory};
+
+    ghost from_gives = { λ _ e. e ≡ Memory };
+
+    fn from(_error: AllocError) -> LineFault {
+        LineFault::Memory
+    }
+}
+
+impl From<Kind> for LineFault {
+    ghost use Rattle.strm_script.specs.declared.fault.LineFault.TheVariants as faults;
+
+    ghost from_gives = { λ kind e. e ≡ faults.Kind kind };
+
+    fn from(kind: Kind) -> LineFault {
+        LineFault::Kind(kind)
     }
 }

@@ -1,7 +1,7 @@
 //! What a word stands for, where the form of a line wants a number, a register, a word or bytes.
 ghost use Rattle.std.specs.Prelude.{◌≡◌, ◌*◌, ◌<◌, ◌≤◌, length, option_map, IfSome};
 ghost use Rattle.strm_pool.specs.Limits.{most_octets};
-ghost use Rattle.strm_script.specs.Form.{are_digits, begins_well, number_of, negative_of, is_dash, type_named, hex_digit, hex_pair, hex_bytes};
+ghost use Rattle.strm_script.specs.Form.{is_digit, begins_well, number_of, negative_of, is_dash, type_named, hex_digit, hex_pair, hex_bytes};
 
 use crate::fault::Kind;
 use arrayvec::ArrayVec;
@@ -46,11 +46,11 @@ const TYPES: [MsgType; 22] = [
     MsgType::MIocdata,
 ];
 
-// Whether all bytes are digits.
-fn are_digits(word: &[u8]) -> bool
-    ensures { result ≡ are_digits word.now }
+// Whether a byte is one of `0` to `9`.
+fn is_digit(byte: u8) -> bool
+    ensures { result ≡ is_digit byte }
 {
-    word.iter().all(|byte| (48..=57).contains(byte))
+    (48..=57).contains(&byte)
 }
 
 // Whether a word has a first byte, which is not `0` unless it is the only one.
@@ -68,11 +68,14 @@ fn begins_well(word: &[u8]) -> bool
 fn number_of(most: u32, word: &[u8]) -> Result<u32, Kind>
     ensures { result ≡ number_of most word.now }
 {
-    if !(are_digits(word) && begins_well(word)) {
+    if !begins_well(word) {
         return Err(Kind::Number);
     }
     let mut value: u64 = 0;
     for byte in word {
+        if !is_digit(*byte) {
+            return Err(Kind::Number);
+        }
         value = 10 * value + u64::from(*byte - b'0');
         if value > u64::from(most) {
             return Err(Kind::Number);

@@ -35,7 +35,9 @@ pub fn parse(alloc: Global, bytes: &[u8]) -> Result<Script, ParseFault>
         let (line, rest) = cut_line(text);
         match rest {
             Some(rest) => {
-                draft.read(number, line)?;
+                if let Err(fault) = draft.read(number, line) {
+                    return Err(fault.on_line(number));
+                }
                 text = rest;
                 number += 1;
             }

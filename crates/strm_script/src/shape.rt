@@ -1,65 +1,80 @@
 //! The words behind the first one of a line: so many of them, each of its own form.
-ghost use Rattle.std.specs.Prelude.{◌≡◌, map};
+ghost use Rattle.std.specs.Prelude.{◌≡◌, ◌∷◌, [], IfOk, IfErr};
+ghost use Rattle.strm_script.specs.Cut.{words_behind};
 ghost use Rattle.strm_script.specs.Shape.{read_none, read_one, read_two, read_three, read_four};
 
+use crate::cut::cut_word;
 use crate::fault::Kind;
 use crate::form::Argument;
 
-/// No words.
-pub fn none(arguments: &[&[u8]]) -> Result<(), Kind>
-    ensures { result ≡ read_none (map (λ argument. argument.now) arguments.now) }
+// The next word, and what stands behind it.
+fn next(text: Option<&[u8]>) -> Result<(&[u8], Option<&[u8]>), Kind>
+    ensures word { IfOk result (λ cut. words_behind text.entry ≡ cut.0.now ∷ words_behind cut.1) }
+    ensures none { IfErr result (λ kind. (kind ≡ Kind.Shape) × (words_behind text.entry ≡ [])) }
 {
-    match arguments {
-        [] => Ok(()),
-        _ => Err(Kind::Shape),
+    match text {
+        Some(text) => Ok(cut_word(text)),
+        None => Err(Kind::Shape),
+    }
+}
+
+/// No words.
+pub fn none(text: Option<&[u8]>) -> Result<(), Kind>
+    ensures { result ≡ read_none (words_behind text.entry) }
+{
+    match text {
+        None => Ok(()),
+        Some(_) => Err(Kind::Shape),
     }
 }
 
 /// What one word stands for.
-pub fn one<A: Argument>(arguments: &[&[u8]]) -> Result<A, Kind>
-    ensures { result ≡ read_one A.form (map (λ argument. argument.now) arguments.now) }
+pub fn one<A: Argument>(text: Option<&[u8]>) -> Result<A, Kind>
+    ensures { result ≡ read_one A.form (words_behind text.entry) }
 {
-    match arguments {
-        [first] => A::read(first),
-        _ => Err(Kind::Shape),
-    }
+    let (first, rest) = next(text)?;
+    none(rest)?;
+    A::read(first)
 }
 
 /// What two words stand for.
-pub fn two<A: Argument + Drop, B: Argument>(arguments: &[&[u8]]) -> Result<(A, B), Kind>
-    ensures { result ≡ read_two A.form B.form (map (λ argument. argument.now) arguments.now) }
+pub fn two<A: Argument + Drop, B: Argument>(text: Option<&[u8]>) -> Result<(A, B), Kind>
+    ensures { result ≡ read_two A.form B.form (words_behind text.entry) }
 {
-    match arguments {
-        [first, second] => Ok((A::read(first)?, B::read(second)?)),
-        _ => Err(Kind::Shape),
-    }
+    let (first, rest) = next(text)?;
+    let (second, rest) = next(rest)?;
+    none(rest)?;
+    Ok((A::read(first)?, B::read(second)?))
 }
 
 /// What three words stand for.
 pub fn three<A: Argument + Drop, B: Argument + Drop, C: Argument>(
-    arguments: &[&[u8]],
+    text: Option<&[u8]>,
 ) -> Result<(A, B, C), Kind>
-    ensures { result ≡ read_three A.form B.form C.form (map (λ argument. argument.now) arguments.now) }
+    ensures { result ≡ read_three A.form B.form C.form (words_behind text.entry) }
 {
-    match arguments {
-        [first, second, third] => Ok((A::read(first)?, B::read(second)?, C::read(third)?)),
-        _ => Err(Kind::Shape),
-    }
+    let (first, rest) = next(text)?;
+    let (second, rest) = next(rest)?;
+    let (third, rest) = next(rest)?;
+    none(rest)?;
+    Ok((A::read(first)?, B::read(second)?, C::read(third)?))
 }
 
 /// What four words stand for.
 pub fn four<A: Argument + Drop, B: Argument + Drop, C: Argument + Drop, D: Argument>(
-    arguments: &[&[u8]],
+    text: Option<&[u8]>,
 ) -> Result<(A, B, C, D), Kind>
-    ensures { result ≡ read_four A.form B.form C.form D.form (map (λ argument. argument.now) arguments.now) }
+    ensures { result ≡ read_four A.form B.form C.form D.form (words_behind text.entry) }
 {
-    match arguments {
-        [first, second, third, fourth] => Ok((
-            A::read(first)?,
-            B::read(second)?,
-            C::read(third)?,
-            D::read(fourth)?,
-        )),
-        _ => Err(Kind::Shape),
-    }
+    let (first, rest) = next(text)?;
+    let (second, rest) = next(rest)?;
+    let (third, rest) = next(rest)?;
+    let (fourth, rest) = next(rest)?;
+    none(rest)?;
+    Ok((
+        A::read(first)?,
+        B::read(second)?,
+        C::read(third)?,
+        D::read(fourth)?,
+    ))
 }
