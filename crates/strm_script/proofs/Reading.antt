@@ -1,7 +1,7 @@
 -- A line that was read.
 use Rattle.std.proofs.Common.{◌≡◌, ℕ, List, [], ◌∷◌, ◌++◌, Result, Ok, sym, ap}
 use Rattle.strm_script.specs.declared.draft.Draft.{Draft}
-use Rattle.strm_script.specs.declared.entry.Entry.{Entry}
+use Rattle.strm_script.specs.Entry.{Entry}
 use Rattle.strm_script.specs.declared.fault.Kind.{Kind}
 use Rattle.strm_script.specs.Draft.{StandsFor, Reads}
 use Rattle.strm_script.specs.Script.{Numbered, with_entry}

@@ -1,16 +1,26 @@
 -- What a line of a script says, by its words.
 use Rattle.std.specs.Prelude.{ℕ, Bool, List, Option, Result, Ok}
+use Rattle.strm_data.specs.declared.class_spec.ClassSpec.{ClassSpec}
+use Rattle.strm_queue.specs.declared.queue_spec.QueueSpec.{QueueSpec}
 use Rattle.strm_pool.specs.declared.call.Call.{Call}
 use Rattle.strm_pool.specs.declared.call.Call.TheVariants as calls
 use Rattle.strm_script.specs.declared.fault.Kind.{Kind}
-use Rattle.strm_script.specs.declared.entry.Entry.{Entry}
-use Rattle.strm_script.specs.declared.entry.Entry.TheVariants as entries
 use Rattle.strm_script.specs.declared.verb.Verb.{Verb}
 use Rattle.strm_script.specs.declared.verb.Verb.TheVariants as verbs
 use Rattle.strm_script.specs.declared.word.Word.{Word}
 use Rattle.strm_script.specs.declared.word.Word.TheVariants as words
 use Rattle.strm_script.specs.Shape.{◌>>=◌, none, one, two, three, four}
 use Rattle.strm_script.specs.Form.{u32_of, u8_of, i32_of, register_of, type_of, flush_of, service_of, next_of, octets_of}
+
+-- what a line says: the pool's id and the number of its message blocks, a size class, a queue, how many wishes there may be
+-- and the id of the first, that a section begins, or a command
+pub data Entry : Type 0 where
+  Pool : ℕ → ℕ → Entry
+  Class : ClassSpec → Entry
+  Queue : QueueSpec → Entry
+  Bufcalls : ℕ → ℕ → Entry
+  Worker : Entry
+  Command : Call → Entry
 
 -- the call of a command line, by the words behind its first one
 abbrev pub call_of : Verb → List (List ℕ) → Result Call Kind
@@ -53,16 +63,16 @@ call_of verbs.Ready = none calls.Ready
 call_of verbs.Census = none calls.Census
 
 abbrev pub class_spec : ℕ → ℕ → Entry
-class_spec size count = entries.Class (record { size = size; count = count })
+class_spec size count = Class (record { size = size; count = count })
 
 abbrev pub queue_spec : ℕ → ℕ → Bool → Option ℕ → Entry
-queue_spec hiwat lowat service next = entries.Queue (record { hiwat = hiwat; lowat = lowat; service = service; next = next })
+queue_spec hiwat lowat service next = Queue (record { hiwat = hiwat; lowat = lowat; service = service; next = next })
 
 -- what a line says, by the words behind its first one
 abbrev pub entry_of : Word → List (List ℕ) → Result Entry Kind
-entry_of words.Pool = two u32_of u32_of entries.Pool
+entry_of words.Pool = two u32_of u32_of Pool
 entry_of words.Class = two u32_of u32_of class_spec
 entry_of words.Queue = four u32_of u32_of service_of next_of queue_spec
-entry_of words.Bufcalls = two u32_of u32_of entries.Bufcalls
-entry_of words.Worker = none entries.Worker
-entry_of (words.Command verb) = λ ws. call_of verb ws >>= (λ call. Ok (entries.Command call))
+entry_of words.Bufcalls = two u32_of u32_of Bufcalls
+entry_of words.Worker = none Worker
+entry_of (words.Command verb) = λ ws. call_of verb ws >>= (λ call. Ok (Command call))

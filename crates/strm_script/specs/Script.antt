@@ -10,15 +10,13 @@ use Rattle.strm_queue.specs.Limits.{most_queues}
 use Rattle.strm_script.specs.declared.fault.Fault.{Fault}
 use Rattle.strm_script.specs.declared.fault.Kind.{Kind}
 use Rattle.strm_script.specs.declared.fault.Kind.TheVariants.{Cut, Unknown, Order, Toomany, Missing}
-use Rattle.strm_script.specs.declared.entry.Entry.{Entry}
-use Rattle.strm_script.specs.declared.entry.Entry.TheVariants.{Pool, Class, Queue, Bufcalls, Worker, Command}
+use Rattle.strm_script.specs.Entry.{Entry, Pool, Class, Queue, Bufcalls, Worker, Command, entry_of}
 use Rattle.strm_shared.specs.declared.line.Line.{Line}
 use Rattle.strm_script.specs.declared.script.Script.{Script}
 use Rattle.strm_script.specs.declared.stage.Stage.{Stage}
 use Rattle.strm_script.specs.declared.stage.Stage.TheVariants as stages
 use Rattle.strm_script.specs.declared.word.Word.{Word}
 use Rattle.strm_script.specs.declared.word.Word.TheVariants as words
-use Rattle.strm_script.specs.Entry.{entry_of}
 use Rattle.strm_script.specs.Word.{word_of}
 use Rattle.strm_script.specs.Limits.{most_command_lines}
 use Rattle.strm_shared.specs.Limits.{most_workers}

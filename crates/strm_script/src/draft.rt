@@ -2,14 +2,13 @@
 ghost use Rattle.std.specs.Prelude.{◌≡◌, ◌<◌, ◌≤◌, ◌++◌, ◌∷◌, [], List, ℕ, Bool, true, false, length, Ok, IfOk, OnOk};
 ghost use Rattle.strm_script.specs.Cut.{words_behind};
 ghost use Rattle.strm_shared.specs.Limits.{most_workers};
-ghost use Rattle.strm_script.specs.Entry.{entry_of};
+ghost use Rattle.strm_script.specs.Entry.{Worker, Command, entry_of};
 ghost use Rattle.strm_script.specs.Script.{Numbered, is_full, may_stand, with_words, with_entry, is_skipped, with_line, closed};
 ghost use Rattle.strm_script.specs.Draft.{StandsFor, HasRoom, Reads, with_first};
-ghost use Rattle.strm_script.specs.declared.entry.Entry.TheVariants.{Worker, Command};
 ghost use Rattle.strm_script.specs.Parsed.{Parses};
 
+use crate::call::call_of;
 use crate::cut::cut_word;
-use crate::entry::call_of;
 use crate::fault::{Fault, Kind, LineFault, ParseFault};
 use crate::limits::MOST_COMMAND_LINES;
 use crate::script::Script;

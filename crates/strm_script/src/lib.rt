@@ -1,9 +1,9 @@
 //! The script of a pool, read from bytes, and the text that is written for it.
 #![tactic(auto)]
 
+mod call;
 mod cut;
 mod draft;
-mod entry;
 mod fault;
 mod form;
 mod limits;

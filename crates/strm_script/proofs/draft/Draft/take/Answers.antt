@@ -1,5 +1,5 @@
 use Rattle.std.proofs.Common.{refl}
-use Rattle.strm_script.specs.declared.entry.Entry.TheVariants.{Worker}
+use Rattle.strm_script.specs.Entry.{Worker}
 use Rattle.strm_script.proofs.Drafts.{put_pool, put_class, put_queue, put_bufcalls}
 use Rattle.strm_script.proofs.Reading.{reads_entry}
 use Rattle.strm_script.proofs.Shapes.{goes_on}

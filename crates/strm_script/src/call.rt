@@ -1,4 +1,4 @@
-//! What the lines of a script say.
+//! The calls of command lines.
 ghost use Rattle.std.specs.Prelude.{◌≡◌};
 ghost use Rattle.strm_script.specs.Cut.{words_behind};
 ghost use Rattle.strm_script.specs.Entry.{call_of};
@@ -6,24 +6,7 @@ ghost use Rattle.strm_script.specs.Entry.{call_of};
 use crate::fault::Kind;
 use crate::shape::{none, one, three, two};
 use crate::verb::Verb;
-use strm_pool::{Call, ClassSpec, QueueSpec};
-
-/// What a line says. Only the definitions speak of it: what the code reads of a line it takes in at once.
-#[derive(Debug, Drop)]
-pub enum Entry {
-    /// The pool's id and the number of its message blocks.
-    Pool(u32, u32),
-    /// A size class.
-    Class(ClassSpec),
-    /// A queue.
-    Queue(QueueSpec),
-    /// How many wishes there may be, and the id of the first.
-    Bufcalls(u32, u32),
-    /// A worker section begins.
-    Worker,
-    /// A command line of a section.
-    Command(Call),
-}
+use strm_pool::Call;
 
 /// The call of a command line that begins with this word, behind which these stand.
 pub fn call_of(verb: Verb, arguments: Option<&[u8]>) -> Result<Call, Kind>
