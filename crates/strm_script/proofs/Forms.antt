@@ -1,10 +1,13 @@
 -- Digits of a number, and pairs of digits of a byte.
-use Rattle.std.proofs.Common.{◌≡◌, ℕ, ◌+◌, ◌-◌, ◌*◌, ◌<◌, ◌≤◌, true, false, ◌&&◌, cond, nat_le, List, [], ◌∷◌, ◌++◌, length, get_or, take, drop, Ok, Err, Option, None, Some, fold, option_map, sym, refl, ap, ◌∙◌, arith, append_assoc, take-append-drop}
+use Rattle.std.proofs.Common.{◌≡◌, ℕ, ◌+◌, ◌-◌, ◌*◌, ◌<◌, ◌≤◌, true, false, ◌&&◌, cond, nat_le, List, [], ◌∷◌, ◌++◌, length, get_or, take, drop, Ok, Err, Option, None, Some, fold, option_map, sym, refl, ap, ◌∙◌, arith, slice_index_or, append_assoc, take-append-drop}
 use Rattle.std.proofs.lemmas.List.Sums.{fold-append}
 use Rattle.std.proofs.lemmas.List.{take_rest}
 use Rattle.std.proofs.lemmas.Bool.{lt-leb}
+use Rattle.std.proofs.lemmas.List.FromFn.{get_or-map-range_with_len}
+use Rattle.std.specs.Prelude.{option_and_then, unwrap_or}
 use Rattle.strm_script.specs.declared.fault.Kind.TheVariants.{Number}
-use Rattle.strm_script.specs.Form.{is_numeral, value_of, number_of, hex_pair, hex_bytes, before_bytes}
+use Rattle.strm_script.specs.declared.form.TheConstants.{HEX_DIGITS}
+use Rattle.strm_script.specs.Form.{is_numeral, value_of, number_of, hex_digit, hex_pair, hex_bytes, before_bytes}
 
 -- more digits never make a number smaller
 value-grows : (n : ℕ) (digits : List ℕ) → n ≤ fold (λ n b. 10 * n + (b - 48)) n digits
@@ -43,3 +46,22 @@ hex_bytes-step front (x ∷ y ∷ rest) word b long pair so =
     ∙ sym (with_front-before front b (hex_bytes rest))
     ∙ ap (λ byte. with_front front (before_bytes byte (hex_bytes rest))) (sym pair)
     ∙ so
+
+-- ---- digits by the table
+
+-- what a byte stands for, and 16 for one that is no digit
+abbrev digit_or_16 : ℕ → ℕ
+digit_or_16 b = unwrap_or (hex_digit b) 16
+
+pub hex_digits-at : (b : ℕ) → b < 256 → slice_index_or HEX_DIGITS b 0 ≡ unwrap_or (hex_digit b) 16
+hex_digits-at b below = get_or-map-range_with_len digit_or_16 0 256 b b 0 below (omega arith)
+
+some_digit : (digit : Option ℕ) → unwrap_or digit 16 ≤ 15 → digit ≡ Some (unwrap_or digit 16)
+some_digit (Some d) small = refl
+some_digit None small = absurd (omega (arith, small))
+
+pub hex_pair-digits : (high low h l : ℕ) → h ≡ unwrap_or (hex_digit high) 16 → l ≡ unwrap_or (hex_digit low) 16 → h ≤ 15 → l ≤ 15 → hex_pair high low ≡ Some (16 * h + l)
+hex_pair-digits high low h l is_h is_l small_h small_l =
+    rw (is_h, is_l)
+    (ap (λ digit. option_and_then (λ h. option_map (λ l. 16 * h + l) (hex_digit low)) digit) (some_digit (hex_digit high) (rw is_h at small_h))
+    ∙ ap (λ digit. option_map (λ l. 16 * unwrap_or (hex_digit high) 16 + l) digit) (some_digit (hex_digit low) (rw is_l at small_l)))

@@ -1,7 +1,7 @@
 //! What a word stands for, where the form of a line wants a number, a register, a word or bytes.
-ghost use Rattle.std.specs.Prelude.{◌≡◌, ◌*◌, ◌<◌, ◌≤◌, length, option_map, IfSome};
+ghost use Rattle.std.specs.Prelude.{◌≡◌, ◌*◌, ◌≤◌, length, option_map, unwrap_or};
 ghost use Rattle.strm_pool.specs.Limits.{most_octets};
-ghost use Rattle.strm_script.specs.Form.{is_digit, begins_well, number_of, negative_of, is_dash, type_named, hex_digit, hex_pair, hex_bytes};
+ghost use Rattle.strm_script.specs.Form.{is_digit, begins_well, number_of, negative_of, is_dash, type_named, hex_digit, hex_bytes};
 
 use crate::fault::Kind;
 use arrayvec::ArrayVec;
@@ -44,6 +44,21 @@ const TYPES: [MsgType; 22] = [
     MsgType::MCopyin,
     MsgType::MCopyout,
     MsgType::MIocdata,
+];
+
+// What each byte stands for as a lower case hexadecimal digit, and 16 for one that is none.
+const HEX_DIGITS: [u8; 256] = [
+    16, 16, 16, 16, 16, 16, 16, 16, 16, 16, 16, 16, 16, 16, 16, 16, 16, 16, 16, 16, 16, 16, 16, 16,
+    16, 16, 16, 16, 16, 16, 16, 16, 16, 16, 16, 16, 16, 16, 16, 16, 16, 16, 16, 16, 16, 16, 16, 16,
+    0, 1, 2, 3, 4, 5, 6, 7, 8, 9, 16, 16, 16, 16, 16, 16, 16, 16, 16, 16, 16, 16, 16, 16, 16, 16,
+    16, 16, 16, 16, 16, 16, 16, 16, 16, 16, 16, 16, 16, 16, 16, 16, 16, 16, 16, 16, 16, 16, 16, 10,
+    11, 12, 13, 14, 15, 16, 16, 16, 16, 16, 16, 16, 16, 16, 16, 16, 16, 16, 16, 16, 16, 16, 16, 16,
+    16, 16, 16, 16, 16, 16, 16, 16, 16, 16, 16, 16, 16, 16, 16, 16, 16, 16, 16, 16, 16, 16, 16, 16,
+    16, 16, 16, 16, 16, 16, 16, 16, 16, 16, 16, 16, 16, 16, 16, 16, 16, 16, 16, 16, 16, 16, 16, 16,
+    16, 16, 16, 16, 16, 16, 16, 16, 16, 16, 16, 16, 16, 16, 16, 16, 16, 16, 16, 16, 16, 16, 16, 16,
+    16, 16, 16, 16, 16, 16, 16, 16, 16, 16, 16, 16, 16, 16, 16, 16, 16, 16, 16, 16, 16, 16, 16, 16,
+    16, 16, 16, 16, 16, 16, 16, 16, 16, 16, 16, 16, 16, 16, 16, 16, 16, 16, 16, 16, 16, 16, 16, 16,
+    16, 16, 16, 16, 16, 16, 16, 16, 16, 16, 16, 16, 16, 16,
 ];
 
 // Whether a byte is one of `0` to `9`.
@@ -111,23 +126,11 @@ fn type_named(word: &[u8]) -> Option<MsgType>
         .find(|kind| kind.name().as_bytes() == word)
 }
 
-// What a lower case hexadecimal digit stands for.
-fn hex_digit(byte: u8) -> Option<u8>
-    ensures value { result ≡ hex_digit byte }
-    ensures small { IfSome result (λ d. d < 16) }
+// What a lower case hexadecimal digit stands for, and 16 for a byte that is none.
+fn hex_digit(byte: u8) -> u8
+    ensures { result ≡ unwrap_or (hex_digit byte) 16 }
 {
-    match byte {
-        b'0'..=b'9' => Some(byte - b'0'),
-        b'a'..=b'f' => Some(byte - b'a' + 10),
-        _ => None,
-    }
-}
-
-// The byte that two hexadecimal digits stand for.
-fn hex_byte(high: u8, low: u8) -> Option<u8>
-    ensures { result ≡ hex_pair high low }
-{
-    Some(16 * hex_digit(high)? + hex_digit(low)?)
+    HEX_DIGITS[usize::from(byte)]
 }
 
 // The bytes that pairs of hexadecimal digits stand for.
@@ -138,7 +141,11 @@ fn hex_bytes(word: &[u8]) -> Option<ArrayVec<u8, MOST_OCTETS>>
     let mut bytes = ArrayVec::new();
     let mut rest = word;
     while let [high, low, others @ ..] = rest {
-        bytes.push(hex_byte(*high, *low)?);
+        let (high, low) = (hex_digit(*high), hex_digit(*low));
+        if high > 15 || low > 15 {
+            return None;
+        }
+        bytes.push(16 * high + low);
         rest = others;
     }
     rest.is_empty().then_some(bytes)
