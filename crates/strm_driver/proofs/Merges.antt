@@ -5,11 +5,7 @@ use Rattle.std.proofs.lemmas.Bool.{eq-eqb, ne_eqb}
 use Rattle.std.proofs.lemmas.List.{map-append}
 use Rattle.std.proofs.lemmas.List.Elements.{filter-append}
 use Rattle.strm_shared.specs.declared.line.Line.{Line}
-use Rattle.strm_driver.specs.declared.run.Mode.{Mode}
-use Rattle.strm_driver.specs.declared.run.Mode.TheVariants.{Serial, Workers}
 use Rattle.strm_script.specs.Merge.{Served, part_of, IsMerge, by_worker, serial_from, serial_merge}
-use Rattle.strm_driver.specs.Outcome.{IsSerialText, IsTextByWorkers, IsTextOf}
-use Rattle.strm_script.specs.declared.script.Script.{Script}
 
 part_of-append : (w : ℕ) (first rest : List Served) → part_of w (first ++ rest) ≡ part_of w first ++ part_of w rest
 part_of-append w first rest =
@@ -52,14 +48,3 @@ part_of-serial w k (suc i) (lines ∷ parts) at =
 -- each worker's lines are served in order
 pub IsMerge-serial_merge : (parts : List (List Line)) → IsMerge parts (serial_merge parts)
 IsMerge-serial_merge parts worker = part_of-serial worker 0 worker parts (omega arith)
-
--- where workers serve, a script of several sections may have any text
-by_workers : (script : Script) (parts : List (List Line)) (text : List ℕ) → IsSerialText script text → IsTextByWorkers script parts text
-by_workers script [] text is = is
-by_workers script (lines ∷ []) text is = is
-by_workers script (first ∷ second ∷ more) text is = tt
-
--- the serial text is a script's text in each mode
-pub in_each_mode : (mode : Mode) (script : Script) (text : List ℕ) → IsSerialText script text → IsTextOf mode script text
-in_each_mode Serial script text is = is
-in_each_mode Workers script text is = by_workers script script.parts text is
