@@ -1,4 +1,5 @@
 pub mod Constants
+pub mod Words
 pub mod Forms
 pub mod Cuts
 pub mod Shapes

@@ -26,12 +26,21 @@ fn line_end(text: &[u8]) -> Option<usize>
     memchr(b'\n', text)
 }
 
-// Where the first space stands. Words are short, so that no search pays.
+// Where the first space stands. Most words are short, so that no search pays.
 fn space(text: &[u8]) -> Option<usize>
     ensures place { result ≡ position (λ b. b == 32) text.now }
     ensures there { IfSome result (λ at. at < length text.now) }
 {
     text.iter().position(|b| *b == b' ')
+}
+
+// The same, where the first word is long.
+#[inline(never)]
+fn far_space(text: &[u8]) -> Option<usize>
+    ensures place { result ≡ position (λ b. b == 32) text.now }
+    ensures there { IfSome result (λ at. at < length text.now) }
+{
+    memchr(b' ', text)
 }
 
 /// The bytes before the first line end, and those behind it where there is one.
@@ -46,4 +55,11 @@ pub fn cut_word(text: &[u8]) -> (&[u8], Option<&[u8]>)
     ensures { slice_split (λ b. b == 32) text.now ≡ result.0.now ∷ pieces_behind 32 (option_copied result.1) }
 {
     cut_at(text, space(text))
+}
+
+/// The same, for a first word that may be long.
+pub fn cut_long_word(text: &[u8]) -> (&[u8], Option<&[u8]>)
+    ensures { slice_split (λ b. b == 32) text.now ≡ result.0.now ∷ pieces_behind 32 (option_copied result.1) }
+{
+    cut_at(text, far_space(text))
 }

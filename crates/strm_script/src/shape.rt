@@ -3,11 +3,12 @@ ghost use Rattle.std.specs.Prelude.{◌≡◌, ◌∷◌, [], IfOk, IfErr};
 ghost use Rattle.strm_script.specs.Cut.{words_behind};
 ghost use Rattle.strm_script.specs.Shape.{read_none, read_one, read_two, read_three, read_four};
 
-use crate::cut::cut_word;
+use crate::cut::{cut_long_word, cut_word};
 use crate::fault::Kind;
 use crate::form::Argument;
 
 // The next word, and what stands behind it.
+#[inline(always)]
 fn next(text: Option<&[u8]>) -> Result<(&[u8], Option<&[u8]>), Kind>
     ensures word { IfOk result (λ cut. words_behind text.entry ≡ cut.0.now ∷ words_behind cut.1) }
     ensures none { IfErr result (λ kind. (kind ≡ Kind.Shape) × (words_behind text.entry ≡ [])) }
@@ -18,7 +19,20 @@ fn next(text: Option<&[u8]>) -> Result<(&[u8], Option<&[u8]>), Kind>
     }
 }
 
+// The same, where the next word may be long.
+#[inline(always)]
+fn next_long(text: Option<&[u8]>) -> Result<(&[u8], Option<&[u8]>), Kind>
+    ensures word { IfOk result (λ cut. words_behind text.entry ≡ cut.0.now ∷ words_behind cut.1) }
+    ensures none { IfErr result (λ kind. (kind ≡ Kind.Shape) × (words_behind text.entry ≡ [])) }
+{
+    match text {
+        Some(text) => Ok(cut_long_word(text)),
+        None => Err(Kind::Shape),
+    }
+}
+
 /// No words.
+#[inline(always)]
 pub fn none(text: Option<&[u8]>) -> Result<(), Kind>
     ensures { result ≡ read_none (words_behind text.entry) }
 {
@@ -29,6 +43,7 @@ pub fn none(text: Option<&[u8]>) -> Result<(), Kind>
 }
 
 /// What one word stands for.
+#[inline(always)]
 pub fn one<A: Argument>(text: Option<&[u8]>) -> Result<A, Kind>
     ensures { result ≡ read_one A.form (words_behind text.entry) }
 {
@@ -38,6 +53,7 @@ pub fn one<A: Argument>(text: Option<&[u8]>) -> Result<A, Kind>
 }
 
 /// What two words stand for.
+#[inline(always)]
 pub fn two<A: Argument + Drop, B: Argument>(text: Option<&[u8]>) -> Result<(A, B), Kind>
     ensures { result ≡ read_two A.form B.form (words_behind text.entry) }
 {
@@ -48,6 +64,7 @@ pub fn two<A: Argument + Drop, B: Argument>(text: Option<&[u8]>) -> Result<(A, B
 }
 
 /// What three words stand for.
+#[inline(always)]
 pub fn three<A: Argument + Drop, B: Argument + Drop, C: Argument>(
     text: Option<&[u8]>,
 ) -> Result<(A, B, C), Kind>
@@ -55,12 +72,13 @@ pub fn three<A: Argument + Drop, B: Argument + Drop, C: Argument>(
 {
     let (first, rest) = next(text)?;
     let (second, rest) = next(rest)?;
-    let (third, rest) = next(rest)?;
+    let (third, rest) = next_long(rest)?;
     none(rest)?;
     Ok((A::read(first)?, B::read(second)?, C::read(third)?))
 }
 
 /// What four words stand for.
+#[inline(always)]
 pub fn four<A: Argument + Drop, B: Argument + Drop, C: Argument + Drop, D: Argument>(
     text: Option<&[u8]>,
 ) -> Result<(A, B, C, D), Kind>

@@ -1,6 +1,7 @@
 //! The words that a line of a script may begin with.
-ghost use Rattle.std.specs.Prelude.{◌≡◌, map};
+ghost use Rattle.std.specs.Prelude.{◌≡◌};
 ghost use Rattle.strm_script.specs.Word.{word_among, word_of};
+ghost use Rattle.strm_script.specs.Lengths.{words_of_length};
 
 use crate::verb::Verb;
 
@@ -16,69 +17,119 @@ pub enum Word {
     Command(Verb),
 }
 
-// All first words, as a script has them. They are looked for in this order, and those that scripts have most of come
-// first.
-const WORDS: &[(&str, Word)] = &[
-    ("allocb", Word::Command(Verb::Allocb)),
-    ("write", Word::Command(Verb::Write)),
-    ("putq", Word::Command(Verb::Putq)),
-    ("getq", Word::Command(Verb::Getq)),
-    ("freemsg", Word::Command(Verb::Freemsg)),
-    ("census", Word::Command(Verb::Census)),
-    ("testb", Word::Command(Verb::Testb)),
-    ("dupb", Word::Command(Verb::Dupb)),
-    ("dupmsg", Word::Command(Verb::Dupmsg)),
-    ("copyb", Word::Command(Verb::Copyb)),
-    ("copymsg", Word::Command(Verb::Copymsg)),
-    ("settype", Word::Command(Verb::Settype)),
-    ("setband", Word::Command(Verb::Setband)),
-    ("linkb", Word::Command(Verb::Linkb)),
-    ("unlinkb", Word::Command(Verb::Unlinkb)),
-    ("rmvb", Word::Command(Verb::Rmvb)),
-    ("adjmsg", Word::Command(Verb::Adjmsg)),
-    ("pullupmsg", Word::Command(Verb::Pullupmsg)),
-    ("msgdsize", Word::Command(Verb::Msgdsize)),
-    ("size", Word::Command(Verb::Size)),
-    ("read", Word::Command(Verb::Read)),
-    ("block", Word::Command(Verb::Block)),
-    ("freeb", Word::Command(Verb::Freeb)),
-    ("putbq", Word::Command(Verb::Putbq)),
-    ("insq", Word::Command(Verb::Insq)),
-    ("rmvq", Word::Command(Verb::Rmvq)),
-    ("flushq", Word::Command(Verb::Flushq)),
-    ("flushband", Word::Command(Verb::Flushband)),
-    ("bcanput", Word::Command(Verb::Bcanput)),
-    ("qsize", Word::Command(Verb::Qsize)),
-    ("qenable", Word::Command(Verb::Qenable)),
-    ("noenable", Word::Command(Verb::Noenable)),
-    ("enableok", Word::Command(Verb::Enableok)),
-    ("service", Word::Command(Verb::Service)),
-    ("bufcall", Word::Command(Verb::Bufcall)),
-    ("unbufcall", Word::Command(Verb::Unbufcall)),
-    ("ready", Word::Command(Verb::Ready)),
-    ("pool", Word::Pool),
-    ("class", Word::Class),
-    ("queue", Word::Queue),
-    ("bufcalls", Word::Bufcalls),
-    ("worker", Word::Worker),
-];
-
-// The word that a text is in a table, or none.
-fn word_among(mut table: &[(&str, Word)], text: &[u8]) -> Option<Word>
-    ensures { result ≡ word_among (map (λ row. (row.0.now, row.1)) table.entry.now) text.now }
+// The first word of four letters that a text is, or none.
+#[inline(always)]
+fn four_letters(text: &[u8]) -> Option<Word>
+    ensures { result ≡ word_among (words_of_length 4) text.now }
 {
-    while let [(name, word), rest @ ..] = table {
-        if name.as_bytes() == text {
-            return Some(*word);
-        }
-        table = rest;
+    match text {
+        b"putq" => Some(Word::Command(Verb::Putq)),
+        b"getq" => Some(Word::Command(Verb::Getq)),
+        b"dupb" => Some(Word::Command(Verb::Dupb)),
+        b"rmvb" => Some(Word::Command(Verb::Rmvb)),
+        b"size" => Some(Word::Command(Verb::Size)),
+        b"read" => Some(Word::Command(Verb::Read)),
+        b"insq" => Some(Word::Command(Verb::Insq)),
+        b"rmvq" => Some(Word::Command(Verb::Rmvq)),
+        b"pool" => Some(Word::Pool),
+        _ => None,
     }
-    None
+}
+
+// The first word of five letters that a text is, or none.
+#[inline(always)]
+fn five_letters(text: &[u8]) -> Option<Word>
+    ensures { result ≡ word_among (words_of_length 5) text.now }
+{
+    match text {
+        b"write" => Some(Word::Command(Verb::Write)),
+        b"testb" => Some(Word::Command(Verb::Testb)),
+        b"copyb" => Some(Word::Command(Verb::Copyb)),
+        b"linkb" => Some(Word::Command(Verb::Linkb)),
+        b"block" => Some(Word::Command(Verb::Block)),
+        b"freeb" => Some(Word::Command(Verb::Freeb)),
+        b"putbq" => Some(Word::Command(Verb::Putbq)),
+        b"qsize" => Some(Word::Command(Verb::Qsize)),
+        b"ready" => Some(Word::Command(Verb::Ready)),
+        b"class" => Some(Word::Class),
+        b"queue" => Some(Word::Queue),
+        _ => None,
+    }
+}
+
+// The first word of six letters that a text is, or none.
+#[inline(always)]
+fn six_letters(text: &[u8]) -> Option<Word>
+    ensures { result ≡ word_among (words_of_length 6) text.now }
+{
+    match text {
+        b"allocb" => Some(Word::Command(Verb::Allocb)),
+        b"census" => Some(Word::Command(Verb::Census)),
+        b"dupmsg" => Some(Word::Command(Verb::Dupmsg)),
+        b"adjmsg" => Some(Word::Command(Verb::Adjmsg)),
+        b"flushq" => Some(Word::Command(Verb::Flushq)),
+        b"worker" => Some(Word::Worker),
+        _ => None,
+    }
+}
+
+// The first word of seven letters that a text is, or none.
+#[inline(always)]
+fn seven_letters(text: &[u8]) -> Option<Word>
+    ensures { result ≡ word_among (words_of_length 7) text.now }
+{
+    match text {
+        b"freemsg" => Some(Word::Command(Verb::Freemsg)),
+        b"copymsg" => Some(Word::Command(Verb::Copymsg)),
+        b"settype" => Some(Word::Command(Verb::Settype)),
+        b"setband" => Some(Word::Command(Verb::Setband)),
+        b"unlinkb" => Some(Word::Command(Verb::Unlinkb)),
+        b"bcanput" => Some(Word::Command(Verb::Bcanput)),
+        b"qenable" => Some(Word::Command(Verb::Qenable)),
+        b"service" => Some(Word::Command(Verb::Service)),
+        b"bufcall" => Some(Word::Command(Verb::Bufcall)),
+        _ => None,
+    }
+}
+
+// The first word of eight letters that a text is, or none.
+#[inline(always)]
+fn eight_letters(text: &[u8]) -> Option<Word>
+    ensures { result ≡ word_among (words_of_length 8) text.now }
+{
+    match text {
+        b"msgdsize" => Some(Word::Command(Verb::Msgdsize)),
+        b"noenable" => Some(Word::Command(Verb::Noenable)),
+        b"enableok" => Some(Word::Command(Verb::Enableok)),
+        b"bufcalls" => Some(Word::Bufcalls),
+        _ => None,
+    }
+}
+
+// The first word of nine letters that a text is, or none.
+#[inline(always)]
+fn nine_letters(text: &[u8]) -> Option<Word>
+    ensures { result ≡ word_among (words_of_length 9) text.now }
+{
+    match text {
+        b"pullupmsg" => Some(Word::Command(Verb::Pullupmsg)),
+        b"flushband" => Some(Word::Command(Verb::Flushband)),
+        b"unbufcall" => Some(Word::Command(Verb::Unbufcall)),
+        _ => None,
+    }
 }
 
 /// The first word that a text is, or none.
 pub fn word_of(text: &[u8]) -> Option<Word>
     ensures { result ≡ word_of text.now }
 {
-    word_among(WORDS, text)
+    match text.len() {
+        4 => four_letters(text),
+        5 => five_letters(text),
+        6 => six_letters(text),
+        7 => seven_letters(text),
+        8 => eight_letters(text),
+        9 => nine_letters(text),
+        _ => None,
+    }
 }
