@@ -18,15 +18,15 @@ fn cut_at(text: &[u8], place: Option<usize>) -> (&[u8], Option<&[u8]>)
     }
 }
 
-// Where the first line end stands.
-fn line_end(text: &[u8]) -> Option<usize>
-    ensures place { result ≡ position (λ b. b == 10) text.now }
+// Where the first byte like this stands.
+fn find(byte: u8, text: &[u8]) -> Option<usize>
+    ensures place { result ≡ position (λ b. b == byte) text.now }
     ensures there { IfSome result (λ at. at < length text.now) }
 {
-    memchr(b'\n', text)
+    memchr(byte, text)
 }
 
-// Where the first space stands. Most words are short, so that no search pays.
+// Where the first space stands. In a short word no search pays.
 fn space(text: &[u8]) -> Option<usize>
     ensures place { result ≡ position (λ b. b == 32) text.now }
     ensures there { IfSome result (λ at. at < length text.now) }
@@ -34,20 +34,11 @@ fn space(text: &[u8]) -> Option<usize>
     text.iter().position(|b| *b == b' ')
 }
 
-// The same, where the first word is long.
-#[inline(never)]
-fn far_space(text: &[u8]) -> Option<usize>
-    ensures place { result ≡ position (λ b. b == 32) text.now }
-    ensures there { IfSome result (λ at. at < length text.now) }
-{
-    memchr(b' ', text)
-}
-
 /// The bytes before the first line end, and those behind it where there is one.
 pub fn cut_line(text: &[u8]) -> (&[u8], Option<&[u8]>)
     ensures { slice_split (λ b. b == 10) text.now ≡ result.0.now ∷ pieces_behind 10 (option_copied result.1) }
 {
-    cut_at(text, line_end(text))
+    cut_at(text, find(b'\n', text))
 }
 
 /// The bytes before the first space, and those behind it where there is one.
@@ -61,5 +52,5 @@ pub fn cut_word(text: &[u8]) -> (&[u8], Option<&[u8]>)
 pub fn cut_long_word(text: &[u8]) -> (&[u8], Option<&[u8]>)
     ensures { slice_split (λ b. b == 32) text.now ≡ result.0.now ∷ pieces_behind 32 (option_copied result.1) }
 {
-    cut_at(text, far_space(text))
+    cut_at(text, find(b' ', text))
 }

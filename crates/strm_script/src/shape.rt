@@ -1,4 +1,5 @@
-//! The words behind the first one of a line: so many of them, each of its own form.
+//! The words behind the first one of a line: so many of them, each of its own form. These functions are inlined, so that
+//! what stands for each word needs no place in memory.
 ghost use Rattle.std.specs.Prelude.{◌≡◌, ◌∷◌, [], IfOk, IfErr};
 ghost use Rattle.strm_script.specs.Cut.{words_behind};
 ghost use Rattle.strm_script.specs.Shape.{read_none, read_one, read_two, read_three, read_four};

@@ -18,7 +18,6 @@ pub enum Word {
 }
 
 // The first word of four letters that a text is, or none.
-#[inline(always)]
 fn four_letters(text: &[u8]) -> Option<Word>
     ensures { result ≡ word_among (words_of_length 4) text.now }
 {
@@ -37,7 +36,6 @@ fn four_letters(text: &[u8]) -> Option<Word>
 }
 
 // The first word of five letters that a text is, or none.
-#[inline(always)]
 fn five_letters(text: &[u8]) -> Option<Word>
     ensures { result ≡ word_among (words_of_length 5) text.now }
 {
@@ -58,7 +56,6 @@ fn five_letters(text: &[u8]) -> Option<Word>
 }
 
 // The first word of six letters that a text is, or none.
-#[inline(always)]
 fn six_letters(text: &[u8]) -> Option<Word>
     ensures { result ≡ word_among (words_of_length 6) text.now }
 {
@@ -74,7 +71,6 @@ fn six_letters(text: &[u8]) -> Option<Word>
 }
 
 // The first word of seven letters that a text is, or none.
-#[inline(always)]
 fn seven_letters(text: &[u8]) -> Option<Word>
     ensures { result ≡ word_among (words_of_length 7) text.now }
 {
@@ -93,7 +89,6 @@ fn seven_letters(text: &[u8]) -> Option<Word>
 }
 
 // The first word of eight letters that a text is, or none.
-#[inline(always)]
 fn eight_letters(text: &[u8]) -> Option<Word>
     ensures { result ≡ word_among (words_of_length 8) text.now }
 {
@@ -107,7 +102,6 @@ fn eight_letters(text: &[u8]) -> Option<Word>
 }
 
 // The first word of nine letters that a text is, or none.
-#[inline(always)]
 fn nine_letters(text: &[u8]) -> Option<Word>
     ensures { result ≡ word_among (words_of_length 9) text.now }
 {

@@ -1,6 +1,0 @@
-use Rattle.std.proofs.Common.{◌==◌, sym}
-use Rattle.strm_script.proofs.Cuts.{position-first}
-use Rattle.strm_script.proofs.cut.far_space.Goals as goal
-
-pub returns-clause-place : goal.returns-clause-place
-returns-clause-place c = sym (position-first (λ b. b == 32) c.args.text.now c.memchr.result c.memchr.ensures)
