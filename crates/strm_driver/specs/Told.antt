@@ -1,12 +1,13 @@
 -- What a fault tells.
 use Rattle.std.specs.Prelude.{◌≡◌, Bool, true, false, Option, None, Some, Result, Ok, Err}
+use Rattle.strm_data.specs.declared.refusal.Refusal.TheVariants.{BadShared}
 use Rattle.strm_pool.specs.declared.config.NewFault.{NewFault}
 use Rattle.strm_pool.specs.declared.config.NewFault.TheVariants as new_faults
 use Rattle.strm_pool.specs.declared.config.Which.{Which}
 use Rattle.strm_script.specs.declared.fault.ParseFault.{ParseFault}
 use Rattle.strm_script.specs.declared.fault.ParseFault.TheVariants as parse_faults
 use Rattle.strm_driver.specs.declared.fault.RunFault.{RunFault}
-use Rattle.strm_driver.specs.declared.fault.RunFault.TheVariants.{Read, TooLong, Write, Script, Config, Memory}
+use Rattle.strm_driver.specs.declared.fault.RunFault.TheVariants.{Read, TooLong, Write, Script, Config, Memory, Refused}
 use Rattle.strm_driver.specs.declared.fault.TextFault.{TextFault}
 use Rattle.strm_driver.specs.declared.fault.TextFault.TheVariants as text_faults
 use Rattle.strm_driver.specs.declared.input.ReadFault.{ReadFault}
@@ -14,8 +15,8 @@ use Rattle.strm_driver.specs.declared.input.ReadFault.TheVariants as read_faults
 
 -- ---- what a fault tells of the first fault of its input
 
--- a read fault and want of memory come whatever the input is, a write fault only where it has no fault, and each
--- other one where it is the first
+-- a read fault and want of memory come whatever the input is, a write fault and a refused worker only where it has no
+-- fault, and each other one where it is the first
 abbrev pub TellsFault : RunFault → Option RunFault → Type 0
 TellsFault Read first = Unit {0}
 TellsFault TooLong first = first ≡ Some TooLong
@@ -23,10 +24,12 @@ TellsFault Write first = first ≡ None
 TellsFault (Script found) first = first ≡ Some (Script found)
 TellsFault (Config which) first = first ≡ Some (Config which)
 TellsFault Memory first = Unit {0}
+TellsFault (Refused why) first = first ≡ None
 
--- the same of a configuration, whose fault comes before any want of memory
+-- the same of a configuration, whose fault comes before any want of memory, and of a pool that is to be shared
 abbrev pub TellsNewFault : NewFault → Option Which → Type 0
 TellsNewFault (new_faults.BadConfig which) first = first ≡ Some which
+TellsNewFault new_faults.BadShared first = first ≡ None
 TellsNewFault new_faults.Memory first = first ≡ None
 
 -- ---- what a fault tells of the reader and of the writer
@@ -38,6 +41,7 @@ is_read Write = false
 is_read (Script found) = false
 is_read (Config which) = false
 is_read Memory = false
+is_read (Refused why) = false
 
 abbrev pub is_write : RunFault → Bool
 is_write Read = false
@@ -46,6 +50,7 @@ is_write Write = true
 is_write (Script found) = false
 is_write (Config which) = false
 is_write Memory = false
+is_write (Refused why) = false
 
 -- there is an error of this sort
 abbrev pub errs : {X E : Type 0} → (E → Bool) → Result X E → Bool
@@ -60,6 +65,7 @@ text_fault_of_parse parse_faults.Memory = text_faults.Memory
 
 abbrev pub text_fault_of_new : NewFault → TextFault
 text_fault_of_new (new_faults.BadConfig which) = text_faults.Config which
+text_fault_of_new new_faults.BadShared = text_faults.Refused BadShared
 text_fault_of_new new_faults.Memory = text_faults.Memory
 
 abbrev pub run_fault_of_read : ReadFault → RunFault
@@ -71,3 +77,4 @@ abbrev pub run_fault_of_text : TextFault → RunFault
 run_fault_of_text (text_faults.Script found) = Script found
 run_fault_of_text (text_faults.Config which) = Config which
 run_fault_of_text text_faults.Memory = Memory
+run_fault_of_text (text_faults.Refused why) = Refused why

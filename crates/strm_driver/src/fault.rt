@@ -3,7 +3,7 @@ ghost use Rattle.std.specs.Prelude.{◌≡◌};
 
 use crate::input::ReadFault;
 use crate::output::WriteFault;
-use strm_pool::{NewFault, Which};
+use strm_pool::{NewFault, Refusal, Which};
 use strm_script::{Fault, ParseFault};
 use thiserror::Error;
 
@@ -19,6 +19,9 @@ pub enum TextFault {
     /// There is not enough memory.
     #[error("memory")]
     Memory,
+    /// A worker's call was refused.
+    #[error("refused {number} {name}", number = .0.number(), name = .0.name())]
+    Refused(Refusal),
 }
 
 /// Why a run failed. After `Write` a prefix of the text was written, after any other fault nothing.
@@ -42,6 +45,9 @@ pub enum RunFault {
     /// There is not enough memory.
     #[error("memory")]
     Memory,
+    /// A worker's call was refused.
+    #[error("refused {number} {name}", number = .0.number(), name = .0.name())]
+    Refused(Refusal),
 }
 
 impl From<ParseFault> for TextFault {
@@ -65,6 +71,7 @@ impl From<NewFault> for TextFault {
     fn from(fault: NewFault) -> TextFault {
         match fault {
             NewFault::BadConfig(which) => TextFault::Config(which),
+            NewFault::BadShared => TextFault::Refused(Refusal::BadShared),
             NewFault::Memory => TextFault::Memory,
         }
     }
@@ -94,6 +101,7 @@ impl From<TextFault> for RunFault {
             TextFault::Script(found) => RunFault::Script(found),
             TextFault::Config(which) => RunFault::Config(which),
             TextFault::Memory => RunFault::Memory,
+            TextFault::Refused(why) => RunFault::Refused(why),
         }
     }
 }

@@ -31,6 +31,7 @@ fn status_of(fault: RunFault) -> u8 {
         RunFault::Read | RunFault::Write | RunFault::TooLong => 1,
         RunFault::Script(_) | RunFault::Config(_) => 2,
         RunFault::Memory => 3,
+        RunFault::Refused(_) => 4,
     }
 }
 

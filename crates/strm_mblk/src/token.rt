@@ -56,6 +56,11 @@ impl Token {
         self.value.blocks = blocks;
     }
 
+    /// Gives the token up. Its message stays held, and nothing can reach it any more.
+    pub fn forget(self) {
+        let Token { value: _ } = self;
+    }
+
     /// The id of the pool that gave the token.
     pub fn pool(&self) -> u32
         ensures { result ≡ self.now.pool }

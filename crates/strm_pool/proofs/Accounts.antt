@@ -1,17 +1,21 @@
 -- Registers of one desk or of several, and what of the held messages they tell.
-use Rattle.std.proofs.Common.{◌≡◌, ◌≢◌, ℕ, zero, suc, ◌+◌, ◌<◌, ◌≤◌, Bool, true, false, ◌==◌, List, [], ◌∷◌, length, get_or, Option, Some, None, refl, sym, ap, ◌∙◌, inl, inr, arith, if◌then◌else◌}
-use Rattle.std.specs.Prelude.{count_by, option_map, slice_index_or, slice_set}
+use Rattle.std.proofs.Common.{◌≡◌, ◌≢◌, ℕ, zero, suc, ◌+◌, ◌<◌, ◌≤◌, Bool, true, false, ◌==◌, List, [], ◌∷◌, length, get_or, Option, Some, None, refl, sym, ap, ◌∙◌, subst, inl, inr, arith, if◌then◌else◌}
+use Rattle.std.specs.Prelude.{count_by, option_map, replicate, slice_index_or, slice_set, IfSome}
+use Rattle.std.specs.List.{flat_map}
 use Rattle.std.specs.Option.{option_map_or}
 use Rattle.std.proofs.Math.ListN.{get_or-map}
-use Rattle.std.proofs.lemmas.Bool.{cases_Bool, cases_eq, and_parts, and_from, eqb-true, eq-eqb, false≢true, false_from_ne_true}
+use Rattle.std.proofs.lemmas.Bool.{cases_Bool, cases_eq, cases_lt, and_parts, and_from, eqb-true, eq-eqb, false≢true, false_from_ne_true}
+use Rattle.std.proofs.lemmas.List.{get_or_past}
 use Rattle.std.proofs.lemmas.List.Sums.{sum_by-cons}
 use Rattle.strm_data.proofs.Times.{one_if}
 use Rattle.strm_mblk.specs.declared.token.TokenValue.{TokenValue}
-use Rattle.strm_mblk.specs.Block.{Message}
-use Rattle.strm_mblk.specs.Arena.{Arena, has, held_at, is_of_length}
-use Rattle.strm_mblk.proofs.arena.Counts.{count_adds, flat_map-set_adds}
+use Rattle.strm_mblk.specs.Block.{Message, head_of}
+use Rattle.strm_mblk.specs.Messages.{blocks_of}
+use Rattle.strm_mblk.specs.Arena.{Arena, IsParted, census_of, has, held_at, is_of_length}
+use Rattle.strm_mblk.proofs.arena.Counts.{count_adds, flat_map-set_adds, length_adds}
+use Rattle.strm_pool.specs.Limits.{most_registers}
 use Rattle.strm_pool.specs.PoolValue.{PoolValue, owns}
-use Rattle.strm_pool.specs.Registers.{Entries, entry_of, entries_of, tells, AreAccounted, AreDistinct, table_of, register}
+use Rattle.strm_pool.specs.Registers.{Entries, entry_of, entries_of, tells, times_told, AreAccounted, AreDistinct, CarryId, table_of, register}
 
 -- 1 where a message of n blocks is held at h, else 0
 abbrev pub stands : Arena → ℕ → ℕ → ℕ
@@ -78,7 +82,7 @@ pub table-at : (rs : List (Option TokenValue)) (x : ℕ) → register (table_of 
 table-at rs x = get_or-map (option_map (λ (t : TokenValue). t.head)) rs x None
 
 -- what entries tell of a register
-entries-at : (rs : List (Option TokenValue)) (x : ℕ) → register (entries_of rs) x ≡ option_map entry_of (register rs x)
+pub entries-at : (rs : List (Option TokenValue)) (x : ℕ) → register (entries_of rs) x ≡ option_map entry_of (register rs x)
 entries-at rs x = get_or-map (option_map entry_of) rs x None
 
 -- register x holds a token of n blocks with head h
@@ -204,16 +208,72 @@ accounted_balanced a b es fs balanced desks desk within is accounted h n =
       ap (count_by (tells h n)) is,
     )
 
--- where each held message stands in one register of one desk, no desk has one twice
-pub accounted_distinct : (a : Arena) (rs : List (Option TokenValue)) (desks : List Entries) (desk : ℕ) → desk < length desks → slice_index_or desks desk [] ≡ entries_of rs
-    → AreAccounted a desks → AreDistinct (table_of rs)
-accounted_distinct a rs desks desk within is accounted =
-    distinct_held a rs (λ h n. omega (
+-- where each held message stands in one register of one desk, each entry of a desk tells of one, and no two of the same
+pub held_accounted : (a : Arena) (rs : List (Option TokenValue)) (desks : List Entries) (desk : ℕ) → desk < length desks → slice_index_or desks desk [] ≡ entries_of rs
+    → AreAccounted a desks → AreHeld a rs
+held_accounted a rs desks desk within is accounted h n =
+    omega (
       arith,
       accounted h n,
       flat_map-set_adds (count_adds (tells h n)) (λ es. es) desks desk [] [] within,
       ap (count_by (tells h n)) is,
-    ))
+    )
+
+module _ (v : PoolValue) (rs : List (Option TokenValue)) (desks : List Entries) (desk : ℕ)
+    (within : desk < length desks) (is : slice_index_or desks desk [] ≡ entries_of rs) (accounted : AreAccounted v.arena desks) where
+  -- then no desk has one twice
+  pub accounted_distinct : AreDistinct (table_of rs)
+  accounted_distinct = distinct_held v.arena rs (held_accounted v.arena rs desks desk within is accounted)
+
+  -- and the pool owns the desk's registers, where each token in them carries its id
+  pub accounted_owned : CarryId v.arena.id rs → owns v rs ≡ true
+  accounted_owned carry = owns_from v rs (λ x t there. and_from _ _ (eq-eqb t.pool v.arena.id (carried x t there)) (told x t there))
+    where
+      carried : (x : ℕ) (t : TokenValue) → register rs x ≡ Some t → t.pool ≡ v.arena.id
+      carried x t there = subst (λ (o : Option TokenValue). IfSome o (λ u. u.pool ≡ v.arena.id)) there (carry x)
+
+      told : (x : ℕ) (t : TokenValue) → register rs x ≡ Some t → is_of_length t.blocks (held_at v.arena t.head) ≡ true
+      told x t there =
+          let tells_it : tells t.head t.blocks (register (entries_of rs) x) ≡ true =
+              ap (tells t.head t.blocks) (entries-at rs x ∙ ap (option_map entry_of) there) ∙ and_from _ _ (eq-eqb t.head t.head refl) (eq-eqb t.blocks t.blocks refl) in
+          held_length v.arena t.head t.blocks (omega (
+            arith,
+            held_accounted v.arena rs desks desk within is accounted t.head t.blocks,
+            one_passes (tells t.head t.blocks) None refl (entries_of rs) x tells_it,
+          ))
+
+-- the tokens of registers that a pool owns carry its id
+pub owned_carry : (v : PoolValue) (rs : List (Option TokenValue)) → owns v rs ≡ true → CarryId v.arena.id rs
+owned_carry v rs owned x = at (register rs x) refl
+  where
+    at : (o : Option TokenValue) → register rs x ≡ o → IfSome o (λ t. t.pool ≡ v.arena.id)
+    at None is = tt
+    at (Some t) is = eqb-true t.pool v.arena.id (and_parts _ _ (owned_token v rs x t owned is)).0
+
+-- ---- desks with empty registers
+
+-- empty registers tell of nothing
+none_told : (h n desks : ℕ) → times_told h n (replicate desks (replicate most_registers None)) ≡ 0
+none_told h n zero = refl
+none_told h n (suc desks) =
+    omega (arith, (count_adds (tells h n)).both (replicate most_registers None) (flat_map (λ es. es) (replicate desks (replicate most_registers None))), none_told h n desks)
+
+-- where no block is in a held message, no message is held
+none_held : (a : Arena) → IsParted a → (census_of a).held ≡ 0 → (h : ℕ) → held_at a h ≡ None
+none_held a parted empty h = at (held_at a h) refl (parted.heads h)
+  where
+    at : (o : Option Message) → held_at a h ≡ o → IfSome o (λ m. (0 < length m) × (head_of m ≡ h)) → held_at a h ≡ None
+    at None is some = is
+    at (Some m) is some =
+        elim (cases_lt h (length a.held)) [
+          | inl within ↦ absurd (omega (arith, empty, some.0, flat_map-set_adds length_adds blocks_of a.held h None None within, ap (λ o. length (blocks_of o)) is))
+          | inr beyond ↦ get_or_past a.held h None beyond
+        ]
+
+-- so desks with empty registers account for a pool of which nothing is held
+pub accounted_idle : (a : Arena) (desks : ℕ) → IsParted a → (census_of a).held ≡ 0 → AreAccounted a (replicate desks (replicate most_registers None))
+accounted_idle a desks parted empty h n =
+    none_told h n desks ∙ sym (ap (λ (o : Option Message). if is_of_length n o then 1 else 0) (none_held a parted empty h))
 
 -- where registers change as a pool does, which has each token in them then, it owns them, with distinct heads
 pub owned_balanced : (v w : PoolValue) (rs ss : List (Option TokenValue)) → Balanced v.arena w.arena (entries_of rs) (entries_of ss)

@@ -51,6 +51,7 @@ applies_nothing v rs call reply owned does = record {
       named_or_not (is_named call x) _ _ (register rs x)
       (λ _. shown v.arena (register rs x) (λ t is. owned_token v rs x t owned is) ∙ ap (option_map (token_of v.arena)) (sym (table-at rs x))) (λ _. refl);
   owned = λ distinct. (owned, distinct);
+  same = λ _. refl;
   accounted = λ desks desk within at all. subst (AreAccounted v.arena) (sym (ap (set desks desk) (sym at) ∙ set-get_or desks desk [])) all;
 }
 
@@ -71,8 +72,9 @@ module _ (v w : PoolValue) (rs : List (Option TokenValue)) (call : Call) (reply 
     owned = λ distinct.
         owned_balanced v w rs (with_tokens us rs) (balanced distinct)
         (moves_had v rs us w.arena (λ x t is. owned_token v rs x t owned is) apart within distinct (moves distinct)) owned distinct;
+    same = λ distinct. (moves distinct).id;
     accounted = λ desks desk there at all.
-        accounted_balanced v.arena w.arena (entries_of rs) (entries_of (with_tokens us rs)) (balanced (accounted_distinct v.arena rs desks desk there at all)) desks desk there at all;
+        accounted_balanced v.arena w.arena (entries_of rs) (entries_of (with_tokens us rs)) (balanced (accounted_distinct v rs desks desk there at all)) desks desk there at all;
   }
     where
       balanced : AreDistinct (table_of rs) → Balanced v.arena w.arena (entries_of rs) (entries_of (with_tokens us rs))

@@ -1,7 +1,6 @@
 pub mod Constants
 pub mod OnParts
 pub mod Reading
-pub mod Draining
 pub mod Accounts
 pub mod Moved
 pub mod Applied

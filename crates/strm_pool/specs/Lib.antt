@@ -2,6 +2,7 @@ pub mod Limits
 pub mod Config
 pub mod PoolValue
 pub mod Wishes
+pub mod Lawful
 pub mod Registers
 pub mod Names
 pub mod Step

@@ -4,7 +4,7 @@ use Rattle.std.specs.List.{list_all}
 use Rattle.std.specs.Option.{option_map_or}
 use Rattle.strm_pool.specs.declared.config.Config.{Config}
 use Rattle.strm_pool.specs.declared.config.NewFault.{NewFault}
-use Rattle.strm_pool.specs.declared.config.NewFault.TheVariants.{BadConfig, Memory}
+use Rattle.strm_pool.specs.declared.config.NewFault.TheVariants.{BadConfig, BadShared, Memory}
 use Rattle.strm_pool.specs.Config.{fault_of}
 use Rattle.strm_mblk.specs.declared.token.TokenValue.{TokenValue}
 use Rattle.strm_mblk.specs.Arena.{Arena, has, opening_arena}
@@ -44,6 +44,7 @@ opening c = record {
 abbrev pub Opens : Config → Result PoolValue NewFault → Type 0
 Opens c (Ok v) = (fault_of c ≡ None) × (v ≡ opening c)
 Opens c (Err (BadConfig which)) = fault_of c ≡ Some which
+Opens c (Err BadShared) = ⊥
 Opens c (Err Memory) = fault_of c ≡ None
 
 -- ---- calls on a part

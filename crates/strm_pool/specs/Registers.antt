@@ -1,5 +1,5 @@
 -- Registers by their places in the alphabet, what they hold, and the tables that tell it.
-use Rattle.std.specs.Prelude.{◌≡◌, ℕ, Bool, false, ◌&&◌, ◌==◌, List, Option, None, Some, map, count_by, slice_index_or, if◌then◌else◌}
+use Rattle.std.specs.Prelude.{◌≡◌, ℕ, Bool, false, ◌&&◌, ◌==◌, List, Option, None, Some, IfSome, map, count_by, slice_index_or, if◌then◌else◌}
 use Rattle.std.specs.List.{flat_map}
 use Rattle.std.specs.Option.{option_map}
 use Rattle.strm_mblk.specs.declared.token.TokenValue.{TokenValue}
@@ -19,6 +19,10 @@ table_of rs = map (option_map (λ t. t.head)) rs
 -- no message is held by two registers
 abbrev pub AreDistinct : RegisterTable → Type 0
 AreDistinct t = (x y h : ℕ) → register t x ≡ Some h → register t y ≡ Some h → x ≡ y
+
+-- each token in these registers carries the id of a pool
+abbrev pub CarryId : ℕ → List (Option TokenValue) → Type 0
+CarryId id rs = (x : ℕ) → IfSome (register rs x) (λ t. t.pool ≡ id)
 
 -- ---- the registers of several desks
 

@@ -171,12 +171,13 @@ is_named call x = rows.has x (registers_in (names_of call))
 
 -- A call was applied: pool, registers and reply are those of a step. A register that the call names has the
 -- token of its message, if it holds one, and every other register what it had. Where no two registers held one
--- message, none do, and the pool has the token of each. And where these registers were those of one of several
+-- message, none do, the pool has the token of each, and it keeps its id. And where these registers were those of one of several
 -- desks, and each held message stood in one register of one desk, each does so now: the other desks have what they had.
 pub record Applies (v : PoolValue) (rs : List (Option TokenValue)) (call : Call) (w : PoolValue) (ss : List (Option TokenValue)) (reply : Reply) : Type 0 where
   pub step : step v (table_of rs) call ≡ record { pool = w; table = table_of ss; reply = reply }
   pub tokens : (x : ℕ) → register ss x ≡ (if is_named call x then option_map (token_of w.arena) (register (table_of ss) x) else register rs x)
   pub owned : AreDistinct (table_of rs) → IsTrue (owns w ss) × AreDistinct (table_of ss)
+  pub same : AreDistinct (table_of rs) → w.arena.id ≡ v.arena.id
   pub accounted : (desks : List Entries) (desk : ℕ) → desk < length desks → slice_index_or desks desk [] ≡ entries_of rs
       → AreAccounted v.arena desks → AreAccounted w.arena (slice_set desks desk (entries_of ss))
 

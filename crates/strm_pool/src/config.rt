@@ -51,6 +51,10 @@ pub enum NewFault {
     /// The configuration is not lawful: the first fault, in the order of `Which`.
     #[error("bad config: {which}", which = .0.name())]
     BadConfig(Which),
+    /// There are no desks, or too many, or the first stamp is too great. Told where a pool is to be shared, never where
+    /// one is made.
+    #[error("bad shared")]
+    BadShared,
     /// There is not enough memory.
     #[error("out of memory")]
     Memory,

@@ -13,6 +13,7 @@ mod queue_specs;
 mod reg;
 mod regs;
 mod reply;
+mod slot;
 mod wishes;
 
 pub use call::Call;

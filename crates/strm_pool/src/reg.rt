@@ -37,8 +37,8 @@ impl Reg {
         }
     }
 
-    // The place in the alphabet.
-    pub(crate) fn index(self) -> usize
+    /// The place in the alphabet, from 0.
+    pub fn index(self) -> usize
         ensures value { result ≡ self }
         ensures small { result < most_registers }
     {

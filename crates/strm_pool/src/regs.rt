@@ -2,7 +2,7 @@
 ghost use Rattle.std.specs.Prelude.{◌≡◌, ◌≢◌, ◌<◌, None, Some, IsNone, IsSome, is_some, length, replicate, slice_set};
 ghost use Rattle.std.specs.Option.{ForSome};
 ghost use Rattle.strm_pool.specs.Limits.{most_registers};
-ghost use Rattle.strm_pool.specs.Registers.{register, table_of};
+ghost use Rattle.strm_pool.specs.Registers.{entries_of, register, table_of};
 ghost use Rattle.strm_pool.specs.Shapes.{any_given_to, given_to, parted_to, rejected_to};
 ghost use Rattle.strm_pool.specs.Step.{is_empty, is_taken, misses_token};
 
@@ -10,6 +10,7 @@ use crate::limits::MOST_REGISTERS;
 use crate::names::Names;
 use crate::reg::Reg;
 use crate::reply::Reply;
+use crate::slot::Slot;
 use std::marker::Model;
 use strm_data::Refusal;
 use strm_mblk::{Rejected, Token};
@@ -17,7 +18,7 @@ use strm_mblk::{Rejected, Token};
 /// Twenty-six registers, a to z, each of which holds a token or none. Registers must be spent, as tokens must:
 /// they can be neither cloned nor dropped.
 pub struct Regs {
-    slots: [Option<Token>; MOST_REGISTERS],
+    slots: [Slot; MOST_REGISTERS],
 }
 
 impl Model for Regs {
@@ -36,8 +37,11 @@ impl Regs {
     {
         Regs {
             slots: [
-                None, None, None, None, None, None, None, None, None, None, None, None, None, None,
-                None, None, None, None, None, None, None, None, None, None, None, None,
+                Slot::none(), Slot::none(), Slot::none(), Slot::none(), Slot::none(), Slot::none(),
+                Slot::none(), Slot::none(), Slot::none(), Slot::none(), Slot::none(), Slot::none(),
+                Slot::none(), Slot::none(), Slot::none(), Slot::none(), Slot::none(), Slot::none(),
+                Slot::none(), Slot::none(), Slot::none(), Slot::none(), Slot::none(), Slot::none(),
+                Slot::none(), Slot::none(),
             ],
         }
     }
@@ -48,7 +52,7 @@ impl Regs {
         ensures there { reg < length self.now }
         ensures count { length self.now ≡ most_registers }
     {
-        self.slots[reg.index()].is_some()
+        self.slots[reg.index()].token().is_some()
     }
 
     /// Puts a token into a register, or gives it back where the register holds one.
@@ -76,15 +80,36 @@ impl Regs {
         self.slots[reg.index()].take()
     }
 
+    /// What the token of a register tells of its message: the number of its first block, and how many blocks it has.
+    /// None where the register holds nothing.
+    pub fn entry(&self, reg: Reg) -> Option<(u32, u32)>
+        ensures { result ≡ register (entries_of self.now) reg }
+    {
+        match self.slots[reg.index()].token() {
+            Some(token) => Some((token.head(), token.blocks())),
+            None => None,
+        }
+    }
+
+    /// The law of all registers: there are 26. Does nothing.
+    pub fn lawful(&self)
+        ensures { length self.now ≡ most_registers }
+    {
+        let _ = self.slots[0].token().is_some();
+    }
+
+    /// Gives the registers up, and the tokens in them. The messages of these stay held, and nothing can reach them any
+    /// more.
+    pub fn forget(self) {
+        let Regs { slots: _ } = self;
+    }
+
     // Puts a token into a register that holds none.
     pub(crate) fn hold(&mut self, reg: Reg, token: Token)
         requires { IsNone (register self.old reg) }
         ensures { self.new ≡ slice_set self.old reg (Some token) }
     {
-        match self.slots[reg.index()].replace(token) {
-            None => (),
-            Some(_held) => unreachable!(),
-        }
+        self.slots[reg.index()].hold(token);
     }
 
     // The token that a register holds.
@@ -92,7 +117,7 @@ impl Regs {
         requires { IsSome (register self.now reg) }
         ensures { register self.now reg ≡ Some result.now }
     {
-        match &self.slots[reg.index()] {
+        match self.slots[reg.index()].token() {
             Some(token) => token,
             None => unreachable!(),
         }
@@ -220,16 +245,15 @@ impl Regs {
     }
 
     // What the registers hold, a to z.
-    pub(crate) fn slots(&self) -> &[Option<Token>]
+    pub(crate) fn slots(&self) -> &[Slot]
         ensures { result.now ≡ self.now }
     {
         &self.slots
     }
 
     // Takes the registers apart: what they held, a to z.
-    pub(crate) fn into_slots(self) -> [Option<Token>; MOST_REGISTERS]
-        ensures value { result ≡ self }
-        ensures count { length result ≡ most_registers }
+    pub(crate) fn into_slots(self) -> [Slot; MOST_REGISTERS]
+        ensures { result ≡ self }
     {
         let Regs { slots } = self;
         slots

@@ -1,1 +1,5 @@
 pub mod Constants
+pub mod Listing
+pub mod Noting
+pub mod Opening
+pub mod Turning

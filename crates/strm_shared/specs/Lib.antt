@@ -1,1 +1,7 @@
 pub mod Limits
+pub mod Desks
+pub mod DesksLayout
+pub mod Books
+pub mod BooksLayout
+pub mod Starts
+pub mod StartsLayout

@@ -1,6 +1,10 @@
 -- How many there may be of what this crate counts. Each number stands here once, and src/limits.rt has a constant of its name.
 use Rattle.std.specs.Prelude.{ℕ}
 
--- the workers
+-- the workers, and so the desks
 abbrev pub most_workers : ℕ
 most_workers = 16
+
+-- the stamp at which no call is served any more
+abbrev pub most_stamp : ℕ
+most_stamp = 1099511627775

@@ -1,12 +1,31 @@
-//! What workers are given to serve: command lines, in sections.
+//! A pool that threads share: a book under a lock, a desk for each worker, and what workers are given to serve.
 #![tactic(auto)]
 
+mod book;
+mod desk;
+mod desk_table;
+mod desks;
 mod limits;
 mod line;
-mod lines;
-mod parts;
+mod listed;
+mod name;
+mod outcome;
+mod setup;
+mod shared;
+mod start;
 
-pub use limits::MOST_WORKERS;
+pub use book::Book;
+pub use desk::Desk;
+pub use desks::Desks;
+pub use limits::{MOST_STAMP, MOST_WORKERS};
 pub use line::Line;
-pub use lines::Lines;
-pub use parts::Parts;
+pub use listed::{AllReplies, Ends, Lines, Listed, Parts, Replies};
+pub use name::{Brand, Name};
+pub use outcome::End;
+pub use setup::{Setup, Trace};
+pub use shared::{Gathered, Shared};
+pub use start::Start;
+
+
+#[cfg(test)]
+mod tests;

@@ -1,4 +1,7 @@
 //! How many there may be of what this crate counts.
 
-/// The most workers.
+/// The most workers, and so the most desks.
 pub const MOST_WORKERS: usize = 16;
+
+/// The stamp at which a shared pool is worn: no call is served any more.
+pub const MOST_STAMP: u64 = 1_099_511_627_775;

@@ -322,59 +322,8 @@ impl Pool {
     pub fn drain(&mut self, regs: Regs)
         ensures { self.new ≡ drained self.old regs }
     {
-        let [
-            a,
-            b,
-            c,
-            d,
-            e,
-            f,
-            g,
-            h,
-            i,
-            j,
-            k,
-            l,
-            m,
-            n,
-            o,
-            p,
-            q,
-            r,
-            s,
-            t,
-            u,
-            v,
-            w,
-            x,
-            y,
-            z,
-        ] = regs.into_slots();
-        self.free_any(a);
-        self.free_any(b);
-        self.free_any(c);
-        self.free_any(d);
-        self.free_any(e);
-        self.free_any(f);
-        self.free_any(g);
-        self.free_any(h);
-        self.free_any(i);
-        self.free_any(j);
-        self.free_any(k);
-        self.free_any(l);
-        self.free_any(m);
-        self.free_any(n);
-        self.free_any(o);
-        self.free_any(p);
-        self.free_any(q);
-        self.free_any(r);
-        self.free_any(s);
-        self.free_any(t);
-        self.free_any(u);
-        self.free_any(v);
-        self.free_any(w);
-        self.free_any(x);
-        self.free_any(y);
-        self.free_any(z);
+        for slot in regs.into_slots() {
+            self.free_any(slot.into_token());
+        }
     }
 }

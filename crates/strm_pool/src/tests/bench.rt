@@ -68,7 +68,7 @@ impl Bench {
     // The first registers hold messages with these heads.
     fn assert_heads(&self, rt: &impl Abort, heads: &[Option<u32>]) {
         for (slot, head) in self.regs.slots().iter().zip(heads) {
-            match slot {
+            match slot.token() {
                 Some(token) => assert_eq!(rt; Some(token.head()), *head),
                 None => assert_eq!(rt; None, *head),
             }

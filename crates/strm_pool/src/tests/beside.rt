@@ -46,10 +46,12 @@ fn assert_slot(
 fn assert_places(rt: &impl Abort, pool: &Pool, regs: &Regs, second: &Second) {
     let many = usize::from(REGISTERS);
     for (slot, place) in regs.slots().iter().zip(second.places().slots()).take(many) {
-        assert_slot(rt, pool, second.blocks(), slot, place);
+        assert_slot(rt, pool, second.blocks(), slot.token(), place.token());
     }
-    for token in second.places().slots().iter().skip(many).flatten() {
-        assert!(rt; !pool.has(token));
+    for place in second.places().slots().iter().skip(many) {
+        if let Some(token) = place.token() {
+            assert!(rt; !pool.has(token));
+        }
     }
 }
 

@@ -119,7 +119,7 @@ fn assert_fault(rt: &impl Abort, alloc: Global, config: Config, fault: Option<Wh
             assert!(rt; fault.is_none() && pool.census().free == mblks);
         }
         Err(NewFault::BadConfig(which)) => assert!(rt; fault == Some(which)),
-        Err(NewFault::Memory) => panic!(rt; "out of memory"),
+        Err(_) => panic!(rt; "out of memory"),
     }
 }
 

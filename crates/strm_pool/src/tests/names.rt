@@ -24,5 +24,6 @@ fn faults_are_told_by_name(rt: HostRuntime) -> Result<(), Fail> {
     ] {
         assert_told(&rt, rt.alloc(), NewFault::BadConfig(which), text)?;
     }
+    assert_told(&rt, rt.alloc(), NewFault::BadShared, "bad shared")?;
     assert_told(&rt, rt.alloc(), NewFault::Memory, "out of memory")
 }

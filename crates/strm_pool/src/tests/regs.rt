@@ -16,6 +16,17 @@ fn assert_holds(rt: &impl Abort, regs: &Regs, a: bool, z: bool) {
     assert!(rt; regs.holds(reg(rt, b'z')) == z);
 }
 
+// What registers a and z tell.
+fn assert_entries(
+    rt: &impl Abort,
+    regs: &Regs,
+    a: Option<(u32, u32)>,
+    z: Option<(u32, u32)>,
+) {
+    assert!(rt; regs.entry(reg(rt, b'a')) == a);
+    assert!(rt; regs.entry(reg(rt, b'z')) == z);
+}
+
 // The register keeps what it holds, and the token comes back.
 fn rejected(rt: &impl Abort, regs: &mut Regs, reg: Reg, token: Token) -> Token {
     match regs.put(reg, token) {
@@ -42,5 +53,22 @@ fn registers_hold_tokens(rt: HostRuntime) {
     bench.hold(&rt, a, second);
     let bench = bench.drained();
     bench.assert_census(&rt, 4, 0);
+    bench.end();
+}
+
+#[test]
+fn registers_tell_heads_and_numbers_of_blocks(rt: HostRuntime) {
+    let mut bench = Bench::opened(&rt, rt.alloc(), (7, 4), &SIZES);
+    let (a, z) = (reg(&rt, b'a'), reg(&rt, b'z'));
+    assert_entries(&rt, bench.regs(), None, None);
+    bench.done(
+        &rt,
+        &[Call::Allocb(z, 1), Call::Allocb(a, 1)],
+        &[Some(1)],
+    );
+    assert_entries(&rt, bench.regs(), Some((1, 1)), Some((0, 1)));
+    bench.done(&rt, &[Call::Linkb(z, a)], &[None]);
+    assert_entries(&rt, bench.regs(), None, Some((0, 2)));
+    let bench = bench.drained();
     bench.end();
 }

@@ -653,8 +653,10 @@ impl Second {
     fn census(&self) -> Reply {
         let behind = self.places.slots().iter().skip(usize::from(REGISTERS));
         let mut queued: u32 = 0;
-        for token in behind.flatten() {
-            queued = queued.saturating_add(token.blocks());
+        for place in behind {
+            if let Some(token) = place.token() {
+                queued = queued.saturating_add(token.blocks());
+            }
         }
         let census = self.blocks.census();
         Reply::Census(Census {

@@ -3,23 +3,36 @@ use Rattle.strm_data.specs.DataStore.{class_infos}
 use Rattle.strm_data.specs.Limits.{most_classes}
 use Rattle.strm_data.proofs.Kept.{length-class_infos}
 use Rattle.strm_data.proofs.Lawful.{lawful_few}
-use Rattle.std.specs.Prelude.{reverse}
-use Rattle.strm_links.specs.Rows as rows
 use Rattle.strm_mblk.specs.Arena.{counted_in}
-use Rattle.strm_mblk.specs.Shelves.{heads_at}
-use Rattle.strm_pool.specs.PoolValue.{PoolValue}
+use Rattle.strm_pool.specs.Lawful.{IsLawful}
 use Rattle.strm_pool.proofs.pool.Pool.lawful.Goals as goal
 
-pub returns-clause-few_classes : goal.returns-clause-few_classes
-returns-clause-few_classes c =
-    let few : length (class_infos c.self.inside.blocks.store) ≤ most_classes =
-    omega (arith, length-class_infos (counted_in c.self.inside.blocks) c.lawful.ensures.kept, lawful_few c.self.inside.blocks.store.classes c.lawful.ensures.kept.lawful) in
-    subst (λ (v : PoolValue). length (class_infos v.arena.store) ≤ most_classes) c.self.view_is few
-
-pub returns-clause-forward : goal.returns-clause-forward
-returns-clause-forward c queue =
-    subst (λ (v : PoolValue). let heads = heads_at v.arena queue in rows.Reads (λ head. rows.after head heads) (rows.first heads) heads) c.self.view_is (c.lawful-2.ensures.forward queue)
-
-pub returns-clause-backward : goal.returns-clause-backward
-returns-clause-backward c queue =
-    subst (λ (v : PoolValue). let heads = heads_at v.arena queue in rows.Reads (λ head. rows.before head heads) (rows.last heads) (reverse heads)) c.self.view_is (c.lawful-2.ensures.backward queue)
+pub returns : goal.returns
+returns c =
+    let blocks = c.lawful.ensures in
+    let queues = c.lawful-2.ensures in
+    let wishes = c.lawful-3.ensures in
+    let few_classes : length (class_infos c.self.inside.blocks.store) ≤ most_classes =
+        omega (arith, length-class_infos (counted_in c.self.inside.blocks) blocks.kept, lawful_few c.self.inside.blocks.store.classes blocks.kept.lawful) in
+    subst IsLawful c.self.view_is (record {
+      parted = blocks.parted;
+      kept = blocks.kept;
+      within = blocks.within;
+      whole = blocks.whole;
+      few = blocks.few;
+      few_classes = few_classes;
+      lawful_queues = queues.specs;
+      few_queues = queues.few;
+      marked = queues.marked;
+      shelves = c.self.invariant.in_order.shelves;
+      ordered = queues.ordered;
+      forward = queues.forward;
+      backward = queues.backward;
+      marks = queues.marks;
+      bytes = queues.whole;
+      lawful_wishes = wishes.lawful;
+      few_wishes = wishes.few;
+      short = queues.short;
+      once = queues.once;
+      served = queues.served;
+    })

@@ -1,0 +1,69 @@
+//! What the lock of a shared pool guards.
+ghost use Rattle.std.specs.Prelude.{◌≡◌};
+ghost use Rattle.strm_shared.specs.Books.{Answers, IsLawfulBook};
+
+use crate::desk::Desk;
+use crate::desk_table::DeskTable;
+use crate::limits::MOST_STAMP;
+use crate::name::Name;
+use crate::shared::Shared;
+use std::marker::{Model, PhantomData};
+use strm_pool::{Call, Pool, Refusal, Reply};
+
+/// What the lock of a shared pool guards: the pool, the stamp, which each served call raises by 1, and for each desk what
+/// its registers tell.
+#[derive(Drop)]
+pub struct Book<N: Name> {
+    pub(crate) pool: Pool,
+    pub(crate) stamp: u64,
+    pub(crate) tables: Vec<DeskTable>,
+    pub(crate) of: PhantomData<N>,
+}
+
+impl<N: Name> Model for Book<N> {
+    ghost use Rattle.strm_shared.specs.Books.{BookValue, IsBookOf, book_value};
+
+    ghost Value = { BookValue };
+
+    ghost view = { λ b. book_value b.pool b.stamp b.tables.items };
+
+    ghost invariant = { λ b. IsBookOf N.id N.desks N.first (book_value b.pool b.stamp b.tables.items) };
+}
+
+impl<N: Name> Book<N> {
+    /// The laws of every book, whatever calls of whatever threads made it so. They hold each time the lock is got. Does
+    /// nothing.
+    pub fn lawful(&self)
+        ensures { IsLawfulBook N.id N.desks N.first self.now }
+    {
+        self.pool.lawful();
+    }
+
+    /// Serves a call on the desk's registers, and answers its reply. Takes the steps of the call, and a few for each
+    /// register; no memory is taken.
+    ///
+    /// Refused as `Worn` where the stamp is `MOST_STAMP`, then as `Stranger` where the desk's registers do not tell what
+    /// the book knows of them; book and desk stay as they were then. Every reply counts as served, `Refused`, `Empty` and
+    /// `Taken` too.
+    pub fn turn(
+        &mut self,
+        _shared: &Shared<N>,
+        desk: &mut Desk<N>,
+        _line: u32,
+        call: &Call,
+    ) -> Result<Reply, Refusal>
+        ensures { Answers self.old desk.old call.now self.new desk.new result }
+    {
+        if self.stamp == MOST_STAMP {
+            return Err(Refusal::Worn);
+        }
+        let number = usize::from(desk.number);
+        if !self.tables[number].is_of(&desk.regs) {
+            return Err(Refusal::Stranger);
+        }
+        let reply = self.pool.apply(&mut desk.regs, call);
+        self.tables[number].note(&desk.regs, &call.names());
+        self.stamp += 1;
+        Ok(reply)
+    }
+}

@@ -1,0 +1,187 @@
+//! A list of desks that takes no memory.
+ghost use Rattle.std.specs.Prelude.{◌≡◌, ◌≤◌, ◌<◌, ◌++◌, ◌∷◌, [], Some, length, remove, slice_index_or, IsPermutation, IsTrue, ◌↔◌};
+ghost use Rattle.std.specs.List.Sorted.{IsNonDecreasingBy};
+ghost use Rattle.strm_shared.specs.Desks.{DeskValue};
+ghost use Rattle.strm_shared.specs.DesksLayout.{IsFilled, desk_in};
+ghost use Rattle.strm_shared.specs.Limits.{most_workers};
+
+use crate::desk::Desk;
+use crate::limits::MOST_WORKERS;
+use crate::name::Name;
+use arrayvec::ArrayVec;
+use std::marker::Model;
+
+// A place of the list; one that is not in use is empty. The elements of an `ArrayVec` must be such as may be dropped;
+// dropped, a place gives its desk up, with the tokens in it.
+struct Place<N: Name> {
+    desk: Option<Desk<N>>,
+}
+
+impl<N: Name> Drop for Place<N> {
+    fn drop(self) {
+        let Place { desk } = self;
+        if let Some(desk) = desk {
+            desk.forget();
+        }
+    }
+}
+
+impl<N: Name> Default for Place<N> {
+    fn default() -> Place<N> {
+        Place { desk: None }
+    }
+}
+
+impl<N: Name> Place<N> {
+    ghost use Rattle.std.specs.Borrow.{Lends, sem};
+    ghost use Rattle.strm_shared.specs.DesksLayout.{filled};
+    ghost use Rattle.strm_shared.specs.contracts.desks.Place.{the_row as place_row};
+    ghost use Rattle.strm_shared.specs.contracts.desk.Desk.{the_row as desk_row};
+
+    // The number of its desk.
+    fn number(&self) -> u8
+        ensures { result ≡ (desk_in self.now).number }
+    {
+        match &self.desk {
+            Some(desk) => desk.number(),
+            None => 0,
+        }
+    }
+
+    // Lends its desk.
+    fn desk_mut(&mut self) -> &mut Desk<N>
+        requires { IsFilled self.old }
+        ensures* writes_back { sem 𝓛 (Lends (place_row N.row N.Name) (desk_row N.row N.Name) self.entry result filled) }
+        ensures value { self.old.desk ≡ Some result.now }
+    {
+        let Some(desk) = &mut self.desk else {
+            unreachable!()
+        };
+        desk
+    }
+
+    // Its desk.
+    fn into_desk(self) -> Desk<N>
+        requires { IsFilled self }
+        ensures { self.desk ≡ Some result }
+    {
+        let Place { desk } = self;
+        match desk {
+            Some(desk) => desk,
+            None => unreachable!(),
+        }
+    }
+}
+
+/// At most `MOST_WORKERS` desks of one shared pool, in order. They lie in the value itself, and no call takes memory. As
+/// its desks, a list of them must be spent: it can be neither cloned nor dropped.
+#[must_use]
+pub struct Desks<N: Name> {
+    places: ArrayVec<Place<N>, MOST_WORKERS>,
+}
+
+impl<N: Name> Model for Desks<N> {
+    ghost use Rattle.std.specs.Prelude.{List};
+    ghost use Rattle.strm_shared.specs.Desks.{DeskValue};
+    ghost use Rattle.strm_shared.specs.DesksLayout.{AreFilled, desks_in};
+
+    ghost Value = { List DeskValue };
+
+    ghost view = { λ d. desks_in d.places.items };
+
+    ghost invariant = { λ d. AreFilled d.places.items };
+}
+
+impl<N: Name> Desks<N> {
+    ghost use Rattle.std.specs.Borrow.{Lends, sem};
+    ghost use Rattle.std.specs.Prelude.{slice_set};
+    ghost use Rattle.strm_shared.specs.contracts.desks.Desks.{the_row as desks_row};
+    ghost use Rattle.strm_shared.specs.contracts.desk.Desk.{the_row as desk_row};
+
+    /// No desks.
+    pub fn new() -> Desks<N>
+        ensures { result ≡ [] }
+    {
+        Desks {
+            places: ArrayVec::new(),
+        }
+    }
+
+    /// How many desks there are.
+    pub fn len(&self) -> usize
+        ensures count { result ≡ length self.now }
+        ensures few { result ≤ most_workers }
+    {
+        self.places.len()
+    }
+
+    /// Whether there are none.
+    pub fn is_empty(&self) -> bool
+        ensures { IsTrue result ↔ (self.now ≡ []) }
+    {
+        self.places.is_empty()
+    }
+
+    /// Adds a desk behind the others, where there is room for one more.
+    pub fn push(&mut self, desk: Desk<N>)
+        requires { length self.old < most_workers }
+        ensures { self.new ≡ self.old ++ desk ∷ [] }
+    {
+        self.places.push(Place { desk: Some(desk) });
+    }
+
+    /// Takes the last desk, where there is one.
+    pub fn take_last(&mut self) -> Desk<N>
+        requires { 0 < length self.old }
+        ensures { self.old ≡ self.new ++ result ∷ [] }
+    {
+        let Some(place) = self.places.pop() else {
+            unreachable!()
+        };
+        place.into_desk()
+    }
+
+    /// Takes the desk at a place, counted from 0, where there is one; those behind it move up.
+    pub fn take(&mut self, place: usize) -> Desk<N>
+        requires { place < length self.old }
+        ensures desk { result ≡ slice_index_or self.old place result }
+        ensures rest { self.new ≡ remove self.old place }
+    {
+        self.places.remove(place).into_desk()
+    }
+
+    /// Lends the desk at a place, counted from 0, where there is one.
+    pub fn desk_mut(&mut self, place: usize) -> &mut Desk<N>
+        requires { place < length self.old }
+        ensures* writes_back { sem 𝓛 (Lends (desks_row N.row N.Name) (desk_row N.row N.Name) self.entry result (slice_set self.old place)) }
+        ensures value { result.now ≡ slice_index_or self.old place result.now }
+    {
+        let Some(place) = self.places.get_mut(place) else {
+            unreachable!()
+        };
+        place.desk_mut()
+    }
+
+    // Puts the desks in the order of their numbers.
+    pub(crate) fn sort(&mut self)
+        ensures same { IsPermutation self.old self.new }
+        ensures sorted { IsNonDecreasingBy (λ (d : DeskValue). d.number) self.new }
+    {
+        self.places
+            .as_mut_slice()
+            .sort_unstable_by_key(|place| place.number());
+    }
+
+    /// Ends an empty list.
+    pub fn end(self)
+        requires { self ≡ [] }
+    {
+        let Desks { places: _ } = self;
+    }
+
+    /// Gives the desks up, and the tokens in their registers. The messages of these stay held, and nothing can reach them
+    /// any more.
+    pub fn forget(self) {
+        let Desks { places: _ } = self;
+    }
+}

@@ -1,0 +1,60 @@
+//! Lists over vectors.
+ghost use Rattle.std.specs.Prelude.{◌≡◌};
+
+use crate::line::Line;
+use crate::outcome::End;
+use std::marker::Model;
+use strm_pool::Reply;
+
+/// A list over a vector, which is made from it and gives it back without taking memory.
+#[derive(Debug, Drop)]
+pub struct Listed<T> {
+    vector: Vec<T>,
+}
+
+/// The command lines of a worker, in the order in which it has them served.
+pub type Lines = Listed<Line>;
+
+/// The command lines of each worker: worker 0's, then worker 1's, and so on.
+pub type Parts = Listed<Lines>;
+
+/// The replies to a worker, in the order in which its lines were served.
+pub type Replies = Listed<Reply>;
+
+/// The replies to each worker: worker 0's, then worker 1's, and so on.
+pub type AllReplies = Listed<Replies>;
+
+/// How each worker ended: worker 0, then worker 1, and so on.
+pub type Ends = Listed<End>;
+
+impl<T> Model for Listed<T> {
+    ghost use Rattle.std.specs.Prelude.{List};
+
+    ghost Value = { List T };
+
+    ghost view = { λ l. l.vector.items };
+}
+
+impl<T> Listed<T> {
+    /// These items.
+    pub fn of(vector: Vec<T>) -> Listed<T>
+        ensures { result ≡ vector.items }
+    {
+        Listed { vector }
+    }
+
+    /// The items, in order.
+    pub fn items(&self) -> &[T]
+        ensures { result.now ≡ self.now }
+    {
+        &self.vector
+    }
+
+    /// The vector of the items.
+    pub fn into_vec(self) -> Vec<T>
+        ensures { result.items ≡ self }
+    {
+        let Listed { vector } = self;
+        vector
+    }
+}

@@ -1,0 +1,79 @@
+//! A pool under a lock.
+ghost use Rattle.std.specs.Prelude.{◌≡◌, ◌≤◌, ◌<◌, length, IfErr, IfOk, OnOk, IsPermutation};
+ghost use Rattle.std.specs.List.Sorted.{IsNonDecreasingBy};
+ghost use Rattle.strm_data.specs.declared.refusal.Refusal.TheVariants.{DeskMissing};
+ghost use Rattle.strm_shared.specs.Books.{IsAfter};
+ghost use Rattle.strm_shared.specs.Desks.{DeskValue};
+
+use crate::book::Book;
+use crate::desk::Desk;
+use crate::desks::Desks;
+use crate::name::Name;
+use std::marker::PhantomData;
+use std::sync::{Mutex, Wait};
+use strm_pool::{Call, Pool, Refusal, Reply};
+
+/// A pool that threads share, under one lock. Each has a desk of its own.
+#[derive(Drop)]
+pub struct Shared<N: Name> {
+    pub(crate) book: Mutex<Book<N>>,
+    pub(crate) desks: u8,
+    pub(crate) of: PhantomData<N>,
+    pub ghost counted: { desks ≡ N.desks },
+}
+
+/// What is left of a shared pool when all desks came back: the pool, and the desks in the order of their numbers.
+pub struct Gathered<N: Name> {
+    pub pool: Pool,
+    pub desks: Desks<N>,
+}
+
+impl<N: Name> Shared<N> {
+    /// Serves a call on the desk's registers under the lock, for which it waits, and answers its reply. The lock is held for
+    /// this one call. What it does behind the lock is what `Book::turn` says.
+    ///
+    /// Refused as `Worn` and `Stranger` where `Book::turn` is; nothing changes then.
+    pub fn serve(
+        &self,
+        rt: &impl Wait,
+        desk: &mut Desk<N>,
+        line: u32,
+        call: &Call,
+    ) -> Result<Reply, Refusal>
+        ensures { IsAfter desk.old call.now desk.new result }
+    {
+        self.book.lock(rt).turn(self, desk, line, call)
+    }
+
+    /// Ends the sharing: the pool, and the desks in the order of their numbers.
+    ///
+    /// Refused as `DeskMissing` where fewer desks come than were handed out; everything comes back as it was then.
+    pub fn gather(
+        self,
+        desks: Desks<N>,
+    ) -> Result<Gathered<N>, (Refusal, Shared<N>, Desks<N>)>
+        ensures missing { IfErr result (λ e. (length desks < N.desks) × (e.0 ≡ DeskMissing) × (e.1 ≡ self) × (e.2 ≡ desks)) }
+        ensures enough { OnOk result (N.desks ≤ length desks) }
+        ensures same { IfOk result (λ g. IsPermutation desks g.desks) }
+        ensures sorted { IfOk result (λ g. IsNonDecreasingBy (λ (d : DeskValue). d.number) g.desks) }
+        ensures pool { IfOk result (λ g. g.pool.arena.id ≡ N.id) }
+    {
+        if desks.len() < usize::from(self.desks) {
+            return Err((Refusal::DeskMissing, self, desks));
+        }
+        let Shared {
+            book,
+            desks: _,
+            of: _,
+        } = self;
+        let Book {
+            pool,
+            stamp: _,
+            tables: _,
+            of: _,
+        } = book.into_inner();
+        let mut desks = desks;
+        desks.sort();
+        Ok(Gathered { pool, desks })
+    }
+}

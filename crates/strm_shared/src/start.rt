@@ -1,0 +1,117 @@
+//! How a pool is shared out.
+ghost use Rattle.std.specs.Prelude.{◌≡◌, ◌≤◌, IfOk, None, replicate, vec_capacity};
+ghost use Rattle.strm_mblk.specs.Arena.{census_of};
+ghost use Rattle.strm_pool.specs.Limits.{most_registers};
+ghost use Rattle.strm_shared.specs.Desks.{fresh};
+ghost use Rattle.strm_shared.specs.Limits.{most_workers};
+ghost use Rattle.strm_shared.specs.Starts.{IsNameOf, Starts};
+
+use crate::book::Book;
+use crate::desk::Desk;
+use crate::desk_table::DeskTable;
+use crate::desks::Desks;
+use crate::name::Name;
+use crate::setup::Setup;
+use crate::shared::Shared;
+use std::alloc::{AllocError, Global};
+use std::marker::{Model, PhantomData};
+use std::sync::Mutex;
+use strm_pool::{NewFault, Pool, Regs};
+
+/// A pool that is to be shared, with all memory that its sharing takes. It has no name yet.
+#[derive(Drop)]
+pub struct Start {
+    pool: Pool,
+    desks: u8,
+    first_stamp: u64,
+    tables: Vec<DeskTable>,
+}
+
+impl Model for Start {
+    ghost use Rattle.strm_shared.specs.Starts.{StartValue};
+    ghost use Rattle.strm_shared.specs.StartsLayout.{IsReady};
+
+    ghost Value = { StartValue };
+
+    ghost view = { λ s. record { pool = s.pool; desks = s.desks; first = s.first_stamp } };
+
+    ghost invariant = { λ s. IsReady s.pool s.desks s.first_stamp s.tables.items };
+}
+
+impl Start {
+    /// Takes all memory that sharing the pool so takes. No message of the pool may be held.
+    ///
+    /// `BadShared` comes where there are no desks or more than `MOST_WORKERS`, or where the first stamp is above
+    /// `MOST_STAMP`, before any want of memory. Where it fails, the pool comes back as it was.
+    pub fn new(alloc: Global, pool: Pool, setup: Setup) -> Result<Start, (NewFault, Pool)>
+        requires { (census_of pool.arena).held ≡ 0 }
+        ensures { Starts pool setup result }
+    {
+        if setup.is_bad_shared() {
+            return Err((NewFault::BadShared, pool));
+        }
+        let Ok(tables) = tables_of(alloc, setup.desks) else {
+            return Err((NewFault::Memory, pool));
+        };
+        pool.lawful();
+        Ok(Start {
+            pool,
+            desks: setup.desks,
+            first_stamp: setup.first_stamp,
+            tables,
+        })
+    }
+
+    /// Shares the pool under a name: the pool under its lock, and its desks 0, 1 and so on, with empty registers. It takes
+    /// no memory, and can't fail.
+    pub fn open<N: Name>(self) -> (Shared<N>, Desks<N>)
+        requires { IsNameOf N.id N.desks N.first self }
+        ensures { result.1 ≡ fresh N.desks }
+    {
+        let Start {
+            pool,
+            desks,
+            first_stamp,
+            tables,
+        } = self;
+        let book = Book {
+            pool,
+            stamp: first_stamp,
+            tables,
+            of: PhantomData,
+        };
+        let shared = Shared {
+            book: Mutex::new(book),
+            desks,
+            of: PhantomData,
+        };
+        (shared, hand_out(desks))
+    }
+}
+
+// So many tables of empty registers.
+fn tables_of(alloc: Global, desks: u8) -> Result<Vec<DeskTable>, AllocError>
+    ensures { IfOk result (λ tables. tables.items ≡ replicate desks (replicate most_registers None)) }
+{
+    let mut tables = Vec::with_capacity(alloc, usize::from(desks))?;
+    for _ in 0..desks {
+        tables.push_reserved(DeskTable::new());
+    }
+    Ok(tables)
+}
+
+// Desks 0, 1 and so on, so many.
+fn hand_out<N: Name>(count: u8) -> Desks<N>
+    requires { (count ≤ most_workers) × (count ≤ N.desks) }
+    ensures { result ≡ fresh count }
+{
+    let mut desks = Desks::new();
+    for number in 0..count {
+        desks.push(Desk {
+            number,
+            regs: Regs::new(),
+            of: PhantomData,
+        });
+    }
+    desks
+}
