@@ -235,7 +235,7 @@ module _ (v : PoolValue) (rs : List (Option TokenValue)) (desks : List Entries) 
       told : (x : ℕ) (t : TokenValue) → register rs x ≡ Some t → is_of_length t.blocks (held_at v.arena t.head) ≡ true
       told x t there =
           let tells_it : tells t.head t.blocks (register (entries_of rs) x) ≡ true =
-              ap (tells t.head t.blocks) (entries-at rs x ∙ ap (option_map entry_of) there) ∙ and_from _ _ (eq-eqb t.head t.head refl) (eq-eqb t.blocks t.blocks refl) in
+          ap (tells t.head t.blocks) (entries-at rs x ∙ ap (option_map entry_of) there) ∙ and_from _ _ (eq-eqb t.head t.head refl) (eq-eqb t.blocks t.blocks refl) in
           held_length v.arena t.head t.blocks (omega (
             arith,
             held_accounted v.arena rs desks desk within is accounted t.head t.blocks,

@@ -4,7 +4,7 @@ use Rattle.strm_script.specs.declared.verb.Verb.TheVariants as verbs
 use Rattle.strm_script.specs.declared.word.Word.{Word}
 use Rattle.strm_script.specs.declared.word.Word.TheVariants as words
 
--- all first words, as a script has them, those that scripts have most of first
+-- all first words, as a script has them: those of commands, and then those of the header and of sections
 abbrev pub all_words : List (List ℕ × Word)
 all_words =
     (codes "allocb", words.Command verbs.Allocb)

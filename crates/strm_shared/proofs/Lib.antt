@@ -3,3 +3,4 @@ pub mod Listing
 pub mod Noting
 pub mod Opening
 pub mod Turning
+pub mod Crews

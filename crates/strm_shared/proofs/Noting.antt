@@ -25,11 +25,11 @@ alike_noted (Some y) left rs t long alike = at
     at x past =
         elim (cases_eq x y) [
           | inl same ↦ elim (cases_lt y (length t)) [
-              | inl within ↦ ap (register (set t y (register u y))) same ∙ get_or-set_same t y (register u y) None within ∙ ap (register u) (sym same)
-              | inr beyond ↦
-                  get_or_past (set t y (register u y)) x None (omega (arith, same, beyond, length-set t y (register u y)))
-                  ∙ sym (get_or_past u x None (omega (arith, same, beyond, long)))
-            ]
+            | inl within ↦ ap (register (set t y (register u y))) same ∙ get_or-set_same t y (register u y) None within ∙ ap (register u) (sym same)
+            | inr beyond ↦
+                get_or_past (set t y (register u y)) x None (omega (arith, same, beyond, length-set t y (register u y)))
+                ∙ sym (get_or_past u x None (omega (arith, same, beyond, long)))
+          ]
           | inr other ↦
               get_or-set_other t y x (register u y) None other
               ∙ alike x (ap (λ b. b || rows.has x left) (ne_eqb y x (λ same. other (sym same))) ∙ past)

@@ -67,10 +67,14 @@ Answers b d call c e (Err why) = IsRefusal b d why × (c ≡ b) × (e ≡ d)
 
 -- ---- what is known without the book
 
+-- a call may be refused so
+abbrev pub MayRefuse : Refusal → Type 0
+MayRefuse Worn = Unit {0}
+MayRefuse Stranger = Unit {0}
+MayRefuse other = ⊥
+
 -- A desk once a call was served on it, or refused: it keeps its number and the registers that the call does not name,
 -- and stays as it was where it was refused.
 abbrev pub IsAfter : DeskValue → Call → DeskValue → Result Reply Refusal → Type 0
 IsAfter d call e (Ok reply) = (e.number ≡ d.number) × ((x : ℕ) → is_named call x ≡ false → register e.regs x ≡ register d.regs x)
-IsAfter d call e (Err Worn) = e ≡ d
-IsAfter d call e (Err Stranger) = e ≡ d
-IsAfter d call e (Err other) = ⊥
+IsAfter d call e (Err why) = MayRefuse why × (e ≡ d)

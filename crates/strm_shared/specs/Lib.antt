@@ -5,3 +5,5 @@ pub mod Books
 pub mod BooksLayout
 pub mod Starts
 pub mod StartsLayout
+pub mod Runs
+pub mod RunsLayout

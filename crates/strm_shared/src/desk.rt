@@ -39,7 +39,7 @@ impl<N: Name> Desk<N> {
     pub fn lawful(&self)
         ensures { IsDeskOf N.id N.desks self.now }
     {
-        let _ = &self.number;
+        let _ = &self.regs;
     }
 
     /// Spends the desk, and gives its registers. A shared pool of which a desk was spent can't be gathered any more.

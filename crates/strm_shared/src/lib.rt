@@ -5,6 +5,7 @@ mod book;
 mod desk;
 mod desk_table;
 mod desks;
+mod gate;
 mod limits;
 mod line;
 mod listed;
@@ -13,19 +14,21 @@ mod outcome;
 mod setup;
 mod shared;
 mod start;
+mod workers;
 
 pub use book::Book;
 pub use desk::Desk;
 pub use desks::Desks;
+pub use gate::{Gate, OpenGate};
 pub use limits::{MOST_STAMP, MOST_WORKERS};
 pub use line::Line;
 pub use listed::{AllReplies, Ends, Lines, Listed, Parts, Replies};
 pub use name::{Brand, Name};
-pub use outcome::End;
+pub use outcome::{End, Outcome};
 pub use setup::{Setup, Trace};
 pub use shared::{Gathered, Shared};
 pub use start::Start;
-
+pub use workers::run_workers;
 
 #[cfg(test)]
 mod tests;

@@ -54,7 +54,6 @@ impl<T> Listed<T> {
     pub fn into_vec(self) -> Vec<T>
         ensures { result.items ≡ self }
     {
-        let Listed { vector } = self;
-        vector
+        self.vector
     }
 }

@@ -1,4 +1,7 @@
-//! How workers end.
+//! What workers leave, and how they end.
+use crate::desks::Desks;
+use crate::listed::{AllReplies, Ends};
+use crate::name::Name;
 use strm_pool::Refusal;
 
 /// How a worker ended.
@@ -10,4 +13,11 @@ pub enum End {
     Refused(Refusal),
     /// It was not started, since there was no thread for it.
     NotStarted,
+}
+
+/// What workers leave: their desks, the replies to each, one for each line that was served, in order, and how each ended.
+pub struct Outcome<N: Name> {
+    pub desks: Desks<N>,
+    pub replies: AllReplies,
+    pub ends: Ends,
 }

@@ -27,8 +27,6 @@ impl Setup {
     pub(crate) fn is_bad_shared(&self) -> bool
         ensures { result ≡ is_bad_shared self.now }
     {
-        self.desks == 0
-            || usize::from(self.desks) > MOST_WORKERS
-            || self.first_stamp > MOST_STAMP
+        self.desks == 0 || usize::from(self.desks) > MOST_WORKERS || self.first_stamp > MOST_STAMP
     }
 }

@@ -48,10 +48,7 @@ impl<N: Name> Shared<N> {
     /// Ends the sharing: the pool, and the desks in the order of their numbers.
     ///
     /// Refused as `DeskMissing` where fewer desks come than were handed out; everything comes back as it was then.
-    pub fn gather(
-        self,
-        desks: Desks<N>,
-    ) -> Result<Gathered<N>, (Refusal, Shared<N>, Desks<N>)>
+    pub fn gather(self, desks: Desks<N>) -> Result<Gathered<N>, (Refusal, Shared<N>, Desks<N>)>
         ensures missing { IfErr result (λ e. (length desks < N.desks) × (e.0 ≡ DeskMissing) × (e.1 ≡ self) × (e.2 ≡ desks)) }
         ensures enough { OnOk result (N.desks ≤ length desks) }
         ensures same { IfOk result (λ g. IsPermutation desks g.desks) }

@@ -1,11 +1,17 @@
 ghost use Rattle.std.specs.Prelude.{◌≡◌, ◌<◌, length};
 ghost use Rattle.strm_shared.specs.Starts.{IsNameOf};
 
-use crate::{Brand, Desk, Desks, Gathered, MOST_STAMP, Name, Setup, Shared, Start, Trace};
+use crate::{
+    Brand, Desk, Desks, End, Gate, Gathered, Line, Lines, MOST_STAMP, Name, OpenGate, Outcome,
+    Parts, Replies, Setup, Shared, Start, Trace, run_workers,
+};
 use arrayvec::ArrayVec;
-use std::alloc::Global;
+use std::alloc::{AllocError, Global};
 use std::process::Abort;
 use std::sync::Wait;
+use std::sync::atomic::{AtomicU32, Ordering};
+use std::test::Fail;
+use std::thread::Threads;
 use strm_pool::{
     Call, ClassSpec, ClassSpecs, Config, NewFault, Pool, QueueSpec, QueueSpecs, Refusal, Reg, Reply,
 };
@@ -120,18 +126,21 @@ fn listed<N: Name>(zero: Desk<N>, one: Desk<N>) -> Desks<N>
     desks
 }
 
+// What `gather` answers.
+type Gathering<N> = Result<Gathered<N>, (Refusal, Shared<N>, Desks<N>)>;
+
 // The pool once the desks came back, in order, and what they hold was freed.
-fn emptied<N: Name>(rt: &impl Abort, shared: Shared<N>, desks: Desks<N>) -> Pool {
-    let (mut pool, mut desks) = match shared.gather(desks) {
+fn emptied<N: Name>(rt: &impl Abort, gathered: Gathering<N>) -> Pool {
+    let (mut pool, mut desks) = match gathered {
         Ok(Gathered { pool, desks }) => (pool, desks),
         Err((_, _, desks)) => {
             desks.forget();
             panic!(rt; "a desk is missing")
         }
     };
-    let mut number = desks.len();
-    while number > 0 {
-        number -= 1;
+    let count = desks.len();
+    for place in 0..count {
+        let number = count - 1 - place;
         let desk = last(rt, &mut desks, number as u8);
         pool.drain(desk.into_regs());
     }
@@ -168,28 +177,29 @@ fn by_turns<N: Name, R: Wait + Abort>(rt: &R, start: Start)
     assert_served(rt, &shared, &mut zero, &Call::Freemsg(a), &Reply::Empty);
     assert_served(rt, &shared, &mut one, &Call::Linkb(a, b), &Reply::Done);
     // Handed in from the last to the first, they come back in order.
-    let pool = emptied(rt, shared, listed(one, zero));
+    let pool = emptied(rt, shared.gather(listed(one, zero)));
     assert_census(rt, &pool, (8, 0, 0));
+}
+
+// Whether a pool can't be shared by so many desks from this stamp on. It comes back as it was then.
+fn assert_bad(rt: &impl Abort, alloc: Global, desks: u8, first_stamp: u64, bad: bool) {
+    match started(rt, alloc, 7, desks, first_stamp) {
+        Ok(_) => assert!(rt; !bad),
+        Err((fault, pool)) => {
+            assert!(rt; bad && fault == NewFault::BadShared);
+            assert_census(rt, &pool, (8, 0, 0));
+        }
+    }
 }
 
 #[test]
 fn setups_out_of_bounds(rt: HostRuntime) {
-    for (desks, first_stamp, bad) in [
-        (0, 0, true),
-        (1, 0, false),
-        (16, MOST_STAMP, false),
-        (17, 0, true),
-        (255, MOST_STAMP, true),
-        (1, MOST_STAMP + 1, true),
-    ] {
-        match started(&rt, rt.alloc(), 7, desks, first_stamp) {
-            Ok(_) => assert!(rt; !bad),
-            Err((fault, pool)) => {
-                assert!(rt; bad && fault == NewFault::BadShared);
-                assert_census(&rt, &pool, (8, 0, 0));
-            }
-        }
-    }
+    assert_bad(&rt, rt.alloc(), 0, 0, true);
+    assert_bad(&rt, rt.alloc(), 1, 0, false);
+    assert_bad(&rt, rt.alloc(), 16, MOST_STAMP, false);
+    assert_bad(&rt, rt.alloc(), 17, 0, true);
+    assert_bad(&rt, rt.alloc(), 255, MOST_STAMP, true);
+    assert_bad(&rt, rt.alloc(), 1, MOST_STAMP + 1, true);
 }
 
 #[test]
@@ -209,7 +219,7 @@ fn worn<N: Name, R: Wait + Abort>(rt: &R, start: Start)
     assert_refused(rt, &shared, &mut desk, &Call::Freemsg(a), Refusal::Worn);
     assert!(rt; desks.len() == 0);
     desks.push(desk);
-    let pool = emptied(rt, shared, desks);
+    let pool = emptied(rt, shared.gather(desks));
     assert_census(rt, &pool, (8, 0, 0));
 }
 
@@ -258,7 +268,8 @@ fn two_shared_pools(rt: HostRuntime) {
     side_by_side::<Brand, Brand, _>(&rt, one, other);
 }
 
-// What is served of one leaves the other as it was.
+// What is served of one leaves the other as it was. With `desks` in the place of `others`, the calls of `second` do not
+// compile (tests/strangers).
 fn side_by_side<N: Name, M: Name, R: Wait + Abort>(rt: &R, one: Start, other: Start)
     requires one { IsNameOf N.id N.desks N.first one }
     requires other { IsNameOf M.id M.desks M.first other }
@@ -267,12 +278,229 @@ fn side_by_side<N: Name, M: Name, R: Wait + Abort>(rt: &R, one: Start, other: St
     let (first, mut desks) = one.open::<N>();
     let (second, mut others) = other.open::<M>();
     assert!(rt; desks.len() == 1 && others.len() == 1);
-    assert_served(rt, &first, desks.desk_mut(0), &Call::Allocb(a, 1), &Reply::Done);
-    assert_served(rt, &second, others.desk_mut(0), &Call::Freemsg(a), &Reply::Empty);
-    assert_served(rt, &second, others.desk_mut(0), &Call::Allocb(a, 64), &Reply::Done);
-    assert_served(rt, &first, desks.desk_mut(0), &Call::Putq(0, a), &Reply::Done);
-    let pool = emptied(rt, first, desks);
-    assert_census(rt, &pool, (7, 1, 0));
-    let pool = emptied(rt, second, others);
+    let served = first.serve(rt, desks.desk_mut(0), 1, &Call::Allocb(a, 1));
+    assert!(rt; served.is_ok_and(|reply| reply == Reply::Done));
+    let served = second.serve(rt, others.desk_mut(0), 1, &Call::Freemsg(a));
+    assert!(rt; served.is_ok_and(|reply| reply == Reply::Empty));
+    let served = first.serve(rt, desks.desk_mut(0), 2, &Call::Putq(0, a));
+    assert!(rt; served.is_ok_and(|reply| reply == Reply::Done));
+    let gathered = second.gather(others);
+    let pool = emptied(rt, gathered);
     assert_census(rt, &pool, (8, 0, 0));
+    let gathered = first.gather(desks);
+    let pool = emptied(rt, gathered);
+    assert_census(rt, &pool, (7, 1, 0));
+}
+
+// How many workers there are at a meeting.
+const MEETING: usize = 2;
+
+// Each of two workers waits before its lines until the other has come, for so many turns at most.
+const TURNS: u32 = 100_000_000;
+
+// Where two workers wait for each other: who has come, how many waited in vain, and how many lines were answered.
+#[derive(Drop)]
+struct Meeting {
+    came: [AtomicU32; MEETING],
+    missed: AtomicU32,
+    answered: AtomicU32,
+}
+
+impl Meeting {
+    fn new() -> Meeting {
+        Meeting {
+            came: [AtomicU32::new(0), AtomicU32::new(0)],
+            missed: AtomicU32::new(0),
+            answered: AtomicU32::new(0),
+        }
+    }
+
+    // Whether the other worker comes in time.
+    fn meets(&self, other: usize) -> bool {
+        for _ in 0..TURNS {
+            if self.came[other % MEETING].load(Ordering::SeqCst) > 0 {
+                return true;
+            }
+        }
+        false
+    }
+}
+
+impl Gate for Meeting {
+    fn before(&self, worker: u8, _line: u32) {
+        let own = usize::from(worker) % MEETING;
+        self.came[own].store(1, Ordering::SeqCst);
+        if !self.meets(own + 1) {
+            self.missed.fetch_add(1, Ordering::SeqCst);
+        }
+    }
+
+    fn after(&self, _worker: u8, _line: u32) {
+        self.answered.fetch_add(1, Ordering::SeqCst);
+    }
+}
+
+// So many lines of a worker, each an `allocb` and then a `freemsg` of a register.
+fn lines(alloc: Global, reg: Reg, rounds: u32) -> Result<Lines, AllocError> {
+    let mut list = Vec::new(alloc);
+    for round in 0..rounds {
+        let number = round.wrapping_mul(2);
+        let call = Call::Allocb(reg, 16);
+        list.push(Line { number, call })?;
+        let call = Call::Freemsg(reg);
+        list.push(Line {
+            number: number.wrapping_add(1),
+            call,
+        })?;
+    }
+    Ok(Lines::of(list))
+}
+
+// Such lines of so many workers.
+fn parts(alloc: Global, reg: Reg, workers: u8, rounds: u32) -> Result<Parts, AllocError> {
+    let mut list = Vec::new(alloc);
+    for _ in 0..workers {
+        list.push(lines(alloc, reg, rounds)?)?;
+    }
+    Ok(Parts::of(list))
+}
+
+// Each worker has all its lines answered as done.
+fn assert_done(rt: &impl Abort, replies: &[Replies], ends: &[End], count: usize) {
+    assert!(rt; ends.iter().all(|end| *end == End::Done));
+    for given in replies {
+        assert_eq!(rt; given.items().len(), count);
+        assert!(rt; given.items().iter().all(|reply| *reply == Reply::Done));
+    }
+}
+
+// Workers at one pool, as many as there are desks, of so many rounds.
+fn work<N: Name + Send + Sync, R: Threads + Wait + Abort + Sync, G: Gate>(
+    rt: &R,
+    alloc: Global,
+    start: Start,
+    gate: &G,
+    rounds: u32,
+) -> Result<(), Fail>
+    requires { IsNameOf N.id N.desks N.first start }
+{
+    let (shared, desks) = start.open::<N>();
+    let Ok(parts) = parts(alloc, reg(rt, b'a'), desks.len() as u8, rounds) else {
+        desks.forget();
+        panic!(rt; "out of memory")
+    };
+    assert!(rt; parts.items().len() == desks.len());
+    match run_workers(rt, alloc, &shared, desks, &parts, gate) {
+        Ok(
+            Outcome {
+                desks,
+                replies,
+                ends,
+            },
+        ) => {
+            let count = (rounds as usize).wrapping_mul(2);
+            assert_done(rt, replies.items(), ends.items(), count);
+            let pool = emptied(rt, shared.gather(desks));
+            assert_census(rt, &pool, (8, 0, 0));
+        }
+        Err((_, desks)) => {
+            desks.forget();
+            panic!(rt; "out of memory")
+        }
+    }
+    Ok(())
+}
+
+#[test]
+fn two_threads_at_once(rt: HostRuntime) -> Result<(), Fail> {
+    let gate = Meeting::new();
+    work::<Brand, _, _>(&rt, rt.alloc(), start(&rt, rt.alloc(), 7, 2, 0), &gate, 1)?;
+    assert_eq!(rt; gate.missed.load(Ordering::SeqCst), 0);
+    assert_eq!(rt; gate.answered.load(Ordering::SeqCst), 4);
+    Ok(())
+}
+
+#[test]
+fn sixteen_workers_at_one_pool(rt: HostRuntime) -> Result<(), Fail> {
+    let sixteen = start(&rt, rt.alloc(), 7, 16, 0);
+    crowd::<Brand, _>(&rt, rt.alloc(), sixteen)
+}
+
+// Each of sixteen workers puts messages on one queue and takes others off it, 1,000 lines in all. What is left on the
+// queue is what was put and not taken.
+fn crowd<N: Name + Send + Sync, R: Threads + Wait + Abort + Sync>(
+    rt: &R,
+    alloc: Global,
+    start: Start,
+) -> Result<(), Fail>
+    requires { IsNameOf N.id N.desks N.first start }
+{
+    let (shared, desks) = start.open::<N>();
+    let Ok(parts) = queueing(alloc, reg(rt, b'a'), desks.len() as u8) else {
+        desks.forget();
+        panic!(rt; "out of memory")
+    };
+    assert!(rt; parts.items().len() == desks.len());
+    match run_workers(rt, alloc, &shared, desks, &parts, &OpenGate) {
+        Ok(
+            Outcome {
+                desks,
+                replies,
+                ends,
+            },
+        ) => {
+            assert!(rt; ends.items().iter().all(|end| *end == End::Done));
+            let left = count_left(replies.items());
+            let pool = emptied(rt, shared.gather(desks));
+            assert_eq!(rt; pool.census().queued, left);
+            assert_eq!(rt; pool.census().held, 0);
+        }
+        Err((_, desks)) => {
+            desks.forget();
+            panic!(rt; "out of memory")
+        }
+    }
+    Ok(())
+}
+
+// The lines of so many workers, 1,000 for each: `allocb`, `putq`, `getq` and `freemsg`, and so on.
+fn queueing(alloc: Global, reg: Reg, workers: u8) -> Result<Parts, AllocError> {
+    let mut list = Vec::new(alloc);
+    for _ in 0..workers {
+        let mut lines = Vec::new(alloc);
+        for number in 0..1000 {
+            let call = match number % 4 {
+                0 => Call::Allocb(reg, 16),
+                1 => Call::Putq(0, reg),
+                2 => Call::Getq(0, reg),
+                _ => Call::Freemsg(reg),
+            };
+            lines.push(Line { number, call })?;
+        }
+        list.push(Lines::of(lines))?;
+    }
+    Ok(Parts::of(list))
+}
+
+// How many more messages were put on the queue than taken off it.
+fn count_left(replies: &[Replies]) -> u32 {
+    let mut left: u32 = 0;
+    for given in replies {
+        for (place, reply) in given.items().iter().enumerate() {
+            if *reply == Reply::Done {
+                match place % 4 {
+                    1 => left = left.wrapping_add(1),
+                    2 => left = left.wrapping_sub(1),
+                    _ => {}
+                }
+            }
+        }
+    }
+    left
+}
+
+#[test]
+fn workers_at_one_pool(rt: HostRuntime) -> Result<(), Fail> {
+    let two = start(&rt, rt.alloc(), 7, 2, 0);
+    work::<Brand, _, _>(&rt, rt.alloc(), two, &OpenGate, 500)
 }

@@ -17,12 +17,7 @@ fn assert_holds(rt: &impl Abort, regs: &Regs, a: bool, z: bool) {
 }
 
 // What registers a and z tell.
-fn assert_entries(
-    rt: &impl Abort,
-    regs: &Regs,
-    a: Option<(u32, u32)>,
-    z: Option<(u32, u32)>,
-) {
+fn assert_entries(rt: &impl Abort, regs: &Regs, a: Option<(u32, u32)>, z: Option<(u32, u32)>) {
     assert!(rt; regs.entry(reg(rt, b'a')) == a);
     assert!(rt; regs.entry(reg(rt, b'z')) == z);
 }
@@ -61,11 +56,7 @@ fn registers_tell_heads_and_numbers_of_blocks(rt: HostRuntime) {
     let mut bench = Bench::opened(&rt, rt.alloc(), (7, 4), &SIZES);
     let (a, z) = (reg(&rt, b'a'), reg(&rt, b'z'));
     assert_entries(&rt, bench.regs(), None, None);
-    bench.done(
-        &rt,
-        &[Call::Allocb(z, 1), Call::Allocb(a, 1)],
-        &[Some(1)],
-    );
+    bench.done(&rt, &[Call::Allocb(z, 1), Call::Allocb(a, 1)], &[Some(1)]);
     assert_entries(&rt, bench.regs(), Some((1, 1)), Some((0, 1)));
     bench.done(&rt, &[Call::Linkb(z, a)], &[None]);
     assert_entries(&rt, bench.regs(), None, Some((0, 2)));

@@ -13,7 +13,7 @@ returns c =
     let queues = c.lawful-2.ensures in
     let wishes = c.lawful-3.ensures in
     let few_classes : length (class_infos c.self.inside.blocks.store) ≤ most_classes =
-        omega (arith, length-class_infos (counted_in c.self.inside.blocks) blocks.kept, lawful_few c.self.inside.blocks.store.classes blocks.kept.lawful) in
+    omega (arith, length-class_infos (counted_in c.self.inside.blocks) blocks.kept, lawful_few c.self.inside.blocks.store.classes blocks.kept.lawful) in
     subst IsLawful c.self.view_is (record {
       parted = blocks.parted;
       kept = blocks.kept;

@@ -27,8 +27,8 @@ invariant_of-self g c =
     let ss = c.apply-reply.new.regs in
     let stays = others g.N.Name.id g.N.Name.desks g.N.Name.first b d c.self.invariant c.desk.invariant known c.args.call.now v ss c.apply-reply.result c.apply-reply.ensures in
     let noted : c.note.new.self ≡ entries_of ss =
-        c.note.ensures d.regs (sym (table_is b d.number c.index_mut.result.now here (search rules)) ∙ known)
-        (λ x past. stays x (ap (λ (names : Names). rows.has x (registers_in names)) (sym c.names.ensures) ∙ past)) in
+    c.note.ensures d.regs (sym (table_is b d.number c.index_mut.result.now here (search rules)) ∙ known)
+    (λ x past. stays x (ap (λ (names : Names). rows.has x (registers_in names)) (sym c.names.ensures) ∙ past)) in
     let unspent : b.stamp < most_stamp = omega (arith, c.if-self-eq-MOST_STAMP.false, c.self.invariant.unspent) in
     subst (λ n. IsBookOf g.N.Name.id g.N.Name.desks g.N.Name.first (book_value v (b.stamp + 1) (set b.tables n c.note.new.self))) (sym c.from-number.ensures)
     (subst (λ (t : Entries). IsBookOf g.N.Name.id g.N.Name.desks g.N.Name.first (book_value v (b.stamp + 1) (set b.tables d.number t))) (sym noted)
@@ -52,8 +52,8 @@ returns g c =
     let ss = c.apply-reply.new.regs in
     let stays = others g.N.Name.id g.N.Name.desks g.N.Name.first b d c.self.invariant c.desk.invariant known c.args.call.now v ss c.apply-reply.result c.apply-reply.ensures in
     let noted : c.note.new.self ≡ entries_of ss =
-        c.note.ensures d.regs (sym (table_is b d.number c.index_mut.result.now here (search rules)) ∙ known)
-        (λ x past. stays x (ap (λ (names : Names). rows.has x (registers_in names)) (sym c.names.ensures) ∙ past)) in
+    c.note.ensures d.regs (sym (table_is b d.number c.index_mut.result.now here (search rules)) ∙ known)
+    (λ x past. stays x (ap (λ (names : Names). rows.has x (registers_in names)) (sym c.names.ensures) ∙ past)) in
     let unspent : b.stamp < most_stamp = omega (arith, c.if-self-eq-MOST_STAMP.false, c.self.invariant.unspent) in
     let call = c.args.call.now in
     let reply = c.apply-reply.result in

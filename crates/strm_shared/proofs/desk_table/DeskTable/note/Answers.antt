@@ -20,7 +20,7 @@ returns c before was others =
     let longer : length first ≡ length u = length-noted names.source rs t ∙ long in
     let longest : length second ≡ length u = length-noted names.second rs first ∙ longer in
     let alike : AreAlike (registers_in names) t u = λ x past.
-        ap (λ (l : Entries). register l x) was ∙ entries-at before x ∙ ap (option_map entry_of) (sym (others x past)) ∙ sym (entries-at rs x) in
+    ap (λ (l : Entries). register l x) was ∙ entries-at before x ∙ ap (option_map entry_of) (sym (others x past)) ∙ sym (entries-at rs x) in
     c.note_entry-3.ensures
     ∙ ap (entry_noted names.destination rs) (c.note_entry-2.ensures ∙ ap (entry_noted names.second rs) c.note_entry.ensures)
     ∙ alike_same (entry_noted names.destination rs second) u (length-noted names.destination rs second ∙ longest)
