@@ -1,6 +1,7 @@
 -- What an input gives: its first fault, or a text.
 use Rattle.std.specs.Prelude.{◌≡◌, ℕ, nat_lt, List, ◌∷◌, length, Option, None, Some, Result, Ok, Err, IsOkAnd, if◌then◌else◌}
 use Rattle.std.specs.Option.{option_map}
+use Rattle.strm_pool.specs.declared.config.Config.{Config as ConfigValue}
 use Rattle.strm_pool.specs.Config.{fault_of}
 use Rattle.strm_script.specs.declared.fault.Fault.{Fault}
 use Rattle.strm_driver.specs.declared.fault.RunFault.{RunFault}
@@ -15,9 +16,13 @@ use Rattle.strm_script.specs.Text.{text_of}
 
 -- ---- the fault
 
+-- a configuration's first fault
+abbrev pub fault_of_config : ConfigValue → Option RunFault
+fault_of_config config = option_map (λ which. Config which) (fault_of config)
+
 -- a script's first fault, or else its configuration's
 abbrev pub fault_of_script : Result ScriptValue Fault → Option RunFault
-fault_of_script (Ok script) = option_map (λ which. Config which) (fault_of script.config)
+fault_of_script (Ok script) = fault_of_config script.config
 fault_of_script (Err found) = Some (Script found)
 
 -- an input of more than `most` bytes is too long; else its script's fault

@@ -1,11 +1,15 @@
 -- What a fault tells.
-use Rattle.std.specs.Prelude.{◌≡◌, Bool, true, false, Option, None, Some, Result, Ok, Err}
+use Rattle.std.specs.Prelude.{◌≡◌, Bool, true, false, List, [], ◌∷◌, Option, None, Some, Result, Ok, Err, if◌then◌else◌}
+use Rattle.std.specs.List.{list_any}
+use Rattle.strm_data.specs.declared.refusal.Refusal.{Refusal}
 use Rattle.strm_data.specs.declared.refusal.Refusal.TheVariants.{BadShared}
 use Rattle.strm_pool.specs.declared.config.NewFault.{NewFault}
 use Rattle.strm_pool.specs.declared.config.NewFault.TheVariants as new_faults
 use Rattle.strm_pool.specs.declared.config.Which.{Which}
 use Rattle.strm_script.specs.declared.fault.ParseFault.{ParseFault}
 use Rattle.strm_script.specs.declared.fault.ParseFault.TheVariants as parse_faults
+use Rattle.strm_shared.specs.declared.outcome.End.{End}
+use Rattle.strm_shared.specs.declared.outcome.End.TheVariants as ends
 use Rattle.strm_driver.specs.declared.fault.RunFault.{RunFault}
 use Rattle.strm_driver.specs.declared.fault.RunFault.TheVariants.{Read, TooLong, Write, Script, Config, Memory, Refused}
 use Rattle.strm_driver.specs.declared.fault.TextFault.{TextFault}
@@ -78,3 +82,25 @@ run_fault_of_text (text_faults.Script found) = Script found
 run_fault_of_text (text_faults.Config which) = Config which
 run_fault_of_text text_faults.Memory = Memory
 run_fault_of_text (text_faults.Refused why) = Refused why
+
+-- ---- how a run ends
+
+abbrev pub is_not_started : End → Bool
+is_not_started ends.Done = false
+is_not_started (ends.Refused why) = false
+is_not_started ends.NotStarted = true
+
+-- the refusal of the lowest worker that has one
+abbrev pub first_refused : List End → Option Refusal
+first_refused [] = None
+first_refused (ends.Done ∷ others) = first_refused others
+first_refused (ends.Refused why ∷ others) = Some why
+first_refused (ends.NotStarted ∷ others) = first_refused others
+
+abbrev pub refused_as : Option Refusal → Result (Unit {0}) TextFault
+refused_as None = Ok tt
+refused_as (Some why) = Err (text_faults.Refused why)
+
+-- want of memory where a worker has no thread, else the first refusal
+abbrev pub ended_as : List End → Result (Unit {0}) TextFault
+ended_as es = if list_any is_not_started es then Err text_faults.Memory else refused_as (first_refused es)

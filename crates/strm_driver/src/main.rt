@@ -4,12 +4,14 @@
 ghost use Rattle.std.specs.Prelude.{◌≤◌};
 ghost use Rattle.strm_script.specs.Limits.{most_script_bytes};
 
+mod by_workers;
 mod fault;
 #[cfg(test)]
 mod faulty;
 mod input;
 mod output;
 mod run;
+mod serial;
 mod watched;
 mod words;
 
@@ -18,7 +20,10 @@ use fault::RunFault;
 use run::run;
 use std::process::ExitCode;
 use std::rt::Env;
+use std::sync::Wait;
+use std::thread::Threads;
 use std::{env, io};
+use strm_shared::OpenGate;
 use watched::Watched;
 use words::{Options, options_of};
 
@@ -57,13 +62,23 @@ fn answered(rt: &(impl Print + Eprint), error: &clap::Error) -> ExitCode {
 }
 
 // Runs the script on standard input.
-fn served(rt: &(impl AllocGlobal + Input + Print + Eprint), options: Options) -> ExitCode
+fn served(
+    rt: &(impl AllocGlobal + Input + Print + Eprint + Threads + Wait + Sync),
+    options: Options,
+) -> ExitCode
     requires least { 1 ≤ options.max }
     requires most { options.max ≤ most_script_bytes }
 {
     let mut reader = Watched::new(rt.reader());
     let mut writer = Watched::new(io::writer(rt));
-    match run(rt, options.mode, options.max, &mut reader, &mut writer) {
+    match run(
+        rt,
+        options.mode,
+        options.max,
+        &OpenGate,
+        &mut reader,
+        &mut writer,
+    ) {
         Ok(()) => ExitCode::SUCCESS,
         Err(fault) => failed(rt, fault),
     }

@@ -4,7 +4,20 @@ ghost use Rattle.std.specs.Io.KnownBytes.{Appends};
 
 use crate::watched::Watched;
 use std::io::Write;
+use strm_shared::Lines;
 use thiserror::Error;
+
+// How many bytes of text a command line has, or few lines have more.
+const BYTES_OF_LINE: usize = 16;
+
+/// For how many bytes of text there is room at first: most lines need no more than this for each.
+pub fn room_for(parts: &[Lines]) -> usize {
+    let mut lines: usize = 0;
+    for part in parts {
+        lines = lines.saturating_add(part.items().len());
+    }
+    lines.saturating_mul(BYTES_OF_LINE)
+}
 
 /// The writer failed, or took nothing of what was left.
 #[derive(Clone, Copy, Debug, PartialEq, Eq, Error)]

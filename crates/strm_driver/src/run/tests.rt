@@ -4,9 +4,13 @@ use super::{Mode, run};
 use crate::fault::RunFault;
 use crate::faulty::{choppy_writer, slow_reader};
 use crate::watched::Watched;
+use std::sync::Wait;
+use std::sync::atomic::{AtomicU32, Ordering};
 use std::test::Fail;
+use std::thread::Threads;
 use strm_pool::Which;
 use strm_script::{Fault, Kind};
+use strm_shared::{Gate, OpenGate};
 
 const SCRIPT: &[u8] =
     b"pool 1 8\nclass 16 4\nqueue 10 4 s -\nbufcalls 2 1\nworker\nallocb a 3\nwrite a 0 616263\nputq 0 a\ncensus\nallocb b 17\ngetq 0 c\n";
@@ -39,13 +43,29 @@ const SECTIONS_TEXT: &[u8] =
     b"0:6 ok\n0:7 ok\n0:8 ok\n1:10 empty\n1:11 ok\n1:12 census 6 0 2\nblocks free=6 queued=0 held=2 total=8\n\
       data size=16 free=2 total=4\nqueue 0 msgs=0 bytes=0 read=0 noenable=0 enabled=1\nrun 0\nwishes -\n";
 
+// Two sections whose replies, and whose report, are the same in any order of the two.
+const APART: &[u8] =
+    b"pool 1 8\nclass 16 4\nqueue 10 4 s -\nbufcalls 2 1\nworker\nallocb a 3\nallocb b 1\nputq 0 a\n\
+      worker\nfreemsg a\nallocb b 2\nwrite b 0 6162\nread b 0\n";
+
+// Each has a register b of its own, and both count as held.
+const APART_TEXT: &[u8] =
+    b"0:6 ok\n0:7 ok\n0:8 ok\n1:10 empty\n1:11 ok\n1:12 ok\n1:13 bytes 6162\nblocks free=5 queued=1 held=2 total=8\n\
+      data size=16 free=1 total=4\nqueue 0 msgs=1 bytes=0 read=1 noenable=0 enabled=1\nrun 0\nwishes -\n";
+
 // What is written for a script to a writer that takes one byte at a time.
-fn written(rt: &HostRuntime, mode: Mode, script: &[u8]) -> Result<Vec<u8>, Fail> {
+fn written(
+    rt: &(impl AllocGlobal + Threads + Wait + Sync),
+    mode: Mode,
+    gate: &impl Gate,
+    script: &[u8],
+) -> Result<Vec<u8>, Fail> {
     let mut writer = choppy_writer(rt.alloc(), 1, None, true);
     run(
         rt,
         mode,
         MAX,
+        gate,
         &mut Watched::new(slow_reader(script, None)),
         &mut Watched::new(&mut writer),
     )?;
@@ -55,16 +75,67 @@ fn written(rt: &HostRuntime, mode: Mode, script: &[u8]) -> Result<Vec<u8>, Fail>
 #[test]
 fn goes_byte_by_byte(rt: HostRuntime) -> Result<(), Fail> {
     for mode in [Mode::Serial, Mode::Workers] {
-        assert_eq!(rt; written(&rt, mode, SCRIPT)?.as_slice(), TEXT);
+        assert_eq!(rt; written(&rt, mode, &OpenGate, SCRIPT)?.as_slice(), TEXT);
     }
     Ok(())
 }
 
 #[test]
 fn serves_one_section_after_the_other(rt: HostRuntime) -> Result<(), Fail> {
+    assert_eq!(rt;
+        written(&rt, Mode::Serial, &OpenGate, SECTIONS)?.as_slice(),
+        SECTIONS_TEXT
+    );
+    Ok(())
+}
+
+#[test]
+fn workers_have_registers_of_their_own(rt: HostRuntime) -> Result<(), Fail> {
     for mode in [Mode::Serial, Mode::Workers] {
-        assert_eq!(rt; written(&rt, mode, SECTIONS)?.as_slice(), SECTIONS_TEXT);
+        assert_eq!(rt;
+            written(&rt, mode, &OpenGate, APART)?.as_slice(),
+            APART_TEXT
+        );
     }
+    Ok(())
+}
+
+// A gate in which two workers meet, each before its first line.
+#[derive(Drop)]
+struct Meeting {
+    came: [AtomicU32; 2],
+    missed: AtomicU32,
+}
+
+// How often a worker looks for the other.
+const LOOKS: u32 = 1_000_000_000;
+
+impl Gate for Meeting {
+    fn before(&self, worker: u8, _line: u32) {
+        let own = usize::from(worker) % 2;
+        self.came[own].store(1, Ordering::SeqCst);
+        for _ in 0..LOOKS {
+            if self.came[1 - own].load(Ordering::SeqCst) > 0 {
+                return;
+            }
+        }
+        self.missed.fetch_add(1, Ordering::SeqCst);
+    }
+
+    fn after(&self, _worker: u8, _line: u32) {}
+}
+
+#[test]
+fn workers_run_at_once(rt: HostRuntime) -> Result<(), Fail> {
+    let gate = Meeting {
+        came: [AtomicU32::new(0), AtomicU32::new(0)],
+        missed: AtomicU32::new(0),
+    };
+    assert_eq!(rt;
+        written(&rt, Mode::Workers, &gate, APART)?.as_slice(),
+        APART_TEXT
+    );
+    assert_eq!(rt; gate.missed.load(Ordering::SeqCst), 0);
     Ok(())
 }
 
@@ -76,6 +147,7 @@ fn a_failing_reader_leaves_nothing_written(rt: HostRuntime) {
             &rt,
             Mode::Serial,
             MAX,
+            &OpenGate,
             &mut Watched::new(slow_reader(SCRIPT, Some(cut))),
             &mut Watched::new(&mut writer),
         )
@@ -93,6 +165,7 @@ fn a_failing_writer_has_the_beginning(rt: HostRuntime) {
             &rt,
             Mode::Serial,
             MAX,
+            &OpenGate,
             &mut Watched::new(slow_reader(SCRIPT, None)),
             &mut Watched::new(&mut writer),
         )
@@ -103,7 +176,11 @@ fn a_failing_writer_has_the_beginning(rt: HostRuntime) {
 }
 
 // Why a run of this script fails, where it has written nothing.
-fn fault_of(rt: &HostRuntime, max: u32, script: &[u8]) -> Option<RunFault>
+fn fault_of(
+    rt: &(impl AllocGlobal + Threads + Wait + Sync),
+    max: u32,
+    script: &[u8],
+) -> Option<RunFault>
     requires least { 1 ≤ max }
     requires most { max ≤ 16777216 }
 {
@@ -112,6 +189,7 @@ fn fault_of(rt: &HostRuntime, max: u32, script: &[u8]) -> Option<RunFault>
         rt,
         Mode::Serial,
         max,
+        &OpenGate,
         &mut Watched::new(slow_reader(script, None)),
         &mut Watched::new(&mut writer),
     )
@@ -182,6 +260,7 @@ fn every_prefix_is_refused_or_served(rt: HostRuntime) {
             &rt,
             Mode::Serial,
             MAX,
+            &OpenGate,
             &mut Watched::new(slow_reader(prefix, None)),
             &mut Watched::new(&mut writer),
         )

@@ -1,6 +1,6 @@
 -- The sections that are left.
 use Rattle.std.proofs.Common.{length}
-use Rattle.strm_driver.proofs.run.+serve_parts.Given as goal
+use Rattle.strm_driver.proofs.serial.+serve_parts.Given as goal
 
 abbrev pub decreases-serve_parts : goal.decreases-serve_parts
 decreases-serve_parts l = length l.parts.now

@@ -1,6 +1,6 @@
 use Rattle.std.proofs.Common.{[], length, refl, ap, arith}
 use Rattle.strm_driver.proofs.Serving.{serial_text-parts}
-use Rattle.strm_driver.proofs.run.serial_text.Goals as goal
+use Rattle.strm_driver.proofs.serial.serial_text.Goals as goal
 
 pub serve_parts-requires : goal.serve_parts-requires
 serve_parts-requires c = omega (arith, c.requires, ap length c.items-sections.ensures)

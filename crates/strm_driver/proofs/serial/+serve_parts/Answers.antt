@@ -3,8 +3,8 @@ use Rattle.std.proofs.Common.{◌++◌, ap, sym, ◌∙◌}
 use Rattle.std.proofs.lemmas.Result.{on_ok_weaker}
 use Rattle.strm_pool.specs.Registers.{table_of}
 use Rattle.strm_driver.proofs.Serving.{empty_distinct, empty_table, no_parts, parts_text-next}
-use Rattle.strm_driver.proofs.run.+serve_parts.Goals.{in-Ok, in-Err}
-use Rattle.strm_driver.proofs.run.+serve_parts.Goals as goal
+use Rattle.strm_driver.proofs.serial.+serve_parts.Goals.{in-Ok, in-Err}
+use Rattle.strm_driver.proofs.serial.+serve_parts.Goals as goal
 
 pub returns-in_default : goal.returns-in_default
 returns-in_default t c =

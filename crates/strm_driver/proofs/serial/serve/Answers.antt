@@ -1,7 +1,7 @@
 use Rattle.std.proofs.Common.{arith}
 use Rattle.strm_pool.specs.Registers.{table_of}
 use Rattle.strm_driver.proofs.Serving.{part_text-next, part_text-end}
-use Rattle.strm_driver.proofs.run.serve.Goals as goal
+use Rattle.strm_driver.proofs.serial.serve.Goals as goal
 
 pub loop-line-preserved : goal.loop-line-preserved
 loop-line-preserved c =

@@ -4,7 +4,7 @@ use Rattle.strm_pool.specs.PoolValue.{owns}
 use Rattle.strm_pool.specs.Registers.{RegisterTable, table_of, AreDistinct}
 use Rattle.strm_script.specs.Merge.{Served}
 use Rattle.strm_driver.proofs.Serving.{part_text}
-use Rattle.strm_driver.proofs.run.serve.Given as goal
+use Rattle.strm_driver.proofs.serial.serve.Given as goal
 
 -- the text so far, and what is written for the lines that are left
 abbrev pub invariant-loop-line : goal.invariant-loop-line
