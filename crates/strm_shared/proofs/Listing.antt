@@ -1,5 +1,5 @@
 -- Lists of desks as they lie in memory, and what is left of a list.
-use Rattle.std.proofs.Common.{◌≡◌, ℕ, suc, ◌<◌, ◌≤◌, List, [], ◌∷◌, ◌++◌, All, length, map, take, drop, remove, sym, ap, ◌∙◌, arith}
+use Rattle.std.proofs.Common.{◌≡◌, ℕ, suc, ◌<◌, List, [], ◌∷◌, ◌++◌, All, length, map, take, drop, remove, sym, ap, ◌∙◌, arith}
 use Rattle.std.specs.List.{drop-map, take-map}
 use Rattle.std.specs.List.Sorted.{IsNonDecreasingBy}
 use Rattle.std.proofs.lemmas.List.{map-append, get_or-map, length-map}

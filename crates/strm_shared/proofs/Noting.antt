@@ -1,7 +1,7 @@
 -- A desk's table, once what some registers tell has been noted in it.
-use Rattle.std.proofs.Common.{◌≡◌, ℕ, ◌<◌, Bool, true, false, eqb, ◌||◌, List, [], length, set, get_or, Option, None, Some, refl, sym, ap, ◌∙◌, inl, inr, arith, get_or-set_same, get_or-set_other, length-set}
+use Rattle.std.proofs.Common.{◌≡◌, ℕ, false, ◌||◌, List, [], length, set, Option, None, Some, refl, sym, ap, ◌∙◌, inl, inr, arith, get_or-set_same, get_or-set_other, length-set}
 use Rattle.std.proofs.lemmas.Bool.{cases_eq, cases_lt, ne_eqb}
-use Rattle.std.proofs.lemmas.List.{ext_get_or, get_or_past, length-map}
+use Rattle.std.proofs.lemmas.List.{ext_get_or, get_or_past}
 use Rattle.strm_links.specs.Rows as rows
 use Rattle.strm_mblk.specs.declared.token.TokenValue.{TokenValue}
 use Rattle.strm_pool.specs.Names.{listed}

@@ -73,8 +73,8 @@ MayRefuse Worn = Unit {0}
 MayRefuse Stranger = Unit {0}
 MayRefuse other = ⊥
 
--- A desk once a call was served on it, or refused: it keeps its number and the registers that the call does not name,
--- and stays as it was where it was refused.
+-- A desk once a call was served on it, or refused. Served, it was so by some lawful book, of which no more is known since
+-- others have had it too; refused, it stays as it was.
 abbrev pub IsAfter : DeskValue → Call → DeskValue → Result Reply Refusal → Type 0
-IsAfter d call e (Ok reply) = (e.number ≡ d.number) × ((x : ℕ) → is_named call x ≡ false → register e.regs x ≡ register d.regs x)
+IsAfter d call e (Ok reply) = (b : BookValue) × (c : BookValue) × IsLawful b.pool × IsServed b d call c e reply
 IsAfter d call e (Err why) = MayRefuse why × (e ≡ d)

@@ -1,5 +1,5 @@
 -- How a list of desks lies in memory. No public clause cites this module.
-use Rattle.std.specs.Prelude.{ℕ, ◌≤◌, List, map, length, Option, Some, None, IsSome}
+use Rattle.std.specs.Prelude.{◌≤◌, List, map, length, Option, Some, None, IsSome}
 use Rattle.std.specs.List.{All}
 use Rattle.strm_shared.specs.declared.desks.Place.{Place}
 use Rattle.strm_shared.specs.Desks.{DeskValue, empty_desk}

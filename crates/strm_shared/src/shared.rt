@@ -30,7 +30,8 @@ pub struct Gathered<N: Name> {
 
 impl<N: Name> Shared<N> {
     /// Serves a call on the desk's registers under the lock, for which it waits, and answers its reply. The lock is held for
-    /// this one call. What it does behind the lock is what `Book::turn` says.
+    /// this one call. It is served, as `Book::turn` says, by some lawful book: who waits for a lock can't say by which, since
+    /// others have had it.
     ///
     /// Refused as `Worn` and `Stranger` where `Book::turn` is; nothing changes then.
     pub fn serve(
@@ -42,12 +43,16 @@ impl<N: Name> Shared<N> {
     ) -> Result<Reply, Refusal>
         ensures { IsAfter desk.old call.now desk.new result }
     {
-        self.book.lock(rt).turn(self, desk, line, call)
+        let mut lock = self.book.lock(rt);
+        let book = &mut *lock;
+        book.lawful();
+        book.turn(self, desk, line, call)
     }
 
     /// Ends the sharing: the pool, and the desks in the order of their numbers.
     ///
-    /// Refused as `DeskMissing` where fewer desks come than were handed out; everything comes back as it was then.
+    /// Refused as `DeskMissing` where fewer desks come than were handed out. Desks and pool come back as they were then; of
+    /// the book behind the lock contracts see nothing, so of the pool only tests say so.
     pub fn gather(self, desks: Desks<N>) -> Result<Gathered<N>, (Refusal, Shared<N>, Desks<N>)>
         ensures missing { IfErr result (λ e. (length desks < N.desks) × (e.0 ≡ DeskMissing) × (e.1 ≡ self) × (e.2 ≡ desks)) }
         ensures enough { OnOk result (N.desks ≤ length desks) }

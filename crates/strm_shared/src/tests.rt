@@ -2,8 +2,8 @@ ghost use Rattle.std.specs.Prelude.{◌≡◌, ◌<◌, length};
 ghost use Rattle.strm_shared.specs.Starts.{IsNameOf};
 
 use crate::{
-    Brand, Desk, Desks, End, Gate, Gathered, Line, Lines, MOST_STAMP, Name, OpenGate, Outcome,
-    Parts, Replies, Setup, Shared, Start, Trace, run_workers,
+    Brand, Desk, Desks, End, Gate, Gathered, Line, Lines, MOST_STAMP, MOST_WORKERS, Name, OpenGate,
+    Outcome, Parts, Replies, Setup, Shared, Start, Trace, run_workers,
 };
 use arrayvec::ArrayVec;
 use std::alloc::{AllocError, Global};
@@ -13,7 +13,8 @@ use std::sync::atomic::{AtomicU32, Ordering};
 use std::test::Fail;
 use std::thread::Threads;
 use strm_pool::{
-    Call, ClassSpec, ClassSpecs, Config, NewFault, Pool, QueueSpec, QueueSpecs, Refusal, Reg, Reply,
+    Call, Census, ClassSpec, ClassSpecs, Config, NewFault, Pool, QueueSpec, QueueSpecs, Refusal,
+    Reg, Reply,
 };
 
 // A pool of eight message blocks over four data blocks of 16 bytes and two of 64, with one queue.
@@ -62,6 +63,32 @@ fn started(
             first_stamp,
         },
     )
+}
+
+// Such a pool that is to be shared by two desks, with a message of three bytes on its queue, from the fifth last stamp on.
+fn loaded(rt: &impl Abort, alloc: Global) -> Start {
+    let mut pool = opened(rt, alloc, 7);
+    let Ok(token) = pool.allocb(3) else {
+        panic!(rt; "no message")
+    };
+    assert!(rt; pool.write(&token, 0, b"abc").is_ok());
+    match pool.putq(0, token) {
+        Ok(()) => {}
+        Err(rejected) => {
+            rejected.token.forget();
+            panic!(rt; "not put")
+        }
+    }
+    assert!(rt; pool.census().held == 0);
+    let setup = Setup {
+        desks: 2,
+        trace: Trace::Off,
+        first_stamp: MOST_STAMP - 4,
+    };
+    match Start::new(alloc, pool, setup) {
+        Ok(start) => start,
+        Err(_) => panic!(rt; "not started"),
+    }
 }
 
 // Such a pool that is to be shared.
@@ -225,7 +252,7 @@ fn worn<N: Name, R: Wait + Abort>(rt: &R, start: Start)
 
 #[test]
 fn a_desk_is_missing(rt: HostRuntime) {
-    missing::<Brand, _>(&rt, start(&rt, rt.alloc(), 7, 2, 0));
+    missing::<Brand, _>(&rt, loaded(&rt, rt.alloc()));
 }
 
 // The desks of a shared pool that can't be gathered, which are these.
@@ -246,19 +273,27 @@ fn ungathered<N: Name>(
     }
 }
 
-// Desk 1 was spent. Each time the others are gathered they come back, and desk 0 is still served.
+// Desk 1 is not there at first. Each time the others are gathered they come back, with the pool and the stamp as they were.
 fn missing<N: Name, R: Wait + Abort>(rt: &R, start: Start)
     requires { IsNameOf N.id N.desks N.first start }
 {
     let a = reg(rt, b'a');
     let (shared, mut desks) = start.open::<N>();
-    last(rt, &mut desks, 1).into_regs().forget();
+    let one = last(rt, &mut desks, 1);
     let (shared, desks) = ungathered(rt, shared, desks);
     let (shared, mut desks) = ungathered(rt, shared, desks);
     assert!(rt; desks.len() == 1);
-    let desk = desks.desk_mut(0);
-    assert_served(rt, &shared, desk, &Call::Allocb(a, 1), &Reply::Done);
-    desks.forget();
+    let zero = desks.desk_mut(0);
+    assert_served(rt, &shared, zero, &Call::Qsize(0), &Reply::Size(1));
+    assert_served(rt, &shared, zero, &Call::Getq(0, a), &Reply::Done);
+    assert_served(rt, &shared, zero, &Call::Msgdsize(a), &Reply::Size(3));
+    assert_served(rt, &shared, zero, &Call::Putbq(0, a), &Reply::Done);
+    assert_refused(rt, &shared, zero, &Call::Getq(0, a), Refusal::Worn);
+    desks.push(one);
+    let pool = emptied(rt, shared.gather(desks));
+    assert_census(rt, &pool, (7, 1, 0));
+    let told = pool.queue_info(0);
+    assert!(rt; told.is_ok_and(|queue| queue.bytes == 3 && queue.enabled && !queue.noenable));
 }
 
 #[test]
@@ -292,33 +327,46 @@ fn side_by_side<N: Name, M: Name, R: Wait + Abort>(rt: &R, one: Start, other: St
     assert_census(rt, &pool, (7, 1, 0));
 }
 
-// How many workers there are at a meeting.
-const MEETING: usize = 2;
-
 // Each of two workers waits before its lines until the other has come, for so many turns at most.
 const TURNS: u32 = 100_000_000;
 
-// Where two workers wait for each other: who has come, how many waited in vain, and how many lines were answered.
+// Where two workers of two lines each wait for each other: which lines have come, and were answered, each as a digit of four
+// bits, how many waited in vain, and how many were answered that had not come.
 #[derive(Drop)]
 struct Meeting {
-    came: [AtomicU32; MEETING],
-    missed: AtomicU32,
+    came: AtomicU32,
     answered: AtomicU32,
+    missed: AtomicU32,
+    early: AtomicU32,
+}
+
+// All four lines, once each.
+const ALL: u32 = 0x1111;
+
+// The digit of a worker's line.
+fn digit(worker: u8, line: u32) -> u32 {
+    1_u32.wrapping_shl(
+        u32::from(worker)
+            .wrapping_mul(8)
+            .wrapping_add(line.wrapping_mul(4)),
+    )
 }
 
 impl Meeting {
     fn new() -> Meeting {
         Meeting {
-            came: [AtomicU32::new(0), AtomicU32::new(0)],
-            missed: AtomicU32::new(0),
+            came: AtomicU32::new(0),
             answered: AtomicU32::new(0),
+            missed: AtomicU32::new(0),
+            early: AtomicU32::new(0),
         }
     }
 
-    // Whether the other worker comes in time.
-    fn meets(&self, other: usize) -> bool {
+    // Whether the other worker comes in time, which has other digits.
+    fn meets(&self, worker: u8) -> bool {
+        let others = if worker == 0 { 0xFF00 } else { 0x00FF };
         for _ in 0..TURNS {
-            if self.came[other % MEETING].load(Ordering::SeqCst) > 0 {
+            if self.came.load(Ordering::SeqCst) & others != 0 {
                 return true;
             }
         }
@@ -327,16 +375,19 @@ impl Meeting {
 }
 
 impl Gate for Meeting {
-    fn before(&self, worker: u8, _line: u32) {
-        let own = usize::from(worker) % MEETING;
-        self.came[own].store(1, Ordering::SeqCst);
-        if !self.meets(own + 1) {
+    fn before(&self, worker: u8, line: u32) {
+        self.came.fetch_add(digit(worker, line), Ordering::SeqCst);
+        if !self.meets(worker) {
             self.missed.fetch_add(1, Ordering::SeqCst);
         }
     }
 
-    fn after(&self, _worker: u8, _line: u32) {
-        self.answered.fetch_add(1, Ordering::SeqCst);
+    fn after(&self, worker: u8, line: u32) {
+        let own = digit(worker, line);
+        if self.came.load(Ordering::SeqCst) & own == 0 {
+            self.early.fetch_add(1, Ordering::SeqCst);
+        }
+        self.answered.fetch_add(own, Ordering::SeqCst);
     }
 }
 
@@ -374,7 +425,7 @@ fn assert_done(rt: &impl Abort, replies: &[Replies], ends: &[End], count: usize)
     }
 }
 
-// Workers at one pool, as many as there are desks, of so many rounds.
+// Workers at one pool, of so many rounds. One desk more is a monitor's, who looks once they have ended.
 fn work<N: Name + Send + Sync, R: Threads + Wait + Abort + Sync, G: Gate>(
     rt: &R,
     alloc: Global,
@@ -384,8 +435,11 @@ fn work<N: Name + Send + Sync, R: Threads + Wait + Abort + Sync, G: Gate>(
 ) -> Result<(), Fail>
     requires { IsNameOf N.id N.desks N.first start }
 {
-    let (shared, desks) = start.open::<N>();
+    let (shared, mut desks) = start.open::<N>();
+    assert!(rt; desks.len() > 0);
+    let mut monitor = desks.take_last();
     let Ok(parts) = parts(alloc, reg(rt, b'a'), desks.len() as u8, rounds) else {
+        monitor.into_regs().forget();
         desks.forget();
         panic!(rt; "out of memory")
     };
@@ -400,10 +454,26 @@ fn work<N: Name + Send + Sync, R: Threads + Wait + Abort + Sync, G: Gate>(
         ) => {
             let count = (rounds as usize).wrapping_mul(2);
             assert_done(rt, replies.items(), ends.items(), count);
+            let census = Census {
+                free: 8,
+                queued: 0,
+                held: 0,
+            };
+            assert_served(
+                rt,
+                &shared,
+                &mut monitor,
+                &Call::Census,
+                &Reply::Census(census),
+            );
+            let (shared, mut desks) = ungathered(rt, shared, desks);
+            assert!(rt; desks.len() < MOST_WORKERS);
+            desks.push(monitor);
             let pool = emptied(rt, shared.gather(desks));
             assert_census(rt, &pool, (8, 0, 0));
         }
         Err((_, desks)) => {
+            monitor.into_regs().forget();
             desks.forget();
             panic!(rt; "out of memory")
         }
@@ -414,9 +484,11 @@ fn work<N: Name + Send + Sync, R: Threads + Wait + Abort + Sync, G: Gate>(
 #[test]
 fn two_threads_at_once(rt: HostRuntime) -> Result<(), Fail> {
     let gate = Meeting::new();
-    work::<Brand, _, _>(&rt, rt.alloc(), start(&rt, rt.alloc(), 7, 2, 0), &gate, 1)?;
+    work::<Brand, _, _>(&rt, rt.alloc(), start(&rt, rt.alloc(), 7, 3, 0), &gate, 1)?;
     assert_eq!(rt; gate.missed.load(Ordering::SeqCst), 0);
-    assert_eq!(rt; gate.answered.load(Ordering::SeqCst), 4);
+    assert_eq!(rt; gate.early.load(Ordering::SeqCst), 0);
+    assert_eq!(rt; gate.came.load(Ordering::SeqCst), ALL);
+    assert_eq!(rt; gate.answered.load(Ordering::SeqCst), ALL);
     Ok(())
 }
 
@@ -452,6 +524,7 @@ fn crowd<N: Name + Send + Sync, R: Threads + Wait + Abort + Sync>(
             assert!(rt; ends.items().iter().all(|end| *end == End::Done));
             let left = count_left(replies.items());
             let pool = emptied(rt, shared.gather(desks));
+            assert!(rt; left > 0);
             assert_eq!(rt; pool.census().queued, left);
             assert_eq!(rt; pool.census().held, 0);
         }
@@ -463,7 +536,8 @@ fn crowd<N: Name + Send + Sync, R: Threads + Wait + Abort + Sync>(
     Ok(())
 }
 
-// The lines of so many workers, 1,000 for each: `allocb`, `putq`, `getq` and `freemsg`, and so on.
+// The lines of so many workers, 1,000 for each: `allocb`, `putq`, `getq` and `freemsg`, and so on; in the last round nothing
+// is taken off the queue.
 fn queueing(alloc: Global, reg: Reg, workers: u8) -> Result<Parts, AllocError> {
     let mut list = Vec::new(alloc);
     for _ in 0..workers {
@@ -472,7 +546,8 @@ fn queueing(alloc: Global, reg: Reg, workers: u8) -> Result<Parts, AllocError> {
             let call = match number % 4 {
                 0 => Call::Allocb(reg, 16),
                 1 => Call::Putq(0, reg),
-                2 => Call::Getq(0, reg),
+                2 if number < 998 => Call::Getq(0, reg),
+                2 => Call::Census,
                 _ => Call::Freemsg(reg),
             };
             lines.push(Line { number, call })?;
@@ -501,6 +576,83 @@ fn count_left(replies: &[Replies]) -> u32 {
 
 #[test]
 fn workers_at_one_pool(rt: HostRuntime) -> Result<(), Fail> {
-    let two = start(&rt, rt.alloc(), 7, 2, 0);
+    let two = start(&rt, rt.alloc(), 7, 3, 0);
     work::<Brand, _, _>(&rt, rt.alloc(), two, &OpenGate, 500)
+}
+
+#[test]
+fn replies_in_order(rt: HostRuntime) -> Result<(), Fail> {
+    unlike::<Brand, _>(
+        &rt,
+        rt.alloc(),
+        start(&rt, rt.alloc(), 7, 1, 0),
+        4,
+        End::Done,
+    )?;
+    let end = End::Refused(Refusal::Worn);
+    let late = start(&rt, rt.alloc(), 7, 1, MOST_STAMP - 3);
+    unlike::<Brand, _>(&rt, rt.alloc(), late, 3, end)
+}
+
+// One worker has four lines with replies of four sorts, of which so many are served, and ends so.
+fn unlike<N: Name + Send + Sync, R: Threads + Wait + Abort + Sync>(
+    rt: &R,
+    alloc: Global,
+    start: Start,
+    count: usize,
+    end: End,
+) -> Result<(), Fail>
+    requires { IsNameOf N.id N.desks N.first start }
+{
+    let a = reg(rt, b'a');
+    let (shared, desks) = start.open::<N>();
+    let calls = [
+        Call::Allocb(a, 3),
+        Call::Allocb(a, 3),
+        Call::Msgdsize(a),
+        Call::Qsize(9),
+    ];
+    let Ok(parts) = one_part(alloc, calls) else {
+        desks.forget();
+        panic!(rt; "out of memory")
+    };
+    assert!(rt; parts.items().len() == desks.len());
+    match run_workers(rt, alloc, &shared, desks, &parts, &OpenGate) {
+        Ok(
+            Outcome {
+                desks,
+                replies,
+                ends,
+            },
+        ) => {
+            let replies = replies.items();
+            let wanted = [
+                Reply::Done,
+                Reply::Taken,
+                Reply::Size(0),
+                Reply::Refused(Refusal::NoSuchQueue),
+            ];
+            assert!(rt; ends.items() == [end].as_slice());
+            assert_eq!(rt; replies.len(), 1);
+            assert!(rt; count <= wanted.len() && replies[0].items() == &wanted[..count]);
+            let pool = emptied(rt, shared.gather(desks));
+            assert_census(rt, &pool, (8, 0, 0));
+        }
+        Err((_, desks)) => {
+            desks.forget();
+            panic!(rt; "out of memory")
+        }
+    }
+    Ok(())
+}
+
+// One worker's lines, which are these calls.
+fn one_part(alloc: Global, calls: [Call; 4]) -> Result<Parts, AllocError> {
+    let mut lines = Vec::new(alloc);
+    for call in calls {
+        lines.push(Line { number: 1, call })?;
+    }
+    let mut list = Vec::new(alloc);
+    list.push(Lines::of(lines))?;
+    Ok(Parts::of(list))
 }

@@ -335,11 +335,12 @@ impl Room {
 }
 
 /// Has each part served on a thread of its own, on the desk of its place, and waits for all. The gate is called round each
-/// line. All memory is taken before the first worker starts: a reply for each line, and what a thread takes.
+/// line. Room for a reply to each line is taken before the first worker starts, and nothing behind that but what a thread
+/// takes when it starts.
 ///
 /// There are as many desks as parts; none at all is lawful. A worker stops at its first refusal. One for which there is no
 /// thread has no replies and its desk as it was, and the others run on. Where memory is refused nothing was served, and the
-/// desks come back.
+/// desks come back as they were.
 pub fn run_workers<N: Name + Send + Sync, R: Threads + Wait + Sync, G: Gate>(
     rt: &R,
     alloc: Global,

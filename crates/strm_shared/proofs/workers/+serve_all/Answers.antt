@@ -1,5 +1,5 @@
-use Rattle.std.proofs.Common.{◌≡◌, ◌+◌, ◌++◌, ◌∷◌, [], length, sym, subst, arith}
-use Rattle.strm_shared.specs.RunsLayout.{AreReady, HasRoom, IsReady, IsStartedFor}
+use Rattle.std.proofs.Common.{◌+◌, ◌++◌, ◌∷◌, [], sym, subst, arith}
+use Rattle.strm_shared.specs.RunsLayout.{AreReady, IsReady, IsStartedFor}
 use Rattle.strm_shared.proofs.Crews.{length-ready, longer, ready_last, worked_more}
 use Rattle.strm_shared.proofs.workers.+serve_all.Goals as goal
 

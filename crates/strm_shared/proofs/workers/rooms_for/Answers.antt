@@ -1,4 +1,4 @@
-use Rattle.std.proofs.Common.{rules, ◌≤◌, ◌++◌, ◌∷◌, [], length, get_or, take, vec_capacity, sym, subst, arith}
+use Rattle.std.proofs.Common.{rules, ◌++◌, ◌∷◌, [], get_or, take, sym, subst}
 use Rattle.std.proofs.lemmas.List.{take_more}
 use Rattle.strm_shared.specs.RunsLayout.{AreReady, IsReady}
 use Rattle.strm_shared.proofs.Crews.{ready_more}
