@@ -1,8 +1,8 @@
 -- When queues and message blocks agree, and how calls keep it.
-use Rattle.std.proofs.Common.{◌≡◌, ℕ, zero, suc, Bool, ◌+◌, ◌-◌, ◌<◌, ◌≤◌, ◌≢◌, true, false, ◌&&◌, ◌==◌, List, [], ◌∷◌, ◌++◌, length, map, get_or, set, replicate, Option, Some, None, refl, sym, ap, ◌∙◌, subst, inl, inr, arith, if◌then◌else◌, length-set, length-append, get_or-set_same, get_or-set_other}
+use Rattle.std.proofs.Common.{◌≡◌, ℕ, zero, suc, Bool, ◌+◌, ◌<◌, ◌≤◌, ◌≢◌, true, false, ◌&&◌, ◌==◌, List, [], ◌∷◌, ◌++◌, length, map, get_or, set, replicate, Option, refl, sym, ap, ◌∙◌, subst, inl, inr, arith, if◌then◌else◌, length-set, length-append, get_or-set_same, get_or-set_other}
 use Rattle.std.specs.Prelude.{nat_le, not}
 use Rattle.std.specs.List.{All, flat_map, list_all}
-use Rattle.std.proofs.lemmas.Bool.{cases_Bool, cases_eq, cond-true, cond-false, false≢true}
+use Rattle.std.proofs.lemmas.Bool.{cases_eq, false≢true}
 use Rattle.std.proofs.lemmas.List.{get_or_append_left, get_or-append-add, length-map, length-replicate}
 use Rattle.strm_data.specs.declared.class_spec.ClassSpec.{ClassSpec}
 use Rattle.strm_data.specs.DataStore.{DataBlock, DataStore}
@@ -15,40 +15,40 @@ use Rattle.strm_mblk.specs.Messages.{blocks_on, put_before_head}
 use Rattle.strm_links.specs.Rows as rows
 use Rattle.strm_queue.specs.declared.queue_spec.QueueSpec.{QueueSpec}
 use Rattle.strm_queue.specs.Flow.{Marks, QueueState, band_count, band_of_rank, bands_where, enabled_where, every_band, is_of_band, is_wanted, marks_at, opening_marks, spec_at, with_read}
-use Rattle.strm_queue.specs.QueuedBlocks.{Agrees, AreInOrder, AreMarksLawful, IsTallyOf, QueuesValue, Tally, no_tally, opening_value, tally_at, with_tally}
+use Rattle.strm_queue.specs.QueuedBlocks.{Agrees, AreInOrder, AreMarksLawful, IsTallyOf, QueuesValue, Tally, no_tally, opening_value, tally_at, with_tally, one_more, one_less}
 use Rattle.strm_queue.specs.Rank.{is_ordered, rank_of}
 use Rattle.strm_queue.proofs.Counts.{band_count-placed}
 use Rattle.strm_queue.proofs.Marks.{agrees_state}
 use Rattle.strm_queue.proofs.Order.{ordered_without}
+use Rattle.strm_queue.specs.QueueSpecs.{are_lawful}
+use Rattle.strm_queue.proofs.Lawful.{marks_below}
+use Rattle.strm_queue.proofs.Tallies.{tally_joined, tally_left, tally_none}
 
--- messages in order, and what is stored of them is true
-pub record IsKept (s : DataStore) (ms : List Message) (t : Tally) : Type 0 where
-  pub ordered : is_ordered (rank_of s) ms ≡ true
-  pub true_of : IsTallyOf ms t
-
-module _ (v : QueuesValue) (a : Arena) (in_order : AreInOrder v a) (q : ℕ) (within : q < length v.state.specs) (ms : List Message) (t : Tally) (kept : IsKept a.store ms t)
+-- queue q has other messages, and what is stored of it is other
+module _ (v : QueuesValue) (a : Arena) (in_order : AreInOrder v a) (q : ℕ) (within : q < length v.state.specs) (ms : List Message) (t : Tally)
     (b : Arena) (store : b.store ≡ a.store) (shelves : b.shelves ≡ set a.shelves q ms) where
-  kept_at : (p : ℕ) → IsKept b.store (shelf_at b p) (tally_at (with_tally q t v) p)
-  kept_at p =
-      subst (λ s. IsKept s (shelf_at b p) (tally_at (with_tally q t v) p)) (sym store)
-      (subst (λ x. IsKept a.store (get_or x p []) (tally_at (with_tally q t v) p)) (sym shelves)
+  -- what is true of these, and of all other queues as they were, is true of each
+  each_at : (P : DataStore → ℕ → List Message → Tally → Type 0) → P a.store q ms t → ((p : ℕ) → P a.store p (shelf_at a p) (tally_at v p))
+      → (p : ℕ) → P b.store p (shelf_at b p) (tally_at (with_tally q t v) p)
+  each_at P here others p =
+      subst (λ s. P s p (shelf_at b p) (tally_at (with_tally q t v) p)) (sym store)
+      (subst (λ x. P a.store p (get_or x p []) (tally_at (with_tally q t v) p)) (sym shelves)
       (elim (cases_eq p q) [
         | inl same ↦
-            subst (λ k. IsKept a.store (get_or (set a.shelves q ms) k []) (get_or (set v.tallies q t) k no_tally)) (sym same)
-            (subst (λ x. IsKept a.store x (get_or (set v.tallies q t) q no_tally)) (sym (get_or-set_same a.shelves q ms [] (omega (arith, within, in_order.shelves))))
-            (subst (IsKept a.store ms) (sym (get_or-set_same v.tallies q t no_tally (omega (arith, within, in_order.stored)))) kept))
+            subst (λ k. P a.store k (get_or (set a.shelves q ms) k []) (get_or (set v.tallies q t) k no_tally)) (sym same)
+            (subst (λ x. P a.store q x (get_or (set v.tallies q t) q no_tally)) (sym (get_or-set_same a.shelves q ms [] (omega (arith, within, in_order.shelves))))
+            (subst (P a.store q ms) (sym (get_or-set_same v.tallies q t no_tally (omega (arith, within, in_order.stored)))) here))
         | inr other ↦
-            subst (λ x. IsKept a.store x (get_or (set v.tallies q t) p no_tally)) (sym (get_or-set_other a.shelves q p ms [] other))
-            (subst (IsKept a.store (shelf_at a p)) (sym (get_or-set_other v.tallies q p t no_tally other)) (record { ordered = in_order.ordered p; true_of = in_order.true_of p }))
+            subst (λ x. P a.store p x (get_or (set v.tallies q t) p no_tally)) (sym (get_or-set_other a.shelves q p ms [] other))
+            (subst (P a.store p (shelf_at a p)) (sym (get_or-set_other v.tallies q p t no_tally other)) (others p))
       ]))
 
-  -- queue q has other messages, and what is stored of it is other
-  pub in_order_set : AreInOrder (with_tally q t v) b
-  in_order_set = record {
+  pub in_order_set : is_ordered (rank_of a.store) ms ≡ true → IsTallyOf a.store (spec_at v.state.specs q).hiwat ms t → AreInOrder (with_tally q t v) b
+  in_order_set ordered true_of = record {
     shelves = ap length shelves ∙ length-set a.shelves q ms ∙ in_order.shelves;
     stored = length-set v.tallies q t ∙ in_order.stored;
-    ordered = λ p. (kept_at p).ordered;
-    true_of = λ p. (kept_at p).true_of;
+    ordered = each_at (λ s p xs u. is_ordered (rank_of s) xs ≡ true) ordered in_order.ordered;
+    true_of = each_at (λ s p xs u. p < length v.state.specs → IsTallyOf s (spec_at v.state.specs p).hiwat xs u) (λ below. true_of) in_order.true_of;
   }
 
 -- ---- marks
@@ -68,47 +68,36 @@ module _ (s : QueueState) (a : Arena) (q : ℕ) (ms : List Message) (b : Arena) 
 
 -- ---- one joins, one leaves
 
-pub length-placed : (before : Option ℕ) (m : Message) (ms : List Message) → length (put_before_head head_of before m ms) ≡ length ms + 1
-length-placed None m ms = length-append ms (m ∷ [])
-length-placed (Some at) m [] = refl
-length-placed (Some at) m (x ∷ xs) =
-    elim (cases_Bool (head_of x == at)) [
-      | inl here ↦ omega (arith, ap length (cond-true (head_of x == at) (m ∷ x ∷ xs) (x ∷ put_before_head head_of (Some at) m xs) here))
-      | inr later ↦ omega (arith, ap length (cond-false (head_of x == at) (m ∷ x ∷ xs) (x ∷ put_before_head head_of (Some at) m xs) later), length-placed (Some at) m xs)
-    ]
+module _ (v : QueuesValue) (a : Arena) (in_order : AreInOrder v a) (q : ℕ) (within : q < length v.state.specs) (m : Message) (b : Arena) (store : b.store ≡ a.store) where
+  abbrev hiwat : ℕ
+  hiwat = (spec_at v.state.specs q).hiwat
 
-module _ (v : QueuesValue) (a : Arena) (agrees : Agrees v a) (q : ℕ) (within : q < length v.state.specs) (b : Arena) (store : b.store ≡ a.store) (n : ℕ) where
   -- a message joins where it keeps the order
-  pub agrees_put : (before : Option ℕ) (m : Message) → b.shelves ≡ set a.shelves q (put_before_head head_of before m (shelf_at a q)) → is_ordered (rank_of a.store) (put_before_head head_of before m (shelf_at a q)) ≡ true
-      → n ≡ (tally_at v q).len + 1 → Agrees (with_tally q (record { len = n }) v) b
-  agrees_put before m shelves ordered more = record {
-    in_order =
-        in_order_set v a agrees.in_order q within (put_before_head head_of before m (shelf_at a q)) (record { len = n })
-        (record { ordered = ordered; true_of = record { len = omega (arith, more, (agrees.in_order.true_of q).len, length-placed before m (shelf_at a q)) } }) b store shelves;
-    marks = λ p.
-        elim (cases_eq p q) [
-          | inl same ↦
-              subst (AreMarksLawful v.state b) (sym same)
-              (marks_more v.state a q (put_before_head head_of before m (shelf_at a q)) b store shelves (omega (arith, within, agrees.in_order.shelves))
-              (λ band. omega (arith, band_count-placed a.store band before m (shelf_at a q))) (agrees.marks q))
-          | inr other ↦ marks_other v.state a q (put_before_head head_of before m (shelf_at a q)) b store shelves p other (agrees.marks p)
-        ];
-  }
+  pub in_order_put : (before : Option ℕ) → b.shelves ≡ set a.shelves q (put_before_head head_of before m (shelf_at a q)) → is_ordered (rank_of a.store) (put_before_head head_of before m (shelf_at a q)) ≡ true
+      → AreInOrder (with_tally q (one_more hiwat (band_of_rank (rank_of a.store m)) (size_of m) (tally_at v q)) v) b
+  in_order_put before shelves ordered =
+      in_order_set v a in_order q within (put_before_head head_of before m (shelf_at a q)) (one_more hiwat (band_of_rank (rank_of a.store m)) (size_of m) (tally_at v q)) b store shelves ordered
+      (tally_joined a.store m hiwat (tally_at v q) before (shelf_at a q) (in_order.true_of q within))
 
-  module _ (pre post : List Message) (m : Message) (is : shelf_at a q ≡ pre ++ m ∷ post) (shelves : b.shelves ≡ set a.shelves q (pre ++ post)) where
-    -- a message leaves
-    pub in_order_got : n ≡ (tally_at v q).len - 1 → AreInOrder (with_tally q (record { len = n }) v) b
-    in_order_got less =
-        in_order_set v a agrees.in_order q within (pre ++ post) (record { len = n })
-        (record {
-          ordered = ordered_without (rank_of a.store) pre post m (subst (λ ms. is_ordered (rank_of a.store) ms ≡ true) is (agrees.in_order.ordered q));
-          true_of = record { len = omega (arith, less, (agrees.in_order.true_of q).len, ap length is, length-append pre (m ∷ post), length-append pre post) };
-        })
-        b store shelves
+  -- a message leaves
+  module _ (pre post : List Message) (is : shelf_at a q ≡ pre ++ m ∷ post) (shelves : b.shelves ≡ set a.shelves q (pre ++ post)) where
+    pub in_order_got : AreInOrder (with_tally q (one_less hiwat (band_of_rank (rank_of a.store m)) (size_of m) (tally_at v q)) v) b
+    in_order_got =
+        in_order_set v a in_order q within (pre ++ post) (one_less hiwat (band_of_rank (rank_of a.store m)) (size_of m) (tally_at v q)) b store shelves
+        (ordered_without (rank_of a.store) pre post m (subst (λ ms. is_ordered (rank_of a.store) ms ≡ true) is (in_order.ordered q)))
+        (tally_left a.store m hiwat (tally_at v q) pre post (subst (λ ms. IsTallyOf a.store hiwat ms (tally_at v q)) is (in_order.true_of q within)))
 
-    -- the marks of other queues stay lawful
-    pub marks_got : (p : ℕ) → p ≢ q → AreMarksLawful v.state b p
-    marks_got p other = marks_other v.state a q (pre ++ post) b store shelves p other (agrees.marks p)
+-- the marks of all queues stay lawful where a message joins one
+pub marks_put : (v : QueuesValue) (a : Arena) (agrees : Agrees v a) (q : ℕ) (within : q < length v.state.specs) (before : Option ℕ) (m : Message) (b : Arena) → b.store ≡ a.store
+    → b.shelves ≡ set a.shelves q (put_before_head head_of before m (shelf_at a q)) → (p : ℕ) → AreMarksLawful v.state b p
+marks_put v a agrees q within before m b store shelves p =
+    elim (cases_eq p q) [
+      | inl same ↦
+          subst (AreMarksLawful v.state b) (sym same)
+          (marks_more v.state a q (put_before_head head_of before m (shelf_at a q)) b store shelves (omega (arith, within, agrees.in_order.shelves))
+          (λ band. omega (arith, band_count-placed a.store band before m (shelf_at a q))) (agrees.marks q))
+      | inr other ↦ marks_other v.state a q (put_before_head head_of before m (shelf_at a q)) b store shelves p other (agrees.marks p)
+    ]
 
 -- ---- enabling
 
@@ -191,6 +180,16 @@ count_same s t band (m ∷ ms) same =
     ∙ (λ i. (if band_of_rank (rank_of-same s t m parts.0 i) == band then size_of m else 0) + count_same s t band ms parts.1 i)
     ∙ sym (sum_by-cons (λ x. if is_of_band s band x then size_of x else 0) m ms)
 
+-- so what is stored stays true
+tally_same : (s t : DataStore) (hiwat : ℕ) (ms : List Message) (tally : Tally) → All (IsSameData s t) (flat_map (λ m. m) ms) → IsTallyOf s hiwat ms tally → IsTallyOf t hiwat ms tally
+tally_same s t hiwat ms tally same is = record {
+  len = is.len;
+  each_band = is.each_band;
+  each_mark = is.each_mark;
+  counts = λ band below. is.counts band below ∙ sym (count_same s t band ms same);
+  full = λ band below. is.full band below ∙ ap (nat_le hiwat) (sym (count_same s t band ms same));
+}
+
 -- a call that leaves the shelves and what stands there keeps the agreement
 module _ (v : QueuesValue) (a b : Arena) (shelves : b.shelves ≡ a.shelves) (same : All (IsSameData a.store b.store) (shelved_blocks a)) where
   pub in_order_left : AreInOrder v a → AreInOrder v b
@@ -200,7 +199,9 @@ module _ (v : QueuesValue) (a b : Arena) (shelves : b.shelves ≡ a.shelves) (sa
     ordered = λ q.
         ap (λ x. is_ordered (rank_of b.store) (get_or x q [])) shelves
         ∙ ordered_same a.store b.store (shelf_at a q) (shelf_same a.store b.store a.shelves q same) ∙ in_order.ordered q;
-    true_of = λ q. subst (λ x. IsTallyOf (get_or x q []) (tally_at v q)) (sym shelves) (in_order.true_of q);
+    true_of = λ q below.
+        subst (λ x. IsTallyOf b.store (spec_at v.state.specs q).hiwat (get_or x q []) (tally_at v q)) (sym shelves)
+        (tally_same a.store b.store (spec_at v.state.specs q).hiwat (shelf_at a q) (tally_at v q) (shelf_same a.store b.store a.shelves q same) (in_order.true_of q below));
   }
 
   pub marks_left_lawful : (q : ℕ) → AreMarksLawful v.state a q → AreMarksLawful v.state b q
@@ -214,13 +215,16 @@ agrees_left v heads a b agrees left = record {
 }
 
 -- new queues agree with new message blocks that have a shelf for each
-pub agrees_new : (specs : List QueueSpec) (id mblks : ℕ) (classes : List ClassSpec) → Agrees (opening_value specs) (opening_arena id mblks classes (length specs))
-agrees_new specs id mblks classes = record {
+pub agrees_new : (specs : List QueueSpec) → are_lawful specs ≡ true → (id mblks : ℕ) (classes : List ClassSpec) → Agrees (opening_value specs) (opening_arena id mblks classes (length specs))
+agrees_new specs lawful id mblks classes = record {
   in_order = record {
     shelves = length-replicate (length specs) [];
     stored = length-map specs (λ q. no_tally);
     ordered = λ q. ap (is_ordered (rank_of (opening_arena id mblks classes (length specs)).store)) (empty (length specs) q);
-    true_of = λ q. record { len = ap (λ (t : Tally). t.len) (none specs q) ∙ ap length (sym (empty (length specs) q)) };
+    true_of = λ q below.
+        subst (IsTallyOf (opening_arena id mblks classes (length specs)).store (spec_at specs q).hiwat (shelf_at (opening_arena id mblks classes (length specs)) q)) (sym (none specs q))
+        (subst (λ ms. IsTallyOf (opening_arena id mblks classes (length specs)).store (spec_at specs q).hiwat ms no_tally) (sym (empty (length specs) q))
+        (tally_none (opening_arena id mblks classes (length specs)).store (spec_at specs q).hiwat (omega (arith, marks_below specs lawful q below))));
   };
   marks = λ q band wanted. absurd (false≢true (sym (ap (λ (m : Marks). is_wanted m.wanted band) (unmarked specs q) ∙ none_wanted_at band) ∙ wanted));
 }

@@ -1,27 +1,21 @@
 -- The bytes of messages: of all, and of those of a band.
-use Rattle.std.proofs.Common.{◌≡◌, ℕ, zero, suc, ◌+◌, ◌<◌, ◌≤◌, ◌==◌, Bool, true, false, List, [], ◌∷◌, ◌++◌, Option, Some, None, refl, ap, ◌∙◌, inl, inr, arith, if◌then◌else◌, ◌^◌, length, get_or, set, replicate, sym, subst, length-append}
-use Rattle.std.specs.Prelude.{nat_lt, sum, sum_by}
+use Rattle.std.proofs.Common.{◌≡◌, ℕ, zero, suc, ◌+◌, ◌<◌, ◌≤◌, ◌==◌, Bool, true, false, List, [], ◌∷◌, ◌++◌, Option, Some, None, refl, ap, ◌∙◌, inl, inr, arith, if◌then◌else◌, ◌^◌, length, get_or, length-append}
+use Rattle.std.specs.Prelude.{nat_lt, sum_by}
 use Rattle.std.specs.List.{All, flat_map, range_with_len}
-use Rattle.std.proofs.lemmas.Bool.{cases_Bool, cases_eq, cases_lt, cond-true, cond-false, eq-eqb, eqb-false, eqb-true, ltb-true, ne_eqb}
-use Rattle.std.proofs.lemmas.List.{append_assoc, get_or-replicate, get_or-set_other, get_or-set_same, get_or_past, length-replicate, length-set}
-use Rattle.std.proofs.lemmas.List.Folds.{sum_by-replicate}
-use Rattle.std.proofs.lemmas.List.Sums.{get_or-le-sum_by, sum_by-append, sum_by-cons, sum_by-le, sum_by-le-sum_by, sum_by-set, sum_by_push}
+use Rattle.std.proofs.lemmas.Bool.{cases_Bool, cases_lt, cond-true, cond-false, eqb-false, eqb-true, ltb-true, ne_eqb}
+use Rattle.std.proofs.lemmas.List.{get_or_past}
+use Rattle.std.proofs.lemmas.List.Sums.{sum_by-append, sum_by-cons, sum_by-le, sum_by-le-sum_by, sum_by_push}
 use Rattle.strm_data.specs.CountedStore.{IsKept}
 use Rattle.strm_data.specs.DataStore.{DataBlock, DataStore, no_data_block}
 use Rattle.strm_data.specs.Limits.{most_data_block_bytes}
 use Rattle.strm_data.proofs.Kept.{capacity_range}
-use Rattle.strm_links.specs.Rows.{IsApart, after, first, has}
-use Rattle.strm_mblk.specs.Arena.{Arena, IsParted, IsWithin, blocks_in, census_of, counted_in, held_blocks, shelf_at, shelved_blocks}
+use Rattle.strm_mblk.specs.Arena.{Arena, IsWithin, blocks_in, census_of, counted_in, held_blocks, shelf_at, shelved_blocks}
 use Rattle.strm_mblk.specs.Block.{Block, Message, head_of, size_of}
 use Rattle.strm_mblk.specs.Limits.{most_message_blocks}
 use Rattle.strm_mblk.specs.Messages.{blocks_on, put_before_head, shelf_in}
-use Rattle.strm_mblk.specs.Shelves.{heads_at, shelved_message, stands_on}
-use Rattle.strm_mblk.proofs.arena.Stands.{heads_apart}
 use Rattle.strm_queue.specs.Flow.{band_count, band_of_rank, bytes_on, every_band, is_of_band}
 use Rattle.strm_queue.specs.Limits.{bands}
 use Rattle.strm_queue.specs.Rank.{rank_of}
-use Rattle.strm_queue.proofs.OnShelf.{FirstParts, after-head, at_there, first_of, heads}
-use Rattle.strm_queue.proofs.Across.{shelved_message-at}
 
 -- ---- sums over messages, and one that joins or leaves
 
@@ -51,6 +45,16 @@ bytes_on-placed before m ms = sum_by-placed size_of before m ms
 
 pub bytes_on-left : (pre post : List Message) (m : Message) → bytes_on (pre ++ m ∷ post) ≡ bytes_on (pre ++ post) + size_of m
 bytes_on-left pre post m = sum_by-left size_of pre post m
+
+-- and they are one more
+pub length-placed : (before : Option ℕ) (m : Message) (ms : List Message) → length (put_before_head head_of before m ms) ≡ length ms + 1
+length-placed None m ms = length-append ms (m ∷ [])
+length-placed (Some at) m [] = refl
+length-placed (Some at) m (x ∷ xs) =
+    elim (cases_Bool (head_of x == at)) [
+      | inl here ↦ omega (arith, ap length (cond-true (head_of x == at) (m ∷ x ∷ xs) (x ∷ put_before_head head_of (Some at) m xs) here))
+      | inr later ↦ omega (arith, ap length (cond-false (head_of x == at) (m ∷ x ∷ xs) (x ∷ put_before_head head_of (Some at) m xs) later), length-placed (Some at) m xs)
+    ]
 
 -- ---- the bytes of a band
 
@@ -195,98 +199,3 @@ bytes_fit a kept within few all q =
       few,
       all,
     )
-
--- ---- the walk that counts
-
--- so many messages of a queue are counted, each with its band; `at` is the first one behind them
-pub record IsCounted (a : Arena) (q k : ℕ) (at : Option ℕ) (counts : List ℕ) : Type 0 where
-  pub pre : List Message
-  pub post : List Message
-  pub is : shelf_at a q ≡ pre ++ post
-  pub many : length pre ≡ k
-  pub behind : at ≡ first (heads post)
-  pub each_band : length counts ≡ bands
-  pub counted : (band : ℕ) → band < bands → get_or counts band 0 ≡ band_count a.store band pre
-  pub whole : sum counts ≡ bytes_on pre
-
-pub counted_none : (a : Arena) (q : ℕ) (at : Option ℕ) → at ≡ first (heads_at a q) → IsCounted a q 0 at (replicate bands 0)
-counted_none a q at is = record {
-  pre = [];
-  post = shelf_at a q;
-  is = refl;
-  many = refl;
-  behind = is;
-  each_band = length-replicate {A = ℕ} bands 0;
-  counted = λ band within. get_or-replicate bands band 0 0 within;
-  whole = sum_by-replicate (λ n. n) bands 0;
-}
-
--- what is counted fits where all does
-pub counted_few : (a : Arena) (q k : ℕ) (at : Option ℕ) (counts : List ℕ) → IsCounted a q k at counts → bytes_on (shelf_at a q) < 2 ^ 32 → sum counts < 2 ^ 32
-counted_few a q k at counts walk few = omega (arith, few, ap bytes_on walk.is, sum_by-append size_of walk.pre walk.post, walk.whole)
-
-module _ (a : Arena) (parted : IsParted a) (q k : ℕ) (at : Option ℕ) (counts : List ℕ) (walk : IsCounted a q k at counts) (h : ℕ) (some : at ≡ Some h) where
-  -- the first one behind
-  pub next : FirstParts h walk.post
-  next = first_of h walk.post (sym walk.behind ∙ some)
-
-  pub next_is : shelf_at a q ≡ walk.pre ++ next.at ∷ next.post
-  next_is = walk.is ∙ ap (λ ms. walk.pre ++ ms) next.is
-
-  pub next_there : stands_on a q h ≡ true
-  next_there = ap (λ ms. has h (heads ms)) next_is ∙ at_there h walk.pre next.post next.at next.head
-
-  pub next_message : shelved_message a h ≡ next.at
-  next_message = ap (shelved_message a) (sym next.head) ∙ shelved_message-at a parted q walk.pre next.post next.at next_is
-
-  module _ (band size : ℕ) (band_is : band ≡ band_of_rank (rank_of a.store next.at)) (size_is : size ≡ size_of next.at) where
-    within : band < bands
-    within = omega (arith, band_is, band_of_rank_range (rank_of a.store next.at))
-
-    -- its bytes fit beside those that are counted
-    pub next_fits : bytes_on (shelf_at a q) < 2 ^ 32 → get_or counts band 0 + size < 2 ^ 32
-    next_fits few =
-        omega (
-          arith,
-          few,
-          ap bytes_on next_is,
-          bytes_on-left walk.pre next.post next.at,
-          sum_by-append size_of walk.pre next.post,
-          walk.whole,
-          size_is,
-          get_or-le-sum_by (λ n. n) counts band 0 (omega (arith, within, walk.each_band)),
-        )
-
-    counted_with : (n : ℕ) → n < bands → get_or (set counts band (get_or counts band 0 + size)) n 0 ≡ band_count a.store n (walk.pre ++ next.at ∷ [])
-    counted_with n inside =
-        elim (cases_eq n band) [
-          | inl same ↦
-              let new : get_or (set counts band (get_or counts band 0 + size)) n 0 ≡ get_or counts band 0 + size = ap (λ j. get_or (set counts band (get_or counts band 0 + size)) j 0) same ∙ get_or-set_same counts band (get_or counts band 0 + size) 0 (omega (arith, within, walk.each_band)) in
-              let own : counted a.store n next.at ≡ size_of next.at = cond-true _ (size_of next.at) 0 (eq-eqb (band_of_rank (rank_of a.store next.at)) n (sym (same ∙ band_is))) in
-              omega (arith, new, own, size_is, walk.counted n inside, ap (λ j. get_or counts j 0) same, sum_by_push (counted a.store n) walk.pre next.at)
-          | inr other ↦
-              let old : get_or (set counts band (get_or counts band 0 + size)) n 0 ≡ get_or counts n 0 = get_or-set_other counts band n (get_or counts band 0 + size) 0 other in
-              let none : counted a.store n next.at ≡ 0 = cond-false _ (size_of next.at) 0 (ne_eqb (band_of_rank (rank_of a.store next.at)) n (λ same. other (sym same ∙ sym band_is))) in
-              omega (arith, old, none, walk.counted n inside, sum_by_push (counted a.store n) walk.pre next.at)
-        ]
-
-    -- it is counted
-    pub counted_more : (o : Option ℕ) → o ≡ after h (heads_at a q) → IsCounted a q (k + 1) o (set counts band (get_or counts band 0 + size))
-    counted_more o is = record {
-      pre = walk.pre ++ next.at ∷ [];
-      post = next.post;
-      is = next_is ∙ sym (append_assoc walk.pre (next.at ∷ []) next.post);
-      many = omega (arith, length-append walk.pre (next.at ∷ []), walk.many);
-      behind =
-          is ∙ ap (after h) (ap heads next_is) ∙ ap (λ n. after n (heads (walk.pre ++ next.at ∷ next.post))) (sym next.head)
-          ∙ after-head walk.pre next.post next.at (subst (λ ms. IsApart (heads ms)) next_is (heads_apart a parted q));
-      each_band = length-set counts band (get_or counts band 0 + size) ∙ walk.each_band;
-      counted = counted_with;
-      whole = omega (
-        arith,
-        sum_by-set (λ n. n) counts band (get_or counts band 0 + size) 0 (omega (arith, within, walk.each_band)),
-        walk.whole,
-        size_is,
-        sum_by_push size_of walk.pre next.at,
-      );
-    }

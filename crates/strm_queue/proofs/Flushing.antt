@@ -1,8 +1,8 @@
 -- Messages of a shelf that are freed, front to back.
-use Rattle.std.proofs.Common.{◌≡◌, ◌≢◌, ℕ, ◌+◌, ◌<◌, ◌≤◌, Bool, true, false, ◌&&◌, ◌==◌, inl, inr, List, [], ◌∷◌, ◌++◌, length, get_or, set, Option, Some, None, refl, sym, ap, ◌∙◌, subst, arith, if◌then◌else◌, length-append, length-set, get_or-set_same}
-use Rattle.std.specs.Prelude.{count_by, filter, nat_le, not, option_map, slice_get}
-use Rattle.std.specs.List.{All, flat_map, list_all}
-use Rattle.std.proofs.lemmas.Bool.{and_from, and_parts, cases_Bool, cond-false, cond-true, not_from_false, not_from_true}
+use Rattle.std.proofs.Common.{◌≡◌, ◌≢◌, ℕ, ◌+◌, ◌<◌, ◌≤◌, Bool, true, false, ◌&&◌, ◌==◌, List, [], ◌∷◌, ◌++◌, length, get_or, set, Option, Some, None, refl, sym, ap, ◌∙◌, subst, arith, if◌then◌else◌, length-append, length-set, get_or-set_same}
+use Rattle.std.specs.Prelude.{count_by, filter, not, option_map, slice_get}
+use Rattle.std.specs.List.{All, flat_map}
+use Rattle.std.proofs.lemmas.Bool.{cond-false, cond-true, not_from_false, not_from_true}
 use Rattle.std.proofs.lemmas.Grind.{flat_map-append}
 use Rattle.std.proofs.lemmas.List.{append-nil, append_assoc, nil_from_length, set-get_or, set-set}
 use Rattle.std.proofs.lemmas.List.Elements.{filter-append}
@@ -25,11 +25,10 @@ use Rattle.strm_queue.specs.declared.flush.Flush.{Flush}
 use Rattle.strm_queue.specs.declared.flush.Flush.TheVariants.{All as Every, Data}
 use Rattle.strm_queue.specs.Flow.{band_of_rank}
 use Rattle.strm_queue.specs.Flush.{carries_data, is_flushed, is_picked, with_freed}
-use Rattle.strm_queue.specs.QueuedBlocks.{Agrees, AreInOrder, AreMarksLawful, QueuesValue, together, with_tally}
-use Rattle.strm_queue.specs.Rank.{is_ordered, rank_of}
+use Rattle.strm_queue.specs.QueuedBlocks.{Agrees, AreMarksLawful, QueuesValue}
 use Rattle.strm_queue.proofs.Across.{shelved_message-at}
-use Rattle.strm_queue.proofs.Agreeing.{in_order_left, in_order_set, marks_left_lawful, marks_other, rank_of-same}
-use Rattle.strm_queue.proofs.OnShelf.{FirstParts, after-head, at_there, first_of, heads, unshelved}
+use Rattle.strm_queue.proofs.Agreeing.{marks_left_lawful, marks_other, rank_of-same}
+use Rattle.strm_queue.proofs.OnShelf.{FirstParts, after-head, at_there, first_of, heads, unshelved, first_none}
 
 -- ---- what the first block tells
 
@@ -154,39 +153,30 @@ module _ (a : Arena) (q h : ℕ) (b : Arena) (spends : IsSpent a q h b) (pre pos
 
 -- ---- the walk
 
--- so many messages were passed, and `left` of them stay; those that are picked are free; `at` is the first one behind
-pub record IsFlushing (picked : Message → Bool) (old : Arena) (q k : ℕ) (at : Option ℕ) (left : ℕ) (now : Arena) : Type 0 where
+-- so many messages were passed, and those of them that are picked are free; `at` is the first one behind
+pub record IsFlushing (picked : Message → Bool) (old : Arena) (q k : ℕ) (at : Option ℕ) (now : Arena) : Type 0 where
   pub pre : List Message
   pub post : List Message
   pub is : shelf_at old q ≡ pre ++ post
   pub many : length pre ≡ k
   pub behind : at ≡ first (heads post)
-  pub kept : left ≡ length (filter (λ m. not (picked m)) pre)
-  pub few : left ≤ k
   pub arena : now ≡ with_freed (filter picked pre) (with_shelf q (filter (λ m. not (picked m)) pre ++ post) old)
-
--- all were passed
-pub record IsFlushed (picked : Message → Bool) (old : Arena) (q left : ℕ) (now : Arena) : Type 0 where
-  pub left_is : left ≡ length (shelf_at now q)
-  pub arena : now ≡ with_freed (filter picked (shelf_at old q)) (with_shelf q (filter (λ m. not (picked m)) (shelf_at old q)) old)
 
 module _ (picked : Message → Bool) (old : Arena) (q : ℕ) (within : q < length old.shelves) where
   abbrev stays : Message → Bool
   stays m = not (picked m)
 
-  pub flushing_none : (at : Option ℕ) → at ≡ first (heads_at old q) → IsFlushing picked old q 0 at 0 old
+  pub flushing_none : (at : Option ℕ) → at ≡ first (heads_at old q) → IsFlushing picked old q 0 at old
   flushing_none at is = record {
     pre = [];
     post = shelf_at old q;
     is = refl;
     many = refl;
     behind = is;
-    kept = refl;
-    few = omega arith;
     arena = ap (λ xs. let a : Arena = record old { shelves = xs } in a) (sym (set-get_or old.shelves q []));
   }
 
-  module _ (k : ℕ) (at : Option ℕ) (left : ℕ) (now : Arena) (walk : IsFlushing picked old q k at left now) where
+  module _ (k : ℕ) (at : Option ℕ) (now : Arena) (walk : IsFlushing picked old q k at now) where
     abbrev freed : List Block
     freed = flat_map (λ m. m) (filter picked walk.pre)
 
@@ -204,19 +194,18 @@ module _ (picked : Message → Bool) (old : Arena) (q : ℕ) (within : q < lengt
     flushing_is = ap (λ xs. get_or xs q []) flushing_shelves ∙ get_or-set_same old.shelves q (filter stays walk.pre ++ walk.post) [] within
 
     -- none is behind
-    flushed_all : walk.post ≡ [] → IsFlushed picked old q left now
+    flushed_all : walk.post ≡ [] → now ≡ with_freed (filter picked (shelf_at old q)) (with_shelf q (filter stays (shelf_at old q)) old)
     flushed_all none =
         let all : walk.pre ≡ shelf_at old q = sym (walk.is ∙ ap (λ ms. walk.pre ++ ms) none ∙ append-nil walk.pre) in
         let stay : filter stays walk.pre ++ walk.post ≡ filter stays walk.pre = ap (λ ms. filter stays walk.pre ++ ms) none ∙ append-nil (filter stays walk.pre) in
-        record {
-          left_is = walk.kept ∙ ap length (sym (flushing_is ∙ stay));
-          arena =
-              walk.arena ∙ ap (λ ms. with_freed (filter picked walk.pre) (with_shelf q ms old)) stay
-              ∙ ap (λ ms. with_freed (filter picked ms) (with_shelf q (filter stays ms) old)) all;
-        }
+        walk.arena ∙ ap (λ ms. with_freed (filter picked walk.pre) (with_shelf q ms old)) stay ∙ ap (λ ms. with_freed (filter picked ms) (with_shelf q (filter stays ms) old)) all
 
-    -- so many were passed that none is behind
-    pub flushed_len : length (shelf_at old q) ≤ k → IsFlushed picked old q left now
+    -- so it is where there is no first one
+    pub flushed_end : at ≡ None → now ≡ with_freed (filter picked (shelf_at old q)) (with_shelf q (filter stays (shelf_at old q)) old)
+    flushed_end none = flushed_all (first_none walk.post (sym walk.behind ∙ none))
+
+    -- or so many were passed that none is behind
+    pub flushed_len : length (shelf_at old q) ≤ k → now ≡ with_freed (filter picked (shelf_at old q)) (with_shelf q (filter stays (shelf_at old q)) old)
     flushed_len all = flushed_all (nil_from_length walk.post (omega (arith, all, ap length walk.is, length-append walk.pre walk.post, walk.many)))
 
     module _ (h : ℕ) (some : at ≡ Some h) where
@@ -243,7 +232,7 @@ module _ (picked : Message → Bool) (old : Arena) (q : ℕ) (within : q < lengt
         many_next = omega (arith, length-append walk.pre (next.at ∷ []), walk.many)
 
         -- it stays
-        pub flushing_kept : picked next.at ≡ false → IsFlushing picked old q (k + 1) o (left + 1) now
+        pub flushing_kept : picked next.at ≡ false → IsFlushing picked old q (k + 1) o now
         flushing_kept not_picked =
             let stay : filter stays (walk.pre ++ next.at ∷ []) ≡ filter stays walk.pre ++ next.at ∷ [] =
             filter-append stays walk.pre (next.at ∷ []) ∙ ap (λ ms. filter stays walk.pre ++ ms) (cond-true _ _ _ (not_from_false _ not_picked)) in
@@ -255,8 +244,6 @@ module _ (picked : Message → Bool) (old : Arena) (q : ℕ) (within : q < lengt
               is = is_next;
               many = many_next;
               behind = behind_next;
-              kept = omega (arith, walk.kept, ap length stay, length-append (filter stays walk.pre) (next.at ∷ []));
-              few = omega (arith, walk.few);
               arena =
                   walk.arena
                   ∙ ap (λ ms. with_freed (filter picked walk.pre) (with_shelf q (filter stays walk.pre ++ ms) old)) next.is
@@ -266,7 +253,7 @@ module _ (picked : Message → Bool) (old : Arena) (q : ℕ) (within : q < lengt
             }
 
         -- it goes
-        pub flushing_freed : picked next.at ≡ true → (new : Arena) → IsSpent now q h new → IsFlushing picked old q (k + 1) o left new
+        pub flushing_freed : picked next.at ≡ true → (new : Arena) → IsSpent now q h new → IsFlushing picked old q (k + 1) o new
         flushing_freed is_picked new spends =
             let stay : filter stays (walk.pre ++ next.at ∷ []) ≡ filter stays walk.pre =
             filter-append stays walk.pre (next.at ∷ []) ∙ ap (λ ms. filter stays walk.pre ++ ms) (cond-false _ _ _ (not_from_true _ is_picked)) ∙ append-nil (filter stays walk.pre) in
@@ -280,8 +267,6 @@ module _ (picked : Message → Bool) (old : Arena) (q : ℕ) (within : q < lengt
               is = is_next;
               many = many_next;
               behind = behind_next;
-              kept = walk.kept ∙ ap length (sym stay);
-              few = omega (arith, walk.few);
               arena =
                   freed_alone now q h new spends (filter stays walk.pre) next.post next.at next_is next.head apart
                   ∙ ap (λ a. with_blocks_freed next.at (with_shelf q (filter stays walk.pre ++ next.post) a)) walk.arena
@@ -293,59 +278,12 @@ module _ (picked : Message → Bool) (old : Arena) (q : ℕ) (within : q < lengt
 
 -- ---- the queues, where one of them was flushed
 
--- what stays is in order
-module _ (rank : Message → ℕ) (p : Message → Bool) where
-  below_filtered : (r : ℕ) (ms : List Message) → list_all (λ y. nat_le (rank y) r) ms ≡ true → list_all (λ y. nat_le (rank y) r) (filter p ms) ≡ true
-  below_filtered r [] all = refl
-  below_filtered r (m ∷ ms) all =
-      let parts = and_parts (nat_le (rank m) r) _ all in
-      elim (cases_Bool (p m)) [
-        | inl stays ↦ ap (list_all (λ y. nat_le (rank y) r)) (cond-true _ _ _ stays) ∙ and_from _ _ parts.0 (below_filtered r ms parts.1)
-        | inr goes ↦ ap (list_all (λ y. nat_le (rank y) r)) (cond-false _ _ _ goes) ∙ below_filtered r ms parts.1
-      ]
-
-  ordered_filtered : (ms : List Message) → is_ordered rank ms ≡ true → is_ordered rank (filter p ms) ≡ true
-  ordered_filtered [] ordered = refl
-  ordered_filtered (m ∷ ms) ordered =
-      let parts = and_parts (list_all (λ y. nat_le (rank y) (rank m)) ms) _ ordered in
-      elim (cases_Bool (p m)) [
-        | inl stays ↦ ap (is_ordered rank) (cond-true _ _ _ stays) ∙ and_from _ _ (below_filtered (rank m) ms parts.0) (ordered_filtered ms parts.1)
-        | inr goes ↦ ap (is_ordered rank) (cond-false _ _ _ goes) ∙ ordered_filtered ms parts.1
-      ]
-
-module _ (v : QueuesValue) (a : Arena) (agrees : Agrees v a) (q : ℕ) (within : q < length v.state.specs) (picked : Message → Bool) (left : ℕ) (b : Arena)
-    (is : b ≡ with_freed (filter picked (shelf_at a q)) (with_shelf q (filter (λ m. not (picked m)) (shelf_at a q)) a)) (left_is : left ≡ length (shelf_at b q)) where
-  abbrev stay : List Message
-  stay = filter (λ m. not (picked m)) (shelf_at a q)
-
-  store_is : b.store.blocks ≡ a.store.blocks
-  store_is = ap (λ (x : Arena). x.store.blocks) is ∙ freed_data (flat_map (λ m. m) (filter picked (shelf_at a q))) (with_shelf q stay a)
-
-  shelves_are : b.shelves ≡ set a.shelves q stay
-  shelves_are = ap (λ (x : Arena). x.shelves) is ∙ freed_shelves (flat_map (λ m. m) (filter picked (shelf_at a q))) (with_shelf q stay a)
-
-  shelf_here : shelf_at b q ≡ stay
-  shelf_here = ap (λ xs. get_or xs q []) shelves_are ∙ get_or-set_same a.shelves q stay [] (omega (arith, within, agrees.in_order.shelves))
-
-  -- the message blocks once those messages have left, and before they are free
-  abbrev parted : Arena
-  parted = with_shelf q stay a
-
-  freed_same : All (IsSameData parted.store b.store) (shelved_blocks parted)
-  freed_same = data_same parted.store b.store store_is (shelved_blocks parted)
-
-  -- all are in order, with what is stored of the queue
-  pub flushed_in_order : AreInOrder (with_tally q (record { len = left }) v) b
-  flushed_in_order =
-      in_order_left (with_tally q (record { len = left }) v) parted b shelves_are freed_same
-      (in_order_set v a agrees.in_order q within stay (record { len = left })
-      (record { ordered = ordered_filtered (rank_of a.store) (λ m. not (picked m)) (shelf_at a q) (agrees.in_order.ordered q); true_of = record { len = left_is ∙ ap length shelf_here } }) parted refl refl)
-
-  -- the marks of other queues are lawful as they were
-  pub flushed_marks : (p : ℕ) → p ≢ q → AreMarksLawful v.state b p
-  flushed_marks p other = marks_left_lawful v parted b shelves_are freed_same p (marks_other v.state a q stay parted refl refl p other (agrees.marks p))
-
-  -- nothing else of them changed
-  pub flushed_together : (w : QueuesValue) → w ≡ with_tally q (record { len = left }) v
-      → together w b ≡ record (together v a) { arena = with_freed (filter picked (shelf_at a q)) (with_shelf q stay a) }
-  flushed_together w w_is = let state_is = ap (λ (x : QueuesValue). x.state) w_is in λ i. record { queues = state_is i; arena = is i }
+-- the marks of other queues are lawful as they were
+pub flushed_marks : (v : QueuesValue) (a : Arena) → Agrees v a → (q : ℕ) (picked : Message → Bool) (b : Arena)
+    → b ≡ with_freed (filter picked (shelf_at a q)) (with_shelf q (filter (λ m. not (picked m)) (shelf_at a q)) a) → (p : ℕ) → p ≢ q → AreMarksLawful v.state b p
+flushed_marks v a agrees q picked b is p other =
+    let stay = filter (λ m. not (picked m)) (shelf_at a q) in
+    let gone = flat_map (λ m. m) (filter picked (shelf_at a q)) in
+    marks_left_lawful v (with_shelf q stay a) b (ap (λ (x : Arena). x.shelves) is ∙ freed_shelves gone (with_shelf q stay a))
+    (data_same a.store b.store (ap (λ (x : Arena). x.store.blocks) is ∙ freed_data gone (with_shelf q stay a)) (shelved_blocks (with_shelf q stay a))) p
+    (marks_other v.state a q stay (with_shelf q stay a) refl refl p other (agrees.marks p))

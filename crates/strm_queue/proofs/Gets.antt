@@ -1,7 +1,7 @@
 -- What the calls that take a message off a queue do, by the model.
-use Rattle.std.proofs.Common.{◌≡◌, ◌≢◌, ℕ, false, ◌+◌, ◌-◌, true, List, [], ◌∷◌, ◌++◌, length, take, drop, Option, Some, None, Ok, refl, sym, ap, ◌∙◌, subst}
+use Rattle.std.proofs.Common.{◌≡◌, ◌≢◌, ℕ, false, ◌+◌, true, List, [], ◌∷◌, ◌++◌, length, take, drop, Option, Some, None, Ok, refl, sym, ap, ◌∙◌, subst}
 use Rattle.std.specs.Prelude.{nat_lt, option_map, slice_get}
-use Rattle.std.proofs.lemmas.Bool.{cond-true, ltb-true}
+use Rattle.std.proofs.lemmas.Bool.{cond-true}
 use Rattle.std.proofs.lemmas.List.{take-append-drop}
 use Rattle.std.proofs.lemmas.Option.{none-some, same_Some, slice_get-map}
 use Rattle.strm_links.specs.Rows.{first}
@@ -13,10 +13,11 @@ use Rattle.strm_mblk.proofs.lists.ListParts.{drop_from}
 use Rattle.strm_mblk.proofs.arena.Stands.{heads_apart}
 use Rattle.strm_queue.specs.Flow.{with_read}
 use Rattle.strm_queue.specs.QueueCalls.{getq, got_at, got_first, rmvq, settled, with_got, with_state}
-use Rattle.strm_queue.specs.QueuedBlocks.{Agrees, AreInOrder, AreMarksLawful, QueuedBlocks, QueuesValue, tally_at, together, with_tally}
+use Rattle.strm_queue.specs.QueuedBlocks.{Agrees, AreMarksLawful, QueuedBlocks, QueuesValue, together}
 use Rattle.strm_queue.specs.Rank.{without_place}
-use Rattle.strm_queue.proofs.Agreeing.{in_order_got, marks_got}
+use Rattle.strm_queue.proofs.Agreeing.{marks_other}
 use Rattle.strm_queue.proofs.OnShelf.{FirstParts, first_none, first_of, unshelved}
+use Rattle.strm_mblk.specs.Messages.{without_head}
 
 module _ (v : QueuesValue) (a : Arena) (agrees : Agrees v a) (parted : IsParted a) (q : ℕ) (there : nat_lt q (length v.state.specs) ≡ true) (h : ℕ) where
   abbrev both : QueuedBlocks
@@ -24,32 +25,21 @@ module _ (v : QueuesValue) (a : Arena) (agrees : Agrees v a) (parted : IsParted 
 
   -- the message with this head was taken off
   pub record IsGot (w : QueuesValue) (b : Arena) : Type 0 where
-    pub len : ℕ
-    pub len_is : len ≡ (tally_at v q).len - 1
-    pub queues : w ≡ with_tally q (record { len = len }) v
+    pub state : w.state ≡ v.state
     pub arena : b ≡ unshelve q h a
-
-  -- what is left to do is to settle q
-  pub record IsLeft (w : QueuesValue) (b : Arena) : Type 0 where
-    pub in_order : AreInOrder w b
-    pub others : (p : ℕ) → p ≢ q → AreMarksLawful w.state b p
 
   module _ (pre post : List Message) (m : Message) (is : shelf_at a q ≡ pre ++ m ∷ post) (head : head_of m ≡ h) (w : QueuesValue) (b : Arena) (got : IsGot w b) where
     arena_is : b ≡ with_held m (with_shelf q (pre ++ post) a)
     arena_is = got.arena ∙ ap (λ n. unshelve q n a) (sym head) ∙ unshelved a q pre post m is (heads_apart a parted q)
 
     got_together : together w b ≡ with_got q m (pre ++ post) both
-    got_together = let state_is = ap (λ (x : QueuesValue). x.state) got.queues in λ i. record { queues = state_is i; arena = arena_is i }
+    got_together = λ i. record { queues = got.state i; arena = arena_is i }
 
-    got_left : IsLeft w b
-    got_left = record {
-      in_order =
-          subst (λ x. AreInOrder x b) (sym got.queues)
-          (in_order_got v a agrees q (ltb-true _ _ there) b (ap (λ (x : Arena). x.store) arena_is) got.len pre post m is (ap (λ (x : Arena). x.shelves) arena_is) got.len_is);
-      others = λ p other.
-          subst (λ (x : QueuesValue). AreMarksLawful x.state b p) (sym got.queues)
-          (marks_got v a agrees q (ltb-true _ _ there) b (ap (λ (x : Arena). x.store) arena_is) got.len pre post m is (ap (λ (x : Arena). x.shelves) arena_is) p other);
-    }
+  -- the marks of other queues are lawful as they were
+  pub got_others : (w : QueuesValue) (b : Arena) → IsGot w b → (p : ℕ) → p ≢ q → AreMarksLawful w.state b p
+  got_others w b got p other =
+      subst (λ s. AreMarksLawful s b p) (sym got.state)
+      (marks_other v.state a q (without_head head_of h (shelf_at a q)) b (ap (λ (x : Arena). x.store) got.arena) (ap (λ (x : Arena). x.shelves) got.arena) p other (agrees.marks p))
 
   -- ---- the first one
 
@@ -66,9 +56,6 @@ module _ (v : QueuesValue) (a : Arena) (agrees : Agrees v a) (parted : IsParted 
     module _ (w : QueuesValue) (b : Arena) (got : IsGot w b) where
       pub getq_after : with_state (with_read q false) (settled q (together w b)) ≡ value_after both (getq q both)
       getq_after = ap (λ x. with_state (with_read q false) (settled q x)) (got_together [] first_here.post first_here.at first_here.is first_here.head w b got) ∙ sym (ap (value_after both) getq_given)
-
-      pub getq_left : IsLeft w b
-      getq_left = got_left [] first_here.post first_here.at first_here.is first_here.head w b got
 
   -- there is none
   pub getq_none : first (heads_at a q) ≡ None → getq q both ≡ Ok (None, with_state (with_read q true) both)
@@ -97,6 +84,3 @@ module _ (v : QueuesValue) (a : Arena) (agrees : Agrees v a) (parted : IsParted 
     module _ (w : QueuesValue) (b : Arena) (got : IsGot w b) where
       pub rmvq_after : settled q (together w b) ≡ value_after both (rmvq q k both)
       rmvq_after = ap (settled q) (got_together (take k (shelf_at a q)) (drop (k + 1) (shelf_at a q)) here.0 parts_here here.1.1 w b got) ∙ sym (ap (value_after both) rmvq_given)
-
-      pub rmvq_left : IsLeft w b
-      rmvq_left = got_left (take k (shelf_at a q)) (drop (k + 1) (shelf_at a q)) here.0 parts_here here.1.1 w b got

@@ -9,6 +9,7 @@ pub mod Fits
 pub mod Shelve
 pub mod Lawful
 pub mod Bands
+pub mod Tallies
 pub mod Marks
 pub mod Agreeing
 pub mod Settling

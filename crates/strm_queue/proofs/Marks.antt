@@ -1,16 +1,16 @@
 -- The agreement of queues and message blocks rests on their wanted marks alone, of all their state.
-use Rattle.std.proofs.Common.{◌≡◌, ℕ, ◌<◌, true, length, sym, ap, ◌∙◌, subst}
+use Rattle.std.proofs.Common.{◌≡◌, ℕ, ◌<◌, true, length, sym, ap, ◌∙◌, subst, arith}
 use Rattle.strm_mblk.specs.Arena.{Arena, shelf_at}
 use Rattle.strm_queue.specs.Flow.{QueueState, band_count, is_wanted, marks_at, spec_at}
-use Rattle.strm_queue.specs.QueuedBlocks.{Agrees, AreInOrder, QueuesValue}
+use Rattle.strm_queue.specs.QueuedBlocks.{Agrees, AreInOrder, QueuesValue, IsTallyOf, tally_at}
 
 module _ (v : QueuesValue) (a : Arena) (s : QueueState) (specs : s.specs ≡ v.state.specs) where
-  in_order_state : AreInOrder v a → AreInOrder (record v { state = s }) a
+  pub in_order_state : AreInOrder v a → AreInOrder (record v { state = s }) a
   in_order_state in_order = record {
     shelves = in_order.shelves ∙ sym (ap length specs);
     stored = in_order.stored ∙ sym (ap length specs);
     ordered = in_order.ordered;
-    true_of = in_order.true_of;
+    true_of = λ q below. subst (λ ss. IsTallyOf a.store (spec_at ss q).hiwat (shelf_at a q) (tally_at v q)) (sym specs) (in_order.true_of q (omega (arith, below, ap length specs)));
   }
 
   pub agrees_state : ((q : ℕ) → (marks_at s q).wanted ≡ (marks_at v.state q).wanted) → Agrees v a → Agrees (record v { state = s }) a

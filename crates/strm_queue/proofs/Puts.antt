@@ -1,5 +1,5 @@
 -- What the calls that put a message on a queue do, by the model.
-use Rattle.std.proofs.Common.{◌≡◌, ℕ, ◌+◌, ◌≤◌, Bool, true, false, List, length, take, drop, Option, Ok, Err, sym, ap, ◌∙◌, subst, arith, if◌then◌else◌}
+use Rattle.std.proofs.Common.{◌≡◌, ℕ, ◌≤◌, Bool, true, false, List, length, take, drop, Option, Ok, Err, sym, ap, ◌∙◌, subst, if◌then◌else◌}
 use Rattle.std.specs.Prelude.{nat_lt, slice_get}
 use Rattle.std.proofs.lemmas.Bool.{cond-true, cond-false, le-ltb, ltb-true, not_from_true}
 use Rattle.std.proofs.lemmas.List.{take-append-drop}
@@ -13,11 +13,10 @@ use Rattle.strm_mblk.specs.Shelves.{heads_at}
 use Rattle.strm_mblk.proofs.arena.Stands.{heads_apart}
 use Rattle.strm_queue.specs.Flow.{enabled_where, enables_inserted, enables_put, enables_put_back}
 use Rattle.strm_queue.specs.QueueCalls.{insq, marks_of, putbq, putq, rank_put, with_put, with_state}
-use Rattle.strm_queue.specs.QueuedBlocks.{Agrees, QueuedBlocks, QueuesValue, tally_at, together, with_tally}
+use Rattle.strm_queue.specs.QueuedBlocks.{Agrees, QueuedBlocks, QueuesValue, together, AreInOrder, AreMarksLawful}
 use Rattle.strm_queue.specs.Rank.{as_queued, is_ordered, put_ahead, put_at, put_behind, rank_of}
-use Rattle.strm_queue.proofs.Agreeing.{agrees_enabled, agrees_put}
+use Rattle.strm_queue.proofs.Agreeing.{agrees_enabled, marks_put}
 use Rattle.strm_queue.proofs.OnShelf.{first_at, heads, placed-between}
-use Rattle.strm_queue.proofs.Order.{ordered_put_ahead, ordered_put_behind}
 
 module _ (v : QueuesValue) (a : Arena) (agrees : Agrees v a) (q h : ℕ) (there : nat_lt q (length v.state.specs) ≡ true) where
   -- the message, as it stands on a queue
@@ -27,25 +26,31 @@ module _ (v : QueuesValue) (a : Arena) (agrees : Agrees v a) (q h : ℕ) (there 
   abbrev both : QueuedBlocks
   both = together v a
 
-  -- the message was put there, and the queue is enabled, where it is to be
+  -- the message was put there, what is stored is true, and the queue is enabled, where it is to be
   pub record IsPut (so : Bool) (before : Option ℕ) (w : QueuesValue) (b : Arena) : Type 0 where
-    pub len : ℕ
-    pub len_is : len ≡ (tally_at v q).len + 1
-    pub queues : w ≡ record (with_tally q (record { len = len }) v) { state = enabled_where so q v.state }
+    pub put : QueuesValue
+    pub state : put.state ≡ v.state
+    pub in_order : AreInOrder put b
+    pub queues : w ≡ record put { state = enabled_where so q put.state }
     pub arena : b ≡ with_shelf q (put_before_head head_of before m (shelf_at a q)) (without_held h a)
 
   module _ (so : Bool) (before : Option ℕ) (w : QueuesValue) (b : Arena) (put : IsPut so before w b) where
     put_together : (ms : List Message) → put_before_head head_of before m (shelf_at a q) ≡ ms → together w b ≡ with_state (enabled_where so q) (with_put q h ms both)
     put_together ms is =
-        let state_is = ap (λ (x : QueuesValue). x.state) put.queues in
+        let state_is = ap (λ (x : QueuesValue). x.state) put.queues ∙ ap (enabled_where so q) put.state in
         let arena_is = put.arena ∙ ap (λ xs. with_shelf q xs (without_held h a)) is in
         λ i. record { queues = state_is i; arena = arena_is i }
 
-    put_agrees : is_ordered (rank_of a.store) (put_before_head head_of before m (shelf_at a q)) ≡ true → Agrees w b
-    put_agrees ordered =
+    pub put_agrees : Agrees w b
+    put_agrees =
         subst (λ x. Agrees x b) (sym put.queues)
-        (agrees_enabled (with_tally q (record { len = put.len }) v) b so q
-        (agrees_put v a agrees q (ltb-true _ _ there) b (ap (λ (x : Arena). x.store) put.arena) put.len before m (ap (λ (x : Arena). x.shelves) put.arena) ordered put.len_is))
+        (agrees_enabled put.put b so q
+        (record {
+          in_order = put.in_order;
+          marks = λ p.
+              subst (λ s. AreMarksLawful s b p) (sym put.state)
+              (marks_put v a agrees q (ltb-true _ _ there) before m b (ap (λ (x : Arena). x.store) put.arena) (ap (λ (x : Arena). x.shelves) put.arena) p);
+        }))
 
     -- behind its equals
     module _ (is : put_before_head head_of before m (shelf_at a q) ≡ put_behind (rank_of a.store) m (shelf_at a q)) where
@@ -54,9 +59,6 @@ module _ (v : QueuesValue) (a : Arena) (agrees : Agrees v a) (q h : ℕ) (there 
           put_together (put_behind (rank_of a.store) m (shelf_at a q)) is
           ∙ ap (λ c. with_state (enabled_where c q) (with_put q h (put_behind (rank_of a.store) m (shelf_at a q)) both)) enables ∙ sym (ap (value_after both) (cond-true _ _ _ there))
 
-      pub putq_agrees : Agrees w b
-      putq_agrees = put_agrees (ap (is_ordered (rank_of a.store)) is ∙ ordered_put_behind (rank_of a.store) m (shelf_at a q) (agrees.in_order.ordered q))
-
     -- before its equals
     module _ (is : put_before_head head_of before m (shelf_at a q) ≡ put_ahead (rank_of a.store) m (shelf_at a q)) where
       pub putbq_after : so ≡ enables_put_back (marks_of both q) (rank_put h both) → together w b ≡ value_after both (putbq q h both)
@@ -64,12 +66,9 @@ module _ (v : QueuesValue) (a : Arena) (agrees : Agrees v a) (q h : ℕ) (there 
           put_together (put_ahead (rank_of a.store) m (shelf_at a q)) is
           ∙ ap (λ c. with_state (enabled_where c q) (with_put q h (put_ahead (rank_of a.store) m (shelf_at a q)) both)) enables ∙ sym (ap (value_after both) (cond-true _ _ _ there))
 
-      pub putbq_agrees : Agrees w b
-      putbq_agrees = put_agrees (ap (is_ordered (rank_of a.store)) is ∙ ordered_put_ahead (rank_of a.store) m (shelf_at a q) (agrees.in_order.ordered q))
-
   -- ---- at a place
 
-  module _ (k : ℕ) (few : k ≤ (tally_at v q).len) (parted : IsParted a) (before : Option ℕ) (at : before ≡ slice_get (heads_at a q) k) where
+  module _ (k : ℕ) (few : k ≤ length (shelf_at a q)) (parted : IsParted a) (before : Option ℕ) (at : before ≡ slice_get (heads_at a q) k) where
     placed_at : put_before_head head_of before m (shelf_at a q) ≡ put_at k m (shelf_at a q)
     placed_at =
         let ms = shelf_at a q in
@@ -83,7 +82,7 @@ module _ (v : QueuesValue) (a : Arena) (agrees : Agrees v a) (q h : ℕ) (there 
     -- there is a place, so the order decides
     insq_there : insq q k h both ≡ (if is_ordered (rank_of a.store) (put_at k m (shelf_at a q)) then Ok (tt, inserted) else Err BadOrder)
     insq_there =
-        cond-false _ _ _ (not_from_true _ there) ∙ cond-false _ _ _ (le-ltb (length (shelf_at a q)) k (omega (arith, few, (agrees.in_order.true_of q).len)))
+        cond-false _ _ _ (not_from_true _ there) ∙ cond-false _ _ _ (le-ltb (length (shelf_at a q)) k few)
 
     pub insq_refused : is_ordered (rank_of a.store) (put_before_head head_of before m (shelf_at a q)) ≡ false → insq q k h both ≡ Err BadOrder
     insq_refused not = insq_there ∙ cond-false _ _ _ (sym (ap (is_ordered (rank_of a.store)) placed_at) ∙ not)
@@ -94,6 +93,3 @@ module _ (v : QueuesValue) (a : Arena) (agrees : Agrees v a) (q h : ℕ) (there 
 
       pub insq_after : (w : QueuesValue) (b : Arena) → IsPut (enables_inserted (marks_of both q)) before w b → together w b ≡ value_after both (insq q k h both)
       insq_after w b put = put_together (enables_inserted (marks_of both q)) before w b put (put_at k m (shelf_at a q)) placed_at ∙ sym (ap (value_after both) insq_given)
-
-      pub insq_agrees : (w : QueuesValue) (b : Arena) → IsPut (enables_inserted (marks_of both q)) before w b → Agrees w b
-      insq_agrees w b put = put_agrees (enables_inserted (marks_of both q)) before w b put ordered

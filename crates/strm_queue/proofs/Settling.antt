@@ -1,17 +1,17 @@
 -- Settling: which wanted marks stand afterwards, and which queue is enabled.
 use Rattle.std.proofs.Common.{◌≡◌, ◌≢◌, ℕ, zero, suc, ◌<◌, ◌⊎◌, inl, inr, Bool, true, false, ◌&&◌, List, [], ◌∷◌, length, get_or, set, map, Option, Some, None, refl, sym, ap, ◌∙◌, subst, if◌then◌else◌, get_or-set_other}
-use Rattle.std.specs.Prelude.{nat_le, not, slice_index_or}
+use Rattle.std.specs.Prelude.{nat_le, not}
 use Rattle.std.specs.List.{list_any}
 use Rattle.std.specs.Option.{option_map_or}
 use Rattle.std.proofs.lemmas.Bool.{cases_eq, cases_lt, false≢true, leb-false, not-true}
-use Rattle.std.proofs.lemmas.List.{set-get_or}
 use Rattle.strm_mblk.specs.Arena.{Arena, shelf_at}
 use Rattle.strm_queue.specs.Flow.{Marks, QueueState, band_count, bands_where, enabled, every_band, is_wanted, marks_at, opening_marks, spec_at, waker, with_marks}
 use Rattle.strm_queue.specs.Limits.{bands}
 use Rattle.strm_queue.specs.QueueCalls.{is_relieved, marks_left, settled, some_relieved, waker_enabled_where}
-use Rattle.strm_queue.specs.QueuedBlocks.{Agrees, AreInOrder, AreMarksLawful, IsTallyOf, QueuedBlocks, QueuesValue, no_tally, together}
+use Rattle.strm_queue.specs.QueuedBlocks.{Agrees, AreInOrder, AreMarksLawful, QueuedBlocks, QueuesValue, together, count_of, tally_at}
 use Rattle.strm_queue.proofs.Agreeing.{enabled_marks, enabled_specs}
-use Rattle.strm_queue.proofs.Bands.{bands_where-same, is_wanted_where, none_wanted, some_same, wanted_past, where-is}
+use Rattle.strm_queue.proofs.Bands.{bands_where-same, is_wanted_where, some_same, wanted_past}
+use Rattle.strm_queue.proofs.Marks.{in_order_state}
 
 -- enabling the queue behind changes the run list alone
 module _ (so : Bool) (q : ℕ) (s : QueueState) where
@@ -50,6 +50,10 @@ set_or [] q m d = inr refl
 set_or (x ∷ xs) zero m d = inl refl
 set_or (x ∷ xs) (suc q) m d = set_or xs q m d
 
+-- where nothing but the state is other, it is what is seen
+pub alone : (v w : QueuesValue) {s : QueueState} → w ≡ record v { state = s } → w ≡ record v { state = w.state }
+alone v w is = is ∙ ap (λ (t : QueueState). record v { state = t }) (sym (ap (λ (x : QueuesValue). x.state) is))
+
 module _ (v : QueuesValue) (a : Arena) (q : ℕ) where
   abbrev both : QueuedBlocks
   both = together v a
@@ -60,34 +64,16 @@ module _ (v : QueuesValue) (a : Arena) (q : ℕ) where
   abbrev lowat : ℕ
   lowat = (spec_at v.state.specs q).lowat
 
-  -- where no band is wanted, nothing is done
-  module _ (many : length wanted ≡ length every_band) (none : list_any (λ mark. mark) wanted ≡ false) where
-    left_same : bands_where (λ band. is_wanted wanted band && not (is_relieved both q band)) ≡ wanted
-    left_same =
-        bands_where-same (λ band. is_wanted wanted band && not (is_relieved both q band)) (is_wanted wanted)
-        (λ band within. ap (λ w. w && not (is_relieved both q band)) (none_wanted wanted none band) ∙ sym (none_wanted wanted none band))
-        ∙ where-is wanted many
-
-    none_relieved : some_relieved both q ≡ false
-    none_relieved =
-        some_same (is_relieved both q) (λ band. false)
-        (λ band within. ap (λ w. w && nat_le (band_count a.store band (shelf_at a q)) lowat) (none_wanted wanted none band)) ∙ any_none every_band
-
-    pub settled_none : both ≡ settled q both
-    settled_none =
-        sym ((λ i. let t : QueuedBlocks = record both { queues = waker_enabled_where (none_relieved i) q (with_marks q (record (marks_at v.state q) { wanted = left_same i }) v.state) } in t)
-        ∙ ap (λ ms. let t : QueuedBlocks = record both { queues = record v.state { marks = ms } } in t) (set-get_or v.state.marks q opening_marks))
-
-  -- by the bytes of the bands, however they were found
-  module _ (counts : List ℕ) (is : (band : ℕ) → band < bands → slice_index_or counts band 0 ≡ band_count a.store band (shelf_at a q)) where
+  -- by the bytes that are stored of the bands
+  module _ (in_order : AreInOrder v a) (within : q < length v.state.specs) where
     abbrev relieved_by : ℕ → Bool
-    relieved_by band = is_wanted wanted band && nat_le (slice_index_or counts band 0) lowat
+    relieved_by band = is_wanted wanted band && nat_le (count_of (tally_at v q) band) lowat
 
     abbrev relieved_state : QueueState
     relieved_state = with_marks q (record (marks_at v.state q) { wanted = bands_where (λ band. is_wanted wanted band && not (relieved_by band)) }) v.state
 
     relieved_same : (band : ℕ) → band < bands → relieved_by band ≡ is_relieved both q band
-    relieved_same band within = ap (λ n. is_wanted wanted band && nat_le n lowat) (is band within)
+    relieved_same band below = ap (λ n. is_wanted wanted band && nat_le n lowat) ((in_order.true_of q within).counts band below)
 
     pub settled_by : (so : Bool) → so ≡ list_any relieved_by every_band → record both { queues = waker_enabled_where so q relieved_state } ≡ settled q both
     settled_by so some =
@@ -129,22 +115,14 @@ module _ (v : QueuesValue) (a : Arena) (q : ℕ) where
           | inr other ↦ λ band is. others p other band (sym (ap (λ (m : Marks). is_wanted m.wanted band) (get_or-set_other v.state.marks q p (marks_left both q) opening_marks other)) ∙ is)
         ]
 
-    pub settled_agrees : (w : QueuesValue) → AreInOrder v a → together w a ≡ settled q both → w.tallies ≡ v.tallies → Agrees w a
-    settled_agrees w in_order is tallies =
+    pub settled_agrees : (s : QueueState) → AreInOrder v a → record both { queues = s } ≡ settled q both → Agrees (record v { state = s }) a
+    settled_agrees s in_order is =
         let state = ap (λ (x : QueuedBlocks). x.queues) is in
-        let specs = ap (λ (s : QueueState). s.specs) state ∙ waker_specs (some_relieved both q) q left in
-        let marks = ap (λ (s : QueueState). s.marks) state ∙ waker_marks (some_relieved both q) q left in
+        let specs = ap (λ (t : QueueState). t.specs) state ∙ waker_specs (some_relieved both q) q left in
+        let marks = ap (λ (t : QueueState). t.marks) state ∙ waker_marks (some_relieved both q) q left in
         record {
-          in_order = in_order_same w specs tallies in_order;
+          in_order = in_order_state v a s specs in_order;
           marks = λ p band here.
               subst (λ ss. (spec_at ss p).lowat < band_count a.store band (shelf_at a p)) (sym specs)
               (left_at p band (subst (λ ms. is_wanted (get_or ms p opening_marks).wanted band ≡ true) marks here));
-        }
-      where
-        in_order_same : (w : QueuesValue) → w.state.specs ≡ v.state.specs → w.tallies ≡ v.tallies → AreInOrder v a → AreInOrder w a
-        in_order_same w specs tallies in_order = record {
-          shelves = in_order.shelves ∙ sym (ap length specs);
-          stored = ap length tallies ∙ in_order.stored ∙ sym (ap length specs);
-          ordered = in_order.ordered;
-          true_of = λ p. subst (λ ts. IsTallyOf (shelf_at a p) (get_or ts p no_tally)) (sym tallies) (in_order.true_of p);
         }

@@ -8,7 +8,7 @@ use Rattle.strm_queue.specs.declared.queues.Queue.{Queue}
 use Rattle.strm_queue.specs.declared.queues.Queues.TheInside.{Inside}
 use Rattle.strm_queue.specs.Flow.{Marks, marks_at, no_spec, opening_marks, spec_at, with_marks}
 use Rattle.strm_queue.specs.QueueSpecs.{are_lawful}
-use Rattle.strm_queue.specs.QueuedBlocks.{QueuesValue, Tally, opening_value, with_tally}
+use Rattle.strm_queue.specs.QueuedBlocks.{QueuesValue, Tally, opening_value, with_tally, tally_at, no_tally}
 use Rattle.strm_queue.specs.QueuesLayout.{IsLawful, marks_in, new_queue, spec_in, tally_in, value_of}
 
 -- new queues
@@ -67,6 +67,9 @@ module _ (a : Inside) (q : ℕ) (x y : Queue) (is : x ≡ get_or a.queues.items 
     pub spec_seen : p < length v.state.specs → x.spec ≡ spec_at v.state.specs p
     spec_seen within = ap spec_in is ∙ sym (get_or-map spec_in a.queues.items q x no_spec (there within)) ∙ (λ i. spec_at (view i).state.specs (place i))
 
+    pub tally_seen : p < length v.state.specs → x.tally ≡ tally_at v p
+    tally_seen within = ap tally_in is ∙ sym (get_or-map tally_in a.queues.items q x no_tally (there within)) ∙ (λ i. tally_at (view i) (place i))
+
     -- other marks
     pub marks_changed : p < length v.state.specs → (change : Marks → Marks) → marks_in y ≡ change (marks_in x) → tally_in y ≡ tally_in x → value_of changed ≡ record v { state = with_marks p (change (marks_at v.state p)) v.state }
     marks_changed within change marked same =
@@ -77,7 +80,7 @@ module _ (a : Inside) (q : ℕ) (x y : Queue) (is : x ≡ get_or a.queues.items 
         } in w)
         ∙ (λ i. record (view i) { state = with_marks (place i) (change (marks_at (view i).state (place i))) (view i).state })
 
-    -- another number of messages
+    -- other is stored of its messages
     pub tally_changed : (t : Tally) → tally_in y ≡ t → marks_in y ≡ marks_in x → value_of changed ≡ with_tally p t v
     tally_changed t tallied same =
         (λ i. let w : QueuesValue = record {

@@ -7,17 +7,8 @@ use Rattle.strm_queue.specs.declared.queue_spec.QueueSpec.{QueueSpec}
 use Rattle.strm_queue.specs.Flow.{Marks, QueueState, band_count, is_wanted, marks_at, opening_marks, spec_at, with_wanted}
 use Rattle.strm_queue.specs.QueueSpecs.{are_lawful, marks_meet}
 use Rattle.strm_queue.specs.QueuedBlocks.{Agrees, AreMarksLawful, QueuesValue}
-use Rattle.strm_queue.proofs.Lawful.{marks_apart}
+use Rattle.strm_queue.proofs.Lawful.{marks_below}
 use Rattle.strm_queue.proofs.Settling.{new_marks, set_or}
-
--- where no water marks meet, each low one is below the high one
-none_meet : (specs : List QueueSpec) → marks_meet specs ≡ false → (q : ℕ) → q < length specs → (spec_at specs q).lowat < (spec_at specs q).hiwat
-none_meet [] none q within = absurd (omega (arith, within))
-none_meet (s ∷ specs) none zero within = leb-false s.hiwat s.lowat (or_parts (nat_le s.hiwat s.lowat) (marks_meet specs) none).0
-none_meet (s ∷ specs) none (suc q) within = none_meet specs (or_parts (nat_le s.hiwat s.lowat) (marks_meet specs) none).1 q (omega (arith, within))
-
-pub marks_below : (specs : List QueueSpec) → are_lawful specs ≡ true → (q : ℕ) → q < length specs → (spec_at specs q).lowat < (spec_at specs q).hiwat
-marks_below specs lawful = none_meet specs (marks_apart specs lawful)
 
 module _ (s : QueueState) (a : Arena) (p band : ℕ) (above : (spec_at s.specs p).lowat < band_count a.store band (shelf_at a p)) where
   -- at the queue that was asked

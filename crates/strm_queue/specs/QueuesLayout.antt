@@ -7,18 +7,18 @@ use Rattle.strm_queue.specs.declared.queues.Queue.{Queue}
 use Rattle.strm_queue.specs.declared.queues.Queues.TheInside.{Inside}
 use Rattle.strm_queue.specs.Flow.{Marks, bands_where, spec_at}
 use Rattle.strm_queue.specs.QueueSpecs.{are_lawful}
-use Rattle.strm_queue.specs.QueuedBlocks.{QueuesValue, Tally}
+use Rattle.strm_queue.specs.QueuedBlocks.{QueuesValue, Tally, no_tally}
 
 -- a queue as it is made
 abbrev pub new_queue : QueueSpec → Queue
-new_queue spec = record { spec = spec; len = 0; read = true; noenable = false; wanted = bands_where (λ band. false) }
+new_queue spec = record { spec = spec; tally = no_tally; read = true; noenable = false; wanted = bands_where (λ band. false) }
 
 -- what is seen of a stored queue
 abbrev pub spec_in : Queue → QueueSpec
 spec_in q = q.spec
 
 abbrev pub tally_in : Queue → Tally
-tally_in q = record { len = q.len }
+tally_in q = q.tally
 
 abbrev pub marks_in : Queue → Marks
 marks_in q = record { read = q.read; noenable = q.noenable; wanted = q.wanted }

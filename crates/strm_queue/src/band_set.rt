@@ -36,18 +36,6 @@ impl BandSet {
         self.words[usize::from(band / 64)] >> (band % 64) & 1 == 1
     }
 
-    // Whether it has none.
-    pub(crate) fn is_empty(&self) -> bool
-        ensures { result ≡ not (list_any (λ mark. mark) self.now) }
-    {
-        for word in &self.words {
-            if *word != 0 {
-                return false;
-            }
-        }
-        true
-    }
-
     // Adds a band.
     pub(crate) fn insert(&mut self, band: u8)
         ensures { self.new ≡ slice_set self.old band true }
@@ -60,6 +48,17 @@ impl BandSet {
         ensures { self.new ≡ slice_set self.old band false }
     {
         self.words[usize::from(band / 64)] &= !(1 << (band % 64));
+    }
+
+    // Adds a band, or takes it out.
+    pub(crate) fn set(&mut self, band: u8, so: bool)
+        ensures { self.new ≡ slice_set self.old band so }
+    {
+        if so {
+            self.insert(band);
+        } else {
+            self.remove(band);
+        }
     }
 
     // Takes out each band with so few bytes. Whether there was one.

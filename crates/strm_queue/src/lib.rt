@@ -8,6 +8,7 @@ mod limits;
 mod queue_info;
 mod queue_spec;
 mod queues;
+mod tally;
 
 pub use band_info::BandInfo;
 pub use flush::Flush;

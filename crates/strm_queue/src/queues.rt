@@ -1,13 +1,13 @@
 //! Queues by number, and the calls that put messages on them and take them off.
-ghost use Rattle.std.specs.Prelude.{◌≡◌, ◌<◌, ◌≤◌, ℕ, IfOk, IsTrue, length, nat_lt, reverse, sum_by};
+ghost use Rattle.std.specs.Prelude.{◌≡◌, ◌+◌, ◌<◌, ◌≤◌, ◌^◌, ℕ, IfOk, IsTrue, length, nat_lt, reverse, sum_by};
 ghost use Rattle.std.specs.List.{All};
 ghost use Rattle.strm_links.specs.Rows as rows;
 ghost use Rattle.strm_mblk.specs.Arena.{shelf_at};
 ghost use Rattle.strm_mblk.specs.Shelves.{heads_at};
-ghost use Rattle.strm_queue.specs.Flow.{band_count, bytes_on, every_band, spec_at};
+ghost use Rattle.strm_queue.specs.Flow.{band_count, band_of_rank, bytes_on, every_band, spec_at};
 ghost use Rattle.strm_queue.specs.Limits.{most_queues};
 ghost use Rattle.strm_queue.specs.QueueSpecs.{are_lawful};
-ghost use Rattle.strm_queue.specs.QueuedBlocks.{Agrees, AreMarksLawful, opening_value, tally_at, with_tally};
+ghost use Rattle.strm_queue.specs.QueuedBlocks.{Agrees, AreMarksLawful, count_of, one_less, one_more, opening_value, tally_at, with_tally};
 ghost use Rattle.strm_queue.specs.QueuesLayout.{new_queue};
 ghost use Rattle.strm_queue.specs.Rank.{is_ordered, rank_of};
 
@@ -20,9 +20,12 @@ mod marks;
 mod places;
 mod putting;
 mod settling;
+mod shelving;
 
 use crate::band_set::BandSet;
 use crate::queue_spec::QueueSpec;
+use crate::tally::Tally;
+use counts::band_of;
 use std::alloc::{AllocError, Global};
 use std::marker::Model;
 use strm_links::Links;
@@ -53,8 +56,8 @@ pub struct Queues {
 #[derive(Debug, Drop)]
 struct Queue {
     spec: QueueSpec,
-    // How many messages stand on it.
-    len: u32,
+    // What is stored of its messages.
+    tally: Tally,
     // Its marks.
     read: bool,
     noenable: bool,
@@ -80,7 +83,7 @@ impl Queue {
     {
         Queue {
             spec,
-            len: 0,
+            tally: Tally::new(),
             read: true,
             noenable: false,
             wanted: BandSet::new(),
@@ -113,20 +116,34 @@ impl Queues {
         usize::from(queue) < self.queues.len()
     }
 
-    // What is stored as the number of messages on a queue.
-    fn len(&self, queue: u8) -> u32
-        requires { queue < length self.now.tallies }
-        ensures { result ≡ (tally_at self.now queue).len }
+    // What is stored of the messages on a queue.
+    fn tally(&self, queue: u8) -> &Tally
+        requires { queue < length self.now.state.specs }
+        ensures { result.now ≡ tally_at self.now queue }
     {
-        self.queues[usize::from(queue)].len
+        &self.queues[usize::from(queue)].tally
     }
 
-    // Stores another number of messages.
-    fn set_len(&mut self, queue: u8, len: u32)
-        requires { queue < length self.old.tallies }
-        ensures { self.new ≡ with_tally queue (record { len = len }) self.old }
+    // Notes that a message of a rank has joined a queue, with so many bytes.
+    fn join(&mut self, queue: u8, rank: u16, size: u32)
+        requires queue { queue < length self.old.state.specs }
+        requires len { (tally_at self.old queue).len + 1 < 2 ^ 32 }
+        requires count { count_of (tally_at self.old queue) (band_of_rank rank) + size < 2 ^ 32 }
+        ensures { self.new ≡ with_tally queue (one_more (spec_at self.old.state.specs queue).hiwat (band_of_rank rank) size (tally_at self.old queue)) self.old }
     {
-        self.queues[usize::from(queue)].len = len;
+        let Queue { spec, tally, .. } = &mut self.queues[usize::from(queue)];
+        tally.join(spec.hiwat, band_of(rank), size);
+    }
+
+    // Notes that a message of a rank has left a queue, with so many bytes.
+    fn leave(&mut self, queue: u8, rank: u16, size: u32)
+        requires queue { queue < length self.old.state.specs }
+        requires len { 1 ≤ (tally_at self.old queue).len }
+        requires count { size ≤ count_of (tally_at self.old queue) (band_of_rank rank) }
+        ensures { self.new ≡ with_tally queue (one_less (spec_at self.old.state.specs queue).hiwat (band_of_rank rank) size (tally_at self.old queue)) self.old }
+    {
+        let Queue { spec, tally, .. } = &mut self.queues[usize::from(queue)];
+        tally.leave(spec.hiwat, band_of(rank), size);
     }
 
     // What a queue was made with.

@@ -6,7 +6,6 @@ ghost use Rattle.strm_queue.specs.QueueCalls as model;
 ghost use Rattle.strm_queue.specs.QueuedBlocks.{Agrees, together};
 
 use super::Queues;
-use super::counts::{band_counts, sum_of};
 use crate::{BandInfo, QueueInfo};
 use strm_data::Refusal;
 use strm_mblk::Blocks;
@@ -25,7 +24,8 @@ impl Queues {
         Ok(self.len(queue))
     }
 
-    /// What there is to tell of a queue: its messages, their bytes, and its marks. Nothing changes.
+    /// What there is to tell of a queue: its messages, their bytes, and its marks. Takes a step for each band. Nothing
+    /// changes.
     ///
     /// Refused as `NoSuchQueue` where there is no such queue.
     pub fn queue_info(&self, blocks: &Blocks, queue: u8) -> Result<QueueInfo, Refusal>
@@ -35,10 +35,9 @@ impl Queues {
         if !self.has_queue(queue) {
             return Err(Refusal::NoSuchQueue);
         }
-        let msgs = self.len(queue);
         Ok(QueueInfo {
-            msgs,
-            bytes: sum_of(&band_counts(blocks, queue, msgs)),
+            msgs: self.len(queue),
+            bytes: self.bytes(blocks, queue),
             read: self.is_read(queue),
             noenable: self.is_off(queue),
             enabled: self.is_enabled(queue),
@@ -46,7 +45,7 @@ impl Queues {
     }
 
     /// What there is to tell of one band of a queue: the bytes of its messages, of which those of high priority count with
-    /// band 0, and its marks. Nothing changes.
+    /// band 0, and its marks. Takes constant time. Nothing changes.
     ///
     /// Refused as `NoSuchQueue` where there is no such queue.
     pub fn band_info(&self, blocks: &Blocks, queue: u8, band: u8) -> Result<BandInfo, Refusal>
@@ -56,18 +55,16 @@ impl Queues {
         if !self.has_queue(queue) {
             return Err(Refusal::NoSuchQueue);
         }
-        let bytes = self.band_count(blocks, queue, band);
         Ok(BandInfo {
-            bytes,
-            full: bytes >= self.spec(queue).hiwat,
+            bytes: self.band_count(queue, band),
+            full: self.is_full(queue, band),
             wanted: self.is_wanted(queue, band),
         })
     }
 
     /// Whether a message of a band may be put: asked of the first queue with a service procedure from this one on, or of
     /// the last one there. Where the band has as many bytes as the high water mark there, it is full: its wanted mark is
-    /// set, and the answer is false. Takes a step for each queue that is passed, and one for each message of the queue
-    /// that is asked and for each of its blocks.
+    /// set, and the answer is false. Takes a step for each queue that is passed.
     ///
     /// Refused as `NoSuchQueue` where there is no such queue; nothing changes then.
     pub fn bcanput(&mut self, blocks: &Blocks, queue: u8, band: u8) -> Result<bool, Refusal>
@@ -81,7 +78,7 @@ impl Queues {
         }
         self.made_lawful();
         let target = self.target(queue);
-        if self.band_count(blocks, target, band) < self.spec(target).hiwat {
+        if !self.is_full(target, band) {
             return Ok(true);
         }
         self.set_wanted(target, band);

@@ -1,20 +1,18 @@
-//! The bytes of a queue's messages, by band.
-ghost use Rattle.std.specs.Prelude.{◌≡◌, ◌<◌, ◌∷◌, ◌++◌, ◌^◌, ℕ, IsSome, List, length, slice_index_or, sum};
-ghost use Rattle.strm_mblk.specs.Arena.{shelf_at};
+//! How many messages a queue has, and the bytes of these, by band.
+ghost use Rattle.std.specs.Prelude.{◌≡◌, ◌<◌, ◌∷◌, ◌++◌, ℕ, IsSome, List, length, nat_le};
+ghost use Rattle.strm_mblk.specs.Arena.{Arena, shelf_at};
 ghost use Rattle.strm_mblk.specs.Block.{Message, head_of};
 ghost use Rattle.strm_mblk.specs.Shelves.{shelf_of};
-ghost use Rattle.strm_queue.specs.Flow.{band_count, band_of_rank, bytes_on};
-ghost use Rattle.strm_queue.specs.Limits.{bands};
+ghost use Rattle.strm_queue.specs.Flow.{band_count, band_of_rank, bytes_on, spec_at};
 ghost use Rattle.strm_queue.specs.QueuedBlocks.{AreInOrder};
 ghost use Rattle.strm_queue.specs.Rank.{rank_of};
 
 use super::Queues;
 use super::places::queued_rank;
-use crate::limits::BANDS;
 use strm_mblk::{BlockNo, Blocks};
 
 // The band that a message of this rank counts with: high priority counts with band 0.
-fn band_of(rank: u16) -> u8
+pub(super) fn band_of(rank: u16) -> u8
     ensures { result ≡ band_of_rank rank }
 {
     u8::try_from(rank).unwrap_or(0)
@@ -29,46 +27,39 @@ pub(super) fn counted_band(blocks: &Blocks, head: BlockNo) -> u8
     band_of(queued_rank(blocks, head))
 }
 
-// How many bytes each band of a queue has. Walks all its messages.
-pub(super) fn band_counts(blocks: &Blocks, queue: u8, len: u32) -> [u32; BANDS]
-    requires queue { queue < length blocks.now.shelves }
-    requires len { len ≡ length (shelf_at blocks.now queue) }
-    ensures counts { (band : ℕ) → band < bands → slice_index_or result band 0 ≡ band_count blocks.now.store band (shelf_at blocks.now queue) }
-    ensures whole { sum result ≡ bytes_on (shelf_at blocks.now queue) }
-    ensures few { sum result < 2 ^ 32 }
-{
-    blocks.lawful();
-    let mut counts = [0; BANDS];
-    let mut at = blocks.first(queue);
-    for _message in 0..len {
-        let Some(head) = at else {
-            return counts;
-        };
-        counts[usize::from(counted_band(blocks, head))] += blocks.head_size(head);
-        at = blocks.after(head);
-    }
-    counts
-}
-
-// The sum of such counts.
-pub(super) fn sum_of(counts: &[u32; BANDS]) -> u32
-    requires { sum counts.now < 2 ^ 32 }
-    ensures { result ≡ sum counts.now }
-{
-    let mut bytes = 0;
-    for count in counts {
-        bytes += count;
-    }
-    bytes
-}
-
 impl Queues {
-    // How many bytes one band of a queue has. Walks all its messages.
-    pub(super) fn band_count(&self, blocks: &Blocks, queue: u8, band: u8) -> u32
+    // How many messages stand on a queue.
+    pub(super) fn len(&self, queue: u8) -> u32
+        requires { queue < length self.now.state.specs }
+        ensures { (arena : Arena) → AreInOrder self.now arena → result ≡ length (shelf_at arena queue) }
+    {
+        self.tally(queue).len()
+    }
+
+    // How many bytes one band of a queue has.
+    pub(super) fn band_count(&self, queue: u8, band: u8) -> u32
+        requires { queue < length self.now.state.specs }
+        ensures { (arena : Arena) → AreInOrder self.now arena → result ≡ band_count arena.store band (shelf_at arena queue) }
+    {
+        self.tally(queue).count(band)
+    }
+
+    // Whether one band of a queue is full.
+    pub(super) fn is_full(&self, queue: u8, band: u8) -> bool
+        requires { queue < length self.now.state.specs }
+        ensures { (arena : Arena) → AreInOrder self.now arena
+            → result ≡ nat_le (spec_at self.now.state.specs queue).hiwat (band_count arena.store band (shelf_at arena queue)) }
+    {
+        self.tally(queue).is_full(band)
+    }
+
+    // How many bytes a queue has.
+    pub(super) fn bytes(&self, blocks: &Blocks, queue: u8) -> u32
         requires queue { queue < length self.now.state.specs }
         requires in_order { AreInOrder self.now blocks.now }
-        ensures { result ≡ band_count blocks.now.store band (shelf_at blocks.now queue) }
+        ensures { result ≡ bytes_on (shelf_at blocks.now queue) }
     {
-        band_counts(blocks, queue, self.len(queue))[usize::from(band)]
+        blocks.lawful();
+        self.tally(queue).bytes()
     }
 }

@@ -1,14 +1,12 @@
 //! Messages are flushed.
 ghost use Rattle.std.specs.Prelude.{◌≡◌, ◌<◌, ◌∷◌, ◌++◌, ℕ, IsSome, List, filter, length, not};
-ghost use Rattle.std.specs.List.{All};
-ghost use Rattle.strm_mblk.specs.Arena.{shelf_at, shelved_blocks, with_shelf};
+ghost use Rattle.strm_mblk.specs.Arena.{shelf_at, with_shelf};
 ghost use Rattle.strm_mblk.specs.Block.{Message, head_of};
-ghost use Rattle.strm_mblk.specs.Frame.{IsSameData};
 ghost use Rattle.strm_mblk.specs.Given.{answer_of, value_after};
 ghost use Rattle.strm_mblk.specs.Shelves.{shelf_of};
 ghost use Rattle.strm_queue.specs.Flush.{carries_data, is_picked, with_freed};
 ghost use Rattle.strm_queue.specs.QueueCalls as model;
-ghost use Rattle.strm_queue.specs.QueuedBlocks.{Agrees, together};
+ghost use Rattle.strm_queue.specs.QueuedBlocks.{Agrees, AreInOrder, together};
 
 use super::Queues;
 use super::counts::counted_band;
@@ -44,38 +42,10 @@ fn picks(blocks: &Blocks, head: BlockNo, band: Option<u8>, flush: Flush) -> bool
         }
 }
 
-// Frees the messages of a shelf that a flush takes, front to back. How many stay.
-fn flush_shelf(blocks: &mut Blocks, queue: u8, len: u32, band: Option<u8>, flush: Flush) -> u32
-    requires queue { queue < length blocks.old.shelves }
-    requires len { len ≡ length (shelf_at blocks.old queue) }
-    ensures after { let picked = is_picked blocks.old.store band flush in let ms = shelf_at blocks.old queue in
-        blocks.new ≡ with_freed (filter picked ms) (with_shelf queue (filter (λ m. not (picked m)) ms) blocks.old) }
-    ensures left { result ≡ length (shelf_at blocks.new queue) }
-    // What stands on shelves has the data that it had.
-    ensures data { All (IsSameData blocks.old.store blocks.new.store) (shelved_blocks blocks.new) }
-{
-    let mut left = 0;
-    let mut at = blocks.first(queue);
-    for _message in 0..len {
-        let Some(head) = at else {
-            return left;
-        };
-        blocks.reads_alike();
-        at = blocks.after(head);
-        if picks(blocks, head, band, flush) {
-            let token = blocks.unshelve(queue, head);
-            blocks.freemsg(token);
-        } else {
-            left += 1;
-        }
-    }
-    left
-}
-
 impl Queues {
     /// Frees the messages of a queue front to back: all, or those that carry data. What stays keeps its place and enables
-    /// nothing; a band that has room again may enable a queue behind. Takes a step for each message, one for each block that
-    /// is freed, and a walk of what stays where some band is wanted.
+    /// nothing; a band that has room again may enable a queue behind. Takes a step for each message, and one for each block
+    /// that is freed.
     ///
     /// Refused as `NoSuchQueue` where there is no such queue; nothing changes then.
     pub fn flushq(&mut self, blocks: &mut Blocks, queue: u8, flush: Flush) -> Result<(), Refusal>
@@ -89,8 +59,7 @@ impl Queues {
 
     /// Frees the messages of one band of a queue, front to back: all of them, or those that carry data. High priority
     /// messages are of band 0. What stays keeps its place and enables nothing; a band that has room again may enable a
-    /// queue behind. Takes a step for each message, one for each block that is freed, and a walk of what stays where some
-    /// band is wanted.
+    /// queue behind. Takes a step for each message, and one for each block that is freed.
     ///
     /// Refused as `NoSuchQueue` where there is no such queue; nothing changes then.
     pub fn flushband(
@@ -124,9 +93,31 @@ impl Queues {
         if !self.has_queue(queue) {
             return Err(Refusal::NoSuchQueue);
         }
-        let left = flush_shelf(blocks, queue, self.len(queue), band, flush);
-        self.set_len(queue, left);
-        self.settle(blocks, queue);
+        self.flush_shelf(blocks, queue, band, flush);
+        self.settle(queue);
         Ok(())
+    }
+
+    // Frees the messages of a queue that a flush takes, front to back.
+    fn flush_shelf(&mut self, blocks: &mut Blocks, queue: u8, band: Option<u8>, flush: Flush)
+        requires queue { queue < length self.old.state.specs }
+        requires in_order { AreInOrder self.old blocks.old }
+        ensures after { let picked = is_picked blocks.old.store band flush in let ms = shelf_at blocks.old queue in
+            blocks.new ≡ with_freed (filter picked ms) (with_shelf queue (filter (λ m. not (picked m)) ms) blocks.old) }
+        ensures state { self.new.state ≡ self.old.state }
+        ensures in_order { AreInOrder self.new blocks.new }
+    {
+        let mut at = blocks.first(queue);
+        for _message in 0..self.len(queue) {
+            let Some(head) = at else {
+                return;
+            };
+            blocks.reads_alike();
+            at = blocks.after(head);
+            if picks(blocks, head, band, flush) {
+                let token = self.unshelve(blocks, queue, head);
+                blocks.freemsg(token);
+            }
+        }
     }
 }

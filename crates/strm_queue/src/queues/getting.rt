@@ -11,8 +11,8 @@ use strm_data::Refusal;
 use strm_mblk::{Blocks, Token};
 
 impl Queues {
-    /// Takes the first message off a queue, or nothing where the queue is empty, and settles it. Takes constant time, and a
-    /// walk of the queue where some band of it is wanted.
+    /// Takes the first message off a queue, or nothing where the queue is empty, and settles it. Takes a step for each block
+    /// of the message, and for each wanted band of the queue.
     ///
     /// Refused as `NoSuchQueue` where there is no such queue; nothing changes then.
     pub fn getq(&mut self, blocks: &mut Blocks, queue: u8) -> Result<Option<Token>, Refusal>
@@ -32,15 +32,14 @@ impl Queues {
             self.set_read(queue, true);
             return Ok(None);
         };
-        let token = blocks.unshelve(queue, head);
-        self.set_len(queue, self.len(queue) - 1);
-        self.settle(blocks, queue);
+        let token = self.unshelve(blocks, queue, head);
+        self.settle(queue);
         self.set_read(queue, false);
         Ok(Some(token))
     }
 
-    /// Takes the message at `place`, counted from 0, off a queue, and settles it. Takes `place` steps, and a walk of the
-    /// queue where some band of it is wanted.
+    /// Takes the message at `place`, counted from 0, off a queue, and settles it. Takes `place` steps, and one for each block
+    /// of the message and for each wanted band of the queue.
     ///
     /// Refused as `NoSuchQueue` where there is no such queue, then as `NoSuchPlace` where it has no such message; nothing
     /// changes then.
@@ -63,9 +62,8 @@ impl Queues {
         let Some(head) = head_at(blocks, queue, place) else {
             return Err(Refusal::NoSuchPlace);
         };
-        let token = blocks.unshelve(queue, head);
-        self.set_len(queue, self.len(queue) - 1);
-        self.settle(blocks, queue);
+        let token = self.unshelve(blocks, queue, head);
+        self.settle(queue);
         Ok(token)
     }
 }

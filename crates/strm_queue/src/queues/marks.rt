@@ -1,14 +1,13 @@
 //! The marks of queues.
-ghost use Rattle.std.specs.Prelude.{◌≡◌, ◌<◌, ◌&&◌, not, length, nat_le, slice_index_or};
+ghost use Rattle.std.specs.Prelude.{◌≡◌, ◌<◌, ◌&&◌, not, length, nat_le};
 ghost use Rattle.std.specs.List.{list_any};
 ghost use Rattle.strm_queue.specs.Flow.{bands_where, every_band, is_wanted, marks_at, spec_at, with_marks, with_noenable, with_read, with_wanted};
 ghost use Rattle.strm_mblk.specs.Arena.{Arena};
 ghost use Rattle.strm_mblk.specs.Given.{answer_of, value_after};
 ghost use Rattle.strm_queue.specs.QueueCalls.{switched};
-ghost use Rattle.strm_queue.specs.QueuedBlocks.{Agrees, together};
+ghost use Rattle.strm_queue.specs.QueuedBlocks.{Agrees, count_of, tally_at, together};
 
 use super::{Queue, Queues};
-use crate::limits::BANDS;
 use strm_data::Refusal;
 
 impl Queues {
@@ -34,22 +33,6 @@ impl Queues {
         ensures { result ≡ is_wanted (marks_at self.now.state queue).wanted band }
     {
         self.queues[usize::from(queue)].wanted.has(band)
-    }
-
-    // Whether somebody waits for room in any band.
-    pub(super) fn is_any_wanted(&self, queue: u8) -> bool
-        requires { queue < length self.now.state.specs }
-        ensures { result ≡ list_any (λ mark. mark) (marks_at self.now.state queue).wanted }
-    {
-        !self.queues[usize::from(queue)].wanted.is_empty()
-    }
-
-    // The law that there is a wanted mark for each band. Does nothing.
-    pub(super) fn marks_bands(&self, queue: u8)
-        requires { queue < length self.now.state.specs }
-        ensures { length (marks_at self.now.state queue).wanted ≡ length every_band }
-    {
-        self.queues[usize::from(queue)].wanted.lawful();
     }
 
     // Sets or clears the want-to-read mark.
@@ -90,14 +73,19 @@ impl Queues {
     }
 
     // Takes away the wanted marks of bands with so few bytes as the low water mark. Whether there was one.
-    pub(super) fn relieve(&mut self, queue: u8, counts: &[u32; BANDS]) -> bool
+    pub(super) fn relieve(&mut self, queue: u8) -> bool
         requires { queue < length self.old.state.specs }
         ensures marks { let lowat = (spec_at self.old.state.specs queue).lowat in let marks = marks_at self.old.state queue in
-            self.new ≡ record self.old { state = with_marks queue (record marks { wanted = bands_where (λ band. is_wanted marks.wanted band && not (is_wanted marks.wanted band && nat_le (slice_index_or counts.now band 0) lowat)) }) self.old.state } }
+            self.new ≡ record self.old { state = with_marks queue (record marks { wanted = bands_where (λ band. is_wanted marks.wanted band && not (is_wanted marks.wanted band && nat_le (count_of (tally_at self.old queue) band) lowat)) }) self.old.state } }
         ensures some { let lowat = (spec_at self.old.state.specs queue).lowat in
-            result ≡ list_any (λ band. is_wanted (marks_at self.old.state queue).wanted band && nat_le (slice_index_or counts.now band 0) lowat) every_band }
+            result ≡ list_any (λ band. is_wanted (marks_at self.old.state queue).wanted band && nat_le (count_of (tally_at self.old queue) band) lowat) every_band }
     {
-        let Queue { spec, wanted, .. } = &mut self.queues[usize::from(queue)];
-        wanted.remove_at_most(counts, spec.lowat)
+        let Queue {
+            spec,
+            tally,
+            wanted,
+            ..
+        } = &mut self.queues[usize::from(queue)];
+        wanted.remove_at_most(tally.counts(), spec.lowat)
     }
 }

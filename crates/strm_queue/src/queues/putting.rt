@@ -1,35 +1,14 @@
 //! Messages are put on queues.
-ghost use Rattle.std.specs.Prelude.{◌≡◌, ◌<◌, IsTrue, length};
-ghost use Rattle.std.specs.Option.{ForSome};
-ghost use Rattle.strm_mblk.specs.Arena.{has, message_at, shelf_at, with_shelf, without_held};
-ghost use Rattle.strm_mblk.specs.Block.{head_of};
+ghost use Rattle.std.specs.Prelude.{◌≡◌, IsTrue};
+ghost use Rattle.strm_mblk.specs.Arena.{has};
 ghost use Rattle.strm_mblk.specs.Given.{value_after, answer_of, or_rejected};
-ghost use Rattle.strm_mblk.specs.Messages.{put_before_head};
-ghost use Rattle.strm_mblk.specs.Shelves.{stands_on};
 ghost use Rattle.strm_queue.specs.QueueCalls as model;
 ghost use Rattle.strm_queue.specs.QueuedBlocks.{Agrees, together};
-ghost use Rattle.strm_queue.specs.Rank.{as_queued};
 
 use super::Queues;
 use super::places::{fits_before, head_at, held_rank, place_ahead, place_behind};
 use strm_data::Refusal;
-use strm_mblk::{BlockNo, Blocks, Rejected, Token};
-
-// Puts a message on a shelf, before one that stands there, or last. The first block of a high priority one gets band 0.
-// A shelf has fewer messages than there are message blocks.
-fn shelve(blocks: &mut Blocks, queue: u8, before: Option<BlockNo>, token: Token)
-    requires had { IsTrue (has blocks.old token) }
-    requires queue { queue < length blocks.old.shelves }
-    requires before { ForSome before (λ head. IsTrue (stands_on blocks.old queue head)) }
-    ensures after { blocks.new ≡ with_shelf queue (put_before_head head_of before (as_queued blocks.old.store (message_at blocks.old token.head)) (shelf_at blocks.old queue)) (without_held token.head blocks.old) }
-    ensures few { length (shelf_at blocks.old queue) < 4096 }
-{
-    blocks.lawful();
-    if held_rank(blocks, &token) == 256 {
-        blocks.setband(&token, 0);
-    }
-    blocks.shelve(queue, before, token);
-}
+use strm_mblk::{Blocks, Rejected, Token};
 
 impl Queues {
     /// Puts a message on a queue, behind the last one of rank at least its own. A high priority message ranks above all
@@ -47,11 +26,9 @@ impl Queues {
             let why = Refusal::NoSuchQueue;
             return Err(Rejected { why, token });
         }
-        let len = self.len(queue);
         let rank = held_rank(blocks, &token);
-        let before = place_behind(blocks, queue, len, rank);
-        shelve(blocks, queue, before, token);
-        self.set_len(queue, len + 1);
+        let before = place_behind(blocks, queue, self.len(queue), rank);
+        self.shelve(blocks, queue, before, token);
         self.enable_where(self.enables_put(queue, rank), queue);
         Ok(())
     }
@@ -71,11 +48,9 @@ impl Queues {
             let why = Refusal::NoSuchQueue;
             return Err(Rejected { why, token });
         }
-        let len = self.len(queue);
         let rank = held_rank(blocks, &token);
-        let before = place_ahead(blocks, queue, len, rank);
-        shelve(blocks, queue, before, token);
-        self.set_len(queue, len + 1);
+        let before = place_ahead(blocks, queue, self.len(queue), rank);
+        self.shelve(blocks, queue, before, token);
         self.enable_where(self.enables_put_back(queue, rank), queue);
         Ok(())
     }
@@ -103,8 +78,7 @@ impl Queues {
             let why = Refusal::NoSuchQueue;
             return Err(Rejected { why, token });
         }
-        let len = self.len(queue);
-        if place > len {
+        if place > self.len(queue) {
             let why = Refusal::NoSuchPlace;
             return Err(Rejected { why, token });
         }
@@ -113,8 +87,7 @@ impl Queues {
             let why = Refusal::BadOrder;
             return Err(Rejected { why, token });
         }
-        shelve(blocks, queue, before, token);
-        self.set_len(queue, len + 1);
+        self.shelve(blocks, queue, before, token);
         self.enable_where(self.enables_inserted(queue), queue);
         Ok(())
     }

@@ -1,32 +1,29 @@
-use Rattle.std.proofs.Common.{◌∙◌, sym, ap, true, false}
+use Rattle.std.proofs.Common.{◌∙◌, sym, ap, subst, true, false}
 use Rattle.strm_queue.specs.QueueCalls.{waker_enabled}
-use Rattle.strm_queue.specs.QueuedBlocks.{QueuesValue, together}
-use Rattle.strm_queue.proofs.Settling.{settled_agrees, settled_by, settled_none}
+use Rattle.strm_queue.specs.QueuedBlocks.{Agrees, QueuesValue, together}
+use Rattle.strm_queue.proofs.Settling.{alone, settled_agrees, settled_by}
 use Rattle.strm_queue.proofs.queues.Queues.settle.Goals as goal
 
-pub returns-then-not-is_any_wanted-clause-state : goal.returns-then-not-is_any_wanted-clause-state
-returns-then-not-is_any_wanted-clause-state c = settled_none c.args.self.now c.args.blocks.now c.args.queue c.marks_bands.ensures (sym c.is_any_wanted.ensures ∙ c.if-not-is_any_wanted.true)
-
 pub returns-then-relieve-clause-state : goal.returns-then-relieve-clause-state
-returns-then-relieve-clause-state c =
-    ap (λ (w : QueuesValue). together w c.args.blocks.now) (c.enable_waker.ensures ∙ ap (λ (w : QueuesValue). record w { state = waker_enabled c.args.queue w.state }) c.relieve.ensures.marks)
-    ∙ settled_by c.args.self.now c.args.blocks.now c.args.queue c.band_counts-counts.result c.band_counts-counts.ensures.counts true (sym c.if-relieve.true ∙ c.relieve.ensures.some)
+returns-then-relieve-clause-state c arena in_order =
+    ap (λ (w : QueuesValue). together w arena) (c.enable_waker.ensures ∙ ap (λ (w : QueuesValue). record w { state = waker_enabled c.args.queue w.state }) c.relieve.ensures.marks)
+    ∙ settled_by c.args.self.now arena c.args.queue in_order c.requires.queue true (sym c.if-relieve.true ∙ c.relieve.ensures.some)
 
 pub returns-then-relieve-clause-agrees : goal.returns-then-relieve-clause-agrees
-returns-then-relieve-clause-agrees c =
-    settled_agrees c.args.self.now c.args.blocks.now c.args.queue c.requires.marks c.enable_waker.new.self c.requires.in_order
-    (ap (λ (w : QueuesValue). together w c.args.blocks.now) (c.enable_waker.ensures ∙ ap (λ (w : QueuesValue). record w { state = waker_enabled c.args.queue w.state }) c.relieve.ensures.marks)
-    ∙ settled_by c.args.self.now c.args.blocks.now c.args.queue c.band_counts-counts.result c.band_counts-counts.ensures.counts true (sym c.if-relieve.true ∙ c.relieve.ensures.some))
-    (ap (λ (w : QueuesValue). w.tallies) (c.enable_waker.ensures ∙ ap (λ (w : QueuesValue). record w { state = waker_enabled c.args.queue w.state }) c.relieve.ensures.marks))
+returns-then-relieve-clause-agrees c arena in_order others =
+    subst (λ w. Agrees w arena) (sym (alone c.args.self.now c.enable_waker.new.self (c.enable_waker.ensures ∙ ap (λ (w : QueuesValue). record w { state = waker_enabled c.args.queue w.state }) c.relieve.ensures.marks)))
+    (settled_agrees c.args.self.now arena c.args.queue others c.enable_waker.new.self.state in_order
+    (ap (λ (w : QueuesValue). together w arena) (c.enable_waker.ensures ∙ ap (λ (w : QueuesValue). record w { state = waker_enabled c.args.queue w.state }) c.relieve.ensures.marks)
+    ∙ settled_by c.args.self.now arena c.args.queue in_order c.requires.queue true (sym c.if-relieve.true ∙ c.relieve.ensures.some)))
 
 pub returns-else-relieve-clause-state : goal.returns-else-relieve-clause-state
-returns-else-relieve-clause-state c =
-    ap (λ (w : QueuesValue). together w c.args.blocks.now) c.relieve.ensures.marks
-    ∙ settled_by c.args.self.now c.args.blocks.now c.args.queue c.band_counts-counts.result c.band_counts-counts.ensures.counts false (sym c.if-relieve.false ∙ c.relieve.ensures.some)
+returns-else-relieve-clause-state c arena in_order =
+    ap (λ (w : QueuesValue). together w arena) c.relieve.ensures.marks
+    ∙ settled_by c.args.self.now arena c.args.queue in_order c.requires.queue false (sym c.if-relieve.false ∙ c.relieve.ensures.some)
 
 pub returns-else-relieve-clause-agrees : goal.returns-else-relieve-clause-agrees
-returns-else-relieve-clause-agrees c =
-    settled_agrees c.args.self.now c.args.blocks.now c.args.queue c.requires.marks c.relieve.new.self c.requires.in_order
-    (ap (λ (w : QueuesValue). together w c.args.blocks.now) c.relieve.ensures.marks
-    ∙ settled_by c.args.self.now c.args.blocks.now c.args.queue c.band_counts-counts.result c.band_counts-counts.ensures.counts false (sym c.if-relieve.false ∙ c.relieve.ensures.some))
-    (ap (λ (w : QueuesValue). w.tallies) c.relieve.ensures.marks)
+returns-else-relieve-clause-agrees c arena in_order others =
+    subst (λ w. Agrees w arena) (sym (alone c.args.self.now c.relieve.new.self c.relieve.ensures.marks))
+    (settled_agrees c.args.self.now arena c.args.queue others c.relieve.new.self.state in_order
+    (ap (λ (w : QueuesValue). together w arena) c.relieve.ensures.marks
+    ∙ settled_by c.args.self.now arena c.args.queue in_order c.requires.queue false (sym c.if-relieve.false ∙ c.relieve.ensures.some)))

@@ -1,7 +1,0 @@
-use Rattle.strm_queue.specs.Flush.{is_picked}
-use Rattle.strm_queue.proofs.Flushing.{IsFlushing}
-use Rattle.strm_queue.proofs.queues.flushing.flush_shelf.Given as goal
-
--- so many messages were passed
-abbrev pub invariant-loop-message : goal.invariant-loop-message
-invariant-loop-message l = IsFlushing (is_picked l.fn.blocks.store l.fn.band l.fn.flush) l.fn.blocks l.queue l._message l.at l.left l.blocks

@@ -1,0 +1,64 @@
+//! Messages join a queue and leave it, and what is stored of the queue stays true.
+ghost use Rattle.std.specs.Prelude.{◌≡◌, ◌<◌, IsTrue, None, length};
+ghost use Rattle.std.specs.Option.{ForSome};
+ghost use Rattle.strm_mblk.specs.Arena.{has, held_at, message_at, shelf_at, token_of, with_shelf, without_held};
+ghost use Rattle.strm_mblk.specs.Block.{head_of};
+ghost use Rattle.strm_mblk.specs.Messages.{put_before_head};
+ghost use Rattle.strm_mblk.specs.Shelves as model;
+ghost use Rattle.strm_mblk.specs.Shelves.{stands_on};
+ghost use Rattle.strm_queue.specs.QueuedBlocks.{AreInOrder};
+ghost use Rattle.strm_queue.specs.Rank.{as_queued, is_ordered, rank_of};
+
+use super::Queues;
+use super::places::{held_rank, queued_rank};
+use strm_mblk::{BlockNo, Blocks, Token};
+
+impl Queues {
+    // Puts a message on a queue, before one that stands there, or last, where ranks do not rise then. The first block of a
+    // high priority one gets band 0. Takes a step for each block of the message.
+    pub(super) fn shelve(
+        &mut self,
+        blocks: &mut Blocks,
+        queue: u8,
+        before: Option<BlockNo>,
+        token: Token,
+    )
+        requires queue { queue < length self.old.state.specs }
+        requires in_order { AreInOrder self.old blocks.old }
+        requires had { IsTrue (has blocks.old token) }
+        requires before { ForSome before (λ head. IsTrue (stands_on blocks.old queue head)) }
+        requires ordered { let m = as_queued blocks.old.store (message_at blocks.old token.head) in
+            IsTrue (is_ordered (rank_of blocks.old.store) (put_before_head head_of before m (shelf_at blocks.old queue))) }
+        ensures after { blocks.new ≡ with_shelf queue (put_before_head head_of before (as_queued blocks.old.store (message_at blocks.old token.head)) (shelf_at blocks.old queue)) (without_held token.head blocks.old) }
+        ensures state { self.new.state ≡ self.old.state }
+        ensures in_order { AreInOrder self.new blocks.new }
+    {
+        let rank = held_rank(blocks, &token);
+        let size = blocks.size(&token);
+        if rank == 256 {
+            blocks.setband(&token, 0);
+        }
+        blocks.shelve(queue, before, token);
+        blocks.lawful();
+        self.join(queue, rank, size);
+    }
+
+    // Takes the message with this head off a queue. Takes a step for each of its blocks.
+    pub(super) fn unshelve(&mut self, blocks: &mut Blocks, queue: u8, head: BlockNo) -> Token
+        requires queue { queue < length self.old.state.specs }
+        requires in_order { AreInOrder self.old blocks.old }
+        requires there { IsTrue (stands_on blocks.old queue head) }
+        ensures after { blocks.new ≡ model.unshelve queue head blocks.old }
+        ensures token { result ≡ token_of blocks.new head }
+        ensures had { IsTrue (has blocks.new result) }
+        ensures unheld { held_at blocks.old head ≡ None }
+        ensures state { self.new.state ≡ self.old.state }
+        ensures in_order { AreInOrder self.new blocks.new }
+    {
+        blocks.lawful();
+        let rank = queued_rank(blocks, head);
+        let size = blocks.head_size(head);
+        self.leave(queue, rank, size);
+        blocks.unshelve(queue, head)
+    }
+}
