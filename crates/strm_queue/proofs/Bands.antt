@@ -1,15 +1,16 @@
 -- Sets of bands: lists of marks, one for each band.
-use Rattle.std.proofs.Common.{◌≡◌, ℕ, suc, zero, ◌+◌, ◌*◌, ◌/◌, ◌%◌, ◌^◌, ◌<◌, ◌≤◌, bit_and, bit_or, w64, Bool, true, false, not, ◌&&◌, ◌||◌, ◌==◌, List, [], ◌∷◌, length, map, get_or, inl, inr, refl, sym, ap, ◌∙◌, arith}
+use Rattle.std.proofs.Common.{◌≡◌, ℕ, suc, zero, ◌+◌, ◌-◌, ◌*◌, ◌/◌, ◌%◌, ◌^◌, ◌<◌, ◌≤◌, bit_and, bit_or, w64, Bool, true, false, not, ◌&&◌, ◌||◌, ◌==◌, List, [], ◌∷◌, length, map, get_or, Option, None, Some, inl, inr, refl, sym, ap, ◌∙◌, arith}
 use Rattle.std.specs.Int.{bit_at, bit_not, trailing_zeros}
-use Rattle.std.specs.Prelude.{if◌then◌else◌, nat_lt, slice_index_or, slice_set}
+use Rattle.std.specs.Prelude.{nat_lt, slice_index_or, slice_set}
 use Rattle.std.specs.List.{list_any, range_with_len}
-use Rattle.std.proofs.lemmas.Bool.{and_right, cases_eq, cases_order, eq-eqb, le-ltb, lt-ltb, ne_eqb, or_parts, or_right}
+use Rattle.std.specs.Option.{IfNone, IfSome, unwrap_or}
+use Rattle.std.proofs.lemmas.Bool.{and_right, cases_eq, cases_lt, cases_order, eq-eqb, le-ltb, lt-ltb, ne_eqb, or_parts, true≢false}
 use Rattle.std.proofs.lemmas.List.{ext_get_or, get_or-map, get_or-set_other, get_or_past, length-map, length-set}
 use Rattle.std.proofs.lemmas.Grind.{get_or-set_at}
 use Rattle.std.proofs.lemmas.List.Folds.{list_any_at, list_any_none}
 use Rattle.std.proofs.lemmas.List.FromFn.{get_or-range_with_len, length-range_with_len}
 use Rattle.std.proofs.lemmas.Nat.Bits.{bit_at-trailing_zeros, bit_at-zero, bit_at_clear_other, bit_at_clear_same, bit_at_set_other, bit_at_set_same}
-use Rattle.strm_queue.specs.BandSets.{is_in}
+use Rattle.strm_queue.specs.BandSets.{IsFirstFrom, IsHighestTo, IsLastTo, IsLowestFrom, is_in}
 use Rattle.strm_queue.specs.Flow.{bands_where, every_band, is_wanted}
 use Rattle.strm_queue.specs.Limits.{bands}
 
@@ -39,8 +40,19 @@ pub length-bands_where : (p : ℕ → Bool) → length (bands_where p) ≡ lengt
 length-bands_where p = length-map every_band p
 
 -- past the last band there is no mark
+pub unmarked_past : (ms : List Bool) → length ms ≡ length every_band → (band : ℕ) → bands ≤ band → is_wanted ms band ≡ false
+unmarked_past ms long band past = get_or_past ms band false (omega (arith, past, long, length-every_band))
+
 pub wanted_past : (p : ℕ → Bool) (band : ℕ) → bands ≤ band → is_wanted (bands_where p) band ≡ false
-wanted_past p band past = get_or_past (bands_where p) band false (omega (arith, past, length-bands_where p, length-every_band))
+wanted_past p = unmarked_past (bands_where p) (length-bands_where p)
+
+-- so one that is marked is a band
+wanted_below : (ms : List Bool) → length ms ≡ length every_band → (band : ℕ) → is_wanted ms band ≡ true → band < bands
+wanted_below ms long band marked =
+    elim (cases_lt band bands) [
+      | inl below ↦ below
+      | inr past ↦ absurd (true≢false (sym marked ∙ unmarked_past ms long band past))
+    ]
 
 -- marks that are those of p, band by band
 pub marks_are : (ms : List Bool) (p : ℕ → Bool) → length ms ≡ length every_band → ((band : ℕ) → band < bands → is_wanted ms band ≡ p band) → ms ≡ bands_where p
@@ -111,7 +123,7 @@ some_same p q same = sym (some_where p) ∙ ap any_in (bands_where-same p q same
 -- ---- bits of words
 
 -- whether the set with these words has a band
-abbrev bit_in : List ℕ → ℕ → Bool
+abbrev pub bit_in : List ℕ → ℕ → Bool
 bit_in words = is_in (record { words = words })
 
 module _ (words : List ℕ) (b word : ℕ) (within : b / 64 < length words) where
@@ -191,16 +203,87 @@ module _ (words : List ℕ) where
       list_any_at (λ mark. mark) (bands_where (bit_in words)) (k * 64 + bit) false (omega (arith, below, length-bands_where (bit_in words), length-every_band))
       (is_wanted_where (bit_in words) (k * 64 + bit) below ∙ (λ i. bit_at (slice_index_or words (word i) 0) (place i) == 1) ∙ ap (λ n. n == 1) lowest.1)
 
+-- ---- the nearest of a set
+
+module _ (words : List ℕ) where
+  -- none of the bands from this one on and before that one is in the set
+  abbrev pub AreNone : ℕ → ℕ → Type 0
+  AreNone from to = (band : ℕ) → from ≤ band → band < to → bit_in words band ≡ false
+
+  -- the band of a bit
+  bit_in-word : (word i : ℕ) → i < 64 → bit_in words (word * 64 + i) ≡ (bit_at (slice_index_or words word 0) i == 1)
+  bit_in-word word i low =
+      let row : (word * 64 + i) / 64 ≡ word = omega (arith, low) in
+      let place : (word * 64 + i) % 64 ≡ i = omega (arith, low) in
+      λ at. bit_at (slice_index_or words (row at) 0) (place at) == 1
+
+  -- bits of a word that are 0
+  none_of_word : (word from to : ℕ) → to ≤ 64 → ((i : ℕ) → from ≤ i → i < to → bit_at (slice_index_or words word 0) i ≡ 0) → AreNone (word * 64 + from) (word * 64 + to)
+  none_of_word word from to low zeros band above below =
+      let is : band ≡ word * 64 + (band - word * 64) = omega (arith, above) in
+      ap (bit_in words) is ∙ bit_in-word word (band - word * 64) (omega (arith, low, below)) ∙ ap (λ n. n == 1) (zeros (band - word * 64) (omega (arith, above)) (omega (arith, above, below)))
+
+  none_over : (from mid to : ℕ) → AreNone from mid → AreNone mid to → AreNone from to
+  none_over from mid to low high band above below =
+      elim (cases_lt band mid) [
+        | inl before ↦ low band above before
+        | inr behind ↦ high band behind below
+      ]
+
+  -- so the marks say
+  pub none_marked : (from to : ℕ) → AreNone from to → (band : ℕ) → from ≤ band → (band < bands → band < to) → is_wanted (bands_where (bit_in words)) band ≡ false
+  none_marked from to none band above below =
+      elim (cases_lt band bands) [
+        | inl low ↦ is_wanted_where (bit_in words) band low ∙ none band above (below low)
+        | inr past ↦ wanted_past (bit_in words) band past
+      ]
+
+  module _ (word : ℕ) (low : word < 4) where
+    -- a bit that is 1
+    marked : (place : ℕ) → place < 64 → bit_at (slice_index_or words word 0) place ≡ 1 → is_wanted (bands_where (bit_in words)) (word * 64 + place) ≡ true
+    marked place within one = is_wanted_where (bit_in words) (word * 64 + place) (omega (arith, low, within)) ∙ bit_in-word word place within ∙ ap (λ n. n == 1) one
+
+    module _ (band from : ℕ) (start : band ≤ word * 64 + from) (none : AreNone band (word * 64 + from)) where
+      -- the words before have none, and this one has it
+      pub first_in : (place : ℕ) → IsLowestFrom (slice_index_or words word 0) from place → IsFirstFrom (bands_where (bit_in words)) band (word * 64 + place)
+      first_in place (above, within, one, zeros) =
+          (omega (arith, start, above), marked place within one, λ x from_band below. none_marked band (word * 64 + place) before x from_band (λ in_range. below))
+        where
+          before : AreNone band (word * 64 + place)
+          before = none_over band (word * 64 + from) (word * 64 + place) none (none_of_word word from place (omega (arith, within)) zeros)
+
+      -- or it has none either
+      pub next_word : ((i : ℕ) → from ≤ i → bit_at (slice_index_or words word 0) i ≡ 0) → AreNone band (word * 64 + 64)
+      next_word zeros = none_over band (word * 64 + from) (word * 64 + 64) none (none_of_word word from 64 (omega arith) (λ i above below. zeros i above))
+
+    module _ (band to : ℕ) (within : to < 64) (end : word * 64 + to ≤ band) (none : AreNone (word * 64 + to + 1) (band + 1)) where
+      -- the words behind have none, and this one has it
+      pub last_in : (place : ℕ) → IsHighestTo (slice_index_or words word 0) to place → IsLastTo (bands_where (bit_in words)) band (word * 64 + place)
+      last_in place (below, one, zeros) =
+          (omega (arith, end, below), marked place (omega (arith, below, within)) one, λ x above to_band. none_marked (word * 64 + (place + 1)) (band + 1) behind x (omega (arith, above)) (λ in_range. omega (arith, to_band)))
+        where
+          behind : AreNone (word * 64 + (place + 1)) (band + 1)
+          behind =
+              none_over (word * 64 + (place + 1)) (word * 64 + (to + 1)) (band + 1) (none_of_word word (place + 1) (to + 1) (omega (arith, within)) (λ i above up_to. zeros i (omega (arith, above)) (omega (arith, up_to))))
+              (λ x above below_end. none x (omega (arith, above)) below_end)
+
+      -- or it has none either
+      pub word_before : ((i : ℕ) → i ≤ to → bit_at (slice_index_or words word 0) i ≡ 0) → AreNone (word * 64) (band + 1)
+      word_before zeros x above below_end =
+          none_over (word * 64 + 0) (word * 64 + (to + 1)) (band + 1) (none_of_word word 0 (to + 1) (omega (arith, within)) (λ i some up_to. zeros i (omega (arith, up_to))))
+          (λ y above_word below. none y (omega (arith, above_word)) below) x (omega (arith, above)) below_end
+
+-- the first marked band from one on, or else the count of bands, is not before it
+pub first_from : (marks : List Bool) (from : ℕ) (first : Option ℕ) → from ≤ bands → IfSome first (IsFirstFrom marks from) → from ≤ unwrap_or first bands
+first_from marks from None low is = low
+first_from marks from (Some first) low is = is.0
+
 -- ---- marks taken out, one band after the other
 
--- `true` and `false` change nothing there
+-- `true` changes nothing there
 and-true : (b : Bool) → (b && true) ≡ b
 and-true true = refl
 and-true false = refl
-
-or-false : (b : Bool) → (b || false) ≡ b
-or-false true = refl
-or-false false = refl
 
 module _ (old : List Bool) (may : ℕ → Bool) where
   -- whether a band leaves: it is marked and may
@@ -215,6 +298,10 @@ module _ (old : List Bool) (may : ℕ → Bool) where
   abbrev pub left_before : ℕ → List Bool
   left_before n = bands_where (λ band. is_wanted old band && not (leaves_before n band))
 
+  -- these are left then, and this says whether one left
+  abbrev pub AreLookedAt : ℕ → List Bool → Bool → Type 0
+  AreLookedAt n now some = (now ≡ left_before n) × (some ≡ list_any (leaves_before n) every_band)
+
   -- a band from this one on is not among them, and one before it is
   none_before : (n band : ℕ) → n ≤ band → leaves_before n band ≡ false
   none_before n band from = ap (λ t. t && leaves band) (le-ltb band n from)
@@ -223,69 +310,81 @@ module _ (old : List Bool) (may : ℕ → Bool) where
   all_before n band below = ap (λ t. t && leaves band) (lt-ltb band n below)
 
   -- at first none was looked at
-  pub left_at_first : length old ≡ length every_band → old ≡ left_before 0
-  left_at_first long = marks_are old _ long (λ band below. sym (ap (λ t. is_wanted old band && not t) (none_before 0 band (omega arith)) ∙ and-true (is_wanted old band)))
-
-  pub some_at_first : false ≡ list_any (leaves_before 0) every_band
-  some_at_first = sym (some_same (leaves_before 0) (λ band. false) (λ band below. none_before 0 band (omega arith)) ∙ list_any_none (λ band. false) every_band (λ k d l. refl))
+  pub looked_at_first : length old ≡ length every_band → AreLookedAt 0 old false
+  looked_at_first long = (
+    marks_are old _ long (λ band below. sym (ap (λ t. is_wanted old band && not t) (none_before 0 band (omega arith)) ∙ and-true (is_wanted old band))),
+    sym (some_same (leaves_before 0) (λ band. false) (λ band below. none_before 0 band (omega arith)) ∙ list_any_none (λ band. false) every_band (λ k d l. refl)),
+  )
 
   -- at last all were
-  pub left_at_last : (n : ℕ) → bands ≤ n → left_before n ≡ bands_where (λ band. is_wanted old band && not (leaves band))
-  left_at_last n all = bands_where-same _ _ (λ band below. ap (λ t. is_wanted old band && not t) (all_before n band (omega (arith, below, all))))
+  pub looked_at_last : (now : List Bool) (some : Bool) → AreLookedAt bands now some
+      → (now ≡ bands_where (λ band. is_wanted old band && not (leaves band))) × (some ≡ list_any leaves every_band)
+  looked_at_last now some (left, are) = (
+    left ∙ bands_where-same _ _ (λ band below. ap (λ t. is_wanted old band && not t) (all_before bands band below)),
+    are ∙ some_same (leaves_before bands) leaves (λ band below. all_before bands band below),
+  )
 
-  pub some_at_last : (n : ℕ) → bands ≤ n → list_any (leaves_before n) every_band ≡ list_any leaves every_band
-  some_at_last n all = some_same (leaves_before n) leaves (λ band below. all_before n band (omega (arith, below, all)))
+  module _ (n : ℕ) (now : List Bool) (some : Bool) (are : AreLookedAt n now some) where
+    -- a band that was not looked at has the mark that it had
+    wanted_still : (band : ℕ) → n ≤ band → band < bands → is_wanted now band ≡ is_wanted old band
+    wanted_still band from low =
+        ap (λ ms. is_wanted ms band) are.0 ∙ is_wanted_where _ band low ∙ ap (λ t. is_wanted old band && not t) (none_before n band from) ∙ and-true (is_wanted old band)
 
-  module _ (n : ℕ) (low : n < bands) where
-    -- the band itself was not looked at
-    wanted_still : is_wanted (left_before n) n ≡ is_wanted old n
-    wanted_still = is_wanted_where _ n low ∙ ap (λ t. is_wanted old n && not t) (none_before n n (omega arith)) ∙ and-true (is_wanted old n)
+    -- none of the bands from this one on and before that one leaves: nothing changes
+    looked_over : (m : ℕ) → n ≤ m → ((band : ℕ) → n ≤ band → band < m → band < bands → leaves band ≡ false) → AreLookedAt m now some
+    looked_over m further stay = (
+      are.0 ∙ bands_where-same _ _ (λ band low. ap (λ t. is_wanted old band && not t) (same band low)),
+      are.1 ∙ some_same (leaves_before n) (leaves_before m) same,
+    )
+      where
+        same : (band : ℕ) → band < bands → leaves_before n band ≡ leaves_before m band
+        same band low =
+            elim (cases_lt band n) [
+              | inl before ↦ all_before n band before ∙ sym (all_before m band (omega (arith, before, further)))
+              | inr from ↦
+                  none_before n band from
+                  ∙ elim (cases_lt band m) [
+                    | inl within ↦ sym (all_before m band within ∙ stay band from within low)
+                    | inr past ↦ sym (none_before m band past)
+                  ]
+            ]
 
-    -- it stays: nothing changes
-    same_if : leaves n ≡ false → (band : ℕ) → leaves_before n band ≡ leaves_before (n + 1) band
-    same_if stays band =
-        elim (cases_order band n) [
-          | inl here ↦ none_before n band (omega (arith, here)) ∙ sym (all_before (n + 1) band (omega (arith, here)) ∙ ap leaves here ∙ stays)
-          | inr (inl below) ↦ all_before n band below ∙ sym (all_before (n + 1) band (omega (arith, below)))
-          | inr (inr above) ↦ none_before n band (omega (arith, above)) ∙ sym (none_before (n + 1) band (omega (arith, above)))
-        ]
+    -- a band that has no mark now and was not looked at does not leave
+    stays : (band : ℕ) → n ≤ band → band < bands → is_wanted now band ≡ false → leaves band ≡ false
+    stays band from low unmarked = ap (λ t. t && may band) (sym (wanted_still band from low) ∙ unmarked)
 
-    -- it leaves: its mark is no more
-    less_if : leaves n ≡ true → (band : ℕ) → (not (band == n) && (is_wanted old band && not (leaves_before n band))) ≡ (is_wanted old band && not (leaves_before (n + 1) band))
-    less_if goes band =
-        elim (cases_order band n) [
-          | inl here ↦
-              ap (λ t. not t && (is_wanted old band && not (leaves_before n band))) (eq-eqb band n here)
-              ∙ sym (ap (λ t. is_wanted old band && not t) (all_before (n + 1) band (omega (arith, here)) ∙ ap leaves here ∙ goes) ∙ and_right (is_wanted old band) false refl)
-          | inr (inl below) ↦
-              ap (λ t. not t && (is_wanted old band && not (leaves_before n band))) (ne_eqb band n (λ here. absurd (omega (arith, here, below))))
-              ∙ ap (λ t. is_wanted old band && not t) (all_before n band below ∙ sym (all_before (n + 1) band (omega (arith, below))))
-          | inr (inr above) ↦
-              ap (λ t. not t && (is_wanted old band && not (leaves_before n band))) (ne_eqb band n (λ here. absurd (omega (arith, here, above))))
-              ∙ ap (λ t. is_wanted old band && not t) (none_before n band (omega (arith, above)) ∙ sym (none_before (n + 1) band (omega (arith, above))))
-        ]
+    -- the next marked one is looked for
+    pub looked_to : (next : Option ℕ) → n ≤ bands → IfSome next (IsFirstFrom now n) → IfNone next ((band : ℕ) → n ≤ band → is_wanted now band ≡ false)
+        → AreLookedAt (unwrap_or next bands) now some × IfSome next (λ band. is_wanted old band ≡ true)
+    looked_to None low found none = (looked_over bands low (λ band from below in_range. stays band from in_range (none band from)), tt)
+    looked_to (Some next) low (from, marked, none) _ =
+        (looked_over next from (λ band above below in_range. stays band above in_range (none band above below)), sym (wanted_still next from (wanted_below now (ap length are.0 ∙ length-bands_where _) next marked)) ∙ marked)
 
-    -- what is left behind it, by whether it leaves
-    left_if : (b : Bool) → leaves n ≡ b → (if b then slice_set (left_before n) n false else left_before n) ≡ left_before (n + 1)
-    left_if true goes = bands_where-unset _ n low ∙ bands_where-same _ _ (λ band below. less_if goes band)
-    left_if false stays = bands_where-same _ _ (λ band below. ap (λ t. is_wanted old band && not t) (same_if stays band))
+    module _ (low : n < bands) (marked : is_wanted old n ≡ true) where
+      -- the band itself stays
+      pub looked_stays : may n ≡ false → AreLookedAt (n + 1) now some
+      looked_stays stays = looked_over (n + 1) (omega arith) (λ band from below in_range. let is : band ≡ n = omega (arith, from, below) in ap leaves is ∙ (λ i. marked i && stays i))
 
-    -- whether one left, by whether it leaves
-    some_if : (b : Bool) → leaves n ≡ b → (list_any (leaves_before n) every_band || b) ≡ list_any (leaves_before (n + 1)) every_band
-    some_if true goes =
-        or_right (list_any (leaves_before n) every_band) true refl
-        ∙ sym (list_any_at (leaves_before (n + 1)) every_band n 0 (omega (arith, low, length-every_band))
-        (ap (leaves_before (n + 1)) (get_or-every_band n low) ∙ all_before (n + 1) n (omega arith) ∙ goes))
-    some_if false stays = or-false (list_any (leaves_before n) every_band) ∙ some_same (leaves_before n) (leaves_before (n + 1)) (λ band below. same_if stays band)
+      -- or it leaves
+      pub looked_leaves : may n ≡ true → AreLookedAt (n + 1) (slice_set now n false) true
+      looked_leaves goes = (
+        ap (λ ms. slice_set ms n false) are.0 ∙ bands_where-unset _ n low ∙ bands_where-same _ _ (λ band below. less band),
+        sym (list_any_at (leaves_before (n + 1)) every_band n 0 (omega (arith, low, length-every_band)) (ap (leaves_before (n + 1)) (get_or-every_band n low) ∙ all_before (n + 1) n (omega arith) ∙ leaves_n)),
+      )
+        where
+          leaves_n : leaves n ≡ true
+          leaves_n = λ i. marked i && goes i
 
-    -- the band is looked at among the marks that are left
-    module _ (now : List Bool) (are : now ≡ left_before n) where
-      -- whether it leaves is seen on them
-      leaves_now : (is_wanted now n && may n) ≡ leaves n
-      leaves_now = ap (λ ms. is_wanted ms n && may n) are ∙ ap (λ t. t && may n) wanted_still
-
-      pub left_next : (if is_wanted now n && may n then slice_set now n false else now) ≡ left_before (n + 1)
-      left_next = (λ i. if leaves_now i then slice_set (are i) n false else are i) ∙ left_if (leaves n) refl
-
-      pub some_next : (some : Bool) → some ≡ list_any (leaves_before n) every_band → (some || (is_wanted now n && may n)) ≡ list_any (leaves_before (n + 1)) every_band
-      some_next some is = (λ i. is i || leaves_now i) ∙ some_if (leaves n) refl
+          less : (band : ℕ) → (not (band == n) && (is_wanted old band && not (leaves_before n band))) ≡ (is_wanted old band && not (leaves_before (n + 1) band))
+          less band =
+              elim (cases_order band n) [
+                | inl here ↦
+                    ap (λ t. not t && (is_wanted old band && not (leaves_before n band))) (eq-eqb band n here)
+                    ∙ sym (ap (λ t. is_wanted old band && not t) (all_before (n + 1) band (omega (arith, here)) ∙ ap leaves here ∙ leaves_n) ∙ and_right (is_wanted old band) false refl)
+                | inr (inl below) ↦
+                    ap (λ t. not t && (is_wanted old band && not (leaves_before n band))) (ne_eqb band n (λ here. absurd (omega (arith, here, below))))
+                    ∙ ap (λ t. is_wanted old band && not t) (all_before n band below ∙ sym (all_before (n + 1) band (omega (arith, below))))
+                | inr (inr above) ↦
+                    ap (λ t. not t && (is_wanted old band && not (leaves_before n band))) (ne_eqb band n (λ here. absurd (omega (arith, here, above))))
+                    ∙ ap (λ t. is_wanted old band && not t) (none_before n band (omega (arith, above)) ∙ sym (none_before (n + 1) band (omega (arith, above))))
+              ]

@@ -8,6 +8,7 @@ pub mod Walks
 pub mod Fits
 pub mod Shelve
 pub mod Lawful
+pub mod Bits
 pub mod Bands
 pub mod Tallies
 pub mod Marks

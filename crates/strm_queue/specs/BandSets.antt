@@ -1,7 +1,7 @@
--- Sets of bands as bits. No public clause cites this module.
-use Rattle.std.specs.Prelude.{ℕ, Bool, ◌==◌, ◌/◌, ◌%◌, List, slice_index_or}
+-- Sets of bands as bits, and which of a set is nearest. No public clause cites this module.
+use Rattle.std.specs.Prelude.{◌≡◌, ℕ, ◌<◌, ◌≤◌, Bool, true, false, ◌==◌, ◌/◌, ◌%◌, List, slice_index_or}
 use Rattle.std.specs.Int.{bit_at}
-use Rattle.strm_queue.specs.Flow.{bands_where}
+use Rattle.strm_queue.specs.Flow.{bands_where, is_wanted}
 use Rattle.strm_queue.specs.declared.band_set.BandSet.TheInside.{Inside}
 
 -- bit b % 64 of word b / 64 says whether band b is in the set
@@ -10,3 +10,19 @@ is_in a band = bit_at (slice_index_or a.words (band / 64) 0) (band % 64) == 1
 
 abbrev pub marks_in : Inside → List Bool
 marks_in a = bands_where (is_in a)
+
+-- found is the smallest marked band from this one on
+abbrev pub IsFirstFrom : List Bool → ℕ → ℕ → Type 0
+IsFirstFrom marks band found = (band ≤ found) × (is_wanted marks found ≡ true) × ((x : ℕ) → band ≤ x → x < found → is_wanted marks x ≡ false)
+
+-- found is the greatest marked band up to this one
+abbrev pub IsLastTo : List Bool → ℕ → ℕ → Type 0
+IsLastTo marks band found = (found ≤ band) × (is_wanted marks found ≡ true) × ((x : ℕ) → found < x → x ≤ band → is_wanted marks x ≡ false)
+
+-- found is the place of the lowest 1 of a word from this place on
+abbrev pub IsLowestFrom : ℕ → ℕ → ℕ → Type 0
+IsLowestFrom word place found = (place ≤ found) × (found < 64) × (bit_at word found ≡ 1) × ((i : ℕ) → place ≤ i → i < found → bit_at word i ≡ 0)
+
+-- found is the place of the highest 1 of a word up to this place
+abbrev pub IsHighestTo : ℕ → ℕ → ℕ → Type 0
+IsHighestTo word place found = (found ≤ place) × (bit_at word found ≡ 1) × ((i : ℕ) → found < i → i ≤ place → bit_at word i ≡ 0)

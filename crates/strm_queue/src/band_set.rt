@@ -1,6 +1,9 @@
 //! Sets of bands.
-ghost use Rattle.std.specs.Prelude.{◌≡◌, Bool, ◌&&◌, true, false, if◌then◌else◌, List, length, not, nat_le, slice_index_or, slice_set};
+ghost use Rattle.std.specs.Prelude.{◌≡◌, ◌+◌, ◌<◌, ◌≤◌, ℕ, Bool, ◌&&◌, true, false, List, length, not, nat_le, slice_index_or, slice_set};
+ghost use Rattle.std.specs.Int.{bit_at};
 ghost use Rattle.std.specs.List.{list_any};
+ghost use Rattle.std.specs.Option.{IfNone, IfSome};
+ghost use Rattle.strm_queue.specs.BandSets.{IsFirstFrom, IsHighestTo, IsLastTo, IsLowestFrom};
 ghost use Rattle.strm_queue.specs.Flow.{bands_where, every_band, is_wanted};
 
 use crate::limits::BANDS;
@@ -61,6 +64,45 @@ impl BandSet {
         }
     }
 
+    // The smallest band of the set from this one on, if there is one.
+    pub(crate) fn at_least(&self, band: u8) -> Option<u8>
+        ensures some { IfSome result (λ found. IsFirstFrom self.now band found) }
+        ensures none { IfNone result ((x : ℕ) → band ≤ x → is_wanted self.now x ≡ false) }
+    {
+        let mut from = band % 64;
+        for word in band / 64..4 {
+            if let Some(place) = lowest_from(self.words[usize::from(word)], from) {
+                return Some(word * 64 + place);
+            }
+            from = 0;
+        }
+        None
+    }
+
+    // The greatest band of the set up to this one, if there is one.
+    pub(crate) fn at_most(&self, band: u8) -> Option<u8>
+        ensures some { IfSome result (λ found. IsLastTo self.now band found) }
+        ensures none { IfNone result ((x : ℕ) → x ≤ band → is_wanted self.now x ≡ false) }
+    {
+        let mut to = band % 64;
+        for word in (0..=band / 64).rev() {
+            if let Some(place) = highest_to(self.words[usize::from(word)], to) {
+                return Some(word * 64 + place);
+            }
+            to = 63;
+        }
+        None
+    }
+
+    // The smallest band of the set above this one, if there is one.
+    fn above(&self, band: u8) -> Option<u8>
+        ensures some { IfSome result (λ found. IsFirstFrom self.now (band + 1) found) }
+        ensures none { IfNone result ((x : ℕ) → band + 1 ≤ x → is_wanted self.now x ≡ false) }
+    {
+        self.lawful();
+        self.at_least(band.checked_add(1)?)
+    }
+
     // Takes out each band with so few bytes. Whether there was one.
     pub(crate) fn remove_at_most(&mut self, counts: &[u32; BANDS], most: u32) -> bool
         ensures left { self.new ≡ bands_where (λ band. is_wanted self.old band && not (is_wanted self.old band && nat_le (slice_index_or counts.now band 0) most)) }
@@ -68,22 +110,15 @@ impl BandSet {
     {
         self.lawful();
         let mut some = false;
-        for band in 0..=u8::MAX {
-            some |= self.remove_one_at_most(band, counts[usize::from(band)], most);
+        let mut next = self.at_least(0);
+        while let Some(band) = next {
+            if counts[usize::from(band)] <= most {
+                self.remove(band);
+                some = true;
+            }
+            next = self.above(band);
         }
         some
-    }
-
-    // Takes out a band if it has so few bytes. Whether it was there and has.
-    fn remove_one_at_most(&mut self, band: u8, count: u32, most: u32) -> bool
-        ensures left { self.new ≡ (if is_wanted self.old band && nat_le count most then slice_set self.old band false else self.old) }
-        ensures one { result ≡ (is_wanted self.old band && nat_le count most) }
-    {
-        let leaves = self.has(band) && count <= most;
-        if leaves {
-            self.remove(band);
-        }
-        leaves
     }
 
     // The law that it has a mark for each band. Does nothing.
@@ -92,4 +127,30 @@ impl BandSet {
     {
         let _ = &self.words;
     }
+}
+
+// The place of the lowest 1 of a word from this place on, if there is one.
+fn lowest_from(word: u64, place: u8) -> Option<u8>
+    requires { place < 64 }
+    ensures some { IfSome result (λ found. IsLowestFrom word place found) }
+    ensures none { IfNone result ((i : ℕ) → place ≤ i → bit_at word i ≡ 0) }
+{
+    let rest = word >> place;
+    if rest == 0 {
+        return None;
+    }
+    Some(place + rest.trailing_zeros() as u8)
+}
+
+// The place of the highest 1 of a word up to this place, if there is one.
+fn highest_to(word: u64, place: u8) -> Option<u8>
+    requires { place < 64 }
+    ensures some { IfSome result (λ found. IsHighestTo word place found) }
+    ensures none { IfNone result ((i : ℕ) → i ≤ place → bit_at word i ≡ 0) }
+{
+    let rest = word << (63 - place);
+    if rest == 0 {
+        return None;
+    }
+    Some(place - rest.leading_zeros() as u8)
 }

@@ -1,36 +1,36 @@
-use Rattle.std.proofs.Common.{◌+◌, ◌<◌, ◌≤◌, ◌∙◌, ◌||◌, ap, arith, rules}
+use Rattle.std.proofs.Common.{◌+◌, ◌<◌, false, arith, rules}
 use Rattle.strm_queue.specs.Limits.{bands}
-use Rattle.strm_queue.proofs.Bands.{left_at_first, left_at_last, left_next, some_at_first, some_at_last, some_next}
+use Rattle.strm_queue.proofs.Bands.{AreLookedAt, first_from, looked_at_first, looked_at_last, looked_leaves, looked_stays, looked_to}
 use Rattle.strm_queue.proofs.band_set.BandSet.remove_at_most.Invariants.{is_at_most}
+use Rattle.strm_queue.proofs.band_set.BandSet.remove_at_most.Goals.{then-counts-from, else-counts-from}
 use Rattle.strm_queue.proofs.band_set.BandSet.remove_at_most.Goals as goal
 
-pub loop-band-init : goal.loop-band-init
-loop-band-init c =
+pub loop-next-init : goal.loop-next-init
+loop-next-init c =
     let may = is_at_most c.args.counts.now c.args.most in
-    (left_at_first c.args.self.now may c.lawful.ensures, some_at_first c.args.self.now may)
+    looked_to c.args.self.now may 0 c.args.self.now false (looked_at_first c.args.self.now may c.lawful.ensures) c.at_least-next.result (omega arith) c.at_least-next.ensures.some c.at_least-next.ensures.none
 
-pub loop-band-preserved : goal.loop-band-preserved
-loop-band-preserved c =
-    let may = is_at_most c.args.counts.now c.args.most in
-    let low : c.loop-band.band < bands = omega (arith, c.loop-band-test.true) in (
-      (rw c.from.ensures at c.remove_one_at_most-some.ensures.left) ∙ left_next c.args.self.now may c.loop-band.band low c.loop-band.self c.loop-band.invariant.0,
-      ap (λ one. c.loop-band.some || one) (rw c.from.ensures at c.remove_one_at_most-some.ensures.one)
-          ∙ some_next c.args.self.now may c.loop-band.band low c.loop-band.self c.loop-band.invariant.0 c.loop-band.some c.loop-band.invariant.1,
-    )
+pub loop-next-smaller : goal.loop-next-smaller
+loop-next-smaller c =
+    let low : c.in-Some.band < bands = search rules in
+    let further = first_from c.if-counts-from.self (c.in-Some.band + 1) c.above-next.result (omega (arith, low)) c.above-next.ensures.some in
+    rw c.in-Some.is (omega (arith, low, further))
 
-pub returns-2-clause-left : goal.returns-2-clause-left
-returns-2-clause-left c =
+pub loop-next-preserved : goal.loop-next-preserved
+loop-next-preserved c =
     let may = is_at_most c.args.counts.now c.args.most in
-    let low : c.loop-band.band < bands = omega (arith, c.loop-band-test.true) in
-    let last : bands ≤ c.loop-band.band + 1 = search rules in
-    (rw c.from.ensures at c.remove_one_at_most-some.ensures.left) ∙ left_next c.args.self.now may c.loop-band.band low c.loop-band.self c.loop-band.invariant.0
-    ∙ left_at_last c.args.self.now may (c.loop-band.band + 1) last
+    let (are, marked) = rw c.in-Some.is at c.loop-next.invariant in
+    let low : c.in-Some.band < bands = search rules in
+    let next : AreLookedAt c.args.self.now may (c.in-Some.band + 1) c.if-counts-from.self c.if-counts-from.some =
+    elim c.if-counts-from.branch [
+      | then-counts-from w ↦ rw (w.self-is, w.some-is, w.remove.ensures) (looked_leaves c.args.self.now may c.in-Some.band c.loop-next.self c.loop-next.some are low marked (search rules))
+      | else-counts-from w ↦ rw (w.self-is, w.some-is) (looked_stays c.args.self.now may c.in-Some.band c.loop-next.self c.loop-next.some are low marked (search rules))
+    ]
+    in
+    looked_to c.args.self.now may (c.in-Some.band + 1) c.if-counts-from.self c.if-counts-from.some next c.above-next.result (omega (arith, low)) c.above-next.ensures.some c.above-next.ensures.none
 
-pub returns-2-clause-some : goal.returns-2-clause-some
-returns-2-clause-some c =
-    let may = is_at_most c.args.counts.now c.args.most in
-    let low : c.loop-band.band < bands = omega (arith, c.loop-band-test.true) in
-    let last : bands ≤ c.loop-band.band + 1 = search rules in
-    ap (λ one. c.loop-band.some || one) (rw c.from.ensures at c.remove_one_at_most-some.ensures.one)
-    ∙ some_next c.args.self.now may c.loop-band.band low c.loop-band.self c.loop-band.invariant.0 c.loop-band.some c.loop-band.invariant.1
-    ∙ some_at_last c.args.self.now may (c.loop-band.band + 1) last
+pub returns-clause-left : goal.returns-clause-left
+returns-clause-left c = (looked_at_last c.args.self.now (is_at_most c.args.counts.now c.args.most) c.loop-next.self c.loop-next.some (rw c.in_default.is at c.loop-next.invariant.0)).0
+
+pub returns-clause-some : goal.returns-clause-some
+returns-clause-some c = (looked_at_last c.args.self.now (is_at_most c.args.counts.now c.args.most) c.loop-next.self c.loop-next.some (rw c.in_default.is at c.loop-next.invariant.0)).1
