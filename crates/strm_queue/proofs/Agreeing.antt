@@ -14,6 +14,7 @@ use Rattle.strm_mblk.specs.Frame.{IsSameData, LeavesOthers}
 use Rattle.strm_mblk.specs.Messages.{blocks_on, put_before_head}
 use Rattle.strm_links.specs.Rows as rows
 use Rattle.strm_queue.specs.declared.queue_spec.QueueSpec.{QueueSpec}
+use Rattle.strm_queue.specs.Ends.{of_rank}
 use Rattle.strm_queue.specs.Flow.{Marks, QueueState, band_count, band_of_rank, bands_where, enabled_where, every_band, is_of_band, is_wanted, marks_at, opening_marks, spec_at, with_read}
 use Rattle.strm_queue.specs.QueuedBlocks.{Agrees, AreInOrder, AreMarksLawful, IsTallyOf, QueuesValue, Tally, no_tally, opening_value, tally_at, with_tally, one_more, one_less}
 use Rattle.strm_queue.specs.Rank.{is_ordered, rank_of}
@@ -179,6 +180,13 @@ count_same s t band (m ∷ ms) same =
     sum_by-cons (λ x. if is_of_band t band x then size_of x else 0) m ms
     ∙ (λ i. (if band_of_rank (rank_of-same s t m parts.0 i) == band then size_of m else 0) + count_same s t band ms parts.1 i)
     ∙ sym (sum_by-cons (λ x. if is_of_band s band x then size_of x else 0) m ms)
+
+-- and so are the messages of a rank
+pub of_rank-same : (s t : DataStore) (r : ℕ) (ms : List Message) → All (IsSameData s t) (flat_map (λ m. m) ms) → of_rank (rank_of t) r ms ≡ of_rank (rank_of s) r ms
+of_rank-same s t r [] same = refl
+of_rank-same s t r (m ∷ ms) same =
+    let parts = All-parts (IsSameData s t) m (flat_map (λ x. x) ms) same in
+    λ i. if rank_of-same s t m parts.0 i == r then m ∷ of_rank-same s t r ms parts.1 i else of_rank-same s t r ms parts.1 i
 
 -- so what is stored stays true
 tally_same : (s t : DataStore) (hiwat : ℕ) (ms : List Message) (tally : Tally) → All (IsSameData s t) (flat_map (λ m. m) ms) → IsTallyOf s hiwat ms tally → IsTallyOf t hiwat ms tally

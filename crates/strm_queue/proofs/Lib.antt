@@ -2,6 +2,8 @@ pub mod Constants
 pub mod Counts
 pub mod Order
 pub mod OnShelf
+pub mod Ends
+pub mod Places
 pub mod Across
 pub mod Ranks
 pub mod Walks

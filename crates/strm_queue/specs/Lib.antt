@@ -1,6 +1,7 @@
 pub mod Limits
 pub mod QueueSpecs
 pub mod Rank
+pub mod Ends
 pub mod Flow
 pub mod Flush
 pub mod BandSets

@@ -18,5 +18,5 @@ pub returns-clause-agrees : goal.returns-clause-agrees
 returns-clause-agrees c =
     c.settle.ensures.agrees c.flush_shelf.new.blocks c.flush_shelf.ensures.in_order
     (λ other away.
-        subst (λ s. AreMarksLawful s c.flush_shelf.new.blocks other) (sym c.flush_shelf.ensures.state)
-        (flushed_marks c.args.self.now c.args.blocks.now c.requires c.args.queue (is_picked c.args.blocks.now.store c.args.band c.args.flush) c.flush_shelf.new.blocks c.flush_shelf.ensures.after other away))
+    subst (λ s. AreMarksLawful s c.flush_shelf.new.blocks other) (sym c.flush_shelf.ensures.state)
+    (flushed_marks c.args.self.now c.args.blocks.now c.requires c.args.queue (is_picked c.args.blocks.now.store c.args.band c.args.flush) c.flush_shelf.new.blocks c.flush_shelf.ensures.after other away))

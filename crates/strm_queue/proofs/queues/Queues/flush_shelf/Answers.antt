@@ -52,24 +52,24 @@ loop-message-preserved c =
     elim c.if-picks.branch [
       | then-picks w ↦ (
         flushing_freed picked c.args.blocks.now c.args.queue low c.loop-message._message c.loop-message.at c.loop-message.blocks c.loop-message.invariant.0 c.in-Some.head c.in-Some.is (c.reads_alike.ensures.apart c.args.queue) c.after-at.result behind
-        (is ∙ w.if-picks.true) c.if-picks.blocks
-        (record {
-          taken = w.unshelve-token.new.blocks;
-          token = w.unshelve-token.result;
-          after = w.unshelve-token.ensures.after;
-          given = w.unshelve-token.ensures.token;
-          had = w.unshelve-token.ensures.had;
-          unheld = w.unshelve-token.ensures.unheld;
-          spent_is = w.blocks-is ∙ w.freemsg.ensures.after;
-        }),
+            (is ∙ w.if-picks.true) c.if-picks.blocks
+            (record {
+              taken = w.unshelve-token.new.blocks;
+              token = w.unshelve-token.result;
+              after = w.unshelve-token.ensures.after;
+              given = w.unshelve-token.ensures.token;
+              had = w.unshelve-token.ensures.had;
+              unheld = w.unshelve-token.ensures.unheld;
+              spent_is = w.blocks-is ∙ w.freemsg.ensures.after;
+            }),
         ap (λ (v : QueuesValue). v.state) w.self-is ∙ w.unshelve-token.ensures.state ∙ c.loop-message.invariant.1,
         subst (λ v. AreInOrder v c.if-picks.blocks) (sym w.self-is)
-        (subst (AreInOrder w.unshelve-token.new.self) (sym w.blocks-is)
-        (in_order_left w.unshelve-token.new.self w.unshelve-token.new.blocks w.freemsg.new.self w.freemsg.ensures.others.shelves w.freemsg.ensures.others.shelved_data w.unshelve-token.ensures.in_order)),
+            (subst (AreInOrder w.unshelve-token.new.self) (sym w.blocks-is)
+            (in_order_left w.unshelve-token.new.self w.unshelve-token.new.blocks w.freemsg.new.self w.freemsg.ensures.others.shelves w.freemsg.ensures.others.shelved_data w.unshelve-token.ensures.in_order)),
       )
       | else-picks w ↦ (
         subst (λ b. IsFlushing picked c.args.blocks.now c.args.queue (c.loop-message._message + 1) c.after-at.result b) (sym w.blocks-is)
-        (flushing_kept picked c.args.blocks.now c.args.queue low c.loop-message._message c.loop-message.at c.loop-message.blocks c.loop-message.invariant.0 c.in-Some.head c.in-Some.is (c.reads_alike.ensures.apart c.args.queue) c.after-at.result behind (is ∙ w.if-picks.false)),
+            (flushing_kept picked c.args.blocks.now c.args.queue low c.loop-message._message c.loop-message.at c.loop-message.blocks c.loop-message.invariant.0 c.in-Some.head c.in-Some.is (c.reads_alike.ensures.apart c.args.queue) c.after-at.result behind (is ∙ w.if-picks.false)),
         ap (λ (v : QueuesValue). v.state) w.self-is ∙ c.loop-message.invariant.1,
         subst (λ v. AreInOrder v c.if-picks.blocks) (sym w.self-is) (subst (AreInOrder c.loop-message.self) (sym w.blocks-is) c.loop-message.invariant.2),
       )

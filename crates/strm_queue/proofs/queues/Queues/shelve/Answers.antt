@@ -49,8 +49,8 @@ join-requires-clause-len c =
     omega (
       arith,
       few_on_shelf c.shelve.new.self c.lawful.ensures.parted c.args.queue 4095
-      (omega (arith, c.requires.queue, c.requires.in_order.shelves, ap (λ (b : Arena). length b.shelves) (after at), length-set c.args.blocks.now.shelves c.args.queue (put_before_head head_of c.args.before (m at) (shelf_at c.args.blocks.now c.args.queue))))
-      (omega (arith, c.lawful.ensures.few, c.lawful.ensures.whole)),
+          (omega (arith, c.requires.queue, c.requires.in_order.shelves, ap (λ (b : Arena). length b.shelves) (after at), length-set c.args.blocks.now.shelves c.args.queue (put_before_head head_of c.args.before (m at) (shelf_at c.args.blocks.now c.args.queue))))
+          (omega (arith, c.lawful.ensures.few, c.lawful.ensures.whole)),
       ap length (here at),
       length-placed c.args.before (m at) (shelf_at c.args.blocks.now c.args.queue),
       (c.requires.in_order.true_of c.args.queue c.requires.queue).len,
