@@ -1,11 +1,9 @@
 -- A wanted mark is set where the band is full, so above the low water mark.
-use Rattle.std.proofs.Common.{◌≡◌, ℕ, zero, suc, ◌<◌, ◌≤◌, true, false, List, [], ◌∷◌, length, set, inl, inr, sym, ap, ◌∙◌, subst, arith, get_or-set_other}
-use Rattle.std.specs.Prelude.{nat_le}
-use Rattle.std.proofs.lemmas.Bool.{cases_eq, false≢true, leb-false, or_parts}
+use Rattle.std.proofs.Common.{◌≡◌, ℕ, ◌<◌, ◌≤◌, true, false, length, set, inl, inr, sym, ap, ◌∙◌, subst, arith, get_or-set_other}
+use Rattle.std.proofs.lemmas.Bool.{cases_eq, false≢true}
 use Rattle.strm_mblk.specs.Arena.{Arena, shelf_at}
-use Rattle.strm_queue.specs.declared.queue_spec.QueueSpec.{QueueSpec}
 use Rattle.strm_queue.specs.Flow.{Marks, QueueState, band_count, is_wanted, marks_at, opening_marks, spec_at, with_wanted}
-use Rattle.strm_queue.specs.QueueSpecs.{are_lawful, marks_meet}
+use Rattle.strm_queue.specs.QueueSpecs.{are_lawful}
 use Rattle.strm_queue.specs.QueuedBlocks.{Agrees, AreMarksLawful, QueuesValue}
 use Rattle.strm_queue.proofs.Lawful.{marks_below}
 use Rattle.strm_queue.proofs.Settling.{new_marks, set_or}

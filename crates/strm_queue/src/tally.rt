@@ -1,5 +1,5 @@
 //! What is stored of a queue's messages.
-ghost use Rattle.std.specs.Prelude.{◌≡◌, ◌+◌, ◌<◌, ◌≤◌, ◌^◌, slice_set, sum};
+ghost use Rattle.std.specs.Prelude.{◌≡◌, ◌+◌, ◌<◌, ◌≤◌, ◌^◌, slice_set};
 ghost use Rattle.strm_queue.specs.Flow.{is_wanted};
 ghost use Rattle.strm_queue.specs.QueuedBlocks.{count_of, no_tally, one_less, one_more, with_count};
 
@@ -61,18 +61,6 @@ impl Tally {
         ensures { result ≡ is_wanted self.now.full band }
     {
         self.full.has(band)
-    }
-
-    // How many bytes all bands have.
-    pub(crate) fn bytes(&self) -> u32
-        requires { sum self.now.counts < 2 ^ 32 }
-        ensures { result ≡ sum self.now.counts }
-    {
-        let mut bytes = 0;
-        for count in &self.counts {
-            bytes += count;
-        }
-        bytes
     }
 
     // A message of a band has joined, with so many bytes.

@@ -1,5 +1,5 @@
 //! How many messages a queue has, and the bytes of these, by band.
-ghost use Rattle.std.specs.Prelude.{◌≡◌, ◌<◌, ◌∷◌, ◌++◌, ℕ, IsSome, List, length, nat_le};
+ghost use Rattle.std.specs.Prelude.{◌≡◌, ◌<◌, ◌∷◌, ◌++◌, ◌^◌, ℕ, IsSome, List, length, nat_le, sum};
 ghost use Rattle.strm_mblk.specs.Arena.{Arena, shelf_at};
 ghost use Rattle.strm_mblk.specs.Block.{Message, head_of};
 ghost use Rattle.strm_mblk.specs.Shelves.{shelf_of};
@@ -9,6 +9,7 @@ ghost use Rattle.strm_queue.specs.Rank.{rank_of};
 
 use super::Queues;
 use super::places::queued_rank;
+use crate::limits::BANDS;
 use strm_mblk::{BlockNo, Blocks};
 
 // The band that a message of this rank counts with: high priority counts with band 0.
@@ -25,6 +26,18 @@ pub(super) fn counted_band(blocks: &Blocks, head: BlockNo) -> u8
         → result ≡ band_of_rank (rank_of blocks.now.store m) }
 {
     band_of(queued_rank(blocks, head))
+}
+
+// The bytes of all bands.
+fn sum_of(counts: &[u32; BANDS]) -> u32
+    requires { sum counts.now < 2 ^ 32 }
+    ensures { result ≡ sum counts.now }
+{
+    let mut bytes = 0;
+    for count in counts {
+        bytes += count;
+    }
+    bytes
 }
 
 impl Queues {
@@ -60,6 +73,6 @@ impl Queues {
         ensures { result ≡ bytes_on (shelf_at blocks.now queue) }
     {
         blocks.lawful();
-        self.tally(queue).bytes()
+        sum_of(self.tally(queue).counts())
     }
 }
