@@ -1,6 +1,6 @@
 -- When queues and message blocks agree, and how calls keep it.
 use Rattle.std.proofs.Common.{◌≡◌, ℕ, zero, suc, Bool, ◌+◌, ◌<◌, ◌≤◌, ◌≢◌, true, false, ◌&&◌, ◌==◌, List, [], ◌∷◌, ◌++◌, length, map, get_or, set, replicate, Option, refl, sym, ap, ◌∙◌, subst, inl, inr, arith, if◌then◌else◌, length-set, length-append, get_or-set_same, get_or-set_other}
-use Rattle.std.specs.Prelude.{nat_le, not}
+use Rattle.std.specs.Prelude.{nat_le, not, is_some}
 use Rattle.std.specs.List.{All, flat_map, list_all}
 use Rattle.std.proofs.lemmas.Bool.{cases_eq, false≢true}
 use Rattle.std.proofs.lemmas.List.{get_or_append_left, get_or-append-add, length-map, length-replicate}
@@ -16,14 +16,18 @@ use Rattle.strm_links.specs.Rows as rows
 use Rattle.strm_queue.specs.declared.queue_spec.QueueSpec.{QueueSpec}
 use Rattle.strm_queue.specs.Ends.{of_rank}
 use Rattle.strm_queue.specs.Flow.{Marks, QueueState, band_count, band_of_rank, bands_where, enabled_where, every_band, is_of_band, is_wanted, marks_at, opening_marks, spec_at, with_read}
-use Rattle.strm_queue.specs.QueuedBlocks.{Agrees, AreInOrder, AreMarksLawful, IsTallyOf, QueuesValue, Tally, no_tally, opening_value, tally_at, with_tally, one_more, one_less}
+use Rattle.strm_queue.specs.QueuedBlocks.{Agrees, AreInOrder, AreMarksLawful, QueuesValue, opening_value, tally_at, with_tally}
+use Rattle.strm_queue.specs.Tallies.{IsTallyOf, Tally, no_tally, one_less, one_more}
 use Rattle.strm_queue.specs.Rank.{is_ordered, rank_of}
 use Rattle.strm_queue.proofs.Counts.{band_count-placed}
 use Rattle.strm_queue.proofs.Marks.{agrees_state}
 use Rattle.strm_queue.proofs.Order.{ordered_without}
 use Rattle.strm_queue.specs.QueueSpecs.{are_lawful}
 use Rattle.strm_queue.proofs.Lawful.{marks_below}
-use Rattle.strm_queue.proofs.Tallies.{tally_joined, tally_left, tally_none}
+use Rattle.strm_queue.proofs.Tallies.{tally_joined, tally_left, tally_none, IsPlaced}
+use Rattle.strm_queue.specs.declared.tally.Placed.{Placed}
+use Rattle.strm_queue.proofs.OnShelf.{heads}
+use Rattle.strm_links.specs.Rows.{IsApart}
 
 -- queue q has other messages, and what is stored of it is other
 module _ (v : QueuesValue) (a : Arena) (in_order : AreInOrder v a) (q : ℕ) (within : q < length v.state.specs) (ms : List Message) (t : Tally)
@@ -73,20 +77,19 @@ module _ (v : QueuesValue) (a : Arena) (in_order : AreInOrder v a) (q : ℕ) (wi
   abbrev hiwat : ℕ
   hiwat = (spec_at v.state.specs q).hiwat
 
-  -- a message joins where it keeps the order
-  pub in_order_put : (before : Option ℕ) → b.shelves ≡ set a.shelves q (put_before_head head_of before m (shelf_at a q)) → is_ordered (rank_of a.store) (put_before_head head_of before m (shelf_at a q)) ≡ true
-      → AreInOrder (with_tally q (one_more hiwat (band_of_rank (rank_of a.store m)) (size_of m) (tally_at v q)) v) b
-  in_order_put before shelves ordered =
-      in_order_set v a in_order q within (put_before_head head_of before m (shelf_at a q)) (one_more hiwat (band_of_rank (rank_of a.store m)) (size_of m) (tally_at v q)) b store shelves ordered
-      (tally_joined a.store m hiwat (tally_at v q) before (shelf_at a q) (in_order.true_of q within))
+  module _ (pre post : List Message) (p : Placed) (placed : IsPlaced a.store pre post m p) (apart : IsApart (heads (pre ++ m ∷ post))) where
+    -- a message joins where it keeps the order
+    pub in_order_put : shelf_at a q ≡ pre ++ post → b.shelves ≡ set a.shelves q (pre ++ m ∷ post) → is_ordered (rank_of a.store) (pre ++ m ∷ post) ≡ true → AreInOrder (with_tally q (one_more hiwat p (tally_at v q)) v) b
+    in_order_put is shelves ordered =
+        in_order_set v a in_order q within (pre ++ m ∷ post) (one_more hiwat p (tally_at v q)) b store shelves ordered
+        (tally_joined a.store m hiwat (tally_at v q) pre post p placed (subst (λ ms. IsTallyOf a.store hiwat ms (tally_at v q)) is (in_order.true_of q within)) ordered apart)
 
-  -- a message leaves
-  module _ (pre post : List Message) (is : shelf_at a q ≡ pre ++ m ∷ post) (shelves : b.shelves ≡ set a.shelves q (pre ++ post)) where
-    pub in_order_got : AreInOrder (with_tally q (one_less hiwat (band_of_rank (rank_of a.store m)) (size_of m) (tally_at v q)) v) b
-    in_order_got =
-        in_order_set v a in_order q within (pre ++ post) (one_less hiwat (band_of_rank (rank_of a.store m)) (size_of m) (tally_at v q)) b store shelves
-        (ordered_without (rank_of a.store) pre post m (subst (λ ms. is_ordered (rank_of a.store) ms ≡ true) is (in_order.ordered q)))
-        (tally_left a.store m hiwat (tally_at v q) pre post (subst (λ ms. IsTallyOf a.store hiwat ms (tally_at v q)) is (in_order.true_of q within)))
+    -- a message leaves
+    pub in_order_got : shelf_at a q ≡ pre ++ m ∷ post → b.shelves ≡ set a.shelves q (pre ++ post) → AreInOrder (with_tally q (one_less hiwat p (tally_at v q)) v) b
+    in_order_got is shelves =
+        let ordered = subst (λ ms. is_ordered (rank_of a.store) ms ≡ true) is (in_order.ordered q) in
+        in_order_set v a in_order q within (pre ++ post) (one_less hiwat p (tally_at v q)) b store shelves (ordered_without (rank_of a.store) pre post m ordered)
+        (tally_left a.store m hiwat (tally_at v q) pre post p placed (subst (λ ms. IsTallyOf a.store hiwat ms (tally_at v q)) is (in_order.true_of q within)) ordered apart)
 
 -- the marks of all queues stay lawful where a message joins one
 pub marks_put : (v : QueuesValue) (a : Arena) (agrees : Agrees v a) (q : ℕ) (within : q < length v.state.specs) (before : Option ℕ) (m : Message) (b : Arena) → b.store ≡ a.store
@@ -182,7 +185,7 @@ count_same s t band (m ∷ ms) same =
     ∙ sym (sum_by-cons (λ x. if is_of_band s band x then size_of x else 0) m ms)
 
 -- and so are the messages of a rank
-pub of_rank-same : (s t : DataStore) (r : ℕ) (ms : List Message) → All (IsSameData s t) (flat_map (λ m. m) ms) → of_rank (rank_of t) r ms ≡ of_rank (rank_of s) r ms
+of_rank-same : (s t : DataStore) (r : ℕ) (ms : List Message) → All (IsSameData s t) (flat_map (λ m. m) ms) → of_rank (rank_of t) r ms ≡ of_rank (rank_of s) r ms
 of_rank-same s t r [] same = refl
 of_rank-same s t r (m ∷ ms) same =
     let parts = All-parts (IsSameData s t) m (flat_map (λ x. x) ms) same in
@@ -196,6 +199,14 @@ tally_same s t hiwat ms tally same is = record {
   each_mark = is.each_mark;
   counts = λ band below. is.counts band below ∙ sym (count_same s t band ms same);
   full = λ band below. is.full band below ∙ ap (nat_le hiwat) (sym (count_same s t band ms same));
+  ends = record {
+    each_first = is.ends.each_first;
+    each_last = is.ends.each_last;
+    each_used = is.ends.each_used;
+    firsts = λ r. is.ends.firsts r ∙ ap (λ xs. rows.first (heads xs)) (sym (of_rank-same s t r ms same));
+    lasts = λ r. is.ends.lasts r ∙ ap (λ xs. rows.last (heads xs)) (sym (of_rank-same s t r ms same));
+    used = λ r below. is.ends.used r below ∙ ap (λ xs. is_some (rows.first (heads xs))) (sym (of_rank-same s t r ms same));
+  };
 }
 
 -- a call that leaves the shelves and what stands there keeps the agreement

@@ -1,6 +1,6 @@
 -- The first and the last message of a rank among messages in order, and what they are once a message has joined or left.
 use Rattle.std.proofs.Common.{◌≡◌, ◌≢◌, ◌⊎◌, ℕ, ◌<◌, Bool, true, false, ◌==◌, List, [], ◌∷◌, ◌++◌, Option, Some, None, refl, sym, ap, ◌∙◌, subst, inl, inr, arith}
-use Rattle.std.specs.Prelude.{nat_le, cond}
+use Rattle.std.specs.Prelude.{nat_le, cond, if◌then◌else◌}
 use Rattle.std.specs.List.{list_all}
 use Rattle.std.specs.Option.{option_or}
 use Rattle.std.proofs.lemmas.Bool.{and_parts, and_from, cases_Bool, cases_eq, cond-true, cond-false, eq-eqb, false≢true, leb-true, lt-leb, ne_eqb}
@@ -8,11 +8,12 @@ use Rattle.std.proofs.lemmas.List.{append-nil, append_assoc, map-append}
 use Rattle.std.proofs.lemmas.List.Elements.{filter-append}
 use Rattle.std.proofs.lemmas.List.Folds.{list_all-append}
 use Rattle.std.proofs.lemmas.Option.{none-some, same_Some}
-use Rattle.strm_links.specs.Rows.{IsApart, first, has, last, last_or}
+use Rattle.strm_links.specs.Rows.{IsApart, first, has, is_some_of, last, last_or}
 use Rattle.strm_links.proofs.OneList.{ApartParts, IsApart-parts, absent_parts, differ, first_has, has_cases, has_head, has_tail, is_some_of-same, last_has, last_or-append}
 use Rattle.strm_mblk.specs.Block.{Message, head_of}
 use Rattle.strm_queue.specs.Ends.{first_of_rank, last_of_rank, of_rank}
 use Rattle.strm_queue.specs.Rank.{is_ordered}
+use Rattle.strm_queue.specs.Tallies.{end_joined, end_left}
 use Rattle.strm_queue.proofs.OnShelf.{first_none, heads, last_none, last_of}
 use Rattle.strm_queue.proofs.Order.{ordered_last}
 
@@ -50,44 +51,45 @@ record IsEnd (n : ℕ) (near far next rest whole : Option ℕ) : Type 0 where
   pub far_is : (far ≡ None) ⊎ (far ≡ next)
   pub apart : (h : ℕ) → near ≡ Some h → (next ≢ Some h) × (n ≢ h)
 
+-- what is not this head
+not_some : (k : ℕ) (o : Option ℕ) → o ≢ Some k → is_some_of k o ≡ false
+not_some k None other = refl
+not_some k (Some x) other = ne_eqb x k (λ same. other (ap Some same))
+
+-- an end beside which a message joins is that message
+joined_beside : (n : ℕ) (next : Option ℕ) → end_joined next next n ≡ Some n
+joined_beside n None = refl
+joined_beside n (Some h) = cond-true _ _ _ (eq-eqb h h refl)
+
 module _ (n : ℕ) (far next rest whole : Option ℕ) where
-  -- where the end was none, or stood beyond, the one that joins is the end
-  joined_new : (near : Option ℕ) → IsEnd n near far next rest whole → (rest ≡ None) ⊎ (rest ≡ next) → whole ≡ Some n
-  joined_new None e was = e.whole_is
-  joined_new (Some h) e was =
-      absurd (elim was [
-        | inl none ↦ none-some h (sym none ∙ e.rest_is)
-        | inr beyond ↦ (e.apart h refl).0 (sym beyond ∙ e.rest_is)
-      ])
+  -- once it has joined
+  joined_is : (near : Option ℕ) → IsEnd n near far next rest whole → end_joined rest next n ≡ whole
+  joined_is None e =
+      ap (λ o. end_joined o next n) e.rest_is
+      ∙ elim e.far_is [ inl none ↦ ap (λ o. end_joined o next n) none | inr beyond ↦ ap (λ o. end_joined o next n) beyond ∙ joined_beside n next ]
+      ∙ sym e.whole_is
+  joined_is (Some h) e = ap (λ o. end_joined o next n) e.rest_is ∙ cond-false _ _ _ (not_some h next (e.apart h refl).0) ∙ sym e.whole_is
 
-  -- else the end stays
-  joined_old : (near : Option ℕ) → IsEnd n near far next rest whole → rest ≢ None → rest ≢ next → whole ≡ rest
-  joined_old None e some near =
-      absurd (elim e.far_is [
-        | inl none ↦ some (e.rest_is ∙ none)
-        | inr beyond ↦ near (e.rest_is ∙ beyond)
-      ])
-  joined_old (Some h) e some near = e.whole_is ∙ sym e.rest_is
-
-  -- where the one that leaves is the end, none stood between
+  -- where it is the end, none stood between
   left_near : (near : Option ℕ) → IsEnd n near far next rest whole → whole ≡ Some n → near ≡ None
   left_near None e here = refl
   left_near (Some h) e here = absurd ((e.apart h refl).1 (same_Some n h (sym here ∙ e.whole_is)))
 
-  -- so the end is that of those beyond, if there is one
-  left_next : (near : Option ℕ) → IsEnd n near far next rest whole → whole ≡ Some n → far ≢ None → rest ≡ next
-  left_next near e here some =
-      e.rest_is ∙ ap (λ o. option_or o far) (left_near near e here)
-      ∙ elim e.far_is [ inl none ↦ absurd (some none) | inr beyond ↦ beyond ]
+  -- once it has left, where the other end is told by what it stands before
+  module _ (other : Option ℕ) where
+    left_alone : (near : Option ℕ) → other ≡ option_or near (Some n) → ((h : ℕ) → near ≡ Some h → n ≢ h) → (far ≡ None → near ≡ None) → (near ≡ None → far ≡ None) → (far ≡ None) ⊎ (far ≡ next)
+        → (if is_some_of n other then None else next) ≡ far
+    left_alone None is apart to from far_is = cond-true _ _ _ (is_some_of-same n other is) ∙ sym (from refl)
+    left_alone (Some h) is apart to from far_is =
+        cond-false _ _ _ (not_some n other (λ same. apart h refl (same_Some n h (sym same ∙ is))))
+        ∙ elim far_is [ inl none ↦ absurd (none-some h (sym (to none))) | inr beyond ↦ sym beyond ]
 
-  -- where it is not, one stood between
-  left_some : (near : Option ℕ) → IsEnd n near far next rest whole → whole ≢ Some n → near ≢ None
-  left_some near e away none = away (e.whole_is ∙ ap (λ o. option_or o (Some n)) none)
-
-  -- and the end stays
-  left_same : (near : Option ℕ) → IsEnd n near far next rest whole → whole ≢ Some n → rest ≡ whole
-  left_same None e away = absurd (away e.whole_is)
-  left_same (Some h) e away = e.rest_is ∙ sym e.whole_is
+    left_is : (near near_other : Option ℕ) → IsEnd n near far next rest whole → other ≡ option_or near_other (Some n) → ((h : ℕ) → near_other ≡ Some h → n ≢ h) → (far ≡ None → near_other ≡ None)
+        → (near_other ≡ None → far ≡ None) → end_left whole other next n ≡ rest
+    left_is None near_other e is apart to from =
+        cond-true _ _ _ (is_some_of-same n whole e.whole_is) ∙ left_alone near_other is apart to from e.far_is ∙ sym e.rest_is
+    left_is (Some h) near_other e is apart to from =
+        cond-false _ _ _ (not_some n whole (λ same. (e.apart h refl).1 (same_Some n h (sym same ∙ e.whole_is)))) ∙ e.whole_is ∙ sym e.rest_is
 
 module _ (rank : Message → ℕ) where
   -- ---- the messages of a rank
@@ -251,46 +253,23 @@ module _ (rank : Message → ℕ) where
 
     -- where it is the first of its rank, there is none ahead, and where it is the last, there is none behind
     pub none_ahead : first_of_rank rank (rank m) (pre ++ m ∷ post) ≡ Some (head_of m) → first_of_rank rank (rank m) pre ≡ None
-    none_ahead = left_near _ _ _ _ _ _ first_end
+    none_ahead = left_near (head_of m) _ _ _ _ _ first_end
 
     pub none_behind : last_of_rank rank (rank m) (pre ++ m ∷ post) ≡ Some (head_of m) → last_of_rank rank (rank m) post ≡ None
-    none_behind = left_near _ _ _ _ _ _ last_end
+    none_behind = left_near (head_of m) _ _ _ _ _ last_end
 
-    -- where there was none of its rank, or the first was the one behind it, it is the first once it joins
-    pub first_joined-new : (first_of_rank rank (rank m) (pre ++ post) ≡ None) ⊎ (first_of_rank rank (rank m) (pre ++ post) ≡ first (heads post)) → first_of_rank rank (rank m) (pre ++ m ∷ post) ≡ Some (head_of m)
-    first_joined-new = joined_new _ _ _ _ _ _ first_end
+    -- the ends of its rank once it has joined
+    pub first_joined : end_joined (first_of_rank rank (rank m) (pre ++ post)) (first (heads post)) (head_of m) ≡ first_of_rank rank (rank m) (pre ++ m ∷ post)
+    first_joined = joined_is (head_of m) _ _ _ _ _ first_end
 
-    -- else the first stays
-    pub first_joined-old : first_of_rank rank (rank m) (pre ++ post) ≢ None → first_of_rank rank (rank m) (pre ++ post) ≢ first (heads post) → first_of_rank rank (rank m) (pre ++ m ∷ post) ≡ first_of_rank rank (rank m) (pre ++ post)
-    first_joined-old = joined_old _ _ _ _ _ _ first_end
+    pub last_joined : end_joined (last_of_rank rank (rank m) (pre ++ post)) (last (heads pre)) (head_of m) ≡ last_of_rank rank (rank m) (pre ++ m ∷ post)
+    last_joined = joined_is (head_of m) _ _ _ _ _ last_end
 
-    -- the same of the last, by the one ahead of it
-    pub last_joined-new : (last_of_rank rank (rank m) (pre ++ post) ≡ None) ⊎ (last_of_rank rank (rank m) (pre ++ post) ≡ last (heads pre)) → last_of_rank rank (rank m) (pre ++ m ∷ post) ≡ Some (head_of m)
-    last_joined-new = joined_new _ _ _ _ _ _ last_end
+    -- and once it has left
+    pub first_left : end_left (first_of_rank rank (rank m) (pre ++ m ∷ post)) (last_of_rank rank (rank m) (pre ++ m ∷ post)) (first (heads post)) (head_of m) ≡ first_of_rank rank (rank m) (pre ++ post)
+    first_left =
+        left_is (head_of m) _ _ _ _ _ _ _ first_end last_end.whole_is (λ h near. (last_end.apart h near).1) (last_of_rank-none (rank m) post) (first_of_rank-none (rank m) post)
 
-    pub last_joined-old : last_of_rank rank (rank m) (pre ++ post) ≢ None → last_of_rank rank (rank m) (pre ++ post) ≢ last (heads pre) → last_of_rank rank (rank m) (pre ++ m ∷ post) ≡ last_of_rank rank (rank m) (pre ++ post)
-    last_joined-old = joined_old _ _ _ _ _ _ last_end
-
-    -- where it is both the first and the last, none of its rank is left
-    pub of_rank-left_none : first_of_rank rank (rank m) (pre ++ m ∷ post) ≡ Some (head_of m) → last_of_rank rank (rank m) (pre ++ m ∷ post) ≡ Some (head_of m) → of_rank rank (rank m) (pre ++ post) ≡ []
-    of_rank-left_none is_first is_last =
-        of_rank-append (rank m) pre post
-        ∙ ap (λ ms. ms ++ of_rank rank (rank m) post) (first_none (of_rank rank (rank m) pre) (none_ahead is_first))
-        ∙ last_none (of_rank rank (rank m) post) (none_behind is_last)
-
-    -- where it is the first alone, the one behind it is the first once it has left
-    pub first_left-next : first_of_rank rank (rank m) (pre ++ m ∷ post) ≡ Some (head_of m) → last_of_rank rank (rank m) (pre ++ m ∷ post) ≢ Some (head_of m) → first_of_rank rank (rank m) (pre ++ post) ≡ first (heads post)
-    first_left-next is_first not_last =
-        left_next _ _ _ _ _ _ first_end is_first (λ none. left_some _ _ _ _ _ _ last_end not_last (last_of_rank-none (rank m) post none))
-
-    -- where it is not the first, the first stays
-    pub first_left-same : first_of_rank rank (rank m) (pre ++ m ∷ post) ≢ Some (head_of m) → first_of_rank rank (rank m) (pre ++ post) ≡ first_of_rank rank (rank m) (pre ++ m ∷ post)
-    first_left-same = left_same _ _ _ _ _ _ first_end
-
-    -- the same of the last, by the one ahead of it
-    pub last_left-next : last_of_rank rank (rank m) (pre ++ m ∷ post) ≡ Some (head_of m) → first_of_rank rank (rank m) (pre ++ m ∷ post) ≢ Some (head_of m) → last_of_rank rank (rank m) (pre ++ post) ≡ last (heads pre)
-    last_left-next is_last not_first =
-        left_next _ _ _ _ _ _ last_end is_last (λ none. left_some _ _ _ _ _ _ first_end not_first (first_of_rank-none (rank m) pre none))
-
-    pub last_left-same : last_of_rank rank (rank m) (pre ++ m ∷ post) ≢ Some (head_of m) → last_of_rank rank (rank m) (pre ++ post) ≡ last_of_rank rank (rank m) (pre ++ m ∷ post)
-    last_left-same = left_same _ _ _ _ _ _ last_end
+    pub last_left : end_left (last_of_rank rank (rank m) (pre ++ m ∷ post)) (first_of_rank rank (rank m) (pre ++ m ∷ post)) (last (heads pre)) (head_of m) ≡ last_of_rank rank (rank m) (pre ++ post)
+    last_left =
+        left_is (head_of m) _ _ _ _ _ _ _ last_end first_end.whole_is (λ h near. (first_end.apart h near).1) (first_of_rank-none (rank m) pre) (last_of_rank-none (rank m) pre)

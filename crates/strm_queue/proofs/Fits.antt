@@ -41,7 +41,7 @@ module _ (a : Arena) (parted : IsParted a) (q : ℕ) (o : Option ℕ) (pre post 
       ∙ before-head pre found.post found.at (subst (λ ms. IsApart (heads ms)) here (heads_apart a parted q))
 
   module _ (m : Message) where
-    placed_here : put_before_head head_of o m (shelf_at a q) ≡ pre ++ m ∷ post
+    pub placed_here : put_before_head head_of o m (shelf_at a q) ≡ pre ++ m ∷ post
     placed_here =
         (λ i. put_before_head head_of (at i) m (is i)) ∙ placed-between m pre post (subst (λ ms. IsApart (heads ms)) is (heads_apart a parted q))
 

@@ -6,7 +6,6 @@ pub mod Ends
 pub mod Places
 pub mod Across
 pub mod Ranks
-pub mod Walks
 pub mod Fits
 pub mod Shelve
 pub mod Lawful

@@ -2,7 +2,8 @@
 use Rattle.std.proofs.Common.{◌≡◌, ℕ, ◌<◌, true, length, sym, ap, ◌∙◌, subst, arith}
 use Rattle.strm_mblk.specs.Arena.{Arena, shelf_at}
 use Rattle.strm_queue.specs.Flow.{QueueState, band_count, is_wanted, marks_at, spec_at}
-use Rattle.strm_queue.specs.QueuedBlocks.{Agrees, AreInOrder, QueuesValue, IsTallyOf, tally_at}
+use Rattle.strm_queue.specs.QueuedBlocks.{Agrees, AreInOrder, QueuesValue, tally_at}
+use Rattle.strm_queue.specs.Tallies.{IsTallyOf}
 
 module _ (v : QueuesValue) (a : Arena) (s : QueueState) (specs : s.specs ≡ v.state.specs) where
   pub in_order_state : AreInOrder v a → AreInOrder (record v { state = s }) a

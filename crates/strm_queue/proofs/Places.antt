@@ -1,9 +1,9 @@
 -- Where a message goes among messages in order, found by the first and the last message of each rank.
-use Rattle.std.proofs.Common.{◌≡◌, ℕ, ◌<◌, ◌≤◌, Bool, true, false, List, [], ◌∷◌, ◌++◌, Some, None, refl, sym, ap, ◌∙◌, subst, inl, inr, arith}
-use Rattle.std.specs.Prelude.{nat_le}
+use Rattle.std.proofs.Common.{◌≡◌, ℕ, ◌<◌, ◌≤◌, Bool, true, false, List, [], ◌∷◌, ◌++◌, Some, None, refl, sym, ap, ◌∙◌, subst, inl, inr, arith, Option}
+use Rattle.std.specs.Prelude.{nat_le, is_some, nat_lt}
 use Rattle.std.specs.List.{list_any}
-use Rattle.std.proofs.lemmas.Bool.{cases_eq, cases_order, false_from_ne_true, false≢true, leb-true, lt-leb, or_from}
-use Rattle.std.proofs.lemmas.List.{append_assoc, map-append}
+use Rattle.std.proofs.lemmas.Bool.{cases_eq, cases_order, false_from_ne_true, false≢true, leb-true, lt-leb, or_from, cases_Bool, cond-true, cond-false, ltb-true}
+use Rattle.std.proofs.lemmas.List.{append_assoc, map-append, get_or_past}
 use Rattle.strm_links.specs.Rows.{IsApart, after, first, has}
 use Rattle.strm_links.proofs.OneList.{first_has, has-append, is_some_of-same, last_has}
 use Rattle.strm_mblk.specs.Block.{Message, head_of}
@@ -11,8 +11,10 @@ use Rattle.strm_mblk.specs.Messages.{put_before_head}
 use Rattle.strm_queue.specs.Ends.{first_of_rank, last_of_rank, of_rank}
 use Rattle.strm_queue.specs.Rank.{is_ordered, put_ahead, put_behind}
 use Rattle.strm_queue.proofs.Ends.{ahead_more, behind_less, first_of_rank-has, first_of_rank-none, first_of_rank-parts, first_of_rank-some, has_of_rank, last_of_rank-has, none_ahead, none_behind, of_rank-refused, of_rank-other}
-use Rattle.strm_queue.proofs.OnShelf.{after-head, heads, no_other, parts_of, placed-between}
+use Rattle.strm_queue.proofs.OnShelf.{after-head, heads, no_other, parts_of, placed-between, first_there}
 use Rattle.strm_queue.proofs.Order.{are_above, are_below, put_ahead-at, put_ahead-last, put_behind-at, put_behind-front}
+use Rattle.strm_queue.specs.Limits.{bands, ranks}
+use Rattle.strm_queue.specs.Tallies.{AreEndsOf, Tally, has_rank}
 
 module _ (rank : Message → ℕ) where
   -- where there is none of the ranks that pass a test, no message passes it
@@ -117,3 +119,41 @@ module _ (rank : Message → ℕ) where
     pub placed_ahead-none : ((x : ℕ) → x ≤ r → first_of_rank rank x ms ≡ None) → (m : Message) → rank m ≡ r → put_before_head head_of None m ms ≡ put_ahead rank m ms
     placed_ahead-none none m is_rank =
         sym (put_ahead-last rank m ms (none_passes (λ n. nat_le n (rank m)) ms (λ x less. none x (omega (arith, is_rank, leb-true x (rank m) less)))))
+
+-- ---- by what is stored
+
+module _ (rank : Message → ℕ) (ms : List Message) (t : Tally) (ends : AreEndsOf rank ms t) where
+  -- whether a rank has messages
+  has_told : (x : ℕ) → has_rank t x ≡ is_some (first_of_rank rank x ms)
+  has_told x =
+      elim (cases_Bool (nat_lt x bands)) [
+        | inl low ↦ cond-true _ _ _ low ∙ ends.used x (ltb-true x bands low)
+        | inr high ↦ cond-false _ _ _ high ∙ ap is_some (ends.firsts x)
+      ]
+
+  pub none_told : (x : ℕ) → has_rank t x ≡ false → first_of_rank rank x ms ≡ None
+  none_told x none = absent (first_of_rank rank x ms) (sym (has_told x) ∙ none)
+    where
+      absent : (o : Option ℕ) → is_some o ≡ false → o ≡ None
+      absent None none = refl
+      absent (Some h) none = absurd (false≢true (sym none))
+
+  pub some_told : (x : ℕ) → has_rank t x ≡ true → (h : ℕ) × (first_of_rank rank x ms ≡ Some h)
+  some_told x some = there (first_of_rank rank x ms) (sym (has_told x) ∙ some)
+    where
+      there : (o : Option ℕ) → is_some o ≡ true → (h : ℕ) × (o ≡ Some h)
+      there None some = absurd (false≢true some)
+      there (Some h) some = (h, refl)
+
+  -- above all ranks there is none
+  pub none_beyond : (x : ℕ) → ranks ≤ x → first_of_rank rank x ms ≡ None
+  none_beyond x past = sym (ends.firsts x) ∙ get_or_past t.firsts x None (omega (arith, past, ends.each_first))
+
+-- the one behind a message stands beside it
+pub after_there : (h x : ℕ) (ms : List Message) → IsApart (heads ms) → has h (heads ms) ≡ true → after h (heads ms) ≡ Some x → has x (heads ms) ≡ true
+after_there h x ms apart there some =
+    let parts = parts_of h ms there in
+    let is : ms ≡ (parts.pre ++ parts.at ∷ []) ++ parts.post = parts.is ∙ sym (append_assoc parts.pre (parts.at ∷ []) parts.post) in
+    ap (λ xs. has x (heads xs)) is
+    ∙ first_there x (parts.pre ++ parts.at ∷ []) parts.post
+    (sym (after-head parts.pre parts.post parts.at (subst (λ xs. IsApart (heads xs)) parts.is apart)) ∙ (λ i. after (parts.head i) (heads (sym parts.is i))) ∙ some)

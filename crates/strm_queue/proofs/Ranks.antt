@@ -8,7 +8,7 @@ use Rattle.strm_data.specs.DataStore.{DataStore}
 use Rattle.strm_data.specs.declared.msg_type.MsgType.{MsgType}
 use Rattle.strm_mblk.specs.declared.block_info.BlockInfo.{BlockInfo}
 use Rattle.strm_mblk.specs.Arena.{Arena}
-use Rattle.strm_mblk.specs.Block.{Block, Message, kind_of, size_of}
+use Rattle.strm_mblk.specs.Block.{Block, Message, kind_of, size_of, head_of}
 use Rattle.strm_mblk.specs.BlockCalls.{banded, info_of}
 use Rattle.strm_mblk.specs.Given.{answer_of}
 use Rattle.strm_queue.specs.Rank.{as_queued, rank_of}
@@ -57,11 +57,20 @@ rank_of-queued s (b ∷ bs) = of_kind (is_high_priority (kind_of s b)) refl
     of_kind true is = rw is (rw is refl)
     of_kind false is = rw is (rw is refl)
 
--- and the bytes that it had
-pub size_of-queued : (s : DataStore) (m : Message) → size_of (as_queued s m) ≡ size_of m
-size_of-queued s [] = refl
-size_of-queued s (b ∷ bs) = of_kind (is_high_priority (kind_of s b))
-  where
-    of_kind : (high : Bool) → size_of ((if high then record b { band = 0 } else b) ∷ bs) ≡ size_of (b ∷ bs)
-    of_kind true = refl
-    of_kind false = refl
+-- its head, and the bytes that it had
+module _ (s : DataStore) where
+  pub head_of-queued : (m : Message) → head_of (as_queued s m) ≡ head_of m
+  head_of-queued [] = refl
+  head_of-queued (b ∷ bs) = of_kind (is_high_priority (kind_of s b))
+    where
+      of_kind : (high : Bool) → head_of ((if high then record b { band = 0 } else b) ∷ bs) ≡ head_of (b ∷ bs)
+      of_kind true = refl
+      of_kind false = refl
+
+  pub size_of-queued : (m : Message) → size_of (as_queued s m) ≡ size_of m
+  size_of-queued [] = refl
+  size_of-queued (b ∷ bs) = of_kind (is_high_priority (kind_of s b))
+    where
+      of_kind : (high : Bool) → size_of ((if high then record b { band = 0 } else b) ∷ bs) ≡ size_of (b ∷ bs)
+      of_kind true = refl
+      of_kind false = refl

@@ -8,7 +8,8 @@ use Rattle.strm_mblk.specs.Arena.{Arena, shelf_at}
 use Rattle.strm_queue.specs.Flow.{Marks, QueueState, band_count, bands_where, enabled, every_band, is_wanted, marks_at, opening_marks, spec_at, waker, with_marks}
 use Rattle.strm_queue.specs.Limits.{bands}
 use Rattle.strm_queue.specs.QueueCalls.{is_relieved, marks_left, settled, some_relieved, waker_enabled_where}
-use Rattle.strm_queue.specs.QueuedBlocks.{Agrees, AreInOrder, AreMarksLawful, QueuedBlocks, QueuesValue, together, count_of, tally_at}
+use Rattle.strm_queue.specs.QueuedBlocks.{Agrees, AreInOrder, AreMarksLawful, QueuedBlocks, QueuesValue, together, tally_at}
+use Rattle.strm_queue.specs.Tallies.{count_of}
 use Rattle.strm_queue.proofs.Agreeing.{enabled_marks, enabled_specs}
 use Rattle.strm_queue.proofs.Bands.{bands_where-same, is_wanted_where, some_same, wanted_past}
 use Rattle.strm_queue.proofs.Marks.{in_order_state}

@@ -8,7 +8,8 @@ use Rattle.strm_queue.specs.declared.queues.Queue.{Queue}
 use Rattle.strm_queue.specs.declared.queues.Queues.TheInside.{Inside}
 use Rattle.strm_queue.specs.Flow.{Marks, marks_at, no_spec, opening_marks, spec_at, with_marks}
 use Rattle.strm_queue.specs.QueueSpecs.{are_lawful}
-use Rattle.strm_queue.specs.QueuedBlocks.{QueuesValue, Tally, opening_value, with_tally, tally_at, no_tally}
+use Rattle.strm_queue.specs.QueuedBlocks.{QueuesValue, opening_value, with_tally, tally_at}
+use Rattle.strm_queue.specs.Tallies.{Tally, no_tally}
 use Rattle.strm_queue.specs.QueuesLayout.{IsLawful, marks_in, new_queue, spec_in, tally_in, value_of}
 
 -- new queues

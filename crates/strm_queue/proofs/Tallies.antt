@@ -1,18 +1,27 @@
 -- What is stored of a queue's messages stays true where one of them joins or leaves.
-use Rattle.std.proofs.Common.{◌≡◌, ◌≢◌, ℕ, ◌+◌, ◌-◌, ◌<◌, ◌≤◌, ◌^◌, false, List, [], ◌∷◌, ◌++◌, length, get_or, set, Option, refl, sym, ap, ◌∙◌, inl, inr, arith, length-append, length-set, get_or-set_same, get_or-set_other, map}
-use Rattle.std.specs.Prelude.{nat_le, sum, sum_by}
+use Rattle.std.proofs.Common.{◌≡◌, ◌≢◌, ℕ, ◌+◌, ◌-◌, ◌<◌, ◌≤◌, ◌^◌, false, List, [], ◌∷◌, ◌++◌, length, get_or, set, Option, refl, sym, ap, ◌∙◌, inl, inr, arith, length-append, length-set, get_or-set_same, get_or-set_other, map, None, subst, replicate, zero, suc, true}
+use Rattle.std.specs.Prelude.{nat_le, sum, sum_by, is_some}
 use Rattle.std.proofs.lemmas.Bool.{cases_eq, cond-false, cond-true, eq-eqb, lt-leb, ne_eqb}
 use Rattle.std.proofs.lemmas.List.{get_or-replicate, length-replicate, ext_get_or, get_or-map, length-map}
 use Rattle.strm_data.specs.DataStore.{DataStore}
 use Rattle.strm_mblk.specs.Block.{Message, head_of, size_of}
 use Rattle.strm_mblk.specs.Messages.{put_before_head}
-use Rattle.strm_queue.specs.Flow.{band_count, band_of_rank, bytes_on, every_band}
-use Rattle.strm_queue.specs.Limits.{bands}
-use Rattle.strm_queue.specs.QueuedBlocks.{IsTallyOf, Tally, count_of, no_tally, one_less, one_more, with_count}
-use Rattle.strm_queue.specs.Rank.{rank_of}
+use Rattle.strm_queue.specs.Flow.{band_count, band_of_rank, bytes_on, every_band, is_wanted}
+use Rattle.strm_queue.specs.Limits.{bands, ranks}
+use Rattle.strm_queue.specs.declared.tally.Placed.{Placed}
+use Rattle.strm_queue.specs.Ends.{first_of_rank, last_of_rank, of_rank}
+use Rattle.strm_queue.specs.Tallies.{AreEndsOf, IsTallyOf, Tally, count_of, end_joined, end_left, first_in, last_in, no_tally, one_less, one_more, with_count, with_ends}
+use Rattle.strm_queue.specs.Rank.{rank_of, is_ordered}
 use Rattle.strm_queue.proofs.Bands.{is_wanted_where, length-bands_where, length-every_band, get_or-every_band}
-use Rattle.strm_queue.proofs.Counts.{band_count-left, band_count-placed, band_of_rank_range, bytes_on-placed, count_in, counted, length-placed, whole}
+use Rattle.strm_queue.proofs.Counts.{band_count-left, band_count-placed, band_of_rank_range, bytes_on-placed, count_in, counted, length-placed, whole, bytes_on-left}
 use Rattle.std.proofs.lemmas.List.Sums.{sum_by-cons}
+use Rattle.strm_links.specs.Rows.{IsApart, first, last}
+use Rattle.strm_queue.proofs.OnShelf.{heads}
+use Rattle.strm_queue.proofs.Ends.{first_joined, last_joined, first_left, last_left, of_rank-other}
+
+-- no message
+abbrev none_given : Option ℕ
+none_given = None
 
 -- of no messages, where no band is full without bytes
 pub tally_none : (s : DataStore) (hiwat : ℕ) → 0 < hiwat → IsTallyOf s hiwat [] no_tally
@@ -22,38 +31,77 @@ tally_none s hiwat some = record {
   each_mark = length-bands_where (λ band. false) ∙ length-every_band;
   counts = λ band below. get_or-replicate bands band 0 0 below;
   full = λ band below. is_wanted_where (λ x. false) band below ∙ sym (lt-leb hiwat 0 some);
+  ends = record {
+    each_first = length-replicate {A = Option ℕ} ranks None;
+    each_last = length-replicate {A = Option ℕ} ranks None;
+    each_used = length-bands_where (λ band. false) ∙ length-every_band;
+    firsts = none_there ranks;
+    lasts = none_there ranks;
+    used = λ r below. is_wanted_where (λ x. false) r below;
+  };
 }
+  where
+    none_there : (n r : ℕ) → get_or (replicate n none_given) r none_given ≡ none_given
+    none_there zero r = refl
+    none_there (suc n) zero = refl
+    none_there (suc n) (suc r) = none_there n r
 
-module _ (s : DataStore) (hiwat : ℕ) (ms ns : List Message) (t : Tally) (is : IsTallyOf s hiwat ms t) (band n len : ℕ) (within : band < bands)
-    (long : len ≡ length ns) (here : n ≡ band_count s band ns) (others : (x : ℕ) → x ≢ band → band_count s x ns ≡ band_count s x ms) where
-  count_at : (x : ℕ) → x < bands → get_or (set t.counts band n) x 0 ≡ band_count s x ns
-  count_at x below =
-      elim (cases_eq x band) [
-        | inl same ↦
-            ap (λ j. get_or (set t.counts band n) j 0) same ∙ get_or-set_same t.counts band n 0 (omega (arith, within, is.each_band)) ∙ here
-            ∙ ap (λ j. band_count s j ns) (sym same)
-        | inr other ↦ get_or-set_other t.counts band x n 0 other ∙ is.counts x below ∙ sym (others x other)
+-- a message stands between these, of this rank, with these bytes
+pub record IsPlaced (s : DataStore) (pre post : List Message) (m : Message) (p : Placed) : Type 0 where
+  pub head : p.head ≡ head_of m
+  pub rank : p.rank ≡ rank_of s m
+  pub size : p.size ≡ size_of m
+  pub ahead : p.ahead ≡ last (heads pre)
+  pub behind : p.behind ≡ first (heads post)
+  pub few : p.rank < ranks
+
+-- one band has another count, and one rank other ends
+module _ (s : DataStore) (hiwat : ℕ) (ms ns : List Message) (t : Tally) (is : IsTallyOf s hiwat ms t) (len : ℕ) (long : len ≡ length ns)
+    (band n : ℕ) (within : band < bands) (here : n ≡ band_count s band ns) (others : (x : ℕ) → x ≢ band → band_count s x ns ≡ band_count s x ms)
+    (r : ℕ) (end beginning : Option ℕ) (below : r < ranks) (first_is : beginning ≡ first_of_rank (rank_of s) r ns) (last_is : end ≡ last_of_rank (rank_of s) r ns)
+    (other_ranks : (x : ℕ) → x ≢ r → of_rank (rank_of s) x ns ≡ of_rank (rank_of s) x ms) where
+  -- what stands in a list of numbers where one was set
+  at_set : {X : Type 0} (f : ℕ → X) (xs : List X) (k : ℕ) (v d : X) → k < length xs → v ≡ f k → (x : ℕ) → (x ≢ k → get_or xs x d ≡ f x) → get_or (set xs k v) x d ≡ f x
+  at_set f xs k v d inside new x old =
+      elim (cases_eq x k) [
+        | inl same ↦ ap (λ j. get_or (set xs k v) j d) same ∙ get_or-set_same xs k v d inside ∙ new ∙ ap f (sym same)
+        | inr other ↦ get_or-set_other xs k x v d other ∙ old other
       ]
 
-  full_at : (x : ℕ) → x < bands → get_or (set t.full band (nat_le hiwat n)) x false ≡ nat_le hiwat (band_count s x ns)
-  full_at x below =
-      elim (cases_eq x band) [
-        | inl same ↦
-            ap (λ j. get_or (set t.full band (nat_le hiwat n)) j false) same
-            ∙ get_or-set_same t.full band (nat_le hiwat n) false (omega (arith, within, is.each_mark))
-            ∙ ap (nat_le hiwat) (here ∙ ap (λ j. band_count s j ns) (sym same))
-        | inr other ↦ get_or-set_other t.full band x (nat_le hiwat n) false other ∙ is.full x below ∙ ap (nat_le hiwat) (sym (others x other))
-      ]
-
-  -- one band has another count
-  tally_set : IsTallyOf s hiwat ns (with_count hiwat band n (record t { len = len }))
+  tally_set : IsTallyOf s hiwat ns (with_ends r beginning end (with_count hiwat band n (record t { len = len })))
   tally_set = record {
     len = long;
     each_band = length-set t.counts band n ∙ is.each_band;
     each_mark = length-set t.full band (nat_le hiwat n) ∙ is.each_mark;
-    counts = count_at;
-    full = full_at;
+    counts = λ x inside. at_set (λ j. band_count s j ns) t.counts band n 0 (omega (arith, within, is.each_band)) here x (λ other. is.counts x inside ∙ sym (others x other));
+    full = λ x inside.
+        at_set (λ j. nat_le hiwat (band_count s j ns)) t.full band (nat_le hiwat n) false (omega (arith, within, is.each_mark)) (ap (nat_le hiwat) here) x
+        (λ other. is.full x inside ∙ ap (nat_le hiwat) (sym (others x other)));
+    ends = record {
+      each_first = length-set t.firsts r beginning ∙ is.ends.each_first;
+      each_last = length-set t.lasts r end ∙ is.ends.each_last;
+      each_used = length-set t.used r (is_some beginning) ∙ is.ends.each_used;
+      firsts = λ x.
+          at_set (λ j. first_of_rank (rank_of s) j ns) t.firsts r beginning None (omega (arith, below, is.ends.each_first)) first_is x
+          (λ other. is.ends.firsts x ∙ ap (λ xs. first (heads xs)) (sym (other_ranks x other)));
+      lasts = λ x.
+          at_set (λ j. last_of_rank (rank_of s) j ns) t.lasts r end None (omega (arith, below, is.ends.each_last)) last_is x
+          (λ other. is.ends.lasts x ∙ ap (λ xs. last (heads xs)) (sym (other_ranks x other)));
+      used = used_at;
+    };
   }
+    where
+      used_at : (x : ℕ) → x < bands → get_or (set t.used r (is_some beginning)) x false ≡ is_some (first_of_rank (rank_of s) x ns)
+      used_at x inside =
+          elim (cases_eq x r) [
+            | inl same ↦
+                ap (λ j. get_or (set t.used r (is_some beginning)) j false) same
+                ∙ get_or-set_same t.used r (is_some beginning) false (omega (arith, inside, same, is.ends.each_used))
+                ∙ ap is_some (first_is ∙ ap (λ j. first_of_rank (rank_of s) j ns) (sym same))
+            | inr other ↦
+                get_or-set_other t.used r x (is_some beginning) false other ∙ is.ends.used x inside
+                ∙ ap (λ xs. is_some (first (heads xs))) (sym (other_ranks x other))
+          ]
 
 module _ (s : DataStore) (m : Message) where
   abbrev its : ℕ
@@ -67,33 +115,64 @@ module _ (s : DataStore) (m : Message) where
   none : (x : ℕ) → x ≢ its → counted s x m ≡ 0
   none x other = cond-false _ (size_of m) 0 (ne_eqb its x (λ same. other (sym same)))
 
-  module _ (hiwat : ℕ) (t : Tally) where
+  module _ (hiwat : ℕ) (t : Tally) (pre post : List Message) (p : Placed) (placed : IsPlaced s pre post m p) where
+    -- how the message stands
+    abbrev own_place : Placed
+    own_place = record { head = head_of m; rank = rank_of s m; size = size_of m; ahead = last (heads pre); behind = first (heads post) }
+
+    place_is : p ≡ own_place
+    place_is = λ i. record { head = placed.head i; rank = placed.rank i; size = placed.size i; ahead = placed.ahead i; behind = placed.behind i }
+
     -- one joins
-    module _ (before : Option ℕ) (ms : List Message) (is : IsTallyOf s hiwat ms t) where
-      pub tally_joined : IsTallyOf s hiwat (put_before_head head_of before m ms) (one_more hiwat its (size_of m) t)
-      tally_joined =
-          tally_set s hiwat ms (put_before_head head_of before m ms) t is its (count_of t its + size_of m) (t.len + 1) (band_of_rank_range (rank_of s m))
-          (omega (arith, is.len, length-placed before m ms))
-          (omega (arith, is.counts its (band_of_rank_range (rank_of s m)), band_count-placed s its before m ms, own))
-          (λ x other. omega (arith, band_count-placed s x before m ms, none x other))
+    module _ (is : IsTallyOf s hiwat (pre ++ post) t) where
+      pub tally_joined : is_ordered (rank_of s) (pre ++ m ∷ post) ≡ true → IsApart (heads (pre ++ m ∷ post)) → IsTallyOf s hiwat (pre ++ m ∷ post) (one_more hiwat p t)
+      tally_joined ordered apart =
+          subst (λ k. IsTallyOf s hiwat (pre ++ m ∷ post) (one_more hiwat k t)) (sym place_is)
+          (tally_set s hiwat (pre ++ post) (pre ++ m ∷ post) t is (t.len + 1) (omega (arith, is.len, length-append pre (m ∷ post), length-append pre post))
+          its (count_of t its + size_of m) (band_of_rank_range (rank_of s m)) (omega (arith, is.counts its (band_of_rank_range (rank_of s m)), band_count-left s its pre post m, own))
+          (λ x other. omega (arith, band_count-left s x pre post m, none x other))
+          (rank_of s m) (end_joined (last_in t (rank_of s m)) (last (heads pre)) (head_of m)) (end_joined (first_in t (rank_of s m)) (first (heads post)) (head_of m)) (omega (arith, placed.few, placed.rank))
+          (ap (λ o. end_joined o (first (heads post)) (head_of m)) (is.ends.firsts (rank_of s m)) ∙ first_joined (rank_of s) pre post m ordered apart)
+          (ap (λ o. end_joined o (last (heads pre)) (head_of m)) (is.ends.lasts (rank_of s m)) ∙ last_joined (rank_of s) pre post m ordered apart)
+          (λ x other. of_rank-other (rank_of s) x pre post m other))
 
       -- its bytes fit beside those of its band
-      pub joins_few : bytes_on (put_before_head head_of before m ms) < 2 ^ 32 → count_of t its + size_of m < 2 ^ 32
+      pub joins_few : bytes_on (pre ++ m ∷ post) < 2 ^ 32 → count_of t (band_of_rank p.rank) + p.size < 2 ^ 32
       joins_few few =
-          omega (arith, few, bytes_on-placed before m ms, is.counts its (band_of_rank_range (rank_of s m)), count_in s its ms)
+          omega (
+            arith,
+            few,
+            bytes_on-left pre post m,
+            is.counts its (band_of_rank_range (rank_of s m)),
+            count_in s its (pre ++ post),
+            placed.size,
+            ap (λ r. count_of t (band_of_rank r)) placed.rank,
+          )
 
     -- one leaves
-    module _ (pre post : List Message) (is : IsTallyOf s hiwat (pre ++ m ∷ post) t) where
-      pub tally_left : IsTallyOf s hiwat (pre ++ post) (one_less hiwat its (size_of m) t)
-      tally_left =
-          tally_set s hiwat (pre ++ m ∷ post) (pre ++ post) t is its (count_of t its - size_of m) (t.len - 1) (band_of_rank_range (rank_of s m))
-          (omega (arith, is.len, length-append pre (m ∷ post), length-append pre post))
-          (omega (arith, is.counts its (band_of_rank_range (rank_of s m)), band_count-left s its pre post m, own))
+    module _ (is : IsTallyOf s hiwat (pre ++ m ∷ post) t) where
+      pub tally_left : is_ordered (rank_of s) (pre ++ m ∷ post) ≡ true → IsApart (heads (pre ++ m ∷ post)) → IsTallyOf s hiwat (pre ++ post) (one_less hiwat p t)
+      tally_left ordered apart =
+          subst (λ k. IsTallyOf s hiwat (pre ++ post) (one_less hiwat k t)) (sym place_is)
+          (tally_set s hiwat (pre ++ m ∷ post) (pre ++ post) t is (t.len - 1) (omega (arith, is.len, length-append pre (m ∷ post), length-append pre post))
+          its (count_of t its - size_of m) (band_of_rank_range (rank_of s m)) (omega (arith, is.counts its (band_of_rank_range (rank_of s m)), band_count-left s its pre post m, own))
           (λ x other. omega (arith, band_count-left s x pre post m, none x other))
+          (rank_of s m) (end_left (last_in t (rank_of s m)) (first_in t (rank_of s m)) (last (heads pre)) (head_of m)) (end_left (first_in t (rank_of s m)) (last_in t (rank_of s m)) (first (heads post)) (head_of m)) (omega (arith, placed.few, placed.rank))
+          ((λ i. end_left (is.ends.firsts (rank_of s m) i) (is.ends.lasts (rank_of s m) i) (first (heads post)) (head_of m)) ∙ first_left (rank_of s) pre post m ordered apart)
+          ((λ i. end_left (is.ends.lasts (rank_of s m) i) (is.ends.firsts (rank_of s m) i) (last (heads pre)) (head_of m)) ∙ last_left (rank_of s) pre post m ordered apart)
+          (λ x other. sym (of_rank-other (rank_of s) x pre post m other)))
 
       -- its bytes are among those of its band
-      pub leaves_enough : size_of m ≤ count_of t its
-      leaves_enough = omega (arith, is.counts its (band_of_rank_range (rank_of s m)), band_count-left s its pre post m, own)
+      pub leaves_enough : p.size ≤ count_of t (band_of_rank p.rank)
+      leaves_enough =
+          omega (
+            arith,
+            is.counts its (band_of_rank_range (rank_of s m)),
+            band_count-left s its pre post m,
+            own,
+            placed.size,
+            ap (λ r. count_of t (band_of_rank r)) placed.rank,
+          )
 
       -- and it is one of the messages
       pub leaves_some : 1 ≤ t.len

@@ -5,6 +5,7 @@ pub mod Ends
 pub mod Flow
 pub mod Flush
 pub mod BandSets
+pub mod Tallies
 pub mod QueuedBlocks
 pub mod QueueCalls
 pub mod QueuesLayout

@@ -7,7 +7,8 @@ use Rattle.strm_queue.specs.declared.queues.Queue.{Queue}
 use Rattle.strm_queue.specs.declared.queues.Queues.TheInside.{Inside}
 use Rattle.strm_queue.specs.Flow.{Marks, bands_where, spec_at}
 use Rattle.strm_queue.specs.QueueSpecs.{are_lawful}
-use Rattle.strm_queue.specs.QueuedBlocks.{QueuesValue, Tally, no_tally}
+use Rattle.strm_queue.specs.QueuedBlocks.{QueuesValue}
+use Rattle.strm_queue.specs.Tallies.{Tally, no_tally}
 
 -- a queue as it is made
 abbrev pub new_queue : QueueSpec → Queue

@@ -5,11 +5,12 @@ ghost use Rattle.strm_links.specs.Rows as rows;
 ghost use Rattle.strm_mblk.specs.Arena.{shelf_at};
 ghost use Rattle.strm_mblk.specs.Shelves.{heads_at};
 ghost use Rattle.strm_queue.specs.Flow.{band_count, band_of_rank, bytes_on, every_band, spec_at};
-ghost use Rattle.strm_queue.specs.Limits.{most_queues};
+ghost use Rattle.strm_queue.specs.Limits.{most_queues, ranks};
 ghost use Rattle.strm_queue.specs.QueueSpecs.{are_lawful};
-ghost use Rattle.strm_queue.specs.QueuedBlocks.{Agrees, AreMarksLawful, count_of, one_less, one_more, opening_value, tally_at, with_tally};
+ghost use Rattle.strm_queue.specs.QueuedBlocks.{Agrees, AreMarksLawful, opening_value, tally_at, with_tally};
 ghost use Rattle.strm_queue.specs.QueuesLayout.{new_queue};
 ghost use Rattle.strm_queue.specs.Rank.{is_ordered, rank_of};
+ghost use Rattle.strm_queue.specs.Tallies.{count_of, one_less, one_more};
 
 mod asking;
 mod counts;
@@ -24,8 +25,7 @@ mod shelving;
 
 use crate::band_set::BandSet;
 use crate::queue_spec::QueueSpec;
-use crate::tally::Tally;
-use counts::band_of;
+use crate::tally::{Placed, Tally};
 use std::alloc::{AllocError, Global};
 use std::marker::Model;
 use strm_links::Links;
@@ -124,26 +124,28 @@ impl Queues {
         &self.queues[usize::from(queue)].tally
     }
 
-    // Notes that a message of a rank has joined a queue, with so many bytes.
-    fn join(&mut self, queue: u8, rank: u16, size: u32)
+    // Notes that a message has joined a queue.
+    fn join(&mut self, queue: u8, placed: Placed)
         requires queue { queue < length self.old.state.specs }
+        requires rank { placed.rank < ranks }
         requires len { (tally_at self.old queue).len + 1 < 2 ^ 32 }
-        requires count { count_of (tally_at self.old queue) (band_of_rank rank) + size < 2 ^ 32 }
-        ensures { self.new ≡ with_tally queue (one_more (spec_at self.old.state.specs queue).hiwat (band_of_rank rank) size (tally_at self.old queue)) self.old }
+        requires count { count_of (tally_at self.old queue) (band_of_rank placed.rank) + placed.size < 2 ^ 32 }
+        ensures { self.new ≡ with_tally queue (one_more (spec_at self.old.state.specs queue).hiwat placed (tally_at self.old queue)) self.old }
     {
         let Queue { spec, tally, .. } = &mut self.queues[usize::from(queue)];
-        tally.join(spec.hiwat, band_of(rank), size);
+        tally.join(spec.hiwat, placed);
     }
 
-    // Notes that a message of a rank has left a queue, with so many bytes.
-    fn leave(&mut self, queue: u8, rank: u16, size: u32)
+    // Notes that a message has left a queue.
+    fn leave(&mut self, queue: u8, placed: Placed)
         requires queue { queue < length self.old.state.specs }
+        requires rank { placed.rank < ranks }
         requires len { 1 ≤ (tally_at self.old queue).len }
-        requires count { size ≤ count_of (tally_at self.old queue) (band_of_rank rank) }
-        ensures { self.new ≡ with_tally queue (one_less (spec_at self.old.state.specs queue).hiwat (band_of_rank rank) size (tally_at self.old queue)) self.old }
+        requires count { placed.size ≤ count_of (tally_at self.old queue) (band_of_rank placed.rank) }
+        ensures { self.new ≡ with_tally queue (one_less (spec_at self.old.state.specs queue).hiwat placed (tally_at self.old queue)) self.old }
     {
         let Queue { spec, tally, .. } = &mut self.queues[usize::from(queue)];
-        tally.leave(spec.hiwat, band_of(rank), size);
+        tally.leave(spec.hiwat, placed);
     }
 
     // What a queue was made with.

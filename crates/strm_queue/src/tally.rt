@@ -1,26 +1,47 @@
 //! What is stored of a queue's messages.
-ghost use Rattle.std.specs.Prelude.{◌≡◌, ◌+◌, ◌<◌, ◌≤◌, ◌^◌, slice_set};
-ghost use Rattle.strm_queue.specs.Flow.{is_wanted};
-ghost use Rattle.strm_queue.specs.QueuedBlocks.{count_of, no_tally, one_less, one_more, with_count};
+ghost use Rattle.std.specs.Prelude.{◌≡◌, ◌+◌, ◌<◌, ◌≤◌, ◌^◌, ℕ, false, slice_set};
+ghost use Rattle.std.specs.Option.{IfNone, IfSome};
+ghost use Rattle.strm_queue.specs.Flow.{band_of_rank, is_wanted};
+ghost use Rattle.strm_queue.specs.Limits.{ranks};
+ghost use Rattle.strm_queue.specs.Tallies.{IsRankFrom, IsRankTo, count_of, end_joined, end_left, first_in, has_rank, last_in, no_tally, one_less, one_more, with_count, with_ends};
 
 use crate::band_set::BandSet;
-use crate::limits::BANDS;
+use crate::limits::{BANDS, RANKS};
 use std::marker::Model;
+use strm_mblk::BlockNo;
 
-// What is stored of a queue's messages: how many there are, how many bytes each band has, and the bands that are full.
+// The rank of high priority messages.
+const HIGH: u16 = 256;
+
+// A message as it stands on a queue: its head, its rank and its bytes, and the heads of the messages ahead of it and
+// behind it, if there are such.
+#[derive(Clone, Copy, Debug)]
+pub(crate) struct Placed {
+    pub(crate) head: BlockNo,
+    pub(crate) rank: u16,
+    pub(crate) size: u32,
+    pub(crate) ahead: Option<BlockNo>,
+    pub(crate) behind: Option<BlockNo>,
+}
+
+// What is stored of a queue's messages: how many there are; for each band how many bytes it has; the bands that are full;
+// for each rank the heads of its first and of its last message; and the bands that as ranks have messages.
 #[derive(Debug, Drop)]
 pub(crate) struct Tally {
     len: u32,
     counts: [u32; BANDS],
     full: BandSet,
+    firsts: [Option<BlockNo>; RANKS],
+    lasts: [Option<BlockNo>; RANKS],
+    used: BandSet,
 }
 
 impl Model for Tally {
-    ghost use Rattle.strm_queue.specs.QueuedBlocks.{Tally};
+    ghost use Rattle.strm_queue.specs.Tallies.{Tally};
 
     ghost Value = { Tally };
 
-    ghost view = { λ t. record { len = t.len; counts = t.counts; full = t.full } };
+    ghost view = { λ t. record { len = t.len; counts = t.counts; full = t.full; firsts = t.firsts; lasts = t.lasts; used = t.used } };
 }
 
 impl Tally {
@@ -32,6 +53,9 @@ impl Tally {
             len: 0,
             counts: [0; BANDS],
             full: BandSet::new(),
+            firsts: [None; RANKS],
+            lasts: [None; RANKS],
+            used: BandSet::new(),
         }
     }
 
@@ -63,24 +87,92 @@ impl Tally {
         self.full.has(band)
     }
 
-    // A message of a band has joined, with so many bytes.
-    pub(crate) fn join(&mut self, hiwat: u32, band: u8, size: u32)
-        requires len { self.old.len + 1 < 2 ^ 32 }
-        requires count { count_of self.old band + size < 2 ^ 32 }
-        ensures { self.new ≡ one_more hiwat band size self.old }
+    // The head of the first message of a rank, if there is one.
+    pub(crate) fn first(&self, rank: u16) -> Option<BlockNo>
+        requires { rank < ranks }
+        ensures { result ≡ first_in self.now rank }
     {
-        self.len += 1;
-        self.set_count(hiwat, band, self.count(band) + size);
+        self.firsts[usize::from(rank)]
     }
 
-    // A message of a band has left, with so many bytes.
-    pub(crate) fn leave(&mut self, hiwat: u32, band: u8, size: u32)
-        requires len { 1 ≤ self.old.len }
-        requires count { size ≤ count_of self.old band }
-        ensures { self.new ≡ one_less hiwat band size self.old }
+    // The head of the last message of a rank, if there is one.
+    pub(crate) fn last(&self, rank: u16) -> Option<BlockNo>
+        requires { rank < ranks }
+        ensures { result ≡ last_in self.now rank }
     {
+        self.lasts[usize::from(rank)]
+    }
+
+    // The smallest rank from this one on that has messages, if there is one.
+    pub(crate) fn rank_at_least(&self, rank: u16) -> Option<u16>
+        requires { rank < ranks }
+        ensures some { IfSome result (λ found. IsRankFrom self.now rank found) }
+        ensures none { IfNone result ((x : ℕ) → rank ≤ x → x < ranks → has_rank self.now x ≡ false) }
+    {
+        if rank < HIGH {
+            if let Some(band) = self.used.at_least(rank as u8) {
+                return Some(u16::from(band));
+            }
+        }
+        self.first(HIGH)?;
+        Some(HIGH)
+    }
+
+    // The greatest rank up to this one that has messages, if there is one.
+    pub(crate) fn rank_at_most(&self, rank: u16) -> Option<u16>
+        requires { rank < ranks }
+        ensures some { IfSome result (λ found. IsRankTo self.now rank found) }
+        ensures none { IfNone result ((x : ℕ) → x ≤ rank → has_rank self.now x ≡ false) }
+    {
+        if rank == HIGH && self.first(HIGH).is_some() {
+            return Some(HIGH);
+        }
+        let band = self.used.at_most(rank.min(HIGH - 1) as u8)?;
+        Some(u16::from(band))
+    }
+
+    // A message has joined.
+    pub(crate) fn join(&mut self, hiwat: u32, placed: Placed)
+        requires rank { placed.rank < ranks }
+        requires len { self.old.len + 1 < 2 ^ 32 }
+        requires count { count_of self.old (band_of_rank placed.rank) + placed.size < 2 ^ 32 }
+        ensures { self.new ≡ one_more hiwat placed self.old }
+    {
+        let Placed {
+            head,
+            rank,
+            size,
+            ahead,
+            behind,
+        } = placed;
+        let band = band_of(rank);
+        let first = end_joined(self.first(rank), behind, head);
+        let last = end_joined(self.last(rank), ahead, head);
+        self.len += 1;
+        self.set_count(hiwat, band, self.count(band) + size);
+        self.set_ends(rank, first, last);
+    }
+
+    // A message has left.
+    pub(crate) fn leave(&mut self, hiwat: u32, placed: Placed)
+        requires rank { placed.rank < ranks }
+        requires len { 1 ≤ self.old.len }
+        requires count { placed.size ≤ count_of self.old (band_of_rank placed.rank) }
+        ensures { self.new ≡ one_less hiwat placed self.old }
+    {
+        let Placed {
+            head,
+            rank,
+            size,
+            ahead,
+            behind,
+        } = placed;
+        let band = band_of(rank);
+        let first = end_left(self.first(rank), self.last(rank), behind, head);
+        let last = end_left(self.last(rank), self.first(rank), ahead, head);
         self.len -= 1;
         self.set_count(hiwat, band, self.count(band) - size);
+        self.set_ends(rank, first, last);
     }
 
     // Stores how many bytes a band has.
@@ -90,4 +182,49 @@ impl Tally {
         self.counts[usize::from(band)] = count;
         self.full.set(band, hiwat <= count);
     }
+
+    // Stores the first and the last message of a rank.
+    fn set_ends(&mut self, rank: u16, first: Option<BlockNo>, last: Option<BlockNo>)
+        requires { rank < ranks }
+        ensures { self.new ≡ with_ends rank first last self.old }
+    {
+        self.used.lawful();
+        self.firsts[usize::from(rank)] = first;
+        self.lasts[usize::from(rank)] = last;
+        if rank < HIGH {
+            self.used.set(rank as u8, first.is_some());
+        }
+    }
+}
+
+// The band that a message of this rank counts with: high priority counts with band 0.
+pub(crate) fn band_of(rank: u16) -> u8
+    ensures { result ≡ band_of_rank rank }
+{
+    u8::try_from(rank).unwrap_or(0)
+}
+
+// An end of a rank once this message has joined it: it, where there was none, or where the end stands beside it.
+fn end_joined(end: Option<BlockNo>, beside: Option<BlockNo>, head: BlockNo) -> Option<BlockNo>
+    ensures { result ≡ end_joined end beside head }
+{
+    match end {
+        Some(at) if beside != Some(at) => end,
+        _ => Some(head),
+    }
+}
+
+// An end of a rank, whose other end is given, once this message has left: the one beside it, where it was this end alone.
+fn end_left(
+    end: Option<BlockNo>,
+    other: Option<BlockNo>,
+    beside: Option<BlockNo>,
+    head: BlockNo,
+) -> Option<BlockNo>
+    ensures { result ≡ end_left end other beside head }
+{
+    if end != Some(head) {
+        return end;
+    }
+    if other == Some(head) { None } else { beside }
 }

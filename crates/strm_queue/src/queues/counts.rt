@@ -10,14 +10,8 @@ ghost use Rattle.strm_queue.specs.Rank.{rank_of};
 use super::Queues;
 use super::places::queued_rank;
 use crate::limits::BANDS;
+use crate::tally::band_of;
 use strm_mblk::{BlockNo, Blocks};
-
-// The band that a message of this rank counts with: high priority counts with band 0.
-pub(super) fn band_of(rank: u16) -> u8
-    ensures { result ≡ band_of_rank rank }
-{
-    u8::try_from(rank).unwrap_or(0)
-}
 
 // The band that a message on a queue counts with.
 pub(super) fn counted_band(blocks: &Blocks, head: BlockNo) -> u8

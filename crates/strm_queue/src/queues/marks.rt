@@ -5,7 +5,8 @@ ghost use Rattle.strm_queue.specs.Flow.{bands_where, every_band, is_wanted, mark
 ghost use Rattle.strm_mblk.specs.Arena.{Arena};
 ghost use Rattle.strm_mblk.specs.Given.{answer_of, value_after};
 ghost use Rattle.strm_queue.specs.QueueCalls.{switched};
-ghost use Rattle.strm_queue.specs.QueuedBlocks.{Agrees, count_of, tally_at, together};
+ghost use Rattle.strm_queue.specs.Tallies.{count_of};
+ghost use Rattle.strm_queue.specs.QueuedBlocks.{Agrees, tally_at, together};
 
 use super::{Queue, Queues};
 use strm_data::Refusal;

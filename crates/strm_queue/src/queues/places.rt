@@ -8,14 +8,18 @@ ghost use Rattle.strm_mblk.specs.Block.{Message, head_of};
 ghost use Rattle.strm_mblk.specs.BlockCalls.{banded};
 ghost use Rattle.strm_mblk.specs.Messages.{put_before_head};
 ghost use Rattle.strm_mblk.specs.Shelves.{heads_at, shelf_of, stands_on};
+ghost use Rattle.strm_queue.specs.Limits.{ranks};
+ghost use Rattle.strm_queue.specs.QueuedBlocks.{AreInOrder};
 ghost use Rattle.strm_queue.specs.Rank.{as_queued, is_ordered, put_ahead, put_behind, rank_of};
 
+use super::Queues;
 use strm_data::MsgType;
 use strm_mblk::{BlockNo, Blocks, Token};
 
 // The rank of a message whose first block is of this type and band.
 fn rank(kind: MsgType, band: u8) -> u16
     ensures value { result ≡ (if is_high_priority kind then 256 else band) }
+    ensures few { result < ranks }
     ensures high { result ≡ 256 → IsTrue (is_high_priority kind) }
 {
     if kind.is_high_priority() {
@@ -29,6 +33,7 @@ fn rank(kind: MsgType, band: u8) -> u16
 pub(super) fn held_rank(blocks: &Blocks, token: &Token) -> u16
     requires { IsTrue (has blocks.now token.now) }
     ensures value { result ≡ rank_of blocks.now.store (message_at blocks.now token.now.head) }
+    ensures few { result < ranks }
     ensures high { let m = message_at blocks.now token.now.head in result ≡ 256 → as_queued blocks.now.store m ≡ banded 0 m }
 {
     match blocks.block(token, 0) {
@@ -40,59 +45,12 @@ pub(super) fn held_rank(blocks: &Blocks, token: &Token) -> u16
 // The rank of a message on a queue.
 pub(super) fn queued_rank(blocks: &Blocks, head: BlockNo) -> u16
     requires { IsSome (shelf_of blocks.now head) }
-    ensures { (queue : ℕ) (pre post : List Message) (m : Message) → shelf_at blocks.now queue ≡ pre ++ m ∷ post → head_of m ≡ head
+    ensures value { (queue : ℕ) (pre post : List Message) (m : Message) → shelf_at blocks.now queue ≡ pre ++ m ∷ post → head_of m ≡ head
         → result ≡ rank_of blocks.now.store m }
+    ensures few { result < ranks }
 {
     blocks.lawful();
     rank(blocks.head_kind(head), blocks.head_band(head))
-}
-
-// The head of the message before which one of this rank stands behind its equals, or none where it is last. Walks from
-// the back, over the messages of lower rank and one more.
-pub(super) fn place_behind(blocks: &Blocks, queue: u8, len: u32, rank: u16) -> Option<BlockNo>
-    requires queue { queue < length blocks.now.shelves }
-    requires len { len ≡ length (shelf_at blocks.now queue) }
-    ensures there { ForSome result (λ head. IsTrue (stands_on blocks.now queue head)) }
-    ensures place { (m : Message) → rank_of blocks.now.store m ≡ rank
-        → put_before_head head_of result m (shelf_at blocks.now queue) ≡ put_behind (rank_of blocks.now.store) m (shelf_at blocks.now queue) }
-{
-    blocks.lawful();
-    let mut before = None;
-    let mut at = blocks.last(queue);
-    for _message in 0..len {
-        let Some(head) = at else {
-            return before;
-        };
-        if queued_rank(blocks, head) >= rank {
-            return before;
-        }
-        before = at;
-        at = blocks.before(head);
-    }
-    before
-}
-
-// The head of the message before which one of this rank stands before its equals, or none where it is last. Walks from
-// the front, over the messages of greater rank and one more.
-pub(super) fn place_ahead(blocks: &Blocks, queue: u8, len: u32, rank: u16) -> Option<BlockNo>
-    requires queue { queue < length blocks.now.shelves }
-    requires len { len ≡ length (shelf_at blocks.now queue) }
-    ensures there { ForSome result (λ head. IsTrue (stands_on blocks.now queue head)) }
-    ensures place { (m : Message) → rank_of blocks.now.store m ≡ rank
-        → put_before_head head_of result m (shelf_at blocks.now queue) ≡ put_ahead (rank_of blocks.now.store) m (shelf_at blocks.now queue) }
-{
-    blocks.lawful();
-    let mut at = blocks.first(queue);
-    for _message in 0..len {
-        let Some(head) = at else {
-            return None;
-        };
-        if queued_rank(blocks, head) <= rank {
-            return at;
-        }
-        at = blocks.after(head);
-    }
-    at
 }
 
 // The head of the message at a place, counted from 0, if there is one. Takes as many steps.
@@ -123,7 +81,7 @@ fn is_at_most(blocks: &Blocks, at: Option<BlockNo>, rank: u16) -> bool
 }
 
 // The head of the last message ahead of a place: before the message with this head, or of all where none is given.
-fn ahead_of(blocks: &Blocks, queue: u8, before: Option<BlockNo>) -> Option<BlockNo>
+pub(super) fn ahead_of(blocks: &Blocks, queue: u8, before: Option<BlockNo>) -> Option<BlockNo>
     requires queue { queue < length blocks.now.shelves }
     requires before { ForSome before (λ head. IsTrue (stands_on blocks.now queue head)) }
     ensures { (pre post : List Message) → shelf_at blocks.now queue ≡ pre ++ post → before ≡ rows.first (map head_of post)
@@ -152,5 +110,46 @@ pub(super) fn fits_before(blocks: &Blocks, queue: u8, before: Option<BlockNo>, r
     match ahead_of(blocks, queue, before) {
         Some(head) => queued_rank(blocks, head) >= rank,
         None => true,
+    }
+}
+
+impl Queues {
+    // The head of the message before which one of this rank stands behind its equals, or none where it is last: it is
+    // the one behind the last message of the smallest rank from this one on that has messages, or else the first.
+    pub(super) fn place_behind(&self, blocks: &Blocks, queue: u8, rank: u16) -> Option<BlockNo>
+        requires queue { queue < length self.now.state.specs }
+        requires rank { rank < ranks }
+        requires in_order { AreInOrder self.now blocks.now }
+        ensures there { ForSome result (λ head. IsTrue (stands_on blocks.now queue head)) }
+        ensures place { (m : Message) → rank_of blocks.now.store m ≡ rank
+            → put_before_head head_of result m (shelf_at blocks.now queue) ≡ put_behind (rank_of blocks.now.store) m (shelf_at blocks.now queue) }
+    {
+        blocks.lawful();
+        let tally = self.tally(queue);
+        match tally.rank_at_least(rank) {
+            Some(found) => {
+                let Some(last) = tally.last(found) else {
+                    unreachable!()
+                };
+                blocks.after(last)
+            }
+            None => blocks.first(queue),
+        }
+    }
+
+    // The head of the message before which one of this rank stands before its equals, or none where it is last: it is
+    // the first message of the greatest rank up to this one that has messages.
+    pub(super) fn place_ahead(&self, blocks: &Blocks, queue: u8, rank: u16) -> Option<BlockNo>
+        requires queue { queue < length self.now.state.specs }
+        requires rank { rank < ranks }
+        requires in_order { AreInOrder self.now blocks.now }
+        ensures there { ForSome result (λ head. IsTrue (stands_on blocks.now queue head)) }
+        ensures place { (m : Message) → rank_of blocks.now.store m ≡ rank
+            → put_before_head head_of result m (shelf_at blocks.now queue) ≡ put_ahead (rank_of blocks.now.store) m (shelf_at blocks.now queue) }
+    {
+        blocks.lawful();
+        let tally = self.tally(queue);
+        let found = tally.rank_at_most(rank)?;
+        tally.first(found)
     }
 }

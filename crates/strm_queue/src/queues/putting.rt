@@ -6,13 +6,13 @@ ghost use Rattle.strm_queue.specs.QueueCalls as model;
 ghost use Rattle.strm_queue.specs.QueuedBlocks.{Agrees, together};
 
 use super::Queues;
-use super::places::{fits_before, head_at, held_rank, place_ahead, place_behind};
+use super::places::{fits_before, head_at, held_rank};
 use strm_data::Refusal;
 use strm_mblk::{Blocks, Rejected, Token};
 
 impl Queues {
     /// Puts a message on a queue, behind the last one of rank at least its own. A high priority message ranks above all
-    /// bands, and its first block gets band 0. Takes a step for each message of lower rank, and one more.
+    /// bands, and its first block gets band 0. Takes a step for each block of the message.
     ///
     /// Rejected as `NoSuchQueue` where there is no such queue; nothing changes then, and the token comes back.
     pub fn putq(&mut self, blocks: &mut Blocks, queue: u8, token: Token) -> Result<(), Rejected>
@@ -27,14 +27,14 @@ impl Queues {
             return Err(Rejected { why, token });
         }
         let rank = held_rank(blocks, &token);
-        let before = place_behind(blocks, queue, self.len(queue), rank);
+        let before = self.place_behind(blocks, queue, rank);
         self.shelve(blocks, queue, before, token);
         self.enable_where(self.enables_put(queue, rank), queue);
         Ok(())
     }
 
     /// Puts a message back on a queue, before the first one of rank at most its own. A high priority message ranks above
-    /// all bands, and its first block gets band 0. Takes a step for each message of greater rank, and one more.
+    /// all bands, and its first block gets band 0. Takes a step for each block of the message.
     ///
     /// Rejected as `NoSuchQueue` where there is no such queue; nothing changes then, and the token comes back.
     pub fn putbq(&mut self, blocks: &mut Blocks, queue: u8, token: Token) -> Result<(), Rejected>
@@ -49,7 +49,7 @@ impl Queues {
             return Err(Rejected { why, token });
         }
         let rank = held_rank(blocks, &token);
-        let before = place_ahead(blocks, queue, self.len(queue), rank);
+        let before = self.place_ahead(blocks, queue, rank);
         self.shelve(blocks, queue, before, token);
         self.enable_where(self.enables_put_back(queue, rank), queue);
         Ok(())

@@ -10,7 +10,8 @@ ghost use Rattle.strm_queue.specs.QueuedBlocks.{AreInOrder};
 ghost use Rattle.strm_queue.specs.Rank.{as_queued, is_ordered, rank_of};
 
 use super::Queues;
-use super::places::{held_rank, queued_rank};
+use super::places::{ahead_of, held_rank, queued_rank};
+use crate::tally::Placed;
 use strm_mblk::{BlockNo, Blocks, Token};
 
 impl Queues {
@@ -33,14 +34,20 @@ impl Queues {
         ensures state { self.new.state ≡ self.old.state }
         ensures in_order { AreInOrder self.new blocks.new }
     {
-        let rank = held_rank(blocks, &token);
-        let size = blocks.size(&token);
-        if rank == 256 {
+        blocks.lawful();
+        let placed = Placed {
+            head: token.head(),
+            rank: held_rank(blocks, &token),
+            size: blocks.size(&token),
+            ahead: ahead_of(blocks, queue, before),
+            behind: before,
+        };
+        if placed.rank == 256 {
             blocks.setband(&token, 0);
         }
         blocks.shelve(queue, before, token);
         blocks.lawful();
-        self.join(queue, rank, size);
+        self.join(queue, placed);
     }
 
     // Takes the message with this head off a queue. Takes a step for each of its blocks.
@@ -56,9 +63,14 @@ impl Queues {
         ensures in_order { AreInOrder self.new blocks.new }
     {
         blocks.lawful();
-        let rank = queued_rank(blocks, head);
-        let size = blocks.head_size(head);
-        self.leave(queue, rank, size);
+        let placed = Placed {
+            head,
+            rank: queued_rank(blocks, head),
+            size: blocks.head_size(head),
+            ahead: blocks.before(head),
+            behind: blocks.after(head),
+        };
+        self.leave(queue, placed);
         blocks.unshelve(queue, head)
     }
 }

@@ -2,7 +2,8 @@ use Rattle.std.proofs.Common.{ap, arith, ◌∙◌}
 use Rattle.std.specs.Prelude.{sum}
 use Rattle.strm_mblk.specs.Arena.{shelf_at}
 use Rattle.strm_queue.specs.Flow.{spec_at}
-use Rattle.strm_queue.specs.QueuedBlocks.{Tally, tally_at}
+use Rattle.strm_queue.specs.QueuedBlocks.{tally_at}
+use Rattle.strm_queue.specs.Tallies.{Tally}
 use Rattle.strm_queue.proofs.Counts.{bytes_fit}
 use Rattle.strm_queue.proofs.Tallies.{tally_bytes}
 use Rattle.strm_queue.proofs.queues.Queues.bytes.Goals as goal

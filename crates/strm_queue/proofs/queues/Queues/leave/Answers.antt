@@ -1,6 +1,7 @@
 use Rattle.std.proofs.Common.{refl, ◌∙◌}
-use Rattle.strm_queue.specs.Flow.{band_of_rank, spec_at}
-use Rattle.strm_queue.specs.QueuedBlocks.{one_less, tally_at}
+use Rattle.strm_queue.specs.Flow.{spec_at}
+use Rattle.strm_queue.specs.QueuedBlocks.{tally_at}
+use Rattle.strm_queue.specs.Tallies.{one_less}
 use Rattle.strm_queue.proofs.Stored.{lawful_changed, spec_seen, tally_changed, tally_seen}
 use Rattle.strm_queue.proofs.queues.Queues.leave.Goals as goal
 
@@ -13,5 +14,5 @@ returns c =
     let spec = spec_seen c.self.inside c.from.result c.index_mut.result.now y c.index_mut.ensures.value refl c.args.self.now c.self.view_is c.args.queue c.from.ensures c.requires.queue in
     let tally = tally_seen c.self.inside c.from.result c.index_mut.result.now y c.index_mut.ensures.value refl c.args.self.now c.self.view_is c.args.queue c.from.ensures c.requires.queue in
     tally_changed c.self.inside c.from.result c.index_mut.result.now y c.index_mut.ensures.value refl c.args.self.now c.self.view_is c.args.queue c.from.ensures
-    (one_less (spec_at c.args.self.now.state.specs c.args.queue).hiwat (band_of_rank c.args.rank) c.args.size (tally_at c.args.self.now c.args.queue))
-    (c.leave.ensures ∙ (λ i. one_less (spec i).hiwat (c.band_of.ensures i) c.args.size (tally i))) refl
+    (one_less (spec_at c.args.self.now.state.specs c.args.queue).hiwat c.args.placed (tally_at c.args.self.now c.args.queue))
+    (c.leave.ensures ∙ (λ i. one_less (spec i).hiwat c.args.placed (tally i))) refl

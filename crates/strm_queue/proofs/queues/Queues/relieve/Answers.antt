@@ -2,7 +2,8 @@ use Rattle.std.proofs.Common.{ℕ, ◌&&◌, Bool, List, refl, ap, ◌∙◌}
 use Rattle.std.specs.Prelude.{nat_le, not, slice_index_or}
 use Rattle.std.specs.List.{list_any}
 use Rattle.strm_queue.specs.Flow.{Marks, bands_where, every_band, is_wanted, spec_at}
-use Rattle.strm_queue.specs.QueuedBlocks.{tally_at, Tally}
+use Rattle.strm_queue.specs.QueuedBlocks.{tally_at}
+use Rattle.strm_queue.specs.Tallies.{Tally}
 use Rattle.strm_queue.proofs.Stored.{lawful_changed, marks_changed, marks_seen, spec_seen, tally_seen}
 use Rattle.strm_queue.proofs.queues.Queues.relieve.Goals as goal
 

@@ -1,75 +1,112 @@
-use Rattle.std.proofs.Common.{◌≡◌, ◌+◌, ◌<◌, ◌^◌, ap, arith, length, subst, sym, ◌∙◌, get_or-set_same, length-set, []}
+use Rattle.std.proofs.Common.{◌≡◌, ◌<◌, ◌^◌, ap, arith, length, subst, sym, ◌∙◌, get_or-set_same, length-set, [], ◌++◌, ◌∷◌, set, length-append}
 use Rattle.strm_mblk.specs.Arena.{Arena, message_at, shelf_at, with_shelf, without_held}
-use Rattle.strm_mblk.specs.Block.{Message, head_of, size_of}
-use Rattle.strm_mblk.specs.Messages.{put_before_head}
+use Rattle.strm_mblk.specs.Block.{Message, head_of}
+use Rattle.strm_mblk.specs.Messages.{put_before_head, blocks_of}
 use Rattle.strm_mblk.specs.Shelves.{shelve}
 use Rattle.strm_mblk.proofs.arena.Tokens.{had_message}
-use Rattle.strm_queue.specs.Flow.{band_of_rank, bytes_on, spec_at}
-use Rattle.strm_queue.specs.QueuedBlocks.{AreInOrder, one_more, tally_at, with_tally, count_of}
-use Rattle.strm_queue.specs.Rank.{as_queued, rank_of}
+use Rattle.strm_queue.specs.Flow.{bytes_on, spec_at}
+use Rattle.strm_queue.specs.QueuedBlocks.{AreInOrder, tally_at}
+use Rattle.strm_queue.specs.Tallies.{IsTallyOf}
+use Rattle.strm_queue.specs.Rank.{as_queued, rank_of, is_ordered}
 use Rattle.strm_queue.proofs.Agreeing.{in_order_put}
-use Rattle.strm_queue.proofs.Counts.{bytes_fit, length-placed}
-use Rattle.strm_queue.proofs.Ranks.{rank_of-queued, size_of-queued}
+use Rattle.strm_queue.proofs.Counts.{bytes_fit}
+use Rattle.strm_queue.proofs.Ranks.{rank_of-queued, size_of-queued, head_of-queued}
 use Rattle.strm_queue.proofs.Shelve.{few_on_shelf, shelve_high, shelve_low}
-use Rattle.strm_queue.proofs.Tallies.{joins_few}
+use Rattle.strm_queue.proofs.Tallies.{joins_few, IsPlaced}
 use Rattle.strm_queue.proofs.queues.Queues.shelve.Goals as goal
-use Rattle.strm_queue.proofs.queues.Queues.shelve.Goals.{After-lawful, then-rank-eq256, else-rank-eq256}
+use Rattle.strm_queue.proofs.queues.Queues.shelve.Goals.{After-lawful-2, then-placed-eq256, else-placed-eq256}
+use Rattle.strm_links.specs.Rows.{IsApart}
+use Rattle.strm_queue.proofs.OnShelf.{heads}
+use Rattle.strm_queue.proofs.Fits.{IsParting, parting, placed_here}
+use Rattle.strm_mblk.proofs.arena.Stands.{heads_apart}
+use Rattle.strm_queue.specs.declared.tally.Placed.{Placed}
+use Rattle.std.specs.Prelude.{IfSome}
 
 -- the message, as it stands on the queue
-abbrev m : After-lawful → Message
+abbrev m : After-lawful-2 → Message
 m c = as_queued c.args.blocks.now.store (message_at c.args.blocks.now c.args.token.head)
 
-after : (c : After-lawful) → c.shelve.new.self ≡ with_shelf c.args.queue (put_before_head head_of c.args.before (m c) (shelf_at c.args.blocks.now c.args.queue)) (without_held c.args.token.head c.args.blocks.now)
+after : (c : After-lawful-2) → c.shelve.new.self ≡ with_shelf c.args.queue (put_before_head head_of c.args.before (m c) (shelf_at c.args.blocks.now c.args.queue)) (without_held c.args.token.head c.args.blocks.now)
 after c =
     let had = had_message c.args.blocks.now c.args.token c.requires.had in
     c.shelve.ensures.after
-    ∙ elim c.if-rank-eq256.branch [
-      | then-rank-eq256 w ↦
+    ∙ elim c.if-placed-eq256.branch [
+      | then-placed-eq256 w ↦
           ap (shelve c.args.queue c.args.before c.args.token.head) (w.blocks-is ∙ w.setband.ensures.after)
-          ∙ shelve_high c.args.blocks.now c.args.queue c.args.before c.args.token.head had.0 had.1.held (c.held_rank-rank.ensures.high w.if-rank-eq256.true)
-      | else-rank-eq256 w ↦
+          ∙ shelve_high c.args.blocks.now c.args.queue c.args.before c.args.token.head had.0 had.1.held (c.held_rank.ensures.high w.if-placed-eq256.true)
+      | else-placed-eq256 w ↦
           ap (shelve c.args.queue c.args.before c.args.token.head) w.blocks-is
-          ∙ shelve_low c.args.blocks.now c.args.queue c.args.before c.args.token.head (λ is. w.if-rank-eq256.false (c.held_rank-rank.ensures.value ∙ is))
+          ∙ shelve_low c.args.blocks.now c.args.queue c.args.before c.args.token.head (λ is. w.if-placed-eq256.false (c.held_rank.ensures.value ∙ is))
     ]
 
--- its rank and its bytes are those that it had
-abbrev rank_is : (c : After-lawful) → c.held_rank-rank.result ≡ rank_of c.args.blocks.now.store (m c)
-rank_is c = c.held_rank-rank.ensures.value ∙ sym (rank_of-queued c.args.blocks.now.store (message_at c.args.blocks.now c.args.token.head))
-
-abbrev size_is : (c : After-lawful) → c.size-size.result ≡ size_of (m c)
-size_is c = c.size-size.ensures ∙ sym (size_of-queued c.args.blocks.now.store (message_at c.args.blocks.now c.args.token.head))
+-- the messages on both sides of its place
+abbrev sides : (c : After-lawful-2) → IsParting c.args.blocks.now c.args.queue c.args.before
+sides c = parting c.args.blocks.now c.args.queue c.args.before c.requires.before
 
 -- the queue with it
-here : (c : After-lawful) → shelf_at c.shelve.new.self c.args.queue ≡ put_before_head head_of c.args.before (m c) (shelf_at c.args.blocks.now c.args.queue)
-here c = ap (λ (b : Arena). shelf_at b c.args.queue) (after c) ∙ get_or-set_same c.args.blocks.now.shelves c.args.queue (put_before_head head_of c.args.before (m c) (shelf_at c.args.blocks.now c.args.queue)) [] (omega (arith, c.requires.queue, c.requires.in_order.shelves))
+between : (c : After-lawful-2) → put_before_head head_of c.args.before (m c) (shelf_at c.args.blocks.now c.args.queue) ≡ (sides c).pre ++ m c ∷ (sides c).post
+between c = placed_here c.args.blocks.now c.lawful.ensures.parted c.args.queue c.args.before (sides c).pre (sides c).post (sides c).is (sides c).at (m c)
+
+here : (c : After-lawful-2) → shelf_at c.shelve.new.self c.args.queue ≡ (sides c).pre ++ m c ∷ (sides c).post
+here c =
+    ap (λ (b : Arena). shelf_at b c.args.queue) (after c)
+    ∙ get_or-set_same c.args.blocks.now.shelves c.args.queue (put_before_head head_of c.args.before (m c) (shelf_at c.args.blocks.now c.args.queue)) [] (omega (arith, c.requires.queue, c.requires.in_order.shelves))
+    ∙ between c
+
+-- how it stands there
+abbrev own : After-lawful-2 → Placed
+own c = record { head = c.head.result; rank = c.held_rank.result; size = c.size.result; ahead = c.ahead_of.result; behind = c.args.before }
+
+head_is : (c : After-lawful-2) → head_of (message_at c.args.blocks.now c.args.token.head) ≡ c.args.token.head
+head_is c =
+    let had = had_message c.args.blocks.now c.args.token c.requires.had in
+    ap (λ o. head_of (blocks_of o)) had.1.held
+    ∙ (subst (λ o. IfSome o (λ m. (0 < length m) × (head_of m ≡ c.args.token.head))) had.1.held (c.lawful.ensures.parted.heads c.args.token.head)).1
+
+placed : (c : After-lawful-2) → IsPlaced c.args.blocks.now.store (sides c).pre (sides c).post (m c) (own c)
+placed c = record {
+  head = c.head.ensures ∙ sym (head_of-queued c.args.blocks.now.store (message_at c.args.blocks.now c.args.token.head) ∙ head_is c);
+  rank = c.held_rank.ensures.value ∙ sym (rank_of-queued c.args.blocks.now.store (message_at c.args.blocks.now c.args.token.head));
+  size = c.size.ensures ∙ sym (size_of-queued c.args.blocks.now.store (message_at c.args.blocks.now c.args.token.head));
+  ahead = c.ahead_of.ensures (sides c).pre (sides c).post (sides c).is (sides c).at;
+  behind = (sides c).at;
+  few = c.held_rank.ensures.few;
+}
+
+-- what is stored is true of the queue without it
+true_of : (c : After-lawful-2) → IsTallyOf c.args.blocks.now.store (spec_at c.args.self.now.state.specs c.args.queue).hiwat ((sides c).pre ++ (sides c).post) (tally_at c.args.self.now c.args.queue)
+true_of c =
+    subst (λ ms. IsTallyOf c.args.blocks.now.store (spec_at c.args.self.now.state.specs c.args.queue).hiwat ms (tally_at c.args.self.now c.args.queue)) (sides c).is
+    (c.requires.in_order.true_of c.args.queue c.requires.queue)
 
 pub join-requires-clause-len : goal.join-requires-clause-len
 join-requires-clause-len c =
-    let at = (goal.at.join-requires-clause-len c).After-lawful in
+    let at = (goal.at.join-requires-clause-len c).After-lawful-2 in
     omega (
       arith,
-      few_on_shelf c.shelve.new.self c.lawful.ensures.parted c.args.queue 4095
+      few_on_shelf c.shelve.new.self c.lawful-2.ensures.parted c.args.queue 4095
           (omega (arith, c.requires.queue, c.requires.in_order.shelves, ap (λ (b : Arena). length b.shelves) (after at), length-set c.args.blocks.now.shelves c.args.queue (put_before_head head_of c.args.before (m at) (shelf_at c.args.blocks.now c.args.queue))))
-          (omega (arith, c.lawful.ensures.few, c.lawful.ensures.whole)),
+          (omega (arith, c.lawful-2.ensures.few, c.lawful-2.ensures.whole)),
       ap length (here at),
-      length-placed c.args.before (m at) (shelf_at c.args.blocks.now c.args.queue),
-      (c.requires.in_order.true_of c.args.queue c.requires.queue).len,
+      length-append (sides at).pre (m at ∷ (sides at).post),
+      length-append (sides at).pre (sides at).post,
+      (true_of at).len,
     )
 
 pub join-requires-clause-count : goal.join-requires-clause-count
 join-requires-clause-count c =
-    let at = (goal.at.join-requires-clause-count c).After-lawful in
-    let few = joins_few c.args.blocks.now.store (m at) (spec_at c.args.self.now.state.specs c.args.queue).hiwat (tally_at c.args.self.now c.args.queue) c.args.before (shelf_at c.args.blocks.now c.args.queue)
-    (c.requires.in_order.true_of c.args.queue c.requires.queue)
-    (subst (λ ms. bytes_on ms < 2 ^ 32) (here at) (bytes_fit c.shelve.new.self c.lawful.ensures.kept c.lawful.ensures.within c.lawful.ensures.few c.lawful.ensures.whole c.args.queue)) in
-    subst (λ n. count_of (tally_at c.args.self.now c.args.queue) (band_of_rank n) + c.size-size.result < 2 ^ 32) (sym (rank_is at)) (omega (arith, few, size_is at))
+    let at = (goal.at.join-requires-clause-count c).After-lawful-2 in
+    joins_few c.args.blocks.now.store (m at) (spec_at c.args.self.now.state.specs c.args.queue).hiwat (tally_at c.args.self.now c.args.queue) (sides at).pre (sides at).post (own at) (placed at) (true_of at)
+    (subst (λ ms. bytes_on ms < 2 ^ 32) (here at) (bytes_fit c.shelve.new.self c.lawful-2.ensures.kept c.lawful-2.ensures.within c.lawful-2.ensures.few c.lawful-2.ensures.whole c.args.queue))
 
 pub returns-clause-after : goal.returns-clause-after
-returns-clause-after c = after (goal.at.returns-clause-after c).After-lawful
+returns-clause-after c = after (goal.at.returns-clause-after c).After-lawful-2
 
 pub returns-clause-in_order : goal.returns-clause-in_order
 returns-clause-in_order c =
-    let at = (goal.at.returns-clause-in_order c).After-lawful in
-    let hiwat = (spec_at c.args.self.now.state.specs c.args.queue).hiwat in
-    subst (λ v. AreInOrder v c.shelve.new.self) (sym (c.join.ensures ∙ (λ i. with_tally c.args.queue (one_more hiwat (band_of_rank (rank_is at i)) (size_is at i) (tally_at c.args.self.now c.args.queue)) c.args.self.now)))
-    (in_order_put c.args.self.now c.args.blocks.now c.requires.in_order c.args.queue c.requires.queue (m at) c.shelve.new.self (ap (λ (b : Arena). b.store) (after at)) c.args.before (ap (λ (b : Arena). b.shelves) (after at)) c.requires.ordered)
+    let at = (goal.at.returns-clause-in_order c).After-lawful-2 in
+    subst (λ v. AreInOrder v c.shelve.new.self) (sym c.join.ensures)
+    (in_order_put c.args.self.now c.args.blocks.now c.requires.in_order c.args.queue c.requires.queue (m at) c.shelve.new.self (ap (λ (b : Arena). b.store) (after at)) (sides at).pre (sides at).post (own at) (placed at)
+    (subst (λ ms. IsApart (heads ms)) (here at) (heads_apart c.shelve.new.self c.lawful-2.ensures.parted c.args.queue)) (sides at).is
+    (ap (λ (b : Arena). b.shelves) (after at) ∙ ap (set c.args.blocks.now.shelves c.args.queue) (between at))
+    (sym (ap (is_ordered (rank_of c.args.blocks.now.store)) (between at)) ∙ c.requires.ordered))

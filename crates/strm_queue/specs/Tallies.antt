@@ -1,0 +1,106 @@
+-- What is stored of a queue's messages, and when it is true of them.
+use Rattle.std.specs.Prelude.{◌≡◌, ℕ, ◌+◌, ◌-◌, ◌<◌, ◌≤◌, Bool, true, false, nat_le, nat_lt, List, length, replicate, slice_index_or, slice_set, Option, None, Some, is_some, if◌then◌else◌}
+use Rattle.strm_data.specs.DataStore.{DataStore}
+use Rattle.strm_links.specs.Rows as rows
+use Rattle.strm_mblk.specs.Block.{Message}
+use Rattle.strm_queue.specs.declared.tally.Placed.{Placed}
+use Rattle.strm_queue.specs.Ends.{first_of_rank, last_of_rank}
+use Rattle.strm_queue.specs.Flow.{band_count, band_of_rank, bands_where, is_wanted}
+use Rattle.strm_queue.specs.Limits.{bands, ranks}
+use Rattle.strm_queue.specs.Rank.{rank_of}
+
+-- How many messages there are; for each band how many bytes it has, and whether it is full; for each rank the heads of
+-- its first and of its last message, if it has some; and for each rank that is a band whether it has some.
+pub record Tally : Type 0 where
+  pub len : ℕ
+  pub counts : List ℕ
+  pub full : List Bool
+  pub firsts : List (Option ℕ)
+  pub lasts : List (Option ℕ)
+  pub used : List Bool
+
+abbrev pub no_tally : Tally
+no_tally = record {
+  len = 0;
+  counts = replicate bands 0;
+  full = bands_where (λ band. false);
+  firsts = replicate ranks None;
+  lasts = replicate ranks None;
+  used = bands_where (λ band. false);
+}
+
+-- how many bytes are stored of a band
+abbrev pub count_of : Tally → ℕ → ℕ
+count_of t band = slice_index_or t.counts band 0
+
+-- what is stored as the first and the last message of a rank
+abbrev pub first_in : Tally → ℕ → Option ℕ
+first_in t r = slice_index_or t.firsts r None
+
+abbrev pub last_in : Tally → ℕ → Option ℕ
+last_in t r = slice_index_or t.lasts r None
+
+-- ---- when it is true
+
+-- what is stored for ranks is the first and the last of their messages
+pub record AreEndsOf (rank : Message → ℕ) (ms : List Message) (t : Tally) : Type 0 where
+  pub each_first : length t.firsts ≡ ranks
+  pub each_last : length t.lasts ≡ ranks
+  pub each_used : length t.used ≡ bands
+  pub firsts : (r : ℕ) → first_in t r ≡ first_of_rank rank r ms
+  pub lasts : (r : ℕ) → last_in t r ≡ last_of_rank rank r ms
+  pub used : (r : ℕ) → r < bands → is_wanted t.used r ≡ is_some (first_of_rank rank r ms)
+
+-- what is stored is true of these messages, on a queue with this high water mark
+pub record IsTallyOf (s : DataStore) (hiwat : ℕ) (ms : List Message) (t : Tally) : Type 0 where
+  pub len : t.len ≡ length ms
+  pub each_band : length t.counts ≡ bands
+  pub each_mark : length t.full ≡ bands
+  pub counts : (band : ℕ) → band < bands → count_of t band ≡ band_count s band ms
+  pub full : (band : ℕ) → band < bands → is_wanted t.full band ≡ nat_le hiwat (band_count s band ms)
+  pub ends : AreEndsOf (rank_of s) ms t
+
+-- ---- one joins, one leaves
+
+-- so many bytes are stored of a band, which is full where these are as many as the high water mark
+abbrev pub with_count : ℕ → ℕ → ℕ → Tally → Tally
+with_count hiwat band n t = record t { counts = slice_set t.counts band n; full = slice_set t.full band (nat_le hiwat n) }
+
+-- these are stored as the first and the last message of a rank
+abbrev pub with_ends : ℕ → Option ℕ → Option ℕ → Tally → Tally
+with_ends r first last t = record t { firsts = slice_set t.firsts r first; lasts = slice_set t.lasts r last; used = slice_set t.used r (is_some first) }
+
+-- an end of a rank once this message has joined it: it, where there was none, or where the end stands beside it
+abbrev pub end_joined : Option ℕ → Option ℕ → ℕ → Option ℕ
+end_joined None beside head = Some head
+end_joined (Some at) beside head = if rows.is_some_of at beside then Some head else Some at
+
+-- an end of a rank, whose other end is given, once this message has left: the one beside it, where it was this end alone
+abbrev pub end_left : Option ℕ → Option ℕ → Option ℕ → ℕ → Option ℕ
+end_left end other beside head = if rows.is_some_of head end then (if rows.is_some_of head other then None else beside) else end
+
+-- a message has joined
+abbrev pub one_more : ℕ → Placed → Tally → Tally
+one_more hiwat p t =
+    with_ends p.rank (end_joined (first_in t p.rank) p.behind p.head) (end_joined (last_in t p.rank) p.ahead p.head)
+    (with_count hiwat (band_of_rank p.rank) (count_of t (band_of_rank p.rank) + p.size) (record t { len = t.len + 1 }))
+
+-- a message has left
+abbrev pub one_less : ℕ → Placed → Tally → Tally
+one_less hiwat p t =
+    with_ends p.rank (end_left (first_in t p.rank) (last_in t p.rank) p.behind p.head) (end_left (last_in t p.rank) (first_in t p.rank) p.ahead p.head)
+    (with_count hiwat (band_of_rank p.rank) (count_of t (band_of_rank p.rank) - p.size) (record t { len = t.len - 1 }))
+
+-- ---- ranks that have messages
+
+-- whether a rank has messages, by what is stored
+abbrev pub has_rank : Tally → ℕ → Bool
+has_rank t r = if nat_lt r bands then is_wanted t.used r else is_some (first_in t r)
+
+-- found is the smallest rank from this one on that has messages
+abbrev pub IsRankFrom : Tally → ℕ → ℕ → Type 0
+IsRankFrom t r found = (r ≤ found) × (found < ranks) × (has_rank t found ≡ true) × ((x : ℕ) → r ≤ x → x < found → has_rank t x ≡ false)
+
+-- found is the greatest rank up to this one that has messages
+abbrev pub IsRankTo : Tally → ℕ → ℕ → Type 0
+IsRankTo t r found = (found ≤ r) × (has_rank t found ≡ true) × ((x : ℕ) → found < x → x ≤ r → has_rank t x ≡ false)
