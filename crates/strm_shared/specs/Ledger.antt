@@ -23,8 +23,8 @@ blocks_held rs = blocks_told (entries_of rs)
 abbrev pub blocks_at : List DeskValue → ℕ
 blocks_at ds = sum_by (λ d. blocks_held d.regs) ds
 
--- A pool whose desks all came back: each of its message blocks is free, on a queue or held, and those that are held are
--- the blocks of the tokens in the desks' registers.
+-- A pool whose desks all came back: free message blocks, queued and held ones make the pool, and as many are held as the
+-- tokens in the desks' registers have.
 pub record AreAll (v : PoolValue) (ds : List DeskValue) : Type 0 where
   pub whole : (census_of v.arena).free + (census_of v.arena).queued + (census_of v.arena).held ≡ length v.arena.held
   pub held : (census_of v.arena).held ≡ blocks_at ds

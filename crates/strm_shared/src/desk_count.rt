@@ -5,7 +5,7 @@ use crate::name::Name;
 use std::marker::PhantomData;
 
 // How many desks were handed out, as the name says.
-#[derive(Debug, Drop)]
+#[derive(Drop)]
 pub(crate) struct DeskCount<N: Name> {
     pub(crate) number: u8,
     pub(crate) of: PhantomData<N>,

@@ -3,8 +3,8 @@ use crate::name::Name;
 use std::marker::PhantomData;
 use std::sync::ledger::Ledger;
 
-// The ledger of the message blocks that are held of one shared pool. Its book lies in the pool's, and counts them all; each
-// desk has one part of it, and a share that counts the blocks of the desk's tokens.
+// The ledger of the message blocks that are held of one shared pool. Its book, in that of the pool, counts them all; it has
+// a part for each desk, and the share of a desk counts the blocks of its tokens.
 pub(crate) struct Held<N: Name> {
     of: PhantomData<N>,
 }

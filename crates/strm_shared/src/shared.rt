@@ -50,8 +50,8 @@ impl<N: Name> Shared<N> {
 
     /// Ends the sharing: the pool, and the desks in the order of their numbers.
     ///
-    /// Free, queued and held message blocks make the pool, and those that are held are the blocks of the tokens in the
-    /// registers of these desks.
+    /// Free, queued and held message blocks make the pool, and as many are held as the tokens in the registers of these
+    /// desks have.
     ///
     /// Refused as `DeskMissing` where fewer desks come than were handed out. Desks and pool come back as they were then; of
     /// the book behind the lock contracts see nothing, so of the pool only tests say so.
