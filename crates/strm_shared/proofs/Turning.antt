@@ -3,7 +3,7 @@ use Rattle.std.proofs.Common.{◌≡◌, ℕ, ◌+◌, ◌<◌, Bool, true, fals
 use Rattle.std.specs.Prelude.{option_map}
 use Rattle.std.proofs.lemmas.List.{get_or_default}
 use Rattle.strm_mblk.specs.declared.token.TokenValue.{TokenValue}
-use Rattle.strm_mblk.specs.Arena.{token_of}
+use Rattle.strm_mblk.specs.Arena.{census_of, token_of}
 use Rattle.strm_pool.specs.declared.call.Call.{Call}
 use Rattle.strm_pool.specs.declared.reply.Reply.{Reply}
 use Rattle.strm_pool.specs.PoolValue.{PoolValue, owns}
@@ -12,7 +12,9 @@ use Rattle.strm_pool.specs.Step.{Applies, is_named}
 use Rattle.strm_pool.proofs.Accounts.{accounted_distinct, accounted_owned, owned_carry}
 use Rattle.strm_shared.specs.Books.{BookValue, IsBookOf, IsServed, book_value, table_at}
 use Rattle.strm_shared.specs.Desks.{DeskValue, IsDeskOf, desk_value}
+use Rattle.strm_shared.specs.Ledger.{blocks_held}
 use Rattle.strm_shared.specs.Limits.{most_stamp}
+use Rattle.strm_shared.proofs.Weighing.{held_moves}
 
 -- the table that is looked at is that of the desk
 pub table_is : (b : BookValue) (n : ℕ) (t : Entries) → n < length b.tables → t ≡ get_or b.tables n t → table_at b n ≡ t
@@ -36,6 +38,12 @@ module _ (id desks first : ℕ) (b : BookValue) (d : DeskValue) (lawful : IsBook
       others x unnamed =
           applies.tokens x
           ∙ ap (λ (named : Bool). if named then option_map (token_of w.arena) (register (table_of ss) x) else register d.regs x) unnamed
+
+      -- what is held of the pool moves by what the desk's registers tell
+      pub held_moved : (census_of w.arena).held + blocks_held d.regs ≡ (census_of b.pool.arena).held + blocks_held ss
+      held_moved =
+          held_moves b.pool.arena w.arena b.tables d.number (entries_of d.regs) (entries_of ss) within known lawful.accounted
+          (applies.accounted b.tables d.number within known lawful.accounted)
 
       pub desk_next : IsDeskOf id desks (desk_value d.number ss)
       desk_next = record {

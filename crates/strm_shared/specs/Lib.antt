@@ -1,6 +1,8 @@
 pub mod Limits
 pub mod Desks
 pub mod DesksLayout
+pub mod Ledger
+pub mod LedgerLayout
 pub mod Books
 pub mod BooksLayout
 pub mod Starts

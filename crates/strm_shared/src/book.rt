@@ -1,13 +1,15 @@
 //! What the lock of a shared pool guards.
-ghost use Rattle.std.specs.Prelude.{◌≡◌};
+ghost use Rattle.std.specs.Prelude.{◌≡◌, ◌+◌, ◌<◌, ◌≤◌};
 ghost use Rattle.strm_shared.specs.Books.{Answers, IsLawfulBook};
 
 use crate::desk::Desk;
 use crate::desk_table::DeskTable;
+use crate::held::Held;
 use crate::limits::MOST_STAMP;
 use crate::name::Name;
 use crate::shared::Shared;
 use std::marker::{Model, PhantomData};
+use std::sync::ledger::{self, Ledger, Share};
 use strm_pool::{Call, Pool, Refusal, Reply};
 
 /// What the lock of a shared pool guards: the pool, the stamp, which each served call raises by 1, and for each desk what
@@ -17,17 +19,19 @@ pub struct Book<N: Name> {
     pub(crate) pool: Pool,
     pub(crate) stamp: u64,
     pub(crate) tables: Vec<DeskTable>,
+    pub(crate) held: ledger::Book<Held<N>>,
     pub(crate) of: PhantomData<N>,
 }
 
 impl<N: Name> Model for Book<N> {
     ghost use Rattle.strm_shared.specs.Books.{BookValue, IsBookOf, book_value};
+    ghost use Rattle.strm_shared.specs.LedgerLayout.{IsCounted};
 
     ghost Value = { BookValue };
 
     ghost view = { λ b. book_value b.pool b.stamp b.tables.items };
 
-    ghost invariant = { λ b. IsBookOf N.id N.desks N.first (book_value b.pool b.stamp b.tables.items) };
+    ghost invariant = { λ b. IsBookOf N.id N.desks N.first (book_value b.pool b.stamp b.tables.items) × IsCounted N.desks b.held.total b.pool };
 }
 
 impl<N: Name> Book<N> {
@@ -61,9 +65,27 @@ impl<N: Name> Book<N> {
         if !self.tables[number].is_of(&desk.regs) {
             return Err(Refusal::Stranger);
         }
+        let before = self.pool.census().held;
         let reply = self.pool.apply(&mut desk.regs, call);
+        let after = self.pool.census().held;
+        count_held(&mut self.held, &mut desk.share, before, after);
         self.tables[number].note(&desk.regs, &call.names());
         self.stamp += 1;
         Ok(reply)
+    }
+}
+
+// Counts that so many blocks are held now, where it was so many before, which a desk's call has changed.
+fn count_held<L: Ledger>(held: &mut ledger::Book<L>, share: &mut Share<L>, before: u32, after: u32)
+    requires part { 0 < share.old.parts }
+    requires enough { before ≤ share.old.amount + after }
+    ensures total { held.new.total + before ≡ held.old.total + after }
+    ensures amount { share.new.amount + before ≡ share.old.amount + after }
+    ensures parts { share.new.parts ≡ share.old.parts }
+{
+    if before < after {
+        held.add(share, u64::from(after - before));
+    } else {
+        held.sub(share, u64::from(before - after));
     }
 }

@@ -1,15 +1,18 @@
 //! A list of desks that takes no memory.
-ghost use Rattle.std.specs.Prelude.{◌≡◌, ◌≤◌, ◌<◌, ◌++◌, ◌∷◌, [], Some, length, remove, slice_index_or, IsPermutation, IsTrue, ◌↔◌};
+ghost use Rattle.std.specs.Prelude.{◌≡◌, ◌+◌, ◌≤◌, ◌<◌, ◌++◌, ◌∷◌, [], Some, length, remove, slice_index_or, IsPermutation, IsTrue, ◌↔◌};
 ghost use Rattle.std.specs.List.Sorted.{IsNonDecreasingBy};
 ghost use Rattle.strm_shared.specs.Desks.{DeskValue};
 ghost use Rattle.strm_shared.specs.DesksLayout.{IsFilled, desk_in};
+ghost use Rattle.strm_shared.specs.Ledger.{blocks_at};
 ghost use Rattle.strm_shared.specs.Limits.{most_workers};
 
 use crate::desk::Desk;
+use crate::held::Held;
 use crate::limits::MOST_WORKERS;
 use crate::name::Name;
 use arrayvec::ArrayVec;
 use std::marker::Model;
+use std::sync::ledger::{self, Share};
 
 // A place of the list; one that is not in use is empty. The elements of an `ArrayVec` must be such as may be dropped;
 // dropped, a place gives its desk up, with the tokens in it.
@@ -170,6 +173,61 @@ impl<N: Name> Desks<N> {
         self.places
             .as_mut_slice()
             .sort_unstable_by_key(|place| place.number());
+    }
+
+    // Tells of the ledger's book that it counts what these desks hold, where all parts of the ledger are here. Nothing
+    // changes.
+    pub(crate) fn audit(&mut self, held: &mut ledger::Book<Held<N>>)
+        requires some { 0 < length self.old }
+        requires few { length self.old ≤ most_workers }
+        ensures same { self.new ≡ self.old }
+        ensures all { N.desks ≤ length self.old → held.old.total ≡ blocks_at self.old }
+    {
+        let Desk {
+            number,
+            regs,
+            mut share,
+            of,
+        } = self.take_last();
+        self.audit_beside(held, &mut share);
+        self.push(Desk {
+            number,
+            regs,
+            share,
+            of,
+        });
+    }
+
+    // The same, where some parts of the ledger are in a share beside the desks.
+    fn audit_beside(&mut self, held: &mut ledger::Book<Held<N>>, share: &mut Share<Held<N>>)
+        requires room { length self.old < most_workers }
+        requires some { 0 < share.old.parts }
+        requires few { share.old.parts ≤ N.desks }
+        ensures same { self.new ≡ self.old }
+        ensures parts { share.new.parts ≡ share.old.parts }
+        ensures amount { share.new.amount ≡ share.old.amount }
+        ensures all { N.desks ≤ share.old.parts + length self.old → held.old.total ≡ share.old.amount + blocks_at self.old }
+    {
+        if self.is_empty() {
+            held.audit(share);
+            return;
+        }
+        let desk = self.take_last();
+        let blocks = desk.blocks_held();
+        let Desk {
+            number,
+            regs,
+            share: part,
+            of,
+        } = desk;
+        share.merge(part);
+        self.audit_beside(held, share);
+        self.push(Desk {
+            number,
+            regs,
+            share: share.split_off(1, blocks),
+            of,
+        });
     }
 
     /// Ends an empty list.

@@ -3,9 +3,11 @@
 
 mod book;
 mod desk;
+mod desk_count;
 mod desk_table;
 mod desks;
 mod gate;
+mod held;
 mod limits;
 mod line;
 mod listed;

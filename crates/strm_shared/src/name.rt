@@ -14,6 +14,9 @@ pub trait Name {
 
     // The stamp before the first call.
     ghost first: { ℕ };
+
+    // The ledger of the blocks that are held of the pool.
+    ghost ledger: { ℕ };
 }
 
 impl Name for Brand {
@@ -22,4 +25,6 @@ impl Name for Brand {
     ghost desks = { 0 };
 
     ghost first = { 0 };
+
+    ghost ledger = { 0 };
 }

@@ -4,12 +4,13 @@ ghost use Rattle.std.specs.List.Sorted.{IsNonDecreasingBy};
 ghost use Rattle.strm_data.specs.declared.refusal.Refusal.TheVariants.{DeskMissing};
 ghost use Rattle.strm_shared.specs.Books.{IsAfter};
 ghost use Rattle.strm_shared.specs.Desks.{DeskValue};
+ghost use Rattle.strm_shared.specs.Ledger.{AreAll};
 
 use crate::book::Book;
 use crate::desk::Desk;
+use crate::desk_count::DeskCount;
 use crate::desks::Desks;
 use crate::name::Name;
-use std::marker::PhantomData;
 use std::sync::{Mutex, Wait};
 use strm_pool::{Call, Pool, Refusal, Reply};
 
@@ -17,9 +18,7 @@ use strm_pool::{Call, Pool, Refusal, Reply};
 #[derive(Drop)]
 pub struct Shared<N: Name> {
     pub(crate) book: Mutex<Book<N>>,
-    pub(crate) desks: u8,
-    pub(crate) of: PhantomData<N>,
-    pub ghost counted: { desks ≡ N.desks },
+    pub(crate) count: DeskCount<N>,
 }
 
 /// What is left of a shared pool when all desks came back: the pool, and the desks in the order of their numbers.
@@ -51,6 +50,9 @@ impl<N: Name> Shared<N> {
 
     /// Ends the sharing: the pool, and the desks in the order of their numbers.
     ///
+    /// Free, queued and held message blocks make the pool, and as many are held as the tokens in the registers of these
+    /// desks have.
+    ///
     /// Refused as `DeskMissing` where fewer desks come than were handed out. Desks and pool come back as they were then; of
     /// the book behind the lock contracts see nothing, so of the pool only tests say so.
     pub fn gather(self, desks: Desks<N>) -> Result<Gathered<N>, (Refusal, Shared<N>, Desks<N>)>
@@ -59,22 +61,22 @@ impl<N: Name> Shared<N> {
         ensures same { IfOk result (λ g. IsPermutation desks g.desks) }
         ensures sorted { IfOk result (λ g. IsNonDecreasingBy (λ (d : DeskValue). d.number) g.desks) }
         ensures pool { IfOk result (λ g. g.pool.arena.id ≡ N.id) }
+        ensures all { IfOk result (λ g. AreAll g.pool g.desks) }
     {
-        if desks.len() < usize::from(self.desks) {
+        if desks.len() < usize::from(self.count.number) {
             return Err((Refusal::DeskMissing, self, desks));
         }
-        let Shared {
-            book,
-            desks: _,
-            of: _,
-        } = self;
+        let Shared { book, count: _ } = self;
         let Book {
             pool,
             stamp: _,
             tables: _,
+            mut held,
             of: _,
         } = book.into_inner();
+        pool.lawful();
         let mut desks = desks;
+        desks.audit(&mut held);
         desks.sort();
         Ok(Gathered { pool, desks })
     }

@@ -8,14 +8,17 @@ ghost use Rattle.strm_shared.specs.Starts.{IsNameOf, Starts};
 
 use crate::book::Book;
 use crate::desk::Desk;
+use crate::desk_count::DeskCount;
 use crate::desk_table::DeskTable;
 use crate::desks::Desks;
+use crate::held::Held;
 use crate::name::Name;
 use crate::setup::Setup;
 use crate::shared::Shared;
 use std::alloc::{AllocError, Global};
 use std::marker::{Model, PhantomData};
 use std::sync::Mutex;
+use std::sync::ledger::{Blank, Share};
 use strm_pool::{NewFault, Pool, Regs};
 
 /// A pool that is to be shared, with all memory that its sharing takes. It has no name yet.
@@ -25,6 +28,7 @@ pub struct Start {
     desks: u8,
     first_stamp: u64,
     tables: Vec<DeskTable>,
+    blank: Blank,
 }
 
 impl Model for Start {
@@ -33,9 +37,9 @@ impl Model for Start {
 
     ghost Value = { StartValue };
 
-    ghost view = { λ s. record { pool = s.pool; desks = s.desks; first = s.first_stamp } };
+    ghost view = { λ s. record { pool = s.pool; desks = s.desks; first = s.first_stamp; ledger = s.blank.name } };
 
-    ghost invariant = { λ s. IsReady s.pool s.desks s.first_stamp s.tables.items };
+    ghost invariant = { λ s. IsReady s.pool s.desks s.first_stamp s.tables.items s.blank.parts };
 }
 
 impl Start {
@@ -59,13 +63,14 @@ impl Start {
             desks: setup.desks,
             first_stamp: setup.first_stamp,
             tables,
+            blank: Blank::new(u64::from(setup.desks)),
         })
     }
 
     /// Shares the pool under a name: the pool under its lock, and its desks 0, 1 and so on, with empty registers. It takes
     /// no memory, and can't fail.
     pub fn open<N: Name>(self) -> (Shared<N>, Desks<N>)
-        requires { IsNameOf N.id N.desks N.first self }
+        requires { IsNameOf N.id N.desks N.first N.ledger self }
         ensures { result.1 ≡ fresh N.desks }
     {
         let Start {
@@ -73,19 +78,24 @@ impl Start {
             desks,
             first_stamp,
             tables,
+            blank,
         } = self;
+        let (held, share) = blank.open::<Held<N>>();
         let book = Book {
             pool,
             stamp: first_stamp,
             tables,
+            held,
             of: PhantomData,
         };
         let shared = Shared {
             book: Mutex::new(book),
-            desks,
-            of: PhantomData,
+            count: DeskCount {
+                number: desks,
+                of: PhantomData,
+            },
         };
-        (shared, hand_out(desks))
+        (shared, hand_out(desks, share))
     }
 }
 
@@ -100,16 +110,21 @@ fn tables_of(alloc: Global, desks: u8) -> Result<Vec<DeskTable>, AllocError>
     Ok(tables)
 }
 
-// Desks 0, 1 and so on, so many.
-fn hand_out<N: Name>(count: u8) -> Desks<N>
-    requires { (count ≤ most_workers) × (count ≤ N.desks) }
+// Desks 0, 1 and so on, so many, each with one of as many parts of a ledger that counts nothing yet.
+fn hand_out<N: Name>(count: u8, share: Share<Held<N>>) -> Desks<N>
+    requires few { count ≤ most_workers }
+    requires below { count ≤ N.desks }
+    requires parts { share.parts ≡ count }
+    requires amount { share.amount ≡ 0 }
     ensures { result ≡ fresh count }
 {
+    let mut share = share;
     let mut desks = Desks::new();
     for number in 0..count {
         desks.push(Desk {
             number,
             regs: Regs::new(),
+            share: share.split_off(1, 0),
             of: PhantomData,
         });
     }

@@ -2,4 +2,4 @@
 use Rattle.strm_driver.proofs.by_workers.workers_text.Given as goal
 
 abbrev pub ghosts-day : goal.ghosts-day
-ghosts-day g a = record { id = a.start.pool.arena.id; desks = a.start.desks; first = a.start.first }
+ghosts-day g a = record { id = a.start.pool.arena.id; desks = a.start.desks; first = a.start.first; ledger = a.start.ledger }

@@ -1,4 +1,4 @@
 use Rattle.strm_shared.proofs.tests.the_last_stamps.Given as goal
 
 abbrev pub ghosts-worn : goal.ghosts-worn
-ghosts-worn g a = record { id = a.start.pool.arena.id; desks = a.start.desks; first = a.start.first }
+ghosts-worn g a = record { id = a.start.pool.arena.id; desks = a.start.desks; first = a.start.first; ledger = a.start.ledger }

@@ -1,4 +1,4 @@
 use Rattle.strm_shared.proofs.tests.two_threads_at_once.Given as goal
 
 abbrev pub ghosts-work : goal.ghosts-work
-ghosts-work g a = record { id = a.start.pool.arena.id; desks = a.start.desks; first = a.start.first }
+ghosts-work g a = record { id = a.start.pool.arena.id; desks = a.start.desks; first = a.start.first; ledger = a.start.ledger }

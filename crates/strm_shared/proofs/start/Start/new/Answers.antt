@@ -1,4 +1,4 @@
-use Rattle.std.proofs.Common.{length, subst, sym, ap, ◌∙◌}
+use Rattle.std.proofs.Common.{rules, length, subst, sym, ap, ◌∙◌}
 use Rattle.std.proofs.lemmas.List.{length-replicate}
 use Rattle.strm_pool.specs.Registers.{AreAccounted}
 use Rattle.strm_pool.proofs.Accounts.{accounted_idle}
@@ -14,4 +14,6 @@ invariant_of-result c =
       unspent = bounds.2;
       counted = ap length c.in-Ok.ensures ∙ length-replicate _ _;
       accounted = subst (AreAccounted c.args.pool.arena) (sym c.in-Ok.ensures) (accounted_idle c.args.pool.arena c.args.setup.desks c.lawful.ensures.parted c.requires);
+      idle = c.requires;
+      shared = search rules;
     }
