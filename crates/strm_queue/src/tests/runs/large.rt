@@ -144,9 +144,8 @@ impl Large {
         assert_eq!(rt; self.queues.bcanput(&self.blocks, 0, band), Ok(room));
     }
 
-    // Puts a message, takes the first one or one at some place, or flushes a band, each in its turn, and now and then
-    // asks for room. All bands are compared after each call, and the messages are read after some.
-    fn step(&mut self, rt: &impl Abort, draw: &mut u32, turn: u32, full: bool)
+    // Puts a message, or takes the first one or one at some place, or flushes a band, each in its turn.
+    fn change(&mut self, rt: &impl Abort, draw: &mut u32, turn: u32, full: bool)
         requires { Agrees self.old.queues self.old.blocks }
         ensures { Agrees self.new.queues self.new.blocks }
     {
@@ -158,10 +157,27 @@ impl Large {
             }
             _ => self.take(rt, None),
         }
+    }
+
+    // Asks for room in some band.
+    fn ask_some(&mut self, rt: &impl Abort, draw: &mut u32)
+        requires { Agrees self.old.queues self.old.blocks }
+        ensures { Agrees self.new.queues self.new.blocks }
+    {
+        self.ask(rt, spread_band(draw));
+        self.assert_counts(rt);
+    }
+
+    // A call, and now and then one that asks for room. All bands are compared after each, and the messages are read
+    // after some.
+    fn step(&mut self, rt: &impl Abort, draw: &mut u32, turn: u32, full: bool)
+        requires { Agrees self.old.queues self.old.blocks }
+        ensures { Agrees self.new.queues self.new.blocks }
+    {
+        self.change(rt, draw, turn, full);
         self.assert_counts(rt);
         if turn % 8 == 0 {
-            self.ask(rt, spread_band(draw));
-            self.assert_counts(rt);
+            self.ask_some(rt, draw);
         }
         if turn % 16 == 15 {
             self.assert_counted(rt);
