@@ -3,14 +3,16 @@
 import argparse
 import math
 import os
+import random
 import re
 import shutil
 import statistics
 import subprocess
 import sys
 import tempfile
+from itertools import islice
 
-from script import WORDS, drawn
+from script import RANKED, WORDS, drawn
 
 SIZES = (1_000, 10_000, 100_000, 1_000_000)
 POOLS = (16, 255, 4_095)
@@ -94,11 +96,31 @@ def numbers(blocks):
     return {"blocks": half, "last": half - 1, "bytes": 2 * half, "end": 2 * half - 1, "middle": half}
 
 
+def ranks(seed):
+    """Types and bands of messages, drawn from 17 ranks: bands 0 to 15, and high priority."""
+    draw = random.Random(seed)
+    while True:
+        band = draw.randrange(17)
+        yield ("M_CTL", band) if band < 16 else ("M_PCPROTO", 0)
+
+
+def every_round(blocks):
+    """The numbers that the lines of each round may name. Messages go from queue 0 to queue 1 until it has all, and back."""
+    for place, (kind, band) in enumerate(ranks(1)):
+        to = 1 - place // (blocks - 4) % 2
+        yield {"round": place + 1, "kind": kind, "band": band, "to": to, "from": 1 - to, **numbers(blocks)}
+
+
 def lines_to_fill(filled, blocks):
     """The lines up to a pool that is filled with one message, or with a queue of messages. README.md describes it."""
     yield from (f"pool 1 {blocks}", f"class 16 {min(blocks, 4_091)}", "class 4096 4")
-    yield from ("queue 65536 0 s -", "bufcalls 64 1", "worker", "allocb c 16", "setband c 1")
-    if filled == "message":
+    yield from ["queue 65536 0 s -"] * (2 if filled == "ranks" else 1)
+    yield from ("bufcalls 64 1", "worker", "allocb c 16", "setband c 1")
+    if filled == "ranks":
+        for kind, band in islice(ranks(2), blocks - 4):
+            yield from ("allocb b 16", "write b 0 61", f"settype b 0 {kind}", f"setband b {band}", "putq 0 b")
+        yield from ("allocb b 16", "write b 0 61")
+    elif filled == "message":
         yield from ("allocb a 16", "write a 0 6162")
         for _ in range(numbers(blocks)["last"]):
             yield from ("allocb b 16", "write b 0 6162", "linkb a b")
@@ -112,13 +134,13 @@ def round_cost(meter, filled, lines, blocks):
     """The cost of one round of the lines, those in parentheses not counted. Most take some 50 milliseconds together."""
 
     def scripts(rounds):
-        every = [lines.format(round=place + 1, **numbers(blocks)) for place in range(rounds)]
+        every = [lines.format(**named) for named in islice(every_round(blocks), rounds)]
         every = "; ".join(every).split("; ")
         kept = [line for line in every if line.startswith("(")]
         for name, some in (("short", kept), ("long", every)):
             yield meter.write(name, [*lines_to_fill(filled, blocks), *(line.strip("()") for line in some)])
 
-    rounds = 500
+    rounds = max(500, 2 * blocks) if filled == "ranks" else 500
     short, long = scripts(rounds)
     meter.check(long)
     if not meter.instructions:
@@ -133,6 +155,8 @@ def call_costs(meter):
     rounds = {}
     for word, row in WORDS.items():
         rounds.setdefault((row.filled, row.lines), []).append(word)
+    for word, lines in RANKED:
+        rounds.setdefault(("ranks", lines), []).append(word)
     return [
         (words, lines, [round_cost(meter, filled, lines, blocks) for blocks in POOLS])
         for (filled, lines), words in rounds.items()
@@ -142,7 +166,7 @@ def call_costs(meter):
 def tables(meter, by_line, by_call):
     """Both tables, in markdown."""
     unit = "Instructions" if meter.instructions else "Nanoseconds"
-    shown = {name: name.upper() for name in ["round", *numbers(16)]}
+    shown = {name: name.upper() for name in next(every_round(16))}
     yield from (f"| Lines | {unit} a line | Peak memory, MiB |", "|---|---|---|")
     for size, (cost, peak) in by_line.items():
         yield f"| {size:,} | {cost:,.0f} | {peak:,.1f} |"

@@ -82,6 +82,13 @@ WORDS = {
     "ready": Word("", 2, "bufcall 16; ready"),
     "census": Word("", 1, "census"),
 }
+# More rounds, for calls on queues of messages of 17 ranks.
+RANKED = [
+    ("putq", "(settype b 0 {kind}); (setband b {band}); putq {to} b; getq {from} b"),
+    ("getq", "(settype b 0 {kind}); (setband b {band}); putq {to} b; getq {from} b"),
+    ("putbq", "(settype b 0 {kind}); (setband b {band}); putbq {to} b; getq {from} b"),
+    ("bcanput", "bcanput 0 {band}"),
+]
 BAG = [word for word, row in WORDS.items() for _ in range(row.often)]
 
 

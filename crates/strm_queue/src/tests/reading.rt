@@ -5,6 +5,7 @@ ghost use Rattle.strm_mblk.specs.Shelves.{stands_on};
 ghost use Rattle.strm_queue.specs.QueuedBlocks.{Agrees};
 
 use crate::Queues;
+use crate::limits::BANDS;
 use crate::tests::plain::Entry;
 use std::process::Abort;
 use strm_mblk::{BlockNo, Blocks};
@@ -42,6 +43,49 @@ fn ahead(blocks: &Blocks, queue: u8, head: BlockNo) -> Option<BlockNo>
     blocks.lawful();
     let next = blocks.before(head);
     next
+}
+
+// The rank of the message with this head.
+fn rank(blocks: &Blocks, queue: u8, head: BlockNo) -> u16
+    requires { IsTrue (stands_on blocks.now queue head) }
+{
+    if blocks.head_kind(head).is_high_priority() {
+        256
+    } else {
+        u16::from(blocks.head_band(head))
+    }
+}
+
+// How many bytes the message with this head has.
+fn size(blocks: &Blocks, queue: u8, head: BlockNo) -> u32
+    requires { IsTrue (stands_on blocks.now queue head) }
+{
+    blocks.head_size(head)
+}
+
+// How many bytes each band of a queue has, of so many messages, front to back. They stand in priority order, and read
+// alike both ways.
+pub(super) fn counted(rt: &impl Abort, blocks: &Blocks, queue: u8, messages: u32) -> [u32; BANDS]
+    requires { queue < length blocks.now.shelves }
+{
+    let mut counts = [0u32; BANDS];
+    let mut passed = (256, None);
+    let mut at = first(blocks, queue);
+    for _message in 0..messages {
+        let Some(head) = at else {
+            panic!(rt; "too few messages");
+        };
+        let rank = rank(blocks, queue, head);
+        assert!(rt; rank <= passed.0);
+        assert_eq!(rt; ahead(blocks, queue, head), passed.1);
+        let band = usize::from(u8::try_from(rank).unwrap_or(0));
+        counts[band] = counts[band].wrapping_add(size(blocks, queue, head));
+        passed = (rank, at);
+        at = behind(blocks, queue, head);
+    }
+    assert!(rt; at.is_none());
+    assert_eq!(rt; last(blocks, queue), passed.1);
+    counts
 }
 
 // From the front on, the heads are these.

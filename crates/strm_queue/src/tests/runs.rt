@@ -3,6 +3,8 @@ ghost use Rattle.std.specs.Prelude.{◌<◌, IsTrue};
 ghost use Rattle.strm_queue.specs.QueueSpecs.{are_lawful};
 ghost use Rattle.strm_queue.specs.QueuedBlocks.{Agrees};
 
+mod large;
+
 use super::bench::Bench;
 use super::{Draft, ranked};
 use crate::{Flush, QueueSpec};
