@@ -168,8 +168,7 @@ impl Large {
         self.assert_counts(rt);
     }
 
-    // A call, and now and then one that asks for room. All bands are compared after each, and the messages are read
-    // after some.
+    // A call, and now and then one that asks for room. All bands are compared after each, and the messages are read.
     fn step(&mut self, rt: &impl Abort, draw: &mut u32, turn: u32, full: bool)
         requires { Agrees self.old.queues self.old.blocks }
         ensures { Agrees self.new.queues self.new.blocks }
@@ -179,9 +178,7 @@ impl Large {
         if turn % 8 == 0 {
             self.ask_some(rt, draw);
         }
-        if turn % 16 == 15 {
-            self.assert_counted(rt);
-        }
+        self.assert_counted(rt);
     }
 
     // The queue is filled, and emptied again.
