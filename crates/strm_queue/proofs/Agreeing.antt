@@ -195,6 +195,7 @@ of_rank-same s t r (m ∷ ms) same =
 tally_same : (s t : DataStore) (hiwat : ℕ) (ms : List Message) (tally : Tally) → All (IsSameData s t) (flat_map (λ m. m) ms) → IsTallyOf s hiwat ms tally → IsTallyOf t hiwat ms tally
 tally_same s t hiwat ms tally same is = record {
   len = is.len;
+  bytes = is.bytes;
   each_band = is.each_band;
   each_mark = is.each_mark;
   counts = λ band below. is.counts band below ∙ sym (count_same s t band ms same);

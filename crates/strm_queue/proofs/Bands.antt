@@ -1,15 +1,15 @@
 -- Sets of bands: lists of marks, one for each band.
-use Rattle.std.proofs.Common.{◌≡◌, ℕ, suc, zero, ◌+◌, ◌-◌, ◌*◌, ◌/◌, ◌%◌, ◌^◌, ◌<◌, ◌≤◌, bit_and, bit_or, w64, Bool, true, false, not, ◌&&◌, ◌||◌, ◌==◌, List, [], ◌∷◌, length, map, get_or, Option, None, Some, inl, inr, refl, sym, ap, ◌∙◌, arith}
-use Rattle.std.specs.Int.{bit_at, bit_not, trailing_zeros}
+use Rattle.std.proofs.Common.{◌≡◌, ℕ, ◌+◌, ◌-◌, ◌*◌, ◌/◌, ◌%◌, ◌^◌, ◌<◌, ◌≤◌, bit_and, bit_or, w64, Bool, true, false, not, ◌&&◌, ◌||◌, ◌==◌, List, [], ◌∷◌, length, map, get_or, Option, None, Some, inl, inr, refl, sym, ap, ◌∙◌, arith}
+use Rattle.std.specs.Int.{bit_at, bit_not}
 use Rattle.std.specs.Prelude.{nat_lt, slice_index_or, slice_set}
 use Rattle.std.specs.List.{list_any, range_with_len}
 use Rattle.std.specs.Option.{IfNone, IfSome, unwrap_or}
-use Rattle.std.proofs.lemmas.Bool.{and_right, cases_eq, cases_lt, cases_order, eq-eqb, le-ltb, lt-ltb, ne_eqb, or_parts, true≢false}
+use Rattle.std.proofs.lemmas.Bool.{and_right, cases_eq, cases_lt, cases_order, eq-eqb, le-ltb, lt-ltb, ne_eqb, true≢false}
 use Rattle.std.proofs.lemmas.List.{ext_get_or, get_or-map, get_or-set_other, get_or_past, length-map, length-set}
 use Rattle.std.proofs.lemmas.Grind.{get_or-set_at}
 use Rattle.std.proofs.lemmas.List.Folds.{list_any_at, list_any_none}
 use Rattle.std.proofs.lemmas.List.FromFn.{get_or-range_with_len, length-range_with_len}
-use Rattle.std.proofs.lemmas.Nat.Bits.{bit_at-trailing_zeros, bit_at-zero, bit_at_clear_other, bit_at_clear_same, bit_at_set_other, bit_at_set_same}
+use Rattle.std.proofs.lemmas.Nat.Bits.{bit_at-zero, bit_at_clear_other, bit_at_clear_same, bit_at_set_other, bit_at_set_same}
 use Rattle.strm_queue.specs.BandSets.{IsFirstFrom, IsHighestTo, IsLastTo, IsLowestFrom, is_in}
 use Rattle.strm_queue.specs.Flow.{bands_where, every_band, is_wanted}
 use Rattle.strm_queue.specs.Limits.{bands}
@@ -64,10 +64,6 @@ marks_are ms p long same =
 pub bands_where-same : (p q : ℕ → Bool) → ((band : ℕ) → band < bands → p band ≡ q band) → bands_where p ≡ bands_where q
 bands_where-same p q same = marks_are (bands_where p) q (length-bands_where p) (λ band below. is_wanted_where p band below ∙ same band below)
 
--- the marks of the bands that are marked are those there are
-pub where-is : (ms : List Bool) → length ms ≡ length every_band → bands_where (is_wanted ms) ≡ ms
-where-is ms long = sym (marks_are ms (is_wanted ms) long (λ band below. refl))
-
 -- ---- one mark set
 
 -- one more band
@@ -101,12 +97,6 @@ bands_where-unset p b low = marks_are (slice_set (bands_where p) b false) (λ ba
 -- whether a mark is set
 abbrev pub any_in : List Bool → Bool
 any_in ms = list_any (λ mark. mark) ms
-
--- where no mark is set, none is at a place
-pub none_wanted : (ms : List Bool) → any_in ms ≡ false → (band : ℕ) → is_wanted ms band ≡ false
-none_wanted [] none band = refl
-none_wanted (m ∷ ms) none zero = (or_parts m (any_in ms) none).0
-none_wanted (m ∷ ms) none (suc band) = none_wanted ms (or_parts m (any_in ms) none).1 band
 
 any-map : (p : ℕ → Bool) (xs : List ℕ) → any_in (map p xs) ≡ list_any p xs
 any-map p [] = refl
@@ -191,17 +181,6 @@ module _ (words : List ℕ) where
     where
       at : (band : ℕ) → band < bands → bit_in words band ≡ false
       at band below = ap (λ w. bit_at w (band % 64) == 1) (zeros (band / 64) (omega (arith, below))) ∙ ap (λ n. n == 1) (bit_at-zero (band % 64))
-
-  -- one is set where a word is not
-  pub some_in : (k : ℕ) → k < 4 → 0 < slice_index_or words k 0 → slice_index_or words k 0 < 2 ^ 64 → any_in (bands_where (bit_in words)) ≡ true
-  some_in k low some fits =
-      let bit = trailing_zeros w64 (slice_index_or words k 0) in
-      let lowest = bit_at-trailing_zeros w64 (slice_index_or words k 0) some fits in
-      let below : k * 64 + bit < bands = omega (arith, low, lowest.0) in
-      let word : (k * 64 + bit) / 64 ≡ k = omega (arith, lowest.0) in
-      let place : (k * 64 + bit) % 64 ≡ bit = omega (arith, lowest.0) in
-      list_any_at (λ mark. mark) (bands_where (bit_in words)) (k * 64 + bit) false (omega (arith, below, length-bands_where (bit_in words), length-every_band))
-      (is_wanted_where (bit_in words) (k * 64 + bit) below ∙ (λ i. bit_at (slice_index_or words (word i) 0) (place i) == 1) ∙ ap (λ n. n == 1) lowest.1)
 
 -- ---- the nearest of a set
 

@@ -40,21 +40,8 @@ module _ (f : Message → ℕ) where
   pub sum_by-left : (pre post : List Message) (m : Message) → sum_by f (pre ++ m ∷ post) ≡ sum_by f (pre ++ post) + f m
   sum_by-left pre post m = omega (arith, sum_by-append f pre (m ∷ post), sum_by-append f pre post, sum_by-cons f m post)
 
-pub bytes_on-placed : (before : Option ℕ) (m : Message) (ms : List Message) → bytes_on (put_before_head head_of before m ms) ≡ bytes_on ms + size_of m
-bytes_on-placed before m ms = sum_by-placed size_of before m ms
-
 pub bytes_on-left : (pre post : List Message) (m : Message) → bytes_on (pre ++ m ∷ post) ≡ bytes_on (pre ++ post) + size_of m
 bytes_on-left pre post m = sum_by-left size_of pre post m
-
--- and they are one more
-pub length-placed : (before : Option ℕ) (m : Message) (ms : List Message) → length (put_before_head head_of before m ms) ≡ length ms + 1
-length-placed None m ms = length-append ms (m ∷ [])
-length-placed (Some at) m [] = refl
-length-placed (Some at) m (x ∷ xs) =
-    elim (cases_Bool (head_of x == at)) [
-      | inl here ↦ omega (arith, ap length (cond-true (head_of x == at) (m ∷ x ∷ xs) (x ∷ put_before_head head_of (Some at) m xs) here))
-      | inr later ↦ omega (arith, ap length (cond-false (head_of x == at) (m ∷ x ∷ xs) (x ∷ put_before_head head_of (Some at) m xs) later), length-placed (Some at) m xs)
-    ]
 
 -- ---- the bytes of a band
 

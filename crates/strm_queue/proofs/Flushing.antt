@@ -1,8 +1,8 @@
 -- Messages of a shelf that are freed, front to back.
-use Rattle.std.proofs.Common.{◌≡◌, ◌≢◌, ℕ, ◌+◌, ◌<◌, ◌≤◌, Bool, true, false, ◌&&◌, ◌==◌, List, [], ◌∷◌, ◌++◌, length, get_or, set, Option, Some, None, refl, sym, ap, ◌∙◌, subst, arith, if◌then◌else◌, length-append, length-set, get_or-set_same}
-use Rattle.std.specs.Prelude.{count_by, filter, not, option_map, slice_get}
-use Rattle.std.specs.List.{All, flat_map}
-use Rattle.std.proofs.lemmas.Bool.{cond-false, cond-true, not_from_false, not_from_true}
+use Rattle.std.proofs.Common.{◌≡◌, ◌≢◌, ℕ, inl, inr, ◌+◌, ◌<◌, ◌≤◌, Bool, true, false, ◌&&◌, ◌==◌, List, [], ◌∷◌, ◌++◌, length, get_or, set, Option, Some, None, refl, sym, ap, ◌∙◌, subst, arith, if◌then◌else◌, length-append, length-set, get_or-set_same}
+use Rattle.std.specs.Prelude.{count_by, filter, nat_le, nat_lt, not, option_map, slice_get}
+use Rattle.std.specs.List.{All, flat_map, list_all}
+use Rattle.std.proofs.lemmas.Bool.{and_from, and_parts, cases_Bool, cases_eq, cases_lt, cond-false, cond-true, le-leb, le-ltb, leb-true, lt-leb, lt-ltb, ne_eqb, not_from_false, not_from_true}
 use Rattle.std.proofs.lemmas.Grind.{flat_map-append}
 use Rattle.std.proofs.lemmas.List.{append-nil, append_assoc, nil_from_length, set-get_or, set-set}
 use Rattle.std.proofs.lemmas.List.Elements.{filter-append}
@@ -23,9 +23,14 @@ use Rattle.strm_mblk.proofs.arena.Moves.{held_within}
 use Rattle.strm_mblk.proofs.arena.Tokens.{had_message}
 use Rattle.strm_queue.specs.declared.flush.Flush.{Flush}
 use Rattle.strm_queue.specs.declared.flush.Flush.TheVariants.{All as Every, Data}
-use Rattle.strm_queue.specs.Flow.{band_of_rank}
+use Rattle.strm_queue.specs.Ends.{first_of_rank, of_rank}
+use Rattle.strm_queue.specs.Flow.{band_of_rank, is_of_band}
+use Rattle.strm_queue.specs.Limits.{bands}
+use Rattle.strm_queue.specs.Flushing.{from_band}
+use Rattle.strm_queue.specs.Rank.{is_ordered, rank_of}
 use Rattle.strm_queue.specs.Flush.{carries_data, is_flushed, is_picked, with_freed}
 use Rattle.strm_queue.specs.QueuedBlocks.{Agrees, AreMarksLawful, QueuesValue}
+use Rattle.strm_queue.proofs.Ends.{ahead_more, behind_less, of_rank-append, of_rank-refused}
 use Rattle.strm_queue.proofs.Across.{shelved_message-at}
 use Rattle.strm_queue.proofs.Agreeing.{marks_left_lawful, marks_other, rank_of-same}
 use Rattle.strm_queue.proofs.OnShelf.{FirstParts, after-head, at_there, first_of, heads, unshelved, first_none}
@@ -61,20 +66,122 @@ pub freed_shelves : (bs : List Block) (a : Arena) → (with_blocks_freed bs a).s
 freed_shelves [] a = refl
 freed_shelves (b ∷ bs) a = freed_shelves bs (with_block_freed b bs a)
 
--- ---- with the same data, messages rank alike, and are picked alike
+-- ---- with the same data, messages rank alike, and are taken alike
 
 module _ (s t : DataStore) (same : t.blocks ≡ s.blocks) where
   pub data_same : (bs : List Block) → All (IsSameData s t) bs
   data_same bs k b within = ap (λ (ds : List DataBlock). get_or ds (get_or bs k b).data_number no_data_block) same
 
-  flushed_same : (flush : Flush) (m : Message) → is_flushed t flush m ≡ is_flushed s flush m
+  pub flushed_same : (flush : Flush) (m : Message) → is_flushed t flush m ≡ is_flushed s flush m
   flushed_same Every m = refl
   flushed_same Data [] = refl
   flushed_same Data (b ∷ bs) = ap (λ (ds : List DataBlock). carries_data (get_or ds b.data_number no_data_block).kind) same
 
-  pub picked_same : (band : Option ℕ) (flush : Flush) (m : Message) → is_picked t band flush m ≡ is_picked s band flush m
-  picked_same None flush m = flushed_same flush m
-  picked_same (Some band) flush m = λ i. (band_of_rank (rank_of-same s t m (data_same m) i) == band) && flushed_same flush m i
+  -- and bands begin alike
+  pub from_band_same : (band : Option ℕ) (ms : List Message) → from_band t band ms ≡ from_band s band ms
+  from_band_same None ms = refl
+  from_band_same (Some band) [] = refl
+  from_band_same (Some band) (m ∷ ms) = λ i. if band_of_rank (rank_of-same s t m (data_same m) i) == band then m ∷ ms else from_band_same (Some band) ms i
+
+-- ---- where it goes on
+
+-- the first of these, if there is one, is so
+abbrev pub starts : (Message → Type 0) → List Message → Type 0
+starts P [] = Unit {0}
+starts P (m ∷ ms) = P m
+
+-- behind messages that are not picked come these, the first of which is picked where it is taken
+pub record IsPassed (picked taken : Message → Bool) (ms rest : List Message) : Type 0 where
+  pub mid : List Message
+  pub is : ms ≡ mid ++ rest
+  pub gone : filter picked mid ≡ []
+  pub stay : filter (λ m. not (picked m)) mid ≡ mid
+  pub begins : starts (λ m. picked m ≡ taken m) rest
+
+module _ (s : DataStore) (flush : Flush) where
+  -- a flush of a band passes over what stands ahead of it
+  pub from_band_passed : (band : Option ℕ) (ms : List Message) → IsPassed (is_picked s band flush) (is_flushed s flush) ms (from_band s band ms)
+  from_band_passed None [] = record { mid = []; is = refl; gone = refl; stay = refl; begins = tt }
+  from_band_passed None (m ∷ ms) = record { mid = []; is = refl; gone = refl; stay = refl; begins = refl }
+  from_band_passed (Some band) [] = record { mid = []; is = refl; gone = refl; stay = refl; begins = tt }
+  from_band_passed (Some band) (m ∷ ms) =
+      elim (cases_Bool (is_of_band s band m)) [
+        | inl here ↦
+            subst (IsPassed (is_picked s (Some band) flush) (is_flushed s flush) (m ∷ ms)) (sym (cond-true _ (m ∷ ms) (from_band s (Some band) ms) here))
+            (record { mid = []; is = refl; gone = refl; stay = refl; begins = ap (λ b. b && is_flushed s flush m) here })
+        | inr other ↦
+            let rest = from_band_passed (Some band) ms in
+            let off : is_picked s (Some band) flush m ≡ false = ap (λ b. b && is_flushed s flush m) other in
+            subst (IsPassed (is_picked s (Some band) flush) (is_flushed s flush) (m ∷ ms)) (sym (cond-false _ (m ∷ ms) (from_band s (Some band) ms) other))
+            (record {
+              mid = m ∷ rest.mid;
+              is = ap (λ xs. m ∷ xs) rest.is;
+              gone = cond-false _ _ _ off ∙ rest.gone;
+              stay = cond-true _ _ _ (not_from_false _ off) ∙ ap (λ xs. m ∷ xs) rest.stay;
+              begins = rest.begins;
+            })
+      ]
+
+module _ (s : DataStore) (band : ℕ) (low : band < bands) where
+  -- among messages of lower rank there is none of the band
+  from_band-none : (r : ℕ) (ms : List Message) → r < band → list_all (λ y. nat_le (rank_of s y) r) ms ≡ true → from_band s (Some band) ms ≡ []
+  from_band-none r [] less all = refl
+  from_band-none r (y ∷ ys) less all =
+      let parts = and_parts (nat_le (rank_of s y) r) _ all in
+      let most : rank_of s y < band = omega (arith, leb-true (rank_of s y) r parts.0, less) in
+      cond-false _ _ _ (ne_eqb (band_of_rank (rank_of s y)) band (λ same. omega (arith, most, same, cond-true (nat_lt (rank_of s y) bands) (rank_of s y) 0 (lt-ltb (rank_of s y) bands (omega (arith, most, low))))))
+      ∙ from_band-none r ys less parts.1
+
+  module _ (r : ℕ) (other : band_of_rank r ≢ band) where
+    -- up to the rank of one of another band, a message is of the band where it is of that rank
+    of_band-rank : (n : ℕ) → n ≤ r → (band_of_rank n == band) ≡ (n == band)
+    of_band-rank n less =
+        elim (cases_lt n bands) [
+          | inl below ↦ ap (λ k. k == band) (cond-true (nat_lt n bands) n 0 (lt-ltb n bands below))
+          | inr past ↦
+              ne_eqb (band_of_rank n) band
+              (λ same. other (cond-false (nat_lt r bands) r 0 (le-ltb r bands (omega (arith, past, less))) ∙ sym (cond-false (nat_lt n bands) n 0 (le-ltb n bands past)) ∙ same))
+              ∙ sym (ne_eqb n band (λ same. omega (arith, same, past, low)))
+        ]
+
+    -- so the first one of the band is the first one of that rank
+    first_from_band : (ms : List Message) → list_all (λ y. nat_le (rank_of s y) r) ms ≡ true → first_of_rank (rank_of s) band ms ≡ first (heads (from_band s (Some band) ms))
+    first_from_band [] all = refl
+    first_from_band (y ∷ ys) all =
+        let parts = and_parts (nat_le (rank_of s y) r) _ all in
+        let same = of_band-rank (rank_of s y) (leb-true (rank_of s y) r parts.0) in
+        elim (cases_Bool (rank_of s y == band)) [
+          | inl here ↦
+              ap (λ ms. first (heads ms)) (cond-true _ (y ∷ of_rank (rank_of s) band ys) (of_rank (rank_of s) band ys) here)
+              ∙ sym (ap (λ ms. first (heads ms)) (cond-true _ (y ∷ ys) (from_band s (Some band) ys) (same ∙ here)))
+          | inr off ↦
+              ap (λ ms. first (heads ms)) (cond-false _ (y ∷ of_rank (rank_of s) band ys) (of_rank (rank_of s) band ys) off)
+              ∙ first_from_band ys parts.1
+              ∙ sym (ap (λ ms. first (heads ms)) (cond-false _ (y ∷ ys) (from_band s (Some band) ys) (same ∙ off)))
+        ]
+
+  module _ (pre post : List Message) (m : Message) (ordered : is_ordered (rank_of s) (pre ++ m ∷ post) ≡ true) (other : band_of_rank (rank_of s m) ≢ band) where
+    behind : list_all (λ y. nat_le (rank_of s y) (rank_of s m)) (m ∷ post) ≡ true
+    behind = and_from (nat_le (rank_of s m) (rank_of s m)) _ (le-leb (rank_of s m) (rank_of s m) (omega arith)) (behind_less (rank_of s) pre post m ordered)
+
+    -- from a message of lower rank on there is none of the band
+    pub from_band-past : rank_of s m < band → from_band s (Some band) (m ∷ post) ≡ []
+    from_band-past less = from_band-none (rank_of s m) (m ∷ post) less behind
+
+    -- from any other on it begins with the first one of its rank
+    pub from_band-first : band ≤ rank_of s m → first_of_rank (rank_of s) band (pre ++ m ∷ post) ≡ first (heads (from_band s (Some band) (m ∷ post)))
+    from_band-first most =
+        ap (λ ms. first (heads ms))
+        (of_rank-append (rank_of s) band pre (m ∷ post)
+        ∙ ap (λ ms. ms ++ of_rank (rank_of s) band (m ∷ post)) (of_rank-refused (rank_of s) (nat_le (rank_of s m)) band pre (ahead_more (rank_of s) pre post m ordered) (lt-leb (rank_of s m) band less)))
+        ∙ first_from_band (rank_of s m) other (m ∷ post) behind
+      where
+        less : band < rank_of s m
+        less =
+            elim (cases_eq band (rank_of s m)) [
+              | inl same ↦ absurd (other (cond-true (nat_lt (rank_of s m) bands) (rank_of s m) 0 (lt-ltb (rank_of s m) bands (omega (arith, low, same))) ∙ sym same))
+              | inr differ ↦ omega (arith, most, differ)
+            ]
 
 -- ---- one leaves its shelf, and is freed
 
@@ -153,30 +260,46 @@ module _ (a : Arena) (q h : ℕ) (b : Arena) (spends : IsSpent a q h b) (pre pos
 
 -- ---- the walk
 
--- so many messages were passed, and those of them that are picked are free; `at` is the first one behind
-pub record IsFlushing (picked : Message → Bool) (old : Arena) (q k : ℕ) (at : Option ℕ) (now : Arena) : Type 0 where
+-- so many messages were passed at least, and those of them that are picked are free; `at` is the first one behind, which is
+-- picked where it is taken
+pub record IsFlushing (picked taken : Message → Bool) (old : Arena) (q k : ℕ) (at : Option ℕ) (now : Arena) : Type 0 where
   pub pre : List Message
   pub post : List Message
   pub is : shelf_at old q ≡ pre ++ post
-  pub many : length pre ≡ k
+  pub many : k ≤ length pre
   pub behind : at ≡ first (heads post)
+  pub begins : starts (λ m. picked m ≡ taken m) post
   pub arena : now ≡ with_freed (filter picked pre) (with_shelf q (filter (λ m. not (picked m)) pre ++ post) old)
 
-module _ (picked : Message → Bool) (old : Arena) (q : ℕ) (within : q < length old.shelves) where
+module _ (picked taken : Message → Bool) (old : Arena) (q : ℕ) (within : q < length old.shelves) where
   abbrev stays : Message → Bool
   stays m = not (picked m)
 
-  pub flushing_none : (at : Option ℕ) → at ≡ first (heads_at old q) → IsFlushing picked old q 0 at old
-  flushing_none at is = record {
-    pre = [];
-    post = shelf_at old q;
-    is = refl;
-    many = refl;
-    behind = is;
-    arena = ap (λ xs. let a : Arena = record old { shelves = xs } in a) (sym (set-get_or old.shelves q []));
-  }
+  -- so many were passed, and then those that are not picked
+  flushing_on : (k : ℕ) (now : Arena) (pre post : List Message) → shelf_at old q ≡ pre ++ post → k ≤ length pre
+      → now ≡ with_freed (filter picked pre) (with_shelf q (filter stays pre ++ post) old)
+      → (at : Option ℕ) (rest : List Message) → IsPassed picked taken post rest → at ≡ first (heads rest) → IsFlushing picked taken old q k at now
+  flushing_on k now pre post is many arena at rest passed behind =
+      let go : filter picked (pre ++ passed.mid) ≡ filter picked pre =
+      filter-append picked pre passed.mid ∙ ap (λ ms. filter picked pre ++ ms) passed.gone ∙ append-nil (filter picked pre) in
+      let stay : filter stays (pre ++ passed.mid) ++ rest ≡ filter stays pre ++ post =
+      ap (λ ms. ms ++ rest) (filter-append stays pre passed.mid ∙ ap (λ ms. filter stays pre ++ ms) passed.stay)
+      ∙ append_assoc (filter stays pre) passed.mid rest ∙ ap (λ ms. filter stays pre ++ ms) (sym passed.is) in
+      record {
+        pre = pre ++ passed.mid;
+        post = rest;
+        is = is ∙ ap (λ ms. pre ++ ms) passed.is ∙ sym (append_assoc pre passed.mid rest);
+        many = omega (arith, many, length-append pre passed.mid);
+        behind = behind;
+        begins = passed.begins;
+        arena = arena ∙ sym (λ i. with_freed (go i) (with_shelf q (stay i) old));
+      }
 
-  module _ (k : ℕ) (at : Option ℕ) (now : Arena) (walk : IsFlushing picked old q k at now) where
+  pub flushing_none : (at : Option ℕ) (rest : List Message) → IsPassed picked taken (shelf_at old q) rest → at ≡ first (heads rest) → IsFlushing picked taken old q 0 at old
+  flushing_none at rest passed behind =
+      flushing_on 0 old [] (shelf_at old q) refl (omega arith) (ap (λ xs. let a : Arena = record old { shelves = xs } in a) (sym (set-get_or old.shelves q []))) at rest passed behind
+
+  module _ (k : ℕ) (at : Option ℕ) (now : Arena) (walk : IsFlushing picked taken old q k at now) where
     abbrev freed : List Block
     freed = flat_map (λ m. m) (filter picked walk.pre)
 
@@ -186,9 +309,6 @@ module _ (picked : Message → Bool) (old : Arena) (q : ℕ) (within : q < lengt
 
     flushing_shelves : now.shelves ≡ set old.shelves q (filter stays walk.pre ++ walk.post)
     flushing_shelves = ap (λ (a : Arena). a.shelves) walk.arena ∙ freed_shelves freed (with_shelf q (filter stays walk.pre ++ walk.post) old)
-
-    pub flushing_within : q < length now.shelves
-    flushing_within = omega (arith, within, ap length flushing_shelves, length-set old.shelves q (filter stays walk.pre ++ walk.post))
 
     flushing_is : shelf_at now q ≡ filter stays walk.pre ++ walk.post
     flushing_is = ap (λ xs. get_or xs q []) flushing_shelves ∙ get_or-set_same old.shelves q (filter stays walk.pre ++ walk.post) [] within
@@ -213,68 +333,62 @@ module _ (picked : Message → Bool) (old : Arena) (q : ℕ) (within : q < lengt
       pub next : FirstParts h walk.post
       next = first_of h walk.post (sym walk.behind ∙ some)
 
+      -- it is picked where it is taken
+      pub next_taken : picked next.at ≡ taken next.at
+      next_taken = subst (starts (λ m. picked m ≡ taken m)) next.is walk.begins
+
       pub next_is : shelf_at now q ≡ filter stays walk.pre ++ next.at ∷ next.post
       next_is = flushing_is ∙ ap (λ ms. filter stays walk.pre ++ ms) next.is
 
       pub next_there : stands_on now q h ≡ true
       next_there = ap (λ ms. has h (heads ms)) next_is ∙ at_there h (filter stays walk.pre) next.post next.at next.head
 
-      module _ (apart : IsApart (heads_at now q)) (o : Option ℕ) (o_is : o ≡ after h (heads_at now q)) where
-        behind_next : o ≡ first (heads next.post)
-        behind_next =
+      module _ (apart : IsApart (heads_at now q)) where
+        -- the one behind that
+        pub behind_next : (o : Option ℕ) → o ≡ after h (heads_at now q) → o ≡ first (heads next.post)
+        behind_next o o_is =
             o_is ∙ ap (after h) (ap heads next_is) ∙ ap (λ n. after n (heads (filter stays walk.pre ++ next.at ∷ next.post))) (sym next.head)
             ∙ after-head (filter stays walk.pre) next.post next.at (subst (λ ms. IsApart (heads ms)) next_is apart)
 
         is_next : shelf_at old q ≡ (walk.pre ++ next.at ∷ []) ++ next.post
         is_next = walk.is ∙ ap (λ ms. walk.pre ++ ms) next.is ∙ sym (append_assoc walk.pre (next.at ∷ []) next.post)
 
-        many_next : length (walk.pre ++ next.at ∷ []) ≡ k + 1
+        many_next : k + 1 ≤ length (walk.pre ++ next.at ∷ [])
         many_next = omega (arith, length-append walk.pre (next.at ∷ []), walk.many)
 
-        -- it stays
-        pub flushing_kept : picked next.at ≡ false → IsFlushing picked old q (k + 1) o now
-        flushing_kept not_picked =
-            let stay : filter stays (walk.pre ++ next.at ∷ []) ≡ filter stays walk.pre ++ next.at ∷ [] =
-            filter-append stays walk.pre (next.at ∷ []) ∙ ap (λ ms. filter stays walk.pre ++ ms) (cond-true _ _ _ (not_from_false _ not_picked)) in
-            let go : filter picked (walk.pre ++ next.at ∷ []) ≡ filter picked walk.pre =
-            filter-append picked walk.pre (next.at ∷ []) ∙ ap (λ ms. filter picked walk.pre ++ ms) (cond-false _ _ _ not_picked) ∙ append-nil (filter picked walk.pre) in
-            record {
-              pre = walk.pre ++ next.at ∷ [];
-              post = next.post;
-              is = is_next;
-              many = many_next;
-              behind = behind_next;
-              arena =
-                  walk.arena
-                  ∙ ap (λ ms. with_freed (filter picked walk.pre) (with_shelf q (filter stays walk.pre ++ ms) old)) next.is
-                  ∙ ap (λ ms. with_freed (filter picked walk.pre) (with_shelf q ms old)) (sym (append_assoc (filter stays walk.pre) (next.at ∷ []) next.post))
-                  ∙ ap (λ ms. with_freed (filter picked walk.pre) (with_shelf q (ms ++ next.post) old)) (sym stay)
-                  ∙ ap (λ ms. with_freed ms (with_shelf q (filter stays (walk.pre ++ next.at ∷ []) ++ next.post) old)) (sym go);
-            }
+        module _ (o : Option ℕ) (rest : List Message) (passed : IsPassed picked taken next.post rest) (o_is : o ≡ first (heads rest)) where
+          -- it stays
+          pub flushing_kept : picked next.at ≡ false → IsFlushing picked taken old q (k + 1) o now
+          flushing_kept not_picked =
+              let stay : filter stays (walk.pre ++ next.at ∷ []) ≡ filter stays walk.pre ++ next.at ∷ [] =
+              filter-append stays walk.pre (next.at ∷ []) ∙ ap (λ ms. filter stays walk.pre ++ ms) (cond-true _ _ _ (not_from_false _ not_picked)) in
+              let go : filter picked (walk.pre ++ next.at ∷ []) ≡ filter picked walk.pre =
+              filter-append picked walk.pre (next.at ∷ []) ∙ ap (λ ms. filter picked walk.pre ++ ms) (cond-false _ _ _ not_picked) ∙ append-nil (filter picked walk.pre) in
+              flushing_on (k + 1) now (walk.pre ++ next.at ∷ []) next.post is_next many_next
+              (walk.arena
+              ∙ ap (λ ms. with_freed (filter picked walk.pre) (with_shelf q (filter stays walk.pre ++ ms) old)) next.is
+              ∙ ap (λ ms. with_freed (filter picked walk.pre) (with_shelf q ms old)) (sym (append_assoc (filter stays walk.pre) (next.at ∷ []) next.post))
+              ∙ ap (λ ms. with_freed (filter picked walk.pre) (with_shelf q (ms ++ next.post) old)) (sym stay)
+              ∙ ap (λ ms. with_freed ms (with_shelf q (filter stays (walk.pre ++ next.at ∷ []) ++ next.post) old)) (sym go))
+              o rest passed o_is
 
-        -- it goes
-        pub flushing_freed : picked next.at ≡ true → (new : Arena) → IsSpent now q h new → IsFlushing picked old q (k + 1) o new
-        flushing_freed is_picked new spends =
-            let stay : filter stays (walk.pre ++ next.at ∷ []) ≡ filter stays walk.pre =
-            filter-append stays walk.pre (next.at ∷ []) ∙ ap (λ ms. filter stays walk.pre ++ ms) (cond-false _ _ _ (not_from_true _ is_picked)) ∙ append-nil (filter stays walk.pre) in
-            let go : filter picked (walk.pre ++ next.at ∷ []) ≡ filter picked walk.pre ++ next.at ∷ [] =
-            filter-append picked walk.pre (next.at ∷ []) ∙ ap (λ ms. filter picked walk.pre ++ ms) (cond-true _ _ _ is_picked) in
-            let blocks : flat_map (λ m. m) (filter picked (walk.pre ++ next.at ∷ [])) ≡ freed ++ next.at =
-            ap (flat_map (λ m. m)) go ∙ flat_map-append (λ (m : Message). m) (filter picked walk.pre) (next.at ∷ []) ∙ ap (λ bs. freed ++ bs) (append-nil next.at) in
-            record {
-              pre = walk.pre ++ next.at ∷ [];
-              post = next.post;
-              is = is_next;
-              many = many_next;
-              behind = behind_next;
-              arena =
-                  freed_alone now q h new spends (filter stays walk.pre) next.post next.at next_is next.head apart
-                  ∙ ap (λ a. with_blocks_freed next.at (with_shelf q (filter stays walk.pre ++ next.post) a)) walk.arena
-                  ∙ ap (λ ms. with_blocks_freed next.at (with_shelf q (filter stays walk.pre ++ next.post) (with_blocks_freed freed (with_shelf q (filter stays walk.pre ++ ms) old)))) next.is
-                  ∙ freed_next old q within (filter stays walk.pre) next.post next.at freed
-                  ∙ ap (λ ms. with_blocks_freed (freed ++ next.at) (with_shelf q (ms ++ next.post) old)) (sym stay)
-                  ∙ ap (λ bs. with_blocks_freed bs (with_shelf q (filter stays (walk.pre ++ next.at ∷ []) ++ next.post) old)) (sym blocks);
-            }
+          -- it goes
+          pub flushing_freed : picked next.at ≡ true → (new : Arena) → IsSpent now q h new → IsFlushing picked taken old q (k + 1) o new
+          flushing_freed is_picked new spends =
+              let stay : filter stays (walk.pre ++ next.at ∷ []) ≡ filter stays walk.pre =
+              filter-append stays walk.pre (next.at ∷ []) ∙ ap (λ ms. filter stays walk.pre ++ ms) (cond-false _ _ _ (not_from_true _ is_picked)) ∙ append-nil (filter stays walk.pre) in
+              let go : filter picked (walk.pre ++ next.at ∷ []) ≡ filter picked walk.pre ++ next.at ∷ [] =
+              filter-append picked walk.pre (next.at ∷ []) ∙ ap (λ ms. filter picked walk.pre ++ ms) (cond-true _ _ _ is_picked) in
+              let blocks : flat_map (λ m. m) (filter picked (walk.pre ++ next.at ∷ [])) ≡ freed ++ next.at =
+              ap (flat_map (λ m. m)) go ∙ flat_map-append (λ (m : Message). m) (filter picked walk.pre) (next.at ∷ []) ∙ ap (λ bs. freed ++ bs) (append-nil next.at) in
+              flushing_on (k + 1) new (walk.pre ++ next.at ∷ []) next.post is_next many_next
+              (freed_alone now q h new spends (filter stays walk.pre) next.post next.at next_is next.head apart
+              ∙ ap (λ a. with_blocks_freed next.at (with_shelf q (filter stays walk.pre ++ next.post) a)) walk.arena
+              ∙ ap (λ ms. with_blocks_freed next.at (with_shelf q (filter stays walk.pre ++ next.post) (with_blocks_freed freed (with_shelf q (filter stays walk.pre ++ ms) old)))) next.is
+              ∙ freed_next old q within (filter stays walk.pre) next.post next.at freed
+              ∙ ap (λ ms. with_blocks_freed (freed ++ next.at) (with_shelf q (ms ++ next.post) old)) (sym stay)
+              ∙ ap (λ bs. with_blocks_freed bs (with_shelf q (filter stays (walk.pre ++ next.at ∷ []) ++ next.post) old)) (sym blocks))
+              o rest passed o_is
 
 -- ---- the queues, where one of them was flushed
 

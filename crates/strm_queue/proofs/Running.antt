@@ -1,10 +1,9 @@
 -- The run list, as one list of links.
-use Rattle.std.proofs.Common.{◌≡◌, ℕ, zero, suc, ◌+◌, ◌<◌, ◌≤◌, true, List, [], ◌∷◌, length, map, drop, Some, None, refl, sym, ap, ◌∙◌, subst, arith}
+use Rattle.std.proofs.Common.{◌≡◌, ℕ, suc, ◌+◌, ◌<◌, ◌≤◌, true, List, [], ◌∷◌, length, map, drop, Some, sym, ap, ◌∙◌, subst, arith}
 use Rattle.std.specs.Prelude.{slice_get}
 use Rattle.std.specs.List.{All}
 use Rattle.std.specs.Option.{option_map_or}
 use Rattle.std.proofs.lemmas.List.{get_or-map, length-map}
-use Rattle.std.proofs.lemmas.Option.{none-some}
 use Rattle.strm_links.specs.Rows.{IsParting, Rows, after, first, holder, list_at, next_in, without}
 use Rattle.strm_links.proofs.AllLists.{All-listed, IsApart-list_at, has-holder}
 use Rattle.strm_links.proofs.OneList.{after-get, first-without, has_get, length_below, some_of}
@@ -53,10 +52,3 @@ module _ (run : Rows) (parting : IsParting run) where
     run_step =
         let here : holder n run ≡ Some 0 = some_of 0 (holder n run) (sym (has-holder n 0 run parting.apart) ∙ has_get (list_at 0 run) k n is) in
         ap (λ o. after n (option_map_or (λ list. list_at list run) o [])) here ∙ after-get (list_at 0 run) k n (IsApart-list_at 0 run.lists parting.apart) is
-
--- behind the last one there is none
-pub none_past : (xs : List ℕ) (k place : ℕ) → k ≤ place → slice_get xs k ≡ None → slice_get xs place ≡ None
-none_past [] k place past none = refl
-none_past (x ∷ xs) zero place past none = absurd (none-some x (sym none))
-none_past (x ∷ xs) (suc k) zero past none = absurd (omega (arith, past))
-none_past (x ∷ xs) (suc k) (suc place) past none = none_past xs k place (omega (arith, past)) none

@@ -32,10 +32,6 @@ module _ (so : Bool) (q : ℕ) (s : QueueState) where
       by_cases true (Some p) = enabled_marks true p s
       by_cases false o = refl
 
-any_none : (xs : List ℕ) → list_any (λ x. false) xs ≡ false
-any_none [] = refl
-any_none (x ∷ xs) = any_none xs
-
 -- a new queue has no wanted mark
 pub new_marks : (band : ℕ) → is_wanted opening_marks.wanted band ≡ false
 new_marks = none_at every_band

@@ -1,20 +1,18 @@
 -- What is stored of a queue's messages stays true where one of them joins or leaves.
-use Rattle.std.proofs.Common.{◌≡◌, ◌≢◌, ℕ, ◌+◌, ◌-◌, ◌<◌, ◌≤◌, ◌^◌, false, List, [], ◌∷◌, ◌++◌, length, get_or, set, Option, refl, sym, ap, ◌∙◌, inl, inr, arith, length-append, length-set, get_or-set_same, get_or-set_other, map, None, subst, replicate, zero, suc, true}
-use Rattle.std.specs.Prelude.{nat_le, sum, sum_by, is_some}
+use Rattle.std.proofs.Common.{◌≡◌, ◌≢◌, ℕ, ◌+◌, ◌-◌, ◌<◌, ◌≤◌, ◌^◌, false, List, [], ◌∷◌, ◌++◌, length, get_or, set, Option, refl, sym, ap, ◌∙◌, inl, inr, arith, length-append, length-set, get_or-set_same, get_or-set_other, None, subst, replicate, zero, suc, true}
+use Rattle.std.specs.Prelude.{nat_le, is_some}
 use Rattle.std.proofs.lemmas.Bool.{cases_eq, cond-false, cond-true, eq-eqb, lt-leb, ne_eqb}
-use Rattle.std.proofs.lemmas.List.{get_or-replicate, length-replicate, ext_get_or, get_or-map, length-map}
+use Rattle.std.proofs.lemmas.List.{get_or-replicate, length-replicate}
 use Rattle.strm_data.specs.DataStore.{DataStore}
 use Rattle.strm_mblk.specs.Block.{Message, head_of, size_of}
-use Rattle.strm_mblk.specs.Messages.{put_before_head}
-use Rattle.strm_queue.specs.Flow.{band_count, band_of_rank, bytes_on, every_band, is_wanted}
+use Rattle.strm_queue.specs.Flow.{band_count, band_of_rank, bytes_on}
 use Rattle.strm_queue.specs.Limits.{bands, ranks}
 use Rattle.strm_queue.specs.declared.tally.Placed.{Placed}
 use Rattle.strm_queue.specs.Ends.{first_of_rank, last_of_rank, of_rank}
-use Rattle.strm_queue.specs.Tallies.{AreEndsOf, IsTallyOf, Tally, count_of, end_joined, end_left, first_in, last_in, no_tally, one_less, one_more, with_count, with_ends}
+use Rattle.strm_queue.specs.Tallies.{IsTallyOf, Tally, count_of, end_joined, end_left, first_in, last_in, no_tally, one_less, one_more, with_count, with_ends}
 use Rattle.strm_queue.specs.Rank.{rank_of, is_ordered}
-use Rattle.strm_queue.proofs.Bands.{is_wanted_where, length-bands_where, length-every_band, get_or-every_band}
-use Rattle.strm_queue.proofs.Counts.{band_count-left, band_count-placed, band_of_rank_range, bytes_on-placed, count_in, counted, length-placed, whole, bytes_on-left}
-use Rattle.std.proofs.lemmas.List.Sums.{sum_by-cons}
+use Rattle.strm_queue.proofs.Bands.{is_wanted_where, length-bands_where, length-every_band}
+use Rattle.strm_queue.proofs.Counts.{band_count-left, band_of_rank_range, count_in, counted, bytes_on-left}
 use Rattle.strm_links.specs.Rows.{IsApart, first, last}
 use Rattle.strm_queue.proofs.OnShelf.{heads}
 use Rattle.strm_queue.proofs.Ends.{first_joined, last_joined, first_left, last_left, of_rank-other}
@@ -27,6 +25,7 @@ none_given = None
 pub tally_none : (s : DataStore) (hiwat : ℕ) → 0 < hiwat → IsTallyOf s hiwat [] no_tally
 tally_none s hiwat some = record {
   len = refl;
+  bytes = refl;
   each_band = length-replicate {A = ℕ} bands 0;
   each_mark = length-bands_where (λ band. false) ∙ length-every_band;
   counts = λ band below. get_or-replicate bands band 0 0 below;
@@ -56,7 +55,7 @@ pub record IsPlaced (s : DataStore) (pre post : List Message) (m : Message) (p :
   pub few : p.rank < ranks
 
 -- one band has another count, and one rank other ends
-module _ (s : DataStore) (hiwat : ℕ) (ms ns : List Message) (t : Tally) (is : IsTallyOf s hiwat ms t) (len : ℕ) (long : len ≡ length ns)
+module _ (s : DataStore) (hiwat : ℕ) (ms ns : List Message) (t : Tally) (is : IsTallyOf s hiwat ms t) (len : ℕ) (long : len ≡ length ns) (bytes : ℕ) (heavy : bytes ≡ bytes_on ns)
     (band n : ℕ) (within : band < bands) (here : n ≡ band_count s band ns) (others : (x : ℕ) → x ≢ band → band_count s x ns ≡ band_count s x ms)
     (r : ℕ) (end beginning : Option ℕ) (below : r < ranks) (first_is : beginning ≡ first_of_rank (rank_of s) r ns) (last_is : end ≡ last_of_rank (rank_of s) r ns)
     (other_ranks : (x : ℕ) → x ≢ r → of_rank (rank_of s) x ns ≡ of_rank (rank_of s) x ms) where
@@ -68,9 +67,10 @@ module _ (s : DataStore) (hiwat : ℕ) (ms ns : List Message) (t : Tally) (is : 
         | inr other ↦ get_or-set_other xs k x v d other ∙ old other
       ]
 
-  tally_set : IsTallyOf s hiwat ns (with_ends r beginning end (with_count hiwat band n (record t { len = len })))
+  tally_set : IsTallyOf s hiwat ns (with_ends r beginning end (with_count hiwat band n (record t { len = len; bytes = bytes })))
   tally_set = record {
     len = long;
+    bytes = heavy;
     each_band = length-set t.counts band n ∙ is.each_band;
     each_mark = length-set t.full band (nat_le hiwat n) ∙ is.each_mark;
     counts = λ x inside. at_set (λ j. band_count s j ns) t.counts band n 0 (omega (arith, within, is.each_band)) here x (λ other. is.counts x inside ∙ sym (others x other));
@@ -129,6 +129,7 @@ module _ (s : DataStore) (m : Message) where
       tally_joined ordered apart =
           subst (λ k. IsTallyOf s hiwat (pre ++ m ∷ post) (one_more hiwat k t)) (sym place_is)
           (tally_set s hiwat (pre ++ post) (pre ++ m ∷ post) t is (t.len + 1) (omega (arith, is.len, length-append pre (m ∷ post), length-append pre post))
+          (t.bytes + size_of m) (omega (arith, is.bytes, bytes_on-left pre post m))
           its (count_of t its + size_of m) (band_of_rank_range (rank_of s m)) (omega (arith, is.counts its (band_of_rank_range (rank_of s m)), band_count-left s its pre post m, own))
           (λ x other. omega (arith, band_count-left s x pre post m, none x other))
           (rank_of s m) (end_joined (last_in t (rank_of s m)) (last (heads pre)) (head_of m)) (end_joined (first_in t (rank_of s m)) (first (heads post)) (head_of m)) (omega (arith, placed.few, placed.rank))
@@ -136,7 +137,11 @@ module _ (s : DataStore) (m : Message) where
           (ap (λ o. end_joined o (last (heads pre)) (head_of m)) (is.ends.lasts (rank_of s m)) ∙ last_joined (rank_of s) pre post m ordered apart)
           (λ x other. of_rank-other (rank_of s) x pre post m other))
 
-      -- its bytes fit beside those of its band
+      -- its bytes fit beside those of all
+      pub joins_all : bytes_on (pre ++ m ∷ post) < 2 ^ 32 → t.bytes + p.size < 2 ^ 32
+      joins_all few = omega (arith, few, bytes_on-left pre post m, is.bytes, placed.size)
+
+      -- and beside those of its band
       pub joins_few : bytes_on (pre ++ m ∷ post) < 2 ^ 32 → count_of t (band_of_rank p.rank) + p.size < 2 ^ 32
       joins_few few =
           omega (
@@ -155,6 +160,7 @@ module _ (s : DataStore) (m : Message) where
       tally_left ordered apart =
           subst (λ k. IsTallyOf s hiwat (pre ++ post) (one_less hiwat k t)) (sym place_is)
           (tally_set s hiwat (pre ++ m ∷ post) (pre ++ post) t is (t.len - 1) (omega (arith, is.len, length-append pre (m ∷ post), length-append pre post))
+          (t.bytes - size_of m) (omega (arith, is.bytes, bytes_on-left pre post m))
           its (count_of t its - size_of m) (band_of_rank_range (rank_of s m)) (omega (arith, is.counts its (band_of_rank_range (rank_of s m)), band_count-left s its pre post m, own))
           (λ x other. omega (arith, band_count-left s x pre post m, none x other))
           (rank_of s m) (end_left (last_in t (rank_of s m)) (first_in t (rank_of s m)) (last (heads pre)) (head_of m)) (end_left (first_in t (rank_of s m)) (last_in t (rank_of s m)) (first (heads post)) (head_of m)) (omega (arith, placed.few, placed.rank))
@@ -162,7 +168,11 @@ module _ (s : DataStore) (m : Message) where
           ((λ i. end_left (is.ends.lasts (rank_of s m) i) (is.ends.firsts (rank_of s m) i) (last (heads pre)) (head_of m)) ∙ last_left (rank_of s) pre post m ordered apart)
           (λ x other. sym (of_rank-other (rank_of s) x pre post m other)))
 
-      -- its bytes are among those of its band
+      -- its bytes are among those of all
+      pub leaves_all : p.size ≤ t.bytes
+      leaves_all = omega (arith, is.bytes, bytes_on-left pre post m, placed.size)
+
+      -- and among those of its band
       pub leaves_enough : p.size ≤ count_of t (band_of_rank p.rank)
       leaves_enough =
           omega (
@@ -177,21 +187,3 @@ module _ (s : DataStore) (m : Message) where
       -- and it is one of the messages
       pub leaves_some : 1 ≤ t.len
       leaves_some = omega (arith, is.len, length-append pre (m ∷ post))
-
--- ---- all bands together
-
-sum-map : (f : ℕ → ℕ) (xs : List ℕ) → sum (map f xs) ≡ sum_by f xs
-sum-map f [] = refl
-sum-map f (x ∷ xs) = omega (arith, sum_by-cons (λ (n : ℕ). n) (f x) (map f xs), sum_by-cons f x xs, sum-map f xs)
-
--- the counts add up to the bytes of the messages
-pub tally_bytes : (s : DataStore) (hiwat : ℕ) (ms : List Message) (t : Tally) → IsTallyOf s hiwat ms t → sum t.counts ≡ bytes_on ms
-tally_bytes s hiwat ms t is =
-    ap sum
-    (ext_get_or 0 t.counts (map (λ band. band_count s band ms) every_band) (is.each_band ∙ sym length-every_band ∙ sym (length-map every_band (λ band. band_count s band ms)))
-    (λ band inside.
-    let below : band < bands = omega (arith, inside, is.each_band) in
-    is.counts band below
-    ∙ sym (get_or-map (λ n. band_count s n ms) every_band band 0 0 (omega (arith, below, length-every_band)) ∙ ap (λ n. band_count s n ms) (get_or-every_band band below))))
-    ∙ sum-map (λ band. band_count s band ms) every_band
-    ∙ whole s ms

@@ -4,6 +4,7 @@ pub mod Rank
 pub mod Ends
 pub mod Flow
 pub mod Flush
+pub mod Flushing
 pub mod BandSets
 pub mod Tallies
 pub mod QueuedBlocks

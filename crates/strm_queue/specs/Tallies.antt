@@ -5,14 +5,15 @@ use Rattle.strm_links.specs.Rows as rows
 use Rattle.strm_mblk.specs.Block.{Message}
 use Rattle.strm_queue.specs.declared.tally.Placed.{Placed}
 use Rattle.strm_queue.specs.Ends.{first_of_rank, last_of_rank}
-use Rattle.strm_queue.specs.Flow.{band_count, band_of_rank, bands_where, is_wanted}
+use Rattle.strm_queue.specs.Flow.{band_count, band_of_rank, bands_where, bytes_on, is_wanted}
 use Rattle.strm_queue.specs.Limits.{bands, ranks}
 use Rattle.strm_queue.specs.Rank.{rank_of}
 
--- How many messages there are; for each band how many bytes it has, and whether it is full; for each rank the heads of
+-- How many messages there are, and their bytes; for each band how many bytes it has, and whether it is full; for each rank the heads of
 -- its first and of its last message, if it has some; and for each rank that is a band whether it has some.
 pub record Tally : Type 0 where
   pub len : ℕ
+  pub bytes : ℕ
   pub counts : List ℕ
   pub full : List Bool
   pub firsts : List (Option ℕ)
@@ -22,6 +23,7 @@ pub record Tally : Type 0 where
 abbrev pub no_tally : Tally
 no_tally = record {
   len = 0;
+  bytes = 0;
   counts = replicate bands 0;
   full = bands_where (λ band. false);
   firsts = replicate ranks None;
@@ -54,6 +56,7 @@ pub record AreEndsOf (rank : Message → ℕ) (ms : List Message) (t : Tally) : 
 -- what is stored is true of these messages, on a queue with this high water mark
 pub record IsTallyOf (s : DataStore) (hiwat : ℕ) (ms : List Message) (t : Tally) : Type 0 where
   pub len : t.len ≡ length ms
+  pub bytes : t.bytes ≡ bytes_on ms
   pub each_band : length t.counts ≡ bands
   pub each_mark : length t.full ≡ bands
   pub counts : (band : ℕ) → band < bands → count_of t band ≡ band_count s band ms
@@ -83,13 +86,13 @@ end_left end other beside head = if rows.is_some_of head end then (if rows.is_so
 abbrev pub one_more : ℕ → Placed → Tally → Tally
 one_more hiwat p t =
     with_ends p.rank (end_joined (first_in t p.rank) p.behind p.head) (end_joined (last_in t p.rank) p.ahead p.head)
-    (with_count hiwat (band_of_rank p.rank) (count_of t (band_of_rank p.rank) + p.size) (record t { len = t.len + 1 }))
+    (with_count hiwat (band_of_rank p.rank) (count_of t (band_of_rank p.rank) + p.size) (record t { len = t.len + 1; bytes = t.bytes + p.size }))
 
 -- a message has left
 abbrev pub one_less : ℕ → Placed → Tally → Tally
 one_less hiwat p t =
     with_ends p.rank (end_left (first_in t p.rank) (last_in t p.rank) p.behind p.head) (end_left (last_in t p.rank) (first_in t p.rank) p.ahead p.head)
-    (with_count hiwat (band_of_rank p.rank) (count_of t (band_of_rank p.rank) - p.size) (record t { len = t.len - 1 }))
+    (with_count hiwat (band_of_rank p.rank) (count_of t (band_of_rank p.rank) - p.size) (record t { len = t.len - 1; bytes = t.bytes - p.size }))
 
 -- ---- ranks that have messages
 

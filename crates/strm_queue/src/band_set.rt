@@ -9,10 +9,15 @@ ghost use Rattle.strm_queue.specs.Flow.{bands_where, every_band, is_wanted};
 use crate::limits::BANDS;
 use std::marker::Model;
 
-// A set of bands, as bits: bit `band % 64` of word `band / 64` says whether it has the band.
+// The bits of a word, and the words of a set.
+const WORD_BITS: u8 = 64;
+
+const WORDS: u8 = 4;
+
+// A set of bands, as bits: bit `band % WORD_BITS` of word `band / WORD_BITS` says whether it has the band.
 #[derive(Debug, Drop)]
 pub(crate) struct BandSet {
-    words: [u64; 4],
+    words: [u64; WORDS as usize],
 }
 
 impl Model for BandSet {
@@ -29,28 +34,30 @@ impl BandSet {
     pub(crate) fn new() -> BandSet
         ensures { result ≡ bands_where (λ band. false) }
     {
-        BandSet { words: [0; 4] }
+        BandSet {
+            words: [0; WORDS as usize],
+        }
     }
 
     // Whether it has a band.
     pub(crate) fn has(&self, band: u8) -> bool
         ensures { result ≡ is_wanted self.now band }
     {
-        self.words[usize::from(band / 64)] >> (band % 64) & 1 == 1
+        self.words[usize::from(band / WORD_BITS)] >> (band % WORD_BITS) & 1 == 1
     }
 
     // Adds a band.
     pub(crate) fn insert(&mut self, band: u8)
         ensures { self.new ≡ slice_set self.old band true }
     {
-        self.words[usize::from(band / 64)] |= 1 << (band % 64);
+        self.words[usize::from(band / WORD_BITS)] |= 1 << (band % WORD_BITS);
     }
 
     // Takes a band out.
     pub(crate) fn remove(&mut self, band: u8)
         ensures { self.new ≡ slice_set self.old band false }
     {
-        self.words[usize::from(band / 64)] &= !(1 << (band % 64));
+        self.words[usize::from(band / WORD_BITS)] &= !(1 << (band % WORD_BITS));
     }
 
     // Adds a band, or takes it out.
@@ -69,10 +76,10 @@ impl BandSet {
         ensures some { IfSome result (λ found. IsFirstFrom self.now band found) }
         ensures none { IfNone result ((x : ℕ) → band ≤ x → is_wanted self.now x ≡ false) }
     {
-        let mut from = band % 64;
-        for word in band / 64..4 {
+        let mut from = band % WORD_BITS;
+        for word in band / WORD_BITS..WORDS {
             if let Some(place) = lowest_from(self.words[usize::from(word)], from) {
-                return Some(word * 64 + place);
+                return Some(word * WORD_BITS + place);
             }
             from = 0;
         }
@@ -84,12 +91,12 @@ impl BandSet {
         ensures some { IfSome result (λ found. IsLastTo self.now band found) }
         ensures none { IfNone result ((x : ℕ) → x ≤ band → is_wanted self.now x ≡ false) }
     {
-        let mut to = band % 64;
-        for word in (0..=band / 64).rev() {
+        let mut to = band % WORD_BITS;
+        for word in (0..=band / WORD_BITS).rev() {
             if let Some(place) = highest_to(self.words[usize::from(word)], to) {
-                return Some(word * 64 + place);
+                return Some(word * WORD_BITS + place);
             }
-            to = 63;
+            to = WORD_BITS - 1;
         }
         None
     }

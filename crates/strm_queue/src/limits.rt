@@ -8,3 +8,6 @@ pub const BANDS: usize = 256;
 
 // The ranks of messages, numbered from 0: one for each band, and that of high priority above them.
 pub(crate) const RANKS: usize = BANDS + 1;
+
+// The rank of high priority messages.
+pub(crate) const HIGH_RANK: u16 = 256;

@@ -129,6 +129,7 @@ impl Queues {
         requires queue { queue < length self.old.state.specs }
         requires rank { placed.rank < ranks }
         requires len { (tally_at self.old queue).len + 1 < 2 ^ 32 }
+        requires bytes { (tally_at self.old queue).bytes + placed.size < 2 ^ 32 }
         requires count { count_of (tally_at self.old queue) (band_of_rank placed.rank) + placed.size < 2 ^ 32 }
         ensures { self.new ≡ with_tally queue (one_more (spec_at self.old.state.specs queue).hiwat placed (tally_at self.old queue)) self.old }
     {
@@ -141,6 +142,7 @@ impl Queues {
         requires queue { queue < length self.old.state.specs }
         requires rank { placed.rank < ranks }
         requires len { 1 ≤ (tally_at self.old queue).len }
+        requires bytes { placed.size ≤ (tally_at self.old queue).bytes }
         requires count { placed.size ≤ count_of (tally_at self.old queue) (band_of_rank placed.rank) }
         ensures { self.new ≡ with_tally queue (one_less (spec_at self.old.state.specs queue).hiwat placed (tally_at self.old queue)) self.old }
     {

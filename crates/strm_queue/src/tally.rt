@@ -6,12 +6,9 @@ ghost use Rattle.strm_queue.specs.Limits.{ranks};
 ghost use Rattle.strm_queue.specs.Tallies.{IsRankFrom, IsRankTo, count_of, end_joined, end_left, first_in, has_rank, last_in, no_tally, one_less, one_more, with_count, with_ends};
 
 use crate::band_set::BandSet;
-use crate::limits::{BANDS, RANKS};
+use crate::limits::{BANDS, HIGH_RANK, RANKS};
 use std::marker::Model;
 use strm_mblk::BlockNo;
-
-// The rank of high priority messages.
-const HIGH: u16 = 256;
 
 // A message as it stands on a queue: its head, its rank and its bytes, and the heads of the messages ahead of it and
 // behind it, if there are such.
@@ -24,11 +21,12 @@ pub(crate) struct Placed {
     pub(crate) behind: Option<BlockNo>,
 }
 
-// What is stored of a queue's messages: how many there are; for each band how many bytes it has; the bands that are full;
-// for each rank the heads of its first and of its last message; and the bands that as ranks have messages.
+// What is stored of a queue's messages: how many there are, and their bytes; for each band how many bytes it has; the bands
+// that are full; for each rank the heads of its first and of its last message; and the bands that as ranks have messages.
 #[derive(Debug, Drop)]
 pub(crate) struct Tally {
     len: u32,
+    bytes: u32,
     counts: [u32; BANDS],
     full: BandSet,
     firsts: [Option<BlockNo>; RANKS],
@@ -41,7 +39,7 @@ impl Model for Tally {
 
     ghost Value = { Tally };
 
-    ghost view = { λ t. record { len = t.len; counts = t.counts; full = t.full; firsts = t.firsts; lasts = t.lasts; used = t.used } };
+    ghost view = { λ t. record { len = t.len; bytes = t.bytes; counts = t.counts; full = t.full; firsts = t.firsts; lasts = t.lasts; used = t.used } };
 }
 
 impl Tally {
@@ -51,6 +49,7 @@ impl Tally {
     {
         Tally {
             len: 0,
+            bytes: 0,
             counts: [0; BANDS],
             full: BandSet::new(),
             firsts: [None; RANKS],
@@ -64,6 +63,13 @@ impl Tally {
         ensures { result ≡ self.now.len }
     {
         self.len
+    }
+
+    // How many bytes they have.
+    pub(crate) fn bytes(&self) -> u32
+        ensures { result ≡ self.now.bytes }
+    {
+        self.bytes
     }
 
     // How many bytes a band has.
@@ -109,13 +115,13 @@ impl Tally {
         ensures some { IfSome result (λ found. IsRankFrom self.now rank found) }
         ensures none { IfNone result ((x : ℕ) → rank ≤ x → x < ranks → has_rank self.now x ≡ false) }
     {
-        if rank < HIGH {
+        if rank < HIGH_RANK {
             if let Some(band) = self.used.at_least(rank as u8) {
                 return Some(u16::from(band));
             }
         }
-        self.first(HIGH)?;
-        Some(HIGH)
+        self.first(HIGH_RANK)?;
+        Some(HIGH_RANK)
     }
 
     // The greatest rank up to this one that has messages, if there is one.
@@ -124,10 +130,10 @@ impl Tally {
         ensures some { IfSome result (λ found. IsRankTo self.now rank found) }
         ensures none { IfNone result ((x : ℕ) → x ≤ rank → has_rank self.now x ≡ false) }
     {
-        if rank == HIGH && self.first(HIGH).is_some() {
-            return Some(HIGH);
+        if rank == HIGH_RANK && self.first(HIGH_RANK).is_some() {
+            return Some(HIGH_RANK);
         }
-        let band = self.used.at_most(rank.min(HIGH - 1) as u8)?;
+        let band = self.used.at_most(rank.min(HIGH_RANK - 1) as u8)?;
         Some(u16::from(band))
     }
 
@@ -135,6 +141,7 @@ impl Tally {
     pub(crate) fn join(&mut self, hiwat: u32, placed: Placed)
         requires rank { placed.rank < ranks }
         requires len { self.old.len + 1 < 2 ^ 32 }
+        requires bytes { self.old.bytes + placed.size < 2 ^ 32 }
         requires count { count_of self.old (band_of_rank placed.rank) + placed.size < 2 ^ 32 }
         ensures { self.new ≡ one_more hiwat placed self.old }
     {
@@ -149,6 +156,7 @@ impl Tally {
         let first = end_joined(self.first(rank), behind, head);
         let last = end_joined(self.last(rank), ahead, head);
         self.len += 1;
+        self.bytes += size;
         self.set_count(hiwat, band, self.count(band) + size);
         self.set_ends(rank, first, last);
     }
@@ -157,6 +165,7 @@ impl Tally {
     pub(crate) fn leave(&mut self, hiwat: u32, placed: Placed)
         requires rank { placed.rank < ranks }
         requires len { 1 ≤ self.old.len }
+        requires bytes { placed.size ≤ self.old.bytes }
         requires count { placed.size ≤ count_of self.old (band_of_rank placed.rank) }
         ensures { self.new ≡ one_less hiwat placed self.old }
     {
@@ -171,6 +180,7 @@ impl Tally {
         let first = end_left(self.first(rank), self.last(rank), behind, head);
         let last = end_left(self.last(rank), self.first(rank), ahead, head);
         self.len -= 1;
+        self.bytes -= size;
         self.set_count(hiwat, band, self.count(band) - size);
         self.set_ends(rank, first, last);
     }
@@ -191,7 +201,7 @@ impl Tally {
         self.used.lawful();
         self.firsts[usize::from(rank)] = first;
         self.lasts[usize::from(rank)] = last;
-        if rank < HIGH {
+        if rank < HIGH_RANK {
             self.used.set(rank as u8, first.is_some());
         }
     }

@@ -24,7 +24,7 @@ impl Queues {
         Ok(self.len(queue))
     }
 
-    /// What there is to tell of a queue: its messages, their bytes, and its marks. Takes a step for each band. Nothing
+    /// What there is to tell of a queue: its messages, their bytes, and its marks. Takes constant time. Nothing
     /// changes.
     ///
     /// Refused as `NoSuchQueue` where there is no such queue.
@@ -37,7 +37,7 @@ impl Queues {
         }
         Ok(QueueInfo {
             msgs: self.len(queue),
-            bytes: self.bytes(blocks, queue),
+            bytes: self.bytes(queue),
             read: self.is_read(queue),
             noenable: self.is_off(queue),
             enabled: self.is_enabled(queue),

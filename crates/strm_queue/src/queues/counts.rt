@@ -8,31 +8,6 @@ ghost use Rattle.strm_queue.specs.QueuedBlocks.{AreInOrder};
 ghost use Rattle.strm_queue.specs.Rank.{rank_of};
 
 use super::Queues;
-use super::places::queued_rank;
-use crate::limits::BANDS;
-use crate::tally::band_of;
-use strm_mblk::{BlockNo, Blocks};
-
-// The band that a message on a queue counts with.
-pub(super) fn counted_band(blocks: &Blocks, head: BlockNo) -> u8
-    requires { IsSome (shelf_of blocks.now head) }
-    ensures { (queue : ℕ) (pre post : List Message) (m : Message) → shelf_at blocks.now queue ≡ pre ++ m ∷ post → head_of m ≡ head
-        → result ≡ band_of_rank (rank_of blocks.now.store m) }
-{
-    band_of(queued_rank(blocks, head))
-}
-
-// The bytes of all bands.
-fn sum_of(counts: &[u32; BANDS]) -> u32
-    requires { sum counts.now < 2 ^ 32 }
-    ensures { result ≡ sum counts.now }
-{
-    let mut bytes = 0;
-    for count in counts {
-        bytes += count;
-    }
-    bytes
-}
 
 impl Queues {
     // How many messages stand on a queue.
@@ -61,12 +36,10 @@ impl Queues {
     }
 
     // How many bytes a queue has.
-    pub(super) fn bytes(&self, blocks: &Blocks, queue: u8) -> u32
-        requires queue { queue < length self.now.state.specs }
-        requires in_order { AreInOrder self.now blocks.now }
-        ensures { result ≡ bytes_on (shelf_at blocks.now queue) }
+    pub(super) fn bytes(&self, queue: u8) -> u32
+        requires { queue < length self.now.state.specs }
+        ensures { (arena : Arena) → AreInOrder self.now arena → result ≡ bytes_on (shelf_at arena queue) }
     {
-        blocks.lawful();
-        sum_of(self.tally(queue).counts())
+        self.tally(queue).bytes()
     }
 }

@@ -6,6 +6,7 @@ ghost use Rattle.strm_queue.specs.Flow as flow;
 ghost use Rattle.strm_queue.specs.Flow.{enabled, enabled_where, marks_at, spec_at};
 
 use super::Queues;
+use crate::limits::HIGH_RANK;
 
 impl Queues {
     // The first queue with a service procedure from this one on, or the last one there. Takes a step for each.
@@ -93,7 +94,7 @@ impl Queues {
         requires { queue < length self.now.state.specs }
         ensures { result ≡ flow.enables_put (marks_at self.now.state queue) rank }
     {
-        rank == 256 || !self.is_off(queue) && (self.is_read(queue) || rank > 0)
+        rank == HIGH_RANK || !self.is_off(queue) && (self.is_read(queue) || rank > 0)
     }
 
     // Whether one that is put back does.
@@ -101,7 +102,7 @@ impl Queues {
         requires { queue < length self.now.state.specs }
         ensures { result ≡ flow.enables_put_back (marks_at self.now.state queue) rank }
     {
-        rank == 256 || !self.is_off(queue) && self.is_read(queue)
+        rank == HIGH_RANK || !self.is_off(queue) && self.is_read(queue)
     }
 
     // Whether one that is inserted does.

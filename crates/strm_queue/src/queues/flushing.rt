@@ -1,16 +1,20 @@
 //! Messages are flushed.
-ghost use Rattle.std.specs.Prelude.{◌≡◌, ◌<◌, ◌∷◌, ◌++◌, ℕ, IsSome, List, filter, length, not};
+ghost use Rattle.std.specs.Prelude.{◌≡◌, ◌<◌, ◌∷◌, ◌++◌, ℕ, IsSome, IsTrue, List, filter, length, map, not};
+ghost use Rattle.std.specs.Option.{ForSome};
+ghost use Rattle.strm_links.specs.Rows as rows;
 ghost use Rattle.strm_mblk.specs.Arena.{shelf_at, with_shelf};
 ghost use Rattle.strm_mblk.specs.Block.{Message, head_of};
 ghost use Rattle.strm_mblk.specs.Given.{answer_of, value_after};
-ghost use Rattle.strm_mblk.specs.Shelves.{shelf_of};
-ghost use Rattle.strm_queue.specs.Flush.{carries_data, is_picked, with_freed};
+ghost use Rattle.strm_mblk.specs.Shelves.{shelf_of, stands_on};
+ghost use Rattle.strm_queue.specs.Flush.{carries_data, is_flushed, is_picked, with_freed};
+ghost use Rattle.strm_queue.specs.Flushing.{from_band};
 ghost use Rattle.strm_queue.specs.QueueCalls as model;
 ghost use Rattle.strm_queue.specs.QueuedBlocks.{Agrees, AreInOrder, together};
 
 use super::Queues;
-use super::counts::counted_band;
+use super::places::queued_rank;
 use crate::Flush;
+use crate::tally::band_of;
 use strm_data::{MsgType, Refusal};
 use strm_mblk::{BlockNo, Blocks};
 
@@ -24,22 +28,17 @@ fn carries_data(kind: MsgType) -> bool
     )
 }
 
-// Whether a flush of one band, or of all, takes the message with this head.
-fn picks(blocks: &Blocks, head: BlockNo, band: Option<u8>, flush: Flush) -> bool
+// Whether a flush takes the message with this head, of whatever band.
+fn takes(blocks: &Blocks, head: BlockNo, flush: Flush) -> bool
     requires { IsSome (shelf_of blocks.now head) }
     ensures { (queue : ℕ) (pre post : List Message) (m : Message) → shelf_at blocks.now queue ≡ pre ++ m ∷ post → head_of m ≡ head
-        → result ≡ is_picked blocks.now.store band flush m }
+        → result ≡ is_flushed blocks.now.store flush m }
 {
     blocks.lawful();
-    let of_band = match band {
-        Some(band) => counted_band(blocks, head) == band,
-        None => true,
-    };
-    of_band
-        && match flush {
-            Flush::All => true,
-            Flush::Data => carries_data(blocks.head_kind(head)),
-        }
+    match flush {
+        Flush::All => true,
+        Flush::Data => carries_data(blocks.head_kind(head)),
+    }
 }
 
 impl Queues {
@@ -59,7 +58,7 @@ impl Queues {
 
     /// Frees the messages of one band of a queue, front to back: all of them, or those that carry data. High priority
     /// messages are of band 0. What stays keeps its place and enables nothing; a band that has room again may enable a
-    /// queue behind. Takes a step for each message, and one for each block that is freed.
+    /// queue behind. Takes a step for each message of the band, and one for each block that is freed.
     ///
     /// Refused as `NoSuchQueue` where there is no such queue; nothing changes then.
     pub fn flushband(
@@ -98,7 +97,36 @@ impl Queues {
         Ok(())
     }
 
-    // Frees the messages of a queue that a flush takes, front to back.
+    // The head of the first message of a band from one on that stands on a queue, if there is one; where no band is given,
+    // that one. Other bands are passed over at once.
+    fn onward(
+        &self,
+        blocks: &Blocks,
+        queue: u8,
+        band: Option<u8>,
+        at: Option<BlockNo>,
+    ) -> Option<BlockNo>
+        requires queue { queue < length self.now.state.specs }
+        requires in_order { AreInOrder self.now blocks.now }
+        requires at { ForSome at (λ head. IsTrue (stands_on blocks.now queue head)) }
+        ensures { (pre post : List Message) → shelf_at blocks.now queue ≡ pre ++ post → at ≡ rows.first (map head_of post)
+            → result ≡ rows.first (map head_of (from_band blocks.now.store band post)) }
+    {
+        let (Some(band), Some(head)) = (band, at) else {
+            return at;
+        };
+        blocks.lawful();
+        let rank = queued_rank(blocks, head);
+        if band_of(rank) == band {
+            return at;
+        }
+        if rank < u16::from(band) {
+            return None;
+        }
+        self.tally(queue).first(u16::from(band))
+    }
+
+    // Frees the messages of a queue, or of one band of it, that a flush takes, front to back.
     fn flush_shelf(&mut self, blocks: &mut Blocks, queue: u8, band: Option<u8>, flush: Flush)
         requires queue { queue < length self.old.state.specs }
         requires in_order { AreInOrder self.old blocks.old }
@@ -107,14 +135,14 @@ impl Queues {
         ensures state { self.new.state ≡ self.old.state }
         ensures in_order { AreInOrder self.new blocks.new }
     {
-        let mut at = blocks.first(queue);
+        let mut at = self.onward(blocks, queue, band, blocks.first(queue));
         for _message in 0..self.len(queue) {
             let Some(head) = at else {
                 return;
             };
             blocks.reads_alike();
-            at = blocks.after(head);
-            if picks(blocks, head, band, flush) {
+            at = self.onward(blocks, queue, band, blocks.after(head));
+            if takes(blocks, head, flush) {
                 let token = self.unshelve(blocks, queue, head);
                 blocks.freemsg(token);
             }

@@ -13,6 +13,7 @@ ghost use Rattle.strm_queue.specs.QueuedBlocks.{AreInOrder};
 ghost use Rattle.strm_queue.specs.Rank.{as_queued, is_ordered, put_ahead, put_behind, rank_of};
 
 use super::Queues;
+use crate::limits::HIGH_RANK;
 use strm_data::MsgType;
 use strm_mblk::{BlockNo, Blocks, Token};
 
@@ -23,7 +24,7 @@ fn rank(kind: MsgType, band: u8) -> u16
     ensures high { result ≡ 256 → IsTrue (is_high_priority kind) }
 {
     if kind.is_high_priority() {
-        256
+        HIGH_RANK
     } else {
         u16::from(band)
     }

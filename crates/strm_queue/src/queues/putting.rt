@@ -28,7 +28,7 @@ impl Queues {
         }
         let rank = held_rank(blocks, &token);
         let before = self.place_behind(blocks, queue, rank);
-        self.shelve(blocks, queue, before, token);
+        self.shelve(blocks, queue, before, rank, token);
         self.enable_where(self.enables_put(queue, rank), queue);
         Ok(())
     }
@@ -50,7 +50,7 @@ impl Queues {
         }
         let rank = held_rank(blocks, &token);
         let before = self.place_ahead(blocks, queue, rank);
-        self.shelve(blocks, queue, before, token);
+        self.shelve(blocks, queue, before, rank, token);
         self.enable_where(self.enables_put_back(queue, rank), queue);
         Ok(())
     }
@@ -83,11 +83,12 @@ impl Queues {
             return Err(Rejected { why, token });
         }
         let before = head_at(blocks, queue, place);
-        if !fits_before(blocks, queue, before, held_rank(blocks, &token)) {
+        let rank = held_rank(blocks, &token);
+        if !fits_before(blocks, queue, before, rank) {
             let why = Refusal::BadOrder;
             return Err(Rejected { why, token });
         }
-        self.shelve(blocks, queue, before, token);
+        self.shelve(blocks, queue, before, rank, token);
         self.enable_where(self.enables_inserted(queue), queue);
         Ok(())
     }

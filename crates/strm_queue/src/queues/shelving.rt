@@ -3,30 +3,37 @@ ghost use Rattle.std.specs.Prelude.{◌≡◌, ◌<◌, IsTrue, None, length};
 ghost use Rattle.std.specs.Option.{ForSome};
 ghost use Rattle.strm_mblk.specs.Arena.{has, held_at, message_at, shelf_at, token_of, with_shelf, without_held};
 ghost use Rattle.strm_mblk.specs.Block.{head_of};
+ghost use Rattle.strm_mblk.specs.BlockCalls.{banded};
 ghost use Rattle.strm_mblk.specs.Messages.{put_before_head};
 ghost use Rattle.strm_mblk.specs.Shelves as model;
 ghost use Rattle.strm_mblk.specs.Shelves.{stands_on};
+ghost use Rattle.strm_queue.specs.Limits.{ranks};
 ghost use Rattle.strm_queue.specs.QueuedBlocks.{AreInOrder};
 ghost use Rattle.strm_queue.specs.Rank.{as_queued, is_ordered, rank_of};
 
 use super::Queues;
-use super::places::{ahead_of, held_rank, queued_rank};
+use super::places::{ahead_of, queued_rank};
+use crate::limits::HIGH_RANK;
 use crate::tally::Placed;
 use strm_mblk::{BlockNo, Blocks, Token};
 
 impl Queues {
-    // Puts a message on a queue, before one that stands there, or last, where ranks do not rise then. The first block of a
-    // high priority one gets band 0. Takes a step for each block of the message.
+    // Puts a message of this rank on a queue, before one that stands there, or last, where ranks do not rise then. The first
+    // block of a high priority one gets band 0. Takes a step for each block of the message.
     pub(super) fn shelve(
         &mut self,
         blocks: &mut Blocks,
         queue: u8,
         before: Option<BlockNo>,
+        rank: u16,
         token: Token,
     )
         requires queue { queue < length self.old.state.specs }
         requires in_order { AreInOrder self.old blocks.old }
         requires had { IsTrue (has blocks.old token) }
+        requires rank { rank ≡ rank_of blocks.old.store (message_at blocks.old token.head) }
+        requires few { rank < ranks }
+        requires high { let m = message_at blocks.old token.head in rank ≡ 256 → as_queued blocks.old.store m ≡ banded 0 m }
         requires before { ForSome before (λ head. IsTrue (stands_on blocks.old queue head)) }
         requires ordered { let m = as_queued blocks.old.store (message_at blocks.old token.head) in
             IsTrue (is_ordered (rank_of blocks.old.store) (put_before_head head_of before m (shelf_at blocks.old queue))) }
@@ -37,12 +44,12 @@ impl Queues {
         blocks.lawful();
         let placed = Placed {
             head: token.head(),
-            rank: held_rank(blocks, &token),
+            rank,
             size: blocks.size(&token),
             ahead: ahead_of(blocks, queue, before),
             behind: before,
         };
-        if placed.rank == 256 {
+        if rank == HIGH_RANK {
             blocks.setband(&token, 0);
         }
         blocks.shelve(queue, before, token);

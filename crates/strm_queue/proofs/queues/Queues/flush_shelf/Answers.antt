@@ -1,58 +1,110 @@
-use Rattle.std.proofs.Common.{◌≡◌, ◌<◌, ◌+◌, length, arith, ap, refl, subst, sym, ◌∙◌, true}
+use Rattle.std.proofs.Common.{◌≡◌, ◌<◌, ◌+◌, ℕ, List, Bool, Option, ◌++◌, ◌∷◌, [], length, arith, ap, refl, subst, sym, ◌∙◌, true, append_assoc}
 use Rattle.std.specs.Prelude.{filter, not}
+use Rattle.strm_links.specs.Rows.{after, first, has}
+use Rattle.strm_mblk.specs.Arena.{shelf_at}
+use Rattle.strm_mblk.specs.Block.{Message}
+use Rattle.strm_mblk.specs.Shelves.{heads_at, stands_on}
 use Rattle.strm_mblk.proofs.arena.Stands.{shelf_of-there}
-use Rattle.strm_queue.specs.Flush.{is_picked}
+use Rattle.strm_queue.specs.Flush.{is_flushed, is_picked}
+use Rattle.strm_queue.specs.Flushing.{from_band}
 use Rattle.strm_queue.specs.QueuedBlocks.{AreInOrder, QueuesValue}
 use Rattle.strm_queue.proofs.Agreeing.{in_order_left}
-use Rattle.strm_queue.proofs.Flushing.{IsFlushing, flushing_data, flushing_freed, flushing_kept, flushing_none, next, next_is, next_there, picked_same}
+use Rattle.strm_queue.proofs.Flushing.{IsFlushing, IsPassed, behind_next, flushing_data, flushing_freed, flushing_kept, flushed_same, flushing_none, from_band_passed, from_band_same, next, next_is, next_taken, next_there}
+use Rattle.strm_queue.proofs.OnShelf.{FirstParts, first_there, heads}
 use Rattle.strm_queue.proofs.queues.Queues.flush_shelf.Goals as goal
-use Rattle.strm_queue.proofs.queues.Queues.flush_shelf.Goals.{After-after-at, After-picks, then-picks, else-picks}
-use Rattle.strm_mblk.specs.Shelves.{stands_on}
+use Rattle.strm_queue.proofs.queues.Queues.flush_shelf.Goals.{After-reads_alike, After-takes, then-takes, else-takes}
 
 -- there is such a shelf
-within : (c : After-after-at) → c.args.queue < length c.args.blocks.now.shelves
+within : (c : After-reads_alike) → c.args.queue < length c.args.blocks.now.shelves
 within c = omega (arith, c.requires.queue, c.requires.in_order.shelves)
 
 pub loop-message-init : goal.loop-message-init
-loop-message-init c =
-    (flushing_none (is_picked c.args.blocks.now.store c.args.band c.args.flush) c.args.blocks.now c.args.queue (omega (arith, c.requires.queue, c.requires.in_order.shelves)) c.first-at.result c.first-at.ensures, refl, c.requires.in_order)
+loop-message-init c = (
+  flushing_none (is_picked c.args.blocks.now.store c.args.band c.args.flush) (is_flushed c.args.blocks.now.store c.args.flush) c.args.blocks.now c.args.queue (omega (arith, c.requires.queue, c.requires.in_order.shelves)) c.onward-at.result
+      (from_band c.args.blocks.now.store c.args.band (shelf_at c.args.blocks.now c.args.queue)) (from_band_passed c.args.blocks.now.store c.args.flush c.args.band (shelf_at c.args.blocks.now c.args.queue))
+      (c.onward-at.ensures [] (shelf_at c.args.blocks.now c.args.queue) refl c.first.ensures),
+  refl,
+  c.requires.in_order,
+)
 
-pub after-at-requires : goal.after-at-requires
-after-at-requires c =
-    shelf_of-there c.loop-message.blocks c.args.queue c.in-Some.head
-    (next_there (is_picked c.args.blocks.now.store c.args.band c.args.flush) c.args.blocks.now c.args.queue (omega (arith, c.requires.queue, c.requires.in_order.shelves)) c.loop-message._message c.loop-message.at c.loop-message.blocks c.loop-message.invariant.0 c.in-Some.head c.in-Some.is)
+module _ (c : After-reads_alike) where
+  abbrev picked : Message → Bool
+  picked = is_picked c.args.blocks.now.store c.args.band c.args.flush
 
--- the first message behind stands on the queue
-there : (c : After-after-at) → stands_on c.loop-message.blocks c.args.queue c.in-Some.head ≡ true
-there c = next_there (is_picked c.args.blocks.now.store c.args.band c.args.flush) c.args.blocks.now c.args.queue (within c) c.loop-message._message c.loop-message.at c.loop-message.blocks c.loop-message.invariant.0 c.in-Some.head c.in-Some.is
+  abbrev taken : Message → Bool
+  taken = is_flushed c.args.blocks.now.store c.args.flush
 
-pub picks-requires : goal.picks-requires
-picks-requires c = shelf_of-there c.loop-message.blocks c.args.queue c.in-Some.head (there (goal.at.picks-requires c).After-after-at)
+  abbrev so_far : IsFlushing picked taken c.args.blocks.now c.args.queue c.loop-message._message c.loop-message.at c.loop-message.blocks
+  so_far = c.loop-message.invariant.0
+
+  -- the first message behind
+  abbrev one : FirstParts c.in-Some.head so_far.post
+  one = next picked taken c.args.blocks.now c.args.queue (within c) c.loop-message._message c.loop-message.at c.loop-message.blocks so_far c.in-Some.head c.in-Some.is
+
+  -- it stands on the queue
+  there : stands_on c.loop-message.blocks c.args.queue c.in-Some.head ≡ true
+  there = next_there picked taken c.args.blocks.now c.args.queue (within c) c.loop-message._message c.loop-message.at c.loop-message.blocks so_far c.in-Some.head c.in-Some.is
+
+  abbrev ahead : List Message
+  ahead = filter (λ m. not (picked m)) so_far.pre
+
+  here : shelf_at c.loop-message.blocks c.args.queue ≡ ahead ++ one.at ∷ one.post
+  here = next_is picked taken c.args.blocks.now c.args.queue (within c) c.loop-message._message c.loop-message.at c.loop-message.blocks so_far c.in-Some.head c.in-Some.is
+
+  same_data : c.loop-message.blocks.store.blocks ≡ c.args.blocks.now.store.blocks
+  same_data = flushing_data picked taken c.args.blocks.now c.args.queue (within c) c.loop-message._message c.loop-message.at c.loop-message.blocks so_far
+
+  -- the one behind that
+  behind : (o : Option ℕ) → o ≡ after c.in-Some.head (heads_at c.loop-message.blocks c.args.queue) → o ≡ first (heads one.post)
+  behind = behind_next picked taken c.args.blocks.now c.args.queue (within c) c.loop-message._message c.loop-message.at c.loop-message.blocks so_far c.in-Some.head c.in-Some.is (c.reads_alike.ensures.apart c.args.queue)
+
+  -- what comes next of the band
+  abbrev rest : List Message
+  rest = from_band c.args.blocks.now.store c.args.band one.post
+
+  passed : IsPassed picked taken one.post rest
+  passed = from_band_passed c.args.blocks.now.store c.args.flush c.args.band one.post
+
+pub after-requires : goal.after-requires
+after-requires c = shelf_of-there c.loop-message.blocks c.args.queue c.in-Some.head (there (goal.at.after-requires c).After-reads_alike)
+
+pub onward-at-requires-in-loop-message-clause-at : goal.onward-at-requires-in-loop-message-clause-at
+onward-at-requires-in-loop-message-clause-at c x some =
+    let at = (goal.at.onward-at-requires-in-loop-message-clause-at c).After-reads_alike in
+    ap (λ ms. has x (heads ms)) (here at ∙ sym (append_assoc (ahead at) ((one at).at ∷ []) (one at).post))
+    ∙ first_there x (ahead at ++ (one at).at ∷ []) (one at).post (sym (behind at c.after.result (c.after.ensures c.args.queue (there at))) ∙ some)
+
+pub takes-requires : goal.takes-requires
+takes-requires c = shelf_of-there c.loop-message.blocks c.args.queue c.in-Some.head (there (goal.at.takes-requires c).After-reads_alike)
 
 pub unshelve-token-requires-clause-there : goal.unshelve-token-requires-clause-there
-unshelve-token-requires-clause-there c = there (goal.at.unshelve-token-requires-clause-there c).After-after-at
+unshelve-token-requires-clause-there c = there (goal.at.unshelve-token-requires-clause-there c).After-reads_alike
 
 -- whether it is picked
-asked : (c : After-picks) → c.picks.result
-    ≡ is_picked c.args.blocks.now.store c.args.band c.args.flush (next (is_picked c.args.blocks.now.store c.args.band c.args.flush) c.args.blocks.now c.args.queue (omega (arith, c.requires.queue, c.requires.in_order.shelves)) c.loop-message._message c.loop-message.at c.loop-message.blocks c.loop-message.invariant.0 c.in-Some.head c.in-Some.is).at
+asked : (c : After-takes) → c.takes.result ≡ picked c.before.before.before (one c.before.before.before).at
 asked c =
-    let picked = is_picked c.args.blocks.now.store c.args.band c.args.flush in
-    let low : c.args.queue < length c.args.blocks.now.shelves = omega (arith, c.requires.queue, c.requires.in_order.shelves) in
-    let first = next picked c.args.blocks.now c.args.queue low c.loop-message._message c.loop-message.at c.loop-message.blocks c.loop-message.invariant.0 c.in-Some.head c.in-Some.is in
-    c.picks.ensures c.args.queue (filter (λ m. not (picked m)) c.loop-message.invariant.0.pre) first.post first.at
-    (next_is picked c.args.blocks.now c.args.queue low c.loop-message._message c.loop-message.at c.loop-message.blocks c.loop-message.invariant.0 c.in-Some.head c.in-Some.is) first.head
-    ∙ picked_same c.args.blocks.now.store c.loop-message.blocks.store (flushing_data picked c.args.blocks.now c.args.queue low c.loop-message._message c.loop-message.at c.loop-message.blocks c.loop-message.invariant.0) c.args.band c.args.flush first.at
+    let at = c.before.before.before in
+    c.takes.ensures c.args.queue (ahead at) (one at).post (one at).at (here at) (one at).head
+    ∙ flushed_same c.args.blocks.now.store c.loop-message.blocks.store (same_data at) c.args.flush (one at).at
+    ∙ sym (next_taken (picked at) (taken at) c.args.blocks.now c.args.queue (within at) c.loop-message._message c.loop-message.at c.loop-message.blocks (so_far at) c.in-Some.head c.in-Some.is)
+
+-- where it goes on
+gone_on : (c : After-takes) → c.onward-at-in-loop-message.result ≡ first (heads (rest c.before.before.before))
+gone_on c =
+    let at = c.before.before.before in
+    c.onward-at-in-loop-message.ensures (ahead at ++ (one at).at ∷ []) (one at).post (here at ∙ sym (append_assoc (ahead at) ((one at).at ∷ []) (one at).post))
+    (behind at c.after.result (c.after.ensures c.args.queue (there at)))
+    ∙ ap (λ ms. first (heads ms)) (from_band_same c.args.blocks.now.store c.loop-message.blocks.store (same_data at) c.args.band (one at).post)
 
 pub loop-message-preserved : goal.loop-message-preserved
 loop-message-preserved c =
-    let picked = is_picked c.args.blocks.now.store c.args.band c.args.flush in
-    let low : c.args.queue < length c.args.blocks.now.shelves = omega (arith, c.requires.queue, c.requires.in_order.shelves) in
-    let is = sym (asked (goal.at.loop-message-preserved c).After-picks) in
-    let behind = c.after-at.ensures c.args.queue (there (goal.at.loop-message-preserved c).After-after-at) in
-    elim c.if-picks.branch [
-      | then-picks w ↦ (
-        flushing_freed picked c.args.blocks.now c.args.queue low c.loop-message._message c.loop-message.at c.loop-message.blocks c.loop-message.invariant.0 c.in-Some.head c.in-Some.is (c.reads_alike.ensures.apart c.args.queue) c.after-at.result behind
-            (is ∙ w.if-picks.true) c.if-picks.blocks
+    let end = (goal.at.loop-message-preserved c).After-takes in
+    let at = (goal.at.loop-message-preserved c).After-reads_alike in
+    let is = sym (asked end) in
+    elim c.if-takes.branch [
+      | then-takes w ↦ (
+        flushing_freed (picked at) (taken at) c.args.blocks.now c.args.queue (within at) c.loop-message._message c.loop-message.at c.loop-message.blocks (so_far at) c.in-Some.head c.in-Some.is (c.reads_alike.ensures.apart c.args.queue)
+            c.onward-at-in-loop-message.result (rest at) (passed at) (gone_on end) (is ∙ w.if-takes.true) c.if-takes.blocks
             (record {
               taken = w.unshelve-token.new.blocks;
               token = w.unshelve-token.result;
@@ -63,14 +115,15 @@ loop-message-preserved c =
               spent_is = w.blocks-is ∙ w.freemsg.ensures.after;
             }),
         ap (λ (v : QueuesValue). v.state) w.self-is ∙ w.unshelve-token.ensures.state ∙ c.loop-message.invariant.1,
-        subst (λ v. AreInOrder v c.if-picks.blocks) (sym w.self-is)
+        subst (λ v. AreInOrder v c.if-takes.blocks) (sym w.self-is)
             (subst (AreInOrder w.unshelve-token.new.self) (sym w.blocks-is)
             (in_order_left w.unshelve-token.new.self w.unshelve-token.new.blocks w.freemsg.new.self w.freemsg.ensures.others.shelves w.freemsg.ensures.others.shelved_data w.unshelve-token.ensures.in_order)),
       )
-      | else-picks w ↦ (
-        subst (λ b. IsFlushing picked c.args.blocks.now c.args.queue (c.loop-message._message + 1) c.after-at.result b) (sym w.blocks-is)
-            (flushing_kept picked c.args.blocks.now c.args.queue low c.loop-message._message c.loop-message.at c.loop-message.blocks c.loop-message.invariant.0 c.in-Some.head c.in-Some.is (c.reads_alike.ensures.apart c.args.queue) c.after-at.result behind (is ∙ w.if-picks.false)),
+      | else-takes w ↦ (
+        subst (λ b. IsFlushing (picked at) (taken at) c.args.blocks.now c.args.queue (c.loop-message._message + 1) c.onward-at-in-loop-message.result b) (sym w.blocks-is)
+            (flushing_kept (picked at) (taken at) c.args.blocks.now c.args.queue (within at) c.loop-message._message c.loop-message.at c.loop-message.blocks (so_far at) c.in-Some.head c.in-Some.is (c.reads_alike.ensures.apart c.args.queue)
+            c.onward-at-in-loop-message.result (rest at) (passed at) (gone_on end) (is ∙ w.if-takes.false)),
         ap (λ (v : QueuesValue). v.state) w.self-is ∙ c.loop-message.invariant.1,
-        subst (λ v. AreInOrder v c.if-picks.blocks) (sym w.self-is) (subst (AreInOrder c.loop-message.self) (sym w.blocks-is) c.loop-message.invariant.2),
+        subst (λ v. AreInOrder v c.if-takes.blocks) (sym w.self-is) (subst (AreInOrder c.loop-message.self) (sym w.blocks-is) c.loop-message.invariant.2),
       )
     ]

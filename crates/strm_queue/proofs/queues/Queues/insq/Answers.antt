@@ -25,7 +25,7 @@ fits : (c : After-fits_before) → c.fits_before.result
     ≡ is_ordered (rank_of c.args.blocks.now.store) (put_before_head head_of c.head_at-before.result (as_queued c.args.blocks.now.store (message_at c.args.blocks.now c.args.token.head)) (shelf_at c.args.blocks.now c.args.queue))
 fits c =
     c.fits_before.ensures (as_queued c.args.blocks.now.store (message_at c.args.blocks.now c.args.token.head))
-    (rank_of-queued c.args.blocks.now.store (message_at c.args.blocks.now c.args.token.head) ∙ sym c.held_rank.ensures.value)
+    (rank_of-queued c.args.blocks.now.store (message_at c.args.blocks.now c.args.token.head) ∙ sym c.held_rank-rank.ensures.value)
 
 pub returns-then-not-fits_before-clause-after : goal.returns-then-not-fits_before-clause-after
 returns-then-not-fits_before-clause-after c =

@@ -12,9 +12,9 @@ use Rattle.strm_queue.proofs.Agreeing.{in_order_put}
 use Rattle.strm_queue.proofs.Counts.{bytes_fit}
 use Rattle.strm_queue.proofs.Ranks.{rank_of-queued, size_of-queued, head_of-queued}
 use Rattle.strm_queue.proofs.Shelve.{few_on_shelf, shelve_high, shelve_low}
-use Rattle.strm_queue.proofs.Tallies.{joins_few, IsPlaced}
+use Rattle.strm_queue.proofs.Tallies.{joins_all, joins_few, IsPlaced}
 use Rattle.strm_queue.proofs.queues.Queues.shelve.Goals as goal
-use Rattle.strm_queue.proofs.queues.Queues.shelve.Goals.{After-lawful-2, then-placed-eq256, else-placed-eq256}
+use Rattle.strm_queue.proofs.queues.Queues.shelve.Goals.{After-lawful-2, then-rank-eq-HIGH_RANK, else-rank-eq-HIGH_RANK}
 use Rattle.strm_links.specs.Rows.{IsApart}
 use Rattle.strm_queue.proofs.OnShelf.{heads}
 use Rattle.strm_queue.proofs.Fits.{IsParting, parting, placed_here}
@@ -30,13 +30,13 @@ after : (c : After-lawful-2) → c.shelve.new.self ≡ with_shelf c.args.queue (
 after c =
     let had = had_message c.args.blocks.now c.args.token c.requires.had in
     c.shelve.ensures.after
-    ∙ elim c.if-placed-eq256.branch [
-      | then-placed-eq256 w ↦
+    ∙ elim c.if-rank-eq-HIGH_RANK.branch [
+      | then-rank-eq-HIGH_RANK w ↦
           ap (shelve c.args.queue c.args.before c.args.token.head) (w.blocks-is ∙ w.setband.ensures.after)
-          ∙ shelve_high c.args.blocks.now c.args.queue c.args.before c.args.token.head had.0 had.1.held (c.held_rank.ensures.high w.if-placed-eq256.true)
-      | else-placed-eq256 w ↦
+          ∙ shelve_high c.args.blocks.now c.args.queue c.args.before c.args.token.head had.0 had.1.held (c.requires.high w.if-rank-eq-HIGH_RANK.true)
+      | else-rank-eq-HIGH_RANK w ↦
           ap (shelve c.args.queue c.args.before c.args.token.head) w.blocks-is
-          ∙ shelve_low c.args.blocks.now c.args.queue c.args.before c.args.token.head (λ is. w.if-placed-eq256.false (c.held_rank.ensures.value ∙ is))
+          ∙ shelve_low c.args.blocks.now c.args.queue c.args.before c.args.token.head (λ is. w.if-rank-eq-HIGH_RANK.false (c.requires.rank ∙ is))
     ]
 
 -- the messages on both sides of its place
@@ -55,7 +55,7 @@ here c =
 
 -- how it stands there
 abbrev own : After-lawful-2 → Placed
-own c = record { head = c.head.result; rank = c.held_rank.result; size = c.size.result; ahead = c.ahead_of.result; behind = c.args.before }
+own c = record { head = c.head.result; rank = c.args.rank; size = c.size.result; ahead = c.ahead_of.result; behind = c.args.before }
 
 head_is : (c : After-lawful-2) → head_of (message_at c.args.blocks.now c.args.token.head) ≡ c.args.token.head
 head_is c =
@@ -66,11 +66,11 @@ head_is c =
 placed : (c : After-lawful-2) → IsPlaced c.args.blocks.now.store (sides c).pre (sides c).post (m c) (own c)
 placed c = record {
   head = c.head.ensures ∙ sym (head_of-queued c.args.blocks.now.store (message_at c.args.blocks.now c.args.token.head) ∙ head_is c);
-  rank = c.held_rank.ensures.value ∙ sym (rank_of-queued c.args.blocks.now.store (message_at c.args.blocks.now c.args.token.head));
+  rank = c.requires.rank ∙ sym (rank_of-queued c.args.blocks.now.store (message_at c.args.blocks.now c.args.token.head));
   size = c.size.ensures ∙ sym (size_of-queued c.args.blocks.now.store (message_at c.args.blocks.now c.args.token.head));
   ahead = c.ahead_of.ensures (sides c).pre (sides c).post (sides c).is (sides c).at;
   behind = (sides c).at;
-  few = c.held_rank.ensures.few;
+  few = c.requires.few;
 }
 
 -- what is stored is true of the queue without it
@@ -93,11 +93,20 @@ join-requires-clause-len c =
       (true_of at).len,
     )
 
+-- so few bytes that they can be counted
+few_bytes : (c : After-lawful-2) → bytes_on ((sides c).pre ++ m c ∷ (sides c).post) < 2 ^ 32
+few_bytes c =
+    subst (λ ms. bytes_on ms < 2 ^ 32) (here c) (bytes_fit c.shelve.new.self c.lawful-2.ensures.kept c.lawful-2.ensures.within c.lawful-2.ensures.few c.lawful-2.ensures.whole c.args.queue)
+
+pub join-requires-clause-bytes : goal.join-requires-clause-bytes
+join-requires-clause-bytes c =
+    let at = (goal.at.join-requires-clause-bytes c).After-lawful-2 in
+    joins_all c.args.blocks.now.store (m at) (spec_at c.args.self.now.state.specs c.args.queue).hiwat (tally_at c.args.self.now c.args.queue) (sides at).pre (sides at).post (own at) (placed at) (true_of at) (few_bytes at)
+
 pub join-requires-clause-count : goal.join-requires-clause-count
 join-requires-clause-count c =
     let at = (goal.at.join-requires-clause-count c).After-lawful-2 in
-    joins_few c.args.blocks.now.store (m at) (spec_at c.args.self.now.state.specs c.args.queue).hiwat (tally_at c.args.self.now c.args.queue) (sides at).pre (sides at).post (own at) (placed at) (true_of at)
-    (subst (λ ms. bytes_on ms < 2 ^ 32) (here at) (bytes_fit c.shelve.new.self c.lawful-2.ensures.kept c.lawful-2.ensures.within c.lawful-2.ensures.few c.lawful-2.ensures.whole c.args.queue))
+    joins_few c.args.blocks.now.store (m at) (spec_at c.args.self.now.state.specs c.args.queue).hiwat (tally_at c.args.self.now c.args.queue) (sides at).pre (sides at).post (own at) (placed at) (true_of at) (few_bytes at)
 
 pub returns-clause-after : goal.returns-clause-after
 returns-clause-after c = after (goal.at.returns-clause-after c).After-lawful-2

@@ -9,7 +9,7 @@ use Rattle.strm_queue.specs.Tallies.{IsTallyOf}
 use Rattle.strm_queue.proofs.Across.{shelved_message-at}
 use Rattle.strm_queue.proofs.Agreeing.{in_order_got}
 use Rattle.strm_queue.proofs.OnShelf.{Parts, parts_of, unshelved, heads, after-head, before-head}
-use Rattle.strm_queue.proofs.Tallies.{leaves_enough, leaves_some, IsPlaced}
+use Rattle.strm_queue.proofs.Tallies.{leaves_all, leaves_enough, leaves_some, IsPlaced}
 use Rattle.strm_queue.proofs.queues.Queues.unshelve.Goals as goal
 use Rattle.strm_queue.proofs.queues.Queues.unshelve.Goals.{After-after}
 use Rattle.strm_links.specs.Rows.{IsApart, after, before}
@@ -64,6 +64,11 @@ pub leave-requires-clause-len : goal.leave-requires-clause-len
 leave-requires-clause-len c =
     let at = (goal.at.leave-requires-clause-len c).After-after in
     leaves_some c.args.blocks.now.store (parts at).at (spec_at c.args.self.now.state.specs c.args.queue).hiwat (tally_at c.args.self.now c.args.queue) (parts at).pre (parts at).post (own at) (placed at) (true_of at)
+
+pub leave-requires-clause-bytes : goal.leave-requires-clause-bytes
+leave-requires-clause-bytes c =
+    let at = (goal.at.leave-requires-clause-bytes c).After-after in
+    leaves_all c.args.blocks.now.store (parts at).at (spec_at c.args.self.now.state.specs c.args.queue).hiwat (tally_at c.args.self.now c.args.queue) (parts at).pre (parts at).post (own at) (placed at) (true_of at)
 
 pub leave-requires-clause-count : goal.leave-requires-clause-count
 leave-requires-clause-count c =
