@@ -10,12 +10,14 @@ import statistics
 import subprocess
 import sys
 import tempfile
-from itertools import islice
+from functools import partial
+from itertools import count, islice
 
 from script import RANKED, WORDS, drawn
 
 SIZES = (1_000, 10_000, 100_000, 1_000_000)
 POOLS = (16, 255, 4_095)
+QUEUED = (16, 255, 4_000)
 DOCS = os.path.join(os.path.dirname(os.path.abspath(__file__)), "..", "docs")
 BEGIN, END = "<!-- bench: begin -->\n", "<!-- bench: end -->\n"
 # Runs a program, and then tells its peak memory in KiB. Without the shell between, that would be Python's at least.
@@ -96,31 +98,35 @@ def numbers(blocks):
     return {"blocks": half, "last": half - 1, "bytes": 2 * half, "end": 2 * half - 1, "middle": half}
 
 
-def ranks(seed):
+def ranks():
     """Types and bands of messages, drawn from 17 ranks: bands 0 to 15, and high priority."""
-    draw = random.Random(seed)
+    draw = random.Random(1)
     while True:
         band = draw.randrange(17)
         yield ("M_CTL", band) if band < 16 else ("M_PCPROTO", 0)
 
 
 def every_round(blocks):
-    """The numbers that the lines of each round may name. Messages go from queue 0 to queue 1 until it has all, and back."""
-    for place, (kind, band) in enumerate(ranks(1)):
-        to = 1 - place // (blocks - 4) % 2
-        yield {"round": place + 1, "kind": kind, "band": band, "to": to, "from": 1 - to, **numbers(blocks)}
+    """The numbers that the lines of each round may name, over a pool of so many message blocks."""
+    for place in count(1):
+        yield {"round": place, **numbers(blocks)}
+
+
+def every_ranked_round(messages):
+    """The names of each round over a queue of so many messages: band by band, what is put again, one message a round."""
+    while True:
+        emptied = None
+        for kind, band in sorted(islice(ranks(), messages), key=lambda rank: rank[1]):
+            first = "" if band == emptied else f"(flushband 0 {band} all); "
+            emptied = band
+            yield {"kind": kind, "band": band, "emptied": first}
 
 
 def lines_to_fill(filled, blocks):
     """The lines up to a pool that is filled with one message, or with a queue of messages. README.md describes it."""
-    yield from (f"pool 1 {blocks}", f"class 16 {min(blocks, 4_091)}", "class 4096 4")
-    yield from ["queue 65536 0 s -"] * (2 if filled == "ranks" else 1)
+    yield from (f"pool 1 {blocks}", f"class 16 {min(blocks, 4_091)}", "class 4096 4", "queue 65536 0 s -")
     yield from ("bufcalls 64 1", "worker", "allocb c 16", "setband c 1")
-    if filled == "ranks":
-        for kind, band in islice(ranks(2), blocks - 4):
-            yield from ("allocb b 16", "write b 0 61", f"settype b 0 {kind}", f"setband b {band}", "putq 0 b")
-        yield from ("allocb b 16", "write b 0 61")
-    elif filled == "message":
+    if filled == "message":
         yield from ("allocb a 16", "write a 0 6162")
         for _ in range(numbers(blocks)["last"]):
             yield from ("allocb b 16", "write b 0 6162", "linkb a b")
@@ -130,17 +136,23 @@ def lines_to_fill(filled, blocks):
             yield from ("allocb b 16", "write b 0 61", "settype b 0 M_CTL", f"setband b {band}", "putq 0 b")
 
 
-def round_cost(meter, filled, lines, blocks):
+def lines_to_rank(messages):
+    """The lines up to one queue of so many messages of 17 ranks in drawn order, and one message more in register b."""
+    yield from (f"pool 1 {messages + 1}", f"class 16 {messages + 1}", "queue 65536 0 s -", "bufcalls 0 1", "worker")
+    for kind, band in islice(ranks(), messages):
+        yield from ("allocb b 16", "write b 0 61", f"settype b 0 {kind}", f"setband b {band}", "putq 0 b")
+    yield from ("allocb b 16",)
+
+
+def round_cost(meter, fill, lines, names, rounds):
     """The cost of one round of the lines, those in parentheses not counted. Most take some 50 milliseconds together."""
 
     def scripts(rounds):
-        every = [lines.format(**named) for named in islice(every_round(blocks), rounds)]
-        every = "; ".join(every).split("; ")
+        every = "; ".join(lines.format(**named) for named in islice(names(), rounds)).split("; ")
         kept = [line for line in every if line.startswith("(")]
         for name, some in (("short", kept), ("long", every)):
-            yield meter.write(name, [*lines_to_fill(filled, blocks), *(line.strip("()") for line in some)])
+            yield meter.write(name, [*fill, *(line.strip("()") for line in some)])
 
-    rounds = max(500, 2 * blocks) if filled == "ranks" else 500
     short, long = scripts(rounds)
     meter.check(long)
     if not meter.instructions:
@@ -155,27 +167,41 @@ def call_costs(meter):
     rounds = {}
     for word, row in WORDS.items():
         rounds.setdefault((row.filled, row.lines), []).append(word)
-    for word, lines in RANKED:
-        rounds.setdefault(("ranks", lines), []).append(word)
     return [
-        (words, lines, [round_cost(meter, filled, lines, blocks) for blocks in POOLS])
+        (words, lines, [round_cost(meter, [*lines_to_fill(filled, size)], lines, partial(every_round, size), 500) for size in POOLS])
         for (filled, lines), words in rounds.items()
     ]
 
 
-def tables(meter, by_line, by_call):
-    """Both tables, in markdown."""
+def ranked_costs(meter):
+    """For each round of lines on a queue of messages of 17 ranks, its word, and its cost for each length of the queue."""
+    return [
+        ([word], lines, [round_cost(meter, [*lines_to_rank(size)], lines, partial(every_ranked_round, size), max(500, size)) for size in QUEUED])
+        for word, lines in RANKED.items()
+    ]
+
+
+def call_table(sizes, costs):
+    """The cost of each round of lines for each size, in markdown."""
+    shown = {name: name.upper() for name in ("round", "kind", "band", *numbers(16))}
+    shown["emptied"] = "(flushband 0 BAND all); "
+    yield from (f"| Word | Lines | {' | '.join(f'{size:,}' for size in sizes)} |", "|---|---|---|---|---|")
+    for words, lines, each in costs:
+        code = ", ".join(f"`{line}`" for line in lines.format(**shown).split("; "))
+        named = ", ".join(f"`{word}`" for word in words)
+        yield f"| {named} | {code} | {' | '.join(f'{cost:,.0f}' for cost in each)} |"
+
+
+def tables(meter, by_line, by_call, by_rank):
+    """All tables, in markdown."""
     unit = "Instructions" if meter.instructions else "Nanoseconds"
-    shown = {name: name.upper() for name in next(every_round(16))}
     yield from (f"| Lines | {unit} a line | Peak memory, MiB |", "|---|---|---|")
     for size, (cost, peak) in by_line.items():
         yield f"| {size:,} | {cost:,.0f} | {peak:,.1f} |"
     yield from ("", f"{unit} of a round of lines, at so many message blocks:", "")
-    yield from (f"| Word | Lines | {' | '.join(f'{blocks:,}' for blocks in POOLS)} |", "|---|---|---|---|---|")
-    for words, lines, costs in by_call:
-        code = ", ".join(f"`{line}`" for line in lines.format(**shown).split("; "))
-        named = ", ".join(f"`{word}`" for word in words)
-        yield f"| {named} | {code} | {' | '.join(f'{cost:,.0f}' for cost in costs)} |"
+    yield from call_table(POOLS, by_call)
+    yield from ("", f"{unit} of a round of lines, at so many messages of 17 ranks on one queue:", "")
+    yield from call_table(QUEUED, by_rank)
 
 
 def panel(left, top, width, height, title, xs, curves):
@@ -244,8 +270,8 @@ def main():
     rounds = 1 if given.instructions else given.rounds
     with tempfile.TemporaryDirectory() as folder:
         meter = Meter(os.path.abspath(given.program), rounds, given.instructions, folder)
-        by_line, by_call = line_costs(meter), call_costs(meter)
-    lines = list(tables(meter, by_line, by_call))
+        by_line, by_call, by_rank = line_costs(meter), call_costs(meter), ranked_costs(meter)
+    lines = list(tables(meter, by_line, by_call, by_rank))
     print("\n".join(lines))
     if given.write:
         rewrite(lines, plot(meter, by_line, by_call))

@@ -82,13 +82,13 @@ WORDS = {
     "ready": Word("", 2, "bufcall 16; ready"),
     "census": Word("", 1, "census"),
 }
-# More rounds, for calls on queues of messages of 17 ranks.
-RANKED = [
-    ("putq", "(settype b 0 {kind}); (setband b {band}); putq {to} b; getq {from} b"),
-    ("getq", "(settype b 0 {kind}); (setband b {band}); putq {to} b; getq {from} b"),
-    ("putbq", "(settype b 0 {kind}); (setband b {band}); putbq {to} b; getq {from} b"),
-    ("bcanput", "bcanput 0 {band}"),
-]
+# More rounds, for calls on one queue of messages of 17 ranks. EMPTIED frees those of a band, before as many are put again.
+RANKED = {
+    "putq": "{emptied}(settype b 0 {kind}); (setband b {band}); putq 0 b; allocb b 16",
+    "putbq": "{emptied}(settype b 0 {kind}); (setband b {band}); putbq 0 b; allocb b 16",
+    "getq": "getq 0 c; putbq 0 c",
+    "bcanput": "bcanput 0 {band}",
+}
 BAG = [word for word, row in WORDS.items() for _ in range(row.often)]
 
 
