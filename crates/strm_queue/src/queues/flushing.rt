@@ -43,8 +43,8 @@ fn takes(blocks: &Blocks, head: BlockNo, flush: Flush) -> bool
 
 impl Queues {
     /// Frees the messages of a queue front to back: all, or those that carry data. What stays keeps its place and enables
-    /// nothing; a band that has room again may enable a queue behind. Takes a step for each message, and one for each block
-    /// that is freed.
+    /// nothing; a band that has room again may enable a queue behind. Takes a step for each message, two for each block that
+    /// is freed, and one for each wanted band of the queue.
     ///
     /// Refused as `NoSuchQueue` where there is no such queue; nothing changes then.
     pub fn flushq(&mut self, blocks: &mut Blocks, queue: u8, flush: Flush) -> Result<(), Refusal>
@@ -58,7 +58,8 @@ impl Queues {
 
     /// Frees the messages of one band of a queue, front to back: all of them, or those that carry data. High priority
     /// messages are of band 0. What stays keeps its place and enables nothing; a band that has room again may enable a
-    /// queue behind. Takes a step for each message of the band, and one for each block that is freed.
+    /// queue behind. Takes a step for each message of the band, two for each block that is freed, and one for each wanted band
+    /// of the queue.
     ///
     /// Refused as `NoSuchQueue` where there is no such queue; nothing changes then.
     pub fn flushband(

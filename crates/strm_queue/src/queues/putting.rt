@@ -56,7 +56,8 @@ impl Queues {
     }
 
     /// Puts a message on a queue before the one at `place`, counted from 0, or last where `place` is the number of
-    /// messages. The first block of a high priority message gets band 0. Takes `place` steps.
+    /// messages. The first block of a high priority message gets band 0. Takes `place` steps, and one for each block of the
+    /// message.
     ///
     /// Rejected as `NoSuchQueue` where there is no such queue, then as `NoSuchPlace` where it has fewer messages, then as
     /// `BadOrder` where ranks would rise from front to back; nothing changes then, and the token comes back.
