@@ -150,8 +150,9 @@ def round_cost(meter, fill, lines, names, rounds):
     def scripts(rounds):
         every = "; ".join(lines.format(**named) for named in islice(names(), rounds)).split("; ")
         kept = [line for line in every if line.startswith("(")]
-        for name, some in (("short", kept), ("long", every)):
-            yield meter.write(name, [*fill, *(line.strip("()") for line in some)])
+        left = sum(len(line) + 1 for line in every if not line.startswith("("))
+        for name, comment, some in (("short", left, kept), ("long", 0, every)):
+            yield meter.write(name, ["#" * (comment + 1), *fill, *(line.strip("()") for line in some)])
 
     short, long = scripts(rounds)
     meter.check(long)
