@@ -33,7 +33,7 @@ struct Top {
     front: Slot,
 }
 
-const _: () = prove!(size_of::<Slot>() == 4 && size_of::<Top>() == 8);
+const _: () = prove!(size_of::<Slot>() == 4 && size_of::<Top>() == 8 && size_of::<Stacks>() == 48);
 
 impl Top {
     // The top of an empty stack.
