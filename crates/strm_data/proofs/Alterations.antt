@@ -3,17 +3,16 @@ use Rattle.std.proofs.Common.{◌≡◌, ◌≢◌, ℕ, ◌+◌, ◌-◌, ◌<�
 use Rattle.std.specs.Vec.{with_item}
 use Rattle.std.proofs.lemmas.Bool.{cond-true, cond-false, eq-eqb, ne_eqb}
 use Rattle.std.proofs.lemmas.List.{set-get_or}
-use Rattle.strm_links.specs.Rows.{Rows, first, list_at, without}
+use Rattle.strm_links.specs.Rows.{Rows, first, list_at}
 use Rattle.strm_data.specs.declared.data.Class.{Class}
 use Rattle.strm_data.specs.declared.data.Data.TheInside.{Inside}
 use Rattle.strm_data.specs.declared.data.DataBlock.{DataBlock}
 use Rattle.strm_data.specs.declared.msg_type.MsgType.TheVariants.{MData}
 use Rattle.strm_data.specs.CountedStore.{CountedStore, IsKept, IsUnused, count_of, after_take, with_name, without_name}
 use Rattle.strm_data.specs.DataLayout.{block_at, class_at, region_at, start_in, counted, counted_store, IsLaidOut, IsPlaced}
-use Rattle.strm_data.specs.DataStore.{IsTakenFrom, times, take_data, data_block_at, capacity_of, overwritten, with_bytes_written, class_of, free_of, with_kind, with_data_freed, class_spec_at}
+use Rattle.strm_data.specs.DataStore.{IsTakenFrom, take_data, data_block_at, capacity_of, overwritten, with_bytes_written, class_of, free_of, with_kind, with_data_freed, class_spec_at}
 use Rattle.strm_data.proofs.Kept.{first_unused}
-use Rattle.strm_data.proofs.Members.{first_removed, get_or_first}
-use Rattle.strm_data.proofs.Times.{times_some}
+use Rattle.strm_data.proofs.Members.{get_or_first}
 use Rattle.strm_data.proofs.Laid.{block_within, block_is, class_of_is, count_is, same_class, class_is, capacity_is, seen_altered, seen_recounted, IsPlaced-altered, written_blocks, IsPlaced-written}
 
 -- b is data block d
@@ -130,13 +129,11 @@ module _ (a : Inside) (v : CountedStore) (view : counted_store a ≡ v) (laid : 
   after_is = ap (after_take v) (found.front ∙ ap Ok front_is)
 
   -- it has left its list, is of type M_DATA, and has one name
-  pub taken : (b : DataBlock) (read : b ≡ get_or a.blocks.items n b) (lists : List (List ℕ)) → lists ≡ map (without n) a.free.lists
+  pub taken : (b : DataBlock) (read : b ≡ get_or a.blocks.items n b) (lists : List (List ℕ)) → lists ≡ set a.free.lists c (drop 1 (get_or a.free.lists c []))
       → counted a.classes.items (map (λ r. r.items) a.regions.items) (set a.blocks.items n (record { class = b.class; kind = MData; names = 1 })) lists ≡ after_take v (take_data size v.store)
-  taken b read lists removed =
-      let kept = subst IsKept view laid.kept in
-      let listed : 0 < times n (free_of v.store c) = subst (λ d. 0 < times d (free_of v.store c)) front_is (times_some (free_of v.store c) 0 found.some) in
+  taken b read lists popped =
       let left : lists ≡ set v.store.free (class_of v.store n) (drop 1 (free_of v.store (class_of v.store n))) =
-      removed ∙ ap (λ (s : CountedStore). map (without n) s.store.free) view ∙ first_removed v kept c n first_is listed
+      popped ∙ ap (λ (s : CountedStore). set s.store.free c (drop 1 (free_of s.store c))) view
       ∙ ap (λ e. set v.store.free e (drop 1 (free_of v.store e))) (sym here.0) in
       altered a v view laid n unused.there b read (record { class = b.class; kind = MData; names = 1 }) refl lists
       ∙ ap (λ fs. record { store = record { classes = v.store.classes; blocks = set v.store.blocks n (record (data_block_at v.store n) { kind = MData }); free = fs }; counts = set v.counts n 1 }) left

@@ -1,28 +1,27 @@
 -- Lists of free data blocks that are filled one by one.
-use Rattle.std.proofs.Common.{◌≡◌, ℕ, suc, ◌+◌, ◌-◌, ◌<◌, ◌≤◌, List, [], ◌∷◌, ◌++◌, length, get_or, set, take, replicate, None, sym, ap, ◌∙◌, arith, length-append, get_or-set_same, append_assoc}
+use Rattle.std.proofs.Common.{◌≡◌, ℕ, suc, ◌+◌, ◌-◌, ◌<◌, ◌≤◌, List, [], ◌∷◌, ◌++◌, length, get_or, set, take, replicate, sym, ap, ◌∙◌, arith, length-append, get_or-set_same, append_assoc}
 use Rattle.std.specs.List.{range_with_len}
 use Rattle.std.proofs.lemmas.List.{append-nil, set-set, set-append_right, get_or-append_right, get_or-replicate, length-replicate, length-take-le, take_more, take_all}
 use Rattle.std.proofs.lemmas.List.Sums.{sum_by_push, sum_by_more_le}
-use Rattle.std.proofs.lemmas.Option.{none-some}
-use Rattle.strm_links.specs.Rows.{Rows, has, holder, list_at}
-use Rattle.strm_links.proofs.AllLists.{holder_is}
+use Rattle.strm_links.specs.Rows.{Rows, list_at}
+pub use Rattle.strm_links.proofs.AllLists.{holder-empty}
 use Rattle.strm_data.specs.declared.class_spec.ClassSpec.{ClassSpec}
 use Rattle.strm_data.specs.Classes.{total_of}
 use Rattle.strm_data.specs.DataStore.{numbers_from}
 use Rattle.strm_data.proofs.Opening.{length-numbers_from, numbers_from-push}
-use Rattle.strm_data.proofs.Times.{range_with_len_more}
 
--- one node more at the back of a list
-pub filled_more : (rows start : Rows) (list first n number : ℕ) → list < length start.lists → first + n ≡ number
-    → rows ≡ record start { lists = set start.lists list (range_with_len first n) }
-    → record rows { lists = set rows.lists list (list_at list rows ++ number ∷ []) } ≡ record start { lists = set start.lists list (range_with_len first (n + 1)) }
-filled_more rows start list first n number within next so_far =
-    let xs = range_with_len first n in
-    ap (λ (r : Rows). record r { lists = set r.lists list (list_at list r ++ number ∷ []) }) so_far
+-- one node more at the front of a list
+pub filled_more : (rows start : Rows) (list n number next : ℕ) → list < length start.lists → number + 1 ≡ next
+    → rows ≡ record start { lists = set start.lists list (range_with_len next n) }
+    → record rows { lists = set rows.lists list (number ∷ list_at list rows) } ≡ record start { lists = set start.lists list (range_with_len number (n + 1)) }
+filled_more rows start list n number next within above so_far =
+    let xs = range_with_len next n in
+    ap (λ (r : Rows). record r { lists = set r.lists list (number ∷ list_at list r) }) so_far
     ∙ ap (λ ys. record start { lists = ys })
-    (set-set start.lists list xs (get_or (set start.lists list xs) list [] ++ number ∷ [])
-    ∙ ap (λ ys. set start.lists list (ys ++ number ∷ [])) (get_or-set_same start.lists list xs [] within)
-    ∙ ap (set start.lists list) (sym (range_with_len_more first n number next)))
+    (set-set start.lists list xs (number ∷ get_or (set start.lists list xs) list [])
+    ∙ ap (λ ys. set start.lists list (number ∷ ys)) (get_or-set_same start.lists list xs [] within)
+    ∙ ap (λ m. set start.lists list (number ∷ range_with_len m n)) (sym above)
+    ∙ ap (λ m. set start.lists list (range_with_len number m)) (let e : suc n ≡ n + 1 = omega arith in e))
 
 -- ---- class by class
 
@@ -76,10 +75,3 @@ total_of_next cs i d within = ap total_of (take_more cs i d within) ∙ sum_by_p
 
 pub total_of_more : (cs : List ClassSpec) (i : ℕ) (d : ClassSpec) → i < length cs → total_of (take i cs) + (get_or cs i d).count ≤ total_of cs
 total_of_more cs i d within = sum_by_more_le (λ (c : ClassSpec). c.count) cs i d within
-
--- empty lists have no node
-pub holder-empty : (nodes n k : ℕ) → holder k (record { nodes = nodes; lists = replicate n [] }) ≡ None
-holder-empty nodes n k =
-    holder_is k (record { nodes = nodes; lists = replicate n [] }) None
-    (λ l within. ap (has k) (get_or-replicate n l [] [] (omega (arith, within, length-replicate {A = List ℕ} n []))))
-    (λ l is. absurd (none-some l is))

@@ -7,7 +7,8 @@ use Rattle.std.proofs.lemmas.Bool.Decides.{nat_tests}
 use Rattle.std.proofs.lemmas.List.{map-id}
 use Rattle.std.proofs.lemmas.List.FromFn.{map-range_with_len_more, sum_by-map-range_with_len_more}
 use Rattle.std.proofs.lemmas.List.Filters.{length-filter_both}
-use Rattle.std.proofs.lemmas.List.Sums.{sum_by-cons, sum_by-append, length-filter}
+use Rattle.std.proofs.lemmas.List.Sums.{length-filter}
+pub use Rattle.strm_links.proofs.Times.{times-append, times-cons, times_here, times_other}
 use Rattle.strm_data.specs.DataStore.{times}
 
 -- 1 where it is true
@@ -15,18 +16,6 @@ abbrev pub one_if : Bool → ℕ
 one_if b = if b then 1 else 0
 
 -- ---- a list made longer or shorter
-
-pub times-cons : (n x : ℕ) (xs : List ℕ) → times n (x ∷ xs) ≡ (if x == n then 1 else 0) + times n xs
-times-cons n x xs = sum_by-cons (λ y. if y == n then 1 else 0) x xs
-
-pub times-append : (n : ℕ) (xs ys : List ℕ) → times n (xs ++ ys) ≡ times n xs + times n ys
-times-append n xs ys = sum_by-append (λ y. if y == n then 1 else 0) xs ys
-
-pub times_here : (n x : ℕ) (xs : List ℕ) → x ≡ n → times n (x ∷ xs) ≡ 1 + times n xs
-times_here n x xs same = times-cons n x xs ∙ ap (λ m. m + times n xs) (cond-true _ 1 0 (eq-eqb x n same))
-
-pub times_other : (n x : ℕ) (xs : List ℕ) → x ≢ n → times n (x ∷ xs) ≡ times n xs
-times_other n x xs other = times-cons n x xs ∙ ap (λ m. m + times n xs) (cond-false _ 1 0 (ne_eqb x n other)) ∙ zero-add (times n xs)
 
 -- the first number, and the others
 pub times_first : (n : ℕ) (xs : List ℕ) → 0 < length xs → times n xs ≡ (if get_or xs 0 0 == n then 1 else 0) + times n (drop 1 xs)

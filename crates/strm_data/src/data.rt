@@ -15,7 +15,8 @@ use crate::msg_type::MsgType;
 use crate::refusal::Refusal;
 use std::alloc::{AllocError, Global};
 use std::marker::Model;
-use strm_links::Links;
+use std::mem::size_of;
+use strm_links::Stacks;
 
 /// The number of a data block, from 0 on, class by class.
 pub type DataNo = u32;
@@ -35,7 +36,7 @@ pub struct Data {
     regions: Vec<Vec<u8>>,
     blocks: Vec<DataBlock>,
     // For each class the list of its free data blocks.
-    free: Links,
+    free: Stacks,
 }
 
 // A size class, whose data blocks have the numbers from `first` on.
@@ -52,6 +53,10 @@ struct DataBlock {
     // How many message blocks name it.
     names: u8,
 }
+
+const _: () = prove!(size_of::<Class>() == 12 && size_of::<DataBlock>() == 3);
+
+const _: () = prove!(size_of::<Data>() == 120 && size_of::<Vec<u8>>() == 24);
 
 // Where bytes begin: at a place of the region of a class.
 #[derive(Clone, Copy, Debug)]
@@ -151,8 +156,8 @@ fn copy_out(bytes: &[u8], at: usize, into: &mut [u8])
     into.copy_from_slice(&bytes[at..at + into.len()]);
 }
 
-// Puts so many free nodes, from `first` on, at the back of an empty list.
-fn fill(free: &mut Links, list: u32, first: u32, count: u32)
+// Puts so many free nodes, from `first` on, in an empty list: the last joins first, so that `first` comes to its front.
+fn fill(free: &mut Stacks, list: u32, first: u32, count: u32)
     requires list { list < length free.old.lists }
     requires empty { list_at list free.old ≡ [] }
     requires nodes { first + count ≤ free.old.nodes }
@@ -161,19 +166,21 @@ fn fill(free: &mut Links, list: u32, first: u32, count: u32)
     ensures lists { free.new ≡ record free.old { lists = slice_set free.old.lists list (range_with_len first count) } }
     ensures unlinked { (k : ℕ) → first + count ≤ k → holder k free.new ≡ None }
 {
-    for number in first..first + count {
-        free.push_back(list, number);
+    let mut number = first + count;
+    while number > first {
+        number -= 1;
+        free.push_front(list, number);
     }
 }
 
 // For each class a list of its data blocks, in rising order.
-fn free_lists(alloc: Global, specs: &[ClassSpec]) -> Result<Links, AllocError>
+fn free_lists(alloc: Global, specs: &[ClassSpec]) -> Result<Stacks, AllocError>
     requires few { length specs.now ≤ most_classes }
     requires total { total_of specs.now ≤ most_data_blocks }
     ensures { IfOk result (λ free. free ≡ record { nodes = total_of specs.now; lists = numbers_from 0 specs.now }) }
 {
     let total = total_of(specs);
-    let mut free = Links::new(alloc, total, specs.len() as u32)?;
+    let mut free = Stacks::new(alloc, total, specs.len() as u32)?;
     let mut first = 0;
     for (number, spec) in specs.iter().enumerate() {
         fill(&mut free, number as u32, first, spec.count);
@@ -254,8 +261,7 @@ impl Data {
         ensures kept { IsKept self.new }
     {
         let class = self.class_for(size)?;
-        let number = self.free.front(class).unwrap();
-        self.free.remove(number);
+        let number = self.free.pop_front(class).unwrap();
         let block = &mut self.blocks[number as usize];
         block.kind = MsgType::MData;
         block.names = 1;

@@ -1,7 +1,7 @@
 -- All the lists: which list holds a node, and how the words for all lists follow a change. For callers too.
-use Rattle.std.proofs.Common.{◌≡◌, ◌≢◌, ℕ, zero, suc, ◌+◌, ◌<◌, Bool, true, false, ◌||◌, ◌==◌, List, [], ◌∷◌, ◌++◌, map, length, get_or, set, Option, Some, None, if◌then◌else◌, refl, sym, ap, ◌∙◌, subst, inl, inr, arith, get_or-set_same, get_or-set_other, length-set}
+use Rattle.std.proofs.Common.{◌≡◌, ◌≢◌, ℕ, zero, suc, ◌+◌, ◌<◌, Bool, true, false, ◌||◌, ◌==◌, List, [], ◌∷◌, ◌++◌, map, length, get_or, set, replicate, Option, Some, None, if◌then◌else◌, refl, sym, ap, ◌∙◌, subst, inl, inr, arith, get_or-set_same, get_or-set_other, length-set}
 use Rattle.std.proofs.lemmas.Bool.{cases_eq, cases_lt, cases_Bool, cond-true, cond-false, eq-eqb, ne_eqb, lt-ltb, le-ltb, or_right, false≢true, false_from_ne_true}
-use Rattle.std.proofs.lemmas.List.{length-map, get_or_past}
+use Rattle.std.proofs.lemmas.List.{length-map, get_or_past, get_or-replicate, length-replicate}
 use Rattle.std.proofs.lemmas.List.Sums.{position_or_len_is, fails_before_first}
 use Rattle.std.proofs.lemmas.List.Quantifiers.{position-Some}
 use Rattle.std.proofs.lemmas.Option.{none-some, same_Some}
@@ -23,6 +23,13 @@ holder_is k rows (Some l) each within =
     let at : position_or_len (has k) rows.lists ≡ l =
     position_or_len_is (has k) rows.lists l [] (omega arith) (λ m below. each m (omega arith) ∙ ne_eqb l m (λ same. absurd (omega (arith, same)))) (λ _. each l inside ∙ eq-eqb l l refl) in
     rw at (cond-true _ _ _ (lt-ltb l (length rows.lists) inside))
+
+-- empty lists hold no node
+pub holder-empty : (nodes n k : ℕ) → holder k (record { nodes = nodes; lists = replicate n [] }) ≡ None
+holder-empty nodes n k =
+    holder_is k (record { nodes = nodes; lists = replicate n [] }) None
+    (λ l within. ap (has k) (get_or-replicate n l [] [] (omega (arith, within, length-replicate {A = List ℕ} n []))))
+    (λ l is. absurd (none-some l is))
 
 -- the list that holds a node has it
 pub holder_has : (k l : ℕ) (rows : Rows) → holder k rows ≡ Some l → (l < length rows.lists) × (has k (list_at l rows) ≡ true)

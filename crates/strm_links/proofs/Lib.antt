@@ -5,3 +5,5 @@ mod Changes
 mod Giving
 mod Linking
 pub mod OneList
+mod Stacked
+pub mod Times

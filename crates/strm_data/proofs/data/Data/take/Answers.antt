@@ -8,7 +8,7 @@ use Rattle.strm_data.proofs.data.Data.take.Goals.{After-unwrap-number}
 
 -- the number that was unwrapped
 is : (c : After-unwrap-number) → first (list_at c.in_ok-class.class c.self.inside.free) ≡ Some c.unwrap-number.result
-is c = sym c.front.ensures.value ∙ c.unwrap-number.ensures
+is c = sym c.pop_front.ensures.value ∙ c.unwrap-number.ensures
 
 pub returns-clause-unused : goal.returns-clause-unused
 returns-clause-unused c =
@@ -23,7 +23,7 @@ returns-clause-room c =
 pub returns-clause-after : goal.returns-clause-after
 returns-clause-after c =
     taken c.self.inside _ c.self.view_is c.self.invariant c.args.size c.in_ok-class.class c.unwrap-number.result c.in_ok-class.ensures.found
-    (is (goal.at.returns-clause-after c).After-unwrap-number) c.index_mut-block.result.now c.index_mut-block.ensures.value c.remove.new.self.lists (ap (λ (r : Rows). r.lists) c.remove.ensures.lists)
+    (is (goal.at.returns-clause-after c).After-unwrap-number) c.index_mut-block.result.now c.index_mut-block.ensures.value c.pop_front.new.self.lists (ap (λ (r : Rows). r.lists) c.pop_front.ensures.lists)
 
 pub returns-clause-kept : goal.returns-clause-kept
 returns-clause-kept c =
@@ -32,4 +32,4 @@ returns-clause-kept c =
 pub invariant_of-self : goal.invariant_of-self
 invariant_of-self c =
     IsLaidOut-altered c.self.inside _ c.self.view_is c.self.invariant c.unwrap-number.result (returns-clause-unused c).there c.index_mut-block.result.now c.index_mut-block.ensures.value _ refl
-    c.remove.new.self (ap (λ (r : Rows). r.nodes) c.remove.ensures.lists) (returns-clause-kept c)
+    c.pop_front.new.self (ap (λ (r : Rows). r.nodes) c.pop_front.ensures.lists) (returns-clause-kept c)

@@ -1,0 +1,230 @@
+-- Stacks as the rows that a contract sees, and what a push and a pop leave of them.
+use Rattle.std.proofs.Common.{◌≡◌, ◌≢◌, ℕ, zero, suc, ◌+◌, ◌-◌, ◌<◌, ◌≤◌, ◌^◌, true, List, [], ◌∷◌, map, length, get_or, set, drop, replicate, Option, Some, None, refl, sym, ap, ◌∙◌, subst, inl, inr, arith, get_or-set_same, get_or-set_other, length-set}
+use Rattle.std.proofs.lemmas.Bool.{cases_eq, cond-true, cond-false, eq-eqb, ne_eqb, false≢true}
+use Rattle.std.proofs.lemmas.List.{length-map, get_or-map, get_or_default, same_lists, get_or_read, get_or-replicate, length-replicate, set-get_or}
+use Rattle.std.proofs.lemmas.Option.{none-some, same_Some}
+use Rattle.std.specs.List.{concat}
+use Rattle.strm_links.specs.declared.stacks.Top.{Top}
+use Rattle.strm_links.specs.Rows.{Rows, IsParting, has, IsApart, first, without, list_at, holder, linked_nodes}
+use Rattle.strm_links.specs.Layout.{LeadsOn}
+use Rattle.strm_links.specs.StackLayout.{no_top, times, behind_at, top_at, stack, stacked_rows, IsStack, IsStacked}
+use Rattle.strm_links.proofs.OneList.{has_at, first_has, first-without, is_some_of-same, length_below, some_of}
+use Rattle.strm_links.proofs.AllLists.{All-listed, has-holder, holder_none, holder-insert_here, holder-insert_other, holder-remove, map-without, IsApart-list_at}
+use Rattle.strm_links.proofs.Chains.{walk_is, LeadsOn-kept}
+use Rattle.strm_links.proofs.Times.{times-cons, times_here, times_other, times_has, apart_from, times-set, length-listed, times_free}
+
+-- ---- the view
+
+-- a linked stack is what the walk finds
+stack_is : (behind : List (Option ℕ)) (t : Top) (xs : List ℕ) → IsStack (behind_at behind) t xs → stack behind t ≡ xs
+unfolding stack
+stack_is behind t xs linked = rw (linked.len, linked.front) (walk_is (behind_at behind) xs linked.leads_on)
+
+-- sound stacks are seen as the rows that they hold
+pub stacked_rows_is : (behind : List (Option ℕ)) (tops : List Top) (rows : Rows) → IsStacked behind tops rows → stacked_rows behind tops ≡ rows
+stacked_rows_is behind tops rows sound =
+    let lists : map (stack behind) tops ≡ rows.lists =
+    same_lists _ _ (length-map tops (stack behind) ∙ sound.list_count)
+    (λ l d inside.
+    let within : l < length rows.lists = omega (arith, length-map tops (stack behind), sound.list_count) in
+    get_or-map (stack behind) tops l no_top d (omega (arith, sound.list_count))
+    ∙ stack_is behind (top_at tops l) (list_at l rows) (sound.linked l within)
+    ∙ get_or_default rows.lists l [] d within) in
+    λ i. record { nodes = sound.node_count i; lists = lists i }
+
+-- the invariant, at the rows that a contract sees
+pub seen : (behind : List (Option ℕ)) (tops : List Top) (rows : Rows) → stacked_rows behind tops ≡ rows → IsStacked behind tops (stacked_rows behind tops) → IsStacked behind tops rows
+seen behind tops rows view sound = subst (IsStacked behind tops) view sound
+
+-- and back
+pub closed : (behind : List (Option ℕ)) (tops : List Top) (rows : Rows) → IsStacked behind tops rows → IsStacked behind tops (stacked_rows behind tops)
+closed behind tops rows sound = subst (IsStacked behind tops) (sym (stacked_rows_is behind tops rows sound)) sound
+
+-- ---- what sound stacks say
+
+module _ (behind : List (Option ℕ)) (tops : List Top) (rows : Rows) (sound : IsStacked behind tops rows) where
+  -- no node is in the rows twice
+  pub apart : IsApart (linked_nodes rows)
+  apart = apart_from (linked_nodes rows) sound.once
+
+  -- and each is a node
+  pub parts : IsParting rows
+  parts = record { apart = apart; within = λ i d inside. sound.within _ (times_has _ (linked_nodes rows) (has_at (linked_nodes rows) i d inside)) }
+
+  -- t is the top of stack l
+  module _ (l : ℕ) (inside : l < length rows.lists) (t : Top) (read : t ≡ get_or tops l t) where
+    top_is : t ≡ top_at tops l
+    top_is = get_or_read tops l t (omega (arith, sound.list_count)) read no_top
+
+    -- what it says of the nodes
+    here : IsStack (behind_at behind) t (list_at l rows)
+    here = subst (λ u. IsStack (behind_at behind) u (list_at l rows)) (sym top_is) (sound.linked l inside)
+
+    -- the stack holds its front
+    pub front_holder : (n : ℕ) → t.front ≡ Some n → holder n rows ≡ Some l
+    front_holder n is = some_of l (holder n rows) (sym (has-holder n l rows apart) ∙ first_has (list_at l rows) n (is_some_of-same n (first (list_at l rows)) (sym here.front ∙ is)))
+
+    -- the front is a node
+    pub front_within : (n : ℕ) → t.front ≡ Some n → n < rows.nodes
+    front_within n is = All-listed (λ k. k < rows.nodes) n l rows.lists parts.within (first_has (list_at l rows) n (is_some_of-same n (first (list_at l rows)) (sym here.front ∙ is)))
+
+    -- ---- the stack has these nodes now, of which none stands elsewhere
+    module _ (ys : List ℕ) (once : (k : ℕ) → times k (concat (set rows.lists l ys)) ≤ 1) (low : (k : ℕ) → 0 < times k (concat (set rows.lists l ys)) → k < rows.nodes)
+        (new : List (Option ℕ)) (long : length new ≡ length behind) (u : Top) (now : IsStack (behind_at new) u ys)
+        (kept : (m k : ℕ) → has k (list_at m rows) ≡ true → behind_at new k ≡ behind_at behind k) where
+      IsStacked-set : IsStacked new (set tops l u) (record rows { lists = set rows.lists l ys })
+      IsStacked-set = record {
+        node_count = long ∙ sound.node_count;
+        list_count = length-set tops l u ∙ sound.list_count ∙ sym (length-set rows.lists l ys);
+        few_nodes = sound.few_nodes;
+        few_lists = omega (arith, sound.few_lists, length-set rows.lists l ys);
+        once = once;
+        within = low;
+        linked = λ m m_inside.
+            let within : m < length rows.lists = omega (arith, length-set rows.lists l ys) in
+            elim (cases_eq l m) [
+              | inl same ↦
+                  subst (λ j. IsStack (behind_at new) (top_at (set tops l u) j) (get_or (set rows.lists l ys) j [])) same
+                  (rw (get_or-set_same tops l u no_top (omega (arith, sound.list_count, inside)), get_or-set_same rows.lists l ys [] inside) now)
+              | inr other ↦
+                  let away : m ≢ l = λ is. other (sym is) in
+                  let was = sound.linked m within in
+                  rw (get_or-set_other tops l m u no_top away, get_or-set_other rows.lists l m ys [] away)
+                  (record { len = was.len; front = was.front; leads_on = LeadsOn-kept (behind_at behind) (behind_at new) (list_at m rows) None (kept m) was.leads_on })
+            ];
+      }
+
+    -- ---- a free node joins
+    module _ (n : ℕ) (low : n < rows.nodes) (free : holder n rows ≡ None) where
+      abbrev more : List ℕ
+      more = n ∷ list_at l rows
+
+      -- each number as often as before, and this one once
+      times-push : (k : ℕ) → times k (concat (set rows.lists l more)) ≡ times k (n ∷ linked_nodes rows)
+      times-push k = omega (arith, times-set k l more rows.lists inside, times-cons k n (list_at l rows), times-cons k n (linked_nodes rows))
+
+      once_more : (k : ℕ) → times k (n ∷ linked_nodes rows) ≤ 1
+      once_more k = elim (cases_eq n k) [
+        | inl same ↦ omega (arith, times_here k n (linked_nodes rows) same, times_free n rows free, ap (λ j. times j (linked_nodes rows)) same)
+        | inr other ↦ omega (arith, times_other k n (linked_nodes rows) other, sound.once k)
+      ]
+
+      within_more : (k : ℕ) → 0 < times k (n ∷ linked_nodes rows) → k < rows.nodes
+      within_more k some = elim (cases_eq n k) [
+        | inl same ↦ omega (arith, same)
+        | inr other ↦ sound.within k (omega (arith, times_other k n (linked_nodes rows) other))
+      ]
+
+      -- so there are fewer in the stack than there are nodes
+      pub push_room : t.len < rows.nodes
+      push_room =
+          omega (arith, here.len, length-listed l rows.lists, length_below rows.nodes (n ∷ linked_nodes rows) (apart_from (n ∷ linked_nodes rows) once_more) (λ k found. within_more k (times_has k (n ∷ linked_nodes rows) found)))
+
+      -- no link of a stack is written
+      push_kept : (m k : ℕ) → has k (list_at m rows) ≡ true → behind_at (set behind n t.front) k ≡ behind_at behind k
+      push_kept m k there =
+          get_or-set_other behind n k t.front None (λ same. false≢true (sym (holder_none n m rows free) ∙ ap (λ j. has j (list_at m rows)) (sym same) ∙ there))
+
+      pub IsStacked-push : (own : Option ℕ) → own ≡ Some n → IsStacked (set behind n t.front) (set tops l (record { len = t.len + 1; front = own })) (record rows { lists = set rows.lists l more })
+      IsStacked-push own is =
+          IsStacked-set more (λ k. omega (arith, times-push k, once_more k)) (λ k some. within_more k (omega (arith, times-push k)))
+          (set behind n t.front) (length-set behind n t.front) (record { len = t.len + 1; front = own })
+          (record {
+            len = omega (arith, here.len);
+            front = is;
+            leads_on = (
+              get_or-set_same behind n t.front None (omega (arith, sound.node_count)) ∙ here.front,
+              LeadsOn-kept (behind_at behind) (behind_at (set behind n t.front)) (list_at l rows) None (push_kept l) here.leads_on,
+            );
+          })
+          push_kept
+
+      -- the stack holds it
+      pub push_holder : holder n (record rows { lists = set rows.lists l more }) ≡ Some l
+      push_holder = holder-insert_here rows apart n l more inside free refl
+
+      -- and what holds any other stays
+      pub push_others : (k : ℕ) → k ≢ n → holder k (record rows { lists = set rows.lists l more }) ≡ holder k rows
+      push_others k other = holder-insert_other rows apart n l k more inside free refl other
+
+    -- ---- the front leaves
+    module _ (n : ℕ) (is : t.front ≡ Some n) where
+      abbrev rest : List ℕ
+      rest = drop 1 (list_at l rows)
+
+      first_is : first (list_at l rows) ≡ Some n
+      first_is = sym here.front ∙ is
+
+      -- the stack is its front and the rest
+      split : n ∷ rest ≡ list_at l rows
+      split = first_split (list_at l rows) first_is
+        where
+          first_split : (xs : List ℕ) → first xs ≡ Some n → n ∷ drop 1 xs ≡ xs
+          first_split [] none = absurd (none-some n none)
+          first_split (x ∷ xs) same = ap (λ j. j ∷ xs) (sym (same_Some x n same))
+
+      -- and has one node at least
+      pub pop_some : 0 < t.len
+      pop_some = omega (arith, here.len, ap length split)
+
+      times-pop : (k : ℕ) → times k (concat (set rows.lists l rest)) ≤ times k (linked_nodes rows)
+      times-pop k = omega (arith, times-set k l rest rows.lists inside, times-cons k n rest, ap (times k) split)
+
+      pub IsStacked-pop : (next : Option ℕ) → next ≡ get_or behind n next → IsStacked behind (set tops l (record { len = t.len - 1; front = next })) (record rows { lists = set rows.lists l rest })
+      IsStacked-pop next link =
+          let leads = subst (λ xs. LeadsOn (behind_at behind) xs None) (sym split) here.leads_on in
+          IsStacked-set rest (λ k. omega (arith, times-pop k, sound.once k)) (λ k some. sound.within k (omega (arith, times-pop k)))
+          behind refl (record { len = t.len - 1; front = next })
+          (record {
+            len = omega (arith, here.len, ap length split);
+            front = get_or_read behind n next (omega (arith, sound.node_count, front_within n is)) link None ∙ leads.0;
+            leads_on = leads.1;
+          })
+          (λ m k there. refl)
+
+      -- it has left all the lists
+      without_front : record rows { lists = set rows.lists l rest } ≡ record rows { lists = map (without n) rows.lists }
+      without_front =
+          ap (λ ls. record rows { lists = ls })
+          (ap (λ xs. set rows.lists l (drop 1 xs)) (first-without n (list_at l rows) (IsApart-list_at l rows.lists apart) first_is)
+          ∙ sym (map-without rows apart n l (front_holder n is)))
+
+      -- so nothing holds it
+      pub pop_freed : holder n (record rows { lists = set rows.lists l rest }) ≡ None
+      pop_freed = ap (holder n) without_front ∙ holder-remove rows apart n n ∙ cond-true _ _ _ (eq-eqb n n refl)
+
+      -- and what holds any other stays
+      pub pop_others : (k : ℕ) → Some n ≢ Some k → holder k (record rows { lists = set rows.lists l rest }) ≡ holder k rows
+      pop_others k other = ap (holder k) without_front ∙ holder-remove rows apart n k ∙ cond-false _ _ _ (ne_eqb n k (λ same. other (ap Some same)))
+
+    -- ---- nothing to pop
+    pub pop_none : t.front ≡ None → record rows { lists = set rows.lists l (drop 1 (list_at l rows)) } ≡ rows
+    pop_none none =
+        ap (λ ls. record rows { lists = ls }) (ap (set rows.lists l) (empty (list_at l rows) (sym here.front ∙ none)) ∙ set-get_or rows.lists l [])
+      where
+        empty : (xs : List ℕ) → first xs ≡ None → drop 1 xs ≡ xs
+        empty [] is = refl
+        empty (x ∷ xs) is = absurd (none-some x (sym is))
+
+-- ---- empty stacks
+
+-- free nodes and empty stacks are sound
+pub IsStacked-new : (n m : ℕ) → n < 2 ^ 32 → m < 2 ^ 32 → IsStacked (replicate n None) (replicate m no_top) (record { nodes = n; lists = replicate m [] })
+IsStacked-new n m few_nodes few_lists =
+    let empty : List ℕ = [] in
+    let lists : length (replicate m empty) ≡ m = length-replicate m empty in
+    record {
+      node_count = length-replicate {A = Option ℕ} n None;
+      list_count = length-replicate m no_top ∙ sym lists;
+      few_nodes = few_nodes;
+      few_lists = omega (arith, lists);
+      once = λ k. omega (arith, nothing k m);
+      within = λ k some. absurd (omega (arith, nothing k m));
+      linked = λ l within.
+          let inside : l < m = omega (arith, lists) in
+          rw (get_or-replicate m l no_top no_top inside, get_or-replicate m l empty empty inside) (record { len = refl; front = refl; leads_on = tt });
+    }
+  where
+    nothing : (k m : ℕ) → times k (concat (replicate m [])) ≡ 0
+    nothing k zero = refl
+    nothing k (suc m) = nothing k m
