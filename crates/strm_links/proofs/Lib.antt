@@ -2,6 +2,18 @@ pub mod AllLists
 mod Arena
 pub mod Chains
 mod Changes
+pub mod Counting
 mod Giving
+pub mod HeldLists
 mod Linking
 pub mod OneList
+mod StrandBegun
+mod StrandDivided
+mod StrandFreed
+mod StrandJoined
+mod StrandLaid
+mod StrandLinks
+mod StrandMoves
+mod StrandOpened
+pub mod StrandParts
+mod StrandTakenOut

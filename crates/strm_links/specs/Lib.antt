@@ -1,3 +1,7 @@
+pub mod Counting
+pub mod Held
 pub mod Layout
 pub mod Rows
 pub mod Slot
+pub mod StrandLayout
+pub mod StrandLists

@@ -4,5 +4,7 @@
 
 mod links;
 mod slot;
+mod strands;
 
 pub use links::Links;
+pub use strands::Strands;
