@@ -1,15 +1,14 @@
 -- The first free nodes become a chain.
-use Rattle.std.proofs.Common.{◌≡◌, ◌≢◌, ℕ, suc, ◌+◌, ◌-◌, ◌<◌, ◌≤◌, true, false, ◌==◌, List, [], ◌∷◌, ◌++◌, length, get_or, set, take, drop, Option, Some, None, if◌then◌else◌, refl, sym, ap, ◌∙◌, subst, arith, length-append}
+use Rattle.std.proofs.Common.{◌≡◌, ℕ, suc, ◌-◌, ◌<◌, true, false, ◌==◌, List, [], ◌∷◌, ◌++◌, length, get_or, set, take, drop, Option, Some, None, if◌then◌else◌, refl, sym, ap, ◌∙◌, subst, arith, length-append}
 use Rattle.std.proofs.lemmas.List.{length-take-le, take-append-drop}
 use Rattle.std.proofs.lemmas.Option.{none-some, same_Some}
 use Rattle.strm_links.specs.Rows.{has, IsApart, first, last}
 use Rattle.strm_links.specs.Layout.{LeadsOn}
 use Rattle.strm_links.specs.Counting.{times}
-use Rattle.strm_links.specs.Held.{held_in, items_of}
+use Rattle.strm_links.specs.Held.{items_of}
 use Rattle.strm_links.specs.StrandLists.{StrandLists, with_first_begun}
-use Rattle.strm_links.specs.StrandLayout.{IsHeadOf, IsLaid, IsStrand, next_at, onward, span_at}
+use Rattle.strm_links.specs.StrandLayout.{IsLaid, IsStrand, next_at, onward, span_at}
 use Rattle.strm_links.specs.declared.strands.Node.{Node}
-use Rattle.strm_links.specs.declared.strands.Span.{Span}
 use Rattle.strm_links.proofs.Chains.{LeadsOn-kept, LeadsOn-parts}
 use Rattle.strm_links.proofs.Counting.{times-append}
 use Rattle.strm_links.proofs.HeldLists.{Changes-one, times-set}

@@ -5,19 +5,18 @@ use Rattle.std.proofs.lemmas.List.{get_or_read, length-reverse, reverse-append, 
 use Rattle.std.proofs.lemmas.Option.{none-some}
 use Rattle.strm_links.specs.Rows.{has, IsApart, first, first_or, last}
 use Rattle.strm_links.specs.Layout.{LeadsOn}
-use Rattle.strm_links.specs.Counting.{times}
 use Rattle.strm_links.specs.Held.{held_in}
 use Rattle.strm_links.specs.StrandLists.{StrandLists, strand_at}
-use Rattle.strm_links.specs.StrandLayout.{IsHeadOf, IsLaid, IsStrand, next_at, no_node, no_span, node_at, span_at}
+use Rattle.strm_links.specs.StrandLayout.{IsLaid, IsStrand, next_at, no_node, no_span, node_at, span_at}
 use Rattle.strm_links.specs.declared.strands.Node.{Node}
 use Rattle.strm_links.specs.declared.strands.Span.{Span}
 use Rattle.strm_links.proofs.Chains.{LeadsOn-kept}
 use Rattle.strm_links.proofs.Counting.{has_times, times-append, times-reverse, times_has}
 use Rattle.strm_links.proofs.HeldLists.{Changes-one, times-set}
-use Rattle.strm_links.proofs.OneList.{absent_both, absent_parts, has_at, last_or-append}
+use Rattle.strm_links.proofs.OneList.{absent_both, absent_parts}
 use Rattle.strm_links.proofs.StrandLaid.{head_low, strand_laid}
 use Rattle.strm_links.proofs.StrandLinks.{absent_take, first_front, link_at, LeadsOn-append}
-use Rattle.strm_links.proofs.StrandMoves.{IsLaid-moved, Moves, apart_from, unwritten, written}
+use Rattle.strm_links.proofs.StrandMoves.{IsLaid-moved, Moves, unwritten, written}
 use Rattle.strm_links.proofs.StrandParts.{freed_few, not_in_other, not_in_strand}
 
 -- the last comes first once a list is turned round

@@ -1,18 +1,16 @@
 -- A chain goes behind another.
-use Rattle.std.proofs.Common.{◌≡◌, ◌≢◌, ℕ, ◌+◌, ◌<◌, ◌≤◌, true, false, ◌==◌, List, [], ◌∷◌, ◌++◌, length, Option, Some, None, IsSome, if◌then◌else◌, refl, sym, ap, ◌∙◌, subst, arith, length-append}
-use Rattle.std.proofs.lemmas.Option.{none-some}
-use Rattle.strm_links.specs.Rows.{has, first, last}
+use Rattle.std.proofs.Common.{◌≡◌, ◌≢◌, ℕ, ◌+◌, ◌≤◌, false, ◌==◌, List, ◌++◌, length, Option, Some, None, IsSome, if◌then◌else◌, sym, ap, ◌∙◌, subst, arith, length-append}
+use Rattle.strm_links.specs.Rows.{has}
 use Rattle.strm_links.specs.Layout.{LeadsOn}
-use Rattle.strm_links.specs.Counting.{times}
 use Rattle.strm_links.specs.Held.{held_in, joined}
 use Rattle.strm_links.specs.StrandLists.{StrandLists, strand_at}
-use Rattle.strm_links.specs.StrandLayout.{IsHeadOf, IsLaid, IsStrand, next_at, no_span, span_at}
+use Rattle.strm_links.specs.StrandLayout.{IsLaid, IsStrand, next_at, no_span, span_at}
 use Rattle.strm_links.specs.declared.strands.Node.{Node}
 use Rattle.strm_links.specs.declared.strands.Span.{Span}
 use Rattle.strm_links.proofs.Chains.{LeadsOn-kept}
 use Rattle.strm_links.proofs.Counting.{times-append}
 use Rattle.strm_links.proofs.HeldLists.{Changes-two, times-set_two}
-use Rattle.strm_links.proofs.StrandLaid.{head_low, last_in, last_low, strand_laid}
+use Rattle.strm_links.proofs.StrandLaid.{head_low, last_in, strand_laid}
 use Rattle.strm_links.proofs.StrandLinks.{first_front, last_back, LeadsOn-append, LeadsOn-end}
 use Rattle.strm_links.proofs.StrandMoves.{IsLaid-moved, Moves, apart_from, unwritten, written}
 use Rattle.strm_links.proofs.StrandParts.{not_in_other, not_in_strand, strand_apart, two_few}

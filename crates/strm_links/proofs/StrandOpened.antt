@@ -1,5 +1,5 @@
 -- Nodes that are all free.
-use Rattle.std.proofs.Common.{◌≡◌, ℕ, zero, suc, ◌+◌, zero-add, ◌<◌, ◌≤◌, ◌^◌, List, [], ◌∷◌, ◌++◌, length, map, replicate, Option, Some, None, if◌then◌else◌, refl, sym, ap, ◌∙◌, subst, inl, inr, arith}
+use Rattle.std.proofs.Common.{◌≡◌, ℕ, zero, suc, ◌+◌, zero-add, ◌<◌, ◌^◌, List, ◌++◌, length, map, replicate, Option, Some, None, if◌then◌else◌, refl, sym, ap, ◌∙◌, subst, inl, inr, arith}
 use Rattle.std.specs.Prelude.{nat_lt}
 use Rattle.std.specs.List.{range_with_len}
 use Rattle.std.proofs.lemmas.Bool.{cases_lt, cond-true, cond-false, lt-ltb, le-ltb}
@@ -10,9 +10,8 @@ use Rattle.strm_links.specs.Layout.{LeadsOn}
 use Rattle.strm_links.specs.Counting.{times}
 use Rattle.strm_links.specs.Held.{held_in}
 use Rattle.strm_links.specs.StrandLists.{opening_strands}
-use Rattle.strm_links.specs.StrandLayout.{IsHeadOf, IsLaid, free_node, next_at, no_node, no_span, node_at, span_at}
+use Rattle.strm_links.specs.StrandLayout.{IsHeadOf, IsLaid, free_node, next_at, no_node, node_at, span_at}
 use Rattle.strm_links.specs.declared.strands.Node.{Node}
-use Rattle.strm_links.specs.declared.strands.Span.{Span}
 use Rattle.strm_links.proofs.Counting.{times_below}
 use Rattle.strm_links.proofs.HeldLists.{items_none}
 

@@ -8,13 +8,12 @@ use Rattle.strm_links.specs.Layout.{LeadsOn}
 use Rattle.strm_links.specs.Counting.{times}
 use Rattle.strm_links.specs.Held.{held_in, items_of, set_apart, taken_out}
 use Rattle.strm_links.specs.StrandLists.{StrandLists, strand_at}
-use Rattle.strm_links.specs.StrandLayout.{IsHeadOf, IsLaid, IsStrand, next_at, onward, span_at}
+use Rattle.strm_links.specs.StrandLayout.{IsLaid, IsStrand, next_at, onward, span_at}
 use Rattle.strm_links.specs.declared.strands.Node.{Node}
-use Rattle.strm_links.specs.declared.strands.Span.{Span}
 use Rattle.strm_links.proofs.Chains.{LeadsOn-kept, LeadsOn-parts}
 use Rattle.strm_links.proofs.Counting.{times-append}
 use Rattle.strm_links.proofs.HeldLists.{Changes-two, times-set_two}
-use Rattle.strm_links.proofs.OneList.{ApartParts, IsApart-parts, absent_around, differ, has_head, has_left, has_right, has_tail, last_joined}
+use Rattle.strm_links.proofs.OneList.{ApartParts, IsApart-parts, differ, has_head, has_left, has_right, has_tail, last_joined}
 use Rattle.strm_links.proofs.StrandLaid.{behind_unheld, head_low, strand_laid}
 use Rattle.strm_links.proofs.StrandLinks.{first-take, first_front, has_first, has_last, last-take, link_at, onward-at, LeadsOn-append, LeadsOn-end}
 use Rattle.strm_links.proofs.StrandMoves.{IsLaid-moved, Moves, apart_from, unwritten, written}

@@ -1,4 +1,4 @@
-use Rattle.std.proofs.Common.{◌≡◌, ◌<◌, length, Vec, Global, Some, IsSome, refl, arith, ap, sym, ◌∙◌, subst, get_or}
+use Rattle.std.proofs.Common.{◌≡◌, ◌<◌, length, Some, IsSome, refl, arith, sym, ◌∙◌, subst, get_or}
 use Rattle.std.proofs.lemmas.Option.{same_Some}
 use Rattle.strm_links.specs.StrandLayout.{path}
 use Rattle.strm_links.proofs.OneList.{has_at}

@@ -1,4 +1,4 @@
-use Rattle.std.proofs.Common.{◌≡◌, ◌<◌, ◌-◌, length, Some, arith, ap, sym, ◌∙◌, subst}
+use Rattle.std.proofs.Common.{◌<◌, ◌-◌, length, arith, ap, sym, ◌∙◌, subst}
 use Rattle.strm_links.specs.declared.strands.Node.{Node}
 use Rattle.strm_links.specs.StrandLayout.{IsLaid}
 use Rattle.strm_links.specs.StrandLists.{with_first_begun}

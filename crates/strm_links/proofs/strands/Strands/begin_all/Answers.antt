@@ -1,4 +1,4 @@
-use Rattle.std.proofs.Common.{◌≡◌, ◌==◌, ◌<◌, ◌-◌, suc, drop, length, set, take, ap, arith, sym, ◌∙◌, subst, refl, Some, IsSome, get_or}
+use Rattle.std.proofs.Common.{◌≡◌, ◌<◌, ◌-◌, suc, drop, length, set, take, ap, arith, sym, ◌∙◌, subst, refl, Some, IsSome}
 use Rattle.strm_links.specs.declared.strands.Node.{Node}
 use Rattle.strm_links.specs.StrandLists.{StrandLists}
 use Rattle.strm_links.specs.StrandLayout.{IsLaid, next_at, onward}

@@ -1,9 +1,8 @@
-use Rattle.std.proofs.Common.{◌≡◌, ◌==◌, ◌-◌, ◌<◌, length, ap, arith, sym, ◌∙◌, Some, None, if◌then◌else◌}
+use Rattle.std.proofs.Common.{◌≡◌, ◌==◌, ◌-◌, ◌<◌, length, ap, arith, sym, ◌∙◌, if◌then◌else◌}
 use Rattle.strm_links.specs.declared.strands.Node.{Node}
-use Rattle.strm_links.specs.declared.strands.Span.{Span}
 use Rattle.strm_links.specs.Held.{divided}
 use Rattle.strm_links.specs.StrandLists.{strand_at}
-use Rattle.strm_links.specs.StrandLayout.{IsLaid, next_at, node_at, span_at}
+use Rattle.strm_links.specs.StrandLayout.{IsLaid, next_at, node_at}
 use Rattle.strm_links.proofs.StrandDivided.{IsLaid-divided, alone, divided_len, divided_low, divided_second}
 use Rattle.strm_links.proofs.StrandLaid.{closed, head_low, node_read, parted, seen, strands_of_is}
 use Rattle.strm_links.proofs.strands.Strands.divide.Goals as goal
