@@ -6,6 +6,7 @@ pub mod Counting
 mod Giving
 pub mod HeldLists
 mod Linking
+pub mod NodeCounts
 pub mod OneList
 mod StrandBegun
 mod StrandDivided

@@ -1,5 +1,6 @@
-//! Doubly linked lists of node numbers, linked by index: each node is in one list at most, and every
-//! list reads alike both ways.
+//! Nodes that are linked by number: doubly linked lists (`Links`), where each node is in one list at
+//! most, and every list reads alike both ways; and chains linked one way (`Strands`), where each node
+//! is free or in one chain, and a chain's first node tells its last one and its length.
 #![tactic(auto)]
 
 mod links;

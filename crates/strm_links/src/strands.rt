@@ -47,7 +47,7 @@ struct Span {
     len: u32,
 }
 
-const _: () = prove!(size_of::<Node>() == 12);
+const _: () = prove!(size_of::<Node>() == 12 && size_of::<Strands>() == 32);
 
 impl Model for Strands {
     ghost use Rattle.strm_links.specs.StrandLists.{StrandLists, strands_code};
@@ -415,3 +415,6 @@ impl Strands {
         let _ = &self.nodes;
     }
 }
+
+#[cfg(test)]
+mod tests;
