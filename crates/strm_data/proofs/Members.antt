@@ -4,7 +4,7 @@ use Rattle.std.proofs.lemmas.Bool.{cases_eq}
 use Rattle.strm_links.specs.Rows.{holder, first}
 use Rattle.std.proofs.lemmas.Option.{none-some, same_Some}
 use Rattle.strm_links.proofs.AllLists.{holder_is}
-use Rattle.strm_links.proofs.Times.{absent}
+use Rattle.strm_links.proofs.Counting.{absent}
 use Rattle.strm_data.specs.CountedStore.{CountedStore, IsKept, count_of}
 use Rattle.strm_data.specs.DataStore.{times, free_of}
 use Rattle.strm_data.proofs.Kept.{listed_unnamed}

@@ -1,6 +1,6 @@
 -- How often a number stands in a list: a list made longer or shorter, and lists of the numbers below a bound.
-use Rattle.std.proofs.Common.{◌≡◌, ◌≢◌, ℕ, zero, suc, ◌+◌, zero-add, ◌<◌, ◌≤◌, Bool, not, ◌&&◌, ◌==◌, List, [], ◌∷◌, ◌++◌, length, get_or, drop, refl, sym, ap, ◌∙◌, inl, inr, arith, if◌then◌else◌, sum_by, map}
-use Rattle.std.specs.Prelude.{nat_lt, nat_le, filter}
+use Rattle.std.proofs.Common.{◌≡◌, ◌≢◌, ℕ, zero, suc, ◌+◌, zero-add, ◌<◌, ◌≤◌, not, ◌==◌, List, [], ◌∷◌, ◌++◌, length, get_or, drop, refl, sym, ap, ◌∙◌, inl, inr, arith, if◌then◌else◌, sum_by, map}
+use Rattle.std.specs.Prelude.{nat_lt, filter}
 use Rattle.std.specs.List.{range_with_len}
 use Rattle.std.proofs.lemmas.Bool.{cases_eq, cond-true, cond-false, eq-eqb, ne_eqb, not_from_true, not_from_false, lt-ltb, le-ltb}
 use Rattle.std.proofs.lemmas.Bool.Decides.{nat_tests}
@@ -8,12 +8,8 @@ use Rattle.std.proofs.lemmas.List.{map-id}
 use Rattle.std.proofs.lemmas.List.FromFn.{map-range_with_len_more, sum_by-map-range_with_len_more}
 use Rattle.std.proofs.lemmas.List.Filters.{length-filter_both}
 use Rattle.std.proofs.lemmas.List.Sums.{length-filter}
-pub use Rattle.strm_links.proofs.Times.{times-append, times-cons, times_here, times_other}
+pub use Rattle.strm_links.proofs.Counting.{one_if, times-append, times-cons, times-range_with_len, times_below, times_here, times_other}
 use Rattle.strm_data.specs.DataStore.{times}
-
--- 1 where it is true
-abbrev pub one_if : Bool → ℕ
-one_if b = if b then 1 else 0
 
 -- ---- a list made longer or shorter
 
@@ -45,24 +41,6 @@ times_some (x ∷ xs) (suc k) within = omega (arith, times_some xs k (omega arit
 pub range_with_len_more : (a n k : ℕ) → a + n ≡ k → range_with_len a (n + 1) ≡ range_with_len a n ++ k ∷ []
 range_with_len_more a n k last =
     sym (map-id (range_with_len a (n + 1))) ∙ map-range_with_len_more (λ (j : ℕ). j) a n k last ∙ ap (λ xs. xs ++ k ∷ []) (map-id (range_with_len a n))
-
-more_of_range : (k a n : ℕ) → one_if (a == k) + one_if (nat_le (a + 1) k && nat_lt k (a + 1 + n)) ≡ one_if (nat_le a k && nat_lt k (a + suc n))
-more_of_range k a n = grind (arith, nat_tests)
-
-none_of_range : (k a : ℕ) → one_if (nat_le a k && nat_lt k (a + zero)) ≡ zero
-none_of_range k a = grind (arith, nat_tests)
-
-pub times-range_with_len : (k a n : ℕ) → times k (range_with_len a n) ≡ (if nat_le a k && nat_lt k (a + n) then 1 else 0)
-times-range_with_len k a zero = sym (none_of_range k a)
-times-range_with_len k a (suc n) =
-    times-cons k a (range_with_len (a + 1) n) ∙ ap (λ m. (if a == k then 1 else 0) + m) (times-range_with_len k (a + 1) n)
-    ∙ more_of_range k a n
-
-from_zero : (k n : ℕ) → one_if (nat_le 0 k && nat_lt k (0 + n)) ≡ one_if (nat_lt k n)
-from_zero k n = grind (arith, nat_tests)
-
-pub times_below : (k n : ℕ) → times k (range_with_len 0 n) ≡ (if nat_lt k n then 1 else 0)
-times_below k n = times-range_with_len k 0 n ∙ from_zero k n
 
 -- ---- how long a list of numbers below a bound is
 

@@ -1,5 +1,5 @@
 -- Stacks as the rows that a contract sees, and what a push and a pop leave of them.
-use Rattle.std.proofs.Common.{◌≡◌, ◌≢◌, ℕ, zero, suc, ◌+◌, ◌-◌, ◌<◌, ◌≤◌, ◌^◌, true, List, [], ◌∷◌, map, length, get_or, set, drop, replicate, Option, Some, None, refl, sym, ap, ◌∙◌, subst, inl, inr, arith, get_or-set_same, get_or-set_other, length-set}
+use Rattle.std.proofs.Common.{◌≡◌, ◌≢◌, ℕ, zero, suc, ◌+◌, ◌-◌, ◌<◌, ◌≤◌, ◌^◌, true, false, List, [], ◌∷◌, map, length, get_or, set, drop, replicate, Option, Some, None, refl, sym, ap, ◌∙◌, subst, inl, inr, arith, get_or-set_same, get_or-set_other, length-append, length-set}
 use Rattle.std.proofs.lemmas.Bool.{cases_eq, cond-true, cond-false, eq-eqb, ne_eqb, false≢true}
 use Rattle.std.proofs.lemmas.List.{length-map, get_or-map, get_or_default, same_lists, get_or_read, get_or-replicate, length-replicate, set-get_or}
 use Rattle.std.proofs.lemmas.Option.{none-some, same_Some}
@@ -7,11 +7,38 @@ use Rattle.std.specs.List.{concat}
 use Rattle.strm_links.specs.declared.stacks.Top.{Top}
 use Rattle.strm_links.specs.Rows.{Rows, IsParting, has, IsApart, first, without, list_at, holder, linked_nodes}
 use Rattle.strm_links.specs.Layout.{LeadsOn}
-use Rattle.strm_links.specs.StackLayout.{no_top, times, behind_at, top_at, stack, stacked_rows, IsStack, IsStacked}
+use Rattle.strm_links.specs.Counting.{times}
+use Rattle.strm_links.specs.StackLayout.{no_top, behind_at, top_at, stack, stacked_rows, IsStack, IsStacked}
 use Rattle.strm_links.proofs.OneList.{has_at, first_has, first-without, is_some_of-same, length_below, some_of}
 use Rattle.strm_links.proofs.AllLists.{All-listed, has-holder, holder_none, holder-insert_here, holder-insert_other, holder-remove, map-without, IsApart-list_at}
 use Rattle.strm_links.proofs.Chains.{walk_is, LeadsOn-kept}
-use Rattle.strm_links.proofs.Times.{times-cons, times_here, times_other, times_has, apart_from, times-set, length-listed, times_free}
+use Rattle.strm_links.proofs.Counting.{times-append, times-cons, times_absent, times_here, times_other, times_has, apart_once}
+
+-- ---- how often a number stands in all the lists
+
+-- one of the lists is another now
+times-set : (n l : ℕ) (ys : List ℕ) (lists : List (List ℕ)) → l < length lists
+    → times n (concat (set lists l ys)) + times n (get_or lists l []) ≡ times n (concat lists) + times n ys
+times-set n l ys [] within = absurd (omega arith)
+times-set n zero ys (xs ∷ lists) within = omega (arith, times-append n ys (concat lists), times-append n xs (concat lists))
+times-set n (suc l) ys (xs ∷ lists) within =
+    omega (arith, times-append n xs (concat (set lists l ys)), times-append n xs (concat lists), times-set n l ys lists (omega arith))
+
+-- no list is longer than all together
+length-listed : (l : ℕ) (lists : List (List ℕ)) → length (get_or lists l []) ≤ length (concat lists)
+length-listed l [] = omega arith
+length-listed zero (xs ∷ lists) = omega (arith, length-append xs (concat lists))
+length-listed (suc l) (xs ∷ lists) = omega (arith, length-append xs (concat lists), length-listed l lists)
+
+-- what no list has
+times-unlisted : (n : ℕ) (lists : List (List ℕ)) → ((l : ℕ) → has n (get_or lists l []) ≡ false) → times n (concat lists) ≡ 0
+times-unlisted n [] none = refl
+times-unlisted n (xs ∷ lists) none =
+    omega (arith, times-append n xs (concat lists), times_absent n xs (none 0), times-unlisted n lists (λ l. none (suc l)))
+
+-- a free node stands nowhere
+times_free : (n : ℕ) (rows : Rows) → holder n rows ≡ None → times n (linked_nodes rows) ≡ 0
+times_free n rows free = times-unlisted n rows.lists (λ l. holder_none n l rows free)
 
 -- ---- the view
 
@@ -45,7 +72,7 @@ closed behind tops rows sound = subst (IsStacked behind tops) (sym (stacked_rows
 module _ (behind : List (Option ℕ)) (tops : List Top) (rows : Rows) (sound : IsStacked behind tops rows) where
   -- no node is in the rows twice
   pub apart : IsApart (linked_nodes rows)
-  apart = apart_from (linked_nodes rows) sound.once
+  apart = apart_once (linked_nodes rows) sound.once
 
   -- and each is a node
   pub parts : IsParting rows
@@ -118,7 +145,7 @@ module _ (behind : List (Option ℕ)) (tops : List Top) (rows : Rows) (sound : I
       -- so there are fewer in the stack than there are nodes
       pub push_room : t.len < rows.nodes
       push_room =
-          omega (arith, here.len, length-listed l rows.lists, length_below rows.nodes (n ∷ linked_nodes rows) (apart_from (n ∷ linked_nodes rows) once_more) (λ k found. within_more k (times_has k (n ∷ linked_nodes rows) found)))
+          omega (arith, here.len, length-listed l rows.lists, length_below rows.nodes (n ∷ linked_nodes rows) (apart_once (n ∷ linked_nodes rows) once_more) (λ k found. within_more k (times_has k (n ∷ linked_nodes rows) found)))
 
       -- no link of a stack is written
       push_kept : (m k : ℕ) → has k (list_at m rows) ≡ true → behind_at (set behind n t.front) k ≡ behind_at behind k

@@ -1,4 +1,8 @@
+pub mod Counting
+pub mod Held
 pub mod Layout
 pub mod Rows
 pub mod Slot
 pub mod StackLayout
+pub mod StrandLayout
+pub mod StrandLists

@@ -1,12 +1,9 @@
 -- How `Stacks` lays out its lists. No public clause cites this module.
-use Rattle.std.specs.Prelude.{◌≡◌, ℕ, ◌<◌, ◌≤◌, ◌^◌, ◌==◌, List, map, length, count_by, Option, None, slice_index_or}
+use Rattle.std.specs.Prelude.{◌≡◌, ℕ, ◌<◌, ◌≤◌, ◌^◌, List, map, length, Option, None, slice_index_or}
+use Rattle.strm_links.specs.Counting.{times}
 use Rattle.strm_links.specs.Rows.{Rows, first, list_at, linked_nodes}
 use Rattle.strm_links.specs.Layout.{walk, LeadsOn}
 use Rattle.strm_links.specs.declared.stacks.Top.{Top}
-
--- how often a number stands in a list
-abbrev pub times : ℕ → List ℕ → ℕ
-times n xs = count_by (λ x. x == n) xs
 
 -- the top of an empty stack; also what a read past the stacks gives
 abbrev pub no_top : Top

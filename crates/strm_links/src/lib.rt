@@ -1,10 +1,14 @@
-//! Lists of node numbers, linked by index, where each node is in one list at most: doubly linked lists,
-//! which read alike both ways, and stacks, which take and give at the front alone.
+//! Nodes that are linked by number: doubly linked lists (`Links`), where each node is in one list at
+//! most, and every list reads alike both ways; stacks (`Stacks`), which take and give at the front
+//! alone; and chains linked one way (`Strands`), where each node is free or in one chain, and a chain's
+//! first node tells its last one and its length.
 #![tactic(auto)]
 
 mod links;
 mod slot;
 mod stacks;
+mod strands;
 
 pub use links::Links;
 pub use stacks::Stacks;
+pub use strands::Strands;

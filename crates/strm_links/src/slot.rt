@@ -1,5 +1,5 @@
 //! A number or none, in one word.
-ghost use Rattle.std.specs.Prelude.{◌≡◌, ◌-◌, ◌^◌, ◌<◌, is_none, if◌then◌else◌};
+ghost use Rattle.std.specs.Prelude.{◌≡◌, ◌-◌, ◌^◌, ◌<◌, IsSome, is_none, if◌then◌else◌};
 
 use std::marker::Model;
 
@@ -50,6 +50,15 @@ impl Slot {
         } else {
             Some(self.word)
         }
+    }
+
+    /// The number that there is.
+    #[inline(always)]
+    pub fn number(self) -> u32
+        requires { IsSome self }
+        ensures { self ≡ Some result }
+    {
+        self.word
     }
 
     /// This number, or else the other.

@@ -1,0 +1,84 @@
+use Rattle.std.proofs.Common.{◌≡◌, ◌==◌, ◌+◌, ◌++◌, List, ℕ, length, reverse, set, ap, arith, sym, ◌∙◌, subst, Some, None, if◌then◌else◌}
+use Rattle.strm_links.specs.Rows.{IsApart, first, has}
+use Rattle.strm_links.specs.Layout.{LeadsOn}
+use Rattle.strm_links.specs.declared.strands.Node.{Node}
+use Rattle.strm_links.specs.declared.strands.Span.{Span}
+use Rattle.strm_links.specs.StrandLists.{StrandLists, strand_at}
+use Rattle.strm_links.specs.StrandLayout.{IsLaid, next_at, path, span_at}
+use Rattle.strm_links.proofs.Chains.{LeadsOn-kept}
+use Rattle.strm_links.proofs.StrandFreed.{IsLaid-freed, freed_room}
+use Rattle.strm_links.proofs.StrandLaid.{closed, head_low, last_low, node_read, parted, seen, strand_laid, strand_path, strands_of_is}
+use Rattle.strm_links.proofs.StrandParts.{strand_apart, strand_low}
+use Rattle.strm_links.proofs.strands.Strands.free.Goals as goal
+use Rattle.strm_links.proofs.strands.Strands.free.Goals.{After-index, After-some-self-inside}
+
+-- what is read at the head
+at_head : (c : After-index) → c.index.result.now.span ≡ span_at c.self.inside.nodes.items c.args.head
+at_head c =
+    let laid = seen _ _ _ _ c.self.view_is c.self.invariant in
+    ap (λ (x : Node). x.span) (node_read _ _ _ _ laid c.args.head _ (head_low _ _ _ _ laid c.args.head c.requires) c.index.ensures)
+
+-- the chain that is turned
+turned : (c : After-index) → path c.self.inside.nodes.items c.index.result.now.span.len (Some c.args.head) ≡ strand_at c.args.self.now c.args.head
+turned c =
+    ap (λ (s : Span). path c.self.inside.nodes.items s.len (Some c.args.head)) (at_head c)
+    ∙ strand_path _ _ _ _ (seen _ _ _ _ c.self.view_is c.self.invariant) c.args.head c.requires
+
+pub turn-requires-clause-begins : goal.turn-requires-clause-begins
+turn-requires-clause-begins c =
+    ap first (turned (goal.at.turn-requires-clause-begins c).After-index) ∙ (strand_laid _ _ _ _ (seen _ _ _ _ c.self.view_is c.self.invariant) c.args.head c.requires).head
+
+pub turn-requires-clause-leads : goal.turn-requires-clause-leads
+turn-requires-clause-leads c =
+    subst (λ (xs : List ℕ). LeadsOn (next_at c.self.inside.nodes.items) xs None) (sym (turned (goal.at.turn-requires-clause-leads c).After-index))
+    (strand_laid _ _ _ _ (seen _ _ _ _ c.self.view_is c.self.invariant) c.args.head c.requires).leads
+
+pub turn-requires-clause-len : goal.turn-requires-clause-len
+turn-requires-clause-len c =
+    let at = (goal.at.turn-requires-clause-len c).After-index in
+    ap length (turned at) ∙ sym (ap (λ (s : Span). s.len) (at_head at) ∙ (strand_laid _ _ _ _ (seen _ _ _ _ c.self.view_is c.self.invariant) c.args.head c.requires).len)
+
+pub turn-requires-clause-apart : goal.turn-requires-clause-apart
+turn-requires-clause-apart c =
+    subst IsApart (sym (turned (goal.at.turn-requires-clause-apart c).After-index)) (strand_apart c.args.self.now (seen _ _ _ _ c.self.view_is c.self.invariant).once c.args.head)
+
+pub turn-requires-clause-within : goal.turn-requires-clause-within
+turn-requires-clause-within c k there =
+    let laid = seen _ _ _ _ c.self.view_is c.self.invariant in
+    omega (arith, laid.node_count, strand_low c.args.self.now laid.once c.args.head k (sym (ap (has k) (turned (goal.at.turn-requires-clause-within c).After-index)) ∙ there))
+
+pub some-self-inside-requires : goal.some-self-inside-requires
+some-self-inside-requires c =
+    let laid = seen _ _ _ _ c.self.view_is c.self.invariant in
+    omega (arith, laid.few_nodes, last_low _ _ _ _ laid c.args.head c.requires, ap (λ (s : Span). s.last) (at_head (goal.at.some-self-inside-requires c).After-index))
+
+pub overflow_add-self : goal.overflow_add-self
+overflow_add-self c =
+    let laid = seen _ _ _ _ c.self.view_is c.self.invariant in
+    omega (arith, laid.few_nodes, freed_room _ _ _ _ laid c.args.head c.requires, ap (λ (s : Span). s.len) (at_head (goal.at.overflow_add-self c).After-index))
+
+laid : (c : After-some-self-inside) → c.index.result.now.span ≡ span_at c.self.inside.nodes.items c.args.head
+    → path c.self.inside.nodes.items c.index.result.now.span.len (Some c.args.head) ≡ strand_at c.args.self.now c.args.head
+    → IsLaid c.keep.new.nodes.items c.some-self-inside.result (c.self.inside.count + c.index.result.now.span.len)
+    (record { free = reverse (strand_at c.args.self.now c.args.head) ++ c.args.self.now.free; held = set c.args.self.now.held c.args.head None })
+laid c first turned =
+    let h = c.args.head in
+    let new = c.keep.new.nodes.items in
+    let v' : StrandLists = record { free = reverse (strand_at c.args.self.now h) ++ c.args.self.now.free; held = set c.args.self.now.held h None } in
+    let was = seen _ _ _ _ c.self.view_is c.self.invariant in
+    let leads : LeadsOn (next_at new) (reverse (strand_at c.args.self.now h)) c.self.inside.front =
+    subst (λ (xs : List ℕ). LeadsOn (next_at new) (reverse xs) c.self.inside.front) turned (LeadsOn-kept _ (next_at new) _ _ (λ k _. c.keep.ensures.nexts k) c.turn.ensures.turned) in
+    subst (λ o. IsLaid new o (c.self.inside.count + c.index.result.now.span.len) v') (sym (c.some-self-inside.ensures ∙ ap (λ (s : Span). Some s.last) first))
+    (subst (λ n. IsLaid new (Some (span_at c.self.inside.nodes.items h).last) (c.self.inside.count + n) v') (sym (ap (λ (s : Span). s.len) first))
+    (IsLaid-freed _ _ _ _ was h c.requires new (omega (arith, c.keep.ensures.len, c.turn.ensures.len)) leads
+    (λ k absent. c.keep.ensures.nexts k ∙ c.turn.ensures.others k (ap (has k) turned ∙ absent))
+    (λ k. c.keep.ensures.spans k ∙ (λ i. if h == k then c.none.ensures i else c.turn.ensures.spans k i))))
+
+pub invariant_of-self : goal.invariant_of-self
+invariant_of-self c = let at = goal.at.invariant_of-self c in closed _ _ _ _ (laid at.After-some-self-inside (at_head at.After-index) (turned at.After-index))
+
+pub returns-clause-after : goal.returns-clause-after
+returns-clause-after c = let at = goal.at.returns-clause-after c in strands_of_is _ _ _ _ (laid at.After-some-self-inside (at_head at.After-index) (turned at.After-index))
+
+pub returns-clause-parted : goal.returns-clause-parted
+returns-clause-parted c = parted _ _ _ _ (invariant_of-self c)

@@ -1,0 +1,75 @@
+-- How `Strands` lays out its chains. No public clause cites this module.
+use Rattle.std.specs.Prelude.{◌≡◌, ℕ, zero, suc, ◌+◌, ◌<◌, ◌^◌, ◌==◌, nat_lt, List, map, length, Option, None, Some, slice_index_or, if◌then◌else◌}
+use Rattle.std.specs.List.{range_with_len}
+use Rattle.strm_links.specs.Rows.{first, last}
+use Rattle.strm_links.specs.Layout.{walk, LeadsOn}
+use Rattle.strm_links.specs.Counting.{times}
+use Rattle.strm_links.specs.Held.{held_in}
+use Rattle.strm_links.specs.StrandLists.{StrandLists, all_nodes}
+use Rattle.strm_links.specs.declared.strands.Node.{Node}
+use Rattle.strm_links.specs.declared.strands.Span.{Span}
+
+-- what is kept at a node that is no head
+abbrev pub no_span : Span
+no_span = record { last = 0; len = 0 }
+
+-- what a read past the nodes gives
+abbrev pub no_node : Node
+no_node = record { next = None; span = no_span }
+
+-- a free node of so many, which leads on to the node of the next number, if there is one
+abbrev pub free_node : ℕ → ℕ → Node
+free_node nodes k = record { next = (if nat_lt (k + 1) nodes then Some (k + 1) else None); span = no_span }
+
+-- the fields of a node, each as a function of its number
+abbrev pub node_at : List Node → ℕ → Node
+node_at nodes k = slice_index_or nodes k no_node
+
+abbrev pub next_at : List Node → ℕ → Option ℕ
+next_at nodes k = (node_at nodes k).next
+
+abbrev pub span_at : List Node → ℕ → Span
+span_at nodes k = (node_at nodes k).span
+
+-- where so many steps along the links lead
+abbrev pub onward : (ℕ → Option ℕ) → ℕ → Option ℕ → Option ℕ
+onward next zero at = at
+onward next (suc steps) None = None
+onward next (suc steps) (Some k) = onward next steps (next k)
+
+-- so many nodes from one on
+unfoldable pub path : List Node → ℕ → Option ℕ → List ℕ
+path nodes len at = walk (next_at nodes) len at
+
+-- the chain that begins with a node, if there is one
+abbrev pub strand : List Node → ℕ → Option (List ℕ)
+strand nodes h = if (span_at nodes h).len == 0 then None else Some (path nodes (span_at nodes h).len (Some h))
+
+-- what a contract sees
+abbrev pub strands_of : List Node → Option ℕ → ℕ → StrandLists
+strands_of nodes front count = record {
+  free = path nodes count front;
+  held = map (strand nodes) (range_with_len 0 (length nodes));
+}
+
+-- the links, and what is kept at the head, say that these nodes are a chain
+pub record IsStrand (next : ℕ → Option ℕ) (span : Span) (h : ℕ) (xs : List ℕ) : Type 0 where
+  pub head : first xs ≡ Some h
+  pub last : last xs ≡ Some span.last
+  pub len : span.len ≡ length xs
+  pub leads : LeadsOn next xs None
+
+-- what is kept at a node says which chain begins with it, if one does
+abbrev pub IsHeadOf : (ℕ → Option ℕ) → Span → ℕ → Option (List ℕ) → Type 0
+IsHeadOf next span h None = span.len ≡ 0
+IsHeadOf next span h (Some xs) = IsStrand next span h xs
+
+-- the nodes hold these free nodes and these chains, and each node once in all
+pub record IsLaid (nodes : List Node) (front : Option ℕ) (count : ℕ) (v : StrandLists) : Type 0 where
+  pub node_count : length nodes ≡ length v.held
+  pub few_nodes : length v.held < 2 ^ 32
+  pub free_count : count ≡ length v.free
+  pub free_front : front ≡ first v.free
+  pub free_leads : LeadsOn (next_at nodes) v.free None
+  pub heads : (h : ℕ) → IsHeadOf (next_at nodes) (span_at nodes h) h (held_in v.held h)
+  pub once : (n : ℕ) → times n (all_nodes v) ≡ (if nat_lt n (length v.held) then 1 else 0)

@@ -1,0 +1,44 @@
+-- What a contract sees of `Strands`: which nodes are free, and the chains of the others.
+use Rattle.std.specs.Prelude.{◌≡◌, ℕ, nat_lt, List, [], ◌∷◌, ◌++◌, length, replicate, Option, None, Some, IfSome, slice_set, if◌then◌else◌, refl}
+use Rattle.std.specs.List.{range_with_len}
+use Rattle.std.specs.Coded.{Coded, code_by, coded×, coded_ℕ, coded_list, coded_option}
+use Rattle.strm_links.specs.Rows.{first}
+use Rattle.strm_links.specs.Counting.{times}
+use Rattle.strm_links.specs.Held.{items_of, held_in, items_held}
+
+-- the free nodes, the next to be taken first; and for each node the chain that begins with it, if there is one
+pub record StrandLists : Type 0 where
+  pub free : List ℕ
+  pub held : List (Option (List ℕ))
+
+-- they are stored as the pair of their fields
+abbrev pub strands_code : Coded StrandLists
+strands_code =
+    code_by
+    (List ℕ × List (Option (List ℕ)))
+    (coded× (coded_list coded_ℕ) (coded_list (coded_option (coded_list coded_ℕ))))
+    (λ v. (v.free, v.held))
+    (λ p. record { free = p.0; held = p.1 })
+    (λ _. refl)
+
+-- the nodes of the chain with this head, first to last
+abbrev pub strand_at : StrandLists → ℕ → List ℕ
+strand_at v h = items_of (held_in v.held h)
+
+-- all nodes, free or of a chain
+abbrev pub all_nodes : StrandLists → List ℕ
+all_nodes v = v.free ++ items_held v.held
+
+-- each node stands once in all, and a chain stands at its first node
+pub record IsParted (v : StrandLists) : Type 0 where
+  pub once : (n : ℕ) → times n (all_nodes v) ≡ (if nat_lt n (length v.held) then 1 else 0)
+  pub heads : (h : ℕ) → IfSome (held_in v.held h) (λ xs. first xs ≡ Some h)
+
+-- so many free nodes, in rising order
+abbrev pub opening_strands : ℕ → StrandLists
+opening_strands nodes = record { free = range_with_len 0 nodes; held = replicate nodes None }
+
+-- the first of these free nodes, if there is one, is a chain
+abbrev pub with_first_begun : List ℕ → StrandLists → StrandLists
+with_first_begun [] v = v
+with_first_begun (n ∷ ns) v = record v { free = ns; held = slice_set v.held n (Some (n ∷ [])) }

@@ -1,0 +1,420 @@
+//! Chains over one arena of nodes, linked one way, by number.
+//!
+//! UNIX System V Release 4 STREAMS links the blocks of a message one way, each to the one behind it.
+//! That the links stand in one arena, as numbers, and that a chain's first node tells its last one and
+//! its length, is this project's own choice: two chains are joined at once, however long they are.
+ghost use Rattle.std.specs.Prelude.{◌≡◌, ◌≢◌, ℕ, ◌+◌, ◌^◌, ◌<◌, ◌≤◌, ◌++◌, ◌==◌, nat_lt, drop, is_none, is_some, length, map, reverse, take, false, if◌then◌else◌, IfOk, IfSome, IsSome, IsTrue, slice_get, slice_set, vec_len};
+ghost use Rattle.std.specs.List.{range_with_len};
+ghost use Rattle.strm_links.specs.Rows.{IsApart, first, has, last};
+ghost use Rattle.strm_links.specs.Layout.{LeadsOn, walk};
+ghost use Rattle.strm_links.specs.Held.{divided, held_in, joined, taken_out};
+ghost use Rattle.strm_links.specs.StrandLists.{IsParted, opening_strands, strand_at, with_first_begun};
+ghost use Rattle.strm_links.specs.StrandLayout.{free_node, next_at, no_span, onward, path, span_at};
+
+use crate::slot::Slot;
+use std::alloc::{AllocError, Global};
+use std::marker::Model;
+use std::mem::size_of;
+
+/// A fixed number of nodes, each of which is free or stands in one chain.
+///
+/// Nodes are numbers from 0 on, and each call asks for numbers in range. A chain is named by its first
+/// node, its head, and has one node at least: `is_held` tells whether a chain begins with a node. The
+/// free nodes stand in an order of their own, and are taken from its front.
+///
+/// Only `new` takes memory, 12 bytes for a node. Every call takes constant time but for `new`,
+/// `begin_all`, `take_out` and `free`, which go along the nodes. Callers see `StrandLists`: the free
+/// nodes in order, and for each node the chain that begins with it.
+#[derive(Debug, Drop)]
+pub struct Strands {
+    nodes: Vec<Node>,
+    // The first of the free nodes, which are linked as those of a chain, and how many there are.
+    front: Slot,
+    count: u32,
+}
+
+#[derive(Clone, Copy, Debug)]
+struct Node {
+    // The node behind this one, in its chain or among the free ones.
+    next: Slot,
+    span: Span,
+}
+
+// What a head keeps of its chain. Any other node has a length of 0.
+#[derive(Clone, Copy, Debug)]
+struct Span {
+    last: u32,
+    len: u32,
+}
+
+const _: () = prove!(size_of::<Node>() == 12 && size_of::<Strands>() == 32);
+
+impl Model for Strands {
+    ghost use Rattle.strm_links.specs.StrandLists.{StrandLists, strands_code};
+
+    ghost Value = { StrandLists };
+
+    ghost coded = { strands_code };
+
+    ghost use Rattle.strm_links.specs.StrandLayout.{IsLaid, strands_of};
+
+    ghost view = { λ s. strands_of s.nodes.items s.front s.count };
+
+    ghost invariant = { λ s. IsLaid s.nodes.items s.front s.count
+        (strands_of s.nodes.items s.front s.count) };
+}
+
+impl Span {
+    // What a node keeps that is no head.
+    #[inline(always)]
+    fn none() -> Span
+        ensures { result ≡ no_span }
+    {
+        Span { last: 0, len: 0 }
+    }
+}
+
+impl Node {
+    // A free node of so many, which leads on to the node of the next number, if there is one.
+    #[inline(always)]
+    fn free(number: u32, nodes: u32) -> Node
+        requires { number < nodes }
+        ensures { result ≡ free_node nodes number }
+    {
+        let next = number + 1;
+        Node {
+            next: if next < nodes {
+                Slot::some(next)
+            } else {
+                Slot::none()
+            },
+            span: Span::none(),
+        }
+    }
+}
+
+// Lets a node lead on to `next`.
+#[inline(always)]
+fn lead(nodes: &mut Vec<Node>, at: u32, next: Slot)
+    requires { at < vec_len nodes.old }
+    ensures nexts { (k : ℕ) → next_at nodes.new.items k
+        ≡ (if at == k then next else next_at nodes.old.items k) }
+    ensures spans { (k : ℕ) → span_at nodes.new.items k ≡ span_at nodes.old.items k }
+    ensures len { vec_len nodes.new ≡ vec_len nodes.old }
+{
+    nodes[at as usize].next = next;
+}
+
+// Keeps this at a node.
+#[inline(always)]
+fn keep(nodes: &mut Vec<Node>, at: u32, span: Span)
+    requires { at < vec_len nodes.old }
+    ensures nexts { (k : ℕ) → next_at nodes.new.items k ≡ next_at nodes.old.items k }
+    ensures spans { (k : ℕ) → span_at nodes.new.items k
+        ≡ (if at == k then span else span_at nodes.old.items k) }
+    ensures len { vec_len nodes.new ≡ vec_len nodes.old }
+{
+    nodes[at as usize].span = span;
+}
+
+// Makes a chain of the nodes that lead from `head` to `last`, and which are so many.
+#[inline(always)]
+fn chain_up(nodes: &mut Vec<Node>, head: u32, last: u32, len: u32)
+    requires head { head < vec_len nodes.old }
+    requires last { last < vec_len nodes.old }
+    ensures nexts { (k : ℕ) → next_at nodes.new.items k
+        ≡ (if last == k then None else next_at nodes.old.items k) }
+    ensures spans { (k : ℕ) → span_at nodes.new.items k
+        ≡ (if head == k then record { last = last; len = len } else span_at nodes.old.items k) }
+    ensures len { vec_len nodes.new ≡ vec_len nodes.old }
+{
+    lead(nodes, last, Slot::none());
+    keep(nodes, head, Span { last, len });
+}
+
+// The node that so many steps lead to.
+fn node_behind(nodes: &[Node], from: u32, steps: u32) -> u32
+    requires from { from < length nodes.now }
+    requires within { (k j : ℕ) → next_at nodes.now k ≡ Some j → j < length nodes.now }
+    requires there { IsSome (onward (next_at nodes.now) steps (Some from)) }
+    ensures value { onward (next_at nodes.now) steps (Some from) ≡ Some result }
+    ensures in_range { result < length nodes.now }
+{
+    let mut at = from;
+    for _step in 0..steps {
+        at = nodes[at as usize].next.number();
+    }
+    at
+}
+
+// Turns the links of a chain round: it is left from last to first, and leads on to `beyond`.
+fn turn(nodes: &mut Vec<Node>, head: u32, len: u32, beyond: Slot)
+    requires few { vec_len nodes.old < 2 ^ 32 }
+    requires begins { first (path nodes.old.items len (Some head)) ≡ Some head }
+    requires leads { LeadsOn (next_at nodes.old.items) (path nodes.old.items len (Some head)) None }
+    requires len { length (path nodes.old.items len (Some head)) ≡ len }
+    requires apart { IsApart (path nodes.old.items len (Some head)) }
+    requires within { (k : ℕ) → IsTrue (has k (path nodes.old.items len (Some head)))
+        → k < vec_len nodes.old }
+    ensures turned { LeadsOn (next_at nodes.new.items)
+        (reverse (path nodes.old.items len (Some head))) beyond }
+    ensures others { (k : ℕ) → has k (path nodes.old.items len (Some head)) ≡ false
+        → next_at nodes.new.items k ≡ next_at nodes.old.items k }
+    ensures spans { (k : ℕ) → span_at nodes.new.items k ≡ span_at nodes.old.items k }
+    ensures len { vec_len nodes.new ≡ vec_len nodes.old }
+{
+    let mut at = Slot::some(head);
+    let mut onto = beyond;
+    for _turned in 0..len {
+        let number = at.number();
+        let node = &mut nodes[number as usize];
+        at = node.next;
+        node.next = onto;
+        onto = Slot::some(number);
+    }
+}
+
+// The last node of a chain from which the one behind `ahead` has left, which led on to `next`.
+#[inline(always)]
+fn last_left(next: Slot, ahead: u32, last: u32) -> u32
+    ensures { result ≡ (if is_none next then ahead else last) }
+{
+    if next.get().is_none() { ahead } else { last }
+}
+
+// So many free nodes, in rising order.
+fn free_nodes(alloc: Global, nodes: u32) -> Result<Vec<Node>, AllocError>
+    ensures { IfOk result (λ v. v.items ≡ map (free_node nodes) (range_with_len 0 nodes)) }
+{
+    (0..nodes)
+        .map(|number| Node::free(number, nodes))
+        .collect(alloc)
+}
+
+// The first of so many nodes, if there is one.
+fn first_of(nodes: u32) -> Slot
+    ensures { result ≡ (if nat_lt 0 nodes then Some 0 else None) }
+{
+    if nodes > 0 {
+        Slot::some(0)
+    } else {
+        Slot::none()
+    }
+}
+
+impl Strands {
+    /// So many nodes, all free, in rising order.
+    ///
+    /// Fails where the memory for them is refused, and then keeps none. Takes a step for each.
+    pub fn new(alloc: Global, nodes: u32) -> Result<Self, AllocError>
+        ensures opened { IfOk result (λ s. s ≡ opening_strands nodes) }
+        ensures parted { IfOk result IsParted }
+    {
+        Ok(Strands {
+            nodes: free_nodes(alloc, nodes)?,
+            front: first_of(nodes),
+            count: nodes,
+        })
+    }
+
+    /// How many nodes are free. Nothing changes.
+    #[inline(always)]
+    pub fn free_len(&self) -> u32
+        ensures { result ≡ length self.now.free }
+    {
+        self.count
+    }
+
+    /// Whether a chain begins with this node. Nothing changes.
+    #[inline(always)]
+    pub fn is_held(&self, head: u32) -> bool
+        requires { head < length self.now.held }
+        ensures { result ≡ is_some (held_in self.now.held head) }
+    {
+        self.nodes[head as usize].span.len > 0
+    }
+
+    /// How many nodes a chain has. Nothing changes.
+    #[inline(always)]
+    pub fn len(&self, head: u32) -> u32
+        requires { IsSome (held_in self.now.held head) }
+        ensures { result ≡ length (strand_at self.now head) }
+    {
+        self.nodes[head as usize].span.len
+    }
+
+    /// The node behind this one in its chain: none behind the last. Nothing changes.
+    ///
+    /// Of a free node no clause says more than that the answer is one of the nodes.
+    #[inline(always)]
+    pub fn next(&self, node: u32) -> Option<u32>
+        requires { node < length self.now.held }
+        ensures value { (h i : ℕ) → slice_get (strand_at self.now h) i ≡ Some node
+            → result ≡ slice_get (strand_at self.now h) (i + 1) }
+        ensures in_range { IfSome result (λ other. other < length self.now.held) }
+    {
+        self.nodes[node as usize].next.get()
+    }
+
+    /// The last node of a chain. Nothing changes.
+    #[inline(always)]
+    pub fn tail(&self, head: u32) -> u32
+        requires { IsSome (held_in self.now.held head) }
+        ensures value { last (strand_at self.now head) ≡ Some result }
+        ensures in_range { result < length self.now.held }
+    {
+        self.nodes[head as usize].span.last
+    }
+
+    /// Makes the first free node a chain, and names it. None where no node is free, and then nothing
+    /// changes.
+    #[inline(always)]
+    pub fn begin(&mut self) -> Option<u32>
+        ensures answer { result ≡ first self.old.free }
+        ensures after { self.new ≡ with_first_begun self.old.free self.old }
+        ensures in_range { IfSome result (λ node. node < length self.old.held) }
+        ensures parted { IsParted self.new }
+    {
+        let first = self.front.get()?;
+        self.front = self.nodes[first as usize].next;
+        self.count -= 1;
+        chain_up(&mut self.nodes, first, first, 1);
+        Some(first)
+    }
+
+    /// Makes the first `count` free nodes one chain, in their order, and names its head.
+    ///
+    /// Takes a step for each.
+    pub fn begin_all(&mut self, count: u32) -> u32
+        requires some { 0 < count }
+        requires enough { count ≤ length self.old.free }
+        ensures answer { first self.old.free ≡ Some result }
+        ensures after { self.new ≡ record self.old {
+          free = drop count self.old.free;
+          held = slice_set self.old.held result (Some (take count self.old.free));
+        } }
+        ensures in_range { result < length self.old.held }
+        ensures parted { IsParted self.new }
+    {
+        let head = self.front.number();
+        let last = node_behind(&self.nodes, head, count - 1);
+        self.front = self.nodes[last as usize].next;
+        self.count -= count;
+        chain_up(&mut self.nodes, head, last, count);
+        head
+    }
+
+    /// Puts the chain `tail` behind another, which has the nodes of both then.
+    #[inline(always)]
+    pub fn join(&mut self, head: u32, tail: u32)
+        requires head { IsSome (held_in self.old.held head) }
+        requires tail { IsSome (held_in self.old.held tail) }
+        requires other { head ≢ tail }
+        ensures after { self.new ≡ record self.old { held = joined head tail self.old.held } }
+        ensures parted { IsParted self.new }
+    {
+        let span = self.nodes[head as usize].span;
+        let behind = self.nodes[tail as usize].span;
+        lead(&mut self.nodes, span.last, Slot::some(tail));
+        keep(&mut self.nodes, tail, Span::none());
+        keep(
+            &mut self.nodes,
+            head,
+            Span {
+                last: behind.last,
+                len: span.len + behind.len,
+            },
+        );
+    }
+
+    /// Leaves only the first node in a chain. The others are a chain, which is named by its first node;
+    /// none where there are no others, and then nothing changes.
+    #[inline(always)]
+    pub fn divide(&mut self, head: u32) -> Option<u32>
+        requires { IsSome (held_in self.old.held head) }
+        ensures answer { result ≡ slice_get (strand_at self.old head) 1 }
+        ensures after { self.new ≡ record self.old {
+          held = divided (λ n. n) head (strand_at self.old head) self.old.held;
+        } }
+        ensures in_range { IfSome result (λ node. node < length self.old.held) }
+        ensures parted { IsParted self.new }
+    {
+        let Node { next, span } = self.nodes[head as usize];
+        let rest = next.get()?;
+        chain_up(&mut self.nodes, head, head, 1);
+        keep(
+            &mut self.nodes,
+            rest,
+            Span {
+                last: span.last,
+                len: span.len - 1,
+            },
+        );
+        Some(rest)
+    }
+
+    /// Takes the node at `place`, counted from 0, out of a chain, and makes it a chain of its own. None
+    /// where the chain has no such place, and then nothing changes.
+    ///
+    /// Takes a step for each node before it. The first node stays: `divide` parts it from the others.
+    pub fn take_out(&mut self, head: u32, place: u32) -> Option<u32>
+        requires held { IsSome (held_in self.old.held head) }
+        requires place { 0 < place }
+        ensures answer { result ≡ slice_get (strand_at self.old head) place }
+        ensures after { self.new ≡ record self.old {
+          held = taken_out (λ n. n) head place (strand_at self.old head) self.old.held;
+        } }
+        ensures in_range { IfSome result (λ node. node < length self.old.held) }
+        ensures parted { IsParted self.new }
+    {
+        let span = self.nodes[head as usize].span;
+        if span.len <= place {
+            return None;
+        }
+        let ahead = node_behind(&self.nodes, head, place - 1);
+        let node = self.nodes[ahead as usize].next.number();
+        let next = self.nodes[node as usize].next;
+        lead(&mut self.nodes, ahead, next);
+        chain_up(&mut self.nodes, node, node, 1);
+        keep(
+            &mut self.nodes,
+            head,
+            Span {
+                last: last_left(next, ahead, span.last),
+                len: span.len - 1,
+            },
+        );
+        Some(node)
+    }
+
+    /// Frees the nodes of a chain, first to last, each to the front of the free ones.
+    ///
+    /// Takes a step for each.
+    #[inline(always)]
+    pub fn free(&mut self, head: u32)
+        requires { IsSome (held_in self.old.held head) }
+        ensures after { self.new ≡ record self.old {
+          free = reverse (strand_at self.old head) ++ self.old.free;
+          held = slice_set self.old.held head None;
+        } }
+        ensures parted { IsParted self.new }
+    {
+        let span = self.nodes[head as usize].span;
+        turn(&mut self.nodes, head, span.len, self.front);
+        keep(&mut self.nodes, head, Span::none());
+        self.front = Slot::some(span.last);
+        self.count += span.len;
+    }
+
+    /// The law that the free nodes and the chains part the nodes: each stands once in all, and a chain
+    /// stands at its first node. Every call that changes them says so too. Does nothing.
+    pub fn parts_nodes(&self)
+        ensures parted { IsParted self.now }
+        ensures few_nodes { length self.now.held < 2 ^ 32 }
+    {
+        let _ = &self.nodes;
+    }
+}
+
+#[cfg(test)]
+mod tests;

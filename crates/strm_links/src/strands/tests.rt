@@ -1,0 +1,217 @@
+//! Worked rows, and a long run beside plain vectors.
+ghost use Rattle.std.specs.Prelude.{◌≡◌, ◌<◌, length, vec_len};
+
+use super::Strands;
+use std::alloc::{AllocError, Global};
+use std::mem;
+use std::process::Abort;
+use std::test::Fail;
+
+const NODES: u32 = 255;
+
+// The same chains twice: linked by number, and as plain vectors.
+#[derive(Drop)]
+struct Twin {
+    strands: Strands,
+    // The free nodes, the next to be taken last.
+    free: Vec<u32>,
+    // At each node the chain that begins with it; empty where none does.
+    chains: Vec<Vec<u32>>,
+    ghost node_count: { length strands.held ≡ 255 },
+    ghost chain_count: { vec_len chains ≡ 255 },
+}
+
+#[tactic(auto, using(crate::proofs::NodeCounts::node_counts))]
+impl Twin {
+    fn new(alloc: Global) -> Result<Self, AllocError> {
+        let strands = Strands::new(alloc, NODES)?;
+        let mut chains = Vec::new(alloc);
+        for _node in 0..NODES {
+            chains.push(Vec::new(alloc))?;
+        }
+        Ok(Twin {
+            strands,
+            free: (0..NODES).rev().collect(alloc)?,
+            chains,
+        })
+    }
+
+    // Whether a chain begins with this node.
+    fn is_held(&self, rt: &impl Abort, head: u32) -> bool {
+        assert!(rt; head < NODES);
+        self.strands.is_held(head)
+    }
+
+    // Begins a chain with the first free node, if one is free.
+    fn begin(&mut self, rt: &impl Abort) -> Result<(), Fail> {
+        let begun = self.strands.begin();
+        assert_eq!(rt; begun, self.free.pop());
+        if let Some(node) = begun {
+            self.chains[node as usize].push(node)?;
+        }
+        Ok(())
+    }
+
+    // Begins a chain with so many free nodes.
+    fn begin_all(&mut self, rt: &impl Abort, count: u32) -> Result<(), Fail> {
+        assert!(rt; 0 < count && count <= self.strands.free_len());
+        let head = self.strands.begin_all(count);
+        for _ in 0..count {
+            let node = self.free.pop().ok_or("none is free")?;
+            self.chains[head as usize].push(node)?;
+        }
+        Ok(())
+    }
+
+    // Puts a chain behind another.
+    fn join(&mut self, rt: &impl Abort, head: u32, tail: u32) -> Result<(), Fail> {
+        assert!(rt; head < NODES && tail < NODES && head != tail);
+        assert!(rt; self.strands.is_held(head));
+        assert!(rt; self.strands.is_held(tail));
+        self.strands.join(head, tail);
+        let behind = mem::try_take(&mut self.chains[tail as usize])?;
+        self.chains[head as usize].extend(behind.iter().copied())?;
+        Ok(())
+    }
+
+    // Parts a chain behind its first node.
+    fn divide(&mut self, rt: &impl Abort, head: u32) -> Result<(), Fail> {
+        assert!(rt; head < NODES);
+        assert!(rt; self.strands.is_held(head));
+        let rest = self.strands.divide(head);
+        let plain = &mut self.chains[head as usize];
+        assert!(rt; !plain.is_empty());
+        let behind = plain.split_off(1)?;
+        assert_eq!(rt; rest, behind.first().copied());
+        if let Some(node) = rest {
+            self.chains[node as usize] = behind;
+        }
+        Ok(())
+    }
+
+    // Takes the node at a place behind the first out of a chain, if there is one.
+    fn take_out(&mut self, rt: &impl Abort, head: u32, place: u32) -> Result<(), Fail> {
+        assert!(rt; head < NODES && 0 < place);
+        assert!(rt; self.strands.is_held(head));
+        let taken = self.strands.take_out(head, place);
+        let plain = &mut self.chains[head as usize];
+        assert_eq!(rt; taken, plain.get(place as usize).copied());
+        if let Some(node) = taken {
+            plain.remove(place as usize);
+            self.chains[node as usize].push(node)?;
+        }
+        Ok(())
+    }
+
+    // Frees the nodes of a chain.
+    fn free(&mut self, rt: &impl Abort, head: u32) -> Result<(), Fail> {
+        assert!(rt; head < NODES);
+        assert!(rt; self.strands.is_held(head));
+        self.strands.free(head);
+        let freed = mem::try_take(&mut self.chains[head as usize])?;
+        self.free.extend(freed.iter().copied())?;
+        Ok(())
+    }
+
+    // A chain reads as this list, and its length and its last node are those of the list.
+    fn compare(&self, rt: &impl Abort, head: u32, plain: &[u32]) {
+        assert!(rt; head < NODES);
+        assert!(rt; self.strands.is_held(head));
+        assert_eq!(rt; self.strands.len(head) as usize, plain.len());
+        assert_eq!(rt; Some(self.strands.tail(head)), plain.last().copied());
+        let mut at = Some(head);
+        for node in plain {
+            assert_eq!(rt; at, Some(*node));
+            assert!(rt; *node < NODES);
+            at = self.strands.next(*node);
+        }
+        assert_eq!(rt; at, None);
+    }
+
+    // Every chain reads as its plain vector, and as many nodes are free.
+    fn compare_all(&self, rt: &impl Abort) {
+        assert_eq!(rt; self.strands.free_len() as usize, self.free.len());
+        for head in 0..NODES {
+            let plain = self.chains[head as usize].as_slice();
+            assert_eq!(rt; self.strands.is_held(head), !plain.is_empty());
+            if !plain.is_empty() {
+                self.compare(rt, head, plain);
+            }
+        }
+    }
+
+    // The next call of the long run, drawn at random.
+    fn step(&mut self, rt: &impl Abort, draw: &mut u32) -> Result<(), Fail> {
+        let head = below(draw, NODES);
+        let other = below(draw, NODES);
+        let small = 1 + below(draw, 6);
+        let choice = below(draw, 8);
+        if !self.is_held(rt, head) {
+            return self.start(rt, small, choice);
+        }
+        match choice {
+            0 => self.free(rt, head),
+            1 => self.divide(rt, head),
+            2 | 3 => self.take_out(rt, head, small),
+            _ if head != other && self.is_held(rt, other) => self.join(rt, head, other),
+            _ => Ok(()),
+        }
+    }
+
+    // Begins a chain of one node or of several.
+    fn start(&mut self, rt: &impl Abort, count: u32, choice: u32) -> Result<(), Fail> {
+        if choice == 0 && 0 < count && count <= self.strands.free_len() {
+            self.begin_all(rt, count)
+        } else {
+            self.begin(rt)
+        }
+    }
+}
+
+// The next number below `limit` of a fixed sequence.
+fn below(draw: &mut u32, limit: u32) -> u32
+    requires { 0 < limit }
+    ensures { result < limit }
+{
+    *draw = draw.wrapping_mul(1_664_525).wrapping_add(1_013_904_223);
+    (*draw >> 8) % limit
+}
+
+#[test]
+fn worked_rows(rt: HostRuntime) -> Result<(), Fail> {
+    let mut twin = Twin::new(rt.alloc())?;
+    twin.begin(&rt)?;
+    twin.begin_all(&rt, 3)?;
+    twin.begin(&rt)?;
+    twin.compare(&rt, 1, &[1, 2, 3]);
+    twin.join(&rt, 1, 0)?;
+    twin.join(&rt, 4, 1)?;
+    twin.compare(&rt, 4, &[4, 1, 2, 3, 0]);
+    twin.take_out(&rt, 4, 2)?;
+    twin.compare(&rt, 4, &[4, 1, 3, 0]);
+    twin.compare(&rt, 2, &[2]);
+    twin.take_out(&rt, 4, 3)?;
+    twin.take_out(&rt, 4, 3)?;
+    twin.compare(&rt, 4, &[4, 1, 3]);
+    twin.divide(&rt, 4)?;
+    twin.compare(&rt, 1, &[1, 3]);
+    twin.free(&rt, 1)?;
+    twin.free(&rt, 4)?;
+    // The last freed is taken first.
+    twin.begin_all(&rt, 4)?;
+    twin.compare(&rt, 4, &[4, 3, 1, 5]);
+    Ok(())
+}
+
+#[test]
+fn long_run_beside_vectors(rt: HostRuntime) -> Result<(), Fail> {
+    let mut twin = Twin::new(rt.alloc())?;
+    let mut draw = 1;
+    for _ in 0..40 {
+        for _ in 0..1000 {
+            twin.step(&rt, &mut draw)?;
+        }
+        twin.compare_all(&rt);
+    }
+    Ok(())
+}
