@@ -266,6 +266,15 @@ impl Strands {
         self.nodes[head as usize].span.last
     }
 
+    /// The first free node, which `begin` takes next: none where no node is free. Nothing changes.
+    #[inline(always)]
+    pub fn front(&self) -> Option<u32>
+        ensures value { result ≡ first self.now.free }
+        ensures in_range { IfSome result (λ node. node < length self.now.held) }
+    {
+        self.front.get()
+    }
+
     /// Makes the first free node a chain, and names it. None where no node is free, and then nothing
     /// changes.
     #[inline(always)]
