@@ -1,11 +1,7 @@
--- Two arenas of links, and the lists of numbers that they show.
+-- Strands, heads on shelves, and the lists of numbers that they show.
 pub mod Seen
 pub mod Readings
-pub mod Changed
 pub mod Parted
-pub mod SetApart
-pub mod Joined
-pub mod Divided
-pub mod Freed
+pub mod Replaced
 pub mod OnShelves
 pub mod Opened

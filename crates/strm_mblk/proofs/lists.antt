@@ -1,4 +1,3 @@
 -- Plain lists.
 pub mod ListParts
 pub mod Overlaid
-pub mod Along

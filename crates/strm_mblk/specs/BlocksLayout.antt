@@ -1,5 +1,5 @@
 -- How message blocks lie in memory. No public clause cites this module.
-use Rattle.std.specs.Prelude.{◌≡◌, ℕ, ◌+◌, ◌-◌, ◌<◌, ◌≤◌, min, Bool, List, [], ◌∷◌, length, map, option_map, slice_index_or, slice_set, if◌then◌else◌, nat_lt}
+use Rattle.std.specs.Prelude.{◌≡◌, ℕ, ◌+◌, ◌<◌, ◌≤◌, Bool, List, [], ◌∷◌, length, map, option_map, slice_index_or, slice_set, nat_lt}
 use Rattle.strm_data.specs.CountedStore.{CountedStore, IsKept, count_of, without_name, with_name}
 use Rattle.strm_data.specs.DataStore.{DataStore, capacity_of, times}
 use Rattle.std.specs.List.{list_any}
@@ -57,17 +57,6 @@ exceeds_counts ds s = list_any (λ d. nat_lt most_data_block_names (count_of s d
 abbrev pub with_names_dropped : List ℕ → CountedStore → CountedStore
 with_names_dropped [] s = s
 with_names_dropped (d ∷ ds) s = with_names_dropped ds (without_name d s)
-
--- what a message block says without n of its bytes: at the read place, or from the tail on at the write place, as far
--- as it has them
-abbrev pub fields_cut : Bool → ℕ → Fields → Fields
-fields_cut from_tail n f = record f { offset = if from_tail then f.offset else f.offset + min n f.len; len = f.len - n }
-
--- the message blocks once these, first to last, have lost n bytes: each gives what it has
-abbrev pub with_bytes_cut : Bool → ℕ → List ℕ → List Fields → List Fields
-with_bytes_cut from_tail n [] fields = fields
-with_bytes_cut from_tail n (k ∷ ks) fields =
-    with_bytes_cut from_tail (n - (fields_at fields k).len) ks (slice_set fields k (fields_cut from_tail n (fields_at fields k)))
 
 abbrev pub arena_of : ℕ → DataStore → List Fields → NodeLists → Arena
 arena_of id store fields lists = record {

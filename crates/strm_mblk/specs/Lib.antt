@@ -13,3 +13,4 @@ pub mod NodeLists
 pub mod ChainLayout
 pub mod BlocksLayout
 pub mod Copying
+pub mod Cutting

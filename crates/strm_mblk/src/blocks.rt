@@ -28,6 +28,7 @@ use crate::chains::Chains;
 use crate::token::{Token, TokenValue};
 use std::alloc::{AllocError, Global};
 use std::marker::Model;
+use std::mem::size_of;
 use strm_data::{ClassInfo, ClassSpec, Data, Refusal};
 
 /// The number of a message block, from 0 on.
@@ -59,6 +60,8 @@ struct Fields {
     len: u32,
     band: u8,
 }
+
+const _: () = prove!(size_of::<Fields>() == 16);
 
 impl Fields {
     // Both places at 0, and band 0.

@@ -1,7 +1,7 @@
 //! Messages as chains of message blocks, linked by number, and which of the message blocks are free.
 ghost use Rattle.std.specs.Prelude.{◌≡◌, ◌≢◌, ℕ, ◌+◌, ◌<◌, ◌≤◌, ◌++◌, IfOk, IfSome, IsSome, IsTrue, None, Some, [], ◌∷◌, drop, is_some, length, reverse, slice_get, slice_index_or, slice_set, take};
 ghost use Rattle.std.specs.Option.{ForSome};
-ghost use Rattle.strm_links.specs.Rows.{IsParting, after, before, first, has, holder, last, list_at, without};
+ghost use Rattle.strm_links.specs.Rows.{IsParting, after, before, first, has, holder, last, list_at};
 ghost use Rattle.strm_mblk.specs.ChainLayout.{put_in};
 ghost use Rattle.strm_mblk.specs.Messages.{divided, held_in, joined, put_before_head, shelf_in, with_head, without_head};
 ghost use Rattle.strm_mblk.specs.NodeLists.{IsNodesParted, after_begin, head_node, heads_on, nodes_at, opening_nodes, shelved_nodes};
@@ -12,17 +12,16 @@ pub(crate) mod beside;
 
 use std::alloc::{AllocError, Global};
 use std::marker::Model;
-use strm_links::Links;
+use strm_links::{Links, Strands};
 
 // A fixed number of message blocks, each of which is free or stands in one message. A message is held, or stands on
 // one shelf, and is named by the number of its first block, its head. Only `new` takes memory.
 #[derive(Debug, Drop)]
 pub(crate) struct Chains {
-    // List h is the chain of the message with head h. The last list is that of the free message blocks.
-    chains: Links,
-    // List s has the heads of the messages on shelf s. The last list has those of the held messages.
+    // The messages, each by its head, and the free message blocks.
+    strands: Strands,
+    // List s has the heads of the messages on shelf s. A message whose head is in no list is held.
     heads: Links,
-    nodes: u32,
     shelves: u32,
 }
 
@@ -33,7 +32,7 @@ impl Model for Chains {
 
     ghost use Rattle.strm_mblk.specs.ChainLayout.{IsSound, nodes_of};
 
-    ghost view = { λ a. nodes_of a.nodes a.shelves a.chains a.heads };
+    ghost view = { λ a. nodes_of a.strands a.heads };
 
     ghost invariant = { IsSound };
 }
@@ -56,115 +55,69 @@ fn place(heads: &mut Links, list: u32, before: Option<u32>, node: u32)
     }
 }
 
-// Takes the nodes of a list out, first to last, and puts each to the front of another list.
-fn pour(chains: &mut Links, from: u32, to: u32)
-    requires from { from < length chains.old.lists }
-    requires to { to < length chains.old.lists }
-    requires other { from ≢ to }
-    requires parting { IsParting chains.old }
-    ensures emptied { list_at from chains.new ≡ [] }
-    ensures poured { list_at to chains.new ≡ reverse (list_at from chains.old) ++ list_at to chains.old }
-    ensures others { (l : ℕ) → l ≢ from → l ≢ to → list_at l chains.new ≡ list_at l chains.old }
-    ensures linked { (k : ℕ) → IsSome (holder k chains.old) → IsSome (holder k chains.new) }
-    ensures nodes { chains.new.nodes ≡ chains.old.nodes }
-    ensures lists { length chains.new.lists ≡ length chains.old.lists }
-    ensures parting { IsParting chains.new }
-{
-    while let Some(node) = chains.front(from) {
-        chains.remove(node);
-        chains.push_front(to, node);
-    }
-}
-
 impl Chains {
     // So many free message blocks, in rising order, and so many empty shelves.
     pub(crate) fn new(alloc: Global, nodes: u32, shelves: u32) -> Result<Chains, AllocError>
-        requires few_nodes { nodes ≤ most_message_blocks }
-        requires few_shelves { shelves < 256 }
         ensures opened { IfOk result (λ v. v ≡ opening_nodes nodes shelves) }
         ensures parted { IfOk result IsNodesParted }
     {
-        let mut chains = Links::new(alloc, nodes, nodes + 1)?;
-        for node in 0..nodes {
-            chains.push_back(nodes, node);
-        }
-        let heads = Links::new(alloc, nodes, shelves + 1)?;
         Ok(Chains {
-            chains,
-            heads,
-            nodes,
+            strands: Strands::new(alloc, nodes)?,
+            heads: Links::new(alloc, nodes, shelves)?,
             shelves,
         })
     }
 
     // How many message blocks are free.
+    #[inline(always)]
     pub(crate) fn free_len(&self) -> u32
         ensures { result ≡ length self.now.free }
     {
-        self.chains.len(self.nodes)
+        self.strands.free_len()
     }
 
     // Whether a held message begins with this message block.
+    #[inline(always)]
     pub(crate) fn is_held(&self, head: u32) -> bool
         requires { head < length self.now.held }
         ensures { result ≡ is_some (held_in self.now.held head) }
     {
-        self.heads.list_of(head) == Some(self.shelves)
+        self.strands.is_held(head) && self.heads.list_of(head).is_none()
     }
 
     // How many blocks a held message has.
+    #[inline(always)]
     pub(crate) fn len(&self, head: u32) -> u32
         requires { IsSome (held_in self.now.held head) }
         ensures { result ≡ length (nodes_at self.now head) }
     {
-        self.chains.len(head)
+        self.strands.len(head)
     }
 
     // The message block behind this one in its message, if there is one.
+    #[inline(always)]
     pub(crate) fn next(&self, node: u32) -> Option<u32>
         requires { node < length self.now.held }
         ensures held { (h i : ℕ) → slice_get (nodes_at self.now h) i ≡ Some node → result ≡ slice_get (nodes_at self.now h) (i + 1) }
         ensures shelved { (s k i : ℕ) → slice_get (shelved_nodes self.now s k) i ≡ Some node → result ≡ slice_get (shelved_nodes self.now s k) (i + 1) }
         ensures in_range { IfSome result (λ n. n < length self.now.held) }
     {
-        self.chains.next(node)
-    }
-
-    // The message block before this one in its message, if there is one.
-    pub(crate) fn previous(&self, node: u32) -> Option<u32>
-        requires { node < length self.now.held }
-        ensures held { (h i : ℕ) → slice_get (reverse (nodes_at self.now h)) i ≡ Some node → result ≡ slice_get (reverse (nodes_at self.now h)) (i + 1) }
-        ensures in_range { IfSome result (λ n. n < length self.now.held) }
-    {
-        self.chains.reads_alike();
-        self.chains.prev(node)
-    }
-
-    // The last block of a held message.
-    pub(crate) fn tail(&self, head: u32) -> Option<u32>
-        requires { IsSome (held_in self.now.held head) }
-        ensures value { result ≡ slice_get (reverse (nodes_at self.now head)) 0 }
-        ensures in_range { IfSome result (λ n. n < length self.now.held) }
-    {
-        self.chains.reads_alike();
-        self.chains.back(head)
+        self.strands.next(node)
     }
 
     // Makes the first free message block a held message, if one is free.
+    #[inline(always)]
     pub(crate) fn begin(&mut self) -> Option<u32>
         ensures answer { result ≡ first self.old.free }
         ensures after { self.new ≡ after_begin self.old self.old.free }
         ensures in_range { IfSome result (λ node. node < length self.old.held) }
         ensures parted { IsNodesParted self.new }
     {
-        let first = self.chains.front(self.nodes)?;
-        self.chains.remove(first);
-        self.chains.push_back(first, first);
-        self.heads.push_back(self.shelves, first);
-        Some(first)
+        self.strands.begin()
     }
 
-    // Puts the held message `tail` behind another held message; takes as many steps as `tail` has blocks.
+    // Puts the held message `tail` behind another held message.
+    #[inline(always)]
     pub(crate) fn join(&mut self, head: u32, tail: u32)
         requires head { IsSome (held_in self.old.held head) }
         requires tail { IsSome (held_in self.old.held tail) }
@@ -172,8 +125,7 @@ impl Chains {
         ensures after { self.new ≡ record self.old { held = joined head tail self.old.held } }
         ensures parted { IsNodesParted self.new }
     {
-        self.heads.remove(tail);
-        self.chains.append(head, tail);
+        self.strands.join(head, tail);
     }
 
     // Makes the first `count` free message blocks one held message, in their order, and names its head.
@@ -184,54 +136,46 @@ impl Chains {
         ensures after { self.new ≡ record self.old { free = drop count self.old.free; held = slice_set self.old.held result (Some (take count self.old.free)) } }
         ensures parted { IsNodesParted self.new }
     {
-        let head = self.begin().unwrap();
-        for _more in 1..count {
-            let node = self.begin().unwrap();
-            self.join(head, node);
-        }
-        head
+        self.strands.begin_all(count)
     }
 
     // Leaves only the first block in a held message: the others are a held message, if there are any, and it is
-    // named. Takes as many steps as there are.
+    // named.
+    #[inline(always)]
     pub(crate) fn divide(&mut self, head: u32) -> Option<u32>
         requires { IsSome (held_in self.old.held head) }
         ensures answer { result ≡ slice_get (nodes_at self.old head) 1 }
         ensures after { self.new ≡ record self.old { held = divided (λ n. n) head (nodes_at self.old head) self.old.held } }
         ensures parted { IsNodesParted self.new }
     {
-        let rest = self.chains.next(head)?;
-        self.chains.remove(head);
-        self.chains.append(rest, head);
-        self.chains.push_back(head, head);
-        self.heads.push_back(self.shelves, rest);
-        Some(rest)
+        self.strands.divide(head)
     }
 
-    // Takes a block that isn't the first out of a held message, and makes it a held message.
-    pub(crate) fn take_out(&mut self, head: u32, node: u32)
+    // Takes block `place`, counted from 0, out of a held message, makes it a held message, and names it. Takes a step
+    // for each block before it.
+    pub(crate) fn take_out(&mut self, head: u32, place: u32) -> u32
         requires held { IsSome (held_in self.old.held head) }
-        requires there { IsTrue (has node (nodes_at self.old head)) }
-        requires behind { node ≢ head }
-        ensures after { self.new ≡ record self.old { held = slice_set (slice_set self.old.held head (Some (without node (nodes_at self.old head)))) node (Some (node ∷ [])) } }
+        requires behind { 0 < place }
+        requires there { place < length (nodes_at self.old head) }
+        ensures answer { slice_get (nodes_at self.old head) place ≡ Some result }
+        ensures after { self.new ≡ record self.old { held = slice_set (slice_set self.old.held head (Some (take place (nodes_at self.old head) ++ drop (place + 1) (nodes_at self.old head)))) result (Some (result ∷ [])) } }
         ensures parted { IsNodesParted self.new }
     {
-        self.chains.remove(node);
-        self.chains.push_back(node, node);
-        self.heads.push_back(self.shelves, node);
+        self.strands.take_out(head, place).unwrap()
     }
 
     // Frees the blocks of a held message, first to last, each to the front of the free ones.
+    #[inline(always)]
     pub(crate) fn free(&mut self, head: u32)
         requires { IsSome (held_in self.old.held head) }
         ensures after { self.new ≡ record self.old { free = reverse (nodes_at self.old head) ++ self.old.free; held = slice_set self.old.held head None } }
         ensures parted { IsNodesParted self.new }
     {
-        self.heads.remove(head);
-        pour(&mut self.chains, head, self.nodes);
+        self.strands.free(head);
     }
 
     // The head of the first message on a shelf, if there is one.
+    #[inline(always)]
     pub(crate) fn first(&self, shelf: u32) -> Option<u32>
         requires { shelf < length self.now.shelves }
         ensures { result ≡ first (heads_on self.now shelf) }
@@ -240,6 +184,7 @@ impl Chains {
     }
 
     // The head of the last message on a shelf, if there is one.
+    #[inline(always)]
     pub(crate) fn last(&self, shelf: u32) -> Option<u32>
         requires { shelf < length self.now.shelves }
         ensures { result ≡ last (heads_on self.now shelf) }
@@ -248,6 +193,7 @@ impl Chains {
     }
 
     // The head of the message behind this one on its shelf, if there is one.
+    #[inline(always)]
     pub(crate) fn after(&self, head: u32) -> Option<u32>
         requires { head < length self.now.held }
         ensures { (s : ℕ) → IsTrue (has head (heads_on self.now s)) → result ≡ after head (heads_on self.now s) }
@@ -256,6 +202,7 @@ impl Chains {
     }
 
     // The head of the message before this one on its shelf, if there is one.
+    #[inline(always)]
     pub(crate) fn before(&self, head: u32) -> Option<u32>
         requires { head < length self.now.held }
         ensures { (s : ℕ) → IsTrue (has head (heads_on self.now s)) → result ≡ before head (heads_on self.now s) }
@@ -264,6 +211,7 @@ impl Chains {
     }
 
     // Puts a held message on a shelf, before one that stands there, or last where none is given.
+    #[inline(always)]
     pub(crate) fn shelve(&mut self, shelf: u32, before: Option<u32>, head: u32)
         requires shelf { shelf < length self.old.shelves }
         requires held { IsSome (held_in self.old.held head) }
@@ -274,11 +222,11 @@ impl Chains {
         } }
         ensures parted { IsNodesParted self.new }
     {
-        self.heads.remove(head);
         place(&mut self.heads, shelf, before, head);
     }
 
     // Takes a message off the shelf that it stands on, and holds it.
+    #[inline(always)]
     pub(crate) fn unshelve(&mut self, shelf: u32, head: u32)
         requires shelf { shelf < length self.old.shelves }
         requires there { IsTrue (has head (heads_on self.old shelf)) }
@@ -289,6 +237,5 @@ impl Chains {
         ensures parted { IsNodesParted self.new }
     {
         self.heads.remove(head);
-        self.heads.push_back(self.shelves, head);
     }
 }

@@ -18,16 +18,16 @@ use Rattle.strm_links.specs.Rows.{has}
 use Rattle.strm_links.proofs.OneList.{has_head}
 use Rattle.strm_mblk.specs.declared.token.TokenValue.{TokenValue}
 use Rattle.strm_mblk.specs.Arena.{has as has_token}
-use Rattle.strm_mblk.specs.Arena.{Arena, IsParted, blocks_in, held_at, held_blocks, is_free_in, message_at, names_of, shelved_blocks, token_of, with_held, without_held}
+use Rattle.strm_mblk.specs.Arena.{Arena, IsParted, held_at, message_at, names_of, shelved_blocks, token_of, with_held, without_held}
 use Rattle.strm_mblk.specs.Block.{Block, Message, bytes_of, bytes_of_block, is_naming, kind_of, new_block, size_of}
 use Rattle.strm_mblk.specs.BlockCalls.{allocb, allocb_from, banded, copied, copied_into, copies, duplicated, exceeds_names, freeb, freeb_from, head_in, held_new, held_under, linkb, rmvb, rmvb_of, setband, settype, settype_of, unlinkb, with_rest, write, write_block}
-use Rattle.strm_mblk.specs.Frame.{IsSameData, LeavesOthers, head_answered, head_given, heads_parted}
+use Rattle.strm_mblk.specs.Frame.{IsSameData, LeavesOthers, head_given, heads_parted}
 use Rattle.strm_mblk.specs.Freeing.{freemsg, spent, with_block_freed, with_blocks_freed, with_name_dropped}
 use Rattle.strm_mblk.specs.Given.{Given, value_after, and_then, answer_map, answer_of, or_rejected}
 use Rattle.strm_mblk.specs.Messages.{blocks_of, divided, held_in, joined}
 use Rattle.strm_mblk.specs.Trimming.{adjmsg, bytes_asked, cut, left_over, pull, pull_asked, pulled, pulled_into, pullupmsg, run_of, used_up}
 use Rattle.strm_mblk.proofs.arena.Counts.{blocks_in_adds, count_adds}
-use Rattle.strm_mblk.proofs.arena.Moves.{count_one, held_among, held_within, out_of_held}
+use Rattle.strm_mblk.proofs.arena.Moves.{held_among, out_of_held}
 
 -- ---- heads that are not among some
 

@@ -4,7 +4,6 @@ use Rattle.std.specs.Prelude.{count_by, drop, reverse, slice_get, option_map, ta
 use Rattle.std.proofs.lemmas.Bool.{cases_eq, cases_lt, eq-eqb, ne_eqb}
 use Rattle.std.proofs.lemmas.Bool.Decides.{eqb_tells}
 use Rattle.std.proofs.lemmas.List.{append_assoc, get_or_past, reverse-append}
-use Rattle.std.proofs.lemmas.Option.{same_Some, none-some}
 use Rattle.strm_data.specs.CountedStore.{CountedStore, count_of, without_name}
 use Rattle.strm_data.specs.DataStore.{DataStore, times, with_data_freed}
 use Rattle.strm_data.proofs.Times.{one_if, times-cons}
@@ -15,16 +14,9 @@ use Rattle.strm_mblk.specs.BlocksLayout.{block_at, fields_at, message_of, named_
 use Rattle.strm_mblk.specs.Freeing.{with_block_freed, with_blocks_freed}
 use Rattle.strm_mblk.specs.Messages.{blocks_held, blocks_on}
 use Rattle.strm_mblk.proofs.arena.Counts.{count_by-map}
+use Rattle.strm_mblk.proofs.lists.ListParts.{drop_from}
 use Rattle.strm_mblk.proofs.layout.Rooms.{HasRooms, count_of-set}
 use Rattle.strm_mblk.proofs.layout.Shown.{slice_get-mapped}
-
--- what is left of a list from one place on begins with what stands there
-pub drop_more : {X : Type 0} (ds : List X) (i : ℕ) (d : X) → slice_get ds i ≡ Some d → drop i ds ≡ d ∷ drop (i + 1) ds
-drop_more [] i d is = absurd (none-some d is)
-drop_more (x ∷ ds) zero d is = ap (λ y. y ∷ ds) (same_Some x d is)
-drop_more (x ∷ ds) (suc i) d is =
-    let next : suc (i + 1) ≡ suc i + 1 = omega arith in
-    drop_more ds i d is ∙ ap (λ j. d ∷ drop j (x ∷ ds)) next
 
 -- the data block that a block of a list names
 pub named-get : (fields : List Fields) (ns : List ℕ) (i n : ℕ) → slice_get ns i ≡ Some n → slice_get (named_by fields ns) i ≡ Some (fields_at fields n).data_number
@@ -77,12 +69,12 @@ pub record IsDropping (ds : List ℕ) (i : ℕ) (old s : CountedStore) : Type 0 
 module _ (ds : List ℕ) (i : ℕ) (old s : CountedStore) (dropping : IsDropping ds i old s) (d : ℕ) (is : slice_get ds i ≡ Some d) where
   -- the next data block has a name
   pub next_used : 0 < count_of s d
-  next_used = omega (arith, dropping.named d, ap (times d) (drop_more ds i d is), times-cons d d (drop (i + 1) ds), ap one_if (eq-eqb d d refl))
+  next_used = omega (arith, dropping.named d, ap (times d) (drop_from ds i d is), times-cons d d (drop (i + 1) ds), ap one_if (eq-eqb d d refl))
 
   pub next_dropping : IsDropping ds (i + 1) old (without_name d s)
   next_dropping = record {
-    after = ap (λ xs. with_names_dropped xs s) (sym (drop_more ds i d is)) ∙ dropping.after;
-    named = λ k. omega (arith, dropping.named k, ap (times k) (drop_more ds i d is), times-cons k d (drop (i + 1) ds), named_less s d next_used k);
+    after = ap (λ xs. with_names_dropped xs s) (sym (drop_from ds i d is)) ∙ dropping.after;
+    named = λ k. omega (arith, dropping.named k, ap (times k) (drop_from ds i d is), times-cons k d (drop (i + 1) ds), named_less s d next_used k);
     many = (rooms-less s d).many ∙ dropping.many;
   }
 
@@ -101,8 +93,8 @@ last_one x y is =
       | inr some ↦ ne_eqb x 0 some ∙ sym (ne_eqb y 1 (λ one. some (omega (arith, is, one))))
     ]
 
--- a number joins the front of a list after those behind it
-reverse_onto : (n : ℕ) (ns free : List ℕ) → reverse ns ++ (n ∷ free) ≡ reverse (n ∷ ns) ++ free
+-- an element joins the front of a list after those behind it
+pub reverse_onto : {X : Type 0} (n : X) (ns free : List X) → reverse ns ++ (n ∷ free) ≡ reverse (n ∷ ns) ++ free
 reverse_onto n ns free = sym (ap (λ xs. xs ++ free) (reverse-append (n ∷ []) ns) ∙ append_assoc (reverse ns) (n ∷ []) free)
 
 module _ (id : ℕ) (fields : List Fields) (held : List (Option Message)) (shelves : List (List Message)) where

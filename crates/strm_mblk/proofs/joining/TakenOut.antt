@@ -1,16 +1,11 @@
 -- `rmvb`: a block that isn't the first of a held message is a message of its own.
-use Rattle.std.proofs.Common.{◌≡◌, ◌≢◌, ℕ, zero, suc, ◌+◌, ◌<◌, ◌≤◌, true, List, [], ◌∷◌, ◌++◌, map, length, set, Option, Some, None, Ok, refl, sym, ap, ◌∙◌, subst, inl, inr, get_or-set_same, get_or-set_other, length-set, arith, ◌-◌, Err}
+use Rattle.std.proofs.Common.{◌≡◌, ◌≢◌, ℕ, zero, suc, ◌+◌, ◌<◌, true, List, [], ◌∷◌, ◌++◌, map, length, set, Some, None, Ok, refl, sym, ap, ◌∙◌, subst, get_or-set_same, get_or-set_other, length-set, arith, ◌-◌, Err}
 use Rattle.std.specs.Prelude.{drop, option_map, slice_get, take}
-use Rattle.std.proofs.lemmas.Bool.{cases_eq, cond-true, cond-false, eq-eqb, ne_eqb, not_from_true, not_from_false}
 use Rattle.std.proofs.lemmas.List.{drop-map, length-map, map-append, map-set, set-set, take-map}
-use Rattle.std.proofs.lemmas.Option.{none-some, same_Some}
-use Rattle.strm_links.specs.Rows.{first, without}
-use Rattle.strm_links.specs.Rows as rows
-use Rattle.strm_links.proofs.OneList.{has_get}
+use Rattle.std.proofs.lemmas.Option.{none-some}
+use Rattle.strm_links.specs.Rows.{first}
 use Rattle.strm_data.specs.declared.refusal.Refusal.{Refusal}
 use Rattle.strm_data.specs.CountedStore.{CountedStore}
-use Rattle.strm_data.specs.DataStore.{times}
-use Rattle.strm_data.proofs.Times.{times_here, times_other}
 use Rattle.strm_mblk.specs.declared.blocks.Fields.{Fields}
 use Rattle.strm_mblk.specs.declared.token.TokenValue.{TokenValue}
 use Rattle.strm_mblk.specs.Arena.{Arena, has, held_at, message_at, shelved_blocks}
@@ -22,35 +17,15 @@ use Rattle.strm_mblk.specs.Messages.{blocks_of, held_in}
 use Rattle.strm_mblk.specs.NodeLists.{IsNodesParted, NodeLists, nodes_at}
 use Rattle.strm_mblk.proofs.making.Begun.{first_rest}
 use Rattle.strm_mblk.proofs.freeing.Freemsg.{token_held}
-use Rattle.strm_mblk.proofs.layout.Linked.{beside, block_room, held_room, moved_filled, not_begun, not_head}
-use Rattle.strm_mblk.proofs.links.SetApart.{first-without_other}
-use Rattle.strm_mblk.proofs.layout.Rewriting.{begins_with, times_at}
+use Rattle.strm_mblk.proofs.layout.Linked.{block_room, held_room, moved_filled, not_begun, not_head}
+use Rattle.strm_mblk.proofs.layout.Rewriting.{begins_with}
 use Rattle.strm_mblk.proofs.layout.Shown.{held_at-seen, message_at-seen, slice_get-mapped}
 
--- without a number that doesn't stand in it a list is what it was
-without_none : (n : ℕ) (xs : List ℕ) → times n xs ≡ 0 → without n xs ≡ xs
-without_none n [] none = refl
-without_none n (x ∷ xs) none =
-    elim (cases_eq x n) [
-      | inl same ↦ absurd (omega (arith, none, times_here n x xs same))
-      | inr other ↦ cond-true _ (x ∷ without n xs) (without n xs) (not_from_false _ (ne_eqb x n other)) ∙ ap (λ ys. x ∷ ys) (without_none n xs (omega (arith, none, times_other n x xs other)))
-    ]
-
--- without one that stands at place k, it is what stands before and behind
-without_place : (n : ℕ) (xs : List ℕ) (k : ℕ) → slice_get xs k ≡ Some n → times n xs ≤ 1 → without n xs ≡ take k xs ++ drop (k + 1) xs
-without_place n [] k is once = absurd (none-some n is)
-without_place n (x ∷ xs) zero is once =
-    let same : x ≡ n = same_Some x n is in
-    cond-false _ (x ∷ without n xs) (without n xs) (not_from_true _ (eq-eqb x n same)) ∙ without_none n xs (omega (arith, once, times_here n x xs same))
-without_place n (x ∷ xs) (suc k) is once =
-    let next : suc (k + 1) ≡ suc k + 1 = omega arith in
-    elim (cases_eq x n) [
-      | inl same ↦ absurd (omega (arith, once, times_here n x xs same, times_at n xs k is))
-      | inr other ↦
-          cond-true _ (x ∷ without n xs) (without n xs) (not_from_false _ (ne_eqb x n other))
-          ∙ ap (λ ys. x ∷ ys) (without_place n xs k is (omega (arith, once, times_other n x xs other)))
-          ∙ ap (λ j. x ∷ take k xs ++ drop j (x ∷ xs)) next
-    ]
+-- what stands before a place that isn't the first begins as the list does
+first_kept : (k n : ℕ) (xs ys : List ℕ) → 0 < k → first xs ≡ Some n → first (take k xs ++ ys) ≡ Some n
+first_kept k n [] ys some is = absurd (none-some n is)
+first_kept zero n (x ∷ xs) ys some is = absurd (omega (arith, some))
+first_kept (suc k) n (x ∷ xs) ys some is = is
 
 -- the other lists what was in a once block n, which stands at place k of the message at h, is a message
 pub record IsTakenOut (a : Arena) (s : CountedStore) (fields : List Fields) (w : NodeLists) (id h k n : ℕ) : Type 0 where
@@ -60,21 +35,26 @@ pub record IsTakenOut (a : Arena) (s : CountedStore) (fields : List Fields) (w :
   pub block : held_at (arena_of id s.store fields w) n ≡ Some (message_at (arena_of id s.store fields w) n)
   pub rest : held_at (arena_of id s.store fields w) h ≡ Some (message_at (arena_of id s.store fields w) h)
   pub absent : held_at a n ≡ None
+  pub apart : n ≢ h
 
 module _ (id : ℕ) (s : CountedStore) (fields : List Fields) (v w : NodeLists) (filled : IsFilled s fields v (arena_of id s.store fields v)) (h k n : ℕ)
-    (held : held_in v.held h ≡ Some (nodes_at v h)) (at : slice_get (nodes_at v h) k ≡ Some n) (other : n ≢ h)
-    (w_is : w ≡ record v { held = set (set v.held h (Some (without n (nodes_at v h)))) n (Some (n ∷ [])) }) (parted : IsNodesParted w) where
+    (held : held_in v.held h ≡ Some (nodes_at v h)) (at : slice_get (nodes_at v h) k ≡ Some n) (behind_first : 0 < k)
+    (w_is : w ≡ record v { held = set (set v.held h (Some (take k (nodes_at v h) ++ drop (k + 1) (nodes_at v h)))) n (Some (n ∷ [])) }) (parted : IsNodesParted w) where
   abbrev old : Arena
   old = arena_of id s.store fields v
 
+  other : n ≢ h
+  other = not_head v filled.parted h k n (nodes_at v h) held at (k - 1) (omega (arith, behind_first))
+
+  abbrev others : List ℕ
+  others = take k (nodes_at v h) ++ drop (k + 1) (nodes_at v h)
+
   -- the others begin with the same head
   abbrev behind : List ℕ
-  behind = drop 1 (without n (nodes_at v h))
+  behind = drop 1 others
 
-  others_are : without n (nodes_at v h) ≡ h ∷ behind
-  others_are =
-      first_rest (without n (nodes_at v h)) h
-      (first-without_other h n (nodes_at v h) (λ same. other (sym same)) (begins_with v filled.parted h (nodes_at v h) held))
+  others_are : others ≡ h ∷ behind
+  others_are = first_rest others h (first_kept k h (nodes_at v h) (drop (k + 1) (nodes_at v h)) behind_first (begins_with v filled.parted h (nodes_at v h) held))
 
   lists_are : w ≡ record v { held = set (set v.held h (Some (h ∷ behind))) n (Some (n ∷ [])) }
   lists_are = w_is ∙ ap (λ ns. record v { held = set (set v.held h (Some ns)) n (Some (n ∷ [])) }) others_are
@@ -120,7 +100,7 @@ module _ (id : ℕ) (s : CountedStore) (fields : List Fields) (v w : NodeLists) 
       ap (λ (x : Message). take k x ++ drop (k + 1) x) is
       ∙ (λ i. take-map (block_at fields) k (nodes_at v h) i ++ drop-map (block_at fields) (k + 1) (nodes_at v h) i)
       ∙ sym (map-append (block_at fields) (take k (nodes_at v h)) (drop (k + 1) (nodes_at v h)))
-      ∙ ap (message_of fields) (sym (without_place n (nodes_at v h) k at (omega (arith, beside v filled.parted h k n (nodes_at v h) held at))) ∙ others_are)
+      ∙ ap (message_of fields) others_are
 
   block_seen : slice_get (message_at old h) k ≡ Some (block_at fields n)
   block_seen =
@@ -138,33 +118,20 @@ module _ (id : ℕ) (s : CountedStore) (fields : List Fields) (v w : NodeLists) 
     block = block_held ∙ ap Some (sym (ap blocks_of block_held));
     rest = rest_held ∙ ap Some (sym (ap blocks_of rest_held));
     absent = held_at-seen id s.store fields v n ∙ ap (option_map (message_of fields)) (not_begun v filled.parted h k n (nodes_at v h) held at other);
+    apart = other;
   }
 
 -- ---- as the code finds the block
 
-not_zero : (k : ℕ) → k ≢ 0 → k ≡ suc (k - 1)
-not_zero zero some = absurd (some refl)
-not_zero (suc k) some = omega arith
-
--- block n stands at place k of the message that the token names, and is not its first
+-- block n was at place k of the message that the token names, and isn't its first
 module _ (id : ℕ) (s : CountedStore) (fields : List Fields) (v : NodeLists) (filled : IsFilled s fields v (arena_of id s.store fields v)) (a : Arena) (is : arena_of id s.store fields v ≡ a)
-    (t : TokenValue) (had : has a t ≡ true) (g k n : ℕ) (r : Option ℕ) (same : g ≡ t.head) (found : r ≡ slice_get (nodes_at v g) k) (some : r ≡ Some n) (behind : k ≢ 0) where
-  at_place : slice_get (nodes_at v t.head) k ≡ Some n
-  at_place = ap (λ h. slice_get (nodes_at v h) k) (sym same) ∙ sym found ∙ some
-
-  pub none_first : n ≢ t.head
-  none_first = not_head v filled.parted t.head k n (nodes_at v t.head) (token_held id s fields v a is t t refl had) at_place (k - 1) (not_zero k behind)
-
-  -- it is taken out of the message at e, which is the same
-  module _ (e : ℕ) (e_is : e ≡ t.head) where
-    pub stands_there : rows.has n (nodes_at v e) ≡ true
-    stands_there = has_get (nodes_at v e) k n (ap (λ h. slice_get (nodes_at v h) k) e_is ∙ at_place)
-
-    pub is_taken_out : (w : NodeLists) → w ≡ record v { held = set (set v.held e (Some (without n (nodes_at v e)))) n (Some (n ∷ [])) } → IsNodesParted w → IsTakenOut a s fields w id t.head k n
-    is_taken_out w w_is parted =
-        subst (λ x. IsTakenOut x s fields w id t.head k n) is
-        (takes_out id s fields v w filled t.head k n (token_held id s fields v a is t t refl had) at_place none_first
-        (w_is ∙ ap (λ h. record v { held = set (set v.held h (Some (without n (nodes_at v h)))) n (Some (n ∷ [])) }) e_is) parted)
+    (t : TokenValue) (had : has a t ≡ true) (e k n : ℕ) (e_is : e ≡ t.head) (at : slice_get (nodes_at v e) k ≡ Some n) (behind : 0 < k) where
+  pub is_taken_out : (w : NodeLists) → w ≡ record v { held = set (set v.held e (Some (take k (nodes_at v e) ++ drop (k + 1) (nodes_at v e)))) n (Some (n ∷ [])) } → IsNodesParted w
+      → IsTakenOut a s fields w id t.head k n
+  is_taken_out w w_is parted =
+      subst (λ x. IsTakenOut x s fields w id t.head k n) is
+      (takes_out id s fields v w filled t.head k n (token_held id s fields v a is t t refl had) (ap (λ h. slice_get (nodes_at v h) k) (sym e_is) ∙ at) behind
+      (w_is ∙ ap (λ h. record v { held = set (set v.held h (Some (take k (nodes_at v h) ++ drop (k + 1) (nodes_at v h)))) n (Some (n ∷ [])) }) e_is) parted)
 
 -- what is answered where a call is refused
 pub refused_answer : {V X A : Type 0} (t : TokenValue) (f : X → A) (r : Given V X) (why : Refusal) → r ≡ Err why → Err (record { why = why; token = t }) ≡ or_rejected t (answer_map f (answer_of r))

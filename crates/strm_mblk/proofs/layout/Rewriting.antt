@@ -86,7 +86,7 @@ pub begins_with : (v : NodeLists) → IsNodesParted v → (h : ℕ) (ns : List �
 begins_with v parted h ns held = subst (λ o. IfSome o (λ m. first m ≡ Some h)) held (parted.heads h)
 
 -- so it has a block
-nonempty : {h : ℕ} (xs : List ℕ) → first xs ≡ Some h → 0 < length xs
+pub nonempty : {h : ℕ} (xs : List ℕ) → first xs ≡ Some h → 0 < length xs
 nonempty {h} [] is = absurd (none-some h is)
 nonempty (x ∷ xs) is = omega arith
 

@@ -1,160 +1,121 @@
--- What a contract sees of two arenas of links: message block by message block, and shelf by shelf.
-use Rattle.std.proofs.Common.{◌≡◌, ◌≢◌, ℕ, ◌+◌, ◌<◌, ◌≤◌, true, false, List, [], ◌∷◌, map, length, get_or, set, take, Some, None, IsSome, is_some, refl, sym, ap, ◌∙◌, subst, inl, inr, arith, get_or-set_same, get_or-set_other}
-use Rattle.std.proofs.lemmas.Bool.{cases_eq, cases_lt, cond-true, cond-false, false≢true, false_from_ne_true}
-use Rattle.std.proofs.lemmas.List.{length-map, get_or_past, get_or-map, get_or-take, ext_get_or, length-take-le}
-use Rattle.std.proofs.lemmas.List.FromFn.{fill_by_all, get_or-map-range_with_len, length-map-range_with_len}
-use Rattle.std.proofs.lemmas.Option.{none-some, same_Some}
-use Rattle.strm_links.specs.Rows.{Rows, has, IsApart, first, is_some_of, list_at, holder, linked_nodes}
-use Rattle.strm_links.proofs.OneList.{has_head, has_tail, first_has, is_some_of-same, some_of}
-use Rattle.strm_links.proofs.AllLists.{holder_has, has-holder, All-listed}
-use Rattle.strm_mblk.specs.ChainLayout.{held_chain, nodes_of, IsChained}
-use Rattle.strm_mblk.specs.Messages.{blocks_of, held_in, shelf_in}
-use Rattle.strm_mblk.specs.NodeLists.{NodeLists, head_node, heads_on, nodes_at}
+-- What a contract sees of strands and of heads on shelves: message block by message block, and shelf by shelf.
+use Rattle.std.proofs.Common.{◌≡◌, ℕ, zero, suc, true, false, List, [], ◌∷◌, map, length, get_or, set, Option, Some, None, IsSome, is_some, refl, sym, ap, ◌∙◌, inl, inr, get_or-set_same, get_or-set_other, length-set}
+use Rattle.std.specs.List.{concat}
+use Rattle.std.proofs.lemmas.Bool.{cases_eq, cases_lt, false≢true, false_from_ne_true, or_cases}
+use Rattle.std.proofs.lemmas.List.{ext_get_or, get_or_past, length-map, set_comm, set_past}
+use Rattle.strm_links.specs.Rows.{Rows, has, list_at, holder, linked_nodes}
+use Rattle.strm_links.specs.Held.{held_in}
+use Rattle.strm_links.specs.StrandLists.{StrandLists, strand_at}
+use Rattle.strm_links.proofs.OneList.{absent_parts, has-append, has_cases, has_head, has_tail, number_of}
+use Rattle.strm_links.proofs.AllLists.{holder_has, holder_none, has_linked}
+use Rattle.strm_mblk.specs.ChainLayout.{nodes_of, strands_but}
+use Rattle.strm_mblk.specs.Messages.{shelf_in}
 
--- the chain of the message that begins with a message block
-abbrev pub chain : Rows → ℕ → List ℕ
-chain chains h = list_at h chains
+-- ---- strands without those that begin with some numbers
 
--- ---- lists that are seen alike
+length-but : (hs : List ℕ) (held : List (Option (List ℕ))) → length (strands_but hs held) ≡ length held
+length-but [] held = refl
+length-but (h ∷ hs) held = length-but hs (set held h None) ∙ length-set held h None
+
+none_here : (held : List (Option (List ℕ))) (h : ℕ) → held_in (set held h None) h ≡ None
+none_here held h =
+    elim (cases_lt h (length held)) [
+      | inl within ↦ get_or-set_same held h None None within
+      | inr past ↦ ap (λ xs. held_in xs h) (set_past held h None past) ∙ get_or_past held h None past
+    ]
+
+-- any other strand stays
+but_absent : (k : ℕ) (hs : List ℕ) (held : List (Option (List ℕ))) → has k hs ≡ false → held_in (strands_but hs held) k ≡ held_in held k
+but_absent k [] held off = refl
+but_absent k (h ∷ hs) held off =
+    let parts = absent_parts h k hs off in but_absent k hs (set held h None) parts.1 ∙ get_or-set_other held h k None None (λ same. parts.0 (sym same))
+
+but_none : (k : ℕ) (hs : List ℕ) (held : List (Option (List ℕ))) → held_in held k ≡ None → held_in (strands_but hs held) k ≡ None
+but_none k [] held none = none
+but_none k (h ∷ hs) held none =
+    but_none k hs (set held h None) (elim (cases_eq k h) [
+      | inl same ↦ ap (held_in (set held h None)) same ∙ none_here held h
+      | inr other ↦ get_or-set_other held h k None None other ∙ none
+    ])
+
+-- and these have gone
+but_there : (k : ℕ) (hs : List ℕ) (held : List (Option (List ℕ))) → has k hs ≡ true → held_in (strands_but hs held) k ≡ None
+but_there k [] held on = absurd (false≢true on)
+but_there k (h ∷ hs) held on =
+    elim (has_cases h k hs on) [
+      | inl same ↦ but_none k hs (set held h None) (ap (held_in (set held h None)) (sym same) ∙ none_here held h)
+      | inr later ↦ but_there k hs (set held h None) later
+    ]
+
+-- a strand that is none of these may be replaced before or after
+pub but_set : (h : ℕ) (o : Option (List ℕ)) (hs : List ℕ) (held : List (Option (List ℕ))) → has h hs ≡ false → strands_but hs (set held h o) ≡ set (strands_but hs held) h o
+but_set h o [] held off = refl
+but_set h o (g ∷ hs) held off =
+    let parts = absent_parts g h hs off in ap (strands_but hs) (set_comm held h g o None (λ same. parts.0 (sym same))) ∙ but_set h o hs (set held g None) parts.1
+
+-- ---- numbers that stand on a shelf
+
+listed : (k : ℕ) (lists : List (List ℕ)) → has k (concat lists) ≡ true → (l : ℕ) × (has k (get_or lists l []) ≡ true)
+listed k [] on = absurd (false≢true on)
+listed k (xs ∷ lists) on =
+    elim (or_cases (has k xs) (has k (concat lists)) (sym (has-append k xs (concat lists)) ∙ on)) [
+      | inl here ↦ (0, here)
+      | inr later ↦ let rest = listed k lists later in (suc rest.0, rest.1)
+    ]
+
+-- one that stands on none is not linked
+pub unlinked : (k : ℕ) (heads : Rows) → holder k heads ≡ None → has k (linked_nodes heads) ≡ false
+unlinked k heads none = false_from_ne_true _ (λ on. let at = listed k heads.lists on in false≢true (sym (holder_none k at.0 heads none) ∙ at.1))
+
+linked : (k : ℕ) (heads : Rows) → IsSome (holder k heads) → has k (linked_nodes heads) ≡ true
+linked k heads some = let at = number_of (holder k heads) some in has_linked k at.0 heads.lists (holder_has k at.0 heads at.1).1
 
 -- a function is asked at the members of a list alone
 pub map_members : {X : Type 0} (f g : ℕ → X) (xs : List ℕ) → ((h : ℕ) → has h xs ≡ true → f h ≡ g h) → map f xs ≡ map g xs
 map_members f g [] same = refl
 map_members f g (x ∷ xs) same = λ i. same x (has_head x x xs refl) i ∷ map_members f g xs (λ h there. same h (has_tail x h xs there)) i
 
--- a list with one place set, at each place
-pub at_set : {X : Type 0} (xs : List X) (i j : ℕ) (a d y : X) → i < length xs → (j ≡ i → y ≡ a) → (j ≢ i → y ≡ get_or xs j d) → y ≡ get_or (set xs i a) j d
-at_set xs i j a d y within same other =
-    elim (cases_eq j i) [
-      | inl is ↦ same is ∙ sym (ap (λ k. get_or (set xs i a) k d) is ∙ get_or-set_same xs i a d within)
-      | inr differs ↦ other differs ∙ sym (get_or-set_other xs i j a d differs)
-    ]
+-- ---- what is seen
 
--- ---- what is seen at a message block, and on a shelf
+module _ (v : StrandLists) (heads : Rows) where
+  -- a strand whose head stands on no shelf is held
+  pub held_off : (h : ℕ) → holder h heads ≡ None → held_in (nodes_of v heads).held h ≡ held_in v.held h
+  held_off h off = but_absent h (linked_nodes heads) v.held (unlinked h heads off)
 
--- a head that is on the list of the held ones is seen with its chain
-pub held_on : (s h : ℕ) (chains heads : Rows) → IsApart (linked_nodes heads) → holder h heads ≡ Some s → held_chain s chains heads h ≡ Some (list_at h chains)
-held_on s h chains heads apart is = cond-true _ _ _ (has-holder h s heads apart ∙ is_some_of-same s (holder h heads) is)
+  -- any other number begins no held message
+  pub held_on : (h : ℕ) → IsSome (holder h heads) → held_in (nodes_of v heads).held h ≡ None
+  held_on h on = but_there h (linked_nodes heads) v.held (linked h heads on)
 
--- any other number is seen with none
-pub held_off : (s h : ℕ) (chains heads : Rows) → IsApart (linked_nodes heads) → holder h heads ≢ Some s → held_chain s chains heads h ≡ None
-held_off s h chains heads apart other = cond-false _ _ _ (has-holder h s heads apart ∙ false_from_ne_true _ (λ is. other (some_of s (holder h heads) is)))
-
--- a message block that is held is on the list of those
-pub held_some : (s h : ℕ) (chains heads : Rows) → IsApart (linked_nodes heads) → IsSome (held_chain s chains heads h) → holder h heads ≡ Some s
-held_some s h chains heads apart some =
-    elim (has h (list_at s heads)) as (λ b. has h (list_at s heads) ≡ b → holder h heads ≡ Some s) [
-      | true ↦ λ is. some_of s (holder h heads) (sym (has-holder h s heads apart) ∙ is)
-      | false ↦ λ is. absurd (false≢true (sym (ap is_some (cond-false _ (Some (list_at h chains)) None is)) ∙ some))
-    ] refl
-
--- where neither what holds it nor its chain changes, it is seen as before
-pub held_kept : (s h : ℕ) (chains heads chains' heads' : Rows) → IsApart (linked_nodes heads) → IsApart (linked_nodes heads') → holder h heads' ≡ holder h heads → (holder h heads ≡ Some s → list_at h chains' ≡ list_at h chains)
-    → held_chain s chains' heads' h ≡ held_chain s chains heads h
-held_kept s h chains heads chains' heads' apart apart' same list =
-    elim (has h (list_at s heads)) as (λ b. has h (list_at s heads) ≡ b → held_chain s chains' heads' h ≡ held_chain s chains heads h) [
-      | true ↦ λ is.
-          let held : holder h heads ≡ Some s = some_of s (holder h heads) (sym (has-holder h s heads apart) ∙ is) in
-          held_on s h chains' heads' apart' (same ∙ held) ∙ ap Some (list held) ∙ sym (held_on s h chains heads apart held)
-      | false ↦ λ is.
-          cond-false _ _ _ (has-holder h s heads' apart' ∙ ap (is_some_of s) same ∙ sym (has-holder h s heads apart) ∙ is) ∙ sym (cond-false _ _ _ is)
-    ] refl
-
--- the held messages, number by number
-pub held-get : (n s h : ℕ) (chains heads : Rows) → h < n → held_in (nodes_of n s chains heads).held h ≡ held_chain s chains heads h
-held-get n s h chains heads within = get_or-map-range_with_len (held_chain s chains heads) 0 n h h None within (omega arith)
-
--- as many places as numbers
-pub length-held : (n s : ℕ) (chains heads : Rows) → length (nodes_of n s chains heads).held ≡ n
-length-held n s chains heads = length-map-range_with_len (held_chain s chains heads) 0 n
-
--- and none behind them
-pub held-past : (n s h : ℕ) (chains heads : Rows) → n ≤ h → held_in (nodes_of n s chains heads).held h ≡ None
-held-past n s h chains heads past = get_or_past (nodes_of n s chains heads).held h None (omega (arith, length-held n s chains heads))
-
--- as many shelves as there are
-pub length-shelves : (n s : ℕ) (chains heads : Rows) → length heads.lists ≡ s + 1 → length (nodes_of n s chains heads).shelves ≡ s
-length-shelves n s chains heads long = length-map (take s heads.lists) (map (chain chains)) ∙ length-take-le s heads.lists (omega arith)
-
--- the messages on a shelf
-pub shelf-get : (n s k : ℕ) (chains heads : Rows) → length heads.lists ≡ s + 1 → k < s → shelf_in (nodes_of n s chains heads).shelves k ≡ map (chain chains) (list_at k heads)
-shelf-get n s k chains heads long within =
-    get_or-map (map (chain chains)) (take s heads.lists) k [] [] (omega (arith, length-take-le s heads.lists (omega arith)))
-    ∙ ap (map (chain chains)) (get_or-take s heads.lists k [] within)
-
--- and none behind the shelves
-pub shelf-past : (n s k : ℕ) (chains heads : Rows) → length heads.lists ≡ s + 1 → s ≤ k → shelf_in (nodes_of n s chains heads).shelves k ≡ []
-shelf-past n s k chains heads long past = get_or_past (nodes_of n s chains heads).shelves k [] (omega (arith, length-shelves n s chains heads long))
-
--- a value is what is seen where it has the same free numbers, the same at each number, and the same on each shelf
-pub seen_as : (n s : ℕ) (chains heads : Rows) (v : NodeLists) → length heads.lists ≡ s + 1 → list_at n chains ≡ v.free → length v.held ≡ n
-    → ((h : ℕ) → h < n → held_chain s chains heads h ≡ held_in v.held h) → length v.shelves ≡ s
-    → ((k : ℕ) → k < s → map (chain chains) (list_at k heads) ≡ shelf_in v.shelves k) → nodes_of n s chains heads ≡ v
-seen_as n s chains heads v long free held_len held shelves_len shelves =
-    let helds : (nodes_of n s chains heads).held ≡ v.held = sym (fill_by_all (held_chain s chains heads) v.held n None held_len (λ h within. sym (held h within))) in
-    let shelved : (nodes_of n s chains heads).shelves ≡ v.shelves =
-    ext_get_or [] (nodes_of n s chains heads).shelves v.shelves (length-shelves n s chains heads long ∙ sym shelves_len)
-    (λ k within. let inside : k < s = omega (arith, length-shelves n s chains heads long) in shelf-get n s k chains heads long inside ∙ shelves k inside) in
-    λ i. record { free = free i; held = helds i; shelves = shelved i }
-
--- ---- what the layout says
-
-module _ (n s : ℕ) (chains heads : Rows) (laid : IsChained n s chains heads) where
-  -- a message block in some chain, or free, is one of all
-  pub chained_below : (x l : ℕ) → holder x chains ≡ Some l → x < n
-  chained_below x l is = omega (arith, laid.chain_nodes, All-listed (λ k. k < chains.nodes) x l chains.lists laid.chains_parting.within (holder_has x l chains is).1)
-
-  -- and so is a head
-  pub head_below : (x l : ℕ) → holder x heads ≡ Some l → x < n
-  head_below x l is = omega (arith, laid.head_nodes, All-listed (λ k. k < heads.nodes) x l heads.lists laid.heads_parting.within (holder_has x l heads is).1)
-
-  -- a head stands in its own chain
-  pub head_holds : (x j : ℕ) → holder x heads ≡ Some j → holder x chains ≡ Some x
-  head_holds x j is =
-      some_of x (holder x chains) (sym (has-holder x x chains laid.chains_parting.apart) ∙ first_has (list_at x chains) x (is_some_of-same x (first (list_at x chains)) (laid.begun x j is)))
-
-  -- so what stands in another is none
-  pub no_head : (x l : ℕ) → holder x chains ≡ Some l → l ≢ x → holder x heads ≡ None
-  no_head x l is other =
-      elim (holder x heads) as (λ o. holder x heads ≡ o → holder x heads ≡ None) [
+  -- what is held stands on no shelf
+  pub off_shelf : (h : ℕ) → IsSome (held_in (nodes_of v heads).held h) → holder h heads ≡ None
+  off_shelf h some =
+      elim (holder h heads) as (λ o. holder h heads ≡ o → holder h heads ≡ None) [
         | None ↦ λ none. none
-        | Some j ↦ λ some. absurd (other (same_Some l x (sym is ∙ head_holds x j some)))
+        | Some s ↦ λ on. absurd (false≢true (sym (ap is_some (held_on h (ap is_some on))) ∙ some))
       ] refl
 
-  -- and has no chain of its own
-  pub no_chain : (x l : ℕ) → holder x chains ≡ Some l → l ≢ x → list_at x chains ≡ []
-  no_chain x l is other = laid.idle x (chained_below x l is) (no_head x l is other)
+  -- as many places as numbers, and as many shelves as lists of heads
+  pub length-held : length (nodes_of v heads).held ≡ length v.held
+  length-held = length-but (linked_nodes heads) v.held
 
-  -- what is on a shelf, or held, is on that list of heads
-  pub on_list : (x k : ℕ) → has x (list_at k heads) ≡ true → holder x heads ≡ Some k
-  on_list x k there = some_of k (holder x heads) (sym (has-holder x k heads laid.heads_parting.apart) ∙ there)
+  pub length-shelves : length (nodes_of v heads).shelves ≡ length heads.lists
+  length-shelves = length-map heads.lists (map (strand_at v))
 
-  -- the number that the message of a head begins with
-  pub head_node-chain : (x k : ℕ) → holder x heads ≡ Some k → head_node (list_at x chains) ≡ x
-  head_node-chain x k is = first_node (list_at x chains) x (laid.begun x k is)
+  -- the messages on a shelf
+  pub shelf-get : (s : ℕ) → shelf_in (nodes_of v heads).shelves s ≡ map (strand_at v) (list_at s heads)
+  shelf-get s = by_place heads.lists s
     where
-      first_node : (xs : List ℕ) (x : ℕ) → first xs ≡ Some x → get_or xs 0 0 ≡ x
-      first_node [] x is = absurd (none-some x is)
-      first_node (y ∷ ys) x is = same_Some y x is
+      by_place : (lists : List (List ℕ)) (k : ℕ) → get_or (map (map (strand_at v)) lists) k [] ≡ map (strand_at v) (get_or lists k [])
+      by_place [] k = refl
+      by_place (xs ∷ lists) zero = refl
+      by_place (xs ∷ lists) (suc k) = by_place lists k
 
-  -- the heads on a shelf are those of its list
-  pub heads_seen : (k : ℕ) → k < s → heads_on (nodes_of n s chains heads) k ≡ list_at k heads
-  heads_seen k within =
-      ap (map head_node) (shelf-get n s k chains heads laid.head_lists within)
-      ∙ heads_of (list_at k heads) (λ x there. head_node-chain x k (on_list x k there))
-    where
-      heads_of : (xs : List ℕ) → ((x : ℕ) → has x xs ≡ true → head_node (list_at x chains) ≡ x) → map head_node (map (chain chains) xs) ≡ xs
-      heads_of [] each = refl
-      heads_of (x ∷ xs) each = λ i. each x (has_head x x xs refl) i ∷ heads_of xs (λ y there. each y (has_tail x y xs there)) i
-
-  -- a message that is seen as held is on the list of those, and seen with its chain
-  pub held_is : (h : ℕ) → IsSome (held_in (nodes_of n s chains heads).held h) → holder h heads ≡ Some s
-  held_is h some =
-      elim (cases_lt h n) [
-        | inl within ↦ held_some s h chains heads laid.heads_parting.apart (subst IsSome (held-get n s h chains heads within) some)
-        | inr past ↦ absurd (false≢true (sym (ap is_some (held-past n s h chains heads past)) ∙ some))
-      ]
-
-  -- the numbers of a held message are its chain
-  pub nodes_held : (h : ℕ) → holder h heads ≡ Some s → nodes_at (nodes_of n s chains heads) h ≡ list_at h chains
-  nodes_held h is = ap blocks_of (held-get n s h chains heads (head_below h s is) ∙ held_on s h chains heads laid.heads_parting.apart is)
+  -- what is held is this, where it is so number by number
+  pub held_as : (w : List (Option (List ℕ))) → length w ≡ length v.held → ((h : ℕ) → holder h heads ≡ None → held_in w h ≡ held_in v.held h) → ((h : ℕ) → IsSome (holder h heads) → held_in w h ≡ None)
+      → (nodes_of v heads).held ≡ w
+  held_as w long off on =
+      ext_get_or None (nodes_of v heads).held w (length-held ∙ sym long) (λ h within.
+        elim (holder h heads) as (λ o. holder h heads ≡ o → held_in (nodes_of v heads).held h ≡ held_in w h) [
+          | None ↦ λ none. held_off h none ∙ sym (off h none)
+          | Some s ↦ λ some. held_on h (ap is_some some) ∙ sym (on h (ap is_some some))
+        ] refl)

@@ -11,7 +11,7 @@ use Rattle.strm_data.proofs.Times.{one_if, times-append, times-cons}
 use Rattle.strm_mblk.specs.Messages.{blocks_held, blocks_of, blocks_on, held_in, joined}
 use Rattle.strm_mblk.specs.NodeLists.{IsNodesParted, NodeLists, after_begin}
 use Rattle.strm_mblk.proofs.arena.Counts.{count_adds, flat_map-set_adds}
-use Rattle.strm_mblk.proofs.freeing.Dropping.{drop_more}
+use Rattle.strm_mblk.proofs.lists.ListParts.{drop_from}
 use Rattle.strm_mblk.proofs.arena.Moves.{in_range, one_most}
 use Rattle.strm_mblk.proofs.layout.Rewriting.{begins_with, times_at}
 use Rattle.strm_mblk.proofs.altering.Setband.{at_first}
@@ -51,7 +51,7 @@ module _ (v w : NodeLists) (h k : ℕ) (begun : first v.free ≡ Some h) (room :
   n = get_or v.free k 0
 
   rest_is : drop k v.free ≡ n ∷ drop (k + 1) v.free
-  rest_is = drop_more v.free k n (slice_get-get_or v.free k 0 more)
+  rest_is = drop_from v.free k n (slice_get-get_or v.free k 0 more)
 
   free_is : w.free ≡ n ∷ drop (k + 1) v.free
   free_is = ap (λ (l : NodeLists). l.free) w_is ∙ rest_is

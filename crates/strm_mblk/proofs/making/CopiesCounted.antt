@@ -15,7 +15,8 @@ use Rattle.strm_mblk.specs.Block.{Block, bytes_of_block, kind_of}
 use Rattle.strm_mblk.specs.BlockCalls.{copied_into, copies}
 use Rattle.strm_mblk.specs.declared.blocks.Fields.{Fields}
 use Rattle.strm_mblk.specs.BlocksLayout.{block_at, message_of}
-use Rattle.strm_mblk.proofs.freeing.Dropping.{drop_more, slice_get-take}
+use Rattle.strm_mblk.proofs.freeing.Dropping.{slice_get-take}
+use Rattle.strm_mblk.proofs.lists.ListParts.{drop_from}
 use Rattle.strm_mblk.proofs.layout.Shown.{slice_get-mapped}
 use Rattle.std.specs.Prelude.{nat_le, option_map, slice_get}
 use Rattle.strm_mblk.specs.Copying.{AreLeft, IsLeft, with_copy}
@@ -56,7 +57,7 @@ in_front_more made b (Err why) = refl
 pub next_block : (fields : List Fields) (ns : List ℕ) (count i n : ℕ) → i < count → slice_get ns i ≡ Some n
     → drop i (take count (message_of fields ns)) ≡ block_at fields n ∷ drop (i + 1) (take count (message_of fields ns))
 next_block fields ns count i n below is =
-    drop_more (take count (message_of fields ns)) i (block_at fields n)
+    drop_from (take count (message_of fields ns)) i (block_at fields n)
     (slice_get-take count i (message_of fields ns) below ∙ slice_get-mapped (block_at fields) ns i ∙ ap (option_map (block_at fields)) is)
 
 -- the copies so far are `made`, in store t, and b is to be copied next

@@ -5,7 +5,7 @@ use Rattle.std.proofs.lemmas.List.{drop_all}
 use Rattle.strm_data.specs.DataStore.{times}
 use Rattle.strm_mblk.specs.declared.blocks.Fields.{Fields}
 use Rattle.strm_mblk.specs.BlocksLayout.{fields_at, no_fields, with_fields}
-use Rattle.strm_mblk.proofs.freeing.Dropping.{drop_more}
+use Rattle.strm_mblk.proofs.lists.ListParts.{drop_from}
 use Rattle.strm_mblk.proofs.layout.Rewriting.{times_at}
 
 -- what the loop keeps while the blocks `to` come to say what the blocks `from` say, from place i on
@@ -22,7 +22,7 @@ module _ (from to : List ℕ) (i : ℕ) (old now : List Fields) (copying : IsCop
   next_copying r w read written apart = record {
     after =
         ap (λ x. with_fields (drop (i + 1) to) (map (fields_at old) (drop (i + 1) from)) (set now w x)) (copying.others r apart)
-        ∙ (λ j. with_fields (sym (drop_more to i w written) j) (map (fields_at old) (sym (drop_more from i r read) j)) now)
+        ∙ (λ j. with_fields (sym (drop_from to i w written) j) (map (fields_at old) (sym (drop_from from i r read) j)) now)
         ∙ copying.after;
     others = λ k none.
         get_or-set_other now w k (fields_at now r) no_fields (λ same. absurd (omega (arith, none, times_at w to i written, ap (λ j. times j to) same)))

@@ -1,11 +1,8 @@
 -- The second block of a held message is freed.
-use Rattle.std.proofs.Common.{◌≡◌, ◌≢◌, ℕ, ◌<◌, List, [], ◌∷◌, ◌++◌, length, set, Option, Some, None, Ok, true, refl, sym, ap, ◌∙◌, arith, get_or-set_same, get_or-set_other, length-set}
+use Rattle.std.proofs.Common.{◌≡◌, ◌≢◌, ℕ, ◌<◌, List, [], ◌∷◌, ◌++◌, length, set, Option, Some, None, Ok, refl, sym, ap, ◌∙◌, arith, get_or-set_same, get_or-set_other, length-set}
 use Rattle.std.specs.Prelude.{drop, option_map, reverse, slice_get, take}
 use Rattle.std.proofs.lemmas.List.{length-map, set-get_or, set-set}
-use Rattle.std.proofs.lemmas.Option.{none-some}
-use Rattle.strm_links.specs.Rows.{first, without}
-use Rattle.strm_links.specs.Rows as rows
-use Rattle.strm_links.proofs.OneList.{has_get}
+use Rattle.std.proofs.lemmas.Option.{none-some, same_Some}
 use Rattle.strm_data.specs.CountedStore.{CountedStore, IsKept, count_of, without_name}
 use Rattle.strm_data.specs.DataStore.{times}
 use Rattle.strm_data.proofs.Times.{times_here}
@@ -93,24 +90,24 @@ module _ (id : ℕ) (s : CountedStore) (fields : List Fields) (v : NodeLists) (f
       is_second (sym (numbers-get fields (nodes_at v h) 1) ∙ ap (λ m. option_map (λ b. b.number) (slice_get m 1)) (sym (message_at-seen id s.store fields v h)) ∙ ap (λ x. option_map (λ b. b.number) (slice_get (message_at x h) 1)) is ∙ seen)
 
   module _ (is : IsSecond fields v h n) where
-    pub has_second : rows.has n (nodes_at v h) ≡ true
-    has_second = has_get (nodes_at v h) 1 n is.at
-
     room : n < length v.held
     room = block_room v filled.parted h 1 n (nodes_at v h) is.held is.at
 
-    module _ (u : NodeLists) (u_is : u ≡ record v { held = set (set v.held h (Some (without n (nodes_at v h)))) n (Some (n ∷ [])) }) (u_parted : IsNodesParted u) where
+    module _ (u : NodeLists) (m : ℕ) (at : slice_get (nodes_at v h) 1 ≡ Some m) (u_is : u ≡ record v { held = set (set v.held h (Some (take 1 (nodes_at v h) ++ drop 2 (nodes_at v h)))) m (Some (m ∷ [])) }) (u_parted : IsNodesParted u) where
+      now : u ≡ record v { held = set (set v.held h (Some (take 1 (nodes_at v h) ++ drop 2 (nodes_at v h)))) n (Some (n ∷ [])) }
+      now = u_is ∙ ap (λ k. record v { held = set (set v.held h (Some (take 1 (nodes_at v h) ++ drop 2 (nodes_at v h)))) k (Some (k ∷ [])) }) (same_Some m n (sym at ∙ is.at))
+
       -- once it was taken out, it is a message
       pub lone : held_in u.held n ≡ Some (n ∷ [])
       lone =
-          ap (λ (l : NodeLists). held_in l.held n) u_is
-          ∙ get_or-set_same (set v.held h (Some (without n (nodes_at v h)))) n (Some (n ∷ [])) None (omega (arith, room, length-set v.held h (Some (without n (nodes_at v h)))))
+          ap (λ (l : NodeLists). held_in l.held n) now
+          ∙ get_or-set_same (set v.held h (Some (take 1 (nodes_at v h) ++ drop 2 (nodes_at v h)))) n (Some (n ∷ [])) None (omega (arith, room, length-set v.held h (Some (take 1 (nodes_at v h) ++ drop 2 (nodes_at v h)))))
 
       lone_nodes : nodes_at u n ≡ n ∷ []
       lone_nodes = ap blocks_of lone
 
       out : IsTakenOut old s fields u id h 1 n
-      out = takes_out id s fields v u filled h 1 n is.held is.at is.behind u_is u_parted
+      out = takes_out id s fields v u filled h 1 n is.held is.at (omega arith) now u_parted
 
       -- its data block has a name
       pub second_used : 0 < count_of s (fields_at fields n).data_number

@@ -1,5 +1,5 @@
 -- The lengths of a held message's blocks, summed up one by one.
-use Rattle.std.proofs.Common.{◌≡◌, ℕ, ◌+◌, ◌*◌, ◌≤◌, Bool, true, false, List, [], ◌∷◌, drop, length, Some, None, ap, arith}
+use Rattle.std.proofs.Common.{◌≡◌, ℕ, ◌+◌, ◌*◌, ◌^◌, ◌<◌, ◌≤◌, Bool, true, false, List, [], ◌∷◌, drop, length, Some, None, ap, ◌∙◌, arith}
 use Rattle.std.specs.Prelude.{slice_get, sum_by, not, ◌||◌, if◌then◌else◌}
 use Rattle.strm_data.specs.declared.msg_type.MsgType.TheVariants.{MData}
 use Rattle.strm_data.specs.MsgType.{same_kind}
@@ -10,16 +10,17 @@ use Rattle.strm_data.specs.CountedStore.{CountedStore}
 use Rattle.strm_data.specs.Limits.{most_data_block_bytes}
 use Rattle.strm_mblk.specs.declared.blocks.Fields.{Fields}
 use Rattle.strm_mblk.specs.declared.token.TokenValue.{TokenValue}
-use Rattle.strm_mblk.specs.Arena.{has, message_at}
-use Rattle.strm_mblk.specs.BlocksLayout.{IsFilled, arena_of, block_at}
+use Rattle.strm_mblk.specs.Arena.{Arena, has, message_at}
+use Rattle.strm_mblk.specs.BlocksLayout.{IsFilled, arena_of, block_at, message_of}
 use Rattle.strm_mblk.specs.Messages.{blocks_of}
-use Rattle.strm_mblk.specs.NodeLists.{NodeLists}
+use Rattle.strm_mblk.specs.NodeLists.{NodeLists, nodes_at}
 use Rattle.strm_mblk.proofs.arena.Counts.{flat_map-set_adds, length_adds}
 use Rattle.strm_mblk.proofs.shelving.HeadSize.{len_most, size_most}
 use Rattle.strm_mblk.proofs.lists.ListParts.{drop_from, drop_past}
 use Rattle.strm_mblk.proofs.layout.Lawful.{all_there}
 use Rattle.strm_mblk.proofs.arena.Moves.{held_within}
 use Rattle.strm_mblk.proofs.layout.Rewriting.{held_nodes}
+use Rattle.strm_mblk.proofs.layout.Shown.{message_at-seen}
 use Rattle.strm_mblk.proofs.arena.Tokens.{had_message}
 use Rattle.strm_mblk.specs.Block.{Block, Message, kind_of, len_counted, size_of}
 use Rattle.strm_mblk.specs.Limits.{most_message_blocks}
@@ -70,4 +71,14 @@ message_small id s fields v filled t is =
       all_there id s fields v filled,
       filled.few,
       filled.listed,
+    )
+
+-- and so they are counted in 32 bits
+pub nodes_small : (id : ℕ) (s : CountedStore) (fields : List Fields) (v : NodeLists) → IsFilled s fields v (arena_of id s.store fields v) → (a : Arena) → arena_of id s.store fields v ≡ a → (t : TokenValue) → has a t ≡ true
+    → size_of (message_of fields (nodes_at v t.head)) < 2 ^ 32
+nodes_small id s fields v filled a is t had =
+    omega (
+      arith,
+      message_small id s fields v filled t (ap (λ x. has x t) is ∙ had),
+      ap size_of (message_at-seen id s.store fields v t.head),
     )

@@ -1,29 +1,26 @@
 -- Message blocks that lose bytes, one after the other.
-use Rattle.std.proofs.Common.{◌≡◌, ℕ, ◌+◌, ◌-◌, ◌^◌, ◌<◌, ◌≤◌, min, Bool, true, false, List, [], ◌∷◌, length, set, Some, refl, sym, ap, ◌∙◌, subst, inl, inr, arith, if◌then◌else◌, get_or-set_same, get_or-set_other, length-set}
+use Rattle.std.proofs.Common.{◌≡◌, ℕ, zero, suc, ◌+◌, ◌-◌, ◌^◌, ◌<◌, ◌≤◌, min, Bool, true, false, List, [], ◌∷◌, ◌++◌, length, reverse, take, set, Some, refl, sym, ap, ◌∙◌, subst, inl, inr, arith, if◌then◌else◌, get_or-set_same, get_or-set_other, length-set}
 use Rattle.std.specs.Prelude.{drop, slice_get}
 use Rattle.std.proofs.lemmas.Bool.{cases_eq, cases_lt}
-use Rattle.std.proofs.lemmas.List.{set-get_or, set_past}
+use Rattle.std.proofs.lemmas.List.{reverse-append, set-get_or, set_past}
+use Rattle.std.proofs.lemmas.List.Sums.{sum_by-append}
 use Rattle.strm_data.specs.DataStore.{DataStore, times}
 use Rattle.strm_data.proofs.Times.{times-cons, times_here}
 use Rattle.strm_mblk.specs.declared.blocks.Fields.{Fields}
-use Rattle.strm_mblk.specs.Block.{Block}
-use Rattle.strm_mblk.specs.BlocksLayout.{IsPlaced, block_at, block_of, fields_at, fields_cut, message_of, no_fields, with_bytes_cut}
+use Rattle.strm_mblk.specs.Block.{Block, size_of}
+use Rattle.strm_mblk.specs.BlocksLayout.{IsPlaced, block_at, block_of, fields_at, message_of, no_fields}
+use Rattle.strm_mblk.specs.Cutting.{fields_cut, with_bytes_cut}
 use Rattle.strm_mblk.specs.Trimming.{cut_back, cut_front}
 use Rattle.strm_mblk.proofs.making.Begun.{alike_off}
-use Rattle.strm_mblk.proofs.freeing.Dropping.{drop_more}
+use Rattle.strm_mblk.proofs.lists.ListParts.{drop_from}
 use Rattle.strm_mblk.proofs.layout.Shown.{message-alike}
+use Rattle.strm_mblk.proofs.trimming.Runs.{size_front}
 
 -- ---- one block
 
 -- no bytes are lost
-cut_nothing : (from_tail : Bool) (f : Fields) → fields_cut from_tail 0 f ≡ f
-cut_nothing from_tail f =
-    let end : f.len - 0 ≡ f.len = omega arith in
-    λ i. record f { offset = start from_tail i; len = end i }
-  where
-    start : (t : Bool) → (if t then f.offset else f.offset + min 0 f.len) ≡ f.offset
-    start true = refl
-    start false = omega arith
+cut_nothing : (f : Fields) → fields_cut false 0 f ≡ f
+cut_nothing f = λ i. record f { offset = (let e : f.offset + min 0 f.len ≡ f.offset = omega arith in e) i; len = (let e : f.len - 0 ≡ f.len = omega arith in e) i }
 
 -- the write place is no further than it was
 cut_least : (from_tail : Bool) (n : ℕ) (f : Fields) → (fields_cut from_tail n f).offset + (fields_cut from_tail n f).len ≤ f.offset + f.len
@@ -52,30 +49,66 @@ module _ (P : ℕ → Fields → Type 0) (from_tail : Bool) (stays : (n k : ℕ)
 
 -- ---- one step of the loop
 
--- once no bytes are left, the others stay
-pub cut_none : (from_tail : Bool) (ks : List ℕ) (fields : List Fields) → with_bytes_cut from_tail 0 ks fields ≡ fields
-cut_none from_tail [] fields = refl
-cut_none from_tail (k ∷ ks) fields =
+-- once no bytes are left at the head, the others stay
+pub cut_none : (ks : List ℕ) (fields : List Fields) → with_bytes_cut false 0 ks fields ≡ fields
+cut_none [] fields = refl
+cut_none (k ∷ ks) fields =
     let none : 0 - (fields_at fields k).len ≡ 0 = omega arith in
-    (λ i. with_bytes_cut from_tail (none i) ks ((ap (set fields k) (cut_nothing from_tail (fields_at fields k)) ∙ set-get_or fields k no_fields) i)) ∙ cut_none from_tail ks fields
+    (λ i. with_bytes_cut false (none i) ks ((ap (set fields k) (cut_nothing (fields_at fields k)) ∙ set-get_or fields k no_fields) i)) ∙ cut_none ks fields
 
--- what the loop keeps while it cuts the blocks `ks`, from place i on, with `left` bytes left to cut
-pub record IsCutting (from_tail : Bool) (bytes : ℕ) (ks : List ℕ) (i left : ℕ) (old now : List Fields) : Type 0 where
-  pub after : with_bytes_cut from_tail left (drop i ks) now ≡ with_bytes_cut from_tail bytes ks old
-  pub many : length now ≡ length old
-  pub small : (n : ℕ) → n < length now → (fields_at now n).offset + (fields_at now n).len < 2 ^ 32
+-- at the tail, blocks that stand before the cut stay
+pub cut_ahead : (i n : ℕ) (ks : List ℕ) (fields : List Fields) → with_bytes_cut true (size_of (message_of fields (take i ks)) + n) ks fields ≡ with_bytes_cut true n (drop i ks) fields
+cut_ahead zero n ks fields = ap (λ m. with_bytes_cut true m ks fields) (let e : 0 + n ≡ n = omega arith in e)
+cut_ahead (suc i) n [] fields = refl
+cut_ahead (suc i) n (k ∷ ks) fields =
+    let f = fields_at fields k in
+    let ahead = size_of (message_of fields (take i ks)) in
+    let all : size_of (message_of fields (k ∷ take i ks)) ≡ f.len + ahead = size_front (block_at fields k) (message_of fields (take i ks)) in
+    let more : size_of (message_of fields (k ∷ take i ks)) + n - f.len ≡ ahead + n = omega (arith, all) in
+    let whole : min (size_of (message_of fields (k ∷ take i ks)) + n) f.len ≡ f.len = omega (arith, all) in
+    (λ j. with_bytes_cut true (more j) ks ((ap (λ len. set fields k (record f { len = len })) whole ∙ set-get_or fields k no_fields) j)) ∙ cut_ahead i n ks fields
 
-pub next_cutting : (from_tail : Bool) (bytes : ℕ) (ks : List ℕ) (i left : ℕ) (old now : List Fields) → IsCutting from_tail bytes ks i left old now → (k : ℕ) → slice_get ks i ≡ Some k
-    → IsCutting from_tail bytes ks (i + 1) (left - (fields_at now k).len) old (set now k (fields_cut from_tail left (fields_at now k)))
-next_cutting from_tail bytes ks i left old now cutting k is = record {
-  after = ap (λ js. with_bytes_cut from_tail left js now) (sym (drop_more ks i k is)) ∙ cutting.after;
-  many = length-set now k (fields_cut from_tail left (fields_at now k)) ∙ cutting.many;
-  small = λ n within.
-      cut_one (λ j f. j < length now → f.offset + f.len < 2 ^ 32) from_tail (λ m j f low inside. omega (arith, low inside, cut_least from_tail m f)) left k now cutting.small n
-      (omega (arith, within, length-set now k (fields_cut from_tail left (fields_at now k))));
-}
+-- the next block is cut, and those behind it are left
+pub cut_next : (from_tail : Bool) (n : ℕ) (ks : List ℕ) (i k : ℕ) (fields : List Fields) → slice_get ks i ≡ Some k
+    → with_bytes_cut from_tail (n - (fields_at fields k).len) (drop (i + 1) ks) (set fields k (fields_cut from_tail n (fields_at fields k))) ≡ with_bytes_cut from_tail n (drop i ks) fields
+cut_next from_tail n ks i k fields is = ap (λ js. with_bytes_cut from_tail n js fields) (sym (drop_from ks i k is))
+
+-- places that are small stay so
+pub cut_small : (from_tail : Bool) (n k : ℕ) (fields : List Fields) → ((j : ℕ) → j < length fields → (fields_at fields j).offset + (fields_at fields j).len < 2 ^ 32) → (x : Fields) → x ≡ fields_cut from_tail n (fields_at fields k)
+    → (j : ℕ) → j < length (set fields k x) → (fields_at (set fields k x) j).offset + (fields_at (set fields k x) j).len < 2 ^ 32
+cut_small from_tail n k fields small x is j within =
+    subst (λ y. (fields_at (set fields k y) j).offset + (fields_at (set fields k y) j).len < 2 ^ 32) (sym is)
+    (cut_one (λ i f. i < length fields → f.offset + f.len < 2 ^ 32) from_tail (λ m i f low inside. omega (arith, low inside, cut_least from_tail m f)) n k fields small j (omega (arith, within, length-set fields k x)))
 
 -- ---- all of a message
+
+-- the blocks with only their first n bytes
+abbrev keep_front : ℕ → List Block → List Block
+keep_front n [] = []
+keep_front n (b ∷ bs) = record b { len = min n b.len } ∷ keep_front (n - b.len) bs
+
+-- what is cut from the last to the first, where one more stands behind
+cut_back-push : (n : ℕ) (bs : List Block) (b : Block) → cut_back n (bs ++ b ∷ []) ≡ cut_back n bs ++ record b { len = b.len - (n - size_of bs) } ∷ []
+cut_back-push n [] b = ap (λ m. record b { len = b.len - m } ∷ []) (let e : n ≡ n - 0 = omega arith in e)
+cut_back-push n (x ∷ bs) b =
+    let rest : n - x.len - size_of bs ≡ n - size_of (x ∷ bs) = omega (arith, size_front x bs) in
+    ap (λ ys. record x { len = x.len - n } ∷ ys) (cut_back-push (n - x.len) bs b ∙ ap (λ m. cut_back (n - x.len) bs ++ record b { len = b.len - m } ∷ []) rest)
+
+-- without the last n bytes there are all but n from the front on
+pub cut_back-keeps : (n : ℕ) (m : List Block) → reverse (cut_back n (reverse m)) ≡ keep_front (size_of m - n) m
+cut_back-keeps n [] = refl
+cut_back-keeps n (b ∷ m) =
+    let S = size_of (reverse m) in
+    let same : S ≡ size_of m = reverse_size m in
+    let here : b.len - (n - S) ≡ min (size_of (b ∷ m) - n) b.len = omega (arith, same, size_front b m) in
+    let rest : size_of m - n ≡ size_of (b ∷ m) - n - b.len = omega (arith, size_front b m) in
+    ap (λ xs. reverse (cut_back n xs)) (reverse-append (b ∷ []) m) ∙ ap reverse (cut_back-push n (reverse m) b)
+    ∙ reverse-append (cut_back n (reverse m)) (record b { len = b.len - (n - S) } ∷ [])
+    ∙ (λ i. record b { len = here i } ∷ (cut_back-keeps n m ∙ ap (λ k. keep_front k m) rest) i)
+  where
+    reverse_size : (xs : List Block) → size_of (reverse xs) ≡ size_of xs
+    reverse_size [] = refl
+    reverse_size (x ∷ xs) = omega (arith, ap size_of (reverse-append (x ∷ []) xs), sum_by-append (λ (c : Block). c.len) (reverse xs) (x ∷ []), size_front x [], size_front x xs, reverse_size xs)
 
 module _ (from_tail : Bool) where
   pub length-cut : (ks : List ℕ) (n : ℕ) (fields : List Fields) → length (with_bytes_cut from_tail n ks fields) ≡ length fields
@@ -106,15 +139,15 @@ module _ (from_tail : Bool) where
         | inr other ↦ cut_apart ks (n - (fields_at fields k).len) (set fields k x) j (omega (arith, none, times-cons j k ks)) ∙ get_or-set_other fields k j x no_fields other
       ]
 
-  -- the blocks of a message without n bytes, from the side that they are listed from
+  -- the blocks of a message without its first n bytes, or with only those
   abbrev pub cut_along : ℕ → List Block → List Block
-  cut_along n bs = if from_tail then cut_back n bs else cut_front n bs
+  cut_along n bs = if from_tail then keep_front n bs else cut_front n bs
 
   pub message_cut : (ks : List ℕ) (n : ℕ) (fields : List Fields) → ((j : ℕ) → times j ks ≤ 1) → ((j : ℕ) → 0 < times j ks → j < length fields)
       → message_of (with_bytes_cut from_tail n ks fields) ks ≡ cut_along n (message_of fields ks)
   message_cut [] n fields once there = along_none from_tail
     where
-      along_none : (t : Bool) → [] ≡ (if t then cut_back n [] else cut_front n [])
+      along_none : (t : Bool) → [] ≡ (if t then keep_front n [] else cut_front n [])
       along_none true = refl
       along_none false = refl
   message_cut (k ∷ ks) n fields once there =
@@ -129,7 +162,7 @@ module _ (from_tail : Bool) where
       (λ i. block_of k (here i) ∷ rest i) ∙ along_one from_tail (message_of fields ks)
     where
       along_one : (t : Bool) (bs : List Block)
-          → block_of k (fields_cut t n (fields_at fields k)) ∷ (if t then cut_back (n - (fields_at fields k).len) bs else cut_front (n - (fields_at fields k).len) bs)
-          ≡ (if t then cut_back n (block_at fields k ∷ bs) else cut_front n (block_at fields k ∷ bs))
+          → block_of k (fields_cut t n (fields_at fields k)) ∷ (if t then keep_front (n - (fields_at fields k).len) bs else cut_front (n - (fields_at fields k).len) bs)
+          ≡ (if t then keep_front n (block_at fields k ∷ bs) else cut_front n (block_at fields k ∷ bs))
       along_one true bs = refl
       along_one false bs = refl

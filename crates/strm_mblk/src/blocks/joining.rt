@@ -5,13 +5,13 @@ ghost use Rattle.strm_mblk.specs.BlockCalls as model;
 ghost use Rattle.strm_mblk.specs.Frame.{LeavesOthers, head_given, heads_parted};
 ghost use Rattle.strm_mblk.specs.Given.{value_after, answer_map, answer_of, or_rejected};
 
-use super::{Blocks, node_at};
+use super::Blocks;
 use crate::rejected::Rejected;
 use crate::token::Token;
 use strm_data::Refusal;
 
 impl Blocks {
-    /// Puts a message behind another, which then has the blocks of both. Takes as many steps as the one behind has blocks.
+    /// Puts a message behind another, which then has the blocks of both.
     ///
     /// Two tokens of one message can come only from two pools of one id: then the second is spent, and nothing else is
     /// done.
@@ -30,8 +30,7 @@ impl Blocks {
         }
     }
 
-    /// Leaves only the first block in a message. The others are a message of their own, if there are any. Takes as many
-    /// steps as there are.
+    /// Leaves only the first block in a message. The others are a message of their own, if there are any.
     pub fn unlinkb(&mut self, token: &mut Token) -> Option<Token>
         requires { IsTrue (has self.old token.old) }
         ensures after { self.new ≡ (model.unlinkb token.old.head self.old).1 }
@@ -49,7 +48,7 @@ impl Blocks {
     }
 
     /// Takes block `place` of a message, counted from 0, for a message of its own: its token comes first. The others are
-    /// a message, if there are any, and its token comes second. Takes as many steps as there are blocks.
+    /// a message, if there are any, and its token comes second. Takes `place` steps.
     ///
     /// Rejected as `NoSuchBlock` where the message has no such block; nothing changes then, and the token comes back.
     pub fn rmvb(&mut self, token: Token, place: u32) -> Result<(Token, Option<Token>), Rejected>
@@ -71,14 +70,14 @@ impl Blocks {
             let rest = self.unlinkb(&mut first);
             return Ok((first, rest));
         }
-        let Some(node) = node_at(&self.chains, token.head(), place) else {
+        if place >= token.blocks() {
             return Err(Rejected {
                 why: Refusal::NoSuchBlock,
                 token,
             });
-        };
+        }
         let head = token.spend().head;
-        self.chains.take_out(head, node);
+        let node = self.chains.take_out(head, place);
         Ok((self.token(node), Some(self.token(head))))
     }
 }

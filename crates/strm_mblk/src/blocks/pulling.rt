@@ -109,7 +109,7 @@ impl Blocks {
         ensures { self.new ≡ pulling.with_second_freed head (message_at self.old head) self.old }
     {
         let data_number = self.blocks[second as usize].data_number;
-        self.chains.take_out(head, second);
+        self.chains.take_out(head, 1);
         self.chains.free(second);
         self.data.drop_name(data_number);
     }
@@ -172,7 +172,7 @@ impl Blocks {
         ensures others { LeavesOthers (token.old.head ∷ []) self.old self.new }
     {
         let head = token.head();
-        let run = self.run_size(token, false);
+        let run = self.run_size(token);
         let Some(wanted) = bytes_asked(count, run) else {
             return Err(Refusal::Short);
         };

@@ -1,110 +1,157 @@
 //! Bytes that a message loses at an end.
-ghost use Rattle.std.specs.Prelude.{◌≡◌, [], ◌∷◌, ◌+◌, ◌^◌, ◌<◌, ℕ, IfSome, IsTrue, Some, length, slice_get};
+ghost use Rattle.std.specs.Prelude.{◌≡◌, [], ◌∷◌, ◌+◌, ◌-◌, ◌≤◌, ◌^◌, ◌<◌, ℕ, IsTrue, Some, drop, if◌then◌else◌, length, slice_get};
 ghost use Rattle.strm_mblk.specs.Arena.{has, message_at};
 ghost use Rattle.strm_mblk.specs.Block.{size_of};
-ghost use Rattle.strm_mblk.specs.BlocksLayout.{fields_at, fields_cut, with_bytes_cut};
+ghost use Rattle.strm_mblk.specs.BlocksLayout.{fields_at, message_of};
+ghost use Rattle.strm_mblk.specs.Cutting.{IsRun, fields_cut, run_with, with_bytes_cut};
 ghost use Rattle.strm_mblk.specs.Frame.{LeavesOthers};
 ghost use Rattle.strm_mblk.specs.Given.{value_after, answer_of};
 ghost use Rattle.strm_mblk.specs.NodeLists.{nodes_at};
 ghost use Rattle.strm_mblk.specs.Trimming as model;
-ghost use Rattle.strm_mblk.specs.Trimming.{along, run_of};
+ghost use Rattle.strm_mblk.specs.Trimming.{run_of};
 
 use super::{Blocks, Fields};
 use crate::chains::Chains;
 use crate::token::Token;
-use strm_data::Refusal;
+use strm_data::{Data, MsgType, Refusal};
 
-// The first block of a held message, or from the tail on its last.
-fn start(chains: &Chains, head: u32, from_tail: bool) -> Option<u32>
-    requires { slice_get (nodes_at chains.now head) 0 ≡ Some head }
-    ensures value { result ≡ slice_get (along from_tail (nodes_at chains.now head)) 0 }
-    ensures in_range { IfSome result (λ node. node < length chains.now.held) }
-{
-    if from_tail {
-        chains.tail(head)
-    } else {
-        Some(head)
+// Blocks of one type that stand one behind the other in a message: the first of them, how many blocks there are from
+// it to the end of the message, how many bytes they have, and their type.
+#[derive(Clone, Copy, Debug)]
+struct Run {
+    first: u32,
+    blocks: u32,
+    size: u32,
+    kind: MsgType,
+}
+
+impl Run {
+    // With one block more, behind which and with which there are so many; one of another type begins a run of its own.
+    fn with(self, node: u32, blocks: u32, kind: MsgType, len: u32) -> Run
+        requires { self.size + len < 2 ^ 32 }
+        ensures { result ≡ run_with node blocks kind len self }
+    {
+        if kind == self.kind {
+            Run {
+                size: self.size + len,
+                ..self
+            }
+        } else {
+            Run {
+                first: node,
+                blocks,
+                size: len,
+                kind,
+            }
+        }
+    }
+
+    // How many bytes of it stand before the place where it is cut: all but the last `bytes`, or at the head the first.
+    fn ahead(self, bytes: u32, from_tail: bool) -> u32
+        requires { bytes ≤ self.size }
+        ensures { result ≡ (if from_tail then self.size - bytes else bytes) }
+    {
+        if from_tail { self.size - bytes } else { bytes }
     }
 }
 
-// The block behind this one in its message, or from the tail on the one before it, if there is one.
-fn step(chains: &Chains, node: u32, from_tail: bool) -> Option<u32>
-    requires { node < length chains.now.held }
-    ensures value { (h i : ℕ) → slice_get (along from_tail (nodes_at chains.now h)) i ≡ Some node → result ≡ slice_get (along from_tail (nodes_at chains.now h)) (i + 1) }
-    ensures in_range { IfSome result (λ other. other < length chains.now.held) }
+// The leading blocks of a held message that have the type of the first, or from the tail on the trailing ones that have
+// that of the last. Goes from the first block on, and at the head no further than they reach.
+fn run_in(
+    chains: &Chains,
+    blocks: &[Fields],
+    stored: &Data,
+    head: u32,
+    count: u32,
+    from_tail: bool,
+) -> Run
+    requires begun { slice_get (nodes_at chains.now head) 0 ≡ Some head }
+    requires count { count ≡ length (nodes_at chains.now head) }
+    requires blocks { length blocks.now ≡ length chains.now.held }
+    requires there { (n : ℕ) → n < length blocks.now → (fields_at blocks.now n).data_number < length stored.now.store.blocks }
+    requires small { size_of (message_of blocks.now (nodes_at chains.now head)) < 2 ^ 32 }
+    ensures { IsRun from_tail stored.now.store blocks.now (nodes_at chains.now head) result }
 {
-    if from_tail {
-        chains.previous(node)
-    } else {
-        chains.next(node)
+    let data_number = blocks[head as usize].data_number;
+    let mut run = Run {
+        first: head,
+        blocks: count,
+        size: 0,
+        kind: stored.kind(data_number),
+    };
+    let mut at = Some(head);
+    for block in 0..count {
+        let Some(node) = at else {
+            return run;
+        };
+        let fields = blocks[node as usize];
+        let kind = stored.kind(fields.data_number);
+        if !from_tail && kind != run.kind {
+            return run;
+        }
+        run = run.with(node, count - block, kind, fields.len);
+        at = chains.next(node);
     }
+    run
 }
 
 impl Fields {
-    // Without so many bytes, at the read place, or from the tail on at the write place, as far as there are so many.
+    // Without its first bytes, so many of them as it has, or with only those.
     fn cut(self, bytes: u32, from_tail: bool) -> Fields
         requires { self.offset + self.len < 2 ^ 32 }
         ensures { result ≡ fields_cut from_tail bytes self }
     {
+        let ahead = bytes.min(self.len);
         let mut rest = self;
-        if !from_tail {
-            rest.offset += bytes.min(self.len);
+        if from_tail {
+            rest.len = ahead;
+        } else {
+            rest.offset += ahead;
+            rest.len -= ahead;
         }
-        rest.len = self.len.saturating_sub(bytes);
         rest
     }
 }
 
-// Cuts bytes off a held message at its head, or from the tail on at its tail. It has `count` blocks, and each gives what
-// it has.
-fn cut(chains: &Chains, blocks: &mut [Fields], head: u32, count: u32, bytes: u32, from_tail: bool)
-    requires begun { slice_get (nodes_at chains.now head) 0 ≡ Some head }
-    requires count { count ≡ length (nodes_at chains.now head) }
+// Cuts blocks of a held message, from one of its blocks on, where so many bytes stand before the cut: these go, or from
+// the tail on all others. Each block gives what it has.
+fn cut(chains: &Chains, blocks: &mut [Fields], first: u32, count: u32, bytes: u32, from_tail: bool)
+    requires first { first < length chains.now.held }
     requires blocks { length blocks.old ≡ length chains.now.held }
     requires small { (n : ℕ) → n < length blocks.old → (fields_at blocks.old n).offset + (fields_at blocks.old n).len < 2 ^ 32 }
-    ensures { blocks.new ≡ with_bytes_cut from_tail bytes (along from_tail (nodes_at chains.now head)) blocks.old }
+    ensures { (h i : ℕ) → slice_get (nodes_at chains.now h) i ≡ Some first → i + count ≡ length (nodes_at chains.now h) → blocks.new ≡ with_bytes_cut from_tail bytes (drop i (nodes_at chains.now h)) blocks.old }
 {
     let mut left = bytes;
-    let mut at = start(chains, head, from_tail);
+    let mut at = Some(first);
     for _block in 0..count {
         let Some(node) = at else {
             return;
         };
-        if left == 0 {
+        if left == 0 && !from_tail {
             return;
         }
         let fields = blocks[node as usize];
         blocks[node as usize] = fields.cut(left, from_tail);
         left = left.saturating_sub(fields.len);
-        at = step(chains, node, from_tail);
+        at = chains.next(node);
     }
 }
 
 impl Blocks {
-    // How many bytes stand in the leading blocks of a message that have the type of the first; from the tail on, in the
-    // trailing ones that have the type of the last.
-    pub(super) fn run_size(&self, token: &Token, from_tail: bool) -> u32
+    // How many bytes stand in the leading blocks of a message that have the type of the first.
+    pub(super) fn run_size(&self, token: &Token) -> u32
         requires { IsTrue (has self.now token.now) }
-        ensures { result ≡ size_of (run_of self.now.store (along from_tail (message_at self.now token.now.head))) }
+        ensures { result ≡ size_of (run_of self.now.store (message_at self.now token.now.head)) }
     {
-        let Some(first) = start(&self.chains, token.head(), from_tail) else {
-            return 0;
-        };
-        let kind = self.data.kind(self.blocks[first as usize].data_number);
-        let mut size = 0;
-        let mut at = Some(first);
-        for _block in 0..token.blocks() {
-            let Some(node) = at else {
-                return size;
-            };
-            let fields = self.blocks[node as usize];
-            if self.data.kind(fields.data_number) != kind {
-                return size;
-            }
-            size += fields.len;
-            at = step(&self.chains, node, from_tail);
-        }
-        size
+        run_in(
+            &self.chains,
+            &self.blocks,
+            &self.data,
+            token.head(),
+            token.blocks(),
+            false,
+        )
+        .size
     }
 
     /// Takes bytes from a message's head, for a count above 0, or from its tail, for one below 0: over the leading blocks
@@ -122,15 +169,23 @@ impl Blocks {
     {
         let from_tail = count.is_negative();
         let bytes = count.unsigned_abs();
-        if self.run_size(token, from_tail) < bytes {
+        let run = run_in(
+            &self.chains,
+            &self.blocks,
+            &self.data,
+            token.head(),
+            token.blocks(),
+            from_tail,
+        );
+        if run.size < bytes {
             return Err(Refusal::Short);
         }
         cut(
             &self.chains,
             &mut self.blocks,
-            token.head(),
-            token.blocks(),
-            bytes,
+            run.first,
+            run.blocks,
+            run.ahead(bytes, from_tail),
             from_tail,
         );
         Ok(())

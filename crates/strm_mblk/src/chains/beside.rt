@@ -25,10 +25,10 @@ impl Chains {
 
     // The free message blocks are these, in this order.
     pub(crate) fn assert_free(&self, rt: &impl Abort, free: &[u32]) {
-        let mut at = self.chains.front(self.nodes);
+        let mut at = self.strands.front();
         for number in free {
-            assert!(rt; *number < self.nodes && at == Some(*number));
-            at = self.chains.next(*number);
+            assert!(rt; at == Some(*number));
+            at = self.strands.next(*number);
         }
         assert!(rt; at.is_none());
     }

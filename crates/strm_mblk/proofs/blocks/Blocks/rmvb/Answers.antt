@@ -1,5 +1,6 @@
-use Rattle.std.proofs.Common.{[], ◌∷◌, ◌≡◌, ◌≢◌, ℕ, Some, None, Ok, Err, Option, length, ap, subst, sym, ◌∙◌}
-use Rattle.std.specs.Prelude.{IfSome, is_some, option_map, slice_get}
+use Rattle.std.proofs.Common.{[], ◌∷◌, ◌≡◌, ◌≢◌, ℕ, ◌+◌, ◌++◌, arith, Some, None, Ok, Err, Option, length, ap, subst, sym, ◌∙◌}
+use Rattle.std.specs.Prelude.{IfSome, drop, is_some, option_map, slice_get, take}
+use Rattle.std.proofs.lemmas.Option.{slice_get_past}
 use Rattle.strm_data.specs.declared.refusal.Refusal.TheVariants.{NoSuchBlock}
 use Rattle.strm_mblk.specs.declared.token.TokenValue.{TokenValue}
 use Rattle.strm_mblk.specs.Arena.{Arena, has, held_at, message_at, shelved_blocks, token_of}
@@ -7,15 +8,16 @@ use Rattle.strm_mblk.specs.Block.{Message}
 use Rattle.strm_mblk.specs.BlockCalls.{rmvb, rmvb_of, unlinkb}
 use Rattle.strm_mblk.specs.BlocksLayout.{arena_of}
 use Rattle.strm_mblk.specs.Given.{Given, value_after, answer_map, answer_of, or_rejected}
+use Rattle.strm_mblk.specs.Messages.{blocks_of}
 use Rattle.strm_mblk.specs.NodeLists.{nodes_at}
 use Rattle.strm_mblk.proofs.arena.Heads.{rmvb_first}
-use Rattle.strm_mblk.proofs.layout.Places.{block_none}
-use Rattle.strm_mblk.proofs.joining.TakenOut.{IsTakenOut, is_taken_out, none_first, refused_answer, stands_there}
+use Rattle.strm_mblk.proofs.freeing.Freemsg.{token_nodes}
+use Rattle.strm_mblk.proofs.joining.TakenOut.{IsTakenOut, is_taken_out, refused_answer}
 use Rattle.strm_mblk.proofs.arena.Tokens.{had_message, token_had}
 use Rattle.strm_mblk.proofs.arena.Frame.{leaves_rmvb}
 use Rattle.strm_mblk.specs.Frame.{LeavesOthers, heads_parted}
 use Rattle.strm_mblk.proofs.blocks.Blocks.rmvb.Goals as goal
-use Rattle.strm_mblk.proofs.blocks.Blocks.rmvb.Goals.{After-take_out, After-unlinkb-rest, In_default}
+use Rattle.strm_mblk.proofs.blocks.Blocks.rmvb.Goals.{After-take_out-node, After-unlinkb-rest, Then-place-blocks}
 
 -- ---- block 0
 
@@ -31,43 +33,42 @@ returns-then-place-eq0-clause-after c = ap (value_after c.args.self.now) (sym (v
 
 -- ---- no such block
 
-value_none : (c : In_default) → rmvb c.args.token.head c.args.place c.args.self.now ≡ Err NoSuchBlock
+value_none : (c : Then-place-blocks) → rmvb c.args.token.head c.args.place c.args.self.now ≡ Err NoSuchBlock
 value_none c =
-    ap (rmvb_of c.args.token.head c.args.self.now _)
-    (block_none c.self.inside.id c.self.inside.data c.self.inside.blocks.items c.self.inside.chains c.self.invariant.filled c.args.self.now c.self.view_is c.args.token.head c.args.place
-    (ap (λ h. slice_get (nodes_at c.self.inside.chains h) c.args.place) (sym c.head.ensures) ∙ sym c.node_at.ensures.value ∙ c.in_default.is))
+    let message = had_message c.args.self.now c.args.token c.requires in
+    ap (λ o. rmvb_of c.args.token.head c.args.self.now (take c.args.place (blocks_of o) ++ drop (c.args.place + 1) (blocks_of o)) (slice_get (blocks_of o) c.args.place)) message.1.held
+    ∙ ap (rmvb_of c.args.token.head c.args.self.now (take c.args.place message.0 ++ drop (c.args.place + 1) message.0))
+    (slice_get_past message.0 c.args.place (omega (arith, message.1.blocks, c.blocks-2.ensures, c.if-place-blocks.true)))
 
-pub returns-in_default-clause-after : goal.returns-in_default-clause-after
-returns-in_default-clause-after c = ap (value_after c.args.self.now) (sym (value_none c))
+pub returns-then-place-blocks-clause-after : goal.returns-then-place-blocks-clause-after
+returns-then-place-blocks-clause-after c = ap (value_after c.args.self.now) (sym (value_none c))
 
-pub returns-in_default-clause-answer : goal.returns-in_default-clause-answer
-returns-in_default-clause-answer c =
+pub returns-then-place-blocks-clause-answer : goal.returns-then-place-blocks-clause-answer
+returns-then-place-blocks-clause-answer c =
     refused_answer c.args.token _ (rmvb c.args.token.head c.args.place c.args.self.now) NoSuchBlock (value_none c)
 
 -- ---- another block
 
-pub take_out-requires-clause-there : goal.take_out-requires-clause-there
-take_out-requires-clause-there c =
-    stands_there c.self.inside.id c.self.inside.data c.self.inside.blocks.items c.self.inside.chains c.self.invariant.filled c.args.self.now c.self.view_is c.args.token c.requires
-    c.head.result c.args.place c.in-Some.node c.node_at.result c.head.ensures c.node_at.ensures.value c.in-Some.is c.if-place-eq0.false
-    c.spend-head.result.head (ap (λ (t : TokenValue). t.head) c.spend-head.ensures)
+pub take_out-node-requires-clause-there : goal.take_out-node-requires-clause-there
+take_out-node-requires-clause-there c =
+    omega (
+      arith,
+      c.if-place-blocks.false,
+      c.blocks-2.ensures,
+      (token_nodes c.self.inside.id c.self.inside.data c.self.inside.blocks.items c.self.inside.chains c.args.token (ap (λ a. has a c.args.token) c.self.view_is ∙ c.requires)).1,
+      ap (λ (t : TokenValue). length (nodes_at c.self.inside.chains t.head)) c.spend-head.ensures,
+    )
 
-pub take_out-requires-clause-behind : goal.take_out-requires-clause-behind
-take_out-requires-clause-behind c = λ same.
-    none_first c.self.inside.id c.self.inside.data c.self.inside.blocks.items c.self.inside.chains c.self.invariant.filled c.args.self.now c.self.view_is c.args.token c.requires
-    c.head.result c.args.place c.in-Some.node c.node_at.result c.head.ensures c.node_at.ensures.value c.in-Some.is c.if-place-eq0.false
-    (same ∙ ap (λ (t : TokenValue). t.head) c.spend-head.ensures)
-
-is_taken : (c : After-take_out) → IsTakenOut c.args.self.now c.self.inside.data c.self.inside.blocks.items c.take_out.new.self c.self.inside.id c.args.token.head c.args.place c.in-Some.node
+is_taken : (c : After-take_out-node) → IsTakenOut c.args.self.now c.self.inside.data c.self.inside.blocks.items c.take_out-node.new.self c.self.inside.id c.args.token.head c.args.place c.take_out-node.result
 is_taken c =
     is_taken_out c.self.inside.id c.self.inside.data c.self.inside.blocks.items c.self.inside.chains c.self.invariant.filled c.args.self.now c.self.view_is c.args.token c.requires
-    c.head.result c.args.place c.in-Some.node c.node_at.result c.head.ensures c.node_at.ensures.value c.in-Some.is c.if-place-eq0.false
-    c.spend-head.result.head (ap (λ (t : TokenValue). t.head) c.spend-head.ensures) c.take_out.new.self c.take_out.ensures.after c.take_out.ensures.parted
+    c.spend-head.result.head c.args.place c.take_out-node.result (ap (λ (t : TokenValue). t.head) c.spend-head.ensures) c.take_out-node.ensures.answer (omega (arith, c.if-place-eq0.false))
+    c.take_out-node.new.self c.take_out-node.ensures.after c.take_out-node.ensures.parted
 
-abbrev new_arena : After-take_out → Arena
-new_arena c = arena_of c.self.inside.id c.self.inside.data.store c.self.inside.blocks.items c.take_out.new.self
+abbrev new_arena : After-take_out-node → Arena
+new_arena c = arena_of c.self.inside.id c.self.inside.data.store c.self.inside.blocks.items c.take_out-node.new.self
 
-rest_held : (c : After-take_out) → held_at (new_arena c) c.spend-head.result.head ≡ Some (message_at (new_arena c) c.spend-head.result.head)
+rest_held : (c : After-take_out-node) → held_at (new_arena c) c.spend-head.result.head ≡ Some (message_at (new_arena c) c.spend-head.result.head)
 rest_held c = subst (λ h. held_at (new_arena c) h ≡ Some (message_at (new_arena c) h)) (sym (ap (λ (t : TokenValue). t.head) c.spend-head.ensures)) (is_taken c).rest
 
 pub invariant_of-self : goal.invariant_of-self
@@ -79,35 +80,35 @@ pub token-requires : goal.token-requires
 token-requires c = ap is_some (is_taken c).block
 
 pub token-requires-2 : goal.token-requires-2
-token-requires-2 c = ap is_some (rest_held (goal.at.token-requires-2 c).After-take_out)
+token-requires-2 c = ap is_some (rest_held (goal.at.token-requires-2 c).After-take_out-node)
 
 pub returns-clause-after : goal.returns-clause-after
-returns-clause-after c = ap (value_after c.args.self.now) (sym (is_taken (goal.at.returns-clause-after c).After-take_out).value)
+returns-clause-after c = ap (value_after c.args.self.now) (sym (is_taken (goal.at.returns-clause-after c).After-take_out-node).value)
 
 pub returns-clause-answer : goal.returns-clause-answer
 returns-clause-answer c =
-    let d = (goal.at.returns-clause-answer c).After-take_out in
+    let d = (goal.at.returns-clause-answer c).After-take_out-node in
     let second = c.token-2.ensures ∙ ap (token_of (new_arena d)) (ap (λ (t : TokenValue). t.head) c.spend-head.ensures) in
     (λ i. Ok (c.token.ensures i, Some (second i)))
     ∙ ap (λ (r : Given Arena (ℕ × Option ℕ)). or_rejected c.args.token (answer_map (λ heads. (token_of (new_arena d) heads.0, option_map (token_of (new_arena d)) heads.1)) (answer_of r))) (sym (is_taken d).value)
 
 pub returns-clause-had : goal.returns-clause-had
 returns-clause-had c =
-    let d = (goal.at.returns-clause-had c).After-take_out in
-    ap (has (new_arena d)) c.token.ensures ∙ token_had (new_arena d) c.in-Some.node _ (is_taken d).block
+    let d = (goal.at.returns-clause-had c).After-take_out-node in
+    ap (has (new_arena d)) c.token.ensures ∙ token_had (new_arena d) c.take_out-node.result _ (is_taken d).block
 
 pub returns-clause-rest_had : goal.returns-clause-rest_had
 returns-clause-rest_had c =
-    let d = (goal.at.returns-clause-rest_had c).After-take_out in
+    let d = (goal.at.returns-clause-rest_had c).After-take_out-node in
     ap (has (new_arena d)) c.token-2.ensures ∙ token_had (new_arena d) c.spend-head.result.head _ (rest_held d)
 
 pub returns-clause-unheld : goal.returns-clause-unheld
 returns-clause-unheld c other =
-    ap (λ (t : TokenValue). held_at c.args.self.now t.head) c.token.ensures ∙ (is_taken (goal.at.returns-clause-unheld c).After-take_out).absent
+    ap (λ (t : TokenValue). held_at c.args.self.now t.head) c.token.ensures ∙ (is_taken (goal.at.returns-clause-unheld c).After-take_out-node).absent
 
 pub returns-clause-others : goal.returns-clause-others
 returns-clause-others c =
-    let d = (goal.at.returns-clause-others c).After-take_out in
+    let d = (goal.at.returns-clause-others c).After-take_out-node in
     subst (LeavesOthers (c.args.token.head ∷ c.token.result.head ∷ c.token-2.result.head ∷ []) c.args.self.now) (ap (value_after c.args.self.now) (is_taken d).value)
     (subst (λ r. LeavesOthers (c.args.token.head ∷ heads_parted r) c.args.self.now (value_after c.args.self.now (rmvb c.args.token.head c.args.place c.args.self.now))) (sym (returns-clause-answer c))
     (leaves_rmvb c.args.self.now (new_arena d) c.args.token c.args.token.head c.args.place))
@@ -127,6 +128,5 @@ returns-then-place-eq0-clause-apart c =
 
 pub returns-clause-apart : goal.returns-clause-apart
 returns-clause-apart c same =
-    none_first c.self.inside.id c.self.inside.data c.self.inside.blocks.items c.self.inside.chains c.self.invariant.filled c.args.self.now c.self.view_is c.args.token c.requires
-    c.head.result c.args.place c.in-Some.node c.node_at.result c.head.ensures c.node_at.ensures.value c.in-Some.is c.if-place-eq0.false
+    (is_taken (goal.at.returns-clause-apart c).After-take_out-node).apart
     (sym (ap (λ (t : TokenValue). t.head) c.token.ensures) ∙ sym same ∙ ap (λ (t : TokenValue). t.head) c.token-2.ensures ∙ ap (λ (t : TokenValue). t.head) c.spend-head.ensures)

@@ -1,14 +1,10 @@
-use Rattle.std.proofs.Common.{◌<◌, ap, sym, ◌∙◌, arith}
+use Rattle.std.proofs.Common.{ap, sym, ◌∙◌, arith}
 use Rattle.strm_links.specs.Rows.{last}
-use Rattle.strm_mblk.proofs.links.Readings.{shelf_within, heads_at}
+use Rattle.strm_mblk.proofs.links.Readings.{heads_at, shelves_within}
 use Rattle.strm_mblk.proofs.chains.Chains.last.Goals as goal
-use Rattle.strm_mblk.proofs.chains.Chains.last.Goals.{After-self}
-
-within : (c : After-self) → c.args.shelf < c.self.inside.shelves
-within c = shelf_within _ _ _ _ c.self.invariant _ c.self.view_is c.args.shelf c.requires
 
 pub back-requires : goal.back-requires
-back-requires c = omega (arith, within c, c.self.invariant.head_lists)
+back-requires c = omega (arith, c.requires, shelves_within _ _ _ c.self.invariant _ c.self.view_is)
 
 pub returns : goal.returns
-returns c = c.back.ensures.value ∙ ap last (sym (heads_at _ _ _ _ c.self.invariant _ c.self.view_is c.args.shelf (within (goal.at.returns c).After-self)))
+returns c = c.back.ensures.value ∙ ap last (sym (heads_at _ _ _ c.self.invariant _ c.self.view_is c.args.shelf))

@@ -1,0 +1,77 @@
+use Rattle.std.proofs.Common.{◌≡◌, ◌+◌, ◌-◌, ◌⊎◌, true, length, Some, ap, sym, subst, ◌∙◌, inl, inr, arith}
+use Rattle.std.specs.Prelude.{not, slice_get}
+use Rattle.std.proofs.lemmas.Bool.{not-false, not-true}
+use Rattle.std.proofs.lemmas.List.{drop_all}
+use Rattle.strm_data.specs.MsgType.{same_kind}
+use Rattle.strm_mblk.specs.Block.{kind_of}
+use Rattle.strm_mblk.specs.BlocksLayout.{block_at, fields_at}
+use Rattle.strm_mblk.specs.Cutting.{run_with}
+use Rattle.strm_mblk.specs.NodeLists.{nodes_at}
+use Rattle.strm_mblk.proofs.lists.ListParts.{drop_past}
+use Rattle.strm_mblk.proofs.layout.Places.{nodes_room}
+use Rattle.strm_mblk.proofs.trimming.Runs.{IsMeasured, all_measured, first_measured, next_measured, next_small, other_measured}
+use Rattle.strm_mblk.proofs.blocks.trimming.run_in.Goals as goal
+use Rattle.strm_mblk.proofs.blocks.trimming.run_in.Goals.{else-not-from_tail-via-then-not-from_tail+else-ne, else-not-from_tail-via-else-not-from_tail}
+
+pub loop-block-init : goal.loop-block-init
+loop-block-init c =
+    let ns = nodes_at c.args.chains.now c.args.head in
+    record {
+      node = sym c.requires.begun;
+      in_range = nodes_room c.args.chains.now c.args.head c.args.head c.requires.begun;
+      measured =
+          subst (λ n. IsMeasured c.args.from_tail c.args.stored.now.store c.args.blocks.now ns 0 (record { first = c.args.head; blocks = n; size = 0; kind = c.kind.result })) (sym c.requires.count)
+          (subst (λ k. IsMeasured c.args.from_tail c.args.stored.now.store c.args.blocks.now ns 0 (record { first = c.args.head; blocks = length ns; size = 0; kind = k })) (sym c.kind.ensures)
+          (first_measured c.args.from_tail c.args.stored.now.store c.args.blocks.now ns c.args.head c.requires.begun));
+    }
+
+pub returns-in_default : goal.returns-in_default
+returns-in_default c =
+    let ns = nodes_at c.args.chains.now c.args.head in
+    all_measured c.args.from_tail c.args.stored.now.store c.args.blocks.now ns c.loop-block.block c.loop-block.run c.loop-block.invariant.measured
+    (drop_past ns c.loop-block.block (sym c.loop-block.invariant.node ∙ c.in_default.is))
+
+pub returns : goal.returns
+returns c =
+    let ns = nodes_at c.args.chains.now c.args.head in
+    all_measured c.args.from_tail c.args.stored.now.store c.args.blocks.now ns c.loop-block.block c.loop-block.run c.loop-block.invariant.measured
+    (drop_all c.loop-block.block ns (omega (arith, c.requires.count, c.loop-block-test.false)))
+
+pub returns-then-ne : goal.returns-then-ne
+unfolding same_kind
+returns-then-ne c =
+    let inv = c.loop-block.invariant in
+    other_measured c.args.from_tail c.args.stored.now.store c.args.blocks.now (nodes_at c.args.chains.now c.args.head) c.loop-block.block c.in-Some.node c.loop-block.run inv.measured
+    (sym inv.node ∙ c.in-Some.is) c.if-not-from_tail.true (not-true _ (sym (c.ne.ensures ∙ ap (λ k. not (same_kind k c.loop-block.run.kind)) c.kind-kind.ensures) ∙ c.if-ne.true))
+
+pub with-run-requires : goal.with-run-requires
+with-run-requires c =
+    let inv = c.loop-block.invariant in
+    omega (
+      arith,
+      c.requires.small,
+      next_small c.args.from_tail c.args.stored.now.store c.args.blocks.now (nodes_at c.args.chains.now c.args.head) c.loop-block.block c.in-Some.node c.loop-block.run inv.measured
+          (sym inv.node ∙ c.in-Some.is),
+    )
+
+pub loop-block-preserved : goal.loop-block-preserved
+unfolding same_kind
+loop-block-preserved c =
+    let inv = c.loop-block.invariant in
+    let ns = nodes_at c.args.chains.now c.args.head in
+    let at : slice_get ns c.loop-block.block ≡ Some c.in-Some.node = sym inv.node ∙ c.in-Some.is in
+    let s = c.args.stored.now.store in
+    let b = block_at c.args.blocks.now c.in-Some.node in
+    let goes : (c.args.from_tail ≡ true) ⊎ (same_kind (kind_of s b) c.loop-block.run.kind ≡ true) =
+    elim c.else-not-from_tail.branch [
+      | else-not-from_tail-via-then-not-from_tail+else-ne w ↦
+          inr (not-false _ (sym (w.ne.ensures ∙ ap (λ k. not (same_kind k c.loop-block.run.kind)) c.kind-kind.ensures) ∙ w.if-ne.false))
+      | else-not-from_tail-via-else-not-from_tail w ↦ inl w.if-not-from_tail.false
+    ] in
+    record {
+      node = c.next-at.ensures.held c.args.head c.loop-block.block at;
+      in_range = c.next-at.ensures.in_range;
+      measured =
+          subst (IsMeasured c.args.from_tail s c.args.blocks.now ns (c.loop-block.block + 1)) (sym (c.with-run.ensures ∙ (λ i. run_with c.in-Some.node (c.requires.count i - c.loop-block.block) (c.kind-kind.ensures i) (fields_at c.args.blocks.now c.in-Some.node).len c.loop-block.run)))
+          (next_measured c.args.from_tail s c.args.blocks.now ns c.loop-block.block c.in-Some.node c.loop-block.run inv.measured at goes);
+    }
