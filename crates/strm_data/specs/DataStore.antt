@@ -9,16 +9,13 @@ use Rattle.strm_data.specs.declared.msg_type.MsgType.{MsgType}
 use Rattle.strm_data.specs.declared.msg_type.MsgType.TheVariants.{MData}
 use Rattle.strm_data.specs.declared.refusal.Refusal.{Refusal}
 use Rattle.strm_data.specs.declared.refusal.Refusal.TheVariants.{TooLarge, NoData}
+pub use Rattle.strm_links.specs.Counting.{times}
 
 -- a data block: the number of its size class, its type, and its bytes, as many as its capacity
 pub record DataBlock : Type 0 where
   pub class : ℕ
   pub kind : MsgType
   pub bytes : List ℕ
-
--- how often a number stands in a list
-abbrev pub times : ℕ → List ℕ → ℕ
-times n xs = count_by (λ x. x == n) xs
 
 -- the size classes, the data blocks by number, and of each class the free ones, the next to be taken first
 pub record DataStore : Type 0 where
