@@ -1,7 +1,6 @@
 -- Messages as lists of their blocks, held or standing on shelves, whatever a block is.
 use Rattle.std.specs.Prelude.{ℕ, ◌==◌, not, List, [], ◌∷◌, ◌++◌, filter, Option, None, Some, slice_get, slice_index_or, if◌then◌else◌}
 use Rattle.std.specs.List.{flat_map}
-
 -- Held messages are chains of blocks, each at the number of its first block: the blocks of one, if there is one; the one at
 -- a number; all blocks; and what becomes of them as one joins another, or is left with its first block alone.
 pub use Rattle.strm_links.specs.Held.{items_of as blocks_of, held_in, items_held as blocks_held, joined, divided}

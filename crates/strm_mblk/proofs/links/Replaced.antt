@@ -119,20 +119,18 @@ module _ (s : ℕ) (v : StrandLists) (heads : Rows) (laid : IsChained s v heads)
     pub begun_all : (count h : ℕ) → first v.free ≡ Some h → new ≡ record v { free = drop count v.free; held = set v.held h (Some (take count v.free)) }
         → IsNow (record w { free = drop count w.free; held = set w.held h (Some (take count w.free)) })
     begun_all count h begins now =
-        let off = free_off h (times_at h v.free 0 (at_first v.free h begins)) in
-        (
+        let off = free_off h (times_at h v.free 0 (at_first v.free h begins)) in (
           one_is new (drop count v.free) h (Some (take count v.free)) off now
-          ∙ ap (λ fs. record w { free = drop count fs; held = set w.held h (Some (take count fs)) }) free_is,
+              ∙ ap (λ fs. record w { free = drop count fs; held = set w.held h (Some (take count fs)) }) free_is,
           one_laid new (drop count v.free) h (Some (take count v.free)) off now parted,
         )
 
     -- a message is joined by another
     pub joins : (h g : ℕ) → holder h heads ≡ None → holder g heads ≡ None → new ≡ record v { held = joined h g v.held } → IsNow (record w { held = joined h g w.held })
     joins h g off off_g now =
-        let both = strand_at v h ++ strand_at v g in
-        (
+        let both = strand_at v h ++ strand_at v g in (
           two_is new v.free g None off_g h (Some both) off now
-          ∙ (λ i. record w { free = free_is i; held = set (set w.held g None) h (Some (sym (nodes_are h off) i ++ sym (nodes_are g off_g) i)) }),
+              ∙ (λ i. record w { free = free_is i; held = set (set w.held g None) h (Some (sym (nodes_are h off) i ++ sym (nodes_are g off_g) i)) }),
           two_laid new v.free g None off_g h (Some both) off now parted,
         )
 
@@ -141,7 +139,7 @@ module _ (s : ℕ) (v : StrandLists) (heads : Rows) (laid : IsChained s v heads)
         → IsNow (record w { free = reverse (nodes_at w h) ++ w.free; held = set w.held h None })
     freed h off now = (
       one_is new (reverse (strand_at v h) ++ v.free) h None off now
-      ∙ (λ i. record w { free = reverse (sym (nodes_are h off) i) ++ free_is i; held = set w.held h None }),
+          ∙ (λ i. record w { free = reverse (sym (nodes_are h off) i) ++ free_is i; held = set w.held h None }),
       one_laid new (reverse (strand_at v h) ++ v.free) h None off now parted,
     )
 
@@ -150,8 +148,7 @@ module _ (s : ℕ) (v : StrandLists) (heads : Rows) (laid : IsChained s v heads)
         → new ≡ record v { held = set (set v.held h (Some ms)) n (Some ls) } → IsNow (record w { held = set (set w.held h (Some ms)) n (Some ls) })
     set_off h ns held off k n at behind ms ls now =
         let other : n ≢ h = not_head (alone v) (alone_parted v laid.strands_parted) h k n ns held at (k - 1) (omega arith) in
-        let off_n = behind_off h k n ns held at other in
-        (
+        let off_n = behind_off h k n ns held at other in (
           two_is new v.free h (Some ms) off n (Some ls) off_n now ∙ ap (λ fs. record w { free = fs; held = set (set w.held h (Some ms)) n (Some ls) }) free_is,
           two_laid new v.free h (Some ms) off n (Some ls) off_n now parted,
         )

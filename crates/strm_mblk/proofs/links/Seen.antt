@@ -115,7 +115,7 @@ module _ (v : StrandLists) (heads : Rows) where
       → (nodes_of v heads).held ≡ w
   held_as w long off on =
       ext_get_or None (nodes_of v heads).held w (length-held ∙ sym long) (λ h within.
-        elim (holder h heads) as (λ o. holder h heads ≡ o → held_in (nodes_of v heads).held h ≡ held_in w h) [
-          | None ↦ λ none. held_off h none ∙ sym (off h none)
-          | Some s ↦ λ some. held_on h (ap is_some some) ∙ sym (on h (ap is_some some))
-        ] refl)
+      elim (holder h heads) as (λ o. holder h heads ≡ o → held_in (nodes_of v heads).held h ≡ held_in w h) [
+        | None ↦ λ none. held_off h none ∙ sym (off h none)
+        | Some s ↦ λ some. held_on h (ap is_some some) ∙ sym (on h (ap is_some some))
+      ] refl)
