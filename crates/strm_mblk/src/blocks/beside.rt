@@ -5,7 +5,7 @@ ghost use Rattle.strm_data.specs.DataStore.{capacity_of};
 ghost use Rattle.strm_mblk.specs.Shelves.{shelf_of, stands_on};
 
 use super::{BlockNo, Blocks};
-use crate::chains::beside::is_on;
+use crate::chains::beside::{assert_free, is_on};
 use crate::plain::arena::Arena;
 use crate::plain::block::{Block, Message, count_naming, head_in};
 use crate::plain::list::List;
@@ -92,7 +92,7 @@ impl Blocks {
     fn assert_is(&self, rt: &impl Abort, plain: &Arena) {
         assert!(rt; self.id == plain.id());
         assert_eq!(rt; self.census(), plain.census_of(rt));
-        self.chains.assert_free(rt, plain.free());
+        assert_free(rt, &self.chains, plain.free());
         self.assert_held(rt, plain);
         self.assert_shelves(rt, plain.shelves());
         self.assert_data(rt, plain);

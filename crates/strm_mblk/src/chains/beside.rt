@@ -15,21 +15,22 @@ pub(crate) fn is_on(chains: &Chains, shelf: u32, head: u32) -> bool
     chains.heads.list_of(head) == Some(shelf)
 }
 
+// The free message blocks are these, in this order.
+pub(crate) fn assert_free(rt: &impl Abort, chains: &Chains, free: &[u32]) {
+    let mut at = chains.strands.front();
+    for number in free {
+        let node = at.expect(rt, "a message block is not free");
+        assert!(rt; node == *number);
+        at = chains.strands.next(node);
+    }
+    assert!(rt; at.is_none());
+}
+
 impl Chains {
     // How many shelves there are.
     pub(crate) fn shelf_count(&self) -> u32
         ensures { result ≡ length self.now.shelves }
     {
         self.shelves
-    }
-
-    // The free message blocks are these, in this order.
-    pub(crate) fn assert_free(&self, rt: &impl Abort, free: &[u32]) {
-        let mut at = self.strands.front();
-        for number in free {
-            assert!(rt; at == Some(*number));
-            at = self.strands.next(*number);
-        }
-        assert!(rt; at.is_none());
     }
 }
