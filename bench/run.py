@@ -177,7 +177,7 @@ def call_costs(meter):
 def ranked_costs(meter):
     """For each round of lines on a queue of messages of 17 ranks, its word, and its cost for each length of the queue."""
     return [
-        ([word], lines, [round_cost(meter, [*lines_to_rank(size)], lines, partial(every_ranked_round, size), max(500, size)) for size in QUEUED])
+        ([word], lines, [round_cost(meter, [*lines_to_rank(size)], lines, partial(every_ranked_round, size), max(16_000, 16 * size)) for size in QUEUED])
         for word, lines in RANKED.items()
     ]
 
