@@ -18,4 +18,5 @@ mod StrandLinks
 mod StrandMoves
 mod StrandOpened
 pub mod StrandParts
+mod StrandSecond
 mod StrandTakenOut

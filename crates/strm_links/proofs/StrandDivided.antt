@@ -19,17 +19,17 @@ use Rattle.strm_links.proofs.StrandParts.{not_in_other, not_in_strand, strand_ap
 
 module _ (nodes : List Node) (front : Option ℕ) (count : ℕ) (v : StrandLists) (laid : IsLaid nodes front count v) (h : ℕ) (some_h : IsSome (held_in v.held h)) where
   -- a head that leads on to nothing is alone
-  pub alone : next_at nodes h ≡ None → (slice_get (strand_at v h) 1 ≡ None) × (divided (λ n. n) h (strand_at v h) v.held ≡ v.held)
+  pub alone : next_at nodes h ≡ None → strand_at v h ≡ h ∷ []
   alone none = let was = strand_laid nodes front count v laid h some_h in one (strand_at v h) was.head was.leads
     where
-      one : (xs : List ℕ) → first xs ≡ Some h → LeadsOn (next_at nodes) xs None → (slice_get xs 1 ≡ None) × (divided (λ n. n) h xs v.held ≡ v.held)
-      one [] is leads = (refl, refl)
-      one (x ∷ []) is leads = (refl, refl)
+      one : (xs : List ℕ) → first xs ≡ Some h → LeadsOn (next_at nodes) xs None → xs ≡ h ∷ []
+      one [] is leads = absurd (none-some h is)
+      one (x ∷ []) is leads = λ i. same_Some x h is i ∷ []
       one (x ∷ y ∷ xs) is leads = absurd (none-some y (sym none ∙ ap (next_at nodes) (sym (same_Some x h is)) ∙ leads.0))
 
   module _ (c : ℕ) (on : next_at nodes h ≡ Some c) where
     -- any other chain begins with the head and what it leads on to
-    two : (rest : List ℕ) × (strand_at v h ≡ h ∷ c ∷ rest)
+    pub two : (rest : List ℕ) × (strand_at v h ≡ h ∷ c ∷ rest)
     two = let was = strand_laid nodes front count v laid h some_h in more (strand_at v h) was.head was.leads
       where
         more : (xs : List ℕ) → first xs ≡ Some h → LeadsOn (next_at nodes) xs None → (rest : List ℕ) × (xs ≡ h ∷ c ∷ rest)
@@ -44,19 +44,19 @@ module _ (nodes : List Node) (front : Option ℕ) (count : ℕ) (v : StrandLists
     in_strand : (k : ℕ) → has k (c ∷ two.0) ≡ true → has k (strand_at v h) ≡ true
     in_strand k there = ap (has k) two.1 ∙ has_tail h k (c ∷ two.0) there
 
-    second_in : has c (strand_at v h) ≡ true
+    pub second_in : has c (strand_at v h) ≡ true
     second_in = in_strand c (has_head c c two.0 refl)
 
     pub divided_low : c < length v.held
     divided_low = strand_low v laid.once h c second_in
 
-    apart : IsApart (h ∷ c ∷ two.0)
+    pub apart : IsApart (h ∷ c ∷ two.0)
     apart = subst IsApart two.1 (strand_apart v laid.once h)
 
-    other : h ≢ c
+    pub other : h ≢ c
     other = differ h c (c ∷ two.0) apart.0 (has_head c c two.0 refl)
 
-    was : IsStrand (next_at nodes) (span_at nodes h) h (h ∷ c ∷ two.0)
+    pub was : IsStrand (next_at nodes) (span_at nodes h) h (h ∷ c ∷ two.0)
     was = subst (IsStrand (next_at nodes) (span_at nodes h) h) two.1 (strand_laid nodes front count v laid h some_h)
 
     pub divided_len : 1 < (span_at nodes h).len

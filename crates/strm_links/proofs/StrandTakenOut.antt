@@ -60,7 +60,7 @@ module _ (nodes : List Node) (front : Option ℕ) (count : ℕ) (v : StrandLists
     n_off_h = pre_off h n (has_first pre h begins) (has_head n n post refl)
 
     -- the last node of the others
-    last_left : last (pre ++ post) ≡ Some (if is_none (next_at nodes n) then t else (span_at nodes h).last)
+    pub last_left : last (pre ++ post) ≡ Some (if is_none (next_at nodes n) then t else (span_at nodes h).last)
     last_left =
         let both : last ((pre ++ n ∷ []) ++ post) ≡ Some (span_at nodes h).last = ap last (append_assoc pre (n ∷ []) post ∙ sym split) ∙ was.last in
         let next : first post ≡ next_at nodes n = sym leads.1.0 in

@@ -42,3 +42,9 @@ opening_strands nodes = record { free = range_with_len 0 nodes; held = replicate
 abbrev pub with_first_begun : List ℕ → StrandLists → StrandLists
 with_first_begun [] v = v
 with_first_begun (n ∷ ns) v = record v { free = ns; held = slice_set v.held n (Some (n ∷ [])) }
+
+-- the second of these nodes, which stand at h, is free, if there is one
+abbrev pub with_second_freed : ℕ → List ℕ → StrandLists → StrandLists
+with_second_freed h [] v = v
+with_second_freed h (x ∷ []) v = v
+with_second_freed h (x ∷ y ∷ rest) v = record { free = y ∷ v.free; held = slice_set v.held h (Some (x ∷ rest)) }

@@ -8,7 +8,7 @@ ghost use Rattle.std.specs.List.{range_with_len};
 ghost use Rattle.strm_links.specs.Rows.{IsApart, first, has, last};
 ghost use Rattle.strm_links.specs.Layout.{LeadsOn, walk};
 ghost use Rattle.strm_links.specs.Held.{divided, held_in, joined, taken_out};
-ghost use Rattle.strm_links.specs.StrandLists.{IsParted, opening_strands, strand_at, with_first_begun};
+ghost use Rattle.strm_links.specs.StrandLists.{IsParted, opening_strands, strand_at, with_first_begun, with_second_freed};
 ghost use Rattle.strm_links.specs.StrandLayout.{free_node, next_at, no_span, onward, path, span_at};
 
 use crate::slot::Slot;
@@ -413,6 +413,34 @@ impl Strands {
         keep(&mut self.nodes, head, Span::none());
         self.front = Slot::some(span.last);
         self.count += span.len;
+    }
+
+    /// Frees the second node of a chain, to the front of the free ones, and names it. None where the chain
+    /// has no second node, and then nothing changes.
+    #[inline(always)]
+    pub fn free_second(&mut self, head: u32) -> Option<u32>
+        requires { IsSome (held_in self.old.held head) }
+        ensures answer { result ≡ slice_get (strand_at self.old head) 1 }
+        ensures after { self.new ≡ with_second_freed head (strand_at self.old head) self.old }
+        ensures in_range { IfSome result (λ node. node < length self.old.held) }
+        ensures parted { IsParted self.new }
+    {
+        let Node { next, span } = self.nodes[head as usize];
+        let second = next.get()?;
+        let beyond = self.nodes[second as usize].next;
+        lead(&mut self.nodes, head, beyond);
+        lead(&mut self.nodes, second, self.front);
+        keep(
+            &mut self.nodes,
+            head,
+            Span {
+                last: last_left(beyond, head, span.last),
+                len: span.len - 1,
+            },
+        );
+        self.front = next;
+        self.count += 1;
+        Some(second)
     }
 
     /// The law that the free nodes and the chains part the nodes: each stands once in all, and a chain

@@ -46,3 +46,9 @@ opening_nodes nodes shelves = record { free = range_with_len 0 nodes; held = rep
 abbrev pub after_begin : NodeLists → List ℕ → NodeLists
 after_begin v [] = v
 after_begin v (n ∷ ns) = record v { free = ns; held = slice_set v.held n (Some (n ∷ [])) }
+
+-- the second of these numbers, which stand at h, is free, if there is one
+abbrev pub after_second_freed : ℕ → List ℕ → NodeLists → NodeLists
+after_second_freed h [] v = v
+after_second_freed h (n ∷ []) v = v
+after_second_freed h (n ∷ m ∷ rest) v = record v { free = m ∷ v.free; held = slice_set v.held h (Some (n ∷ rest)) }

@@ -4,7 +4,7 @@ ghost use Rattle.std.specs.Option.{ForSome};
 ghost use Rattle.strm_links.specs.Rows.{IsParting, after, before, first, has, holder, last, list_at};
 ghost use Rattle.strm_mblk.specs.ChainLayout.{put_in};
 ghost use Rattle.strm_mblk.specs.Messages.{divided, held_in, joined, put_before_head, shelf_in, with_head, without_head};
-ghost use Rattle.strm_mblk.specs.NodeLists.{IsNodesParted, after_begin, head_node, heads_on, nodes_at, opening_nodes, shelved_nodes};
+ghost use Rattle.strm_mblk.specs.NodeLists.{IsNodesParted, after_begin, after_second_freed, head_node, heads_on, nodes_at, opening_nodes, shelved_nodes};
 ghost use Rattle.strm_mblk.specs.Limits.{most_message_blocks};
 
 #[cfg(test)]
@@ -172,6 +172,16 @@ impl Chains {
         ensures parted { IsNodesParted self.new }
     {
         self.strands.free(head);
+    }
+
+    // Frees the second block of a held message, to the front of the free ones. Nothing is done where it has none.
+    #[inline(always)]
+    pub(crate) fn free_second(&mut self, head: u32)
+        requires { IsSome (held_in self.old.held head) }
+        ensures after { self.new ≡ after_second_freed head (nodes_at self.old head) self.old }
+        ensures parted { IsNodesParted self.new }
+    {
+        self.strands.free_second(head);
     }
 
     // The head of the first message on a shelf, if there is one.

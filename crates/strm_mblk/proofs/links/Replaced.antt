@@ -6,11 +6,11 @@ use Rattle.std.proofs.lemmas.Bool.{false≢true}
 use Rattle.std.proofs.lemmas.List.{set-set}
 use Rattle.strm_links.specs.Rows.{Rows, first, has, holder, linked_nodes}
 use Rattle.strm_links.specs.Held.{items_of, held_in, joined, divided, set_apart, taken_out}
-use Rattle.strm_links.specs.StrandLists.{IsParted, StrandLists, strand_at, with_first_begun}
+use Rattle.strm_links.specs.StrandLists.{IsParted, StrandLists, strand_at, with_first_begun, with_second_freed}
 use Rattle.strm_links.proofs.OneList.{absent_both}
 use Rattle.strm_data.specs.DataStore.{times}
 use Rattle.strm_mblk.specs.ChainLayout.{nodes_of, IsChained}
-use Rattle.strm_mblk.specs.NodeLists.{NodeLists, after_begin, nodes_at}
+use Rattle.strm_mblk.specs.NodeLists.{NodeLists, after_begin, after_second_freed, nodes_at}
 use Rattle.strm_mblk.proofs.layout.Linked.{not_begun, not_head}
 use Rattle.strm_mblk.proofs.layout.Rewriting.{times_at}
 use Rattle.strm_mblk.proofs.altering.Setband.{at_first}
@@ -153,14 +153,26 @@ module _ (s : ℕ) (v : StrandLists) (heads : Rows) (laid : IsChained s v heads)
           two_laid new v.free h (Some ms) off n (Some ls) off_n now parted,
         )
 
+    unchanged : new ≡ v → IsNow w
+    unchanged same = (ap (λ u. nodes_of u heads) same ∙ is, subst (λ u. IsChained s u heads) (sym same) laid)
+
+    -- the second block of a message is free
+    pub frees_second : (h : ℕ) → holder h heads ≡ None → new ≡ with_second_freed h (strand_at v h) v → IsNow (after_second_freed h (nodes_at w h) w)
+    frees_second h off now = subst (λ ns. IsNow (after_second_freed h ns w)) (sym (nodes_are h off)) (by_case (strand_at v h) now)
+      where
+        by_case : (ns : List ℕ) → new ≡ with_second_freed h ns v → IsNow (after_second_freed h ns w)
+        by_case [] same = unchanged same
+        by_case (x ∷ []) same = unchanged same
+        by_case (x ∷ y ∷ rest) same = (
+          one_is new (y ∷ v.free) h (Some (x ∷ rest)) off same ∙ ap (λ fs. record w { free = y ∷ fs; held = set w.held h (Some (x ∷ rest)) }) free_is,
+          one_laid new (y ∷ v.free) h (Some (x ∷ rest)) off same parted,
+        )
+
     -- the others are a message
     pub divides : (h : ℕ) → IsSome (held_in v.held h) → holder h heads ≡ None → new ≡ record v { held = divided (λ n. n) h (strand_at v h) v.held }
         → IsNow (record w { held = divided (λ n. n) h (nodes_at w h) w.held })
     divides h some off now = subst (λ ns. IsNow (record w { held = divided (λ n. n) h ns w.held })) (sym (nodes_are h off)) (by_case (strand_at v h) (there (held_in v.held h) some) now)
       where
-        unchanged : new ≡ v → IsNow w
-        unchanged same = (ap (λ u. nodes_of u heads) same ∙ is, subst (λ u. IsChained s u heads) (sym same) laid)
-
         by_case : (ns : List ℕ) → held_in v.held h ≡ Some ns → new ≡ record v { held = divided (λ n. n) h ns v.held } → IsNow (record w { held = divided (λ n. n) h ns w.held })
         by_case [] held same = unchanged same
         by_case (x ∷ []) held same = unchanged same

@@ -1,11 +1,15 @@
 -- The second block of a held message is freed.
-use Rattle.std.proofs.Common.{◌≡◌, ◌≢◌, ℕ, ◌<◌, List, [], ◌∷◌, ◌++◌, length, set, Option, Some, None, Ok, refl, sym, ap, ◌∙◌, arith, get_or-set_same, get_or-set_other, length-set}
-use Rattle.std.specs.Prelude.{drop, option_map, reverse, slice_get, take}
+use Rattle.std.proofs.Common.{◌≡◌, ◌≢◌, ℕ, ◌<◌, List, [], ◌∷◌, ◌++◌, length, set, Option, Some, None, Ok, if◌then◌else◌, refl, sym, ap, ◌∙◌, subst, inl, inr, arith, get_or-set_same, get_or-set_other, length-set}
+use Rattle.std.specs.Prelude.{drop, nat_lt, option_map, reverse, slice_get, take}
+use Rattle.std.specs.Option.{IfSome}
+use Rattle.std.proofs.lemmas.Bool.{cases_eq}
 use Rattle.std.proofs.lemmas.List.{length-map, set-get_or, set-set}
-use Rattle.std.proofs.lemmas.Option.{none-some, same_Some}
+use Rattle.std.proofs.lemmas.Option.{none-some}
+use Rattle.strm_links.specs.Rows.{first}
+use Rattle.strm_links.proofs.HeldLists.{times-set}
 use Rattle.strm_data.specs.CountedStore.{CountedStore, IsKept, count_of, without_name}
 use Rattle.strm_data.specs.DataStore.{times}
-use Rattle.strm_data.proofs.Times.{times_here}
+use Rattle.strm_data.proofs.Times.{times-append}
 use Rattle.strm_mblk.specs.declared.blocks.Fields.{Fields}
 use Rattle.strm_mblk.specs.Arena.{Arena, held_at, message_at, shelved_blocks, with_held, without_held}
 use Rattle.strm_mblk.specs.Block.{Block, Message}
@@ -13,14 +17,14 @@ use Rattle.strm_mblk.specs.BlockCalls.{rmvb, rmvb_of}
 use Rattle.strm_mblk.specs.BlocksLayout.{IsFilled, arena_of, block_at, fields_at, message_of, named_by, with_names_dropped}
 use Rattle.strm_mblk.specs.Freeing.{freemsg, with_block_freed, with_blocks_freed}
 use Rattle.strm_mblk.specs.Given.{value_after}
-use Rattle.strm_mblk.specs.Messages.{blocks_of, held_in}
-use Rattle.strm_mblk.specs.NodeLists.{IsNodesParted, NodeLists, nodes_at}
+use Rattle.strm_mblk.specs.Messages.{blocks_held, blocks_of, blocks_on, held_in}
+use Rattle.strm_mblk.specs.NodeLists.{IsNodesParted, NodeLists, after_second_freed, all_nodes, nodes_at}
 use Rattle.strm_mblk.specs.Pulling.{with_message, with_second_freed}
 use Rattle.strm_mblk.proofs.freeing.Freemsg.{IsFreed, enough, frees}
 use Rattle.strm_mblk.proofs.shelving.HeadSize.{numbers-get}
-use Rattle.strm_mblk.proofs.layout.Linked.{block_room, not_head}
-use Rattle.strm_mblk.proofs.layout.Rewriting.{begins_with, node_room}
-use Rattle.strm_mblk.proofs.layout.Shown.{message_at-seen}
+use Rattle.strm_mblk.proofs.layout.Linked.{block_room, not_begun, not_head}
+use Rattle.strm_mblk.proofs.layout.Rewriting.{begins_with, node_room, times_at}
+use Rattle.strm_mblk.proofs.layout.Shown.{message_at-seen, nodes_in, slice_get-mapped}
 use Rattle.strm_mblk.proofs.joining.TakenOut.{IsTakenOut, takes_out}
 use Rattle.strm_mblk.proofs.joining.Unlinkb.{two_rest}
 
@@ -93,48 +97,96 @@ module _ (id : ℕ) (s : CountedStore) (fields : List Fields) (v : NodeLists) (f
     room : n < length v.held
     room = block_room v filled.parted h 1 n (nodes_at v h) is.held is.at
 
-    module _ (u : NodeLists) (m : ℕ) (at : slice_get (nodes_at v h) 1 ≡ Some m) (u_is : u ≡ record v { held = set (set v.held h (Some (take 1 (nodes_at v h) ++ drop 2 (nodes_at v h)))) m (Some (m ∷ [])) }) (u_parted : IsNodesParted u) where
-      now : u ≡ record v { held = set (set v.held h (Some (take 1 (nodes_at v h) ++ drop 2 (nodes_at v h)))) n (Some (n ∷ [])) }
-      now = u_is ∙ ap (λ k. record v { held = set (set v.held h (Some (take 1 (nodes_at v h) ++ drop 2 (nodes_at v h)))) k (Some (k ∷ [])) }) (same_Some m n (sym at ∙ is.at))
+    -- its data block has a name
+    pub second_used : 0 < count_of s (fields_at fields n).data_number
+    second_used =
+        let data_of : ℕ → ℕ = λ j. (fields_at fields j).data_number in
+        omega (
+          arith,
+          enough id s fields v filled h is.held (data_of n),
+          times_at (data_of n) (named_by fields (nodes_at v h)) 1 (slice_get-mapped data_of (nodes_at v h) 1 ∙ ap (option_map data_of) is.at),
+        )
 
-      -- once it was taken out, it is a message
-      pub lone : held_in u.held n ≡ Some (n ∷ [])
-      lone =
-          ap (λ (l : NodeLists). held_in l.held n) now
-          ∙ get_or-set_same (set v.held h (Some (take 1 (nodes_at v h) ++ drop 2 (nodes_at v h)))) n (Some (n ∷ [])) None (omega (arith, room, length-set v.held h (Some (take 1 (nodes_at v h) ++ drop 2 (nodes_at v h)))))
+    -- the others, and the lists where it is a message of its own
+    abbrev others : List ℕ
+    others = take 1 (nodes_at v h) ++ drop 2 (nodes_at v h)
 
-      lone_nodes : nodes_at u n ≡ n ∷ []
-      lone_nodes = ap blocks_of lone
+    abbrev without : List (Option (List ℕ))
+    without = set v.held h (Some others)
 
-      out : IsTakenOut old s fields u id h 1 n
-      out = takes_out id s fields v u filled h 1 n is.held is.at (omega arith) now u_parted
+    abbrev apart : NodeLists
+    apart = record v { held = set without n (Some (n ∷ [])) }
 
-      -- its data block has a name
-      pub second_used : 0 < count_of s (fields_at fields n).data_number
-      second_used =
-          let d = (fields_at fields n).data_number in
+    absent : held_in without n ≡ None
+    absent = get_or-set_other v.held h n (Some others) None is.behind ∙ not_begun v filled.parted h 1 n (nodes_at v h) is.held is.at is.behind
+
+    room_left : n < length without
+    room_left = omega (arith, room, length-set v.held h (Some others))
+
+    lone : held_in apart.held n ≡ Some (n ∷ [])
+    lone = get_or-set_same without n (Some (n ∷ [])) None room_left
+
+    lone_nodes : nodes_at apart n ≡ n ∷ []
+    lone_nodes = ap blocks_of lone
+
+    nodes_are : nodes_at v h ≡ h ∷ n ∷ drop 2 (nodes_at v h)
+    nodes_are = two_rest (nodes_at v h) h n (begins_with v filled.parted h (nodes_at v h) is.held) is.at
+
+    module _ (t : CountedStore) (w : NodeLists) (t_is : t ≡ without_name (fields_at fields n).data_number s) (kept : IsKept t) (w_is : w ≡ after_second_freed h (nodes_at v h) v) (parted : IsNodesParted w) where
+      now : w ≡ record v { free = n ∷ v.free; held = without }
+      now =
+          w_is ∙ ap (λ ns. after_second_freed h ns v) nodes_are
+          ∙ ap (λ ns. record v { free = n ∷ v.free; held = set v.held h (Some ns) }) (sym (ap (λ ns. take 1 ns ++ drop 2 ns) nodes_are))
+
+      -- as many numbers stand there as here
+      same_nodes : (k : ℕ) → times k (all_nodes apart) ≡ times k (all_nodes w)
+      same_nodes k =
           omega (
             arith,
-            enough id s fields u out.filled n (lone ∙ ap Some (sym lone_nodes)) d,
-            ap (λ ns. times d (named_by fields ns)) lone_nodes,
-            times_here d d [] refl,
+            ap (λ (l : NodeLists). times k (all_nodes l)) now,
+            times-append k v.free (nodes_in apart),
+            times-append k (n ∷ v.free) (blocks_on v.shelves ++ blocks_held without),
+            times-append k (n ∷ []) v.free,
+            times-append k (blocks_on v.shelves) (blocks_held apart.held),
+            times-append k (blocks_on v.shelves) (blocks_held without),
+            times-set k n (Some (n ∷ [])) without room_left,
+            ap (λ o. times k (blocks_of o)) absent,
           )
 
-      module _ (t : CountedStore) (w : NodeLists) (t_is : t ≡ without_name (fields_at fields n).data_number s) (kept : IsKept t)
-          (w_is : w ≡ record u { free = reverse (nodes_at u n) ++ u.free; held = set u.held n None }) (parted : IsNodesParted w) where
-        freed : IsFreed (arena_of id s.store fields u) t fields w id n
-        freed =
-            frees id s fields u out.filled n (lone ∙ ap Some (sym lone_nodes)) t w
-            (t_is ∙ ap (λ ns. with_names_dropped (named_by fields ns) s) (sym lone_nodes)) kept w_is parted
+      apart_parted : IsNodesParted apart
+      apart_parted = record {
+        once = λ k.
+            same_nodes k ∙ parted.once k
+            ∙ ap (λ many. if nat_lt k many then 1 else 0) (ap (λ (l : NodeLists). length l.held) now ∙ sym (length-set without n (Some (n ∷ []))));
+        heads = λ g. elim (cases_eq g n) [
+          | inl same ↦ subst (λ j. IfSome (held_in apart.held j) (λ m. first m ≡ Some j)) (sym same) (subst (λ o. IfSome o (λ m. first m ≡ Some n)) (sym lone) refl)
+          | inr other ↦
+              subst (λ o. IfSome o (λ m. first m ≡ Some g)) (sym (get_or-set_other without n g (Some (n ∷ [])) None other))
+              (subst (λ (l : NodeLists). IfSome (held_in l.held g) (λ m. first m ≡ Some g)) now (parted.heads g))
+        ];
+        shelved = filled.parted.shelved;
+      }
 
-        -- the message at h is that without it
-        pub frees_second : IsSecondFreed old t fields w id h
-        frees_second = record {
-          filled = freed.filled;
-          shelved = freed.shelved ∙ out.shelved;
-          after =
-              freed.after
-              ∙ taken_freed old (arena_of id s.store fields u) h n (block_at fields h) (block_at fields n) (message_of fields (drop 2 (nodes_at v h)))
-              (message_at-seen id s.store fields v h ∙ ap (message_of fields) (two_rest (nodes_at v h) h n (begins_with v filled.parted h (nodes_at v h) is.held) is.at)) refl refl is.behind
-              (omega (arith, room, length-map v.held (option_map (message_of fields)))) out.absent out.value;
-        }
+      out : IsTakenOut old s fields apart id h 1 n
+      out = takes_out id s fields v apart filled h 1 n is.held is.at (omega arith) refl apart_parted
+
+      emptied : set apart.held n None ≡ without
+      emptied = set-set without n (Some (n ∷ [])) None ∙ ap (set without n) (sym absent) ∙ set-get_or without n None
+
+      freed : IsFreed (arena_of id s.store fields apart) t fields w id n
+      freed =
+          frees id s fields apart out.filled n (lone ∙ ap Some (sym lone_nodes)) t w
+          (t_is ∙ ap (λ ns. with_names_dropped (named_by fields ns) s) (sym lone_nodes)) kept
+          (now ∙ (λ i. record v { free = reverse (sym lone_nodes i) ++ v.free; held = sym emptied i })) parted
+
+      -- the message at h is that without it
+      pub frees_second : IsSecondFreed old t fields w id h
+      frees_second = record {
+        filled = freed.filled;
+        shelved = freed.shelved ∙ out.shelved;
+        after =
+            freed.after
+            ∙ taken_freed old (arena_of id s.store fields apart) h n (block_at fields h) (block_at fields n) (message_of fields (drop 2 (nodes_at v h)))
+            (message_at-seen id s.store fields v h ∙ ap (message_of fields) nodes_are) refl refl is.behind
+            (omega (arith, room, length-map v.held (option_map (message_of fields)))) out.absent out.value;
+      }

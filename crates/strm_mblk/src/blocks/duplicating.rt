@@ -17,6 +17,7 @@ use strm_data::{Data, MOST_DATA_BLOCK_NAMES, Refusal};
 
 // Names the data blocks of the first `count` blocks of a held message once more, first to last. Where one of them has
 // `MOST_DATA_BLOCK_NAMES` names already, the data blocks are left as they were.
+#[inline(always)]
 fn give_names(chains: &Chains, blocks: &[Fields], stored: &mut Data, head: u32, count: u32) -> bool
     requires begun { slice_get (nodes_at chains.now head) 0 ≡ Some head }
     requires count { count ≤ length (nodes_at chains.now head) }
@@ -43,6 +44,7 @@ fn give_names(chains: &Chains, blocks: &[Fields], stored: &mut Data, head: u32, 
 }
 
 // Copies what the first `count` blocks of a held message say to the blocks of another one, which has as many.
+#[inline(always)]
 fn copy_fields(chains: &Chains, blocks: &mut [Fields], from: u32, to: u32, count: u32)
     requires from { slice_get (nodes_at chains.now from) 0 ≡ Some from }
     requires to { slice_get (nodes_at chains.now to) 0 ≡ Some to }
@@ -67,6 +69,7 @@ fn copy_fields(chains: &Chains, blocks: &mut [Fields], from: u32, to: u32, count
 impl Blocks {
     // A message of new blocks, one for each of the first `count` blocks of this message. `dupmsg` says what it is and when
     // it is refused.
+    #[inline(always)]
     fn duplicate(&mut self, token: &Token, count: u32) -> Result<Token, Refusal>
         requires had { IsTrue (has self.old token.now) }
         requires count { (count ≡ 1) ⊎ (count ≡ token.now.blocks) }

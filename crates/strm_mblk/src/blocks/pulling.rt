@@ -109,8 +109,7 @@ impl Blocks {
         ensures { self.new ≡ pulling.with_second_freed head (message_at self.old head) self.old }
     {
         let data_number = self.blocks[second as usize].data_number;
-        self.chains.take_out(head, 1);
-        self.chains.free(second);
+        self.chains.free_second(head);
         self.data.drop_name(data_number);
     }
 

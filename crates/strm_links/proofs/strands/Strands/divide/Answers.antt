@@ -1,4 +1,5 @@
-use Rattle.std.proofs.Common.{◌≡◌, ◌==◌, ◌-◌, ◌<◌, length, ap, arith, sym, ◌∙◌, if◌then◌else◌}
+use Rattle.std.specs.Prelude.{slice_get}
+use Rattle.std.proofs.Common.{◌≡◌, ℕ, List, ◌==◌, ◌-◌, ◌<◌, length, ap, arith, sym, ◌∙◌, if◌then◌else◌}
 use Rattle.strm_links.specs.declared.strands.Node.{Node}
 use Rattle.strm_links.specs.Held.{divided}
 use Rattle.strm_links.specs.StrandLists.{strand_at}
@@ -20,13 +21,13 @@ link c = c.get.ensures ∙ ap (λ (x : Node). x.next) (read c)
 pub returns-in_err-rest-clause-answer : goal.returns-in_err-rest-clause-answer
 returns-in_err-rest-clause-answer c =
     let none = sym (link (goal.at.returns-in_err-rest-clause-answer c).After-get) ∙ c.in_err-rest.was in
-    c.from_residual.ensures ∙ sym (alone _ _ _ _ (seen _ _ _ _ c.self.view_is c.self.invariant) c.args.head c.requires none).0
+    c.from_residual.ensures ∙ sym (ap (λ (xs : List ℕ). slice_get xs 1) (alone _ _ _ _ (seen _ _ _ _ c.self.view_is c.self.invariant) c.args.head c.requires none))
 
 pub returns-in_err-rest-clause-after : goal.returns-in_err-rest-clause-after
 returns-in_err-rest-clause-after c =
     let none = sym (link (goal.at.returns-in_err-rest-clause-after c).After-get) ∙ c.in_err-rest.was in
-    let same = (alone _ _ _ _ (seen _ _ _ _ c.self.view_is c.self.invariant) c.args.head c.requires none).1 in
-    λ i. record c.args.self.now { held = sym same i }
+    let same = alone _ _ _ _ (seen _ _ _ _ c.self.view_is c.self.invariant) c.args.head c.requires none in
+    λ i. record c.args.self.now { held = divided (λ n. n) c.args.head (sym same i) c.args.self.now.held }
 
 pub overflow_sub-span : goal.overflow_sub-span
 overflow_sub-span c =

@@ -1,13 +1,11 @@
 use Rattle.std.proofs.Common.{◌≡◌, ◌<◌, length, ap, subst, sym, ◌∙◌, arith}
 use Rattle.std.specs.Prelude.{is_some}
 use Rattle.std.proofs.lemmas.List.{get_or_read}
-use Rattle.std.proofs.lemmas.Option.{slice_get_within}
 use Rattle.strm_data.specs.CountedStore.{count_of, without_name}
 use Rattle.strm_mblk.specs.declared.blocks.Fields.{Fields}
 use Rattle.strm_mblk.specs.Arena.{shelved_blocks}
 use Rattle.strm_mblk.specs.BlocksLayout.{fields_at, no_fields}
-use Rattle.strm_mblk.specs.NodeLists.{nodes_at}
-use Rattle.strm_mblk.proofs.pulling.SecondFreed.{IsSecond, IsSecondFreed, frees_second, lone, second_used, seen_second}
+use Rattle.strm_mblk.proofs.pulling.SecondFreed.{IsSecond, IsSecondFreed, frees_second, second_used, seen_second}
 use Rattle.strm_mblk.proofs.blocks.Blocks.free_second.Goals as goal
 use Rattle.strm_mblk.proofs.blocks.Blocks.free_second.Goals.{After-index, After-drop_name}
 
@@ -23,14 +21,8 @@ module _ (c : After-index) where
   read : c.index.result.now ≡ fields_at c.self.inside.blocks.items c.args.second
   read = get_or_read c.self.inside.blocks.items c.args.second c.index.result.now second.there c.index.ensures no_fields
 
-pub take_out-requires-clause-there : goal.take_out-requires-clause-there
-take_out-requires-clause-there c = slice_get_within (nodes_at c.self.inside.chains c.args.head) 1 c.args.second (second (goal.at.take_out-requires-clause-there c).After-index).at
-
-pub free-requires : goal.free-requires
-free-requires c =
-    ap is_some
-    (lone c.self.inside.id c.self.inside.data c.self.inside.blocks.items c.self.inside.chains c.self.invariant.filled c.args.head c.args.second
-    (second (goal.at.free-requires c).After-index) c.take_out.new.self c.take_out.result c.take_out.ensures.answer c.take_out.ensures.after c.take_out.ensures.parted)
+pub free_second-requires : goal.free_second-requires
+free_second-requires c = ap is_some (second (goal.at.free_second-requires c).After-index).held
 
 pub drop_name-requires-clause-there : goal.drop_name-requires-clause-there
 drop_name-requires-clause-there c =
@@ -41,16 +33,14 @@ pub drop_name-requires-clause-used : goal.drop_name-requires-clause-used
 drop_name-requires-clause-used c =
     let before = (goal.at.drop_name-requires-clause-used c).After-index in
     subst (λ (f : Fields). 0 < count_of c.self.inside.data f.data_number) (sym (read before))
-    (second_used c.self.inside.id c.self.inside.data c.self.inside.blocks.items c.self.inside.chains c.self.invariant.filled c.args.head c.args.second
-    (second before) c.take_out.new.self c.take_out.result c.take_out.ensures.answer c.take_out.ensures.after c.take_out.ensures.parted)
+    (second_used c.self.inside.id c.self.inside.data c.self.inside.blocks.items c.self.inside.chains c.self.invariant.filled c.args.head c.args.second (second before))
 
-is_freed : (c : After-drop_name) → IsSecondFreed c.args.self.now c.drop_name.new.self c.self.inside.blocks.items c.free.new.self c.self.inside.id c.args.head
+is_freed : (c : After-drop_name) → IsSecondFreed c.args.self.now c.drop_name.new.self c.self.inside.blocks.items c.free_second.new.self c.self.inside.id c.args.head
 is_freed c =
     let before = (goal.at.invariant_of-self c).After-index in
-    subst (λ a. IsSecondFreed a c.drop_name.new.self c.self.inside.blocks.items c.free.new.self c.self.inside.id c.args.head) c.self.view_is
-    (frees_second c.self.inside.id c.self.inside.data c.self.inside.blocks.items c.self.inside.chains c.self.invariant.filled c.args.head c.args.second (second before)
-    c.take_out.new.self c.take_out.result c.take_out.ensures.answer c.take_out.ensures.after c.take_out.ensures.parted c.drop_name.new.self c.free.new.self
-    (c.drop_name.ensures.after ∙ ap (λ (f : Fields). without_name f.data_number c.self.inside.data) (read before)) c.drop_name.ensures.kept c.free.ensures.after c.free.ensures.parted)
+    subst (λ a. IsSecondFreed a c.drop_name.new.self c.self.inside.blocks.items c.free_second.new.self c.self.inside.id c.args.head) c.self.view_is
+    (frees_second c.self.inside.id c.self.inside.data c.self.inside.blocks.items c.self.inside.chains c.self.invariant.filled c.args.head c.args.second (second before) c.drop_name.new.self c.free_second.new.self
+    (c.drop_name.ensures.after ∙ ap (λ (f : Fields). without_name f.data_number c.self.inside.data) (read before)) c.drop_name.ensures.kept c.free_second.ensures.after c.free_second.ensures.parted)
 
 pub invariant_of-self : goal.invariant_of-self
 invariant_of-self c =
