@@ -3,7 +3,7 @@
 //! UNIX System V Release 4 STREAMS links the blocks of a message one way, each to the one behind it.
 //! That the links stand in one arena, as numbers, and that a chain's first node tells its last one and
 //! its length, is this project's own choice: two chains are joined at once, however long they are.
-ghost use Rattle.std.specs.Prelude.{◌≡◌, ◌≢◌, ℕ, ◌+◌, ◌^◌, ◌<◌, ◌≤◌, ◌++◌, ◌==◌, nat_lt, drop, is_none, is_some, length, map, reverse, take, false, if◌then◌else◌, IfOk, IfSome, IsSome, IsTrue, slice_get, slice_set, vec_len};
+ghost use Rattle.std.specs.Prelude.{◌≡◌, ◌≢◌, ℕ, ◌+◌, ◌-◌, ◌^◌, ◌<◌, ◌≤◌, ◌++◌, ◌==◌, nat_lt, drop, is_none, is_some, length, map, reverse, take, false, if◌then◌else◌, IfOk, IfSome, IsSome, IsTrue, slice_get, slice_set, vec_len};
 ghost use Rattle.std.specs.List.{range_with_len};
 ghost use Rattle.strm_links.specs.Rows.{IsApart, first, has, last};
 ghost use Rattle.strm_links.specs.Layout.{LeadsOn, walk};
@@ -71,6 +71,22 @@ impl Span {
         ensures { result ≡ no_span }
     {
         Span { last: 0, len: 0 }
+    }
+
+    // What the head keeps once the node behind `ahead` has left the chain, which led on to `next`.
+    #[inline(always)]
+    fn without_one(self, ahead: u32, next: Slot) -> Span
+        requires { 0 < self.len }
+        ensures { result ≡ record { last = (if is_none next then ahead else self.last); len = self.len - 1 } }
+    {
+        Span {
+            last: if next.get().is_none() {
+                ahead
+            } else {
+                self.last
+            },
+            len: self.len - 1,
+        }
     }
 }
 
@@ -172,14 +188,6 @@ fn turn(nodes: &mut Vec<Node>, head: u32, len: u32, beyond: Slot)
         node.next = onto;
         onto = Slot::some(number);
     }
-}
-
-// The last node of a chain from which the one behind `ahead` has left, which led on to `next`.
-#[inline(always)]
-fn last_left(next: Slot, ahead: u32, last: u32) -> u32
-    ensures { result ≡ (if is_none next then ahead else last) }
-{
-    if next.get().is_none() { ahead } else { last }
 }
 
 // So many free nodes, in rising order.
@@ -385,14 +393,7 @@ impl Strands {
         let next = self.nodes[node as usize].next;
         lead(&mut self.nodes, ahead, next);
         chain_up(&mut self.nodes, node, node, 1);
-        keep(
-            &mut self.nodes,
-            head,
-            Span {
-                last: last_left(next, ahead, span.last),
-                len: span.len - 1,
-            },
-        );
+        keep(&mut self.nodes, head, span.without_one(ahead, next));
         Some(node)
     }
 
@@ -430,14 +431,7 @@ impl Strands {
         let beyond = self.nodes[second as usize].next;
         lead(&mut self.nodes, head, beyond);
         lead(&mut self.nodes, second, self.front);
-        keep(
-            &mut self.nodes,
-            head,
-            Span {
-                last: last_left(beyond, head, span.last),
-                len: span.len - 1,
-            },
-        );
+        keep(&mut self.nodes, head, span.without_one(head, beyond));
         self.front = next;
         self.count += 1;
         Some(second)

@@ -103,6 +103,20 @@ impl Twin {
         Ok(())
     }
 
+    // Frees the second node of a chain, if there is one.
+    fn free_second(&mut self, rt: &impl Abort, head: u32) -> Result<(), Fail> {
+        assert!(rt; head < NODES);
+        assert!(rt; self.strands.is_held(head));
+        let freed = self.strands.free_second(head);
+        let plain = &mut self.chains[head as usize];
+        assert_eq!(rt; freed, plain.get(1).copied());
+        if let Some(node) = freed {
+            plain.remove(1);
+            self.free.push(node)?;
+        }
+        Ok(())
+    }
+
     // Frees the nodes of a chain.
     fn free(&mut self, rt: &impl Abort, head: u32) -> Result<(), Fail> {
         assert!(rt; head < NODES);
@@ -145,7 +159,7 @@ impl Twin {
         let head = below(draw, NODES);
         let other = below(draw, NODES);
         let small = 1 + below(draw, 6);
-        let choice = below(draw, 8);
+        let choice = below(draw, 9);
         if !self.is_held(rt, head) {
             return self.start(rt, small, choice);
         }
@@ -153,6 +167,7 @@ impl Twin {
             0 => self.free(rt, head),
             1 => self.divide(rt, head),
             2 | 3 => self.take_out(rt, head, small),
+            4 => self.free_second(rt, head),
             _ if head != other && self.is_held(rt, other) => self.join(rt, head, other),
             _ => Ok(()),
         }
@@ -200,6 +215,13 @@ fn worked_rows(rt: HostRuntime) -> Result<(), Fail> {
     // The last freed is taken first.
     twin.begin_all(&rt, 4)?;
     twin.compare(&rt, 4, &[4, 3, 1, 5]);
+    twin.free_second(&rt, 4)?;
+    twin.free_second(&rt, 4)?;
+    twin.compare(&rt, 4, &[4, 5]);
+    twin.free_second(&rt, 4)?;
+    twin.free_second(&rt, 4)?;
+    twin.begin_all(&rt, 3)?;
+    twin.compare(&rt, 5, &[5, 1, 3]);
     Ok(())
 }
 

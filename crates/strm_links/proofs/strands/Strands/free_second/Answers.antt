@@ -47,9 +47,9 @@ lead-requires-2 c =
     let laid = seen _ _ _ _ c.self.view_is c.self.invariant in
     omega (arith, laid.node_count, c.lead.ensures.len, low at.In_ok-second (link at.After-get))
 
-pub overflow_sub-span : goal.overflow_sub-span
-overflow_sub-span c =
-    let at = (goal.at.overflow_sub-span c).After-get in
+pub without_one-requires : goal.without_one-requires
+without_one-requires c =
+    let at = (goal.at.without_one-requires c).After-get in
     omega (
       arith,
       ap (λ (x : Node). x.span.len) (read at),
@@ -79,7 +79,7 @@ laid c link is =
     c.keep.new.nodes.items (omega (arith, c.keep.ensures.len, c.lead-2.ensures.len, c.lead.ensures.len))
     (λ k. c.keep.ensures.nexts k ∙ c.lead-2.ensures.nexts k ∙ (λ i. if n == k then c.self.inside.front else c.lead.ensures.nexts k i) ∙ (λ i. if n == k then c.self.inside.front else (if h == k then behind i else next_at nodes k)))
     (λ k. c.keep.ensures.spans k
-    ∙ (λ i. if h == k then record { last = c.last_left.ensures i; len = c.index.result.now.span.len - 1 } else c.lead-2.ensures.spans k i)
+    ∙ (λ i. if h == k then c.without_one.ensures i else c.lead-2.ensures.spans k i)
     ∙ (λ i. if h == k then record { last = (if is_none (behind i) then h else (is i).span.last); len = (is i).span.len - 1 } else c.lead.ensures.spans k i)))
 
 pub invariant_of-self : goal.invariant_of-self
