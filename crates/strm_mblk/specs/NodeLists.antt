@@ -1,5 +1,5 @@
 -- Message blocks as mere numbers: the free ones, and the messages that the others make. No public clause cites this module.
-use Rattle.std.specs.Prelude.{◌≡◌, ℕ, ◌<◌, nat_lt, List, [], ◌∷◌, ◌++◌, length, map, replicate, Option, None, Some, IfSome, slice_index_or, slice_set, if◌then◌else◌}
+use Rattle.std.specs.Prelude.{◌≡◌, ℕ, ◌<◌, nat_lt, List, [], ◌∷◌, ◌++◌, length, map, replicate, Option, None, Some, IfSome, slice_get, slice_index_or, slice_set, if◌then◌else◌}
 use Rattle.std.specs.List.{All, range_with_len}
 use Rattle.strm_links.specs.Rows.{first}
 use Rattle.strm_data.specs.DataStore.{times}
@@ -15,6 +15,11 @@ pub record NodeLists : Type 0 where
 -- the numbers of the message held at h
 abbrev pub nodes_at : NodeLists → ℕ → List ℕ
 nodes_at v h = blocks_of (held_in v.held h)
+
+-- a walk along the message held at h has come to n, its block i; once it is past the last one, n is any message block
+pub record IsReached (v : NodeLists) (h i n : ℕ) : Type 0 where
+  pub here : i < length (nodes_at v h) → slice_get (nodes_at v h) i ≡ Some n
+  pub in_range : n < length v.held
 
 -- the number that a message begins with
 abbrev pub head_node : List ℕ → ℕ

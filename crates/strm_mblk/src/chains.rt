@@ -4,7 +4,7 @@ ghost use Rattle.std.specs.Option.{ForSome};
 ghost use Rattle.strm_links.specs.Rows.{IsParting, after, before, first, has, holder, last, list_at};
 ghost use Rattle.strm_mblk.specs.ChainLayout.{put_in};
 ghost use Rattle.strm_mblk.specs.Messages.{divided, held_in, joined, put_before_head, shelf_in, with_head, without_head};
-ghost use Rattle.strm_mblk.specs.NodeLists.{IsNodesParted, after_begin, after_second_freed, head_node, heads_on, nodes_at, opening_nodes, shelved_nodes};
+ghost use Rattle.strm_mblk.specs.NodeLists.{IsNodesParted, IsReached, after_begin, after_second_freed, head_node, heads_on, nodes_at, opening_nodes, shelved_nodes};
 ghost use Rattle.strm_mblk.specs.Limits.{most_message_blocks};
 
 #[cfg(test)]
@@ -103,6 +103,16 @@ impl Chains {
         ensures in_range { IfSome result (λ n. n < length self.now.held) }
     {
         self.strands.next(node)
+    }
+
+    // The message block behind this one in its message, or this one again where it is the last.
+    #[inline(always)]
+    pub(crate) fn onward(&self, node: u32) -> u32
+        requires { node < length self.now.held }
+        ensures held { (h i : ℕ) → IsReached self.now h i node → IsReached self.now h (i + 1) result }
+        ensures in_range { result < length self.now.held }
+    {
+        self.strands.next(node).unwrap_or(node)
     }
 
     // Makes the first free message block a held message, if one is free.

@@ -1,5 +1,5 @@
 -- The blocks of a held message by their place, as the code finds them.
-use Rattle.std.proofs.Common.{◌≡◌, ℕ, ◌<◌, true, List, length, Some, None, sym, ap, ◌∙◌, inl, inr}
+use Rattle.std.proofs.Common.{◌≡◌, ℕ, ◌<◌, true, List, length, Some, None, sym, ap, ◌∙◌, inl, inr, arith}
 use Rattle.std.specs.Prelude.{option_map, slice_get}
 use Rattle.std.proofs.lemmas.Bool.{cases_lt}
 use Rattle.std.proofs.lemmas.List.{get_or_past}
@@ -10,7 +10,8 @@ use Rattle.strm_mblk.specs.declared.token.TokenValue.{TokenValue}
 use Rattle.strm_mblk.specs.Arena.{Arena, has, message_at, names_of}
 use Rattle.strm_mblk.specs.BlocksLayout.{IsFilled, IsPlaced, arena_of, block_at, fields_at, message_of}
 use Rattle.strm_mblk.specs.Messages.{blocks_of, held_in}
-use Rattle.strm_mblk.specs.NodeLists.{NodeLists, nodes_at}
+use Rattle.strm_mblk.specs.NodeLists.{IsReached, NodeLists, nodes_at}
+use Rattle.strm_mblk.proofs.freeing.Freemsg.{token_nodes}
 use Rattle.strm_mblk.proofs.layout.Rewriting.{held_nodes, node_room}
 use Rattle.strm_mblk.proofs.layout.Shown.{message_at-seen, slice_get-mapped}
 use Rattle.strm_mblk.proofs.arena.Tokens.{had_message}
@@ -59,3 +60,9 @@ module _ (id : ℕ) (s : CountedStore) (fields : List Fields) (v : NodeLists) (f
         placed = filled.placed n there;
         named = filled.counts (fields_at fields n).data_number ∙ ap (λ x. names_of x (fields_at fields n).data_number) is;
       }
+
+  -- a walk that has come to a block of it
+  pub block_reached : (t : TokenValue) → t.head ≡ h → has a t ≡ true → (n : ℕ) → IsReached v h k n → k < t.blocks → IsAt s fields v a h k n (nodes_at v h)
+  block_reached t head had n reached few =
+      let long = (token_nodes id s fields v t (ap (λ x. has x t) is ∙ had)).1 in
+      block_some t head had n (reached.here (omega (arith, few, long, ap (λ g. length (nodes_at v g)) head)))

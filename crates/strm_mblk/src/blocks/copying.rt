@@ -61,15 +61,14 @@ fn copies_fit(chains: &Chains, blocks: &[Fields], stored: &Data, head: u32, coun
     ensures refused { result ≡ false → model.copies (take count (message_of blocks.now (nodes_at chains.now head))) stored.now.store ≡ Err NoData }
 {
     let mut left = free_counts(stored);
-    let mut at = Some(head);
+    let mut node = head;
     for _block in 0..count {
-        let node = at.unwrap();
         let size = stored.cap(blocks[node as usize].data_number);
         let Some(class) = class_left(stored, &left, size) else {
             return false;
         };
         left[usize::from(class)] -= 1;
-        at = chains.next(node);
+        node = chains.onward(node);
     }
     true
 }
@@ -119,14 +118,12 @@ fn copy_blocks(
     ensures after { AreCopied (take count (message_of blocks.old (nodes_at chains.now from))) (nodes_at chains.now into) blocks.old blocks.new stored.old stored.new }
     ensures kept { IsKept stored.new }
 {
-    let mut source = Some(from);
-    let mut target = Some(into);
+    let mut read = from;
+    let mut written = into;
     for _block in 0..count {
-        let read = source.unwrap();
-        let written = target.unwrap();
         blocks[written as usize] = copy_data(stored, blocks[read as usize]);
-        source = chains.next(read);
-        target = chains.next(written);
+        read = chains.onward(read);
+        written = chains.onward(written);
     }
 }
 

@@ -29,16 +29,15 @@ fn give_names(chains: &Chains, blocks: &[Fields], stored: &mut Data, head: u32, 
     ensures after { stored.new ≡ (if result then with_names_given (take count (named_by blocks.now (nodes_at chains.now head))) stored.old else stored.old) }
     ensures kept { IsKept stored.new }
 {
-    let mut at = Some(head);
+    let mut node = head;
     for given in 0..count {
-        let node = at.unwrap();
         let data_number = blocks[node as usize].data_number;
         if stored.count(data_number) == MOST_DATA_BLOCK_NAMES {
             drop_names(chains, blocks, stored, head, given);
             return false;
         }
         stored.name(data_number);
-        at = chains.next(node);
+        node = chains.onward(node);
     }
     true
 }
@@ -54,15 +53,13 @@ fn copy_fields(chains: &Chains, blocks: &mut [Fields], from: u32, to: u32, count
     requires apart { (n : ℕ) → times n (nodes_at chains.now from) + times n (nodes_at chains.now to) ≤ 1 }
     ensures { blocks.new ≡ with_fields (nodes_at chains.now to) (map (fields_at blocks.old) (take count (nodes_at chains.now from))) blocks.old }
 {
-    let mut source = Some(from);
-    let mut target = Some(to);
+    let mut read = from;
+    let mut written = to;
     for _block in 0..count {
-        let read = source.unwrap();
-        let written = target.unwrap();
         let said = blocks[read as usize];
         blocks[written as usize] = said;
-        source = chains.next(read);
-        target = chains.next(written);
+        read = chains.onward(read);
+        written = chains.onward(written);
     }
 }
 

@@ -31,12 +31,10 @@ pub(super) fn drop_names(
     ensures after { stored.new ≡ with_names_dropped (take count (named_by blocks.now (nodes_at chains.now head))) stored.old }
     ensures kept { IsKept stored.new }
 {
-    let mut at = Some(head);
+    let mut node = head;
     for _block in 0..count {
-        if let Some(node) = at {
-            stored.drop_name(blocks[node as usize].data_number);
-            at = chains.next(node);
-        }
+        stored.drop_name(blocks[node as usize].data_number);
+        node = chains.onward(node);
     }
 }
 

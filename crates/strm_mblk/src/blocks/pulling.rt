@@ -54,17 +54,16 @@ fn copy_front(
     ensures kept { IsKept stored.new }
 {
     let mut done = 0;
-    let mut next = Some(head);
+    let mut node = head;
     for _block in 0..chains.len(head) {
         if done == count {
             return;
         }
-        let node = next.unwrap();
         let fields = blocks[node as usize];
         let len = fields.len.min(count - done);
         stored.copy(fields.data_number, fields.offset, into, done, len);
         done += len;
-        next = chains.next(node);
+        node = chains.onward(node);
     }
 }
 

@@ -24,13 +24,10 @@ impl Blocks {
         ensures { result ≡ sum_by (len_counted data_alone self.now.store) (message_at self.now token.now.head) }
     {
         let mut sum = 0;
-        let mut at = Some(token.head());
+        let mut node = token.head();
         for _block in 0..token.blocks() {
-            let Some(node) = at else {
-                return sum;
-            };
             sum += self.length_of(self.blocks[node as usize], data_alone);
-            at = self.chains.next(node);
+            node = self.chains.onward(node);
         }
         sum
     }
@@ -80,15 +77,12 @@ impl Blocks {
     {
         let mut skip = at;
         let mut done = 0;
-        let mut next = Some(token.head());
+        let mut node = token.head();
         for _block in 0..token.blocks() {
-            let Some(node) = next else {
-                return done;
-            };
             let fields = self.blocks[node as usize];
             done += self.read_block(fields, skip, &mut into[done..]);
             skip = skip.saturating_sub(fields.len);
-            next = self.chains.next(node);
+            node = self.chains.onward(node);
         }
         done
     }

@@ -79,18 +79,15 @@ fn run_in(
         size: 0,
         kind: stored.kind(data_number),
     };
-    let mut at = Some(head);
+    let mut node = head;
     for block in 0..count {
-        let Some(node) = at else {
-            return run;
-        };
         let fields = blocks[node as usize];
         let kind = stored.kind(fields.data_number);
         if !from_tail && kind != run.kind {
             return run;
         }
         run = run.with(node, count - block, kind, fields.len);
-        at = chains.next(node);
+        node = chains.onward(node);
     }
     run
 }
@@ -122,18 +119,15 @@ fn cut(chains: &Chains, blocks: &mut [Fields], first: u32, count: u32, bytes: u3
     ensures { (h i : ℕ) → slice_get (nodes_at chains.now h) i ≡ Some first → i + count ≡ length (nodes_at chains.now h) → blocks.new ≡ with_bytes_cut from_tail bytes (drop i (nodes_at chains.now h)) blocks.old }
 {
     let mut left = bytes;
-    let mut at = Some(first);
+    let mut node = first;
     for _block in 0..count {
-        let Some(node) = at else {
-            return;
-        };
         if left == 0 && !from_tail {
             return;
         }
         let fields = blocks[node as usize];
         blocks[node as usize] = fields.cut(left, from_tail);
         left = left.saturating_sub(fields.len);
-        at = chains.next(node);
+        node = chains.onward(node);
     }
 }
 

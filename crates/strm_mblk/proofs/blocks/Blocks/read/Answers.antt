@@ -6,43 +6,27 @@ use Rattle.strm_mblk.specs.Block.{bytes_of, bytes_of_block}
 use Rattle.strm_mblk.specs.BlocksLayout.{IsPlaced, block_of, fields_at, no_fields}
 use Rattle.strm_mblk.specs.NodeLists.{nodes_at}
 use Rattle.strm_mblk.proofs.reading.Bytes.{IsRead, all_read, bytes_from, length-bytes_of_block, length-message, past_last}
-use Rattle.strm_mblk.proofs.lists.ListParts.{drop_past, put_rest}
+use Rattle.strm_mblk.proofs.lists.ListParts.{put_rest}
 use Rattle.strm_mblk.proofs.lists.Overlaid.{IsLaid, laid_on}
-use Rattle.strm_mblk.proofs.layout.Places.{IsAt, block_none, block_some}
+use Rattle.strm_mblk.proofs.layout.Places.{IsAt, block_reached}
 use borrow.Rule.Slice.PartMut.{put_mid}
 use Rattle.strm_mblk.proofs.blocks.Blocks.read.Goals as goal
-use Rattle.strm_mblk.proofs.blocks.Blocks.read.Goals.{After-index-fields, After-loop-block, In_default}
-
--- where no block is left, all is read
-read_before : (c : In_default) → IsRead c.args.self.now.store (message_at c.args.self.now c.args.token.now.head) c.args.at c.args.into.now c.loop-block.into c.loop-block.done
-read_before c =
-    let none =
-    block_none c.self.inside.id c.self.inside.data c.self.inside.blocks.items c.self.inside.chains c.self.invariant.filled c.args.self.now c.self.view_is c.args.token.now.head c.loop-block._block
-    (sym c.loop-block.invariant.node ∙ c.in_default.is) in
-    all_read c.self.inside.id c.self.inside.data c.self.inside.blocks.items c.self.inside.chains c.self.invariant.filled c.args.self.now c.self.view_is c.args.token.now c.requires
-    c.args.at c.loop-block.skip c.loop-block._block c.loop-block.done c.args.into.now c.loop-block.into
-    (drop_past (message_at c.args.self.now c.args.token.now.head) c.loop-block._block none) c.loop-block.invariant.laid
-
-pub returns-in_default-clause-count : goal.returns-in_default-clause-count
-returns-in_default-clause-count c = (read_before c).count
-
-pub returns-in_default-clause-bytes : goal.returns-in_default-clause-bytes
-returns-in_default-clause-bytes c = (read_before c).bytes
+use Rattle.strm_mblk.proofs.blocks.Blocks.read.Goals.{After-index-fields, After-loop-block}
 
 module _ (c : After-index-fields) where
   -- the block at this step
-  is_at : IsAt c.self.inside.data c.self.inside.blocks.items c.self.inside.chains c.args.self.now c.args.token.now.head c.loop-block._block c.in-Some.node (nodes_at c.self.inside.chains c.args.token.now.head)
+  is_at : IsAt c.self.inside.data c.self.inside.blocks.items c.self.inside.chains c.args.self.now c.args.token.now.head c.loop-block._block c.loop-block.node (nodes_at c.self.inside.chains c.args.token.now.head)
   is_at =
-      block_some c.self.inside.id c.self.inside.data c.self.inside.blocks.items c.self.inside.chains c.self.invariant.filled c.args.self.now c.self.view_is c.args.token.now.head c.loop-block._block
-      c.args.token.now refl c.requires c.in-Some.node (sym c.loop-block.invariant.node ∙ c.in-Some.is)
+      block_reached c.self.inside.id c.self.inside.data c.self.inside.blocks.items c.self.inside.chains c.self.invariant.filled c.args.self.now c.self.view_is c.args.token.now.head c.loop-block._block
+      c.args.token.now refl c.requires c.loop-block.node c.loop-block.invariant.at (omega (arith, c.loop-block-test.true, c.blocks-block-end.ensures))
 
   -- what was read is what it says
-  read : c.index-fields.result.now ≡ fields_at c.self.inside.blocks.items c.in-Some.node
-  read = get_or_read c.self.inside.blocks.items c.in-Some.node c.index-fields.result.now is_at.there c.index-fields.ensures no_fields
+  read : c.index-fields.result.now ≡ fields_at c.self.inside.blocks.items c.loop-block.node
+  read = get_or_read c.self.inside.blocks.items c.loop-block.node c.index-fields.result.now is_at.there c.index-fields.ensures no_fields
 
   -- its places lie in its data block
-  placed : IsPlaced c.args.self.now.store (fields_at c.self.inside.blocks.items c.in-Some.node)
-  placed = subst (λ (a : Arena). IsPlaced a.store (fields_at c.self.inside.blocks.items c.in-Some.node)) c.self.view_is is_at.placed
+  placed : IsPlaced c.args.self.now.store (fields_at c.self.inside.blocks.items c.loop-block.node)
+  placed = subst (λ (a : Arena). IsPlaced a.store (fields_at c.self.inside.blocks.items c.loop-block.node)) c.self.view_is is_at.placed
 
 pub read_block-done-requires : goal.read_block-done-requires
 read_block-done-requires c =
@@ -55,7 +39,7 @@ loop-block-preserved c =
     let store = c.args.self.now.store in
     let m = message_at c.args.self.now c.args.token.now.head in
     let k = c.loop-block._block in
-    let node = c.in-Some.node in
+    let node = c.loop-block.node in
     let skip = c.loop-block.skip in
     let f = fields_at c.self.inside.blocks.items node in
     let all = drop c.args.at (bytes_of store m) in
@@ -77,8 +61,7 @@ loop-block-preserved c =
     let on = laid_on all own rest c.args.into.now now new done count laid counted copied in
     let skipped : skip - f.len ≡ c.saturating_sub-skip.result = sym (c.saturating_sub-skip.ensures ∙ ap (λ (g : Fields). skip - g.len) (read before)) in
     record {
-      node = c.next-next.ensures.held c.args.token.now.head k (is_at before).at;
-      in_range = c.next-next.ensures.in_range;
+      at = c.onward-node.ensures.held c.args.token.now.head k c.loop-block.invariant.at;
       laid =
           subst (λ n. IsLaid all (drop n (bytes_of store (drop (k + 1) m))) c.args.into.now (put_mid done (length now - done) now new) (done + count)) skipped
           (subst (λ xs. IsLaid all rest c.args.into.now xs (done + count)) (sym (put_rest done now new)) on);
@@ -98,9 +81,6 @@ returns-clause-count c = (read_after c).count
 
 pub returns-clause-bytes : goal.returns-clause-bytes
 returns-clause-bytes c = (read_after c).bytes
-
-pub returns-in_default-clause-sized : goal.returns-in_default-clause-sized
-returns-in_default-clause-sized c = length-message c.self.inside.id c.self.inside.data c.self.inside.blocks.items c.self.inside.chains c.self.invariant.filled c.args.self.now c.self.view_is c.args.token.now c.requires
 
 pub returns-clause-sized : goal.returns-clause-sized
 returns-clause-sized c = length-message c.self.inside.id c.self.inside.data c.self.inside.blocks.items c.self.inside.chains c.self.invariant.filled c.args.self.now c.self.view_is c.args.token.now c.requires

@@ -7,24 +7,24 @@ use Rattle.strm_mblk.specs.Arena.{Arena, has, message_at}
 use Rattle.strm_mblk.specs.Block.{len_counted, size_of}
 use Rattle.strm_mblk.specs.BlocksLayout.{block_at, block_of, no_fields}
 use Rattle.strm_mblk.specs.NodeLists.{nodes_at}
-use Rattle.strm_mblk.proofs.layout.Places.{IsAt, block_none, block_some}
-use Rattle.strm_mblk.proofs.reading.Summing.{sum_from, sum_past, counted_most, message_small}
+use Rattle.strm_mblk.proofs.layout.Places.{IsAt, block_reached}
+use Rattle.strm_mblk.proofs.reading.Summing.{sum_from, counted_most, message_small}
 use Rattle.strm_mblk.proofs.blocks.Blocks.sum_of_lengths.Goals as goal
 use Rattle.strm_mblk.proofs.blocks.Blocks.sum_of_lengths.Goals.{After-length_of-sum}
 use Rattle.strm_mblk.specs.Limits.{most_message_blocks}
 
 module _ (c : After-length_of-sum) where
   -- the block at this step
-  is_at : IsAt c.self.inside.data c.self.inside.blocks.items c.self.inside.chains c.args.self.now c.args.token.now.head c.loop-block._block c.in-Some.node (nodes_at c.self.inside.chains c.args.token.now.head)
+  is_at : IsAt c.self.inside.data c.self.inside.blocks.items c.self.inside.chains c.args.self.now c.args.token.now.head c.loop-block._block c.loop-block.node (nodes_at c.self.inside.chains c.args.token.now.head)
   is_at =
-      block_some c.self.inside.id c.self.inside.data c.self.inside.blocks.items c.self.inside.chains c.self.invariant.filled c.args.self.now c.self.view_is c.args.token.now.head c.loop-block._block
-      c.args.token.now refl c.requires c.in-Some.node (sym c.loop-block.invariant.node ∙ c.in-Some.is)
+      block_reached c.self.inside.id c.self.inside.data c.self.inside.blocks.items c.self.inside.chains c.self.invariant.filled c.args.self.now c.self.view_is c.args.token.now.head c.loop-block._block
+      c.args.token.now refl c.requires c.loop-block.node c.loop-block.invariant.at (omega (arith, c.loop-block-test.true, c.blocks-block-end.ensures))
 
   -- from it on there is its length and what is behind it
   adds : sum_by (len_counted c.args.data_alone c.args.self.now.store) (drop c.loop-block._block (message_at c.args.self.now c.args.token.now.head))
       ≡ c.length_of-sum.result + sum_by (len_counted c.args.data_alone c.args.self.now.store) (drop (c.loop-block._block + 1) (message_at c.args.self.now c.args.token.now.head))
   adds =
-      let n = c.in-Some.node in
+      let n = c.loop-block.node in
       let read = get_or_read c.self.inside.blocks.items n c.index.result.now is_at.there c.index.ensures no_fields in
       sum_from (len_counted c.args.data_alone c.args.self.now.store) (message_at c.args.self.now c.args.token.now.head) c.loop-block._block (block_at c.self.inside.blocks.items n) is_at.block
       ∙ ap (λ k. k + sum_by (len_counted c.args.data_alone c.args.self.now.store) (drop (c.loop-block._block + 1) (message_at c.args.self.now c.args.token.now.head)))
@@ -40,18 +40,9 @@ pub overflow_add-sum : goal.overflow_add-sum
 overflow_add-sum c =
     omega (arith, c.loop-block.invariant.sum, adds c, small c, counted_most c.args.data_alone c.args.self.now.store (message_at c.args.self.now c.args.token.now.head))
 
-pub returns-in_default : goal.returns-in_default
-returns-in_default c =
-    let none =
-    block_none c.self.inside.id c.self.inside.data c.self.inside.blocks.items c.self.inside.chains c.self.invariant.filled c.args.self.now c.self.view_is c.args.token.now.head c.loop-block._block
-    (sym c.loop-block.invariant.node ∙ c.in_default.is) in
-    omega (arith, c.loop-block.invariant.sum, sum_past (len_counted c.args.data_alone c.args.self.now.store) (message_at c.args.self.now c.args.token.now.head) c.loop-block._block none)
-
 pub loop-block-preserved : goal.loop-block-preserved
 loop-block-preserved c =
-    let before = (goal.at.loop-block-preserved c).After-length_of-sum in
     record {
-      node = c.next-at.ensures.held c.args.token.now.head c.loop-block._block (is_at before).at;
-      sum = omega (arith, c.loop-block.invariant.sum, adds before);
-      in_range = c.next-at.ensures.in_range;
+      at = c.onward-node.ensures.held c.args.token.now.head c.loop-block._block c.loop-block.invariant.at;
+      sum = omega (arith, c.loop-block.invariant.sum, adds (goal.at.loop-block-preserved c).After-length_of-sum);
     }

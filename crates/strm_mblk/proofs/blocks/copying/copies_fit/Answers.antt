@@ -1,6 +1,5 @@
 use Rattle.std.proofs.Common.{◌≡◌, ℕ, ◌+◌, ◌-◌, ◌<◌, ap, sym, ◌∙◌, subst, arith, List, Err, Some, length, length-set, ◌∷◌, set, get_or}
 use Rattle.std.specs.Prelude.{drop, slice_get, take}
-use Rattle.std.specs.Option.{IfSome}
 use Rattle.strm_data.specs.CountedStore.{CountedStore}
 use Rattle.strm_data.specs.DataStore.{capacity_of}
 use Rattle.strm_data.specs.declared.refusal.Refusal.TheVariants.{NoData}
@@ -19,20 +18,20 @@ module _ (c : After-class_left) where
   bs = take c.args.count (message_of c.args.blocks.now (nodes_at c.args.chains.now c.args.head))
 
   abbrev b : Block
-  b = block_at c.args.blocks.now c.unwrap-node.result
+  b = block_at c.args.blocks.now c.loop-block.node
 
-  at : slice_get (nodes_at c.args.chains.now c.args.head) c.loop-block._block ≡ Some c.unwrap-node.result
-  at = sym c.loop-block.invariant.value ∙ c.unwrap-node.ensures
+  at : slice_get (nodes_at c.args.chains.now c.args.head) c.loop-block._block ≡ Some c.loop-block.node
+  at = c.loop-block.invariant.at.here (omega (arith, c.loop-block-test.true, c.requires.count))
 
   -- the block of this step, and those behind it
   next : drop c.loop-block._block bs ≡ b ∷ drop (c.loop-block._block + 1) bs
-  next = next_block c.args.blocks.now (nodes_at c.args.chains.now c.args.head) c.args.count c.loop-block._block c.unwrap-node.result c.loop-block-test.true at
+  next = next_block c.args.blocks.now (nodes_at c.args.chains.now c.args.head) c.args.count c.loop-block._block c.loop-block.node c.loop-block-test.true at
 
-  there : c.unwrap-node.result < length c.args.blocks.now
-  there = omega (arith, c.requires.listed, subst (λ o. IfSome o (λ node. node < length c.args.chains.now.held)) c.unwrap-node.ensures c.loop-block.invariant.in_range)
+  there : c.loop-block.node < length c.args.blocks.now
+  there = omega (arith, c.requires.listed, c.loop-block.invariant.at.in_range)
 
   inside : IsInside c.args.stored.now.store b
-  inside = let placed = c.requires.placed c.unwrap-node.result there in (placed.there, placed.within)
+  inside = let placed = c.requires.placed c.loop-block.node there in (placed.there, placed.within)
 
   -- the size that the class was looked up for
   size_is : c.cap-size.result ≡ capacity_of c.args.stored.now.store b.data_number
@@ -56,8 +55,7 @@ pub loop-block-preserved : goal.loop-block-preserved
 loop-block-preserved c =
     let before = (goal.at.loop-block-preserved c).After-class_left in
     record {
-      value = c.next-at.ensures.held c.args.head c.loop-block._block (at before);
-      in_range = c.next-at.ensures.in_range;
+      at = c.onward-node.ensures.held c.args.head c.loop-block._block c.loop-block.invariant.at;
       len = length-set c.loop-block.left c.from.result _ ∙ c.loop-block.invariant.len;
       ahead =
           subst (λ j. (t : CountedStore) × IsAhead (bs before) (c.loop-block._block + 1) c.args.stored.now t (set c.loop-block.left j (get_or c.loop-block.left j 0 - 1))) (sym c.from.ensures)
@@ -66,5 +64,5 @@ loop-block-preserved c =
           (λ k below is. c.in-Some.ensures.first k below (subst (λ n. IsLeft n c.args.stored.now.store.classes c.loop-block.left k) (sym (size_is before)) is)));
     }
   where
-    sized : (k : ℕ) → IsLeft c.cap-size.result c.args.stored.now.store.classes c.loop-block.left k → IsLeft (capacity_of c.args.stored.now.store (fields_at c.args.blocks.now c.unwrap-node.result).data_number) c.args.stored.now.store.classes c.loop-block.left k
+    sized : (k : ℕ) → IsLeft c.cap-size.result c.args.stored.now.store.classes c.loop-block.left k → IsLeft (capacity_of c.args.stored.now.store (fields_at c.args.blocks.now c.loop-block.node).data_number) c.args.stored.now.store.classes c.loop-block.left k
     sized k = subst (λ n. IsLeft n c.args.stored.now.store.classes c.loop-block.left k) c.cap-size.ensures.answer

@@ -1,6 +1,5 @@
 use Rattle.std.proofs.Common.{◌≡◌, ℕ, ◌∷◌, ◌+◌, ◌<◌, ap, sym, ◌∙◌, subst, arith, List, Some, true, length, set}
 use Rattle.std.specs.Prelude.{drop, slice_get, take}
-use Rattle.std.specs.Option.{IfSome}
 use Rattle.std.specs.Result.{is_ok}
 use Rattle.strm_data.specs.CountedStore.{CountedStore}
 use Rattle.strm_data.specs.DataStore.{capacity_of, take_data}
@@ -15,44 +14,42 @@ use Rattle.strm_mblk.proofs.layout.Places.{nodes_room}
 use Rattle.strm_mblk.proofs.layout.Rewriting.{times_at}
 use Rattle.strm_mblk.proofs.layout.Rooms.{placed-over}
 use Rattle.strm_mblk.proofs.blocks.copying.copy_blocks.Goals as goal
-use Rattle.strm_mblk.proofs.blocks.copying.copy_blocks.Goals.{After-unwrap-written}
+use Rattle.strm_mblk.proofs.blocks.copying.copy_blocks.Goals.{In-loop-block}
 
 pub loop-block-init : goal.loop-block-init
 loop-block-init c = record {
-  source = sym c.requires.from;
-  target = sym c.requires.into;
-  source_range = nodes_room c.args.chains.now c.args.from c.args.from c.requires.from;
-  target_range = nodes_room c.args.chains.now c.args.into c.args.into c.requires.into;
+  read = record { here = λ _. c.requires.from; in_range = nodes_room c.args.chains.now c.args.from c.args.from c.requires.from };
+  written = record { here = λ _. c.requires.into; in_range = nodes_room c.args.chains.now c.args.into c.args.into c.requires.into };
   copying = none_copied _ _ c.args.blocks.now c.args.stored.now;
   kept = c.requires.kept;
 }
 
-module _ (c : After-unwrap-written) where
+module _ (c : In-loop-block) where
   -- the blocks that are copied
   abbrev bs : List Block
   bs = take c.args.count (message_of c.args.blocks.now (nodes_at c.args.chains.now c.args.from))
 
   abbrev of : ℕ
-  of = c.unwrap-read.result
+  of = c.loop-block.read
 
-  source_at : slice_get (nodes_at c.args.chains.now c.args.from) c.loop-block._block ≡ Some of
-  source_at = sym c.loop-block.invariant.source ∙ c.unwrap-read.ensures
+  read_at : slice_get (nodes_at c.args.chains.now c.args.from) c.loop-block._block ≡ Some of
+  read_at = c.loop-block.invariant.read.here (omega (arith, c.loop-block-test.true, c.requires.enough))
 
-  target_at : slice_get (nodes_at c.args.chains.now c.args.into) c.loop-block._block ≡ Some c.unwrap-written.result
-  target_at = sym c.loop-block.invariant.target ∙ c.unwrap-written.ensures
+  written_at : slice_get (nodes_at c.args.chains.now c.args.into) c.loop-block._block ≡ Some c.loop-block.written
+  written_at = c.loop-block.invariant.written.here (omega (arith, c.loop-block-test.true, c.requires.count))
 
   -- the block of this step, and those behind it
   next : drop c.loop-block._block bs ≡ block_at c.args.blocks.now of ∷ drop (c.loop-block._block + 1) bs
-  next = next_block c.args.blocks.now (nodes_at c.args.chains.now c.args.from) c.args.count c.loop-block._block of c.loop-block-test.true source_at
+  next = next_block c.args.blocks.now (nodes_at c.args.chains.now c.args.from) c.args.count c.loop-block._block of c.loop-block-test.true read_at
 
   -- it says what it said before
   said : fields_at c.loop-block.blocks of ≡ fields_at c.args.blocks.now of
   said =
       source_stays bs (nodes_at c.args.chains.now c.args.into) c.loop-block._block c.args.blocks.now c.loop-block.blocks c.args.stored.now c.loop-block.stored c.loop-block.invariant.copying of
-      (omega (arith, c.requires.apart of, times_at of (nodes_at c.args.chains.now c.args.from) c.loop-block._block source_at))
+      (omega (arith, c.requires.apart of, times_at of (nodes_at c.args.chains.now c.args.from) c.loop-block._block read_at))
 
   there : of < length c.args.blocks.now
-  there = omega (arith, c.requires.listed, subst (λ o. IfSome o (λ node. node < length c.args.chains.now.held)) c.unwrap-read.ensures c.loop-block.invariant.source_range)
+  there = omega (arith, c.requires.listed, c.loop-block.invariant.read.in_range)
 
   placed : IsPlaced c.loop-block.stored.store (fields_at c.args.blocks.now of)
   placed =
@@ -61,38 +58,36 @@ module _ (c : After-unwrap-written) where
 
 pub copy_data-requires-clause-placed : goal.copy_data-requires-clause-placed
 copy_data-requires-clause-placed c =
-    let before = (goal.at.copy_data-requires-clause-placed c).After-unwrap-written in
+    let before = (goal.at.copy_data-requires-clause-placed c).In-loop-block in
     subst (IsPlaced c.loop-block.stored.store) (sym (said before)) (placed before)
 
 pub copy_data-requires-clause-fits : goal.copy_data-requires-clause-fits
 copy_data-requires-clause-fits c =
-    let before = (goal.at.copy_data-requires-clause-fits c).After-unwrap-written in
+    let before = (goal.at.copy_data-requires-clause-fits c).In-loop-block in
     subst (λ (f : Fields). is_ok (take_data (capacity_of c.loop-block.stored.store f.data_number) c.loop-block.stored.store) ≡ true) (sym (said before))
     (next_fits (bs before) (nodes_at c.args.chains.now c.args.into) c.loop-block._block c.args.blocks.now c.loop-block.blocks c.args.stored.now c.loop-block.stored c.loop-block.invariant.copying
-    (block_at c.args.blocks.now c.unwrap-read.result) (next before) c.requires.fit)
+    (block_at c.args.blocks.now c.loop-block.read) (next before) c.requires.fit)
 
 pub loop-block-preserved : goal.loop-block-preserved
 loop-block-preserved c =
-    let before = (goal.at.loop-block-preserved c).After-unwrap-written in
+    let before = (goal.at.loop-block-preserved c).In-loop-block in
     let d = c.copy_data.result.data_number in
-    let b = block_at c.args.blocks.now c.unwrap-read.result in
+    let b = block_at c.args.blocks.now c.loop-block.read in
     let says : c.copy_data.result ≡ fields_of (record b { data_number = d }) = c.copy_data.ensures.fields ∙ ap (λ (f : Fields). record f { data_number = d }) (said before) in
     let leaves : c.copy_data.new.stored ≡ with_copy b c.loop-block.stored d =
-    c.copy_data.ensures.after c.unwrap-read.result ∙ ap (λ (f : Fields). with_copy (block_of c.unwrap-read.result f) c.loop-block.stored d) (said before) in
+    c.copy_data.ensures.after c.loop-block.read ∙ ap (λ (f : Fields). with_copy (block_of c.loop-block.read f) c.loop-block.stored d) (said before) in
     let copied =
     next_copied (bs before) (nodes_at c.args.chains.now c.args.into) c.loop-block._block c.args.blocks.now c.loop-block.blocks c.args.stored.now c.loop-block.stored c.loop-block.invariant.copying
-    b (next before) d c.unwrap-written.result
+    b (next before) d c.loop-block.written
     (ap (λ (f : Fields). take_data (capacity_of c.loop-block.stored.store f.data_number) c.loop-block.stored.store) (sym (said before)) ∙ c.copy_data.ensures.taken)
     c.copy_data.ensures.unused
     (omega (arith, ap (λ (f : Fields). capacity_of c.loop-block.stored.store f.data_number) (said before), c.copy_data.ensures.room))
-    (placed before).within (target_at before) in
+    (placed before).within (written_at before) in
     record {
-      source = c.next-source.ensures.held c.args.from c.loop-block._block (source_at before);
-      target = c.next-target.ensures.held c.args.into c.loop-block._block (target_at before);
-      source_range = c.next-source.ensures.in_range;
-      target_range = c.next-target.ensures.in_range;
+      read = c.onward-read.ensures.held c.args.from c.loop-block._block c.loop-block.invariant.read;
+      written = c.onward-written.ensures.held c.args.into c.loop-block._block c.loop-block.invariant.written;
       copying =
-          subst (λ (p : Fields × CountedStore). IsCopying (bs before) (nodes_at c.args.chains.now c.args.into) (c.loop-block._block + 1) c.args.blocks.now (set c.loop-block.blocks c.unwrap-written.result p.0) c.args.stored.now p.1)
+          subst (λ (p : Fields × CountedStore). IsCopying (bs before) (nodes_at c.args.chains.now c.args.into) (c.loop-block._block + 1) c.args.blocks.now (set c.loop-block.blocks c.loop-block.written p.0) c.args.stored.now p.1)
           (λ j. (sym says j, sym leaves j)) copied;
       kept = c.copy_data.ensures.kept;
     }

@@ -1,31 +1,19 @@
-use Rattle.std.proofs.Common.{◌≡◌, ◌<◌, ℕ, Some, length, not, arith, ap, sym, ◌∙◌, subst, is_some}
+use Rattle.std.proofs.Common.{◌≡◌, ◌<◌, ℕ, Some, length, not, arith, ap, sym, ◌∙◌, subst}
 use Rattle.std.specs.Prelude.{slice_get, take}
-use Rattle.std.specs.Option.{IfSome}
-use Rattle.std.proofs.lemmas.Option.{slice_get-get_or}
 use Rattle.strm_data.specs.DataStore.{DataStore}
 use Rattle.strm_mblk.specs.BlocksLayout.{fields_at, named_by, with_names_given}
 use Rattle.strm_mblk.specs.NodeLists.{nodes_at}
 use Rattle.strm_mblk.proofs.freeing.Dropping.{named-get}
 use Rattle.strm_mblk.proofs.making.Giving.{back_now, few_now, named_now, next_full, next_given, next_used, store_now}
 use Rattle.strm_mblk.proofs.blocks.duplicating.give_names.Goals as goal
-use Rattle.strm_mblk.proofs.blocks.duplicating.give_names.Goals.{After-loop-given, After-unwrap-node}
+use Rattle.strm_mblk.proofs.blocks.duplicating.give_names.Goals.{After-loop-given, In-loop-given}
 
-pub unwrap-node-requires : goal.unwrap-node-requires
-unwrap-node-requires c =
-    ap is_some (c.loop-given.invariant.value ∙ slice_get-get_or (nodes_at c.args.chains.now c.args.head) c.loop-given.given 0 (omega (arith, c.loop-given-test.true, c.requires.count)))
-
-module _ (c : After-unwrap-node) where
-  pub node_room : c.unwrap-node.result < length c.args.chains.now.held
-  node_room = subst (λ o. IfSome o (λ node. node < length c.args.chains.now.held)) c.unwrap-node.ensures c.loop-given.invariant.in_range
-
+module _ (c : In-loop-given) where
   abbrev d : ℕ
-  d = (fields_at c.args.blocks.now c.unwrap-node.result).data_number
-
-  node_at : slice_get (nodes_at c.args.chains.now c.args.head) c.loop-given.given ≡ Some c.unwrap-node.result
-  node_at = sym c.loop-given.invariant.value ∙ c.unwrap-node.ensures
+  d = (fields_at c.args.blocks.now c.loop-given.node).data_number
 
   named_at : slice_get (named_by c.args.blocks.now (nodes_at c.args.chains.now c.args.head)) c.loop-given.given ≡ Some d
-  named_at = named-get c.args.blocks.now (nodes_at c.args.chains.now c.args.head) c.loop-given.given c.unwrap-node.result node_at
+  named_at = named-get c.args.blocks.now (nodes_at c.args.chains.now c.args.head) c.loop-given.given c.loop-given.node (c.loop-given.invariant.at.here (omega (arith, c.loop-given-test.true, c.requires.count)))
 
   same_store : c.loop-given.stored.store ≡ c.args.stored.now.store
   same_store = store_now (named_by c.args.blocks.now (nodes_at c.args.chains.now c.args.head)) c.loop-given.given c.args.stored.now c.loop-given.stored c.requires.used c.loop-given.invariant.after
@@ -33,17 +21,14 @@ module _ (c : After-unwrap-node) where
   there : (n : ℕ) → n < length c.args.blocks.now → (fields_at c.args.blocks.now n).data_number < length c.loop-given.stored.store.blocks
   there n within = subst (λ (s : DataStore). (fields_at c.args.blocks.now n).data_number < length s.blocks) (sym same_store) (c.requires.there n within)
 
-  node_in : c.unwrap-node.result < length c.args.blocks.now
-  node_in = omega (arith, node_room, c.requires.blocks)
-
-pub bounds-blocks-node : goal.bounds-blocks-node
-bounds-blocks-node c = node_in c
+  node_in : c.loop-given.node < length c.args.blocks.now
+  node_in = omega (arith, c.loop-given.invariant.at.in_range, c.requires.blocks)
 
 pub count-requires : goal.count-requires
-count-requires c = there c c.unwrap-node.result (node_in c)
+count-requires c = there c c.loop-given.node (node_in c)
 
 pub drop_names-requires-clause-there : goal.drop_names-requires-clause-there
-drop_names-requires-clause-there c = there (goal.at.drop_names-requires-clause-there c).After-unwrap-node
+drop_names-requires-clause-there c = there (goal.at.drop_names-requires-clause-there c).In-loop-given
 
 pub drop_names-requires-clause-named : goal.drop_names-requires-clause-named
 drop_names-requires-clause-named c =
@@ -54,7 +39,7 @@ drop_names-requires-clause-kept c = c.loop-given.invariant.kept
 
 pub returns-then-count-clause-answer : goal.returns-then-count-clause-answer
 returns-then-count-clause-answer c =
-    let at = (goal.at.returns-then-count-clause-answer c).After-unwrap-node in
+    let at = (goal.at.returns-then-count-clause-answer c).In-loop-given in
     sym (ap not (next_full (named_by c.args.blocks.now (nodes_at c.args.chains.now c.args.head)) c.loop-given.given c.args.stored.now c.loop-given.stored c.requires.used c.loop-given.invariant.after
     (d at) (named_at at) c.args.count c.loop-given-test.true (sym c.count.ensures ∙ c.if-count.true)))
 
@@ -64,22 +49,18 @@ returns-then-count-clause-after c =
     ∙ back_now (named_by c.args.blocks.now (nodes_at c.args.chains.now c.args.head)) c.loop-given.given c.args.stored.now c.loop-given.stored c.requires.used c.loop-given.invariant.after
 
 pub name-requires-clause-there : goal.name-requires-clause-there
-name-requires-clause-there c = let at = (goal.at.name-requires-clause-there c).After-unwrap-node in there at c.unwrap-node.result (node_in at)
+name-requires-clause-there c = let at = (goal.at.name-requires-clause-there c).In-loop-given in there at c.loop-given.node (node_in at)
 
 pub name-requires-clause-used : goal.name-requires-clause-used
 name-requires-clause-used c =
-    let at = (goal.at.name-requires-clause-used c).After-unwrap-node in
+    let at = (goal.at.name-requires-clause-used c).In-loop-given in
     next_used (named_by c.args.blocks.now (nodes_at c.args.chains.now c.args.head)) c.loop-given.given c.args.stored.now c.loop-given.stored c.requires.used c.loop-given.invariant.after (d at) (named_at at)
-
-pub next-at-requires : goal.next-at-requires
-next-at-requires c = node_room (goal.at.next-at-requires c).After-unwrap-node
 
 pub loop-given-preserved : goal.loop-given-preserved
 loop-given-preserved c =
-    let at = (goal.at.loop-given-preserved c).After-unwrap-node in
+    let at = (goal.at.loop-given-preserved c).In-loop-given in
     record {
-      value = c.next-at.ensures.held c.args.head c.loop-given.given (node_at at);
-      in_range = c.next-at.ensures.in_range;
+      at = c.onward-node.ensures.held c.args.head c.loop-given.given c.loop-given.invariant.at;
       after =
           c.name.ensures.after
           ∙ next_given (named_by c.args.blocks.now (nodes_at c.args.chains.now c.args.head)) c.loop-given.given c.args.stored.now c.loop-given.stored c.requires.used c.loop-given.invariant.after (d at) (named_at at);

@@ -1,17 +1,15 @@
-use Rattle.std.proofs.Common.{◌≡◌, ◌≤◌, ◌<◌, ℕ, length}
-use Rattle.std.specs.Prelude.{drop, slice_get, take}
-use Rattle.std.specs.Option.{IfSome}
+use Rattle.std.proofs.Common.{◌≡◌, ◌≤◌, ℕ, length}
+use Rattle.std.specs.Prelude.{drop, take}
 use Rattle.strm_data.specs.CountedStore.{IsKept, count_of}
 use Rattle.strm_data.specs.DataStore.{times}
 use Rattle.strm_mblk.specs.BlocksLayout.{named_by, with_names_dropped}
-use Rattle.strm_mblk.specs.NodeLists.{nodes_at}
+use Rattle.strm_mblk.specs.NodeLists.{IsReached, nodes_at}
 use Rattle.strm_mblk.proofs.blocks.freeing.drop_names.Given as goal
 
 -- the names of the first blocks are gone, and those of the others are left to drop
 abbrev pub invariant-loop-block : goal.invariant-loop-block
 invariant-loop-block l = record {
-  value : l.at ≡ slice_get (nodes_at l.chains l.head) l._block;
-  in_range : IfSome l.at (λ node. node < length l.chains.held);
+  at : IsReached l.chains l.head l._block l.node;
   after : with_names_dropped (drop l._block (take l.count (named_by l.blocks (nodes_at l.chains l.head)))) l.stored ≡ with_names_dropped (take l.count (named_by l.blocks (nodes_at l.chains l.head))) l.fn.stored;
   named : (d : ℕ) → times d (drop l._block (take l.count (named_by l.blocks (nodes_at l.chains l.head)))) ≤ count_of l.stored d;
   many : length l.stored.store.blocks ≡ length l.fn.stored.store.blocks;

@@ -1,6 +1,5 @@
-use Rattle.std.proofs.Common.{◌≡◌, ◌≢◌, ℕ, ◌<◌, List, length, Some, sym, ap, ◌∙◌, subst, arith}
+use Rattle.std.proofs.Common.{◌≡◌, ◌≢◌, ℕ, ◌<◌, List, length, Some, ap, ◌∙◌, arith}
 use Rattle.std.specs.Prelude.{option_map, slice_get}
-use Rattle.std.specs.Option.{IfSome}
 use Rattle.strm_data.specs.DataStore.{times}
 use Rattle.strm_mblk.specs.declared.blocks.Fields.{Fields}
 use Rattle.strm_mblk.specs.BlocksLayout.{block_at, fields_at, message_of, named_by}
@@ -18,15 +17,14 @@ apart d fields ns k n none at same =
 
 pub loop-block-preserved : goal.loop-block-preserved
 loop-block-preserved c =
-    let n = c.unwrap-node.result in
+    let n = c.loop-block.node in
     let k = c.loop-block._block in
     let ns = nodes_at c.args.chains.now c.args.head in
     let blocks = c.args.blocks.now in
-    let at : slice_get ns k ≡ Some n = sym c.loop-block.invariant.node ∙ c.unwrap-node.ensures in
-    let there : n < length blocks = omega (arith, c.requires.listed, subst (λ o. IfSome o (λ node. node < length c.args.chains.now.held)) c.unwrap-node.ensures c.loop-block.invariant.in_range) in
+    let at : slice_get ns k ≡ Some n = c.loop-block.invariant.at.here (omega (arith, c.loop-block-test.true)) in
+    let there : n < length blocks = omega (arith, c.requires.listed, c.loop-block.invariant.at.in_range) in
     record {
-      node = c.next-next.ensures.held c.args.head k at;
-      in_range = c.next-next.ensures.in_range;
+      at = c.onward-node.ensures.held c.args.head k c.loop-block.invariant.at;
       copied =
           next_copied c.args.stored.now (message_of blocks ns) c.args.into c.args.count k c.loop-block.done c.loop-block.stored c.loop-block.invariant.copied c.requires.enough c.requires.there
           n (fields_at blocks n) (slice_get-mapped (block_at blocks) ns k ∙ ap (option_map (block_at blocks)) at) (c.requires.placed n there) (apart c.args.into blocks ns k n c.requires.unnamed at)

@@ -7,29 +7,25 @@ use Rattle.strm_mblk.specs.Block.{kind_of}
 use Rattle.strm_mblk.specs.BlocksLayout.{block_at, fields_at}
 use Rattle.strm_mblk.specs.Cutting.{run_with}
 use Rattle.strm_mblk.specs.NodeLists.{nodes_at}
-use Rattle.strm_mblk.proofs.lists.ListParts.{drop_past}
 use Rattle.strm_mblk.proofs.layout.Places.{nodes_room}
 use Rattle.strm_mblk.proofs.trimming.Runs.{IsMeasured, all_measured, first_measured, next_measured, next_small, other_measured}
 use Rattle.strm_mblk.proofs.blocks.trimming.run_in.Goals as goal
-use Rattle.strm_mblk.proofs.blocks.trimming.run_in.Goals.{else-not-from_tail-via-then-not-from_tail+else-ne, else-not-from_tail-via-else-not-from_tail}
+use Rattle.strm_mblk.proofs.blocks.trimming.run_in.Goals.{In-loop-block, else-not-from_tail-via-then-not-from_tail+else-ne, else-not-from_tail-via-else-not-from_tail}
 
 pub loop-block-init : goal.loop-block-init
 loop-block-init c =
     let ns = nodes_at c.args.chains.now c.args.head in
     record {
-      node = sym c.requires.begun;
-      in_range = nodes_room c.args.chains.now c.args.head c.args.head c.requires.begun;
+      at = record { here = λ _. c.requires.begun; in_range = nodes_room c.args.chains.now c.args.head c.args.head c.requires.begun };
       measured =
           subst (λ n. IsMeasured c.args.from_tail c.args.stored.now.store c.args.blocks.now ns 0 (record { first = c.args.head; blocks = n; size = 0; kind = c.kind.result })) (sym c.requires.count)
           (subst (λ k. IsMeasured c.args.from_tail c.args.stored.now.store c.args.blocks.now ns 0 (record { first = c.args.head; blocks = length ns; size = 0; kind = k })) (sym c.kind.ensures)
           (first_measured c.args.from_tail c.args.stored.now.store c.args.blocks.now ns c.args.head c.requires.begun));
     }
 
-pub returns-in_default : goal.returns-in_default
-returns-in_default c =
-    let ns = nodes_at c.args.chains.now c.args.head in
-    all_measured c.args.from_tail c.args.stored.now.store c.args.blocks.now ns c.loop-block.block c.loop-block.run c.loop-block.invariant.measured
-    (drop_past ns c.loop-block.block (sym c.loop-block.invariant.node ∙ c.in_default.is))
+-- the block of this step
+here : (c : In-loop-block) → slice_get (nodes_at c.args.chains.now c.args.head) c.loop-block.block ≡ Some c.loop-block.node
+here c = c.loop-block.invariant.at.here (omega (arith, c.loop-block-test.true, c.requires.count))
 
 pub returns : goal.returns
 returns c =
@@ -41,8 +37,8 @@ pub returns-then-ne : goal.returns-then-ne
 unfolding same_kind
 returns-then-ne c =
     let inv = c.loop-block.invariant in
-    other_measured c.args.from_tail c.args.stored.now.store c.args.blocks.now (nodes_at c.args.chains.now c.args.head) c.loop-block.block c.in-Some.node c.loop-block.run inv.measured
-    (sym inv.node ∙ c.in-Some.is) c.if-not-from_tail.true (not-true _ (sym (c.ne.ensures ∙ ap (λ k. not (same_kind k c.loop-block.run.kind)) c.kind-kind.ensures) ∙ c.if-ne.true))
+    other_measured c.args.from_tail c.args.stored.now.store c.args.blocks.now (nodes_at c.args.chains.now c.args.head) c.loop-block.block c.loop-block.node c.loop-block.run inv.measured
+    (here (goal.at.returns-then-ne c).In-loop-block) c.if-not-from_tail.true (not-true _ (sym (c.ne.ensures ∙ ap (λ k. not (same_kind k c.loop-block.run.kind)) c.kind-kind.ensures) ∙ c.if-ne.true))
 
 pub with-run-requires : goal.with-run-requires
 with-run-requires c =
@@ -50,8 +46,8 @@ with-run-requires c =
     omega (
       arith,
       c.requires.small,
-      next_small c.args.from_tail c.args.stored.now.store c.args.blocks.now (nodes_at c.args.chains.now c.args.head) c.loop-block.block c.in-Some.node c.loop-block.run inv.measured
-          (sym inv.node ∙ c.in-Some.is),
+      next_small c.args.from_tail c.args.stored.now.store c.args.blocks.now (nodes_at c.args.chains.now c.args.head) c.loop-block.block c.loop-block.node c.loop-block.run inv.measured
+          (here (goal.at.with-run-requires c).In-loop-block),
     )
 
 pub loop-block-preserved : goal.loop-block-preserved
@@ -59,9 +55,8 @@ unfolding same_kind
 loop-block-preserved c =
     let inv = c.loop-block.invariant in
     let ns = nodes_at c.args.chains.now c.args.head in
-    let at : slice_get ns c.loop-block.block ≡ Some c.in-Some.node = sym inv.node ∙ c.in-Some.is in
     let s = c.args.stored.now.store in
-    let b = block_at c.args.blocks.now c.in-Some.node in
+    let b = block_at c.args.blocks.now c.loop-block.node in
     let goes : (c.args.from_tail ≡ true) ⊎ (same_kind (kind_of s b) c.loop-block.run.kind ≡ true) =
     elim c.else-not-from_tail.branch [
       | else-not-from_tail-via-then-not-from_tail+else-ne w ↦
@@ -69,9 +64,8 @@ loop-block-preserved c =
       | else-not-from_tail-via-else-not-from_tail w ↦ inl w.if-not-from_tail.false
     ] in
     record {
-      node = c.next-at.ensures.held c.args.head c.loop-block.block at;
-      in_range = c.next-at.ensures.in_range;
+      at = c.onward-node.ensures.held c.args.head c.loop-block.block inv.at;
       measured =
-          subst (IsMeasured c.args.from_tail s c.args.blocks.now ns (c.loop-block.block + 1)) (sym (c.with-run.ensures ∙ (λ i. run_with c.in-Some.node (c.requires.count i - c.loop-block.block) (c.kind-kind.ensures i) (fields_at c.args.blocks.now c.in-Some.node).len c.loop-block.run)))
-          (next_measured c.args.from_tail s c.args.blocks.now ns c.loop-block.block c.in-Some.node c.loop-block.run inv.measured at goes);
+          subst (IsMeasured c.args.from_tail s c.args.blocks.now ns (c.loop-block.block + 1)) (sym (c.with-run.ensures ∙ (λ i. run_with c.loop-block.node (c.requires.count i - c.loop-block.block) (c.kind-kind.ensures i) (fields_at c.args.blocks.now c.loop-block.node).len c.loop-block.run)))
+          (next_measured c.args.from_tail s c.args.blocks.now ns c.loop-block.block c.loop-block.node c.loop-block.run inv.measured (here (goal.at.loop-block-preserved c).In-loop-block) goes);
     }
