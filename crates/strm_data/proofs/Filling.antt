@@ -1,7 +1,7 @@
 -- Lists of free data blocks that are filled one by one.
 use Rattle.std.proofs.Common.{◌≡◌, ℕ, suc, ◌+◌, ◌-◌, ◌<◌, ◌≤◌, List, [], ◌∷◌, ◌++◌, length, get_or, set, take, replicate, sym, ap, ◌∙◌, arith, length-append, get_or-set_same, append_assoc}
 use Rattle.std.specs.List.{range_with_len}
-use Rattle.std.proofs.lemmas.List.{append-nil, set-set, set-append_right, get_or-append_right, get_or-replicate, length-replicate, length-take-le, take_more, take_all}
+use Rattle.std.proofs.lemmas.List.{set-set, set-append_right, get_or-append_right, get_or-replicate, length-replicate, length-take-le, take_more}
 use Rattle.std.proofs.lemmas.List.Sums.{sum_by_push, sum_by_more_le}
 use Rattle.strm_links.specs.Rows.{Rows, list_at}
 pub use Rattle.strm_links.proofs.AllLists.{holder-empty}
@@ -61,12 +61,6 @@ filled-more cs i d first within so_far =
     ∙ ap (λ xs. xs ++ replicate rest [])
     (ap (λ n. front ++ range_with_len n c.count ∷ []) (let e : total_of (take i cs) ≡ 0 + total_of (take i cs) = omega arith in e)
     ∙ sym (numbers_from-push 0 (take i cs) c) ∙ ap (numbers_from 0) (sym (take_more cs i d within)))
-
--- all of them
-pub filled-all : (cs : List ClassSpec) (i : ℕ) → length cs ≤ i → filled cs i ≡ numbers_from 0 cs
-filled-all cs i past =
-    let none : length cs - i ≡ 0 = omega arith in
-    ap (λ n. numbers_from 0 (take i cs) ++ replicate n []) none ∙ append-nil (numbers_from 0 (take i cs)) ∙ ap (numbers_from 0) (take_all i cs past)
 
 -- ---- how many data blocks
 

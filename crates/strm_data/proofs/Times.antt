@@ -25,11 +25,6 @@ pub times_rest_other : (n : ℕ) (xs : List ℕ) → 0 < length xs → get_or xs
 times_rest_other n xs some other =
     sym (times_first n xs some ∙ ap (λ m. m + times n (drop 1 xs)) (cond-false _ 1 0 (ne_eqb _ n other)) ∙ zero-add (times n (drop 1 xs)))
 
--- a number that stands in no place
-pub times_none : (n : ℕ) (xs : List ℕ) → ((k : ℕ) → k < length xs → get_or xs k 0 ≢ n) → times n xs ≡ 0
-times_none n [] absent = refl
-times_none n (x ∷ xs) absent = times_other n x xs (absent 0 (omega arith)) ∙ times_none n xs (λ k within. absent (suc k) (omega arith))
-
 -- a number that stands in some place
 pub times_some : (xs : List ℕ) (k : ℕ) → k < length xs → 0 < times (get_or xs k 0) xs
 times_some [] k within = absurd (omega arith)

@@ -1,14 +1,13 @@
 -- All the lists: which list holds a node, and how the words for all lists follow a change. For callers too.
-use Rattle.std.proofs.Common.{◌≡◌, ◌≢◌, ℕ, zero, suc, ◌+◌, ◌<◌, Bool, true, false, ◌||◌, ◌==◌, List, [], ◌∷◌, ◌++◌, map, length, get_or, set, replicate, Option, Some, None, if◌then◌else◌, refl, sym, ap, ◌∙◌, subst, inl, inr, arith, get_or-set_same, get_or-set_other, length-set}
+use Rattle.std.proofs.Common.{◌≡◌, ◌≢◌, ℕ, zero, suc, ◌<◌, Bool, true, false, ◌||◌, ◌==◌, List, [], ◌∷◌, ◌++◌, map, length, get_or, set, replicate, Option, Some, None, if◌then◌else◌, refl, sym, ap, ◌∙◌, subst, inl, inr, arith, get_or-set_same, get_or-set_other, length-set}
 use Rattle.std.proofs.lemmas.Bool.{cases_eq, cases_lt, cases_Bool, cond-true, cond-false, eq-eqb, ne_eqb, lt-ltb, le-ltb, or_right, false≢true, false_from_ne_true}
 use Rattle.std.proofs.lemmas.List.{length-map, get_or_past, get_or-replicate, length-replicate}
 use Rattle.std.proofs.lemmas.List.Sums.{position_or_len_is, fails_before_first}
 use Rattle.std.proofs.lemmas.List.Quantifiers.{position-Some}
 use Rattle.std.proofs.lemmas.Option.{none-some, same_Some}
-use Rattle.std.specs.List.{All, concat, position_or_len, slice_get}
-use Rattle.std.specs.Option.{option_map_or}
-use Rattle.strm_links.specs.Rows.{Rows, has, IsApart, is_some_of, after, before, without, put_before, list_at, holder, next_in, previous_in, linked_nodes}
-use Rattle.strm_links.proofs.OneList.{All-has, has_left, has_right, has-append, has-without, has_get, after-get, before-get, without-absent, put_before-absent, IsApart-parts, or_false, some_of}
+use Rattle.std.specs.List.{All, concat, position_or_len}
+use Rattle.strm_links.specs.Rows.{Rows, has, IsApart, is_some_of, without, put_before, list_at, holder, linked_nodes}
+use Rattle.strm_links.proofs.OneList.{All-has, has_left, has_right, has-append, has-without, without-absent, put_before-absent, IsApart-parts, or_false, some_of}
 
 -- ---- which list holds a node
 
@@ -217,21 +216,3 @@ module _ (rows : Rows) (apart : IsApart (linked_nodes rows)) where
             (λ not_from not_to. has-holder k m rows apart))
             (λ m is. omega (arith, long, (holder_has k m rows is).0)))
       ]
-
-  -- ---- a walk along a list
-
-  -- the nodes of a list are held by it
-  pub holder-get : (l i n : ℕ) → slice_get (list_at l rows) i ≡ Some n → holder n rows ≡ Some l
-  holder-get l i n is = some_of l (holder n rows) (sym (has-holder n l rows apart) ∙ has_get (list_at l rows) i n is)
-
-  -- the node behind the one at a place is at the next
-  pub next_in-get : (l i n : ℕ) → slice_get (list_at l rows) i ≡ Some n → next_in rows n ≡ slice_get (list_at l rows) (i + 1)
-  next_in-get l i n is =
-      ap (λ o. after n (option_map_or (λ m. list_at m rows) o [])) (holder-get l i n is)
-      ∙ after-get (list_at l rows) i n (IsApart-list_at l rows.lists apart) is
-
-  -- and the node before the one at the next place is at this
-  pub previous_in-get : (l i n : ℕ) → slice_get (list_at l rows) (i + 1) ≡ Some n → previous_in rows n ≡ slice_get (list_at l rows) i
-  previous_in-get l i n is =
-      ap (λ o. before n (option_map_or (λ m. list_at m rows) o [])) (holder-get l (i + 1) n is)
-      ∙ before-get (list_at l rows) i n (IsApart-list_at l rows.lists apart) is

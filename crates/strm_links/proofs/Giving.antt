@@ -15,10 +15,6 @@ pub record Gives (old now : List Node) (list : Option ℕ) (xs rest : List ℕ) 
   pub within : (k : ℕ) → has k rest ≡ true → k < length now
   pub len : length now ≡ length old
 
--- before the first step all are still to get the owner
-pub Gives-start : (nodes : List Node) (list : Option ℕ) (xs : List ℕ) → ((k : ℕ) → has k xs ≡ true → k < length nodes) → Gives nodes nodes list xs xs
-Gives-start nodes list xs within = record { owners = λ k. refl; nexts = λ k. refl; previous = λ k. refl; within = within; len = refl }
-
 -- the same value either way
 if_both : (b : Bool) (o list : Option ℕ) → o ≡ list → (if b then list else o) ≡ list
 if_both true o list is = refl

@@ -292,21 +292,6 @@ after_suc (x ∷ xs) (suc i) n apart is = cond-false _ _ _ (ne_eqb x n (differ x
 pub after-get : (xs : List ℕ) (i n : ℕ) → IsApart xs → slice_get xs i ≡ Some n → after n xs ≡ slice_get xs (i + 1)
 after-get xs i n apart is = rw add-one (after_suc xs i n apart is)
 
-before_suc : (ahead : Option ℕ) (x : ℕ) (xs : List ℕ) (i n : ℕ) → IsApart (x ∷ xs) → slice_get xs i ≡ Some n → before_from ahead n (x ∷ xs) ≡ slice_get (x ∷ xs) i
-before_suc ahead x [] i n apart is = absurd (none-some n is)
-before_suc ahead x (y ∷ ys) zero n apart is =
-    cond-false _ _ _ (ne_eqb x n (differ x n (y ∷ ys) apart.0 (has_head y n ys (same_Some y n is)))) ∙ cond-true _ _ _ (eq-eqb y n (same_Some y n is))
-before_suc ahead x (y ∷ ys) (suc i) n apart is =
-    cond-false _ _ _ (ne_eqb x n (differ x n (y ∷ ys) apart.0 (has_tail y n ys (has_get ys i n is)))) ∙ before_suc (Some x) y ys i n apart.1 is
-
--- and the node before the one at the next place is at this
-pub before-get : (xs : List ℕ) (i n : ℕ) → IsApart xs → slice_get xs (i + 1) ≡ Some n → before n xs ≡ slice_get xs i
-before-get xs i n apart is = before_get_suc xs i n apart (rw add-one at is)
-  where
-    before_get_suc : (xs : List ℕ) (i n : ℕ) → IsApart xs → slice_get xs (suc i) ≡ Some n → before n xs ≡ slice_get xs i
-    before_get_suc [] i n apart is = absurd (none-some n is)
-    before_get_suc (x ∷ xs) i n apart is = before_suc None x xs i n apart is
-
 -- ---- what is in a changed list
 
 -- all but the node that has left
@@ -357,20 +342,11 @@ has-put_before k at n xs there =
 
 -- ---- how many nodes there can be
 
--- a list is its front and the rest, and the rest and its back
+-- a list is its front and the rest
 pub first-without : (n : ℕ) (xs : List ℕ) → IsApart xs → first xs ≡ Some n → xs ≡ n ∷ without n xs
 first-without n [] apart is = absurd (none-some n is)
 first-without n (x ∷ xs) apart is =
     subst (λ j. x ∷ xs ≡ j ∷ without j (x ∷ xs)) (same_Some x n is) (ap (λ ys. x ∷ ys) (sym (without-at [] xs x refl apart.0)))
-
-pub last-without : (n : ℕ) (xs : List ℕ) → IsApart xs → last xs ≡ Some n → xs ≡ without n xs ++ n ∷ []
-last-without n [] apart is = absurd (none-some n is)
-last-without n (x ∷ []) apart is =
-    subst (λ j. x ∷ [] ≡ without j (x ∷ []) ++ j ∷ []) (same_Some x n is) (ap (λ ys. ys ++ x ∷ []) (sym (without-at [] [] x refl refl)))
-last-without n (x ∷ y ∷ ys) apart is =
-    let other = differ x n (y ∷ ys) apart.0 (last_has (y ∷ ys) n (is_some_of-same n (last (y ∷ ys)) is)) in
-    ap (λ zs. x ∷ zs) (last-without n (y ∷ ys) apart.1 is)
-    ∙ sym (ap (λ zs. zs ++ n ∷ []) (cond-true _ _ _ (not_from_false _ (ne_eqb x n other))))
 
 -- a list is one shorter without one of its nodes
 pub length-without : (n : ℕ) (xs : List ℕ) → IsApart xs → has n xs ≡ true → length (without n xs) + 1 ≡ length xs

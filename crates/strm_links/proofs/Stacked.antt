@@ -1,7 +1,7 @@
 -- Stacks as the rows that a contract sees, and what a push and a pop leave of them.
 use Rattle.std.proofs.Common.{◌≡◌, ◌≢◌, ℕ, zero, suc, ◌+◌, ◌-◌, ◌<◌, ◌≤◌, ◌^◌, true, false, List, [], ◌∷◌, map, length, get_or, set, drop, replicate, Option, Some, None, refl, sym, ap, ◌∙◌, subst, inl, inr, arith, get_or-set_same, get_or-set_other, length-append, length-set}
 use Rattle.std.proofs.lemmas.Bool.{cases_eq, cond-true, cond-false, eq-eqb, ne_eqb, false≢true}
-use Rattle.std.proofs.lemmas.List.{length-map, get_or-map, get_or_default, same_lists, get_or_read, get_or-replicate, length-replicate, set-get_or}
+use Rattle.std.proofs.lemmas.List.{length-map, get_or-map, get_or_default, same_lists, get_or_read, get_or-replicate, length-replicate}
 use Rattle.std.proofs.lemmas.Option.{none-some, same_Some}
 use Rattle.std.specs.List.{concat}
 use Rattle.strm_links.specs.declared.stacks.Top.{Top}
@@ -223,15 +223,6 @@ module _ (behind : List (Option ℕ)) (tops : List Top) (rows : Rows) (sound : I
       -- and what holds any other stays
       pub pop_others : (k : ℕ) → Some n ≢ Some k → holder k (record rows { lists = set rows.lists l rest }) ≡ holder k rows
       pop_others k other = ap (holder k) without_front ∙ holder-remove rows apart n k ∙ cond-false _ _ _ (ne_eqb n k (λ same. other (ap Some same)))
-
-    -- ---- nothing to pop
-    pub pop_none : t.front ≡ None → record rows { lists = set rows.lists l (drop 1 (list_at l rows)) } ≡ rows
-    pop_none none =
-        ap (λ ls. record rows { lists = ls }) (ap (set rows.lists l) (empty (list_at l rows) (sym here.front ∙ none)) ∙ set-get_or rows.lists l [])
-      where
-        empty : (xs : List ℕ) → first xs ≡ None → drop 1 xs ≡ xs
-        empty [] is = refl
-        empty (x ∷ xs) is = absurd (none-some x (sym is))
 
 -- ---- empty stacks
 

@@ -92,9 +92,6 @@ module _ (nodes : List Node) (front : Option ℕ) (count : ℕ) (v : StrandLists
     pub one_low : n < length v.held
     one_low = (begun_low (n ∷ []) (drop 1 v.free) one_split n n refl refl).0
 
-    pub one_some : 0 < count
-    one_some = omega (arith, laid.free_count, ap length one_split)
-
     pub IsLaid-begun_one : (new : List Node) → length new ≡ length nodes → ((k : ℕ) → next_at new k ≡ (if n == k then None else next_at nodes k))
         → ((k : ℕ) → span_at new k ≡ (if n == k then record { last = n; len = 1 } else span_at nodes k)) → IsLaid new (next_at nodes n) (count - 1) (with_first_begun v.free v)
     IsLaid-begun_one new long nexts spans =

@@ -1,7 +1,7 @@
 -- The second node of a chain becomes free.
 use Rattle.std.proofs.Common.{◌≡◌, ◌≢◌, ◌≤◌, ℕ, ◌+◌, ◌-◌, true, false, ◌==◌, List, [], ◌∷◌, length, set, Option, Some, None, IsSome, if◌then◌else◌, refl, sym, ap, ◌∙◌, subst, arith}
 use Rattle.std.specs.Prelude.{is_none}
-use Rattle.strm_links.specs.Rows.{has, first}
+use Rattle.strm_links.specs.Rows.{has}
 use Rattle.strm_links.specs.Layout.{LeadsOn}
 use Rattle.strm_links.specs.Counting.{times}
 use Rattle.strm_links.specs.Held.{held_in}
@@ -11,7 +11,7 @@ use Rattle.strm_links.specs.declared.strands.Node.{Node}
 use Rattle.strm_links.proofs.Chains.{LeadsOn-kept}
 use Rattle.strm_links.proofs.Counting.{times-append}
 use Rattle.strm_links.proofs.HeldLists.{Changes-one, times-set}
-use Rattle.strm_links.proofs.OneList.{differ, has_head, has_tail}
+use Rattle.strm_links.proofs.OneList.{differ, has_tail}
 use Rattle.strm_links.proofs.StrandDivided.{apart, divided_len, other, second_in, two, was}
 use Rattle.strm_links.proofs.StrandFreed.{freed_room}
 use Rattle.strm_links.proofs.StrandLaid.{head_in, head_low}

@@ -197,6 +197,13 @@ impl Links {
         self.ends[list as usize].len
     }
 
+    /// How many lists there are. Nothing changes.
+    pub fn list_count(&self) -> u32
+        ensures { result ≡ length self.now.lists }
+    {
+        self.ends.len() as u32
+    }
+
     /// The list that a node is in, or none for a free node. Nothing changes.
     ///
     /// This is the test for what the calls that change lists ask of their nodes.

@@ -25,12 +25,11 @@ put_in None node xs = xs ++ node ∷ []
 put_in (Some at) node xs = put_before at node xs
 
 -- each head on a shelf begins a strand
-pub record IsChained (shelves : ℕ) (strands : StrandLists) (heads : Rows) : Type 0 where
-  pub head_lists : length heads.lists ≡ shelves
+pub record IsChained (strands : StrandLists) (heads : Rows) : Type 0 where
   pub head_nodes : heads.nodes ≡ length strands.held
   pub begun : (h : ℕ) → IsSome (holder h heads) → IsSome (held_in strands.held h)
   pub strands_parted : IsParted strands
   pub heads_parting : IsParting heads
 
 abbrev pub IsSound : Inside → Type 0
-IsSound a = IsChained a.shelves a.strands a.heads
+IsSound a = IsChained a.strands a.heads

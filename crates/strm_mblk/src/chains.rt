@@ -1,11 +1,10 @@
 //! Messages as chains of message blocks, linked by number, and which of the message blocks are free.
-ghost use Rattle.std.specs.Prelude.{◌≡◌, ◌≢◌, ℕ, ◌+◌, ◌<◌, ◌≤◌, ◌++◌, IfOk, IfSome, IsSome, IsTrue, None, Some, [], ◌∷◌, drop, is_some, length, reverse, slice_get, slice_index_or, slice_set, take};
+ghost use Rattle.std.specs.Prelude.{◌≡◌, ◌≢◌, ℕ, ◌+◌, ◌<◌, ◌≤◌, ◌++◌, IfOk, IfSome, IsSome, IsTrue, None, Some, [], ◌∷◌, drop, is_some, length, reverse, slice_get, slice_set, take};
 ghost use Rattle.std.specs.Option.{ForSome};
 ghost use Rattle.strm_links.specs.Rows.{IsParting, after, before, first, has, holder, last, list_at};
 ghost use Rattle.strm_mblk.specs.ChainLayout.{put_in};
 ghost use Rattle.strm_mblk.specs.Messages.{divided, held_in, joined, put_before_head, shelf_in, with_head, without_head};
 ghost use Rattle.strm_mblk.specs.NodeLists.{IsNodesParted, IsReached, after_begin, after_second_freed, head_node, heads_on, nodes_at, opening_nodes, shelved_nodes};
-ghost use Rattle.strm_mblk.specs.Limits.{most_message_blocks};
 
 #[cfg(test)]
 pub(crate) mod beside;
@@ -22,7 +21,6 @@ pub(crate) struct Chains {
     strands: Strands,
     // List s has the heads of the messages on shelf s. A message whose head is in no list is held.
     heads: Links,
-    shelves: u32,
 }
 
 impl Model for Chains {
@@ -64,7 +62,6 @@ impl Chains {
         Ok(Chains {
             strands: Strands::new(alloc, nodes)?,
             heads: Links::new(alloc, nodes, shelves)?,
-            shelves,
         })
     }
 

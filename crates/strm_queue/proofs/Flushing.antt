@@ -4,7 +4,7 @@ use Rattle.std.specs.Prelude.{count_by, filter, nat_le, nat_lt, not, option_map,
 use Rattle.std.specs.List.{All, flat_map, list_all}
 use Rattle.std.proofs.lemmas.Bool.{and_from, and_parts, cases_Bool, cases_eq, cases_lt, cond-false, cond-true, le-leb, le-ltb, leb-true, lt-leb, lt-ltb, ne_eqb, not_from_false, not_from_true}
 use Rattle.std.proofs.lemmas.Grind.{flat_map-append}
-use Rattle.std.proofs.lemmas.List.{append-nil, append_assoc, nil_from_length, set-get_or, set-set}
+use Rattle.std.proofs.lemmas.List.{append-nil, append_assoc, set-get_or, set-set}
 use Rattle.std.proofs.lemmas.List.Elements.{filter-append}
 use Rattle.std.proofs.lemmas.Option.{none-some, same_Some}
 use Rattle.strm_data.specs.declared.msg_type.MsgType.{MsgType}
@@ -33,7 +33,7 @@ use Rattle.strm_queue.specs.QueuedBlocks.{Agrees, AreMarksLawful, QueuesValue}
 use Rattle.strm_queue.proofs.Ends.{ahead_more, behind_less, of_rank-append, of_rank-refused}
 use Rattle.strm_queue.proofs.Across.{shelved_message-at}
 use Rattle.strm_queue.proofs.Agreeing.{marks_left_lawful, marks_other, rank_of-same}
-use Rattle.strm_queue.proofs.OnShelf.{FirstParts, after-head, at_there, first_of, heads, unshelved, first_none}
+use Rattle.strm_queue.proofs.OnShelf.{FirstParts, after-head, at_there, first_of, heads, unshelved}
 
 -- ---- what the first block tells
 
@@ -312,21 +312,6 @@ module _ (picked taken : Message → Bool) (old : Arena) (q : ℕ) (within : q <
 
     flushing_is : shelf_at now q ≡ filter stays walk.pre ++ walk.post
     flushing_is = ap (λ xs. get_or xs q []) flushing_shelves ∙ get_or-set_same old.shelves q (filter stays walk.pre ++ walk.post) [] within
-
-    -- none is behind
-    flushed_all : walk.post ≡ [] → now ≡ with_freed (filter picked (shelf_at old q)) (with_shelf q (filter stays (shelf_at old q)) old)
-    flushed_all none =
-        let all : walk.pre ≡ shelf_at old q = sym (walk.is ∙ ap (λ ms. walk.pre ++ ms) none ∙ append-nil walk.pre) in
-        let stay : filter stays walk.pre ++ walk.post ≡ filter stays walk.pre = ap (λ ms. filter stays walk.pre ++ ms) none ∙ append-nil (filter stays walk.pre) in
-        walk.arena ∙ ap (λ ms. with_freed (filter picked walk.pre) (with_shelf q ms old)) stay ∙ ap (λ ms. with_freed (filter picked ms) (with_shelf q (filter stays ms) old)) all
-
-    -- so it is where there is no first one
-    pub flushed_end : at ≡ None → now ≡ with_freed (filter picked (shelf_at old q)) (with_shelf q (filter stays (shelf_at old q)) old)
-    flushed_end none = flushed_all (first_none walk.post (sym walk.behind ∙ none))
-
-    -- or so many were passed that none is behind
-    pub flushed_len : length (shelf_at old q) ≤ k → now ≡ with_freed (filter picked (shelf_at old q)) (with_shelf q (filter stays (shelf_at old q)) old)
-    flushed_len all = flushed_all (nil_from_length walk.post (omega (arith, all, ap length walk.is, length-append walk.pre walk.post, walk.many)))
 
     module _ (h : ℕ) (some : at ≡ Some h) where
       -- the first one behind

@@ -128,8 +128,3 @@ list-end name item start so_far (x ∷ xs) place some none before =
     let listed : List ℕ = flat_map item (x ∷ xs) in
     ap (λ bs. bs ++ codes "\n") (lines-end item (start ++ name) so_far listed (x ∷ xs) place none before)
     ∙ append_assoc (start ++ name) listed (codes "\n") ∙ append_assoc start name (listed ++ codes "\n")
-
--- and of none there is only the name
-pub list-none : {X : Type 0} (name : List ℕ) (item : X → List ℕ) (items : List X) → is_some (slice_get items 0) ≡ false → list_text name item items ≡ name ++ codes " -\n"
-list-none name item [] none = refl
-list-none name item (x ∷ xs) none = cc

@@ -11,7 +11,7 @@ use Rattle.strm_data.specs.declared.msg_type.MsgType.{MsgType}
 use Rattle.strm_data.specs.declared.refusal.Refusal.{Refusal}
 use Rattle.strm_data.specs.declared.refusal.Refusal.TheVariants.{NoData, NoMblk, NoRoom, RefMax, Shared, Short, TooLarge}
 use Rattle.strm_data.specs.Classes.{fits_a_class}
-use Rattle.strm_data.specs.DataStore.{DataBlock, DataStore, capacity_of, class_of, data_block_at, fitting, free_of, no_data_block, take_data, times, with_bytes_written, with_data_freed, with_data_taken, with_kind}
+use Rattle.strm_data.specs.DataStore.{DataStore, capacity_of, class_of, data_block_at, fitting, free_of, no_data_block, take_data, times, with_bytes_written, with_data_freed, with_data_taken, with_kind}
 use Rattle.strm_data.proofs.Fitting.{if_fits}
 use Rattle.strm_data.proofs.Times.{one_if, times-append, times-cons, times_here}
 use Rattle.strm_links.specs.Rows.{has}
@@ -111,10 +111,6 @@ module _ (a b : Arena) (heads : List ℕ) (id : b.id ≡ a.id) (shelves : b.shel
     }
 
 -- ---- data blocks that are taken, and altered
-
--- what stands at another place of a store whose blocks have changed at one
-other_block : (s : DataStore) (d e : ℕ) (x : DataBlock) (free : List (List ℕ)) → e ≢ d → data_block_at (record s { blocks = set s.blocks d x; free = free }) e ≡ data_block_at s e
-other_block s d e x free other = get_or-set_other s.blocks d e x no_data_block other
 
 -- the data block stands in no free list
 abbrev IsTaken : ℕ → DataStore → Type 0

@@ -11,7 +11,7 @@ use Rattle.strm_mblk.specs.Messages.{blocks_of}
 use Rattle.strm_data.specs.DataStore.{times}
 use Rattle.strm_data.specs.CountedStore.{CountedStore, count_of}
 use Rattle.strm_data.proofs.Times.{as_many, one_if, times-cons}
-use Rattle.strm_mblk.proofs.arena.Counts.{count_adds, length_adds, held_moves, shelf_moves, blocks_in_adds, flat_map-set_adds, times-all}
+use Rattle.strm_mblk.proofs.arena.Counts.{count_adds, held_moves, shelf_moves, blocks_in_adds, flat_map-set_adds, times-all}
 
 abbrev pub number_is : ℕ → Block → Bool
 number_is n b = eqb b.number n
@@ -131,27 +131,6 @@ pub out_of_held : (a : Arena) (h : ℕ) (m : Message) (p : Block → Bool) → h
 out_of_held a h m p is =
     omega (arith, held_moves (count_adds p) a h None (held_within a h m is), (count_adds p).none, ap (λ o. count_by p (blocks_of o)) is)
 
--- a held message goes to the end of a shelf
-pub put_last : (a : Arena) (s : CountedStore) (q h : ℕ) (m : Message) → IsCounted a s → held_at a h ≡ Some m → q < length a.shelves
-    → IsCounted (with_shelf q (shelf_at a q ++ m ∷ []) (without_held h a)) s
-put_last a s q h m counted is inside =
-    let out = without_held h a in
-    let new = with_shelf q (shelf_at a q ++ m ∷ []) out in
-    let moves : (p : Block → Bool) → count_by p (blocks_in new) ≡ count_by p (blocks_in a) =
-    λ p. omega (arith, out_of_held a h m p is, shelf_moves (count_adds p) out q (shelf_at a q ++ m ∷ []) inside, shelved-push p (shelf_at a q) m) in
-    record {
-      numbers = λ k.
-          times-all k new
-          ∙ (let sum : times k a.free + count_by (number_is k) (blocks_in new) ≡ times k a.free + blocks_numbered a k = omega (arith, moves (number_is k)) in
-          sum ∙ numbers_sum a s counted k ∙ ap (λ l. if ltb k l then 1 else 0) (sym (length-set a.held h None)));
-      heads = heads_kept a h None (held_within a h m is) counted.heads tt;
-      counts = λ k. counted.counts k ∙ sym (moves (is_naming k));
-    }
-  where
-    shelved-push : (p : Block → Bool) (ms : List Message) (m : Message) → count_by p (flat_map (λ x. x) (ms ++ m ∷ [])) ≡ count_by p (flat_map (λ x. x) ms) + count_by p m
-    shelved-push p [] m = omega (arith, (count_adds p).both m [], (count_adds p).none)
-    shelved-push p (x ∷ ms) m = omega (arith, (count_adds p).both x (flat_map (λ x. x) (ms ++ m ∷ [])), (count_adds p).both x (flat_map (λ x. x) ms), shelved-push p ms m)
-
 -- the first message of a shelf is held
 module _ (a : Arena) (s : CountedStore) (q : ℕ) (m : Message) (ms : List Message) (counted : IsCounted a s) (is : shelf_at a q ≡ m ∷ ms) (some : 0 < length m) (inside : q < length a.shelves) where
   out_of_shelf : (p : Block → Bool) → count_by p (blocks_in (with_shelf q ms a)) + count_by p m ≡ count_by p (blocks_in a)
@@ -212,50 +191,7 @@ rewritten a s t h m n counted is alike some head same_counts =
       counts = λ k. ap (λ l. get_or l k 0) same_counts ∙ counted.counts k ∙ sym (moves (is_naming k) (λ b c _ same. ap (λ j. eqb j k) same));
     }
 
--- a held message of one block is free
-pub freed_one : (a : Arena) (s t : CountedStore) (h : ℕ) (b : Block) → IsCounted a s → held_at a h ≡ Some (b ∷ [])
-    → ((k : ℕ) → count_of t k + one_if (eqb b.data_number k) ≡ count_of s k)
-    → IsCounted (record (without_held h a) { free = b.number ∷ a.free; store = t.store }) t
-freed_one a s t h b counted is named =
-    let new = record (without_held h a) { free = b.number ∷ a.free; store = t.store } in
-    let moves : (p : Block → Bool) → count_by p (blocks_in new) + one_if (p b) ≡ count_by p (blocks_in a) =
-    λ p. omega (arith, out_of_held a h (b ∷ []) p is, count_one p b) in
-    record {
-      numbers = λ k.
-          times-all k new
-          ∙ (let sum : times k (b.number ∷ a.free) + count_by (number_is k) (blocks_in new) ≡ times k a.free + blocks_numbered a k = omega (arith, moves (number_is k), times-cons k b.number a.free) in
-          sum ∙ numbers_sum a s counted k ∙ ap (λ l. if ltb k l then 1 else 0) (sym (length-set a.held h None)));
-      heads = heads_kept a h None (held_within a h (b ∷ []) is) counted.heads tt;
-      counts = λ k. omega (arith, named k, moves (is_naming k), counted.counts k);
-    }
-
 -- free blocks, those of messages on shelves and those of held messages make the arena
 pub makes_arena : (a : Arena) (s : CountedStore) → IsCounted a s → length a.free + length (shelved_blocks a) + length (held_blocks a) ≡ length a.held
 makes_arena a s counted =
     omega (arith, as_many (length a.held) (a.free ++ numbers_of (blocks_in a)) counted.numbers, length-append a.free (numbers_of (blocks_in a)), length-map (blocks_in a) (λ b. b.number), length-append (shelved_blocks a) (held_blocks a))
-
--- a shelf's messages, and a held message, are among the blocks
-pub room_on_shelf : (a : Arena) (s : CountedStore) (q h : ℕ) (m : Message) → IsCounted a s → held_at a h ≡ Some m → q < length a.shelves
-    → length (flat_map (λ x. x) (shelf_at a q)) < length a.held
-room_on_shelf a s q h m counted is inside =
-    let some : 0 < length m = (subst (λ o. IfSome o (λ x. (0 < length x) × (head_of x ≡ h))) is (counted.heads h)).0 in
-    omega (
-      arith,
-      makes_arena a s counted,
-      some,
-      flat_map-set_adds length_adds (flat_map (λ x. x)) a.shelves q [] [] inside,
-      flat_map-set_adds length_adds blocks_of a.held h None None (held_within a h m is),
-      ap (λ o. length (blocks_of o)) is,
-    )
-
--- a held message is not free
-pub room_to_free : (a : Arena) (s : CountedStore) (h : ℕ) (m : Message) → IsCounted a s → held_at a h ≡ Some m → length a.free < length a.held
-room_to_free a s h m counted is =
-    let some : 0 < length m = (subst (λ o. IfSome o (λ x. (0 < length x) × (head_of x ≡ h))) is (counted.heads h)).0 in
-    omega (
-      arith,
-      makes_arena a s counted,
-      some,
-      flat_map-set_adds length_adds blocks_of a.held h None None (held_within a h m is),
-      ap (λ o. length (blocks_of o)) is,
-    )

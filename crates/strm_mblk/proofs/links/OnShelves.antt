@@ -77,12 +77,11 @@ module _ (v : StrandLists) where
 pub room_of : (held : List (Option (List ℕ))) (h : ℕ) → IsSome (held_in held h) → h < length held
 room_of held h some = elim (cases_lt h (length held)) [ inl within ↦ within | inr past ↦ absurd (false≢true (sym (ap is_some (get_or_past held h None past)) ∙ some)) ]
 
-module _ (s : ℕ) (v : StrandLists) (heads : Rows) (laid : IsChained s v heads) (w : NodeLists) (is : nodes_of v heads ≡ w) (head shelf : ℕ) (ys : List ℕ)
+module _ (v : StrandLists) (heads : Rows) (laid : IsChained v heads) (w : NodeLists) (is : nodes_of v heads ≡ w) (head shelf : ℕ) (ys : List ℕ)
     (new : Rows) (lists : new ≡ record heads { lists = set heads.lists shelf ys }) (others : (k : ℕ) → k ≢ head → holder k new ≡ holder k heads) (begun : IsSome (held_in v.held head)) (parting : IsParting new) where
   -- the layout holds
-  pub reheaded_laid : IsChained s v new
+  pub reheaded_laid : IsChained v new
   reheaded_laid = record {
-    head_lists = ap (λ (r : Rows). length r.lists) lists ∙ length-set heads.lists shelf ys ∙ laid.head_lists;
     head_nodes = ap (λ (r : Rows). r.nodes) lists ∙ laid.head_nodes;
     begun = λ k on.
         elim (cases_eq k head) [

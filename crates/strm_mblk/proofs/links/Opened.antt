@@ -24,9 +24,8 @@ module _ (n s : ℕ) (v : StrandLists) (heads : Rows) (opened : v ≡ opening_st
       (λ i. nodes_of (opened i) (empty i))
       ∙ (λ i. record { free = (opening_strands n).free; held = strands_but (none_linked s i) (opening_strands n).held; shelves = none_shelved (strand_at (opening_strands n)) s i })
 
-  pub IsChained-opened : IsParted v → IsParting heads → IsChained s v heads
+  pub IsChained-opened : IsParted v → IsParting heads → IsChained v heads
   IsChained-opened strands_parted heads_parting = record {
-    head_lists = ap (λ (r : Rows). length r.lists) empty ∙ length-replicate {A = List ℕ} s [];
     head_nodes = ap (λ (r : Rows). r.nodes) empty ∙ sym (ap (λ (u : StrandLists). length u.held) opened ∙ length-replicate {A = Option (List ℕ)} n None);
     begun = λ h on. absurd (false≢true (sym (ap is_some (ap (holder h) empty ∙ holder-empty n s h)) ∙ on));
     strands_parted = strands_parted;

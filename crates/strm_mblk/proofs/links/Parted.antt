@@ -52,8 +52,8 @@ parts_sum n (h ∷ hs) held apart within =
       (count_adds (λ (x : ℕ). x == n)).none,
     )
 
-pub IsNodesParted-chained : (s : ℕ) (v : StrandLists) (heads : Rows) → IsChained s v heads → IsNodesParted (nodes_of v heads)
-IsNodesParted-chained s v heads laid = record {
+pub IsNodesParted-chained : (v : StrandLists) (heads : Rows) → IsChained v heads → IsNodesParted (nodes_of v heads)
+IsNodesParted-chained v heads laid = record {
   once = λ n.
       omega (
         arith,
@@ -72,7 +72,7 @@ IsNodesParted-chained s v heads laid = record {
       ] refl;
   shelved = λ k.
       subst (All (λ m. 0 < length m)) (sym (shelf-get v heads k))
-      (long (list_at k heads) (λ h there. nonempty {h = h} (strand_at v h) (begins s v heads laid h (laid.begun h (ap is_some (on_list s v heads laid h k there))))));
+      (long (list_at k heads) (λ h there. nonempty {h = h} (strand_at v h) (begins v heads laid h (laid.begun h (ap is_some (on_list v heads laid h k there))))));
 }
   where
     long : (hs : List ℕ) → ((h : ℕ) → has h hs ≡ true → 0 < length (strand_at v h)) → All (λ m. 0 < length m) (map (strand_at v) hs)

@@ -26,7 +26,7 @@ first_node : (xs : List ℕ) (x : ℕ) → first xs ≡ Some x → head_node xs 
 first_node [] x is = absurd (none-some x is)
 first_node (y ∷ ys) x is = same_Some y x is
 
-module _ (s : ℕ) (v : StrandLists) (heads : Rows) (laid : IsChained s v heads) where
+module _ (v : StrandLists) (heads : Rows) (laid : IsChained v heads) where
   -- a strand that is there begins with its number
   pub begins : (h : ℕ) → IsSome (held_in v.held h) → first (strand_at v h) ≡ Some h
   begins h some = by_case (held_in v.held h) some (laid.strands_parted.heads h)

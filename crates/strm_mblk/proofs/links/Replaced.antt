@@ -40,7 +40,7 @@ replaced v heads h o off =
       shelves = shelves_alike h (strand_at w) (strand_at v) heads.lists (unlinked h heads off) (λ k other. ap (λ m. items_of m) (get_or-set_other v.held h k o None other)) i;
     }
 
-module _ (s : ℕ) (v : StrandLists) (heads : Rows) (laid : IsChained s v heads) (w : NodeLists) (is : nodes_of v heads ≡ w) where
+module _ (v : StrandLists) (heads : Rows) (laid : IsChained v heads) (w : NodeLists) (is : nodes_of v heads ≡ w) where
   -- a number with which no strand begins stands on no shelf
   unheld_off : (h : ℕ) → held_in v.held h ≡ None → holder h heads ≡ None
   unheld_off h none =
@@ -76,9 +76,8 @@ module _ (s : ℕ) (v : StrandLists) (heads : Rows) (laid : IsChained s v heads)
           ∙ ap (λ (u : NodeLists). record u { free = free; held = set u.held g p }) (replaced v heads h o off) ∙ ap (λ (u : NodeLists). record u { free = free; held = set (set u.held h o) g p }) is
 
       -- the layout holds
-      pub two_laid : new ≡ record { free = free; held = set (set v.held h o) g p } → IsParted new → IsChained s new heads
+      pub two_laid : new ≡ record { free = free; held = set (set v.held h o) g p } → IsParted new → IsChained new heads
       two_laid now parted = record {
-        head_lists = laid.head_lists;
         head_nodes = laid.head_nodes ∙ sym (ap (λ (u : StrandLists). length u.held) now ∙ length-set (set v.held h o) g p ∙ length-set v.held h o);
         begun = λ k on.
             subst IsSome
@@ -89,7 +88,7 @@ module _ (s : ℕ) (v : StrandLists) (heads : Rows) (laid : IsChained s v heads)
         heads_parting = laid.heads_parting;
       }
 
-    pub one_laid : new ≡ record { free = free; held = set v.held h o } → IsParted new → IsChained s new heads
+    pub one_laid : new ≡ record { free = free; held = set v.held h o } → IsParted new → IsChained new heads
     one_laid now parted = two_laid h o off (now ∙ ap (λ held. record { free = free; held = held }) (sym (set-set v.held h o o))) parted
 
   -- ---- the calls that do so
@@ -103,14 +102,14 @@ module _ (s : ℕ) (v : StrandLists) (heads : Rows) (laid : IsChained s v heads)
   module _ (new : StrandLists) (parted : IsParted new) where
     -- what is seen, where the layout holds
     abbrev IsNow : NodeLists → Type 0
-    IsNow u = (nodes_of new heads ≡ u) × IsChained s new heads
+    IsNow u = (nodes_of new heads ≡ u) × IsChained new heads
 
     -- the first free one is a message
     pub begun : new ≡ with_first_begun v.free v → IsNow (after_begin w w.free)
     begun now = subst (λ ns. IsNow (after_begin w ns)) free_is (by_case v.free refl now)
       where
         by_case : (ns : List ℕ) → v.free ≡ ns → new ≡ with_first_begun ns v → IsNow (after_begin w ns)
-        by_case [] none same = (ap (λ u. nodes_of u heads) same ∙ is, subst (λ u. IsChained s u heads) (sym same) laid)
+        by_case [] none same = (ap (λ u. nodes_of u heads) same ∙ is, subst (λ u. IsChained u heads) (sym same) laid)
         by_case (n ∷ ns) free same =
             let off = free_off n (subst (λ fs. 0 < times n fs) (sym free) (times_at n (n ∷ ns) 0 refl)) in
             (one_is new ns n (Some (n ∷ [])) off same, one_laid new ns n (Some (n ∷ [])) off same parted)
@@ -154,7 +153,7 @@ module _ (s : ℕ) (v : StrandLists) (heads : Rows) (laid : IsChained s v heads)
         )
 
     unchanged : new ≡ v → IsNow w
-    unchanged same = (ap (λ u. nodes_of u heads) same ∙ is, subst (λ u. IsChained s u heads) (sym same) laid)
+    unchanged same = (ap (λ u. nodes_of u heads) same ∙ is, subst (λ u. IsChained u heads) (sym same) laid)
 
     -- the second block of a message is free
     pub frees_second : (h : ℕ) → holder h heads ≡ None → new ≡ with_second_freed h (strand_at v h) v → IsNow (after_second_freed h (nodes_at w h) w)

@@ -14,8 +14,6 @@ use Rattle.strm_data.specs.CountedStore.{CountedStore, IsKept}
 use Rattle.strm_data.specs.DataStore.{DataStore, IsTakenFrom, class_infos, class_spec_at, fitting, free_of, no_class_spec, take_data}
 use Rattle.strm_data.proofs.Fitting.{IsTakenFrom-found, fitting_from, fitting_from_next, if_fits, if_fits-empty, if_fits-small}
 use Rattle.strm_data.proofs.Kept.{length-class_infos}
-use Rattle.strm_data.proofs.Lawful.{lawful_few}
-use Rattle.strm_data.specs.Limits.{most_classes}
 use Rattle.strm_mblk.specs.Copying.{AreLeft, IsLeft}
 
 -- ---- what is told of a class
@@ -50,10 +48,6 @@ module _ (s : CountedStore) (kept : IsKept s) (c : ℕ) where
 -- the classes that there are not have none free
 pub free_past : (s : CountedStore) → IsKept s → (c : ℕ) → length s.store.classes ≤ c → length (free_of s.store c) ≡ 0
 free_past s kept c past = ap length (get_or_past s.store.free c [] (omega (arith, past, kept.lists)))
-
--- there are most_classes at most
-pub classes_few : (s : CountedStore) → IsKept s → length s.store.classes ≤ most_classes
-classes_few s kept = lawful_few s.store.classes kept.lawful
 
 -- ---- the search
 

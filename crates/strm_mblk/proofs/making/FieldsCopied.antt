@@ -1,5 +1,5 @@
 -- What the blocks of one message say is copied to those of another, one by one.
-use Rattle.std.proofs.Common.{◌≡◌, ℕ, ◌+◌, ◌≤◌, List, map, length, set, Some, refl, sym, ap, ◌∙◌, arith, get_or-set_other, length-set}
+use Rattle.std.proofs.Common.{◌≡◌, ℕ, ◌+◌, ◌≤◌, List, map, length, set, Some, sym, ap, ◌∙◌, arith, get_or-set_other, length-set}
 use Rattle.std.specs.Prelude.{drop, slice_get}
 use Rattle.std.proofs.lemmas.List.{drop_all}
 use Rattle.strm_data.specs.DataStore.{times}
@@ -13,9 +13,6 @@ pub record IsCopying (from to : List ℕ) (i : ℕ) (old now : List Fields) : Ty
   pub after : with_fields (drop i to) (map (fields_at old) (drop i from)) now ≡ with_fields to (map (fields_at old) from) old
   pub others : (k : ℕ) → times k to ≡ 0 → fields_at now k ≡ fields_at old k
   pub many : length now ≡ length old
-
-pub no_copying : (from to : List ℕ) (old : List Fields) → IsCopying from to 0 old old
-no_copying from to old = record { after = refl; others = λ k none. refl; many = refl }
 
 module _ (from to : List ℕ) (i : ℕ) (old now : List Fields) (copying : IsCopying from to i old now) where
   pub next_copying : (r w : ℕ) → slice_get from i ≡ Some r → slice_get to i ≡ Some w → times r to ≡ 0 → IsCopying from to (i + 1) old (set now w (fields_at now r))

@@ -31,6 +31,6 @@ impl Chains {
     pub(crate) fn shelf_count(&self) -> u32
         ensures { result ≡ length self.now.shelves }
     {
-        self.shelves
+        self.heads.list_count()
     }
 }

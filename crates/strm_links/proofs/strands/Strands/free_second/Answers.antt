@@ -2,7 +2,7 @@ use Rattle.std.specs.Prelude.{is_none, slice_get}
 use Rattle.std.proofs.Common.{◌≡◌, ℕ, List, ◌==◌, ◌+◌, ◌-◌, ◌<◌, length, ap, arith, sym, ◌∙◌, subst, Some, if◌then◌else◌}
 use Rattle.strm_links.specs.declared.strands.Node.{Node}
 use Rattle.strm_links.specs.StrandLists.{strand_at, with_second_freed}
-use Rattle.strm_links.specs.StrandLayout.{IsLaid, next_at, node_at, span_at}
+use Rattle.strm_links.specs.StrandLayout.{IsLaid, next_at, node_at}
 use Rattle.strm_links.proofs.StrandDivided.{alone, divided_len, divided_low, divided_second}
 use Rattle.strm_links.proofs.StrandLaid.{closed, head_low, node_read, parted, seen, strands_of_is}
 use Rattle.strm_links.proofs.StrandSecond.{IsLaid-second_freed, one_room}

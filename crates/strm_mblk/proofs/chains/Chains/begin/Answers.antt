@@ -6,13 +6,13 @@ use Rattle.strm_mblk.proofs.links.Readings.{within}
 use Rattle.strm_mblk.proofs.chains.Chains.begin.Goals as goal
 
 pub invariant_of-self : goal.invariant_of-self
-invariant_of-self c = (begun _ _ _ c.self.invariant _ c.self.view_is _ c.begin.ensures.parted c.begin.ensures.after).1
+invariant_of-self c = (begun _ _ c.self.invariant _ c.self.view_is _ c.begin.ensures.parted c.begin.ensures.after).1
 
 pub returns-clause-after : goal.returns-clause-after
-returns-clause-after c = (begun _ _ _ c.self.invariant _ c.self.view_is _ c.begin.ensures.parted c.begin.ensures.after).0
+returns-clause-after c = (begun _ _ c.self.invariant _ c.self.view_is _ c.begin.ensures.parted c.begin.ensures.after).0
 
 pub returns-clause-parted : goal.returns-clause-parted
-returns-clause-parted c = IsNodesParted-chained _ _ _ (invariant_of-self c)
+returns-clause-parted c = IsNodesParted-chained _ _ (invariant_of-self c)
 
 pub returns-clause-in_range : goal.returns-clause-in_range
-returns-clause-in_range c = IfSome_then c.begin.result c.begin.ensures.in_range (λ x inside. omega (arith, inside, within _ _ _ c.self.invariant _ c.self.view_is))
+returns-clause-in_range c = IfSome_then c.begin.result c.begin.ensures.in_range (λ x inside. omega (arith, inside, within _ _ c.self.invariant _ c.self.view_is))

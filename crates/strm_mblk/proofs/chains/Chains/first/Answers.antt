@@ -4,7 +4,7 @@ use Rattle.strm_mblk.proofs.links.Readings.{heads_at, shelves_within}
 use Rattle.strm_mblk.proofs.chains.Chains.first.Goals as goal
 
 pub front-requires : goal.front-requires
-front-requires c = omega (arith, c.requires, shelves_within _ _ _ c.self.invariant _ c.self.view_is)
+front-requires c = omega (arith, c.requires, shelves_within _ _ c.self.invariant _ c.self.view_is)
 
 pub returns : goal.returns
-returns c = c.front.ensures.value ∙ ap first (sym (heads_at _ _ _ c.self.invariant _ c.self.view_is c.args.shelf))
+returns c = c.front.ensures.value ∙ ap first (sym (heads_at _ _ c.self.invariant _ c.self.view_is c.args.shelf))

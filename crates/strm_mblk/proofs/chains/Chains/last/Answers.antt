@@ -4,7 +4,7 @@ use Rattle.strm_mblk.proofs.links.Readings.{heads_at, shelves_within}
 use Rattle.strm_mblk.proofs.chains.Chains.last.Goals as goal
 
 pub back-requires : goal.back-requires
-back-requires c = omega (arith, c.requires, shelves_within _ _ _ c.self.invariant _ c.self.view_is)
+back-requires c = omega (arith, c.requires, shelves_within _ _ c.self.invariant _ c.self.view_is)
 
 pub returns : goal.returns
-returns c = c.back.ensures.value ∙ ap last (sym (heads_at _ _ _ c.self.invariant _ c.self.view_is c.args.shelf))
+returns c = c.back.ensures.value ∙ ap last (sym (heads_at _ _ c.self.invariant _ c.self.view_is c.args.shelf))

@@ -9,4 +9,4 @@ pub returns-clause-opened : goal.returns-clause-opened
 returns-clause-opened c = opened_is c.args.nodes c.args.shelves _ _ c.in_ok-new.ensures.opened c.in_ok-new-2.ensures.rows
 
 pub returns-clause-parted : goal.returns-clause-parted
-returns-clause-parted c = IsNodesParted-chained _ _ _ (invariant_of-result c)
+returns-clause-parted c = IsNodesParted-chained _ _ (invariant_of-result c)

@@ -6,7 +6,7 @@ use Rattle.strm_mblk.proofs.links.Readings.{next_held, within}
 use Rattle.strm_mblk.proofs.chains.Chains.onward.Goals as goal
 
 pub next-requires : goal.next-requires
-next-requires c = omega (arith, c.requires, within _ _ _ c.self.invariant _ c.self.view_is)
+next-requires c = omega (arith, c.requires, within _ _ c.self.invariant _ c.self.view_is)
 
 -- a number below n, where there is one, or another one
 below : (o : Option ℕ) (d n : ℕ) → IfSome o (λ x. x < n) → d < n → unwrap_or o d < n
@@ -16,7 +16,7 @@ below (Some x) d n some other = some
 -- the answer is a message block
 in_range : (c : goal.After-unwrap_or) → c.unwrap_or.result < length c.args.self.now.held
 in_range c =
-    let many = within _ _ _ c.self.invariant _ c.self.view_is in
+    let many = within _ _ c.self.invariant _ c.self.view_is in
     omega (arith, c.unwrap_or.ensures, many, below c.next.result c.args.node _ c.next.ensures.in_range (omega (arith, c.requires, many)))
 
 pub returns-clause-held : goal.returns-clause-held
@@ -24,7 +24,7 @@ returns-clause-held c h i at =
     let ns = nodes_at c.args.self.now h in
     record {
       here = λ there.
-          let next = next_held _ _ _ c.self.invariant _ c.self.view_is h i c.args.node (at.here (omega (arith, there))) c.next.result c.next.ensures.value in
+          let next = next_held _ _ c.self.invariant _ c.self.view_is h i c.args.node (at.here (omega (arith, there))) c.next.result c.next.ensures.value in
           slice_get-get_or ns (i + 1) c.args.node there
           ∙ ap Some (sym (c.unwrap_or.ensures ∙ ap (λ o. unwrap_or o c.args.node) next ∙ unwrap_or-slice_get ns (i + 1) c.args.node));
       in_range = in_range c;

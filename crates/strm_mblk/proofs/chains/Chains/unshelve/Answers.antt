@@ -14,7 +14,7 @@ use Rattle.strm_mblk.proofs.chains.Chains.unshelve.Goals.{After-self, After-remo
 
 -- the message stands on the shelf
 on : (c : After-self) → holder c.args.head c.self.inside.heads ≡ Some c.args.shelf
-on c = shelved_at _ _ _ c.self.invariant _ c.self.view_is c.args.head c.args.shelf c.requires.there
+on c = shelved_at _ _ c.self.invariant _ c.self.view_is c.args.head c.args.shelf c.requires.there
 
 begun : (c : After-self) → IsSome (held_in c.self.inside.strands.held c.args.head)
 begun c = c.self.invariant.begun c.args.head (ap is_some (on c))
@@ -31,7 +31,7 @@ remove-requires c = ap is_some (on (goal.at.remove-requires c).After-self)
 pub invariant_of-self : goal.invariant_of-self
 invariant_of-self c =
     let at = goal.at.invariant_of-self c in
-    reheaded_laid _ _ _ c.self.invariant _ c.self.view_is c.args.head c.args.shelf _ c.remove.new.self (lists at.After-remove (on at.After-self)) c.remove.ensures.others
+    reheaded_laid _ _ c.self.invariant _ c.self.view_is c.args.head c.args.shelf _ c.remove.new.self (lists at.After-remove (on at.After-self)) c.remove.ensures.others
     (begun at.After-self) c.remove.ensures.parting
 
 pub returns-clause-after : goal.returns-clause-after
@@ -39,9 +39,9 @@ returns-clause-after c =
     let at = goal.at.returns-clause-after c in
     let v = c.self.inside.strands in
     let row = list_at c.args.shelf c.self.inside.heads in
-    let shelf = shelf_is _ _ _ c.self.invariant _ c.self.view_is c.args.shelf in
-    let each = λ (g : ℕ) (found : has g row ≡ true). head_node-strand _ _ _ c.self.invariant g c.args.shelf found in
-    reheaded_is _ _ _ c.self.invariant _ c.self.view_is c.args.head c.args.shelf _ c.remove.new.self (lists at.After-remove (on at.After-self)) c.remove.ensures.others
+    let shelf = shelf_is _ _ c.self.invariant _ c.self.view_is c.args.shelf in
+    let each = λ (g : ℕ) (found : has g row ≡ true). head_node-strand _ _ c.self.invariant g c.args.shelf found in
+    reheaded_is _ _ c.self.invariant _ c.self.view_is c.args.head c.args.shelf _ c.remove.new.self (lists at.After-remove (on at.After-self)) c.remove.ensures.others
     (begun at.After-self) c.remove.ensures.parting
     (with_head head_node c.args.head (shelf_in c.args.self.now.shelves c.args.shelf))
     (λ _. ap (with_head head_node c.args.head) shelf ∙ sym (with-map v c.args.head row each (holder_has c.args.head c.args.shelf c.self.inside.heads (on at.After-self)).1) ∙ sym (there _ (begun at.After-self)))
@@ -50,4 +50,4 @@ returns-clause-after c =
     (without-map v c.args.head row each ∙ ap (without_head head_node c.args.head) (sym shelf))
 
 pub returns-clause-parted : goal.returns-clause-parted
-returns-clause-parted c = IsNodesParted-chained _ _ _ (invariant_of-self c)
+returns-clause-parted c = IsNodesParted-chained _ _ (invariant_of-self c)
