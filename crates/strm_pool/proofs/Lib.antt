@@ -10,3 +10,4 @@ pub mod Waiting
 pub mod Wishing
 pub mod Acting
 pub mod Kept
+pub mod Totals

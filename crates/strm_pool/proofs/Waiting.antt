@@ -1,12 +1,12 @@
 -- Calls on wishes leave the arena as it is.
 use Rattle.std.proofs.Common.{◌≡◌, ℕ, Bool, true, false, Option, Some, None, Ok, Err, refl, if◌then◌else◌}
-use Rattle.std.specs.Prelude.{length, nat_le, not}
+use Rattle.std.specs.Prelude.{not}
 use Rattle.std.specs.List.{position}
-use Rattle.strm_data.specs.declared.refusal.Refusal.TheVariants.{Full, TooLarge}
+use Rattle.strm_data.specs.declared.refusal.Refusal.TheVariants.{TooLarge}
 use Rattle.strm_data.specs.Classes.{fits_a_class}
 use Rattle.strm_mblk.specs.Given.{Given, value_after}
 use Rattle.strm_pool.specs.PoolValue.{PoolValue, WishState, on_wishes}
-use Rattle.strm_pool.specs.Wishes.{bufcall, has_id, is_ready, readied, recorded, recorded_as, take_ready, unbufcall, withdrawn}
+use Rattle.strm_pool.specs.Wishes.{bufcall, has_id, is_ready, readied, recorded, take_ready, unbufcall, withdrawn}
 
 module _ (v : PoolValue) where
   on_wishes_stays : {X : Type 0} (g : Given WishState X) → (value_after v (on_wishes v g)).arena ≡ v.arena

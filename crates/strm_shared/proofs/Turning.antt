@@ -8,8 +8,9 @@ use Rattle.strm_pool.specs.declared.call.Call.{Call}
 use Rattle.strm_pool.specs.declared.reply.Reply.{Reply}
 use Rattle.strm_pool.specs.PoolValue.{PoolValue, owns}
 use Rattle.strm_pool.specs.Registers.{AreDistinct, CarryId, Entries, entries_of, register, table_of}
-use Rattle.strm_pool.specs.Step.{Applies, is_named}
+use Rattle.strm_pool.specs.Step.{Applies, Stepped, is_named}
 use Rattle.strm_pool.proofs.Accounts.{accounted_distinct, accounted_owned, owned_carry}
+use Rattle.strm_pool.proofs.Totals.{step_keeps_total}
 use Rattle.strm_shared.specs.Books.{BookValue, IsBookOf, IsServed, book_value, table_at}
 use Rattle.strm_shared.specs.Desks.{DeskValue, IsDeskOf, desk_value}
 use Rattle.strm_shared.specs.Ledger.{blocks_held}
@@ -44,6 +45,10 @@ module _ (id desks first : ℕ) (b : BookValue) (d : DeskValue) (lawful : IsBook
       held_moved =
           held_moves b.pool.arena w.arena b.tables d.number (entries_of d.regs) (entries_of ss) within known lawful.accounted
           (applies.accounted b.tables d.number within known lawful.accounted)
+
+      -- the pool has as many message blocks
+      pub sized : length w.arena.held ≡ length b.pool.arena.held
+      sized = ap (λ (s : Stepped). length s.pool.arena.held) (sym applies.step) ∙ step_keeps_total b.pool (table_of d.regs) call
 
       pub desk_next : IsDeskOf id desks (desk_value d.number ss)
       desk_next = record {

@@ -1,5 +1,5 @@
 -- How many message blocks are held, and by whom.
-use Rattle.std.specs.Prelude.{◌≡◌, ℕ, ◌+◌, List, Option, None, Some, length, sum_by}
+use Rattle.std.specs.Prelude.{◌≡◌, ℕ, ◌+◌, List, Option, None, Some, sum_by}
 use Rattle.strm_mblk.specs.declared.token.TokenValue.{TokenValue}
 use Rattle.strm_mblk.specs.Arena.{census_of}
 use Rattle.strm_pool.specs.PoolValue.{PoolValue}
@@ -23,8 +23,8 @@ blocks_held rs = blocks_told (entries_of rs)
 abbrev pub blocks_at : List DeskValue → ℕ
 blocks_at ds = sum_by (λ d. blocks_held d.regs) ds
 
--- A pool whose desks all came back: free message blocks, queued and held ones make the pool, and as many are held as the
--- tokens in the desks' registers have.
-pub record AreAll (v : PoolValue) (ds : List DeskValue) : Type 0 where
-  pub whole : (census_of v.arena).free + (census_of v.arena).queued + (census_of v.arena).held ≡ length v.arena.held
+-- A pool of so many message blocks whose desks all came back: free, queued and held ones make the pool, and as many are held
+-- as the tokens in the desks' registers have.
+pub record AreAll (blocks : ℕ) (v : PoolValue) (ds : List DeskValue) : Type 0 where
+  pub whole : (census_of v.arena).free + (census_of v.arena).queued + (census_of v.arena).held ≡ blocks
   pub held : (census_of v.arena).held ≡ blocks_at ds

@@ -1,5 +1,5 @@
 -- How the ledger of held blocks lies in book and desks. No public clause cites this module.
-use Rattle.std.specs.Prelude.{◌≡◌, ℕ, ◌≤◌, List, Option}
+use Rattle.std.specs.Prelude.{◌≡◌, ℕ, ◌≤◌, List, length, Option}
 use Rattle.strm_mblk.specs.declared.token.TokenValue.{TokenValue}
 use Rattle.strm_mblk.specs.Arena.{census_of}
 use Rattle.strm_pool.specs.PoolValue.{PoolValue}
@@ -10,7 +10,9 @@ pub record IsPart (parts amount : ℕ) (rs : List (Option TokenValue)) : Type 0 
   pub one : parts ≡ 1
   pub counted : amount ≡ blocks_held rs
 
--- the ledger's book, of so many desks, of which there is one at least: it counts the blocks that are held of the pool
-pub record IsCounted (desks total : ℕ) (v : PoolValue) : Type 0 where
+-- the ledger's book, of so many desks, of which there is one at least: it counts the blocks that are held of the pool, which
+-- has as many in all as when it was opened
+pub record IsCounted (blocks desks total : ℕ) (v : PoolValue) : Type 0 where
   pub some : 1 ≤ desks
   pub counted : total ≡ (census_of v.arena).held
+  pub sized : length v.arena.held ≡ blocks

@@ -1,5 +1,5 @@
 -- A pool that is to be shared.
-use Rattle.std.specs.Prelude.{◌≡◌, ℕ, Bool, true, false, not, ◌&&◌, ◌||◌, nat_le, nat_lt, Result, Ok, Err}
+use Rattle.std.specs.Prelude.{◌≡◌, ℕ, Bool, true, false, not, ◌&&◌, ◌||◌, length, nat_le, nat_lt, Result, Ok, Err}
 use Rattle.strm_pool.specs.declared.config.NewFault.{NewFault}
 use Rattle.strm_pool.specs.declared.config.NewFault.TheVariants.{BadConfig, BadShared, Memory}
 use Rattle.strm_pool.specs.PoolValue.{PoolValue}
@@ -27,9 +27,11 @@ Starts v s (Err (BadShared, w)) = (is_bad_shared s ≡ true) × (w ≡ v)
 Starts v s (Err (Memory, w)) = (is_bad_shared s ≡ false) × (w ≡ v)
 Starts v s (Err (BadConfig which, w)) = ⊥
 
--- these are the numbers of a start that its name must have: the pool's id, the number of desks, the first stamp, the ledger
-pub record IsNameOf (id desks first ledger : ℕ) (s : StartValue) : Type 0 where
+-- these are the numbers of a start that its name must have: the pool's id and how many message blocks it has, the number of
+-- desks, the first stamp, the ledger
+pub record IsNameOf (id blocks desks first ledger : ℕ) (s : StartValue) : Type 0 where
   pub same : id ≡ s.pool.arena.id
+  pub sized : blocks ≡ length s.pool.arena.held
   pub counted : desks ≡ s.desks
   pub begun : first ≡ s.first
   pub named : ledger ≡ s.ledger

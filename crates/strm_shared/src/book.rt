@@ -31,7 +31,7 @@ impl<N: Name> Model for Book<N> {
 
     ghost view = { λ b. book_value b.pool b.stamp b.tables.items };
 
-    ghost invariant = { λ b. IsBookOf N.id N.desks N.first (book_value b.pool b.stamp b.tables.items) × IsCounted N.desks b.held.total b.pool };
+    ghost invariant = { λ b. IsBookOf N.id N.desks N.first (book_value b.pool b.stamp b.tables.items) × IsCounted N.blocks N.desks b.held.total b.pool };
 }
 
 impl<N: Name> Book<N> {

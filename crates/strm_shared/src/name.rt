@@ -9,6 +9,9 @@ pub trait Name {
     // The id of the pool, which its tokens carry.
     ghost id: { ℕ };
 
+    // How many message blocks the pool has.
+    ghost blocks: { ℕ };
+
     // How many desks there are.
     ghost desks: { ℕ };
 
@@ -21,6 +24,8 @@ pub trait Name {
 
 impl Name for Brand {
     ghost id = { 0 };
+
+    ghost blocks = { 0 };
 
     ghost desks = { 0 };
 

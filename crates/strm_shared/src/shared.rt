@@ -50,8 +50,8 @@ impl<N: Name> Shared<N> {
 
     /// Ends the sharing: the pool, and the desks in the order of their numbers.
     ///
-    /// Free, queued and held message blocks make the pool, and as many are held as the tokens in the registers of these
-    /// desks have.
+    /// Free, queued and held message blocks are as many as the pool was opened with, and as many are held as the tokens in
+    /// the registers of these desks have.
     ///
     /// Refused as `DeskMissing` where fewer desks come than were handed out. Desks and pool come back as they were then; of
     /// the book behind the lock contracts see nothing, so of the pool only tests say so.
@@ -61,7 +61,7 @@ impl<N: Name> Shared<N> {
         ensures same { IfOk result (λ g. IsPermutation desks g.desks) }
         ensures sorted { IfOk result (λ g. IsNonDecreasingBy (λ (d : DeskValue). d.number) g.desks) }
         ensures pool { IfOk result (λ g. g.pool.arena.id ≡ N.id) }
-        ensures all { IfOk result (λ g. AreAll g.pool g.desks) }
+        ensures all { IfOk result (λ g. AreAll N.blocks g.pool g.desks) }
     {
         if desks.len() < usize::from(self.count.number) {
             return Err((Refusal::DeskMissing, self, desks));

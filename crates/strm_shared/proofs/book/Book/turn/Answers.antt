@@ -7,7 +7,7 @@ use Rattle.strm_pool.specs.Registers.{Entries, entries_of}
 use Rattle.strm_shared.specs.Books.{BookValue, IsBookOf, IsServed, book_value, table_at}
 use Rattle.strm_shared.specs.Desks.{DeskValue, desk_value}
 use Rattle.strm_shared.specs.Limits.{most_stamp}
-use Rattle.strm_shared.proofs.Turning.{book_next, desk_next, held_moved, others, owned, served, table_is, within}
+use Rattle.strm_shared.proofs.Turning.{book_next, desk_next, held_moved, others, owned, served, sized, table_is, within}
 use Rattle.strm_shared.proofs.book.Book.turn.Goals as goal
 
 pub apply-reply-requires : goal.apply-reply-requires
@@ -54,6 +54,9 @@ invariant_of-self g c =
           ap (λ (census : Census). census.held) c.census-before.ensures,
           ap (λ (census : Census). census.held) c.census-after.ensures,
         );
+        sized =
+            sized g.N.Name.id g.N.Name.desks g.N.Name.first b d c.self.invariant.0 c.desk.invariant.0 known c.args.call.now v ss c.apply-reply.result c.apply-reply.ensures
+            ∙ c.self.invariant.1.sized;
       },
     )
 

@@ -8,7 +8,7 @@ pub returns-clause-all : goal.returns-clause-all
 returns-clause-all g c =
     let enough : g.N.Name.desks ≤ length c.args.desks = search rules in
     record {
-      whole = c.lawful.ensures.whole;
+      whole = c.lawful.ensures.whole ∙ c.pool.invariant.1.sized;
       held =
           sym c.pool.invariant.1.counted
           ∙ c.audit.ensures.all enough
