@@ -129,25 +129,36 @@ module _ (v w : QueuedBlocks) (q : ℕ) where
       asked true is = at (slice_get (messages_on v q) k) is
       asked false is = absurd cc
 
+-- what holds of the arena that a call leaves where the queue is there, and of the one before it, holds of that after it
+pub at_queue : {X : Type 0} (v : QueuedBlocks) (P : Arena → Type 0) (given : X) (w : QueuedBlocks) → P w.arena → P v.arena → (there : Bool)
+    → (let g : Given QueuedBlocks X = if there then Ok (given, w) else Err NoSuchQueue in P (value_after v g).arena)
+at_queue v P given w now before true = now
+at_queue v P given w now before false = before
+
 -- no message comes or goes
 module _ (v : QueuedBlocks) (q : ℕ) where
   where_there : {X : Type 0} (given : X) (w : QueuedBlocks) → LeavesHeld v.arena w.arena [] → (there : Bool)
       → (let g : Given QueuedBlocks X = if there then Ok (given, w) else Err NoSuchQueue in LeavesHeld v.arena (value_after v g).arena [])
-  where_there given w left true = left
-  where_there given w left false = held_stay v.arena
+  where_there given w left = at_queue v (λ a. LeavesHeld v.arena a []) given w left (held_stay v.arena)
 
-  pub flushed_left : (band : Option ℕ) (flush : Flush) → LeavesHeld v.arena (value_after v (flushed q band flush v)).arena []
-  flushed_left band flush =
-      where_there tt (settled q (with_flushed q picked v)) (record { id = freed_id loose kept; others = λ k none. ap (λ (l : List (Option Message)). get_or l k None) (freed_held loose kept) }) (has_queue v q)
-    where
-      picked : Message → Bool
-      picked = is_picked v.arena.store band flush
+  module _ (band : Option ℕ) (flush : Flush) where
+    abbrev picked : Message → Bool
+    picked = is_picked v.arena.store band flush
 
-      loose : Message
-      loose = flat_map (λ m. m) (filter picked (messages_on v q))
+    abbrev loose : Message
+    loose = flat_map (λ m. m) (filter picked (messages_on v q))
 
-      kept : Arena
-      kept = with_shelf q (filter (λ m. not (picked m)) (messages_on v q)) v.arena
+    abbrev kept : Arena
+    kept = with_shelf q (filter (λ m. not (picked m)) (messages_on v q)) v.arena
+
+    pub flushed_held : (value_after v (flushed q band flush v)).arena.held ≡ v.arena.held
+    flushed_held = at_queue v (λ a. a.held ≡ v.arena.held) tt (settled q (with_flushed q picked v)) (freed_held loose kept) refl (has_queue v q)
+
+    pub flushed_left : LeavesHeld v.arena (value_after v (flushed q band flush v)).arena []
+    flushed_left = record {
+      id = at_queue v (λ a. a.id ≡ v.arena.id) tt (settled q (with_flushed q picked v)) (freed_id loose kept) refl (has_queue v q);
+      others = λ k none. ap (λ (l : List (Option Message)). get_or l k None) flushed_held;
+    }
 
   pub qenable_left : LeavesHeld v.arena (value_after v (qenable q v)).arena []
   qenable_left = where_there tt (with_state (enabled_where true q) v) (held_stay v.arena) (has_queue v q)

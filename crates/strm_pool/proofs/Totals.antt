@@ -1,13 +1,12 @@
 -- No call changes how many message blocks there are in all.
 use Rattle.std.proofs.Common.{◌≡◌, ℕ, ◌+◌, ◌-◌, Bool, true, false, ◌==◌, List, [], ◌∷◌, ◌++◌, length, set, Option, Some, None, Result, Ok, Err, refl, ap, ◌∙◌, if◌then◌else◌, length-set}
-use Rattle.std.specs.Prelude.{ℤ, drop, filter, nat_le, nat_lt, not, slice_get, take}
-use Rattle.std.specs.List.{flat_map}
+use Rattle.std.specs.Prelude.{ℤ, drop, nat_le, nat_lt, not, slice_get, take}
 use Rattle.strm_data.specs.declared.msg_type.MsgType.{MsgType}
 use Rattle.strm_data.specs.declared.refusal.Refusal.{Refusal}
 use Rattle.strm_data.specs.declared.refusal.Refusal.TheVariants.{BadOrder, NoMblk, NoRoom, NoSuchPlace, NoSuchQueue, RefMax, Shared, Short, TooLarge}
 use Rattle.strm_data.specs.Classes.{fits_a_class}
 use Rattle.strm_data.specs.DataStore.{DataStore, capacity_of, take_data}
-use Rattle.strm_mblk.specs.Arena.{Arena, message_at, names_of, with_shelf, without_held}
+use Rattle.strm_mblk.specs.Arena.{Arena, message_at, names_of, without_held}
 use Rattle.strm_mblk.specs.Block.{Block, Message, head_of, size_of}
 use Rattle.strm_mblk.specs.BlockCalls.{allocb, allocb_from, block, copied, copies, duplicated, exceeds_names, freeb, freeb_from, held_new, held_under, info_of, linkb, rmvb, rmvb_of, settype, settype_of, unlinkb, with_rest, write, write_block}
 use Rattle.strm_mblk.specs.Freeing.{freemsg}
@@ -17,8 +16,7 @@ use Rattle.strm_mblk.specs.Trimming.{adjmsg, bytes_asked, cut, pull, pull_asked,
 use Rattle.strm_mblk.proofs.pulling.Drained.{freed_held}
 use Rattle.strm_queue.specs.declared.flush.Flush.{Flush}
 use Rattle.strm_queue.specs.Flow.{enabled_where, enables_inserted, target, with_wanted}
-use Rattle.strm_queue.specs.Flush.{is_picked}
-use Rattle.strm_queue.specs.QueueCalls.{bcanput, flushed, got_at, got_first, getq, has_queue, insq, is_full, marks_of, message_put, messages_on, putbq, putq, qenable, qsize, rmvq, settled, switched, with_flushed, with_put, with_state}
+use Rattle.strm_queue.specs.QueueCalls.{bcanput, flushed, got_at, got_first, getq, has_queue, insq, is_full, marks_of, message_put, messages_on, putbq, putq, qenable, qsize, rmvq, switched, with_put, with_state}
 use Rattle.strm_queue.specs.QueuedBlocks.{QueuedBlocks}
 use Rattle.strm_queue.specs.Rank.{is_ordered, put_at, rank_of}
 use Rattle.strm_pool.specs.declared.call.Call.{Call}
@@ -30,6 +28,7 @@ use Rattle.strm_pool.specs.PoolValue.{PoolValue, on_arena, on_queues, queued}
 use Rattle.strm_pool.specs.Registers.{RegisterTable}
 use Rattle.strm_pool.specs.Step.{Told, act, answers, doing, gives, head_held, keeps, may_give, parts, spends, yes_or_no, is_taken, misses_queue, misses_token, replying, step}
 use Rattle.strm_pool.specs.Wishes.{bufcall, unbufcall}
+use Rattle.strm_pool.proofs.Queued.{at_queue, flushed_held}
 use Rattle.strm_pool.proofs.Waiting.{bufcall_stays, take_ready_stays, unbufcall_stays}
 
 -- how many message blocks there are
@@ -178,8 +177,7 @@ module _ (v : QueuedBlocks) (q : ℕ) where
   KeepsQueued g = total (value_after v g).arena ≡ total v.arena
 
   where_there : {X : Type 0} (given : X) (w : QueuedBlocks) → total w.arena ≡ total v.arena → (there : Bool) → (let g : Given QueuedBlocks X = if there then Ok (given, w) else Err NoSuchQueue in KeepsQueued g)
-  where_there given w same true = same
-  where_there given w same false = refl
+  where_there given w same = at_queue v (λ a. total a ≡ total v.arena) given w same refl
 
   putq_keeps : (h : ℕ) → KeepsQueued (putq q h v)
   putq_keeps h = where_there tt _ (length-set v.arena.held h None) (has_queue v q)
@@ -222,16 +220,7 @@ module _ (v : QueuedBlocks) (q : ℕ) where
       cases false = refl
 
   flushed_keeps : (band : Option ℕ) (flush : Flush) → KeepsQueued (flushed q band flush v)
-  flushed_keeps band flush = where_there tt (settled q (with_flushed q picked v)) (ap (λ (held : List (Option Message)). length held) (freed_held loose kept)) (has_queue v q)
-    where
-      picked : Message → Bool
-      picked = is_picked v.arena.store band flush
-
-      loose : Message
-      loose = flat_map (λ m. m) (filter picked (messages_on v q))
-
-      kept : Arena
-      kept = with_shelf q (filter (λ m. not (picked m)) (messages_on v q)) v.arena
+  flushed_keeps band flush = ap (λ (held : List (Option Message)). length held) (flushed_held v q band flush)
 
   bcanput_keeps : (band : ℕ) → KeepsQueued (bcanput q band v)
   bcanput_keeps band = where_there _ _ (asked (is_full v p band)) (has_queue v q)

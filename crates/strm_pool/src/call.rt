@@ -90,6 +90,7 @@ pub enum Call {
 
 impl Call {
     /// The queue and the registers that the call names.
+    #[inline(always)]
     pub fn names(&self) -> Names
         ensures { result ≡ names_of self.now }
     {
