@@ -131,7 +131,7 @@ fn day<N: Name + Send + Sync, R: Threads + Wait + Sync, G: Gate>(
     start: Start,
     parts: &Parts,
 ) -> Result<Vec<u8>, TextFault>
-    requires name { IsNameOf N.id N.blocks N.desks N.first N.ledger start }
+    requires name { IsNameOf N.Name start }
     requires desks { start.desks ≡ length parts.now }
     ensures { IfErr result (λ fault. TellsFault (run_fault_of_text fault) None) }
 {

@@ -6,6 +6,7 @@ use Rattle.std.proofs.Math.Seq.{get_or-append_seam}
 use Rattle.std.proofs.lemmas.Bool.{cases_eq}
 use Rattle.strm_pool.specs.declared.reply.Reply.{Reply}
 use Rattle.strm_shared.specs.declared.line.Line.{Line}
+use Rattle.strm_shared.specs.declared.name.Name.{Ghosts}
 use Rattle.strm_shared.specs.declared.outcome.End.{End}
 use Rattle.strm_shared.specs.declared.outcome.End.TheVariants.{NotStarted}
 use Rattle.strm_shared.specs.Books.{IsAfter}
@@ -14,12 +15,12 @@ use Rattle.strm_shared.specs.Runs.{AllWorked, AreServed, Worked}
 use Rattle.strm_shared.specs.RunsLayout.{AreReady, IsReady}
 
 -- one line more was served
-pub served_more : (lines : List Line) (d : DeskValue) (replies : List Reply) (e : DeskValue) (line : Line) (reply : Reply) (f : DeskValue)
-    → AreServed lines d replies e → length replies < length lines → IsAfter e (get_or lines (length replies) line).call f (Ok reply) → AreServed lines d (replies ++ reply ∷ []) f
-served_more [] d replies e line reply f served below after = absurd (omega (arith, below))
-served_more (l ∷ ls) d [] e line reply f served below after = (f, subst (λ (x : DeskValue). IsAfter x l.call f (Ok reply)) served after, refl)
-served_more (l ∷ ls) d (r ∷ rs) e line reply f served below after =
-    (served.0, served.1, served_more ls served.0 rs e line reply f served.2 (omega (arith, below)) after)
+pub served_more : {N : Type 0} (n : Ghosts N) (lines : List Line) (d : DeskValue) (replies : List Reply) (e : DeskValue) (line : Line) (reply : Reply) (f : DeskValue)
+    → AreServed n lines d replies e → length replies < length lines → IsAfter n e (get_or lines (length replies) line).call f (Ok reply) → AreServed n lines d (replies ++ reply ∷ []) f
+served_more n [] d replies e line reply f served below after = absurd (omega (arith, below))
+served_more n (l ∷ ls) d [] e line reply f served below after = (f, subst (λ (x : DeskValue). IsAfter n x l.call f (Ok reply)) served after, refl)
+served_more n (l ∷ ls) d (r ∷ rs) e line reply f served below after =
+    (served.0, served.1, served_more n ls served.0 rs e line reply f served.2 (omega (arith, below)) after)
 
 -- ---- room for one part more or less
 
@@ -55,33 +56,33 @@ module _ {X : Type 0} (xs ys : List X) (x : X) (is : ys ≡ xs ++ x ∷ []) wher
   before_end : (d : X) (k : ℕ) → k < length xs → get_or ys k d ≡ get_or xs k d
   before_end d k within = ap (λ zs. get_or zs k d) is ∙ get_or-append xs (x ∷ []) d k within
 
-worked_as : (p q : List Line) (b c : DeskValue) (e f : End) (r s : List Reply) (d g : DeskValue) → q ≡ p → c ≡ b → f ≡ e → s ≡ r → g ≡ d → Worked p b e r d → Worked q c f s g
-worked_as p q b c e f r s d g pq bc ef rs dg worked =
-    subst (λ (x : List Line). Worked x c f s g) (sym pq)
-    (subst (λ (x : DeskValue). Worked p x f s g) (sym bc)
-    (subst (λ (x : End). Worked p b x s g) (sym ef)
-    (subst (λ (x : List Reply). Worked p b e x g) (sym rs)
-    (subst (λ (x : DeskValue). Worked p b e r x) (sym dg) worked))))
+worked_as : {N : Type 0} (n : Ghosts N) (p q : List Line) (b c : DeskValue) (e f : End) (r s : List Reply) (d g : DeskValue) → q ≡ p → c ≡ b → f ≡ e → s ≡ r → g ≡ d → Worked n p b e r d → Worked n q c f s g
+worked_as n p q b c e f r s d g pq bc ef rs dg worked =
+    subst (λ (x : List Line). Worked n x c f s g) (sym pq)
+    (subst (λ (x : DeskValue). Worked n p x f s g) (sym bc)
+    (subst (λ (x : End). Worked n p b x s g) (sym ef)
+    (subst (λ (x : List Reply). Worked n p b e x g) (sym rs)
+    (subst (λ (x : DeskValue). Worked n p b e r x) (sym dg) worked))))
 
-module _ (parts earlier : List (List Line)) (lines : List Line) (before past : List DeskValue) (d : DeskValue)
+module _ {N : Type 0} (n : Ghosts N) (parts earlier : List (List Line)) (lines : List Line) (before past : List DeskValue) (d : DeskValue)
     (ends ended : List End) (end : End) (all replied : List (List Reply)) (replies : List Reply) (after kept : List DeskValue) (e : DeskValue)
     (p-is : parts ≡ earlier ++ lines ∷ []) (b-is : before ≡ past ++ d ∷ []) (e-is : ends ≡ ended ++ end ∷ []) (r-is : all ≡ replied ++ replies ∷ []) (a-is : after ≡ kept ++ e ∷ [])
-    (as-many : length past ≡ length earlier) (worked : AllWorked earlier past ended replied kept) (last : Worked lines d end replies e) where
-  pub worked_more : AllWorked parts before ends all after
+    (as-many : length past ≡ length earlier) (worked : AllWorked n earlier past ended replied kept) (last : Worked n lines d end replies e) where
+  pub worked_more : AllWorked n parts before ends all after
   worked_more = record {
     ended = longer ended ends end e-is ∙ omega (arith, worked.ended, longer earlier parts lines p-is);
     replied = longer replied all replies r-is ∙ omega (arith, worked.replied, longer earlier parts lines p-is);
     kept = longer kept after e a-is ∙ omega (arith, worked.kept, longer earlier parts lines p-is);
     each = λ k within. elim (cases_eq k (length earlier)) [
       | inl same ↦
-          subst (λ n. Worked (get_or parts n []) (get_or before n (empty_desk 0)) (get_or ends n NotStarted) (get_or all n []) (get_or after n (empty_desk 0))) (sym same)
-          (worked_as lines _ d _ end _ replies _ e _
+          subst (λ i. Worked n (get_or parts i []) (get_or before i (empty_desk 0)) (get_or ends i NotStarted) (get_or all i []) (get_or after i (empty_desk 0))) (sym same)
+          (worked_as n lines _ d _ end _ replies _ e _
           (at_end earlier parts lines p-is [] (length earlier) refl) (at_end past before d b-is (empty_desk 0) (length earlier) as-many)
           (at_end ended ends end e-is NotStarted (length earlier) worked.ended) (at_end replied all replies r-is [] (length earlier) worked.replied)
           (at_end kept after e a-is (empty_desk 0) (length earlier) worked.kept) last)
       | inr other ↦
           let below : k < length earlier = omega (arith, within, other, longer earlier parts lines p-is) in
-          worked_as _ _ _ _ _ _ _ _ _ _
+          worked_as n _ _ _ _ _ _ _ _ _ _
           (before_end earlier parts lines p-is [] k below) (before_end past before d b-is (empty_desk 0) k (omega (arith, below, as-many)))
           (before_end ended ends end e-is NotStarted k (omega (arith, below, worked.ended))) (before_end replied all replies r-is [] k (omega (arith, below, worked.replied)))
           (before_end kept after e a-is (empty_desk 0) k (omega (arith, below, worked.kept))) (worked.each k below)

@@ -8,6 +8,7 @@ use Rattle.strm_pool.specs.Lawful.{IsLawful}
 use Rattle.strm_pool.specs.PoolValue.{PoolValue}
 use Rattle.strm_pool.specs.Registers.{AreAccounted, Entries, entries_of, register, table_of}
 use Rattle.strm_pool.specs.Step.{is_named, step}
+use Rattle.strm_shared.specs.declared.name.Name.{Ghosts}
 use Rattle.strm_shared.specs.Desks.{DeskValue}
 use Rattle.strm_shared.specs.Limits.{most_stamp}
 
@@ -74,8 +75,13 @@ MayRefuse Worn = Unit {0}
 MayRefuse Stranger = Unit {0}
 MayRefuse other = ⊥
 
--- A desk once a call was served on it, or refused. Served, it was so by some lawful book, of which no more is known since
--- others have had it too; refused, it stays as it was.
-abbrev pub IsAfter : DeskValue → Call → DeskValue → Result Reply Refusal → Type 0
-IsAfter d call e (Ok reply) = (b : BookValue) × (c : BookValue) × IsLawful b.pool × IsServed b d call c e reply
-IsAfter d call e (Err why) = MayRefuse why × (e ≡ d)
+-- a book that the shared pool of this name may have: it is lawful, and its pool has so many message blocks
+pub record IsBookUnder {N : Type 0} (n : Ghosts N) (b : BookValue) : Type 0 where
+  pub lawful : IsLawfulBook n.id n.desks n.first b
+  pub sized : length b.pool.arena.held ≡ n.blocks
+
+-- A desk once a call was served on it, or refused. Served, it was so by a book that the shared pool may have, which became
+-- another one; of both no more is known, since others have had it too. Refused, the desk stays as it was.
+abbrev pub IsAfter : {N : Type 0} → Ghosts N → DeskValue → Call → DeskValue → Result Reply Refusal → Type 0
+IsAfter n d call e (Ok reply) = (b : BookValue) × (c : BookValue) × IsBookUnder n b × IsBookUnder n c × IsServed b d call c e reply
+IsAfter n d call e (Err why) = MayRefuse why × (e ≡ d)

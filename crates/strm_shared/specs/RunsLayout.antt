@@ -3,6 +3,7 @@ use Rattle.std.specs.Prelude.{◌≡◌, ℕ, ◌+◌, ◌≤◌, List, [], ◌�
 use Rattle.std.specs.Global.{Vec}
 use Rattle.strm_pool.specs.declared.reply.Reply.{Reply}
 use Rattle.strm_shared.specs.declared.line.Line.{Line}
+use Rattle.strm_shared.specs.declared.name.Name.{Ghosts}
 use Rattle.strm_shared.specs.declared.workers.Carried.{Carried}
 use Rattle.strm_shared.specs.declared.workers.Done.{Done}
 use Rattle.strm_shared.specs.declared.workers.Room.{Room}
@@ -23,9 +24,9 @@ AreReady (lines ∷ parts) (replies ∷ rooms) = IsReady lines replies × AreRea
 AreReady parts rooms = ⊥
 
 -- a thread runs that has the lines served on this desk, or the worker is done with them
-abbrev pub IsStartedFor : {N : Type 0} → List Line → DeskValue → Started N → Type 0
-IsStartedFor lines d (Running child) = (child.promise.lines.now ≡ lines) × (child.promise.desk.value ≡ d)
-IsStartedFor lines d (Not w) = Worked lines d w.end w.replies.items w.desk
+abbrev pub IsStartedFor : {N : Type 0} → Ghosts N → List Line → DeskValue → Started N → Type 0
+IsStartedFor n lines d (Running child) = (child.promise.lines.now ≡ lines) × (child.promise.desk.value ≡ d)
+IsStartedFor n lines d (Not w) = Worked n lines d w.end w.replies.items w.desk
 
 -- there is room for so many workers more
 abbrev pub HasRoom : {N : Type 0} → ℕ → Done N → Type 0

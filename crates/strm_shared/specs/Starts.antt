@@ -3,6 +3,7 @@ use Rattle.std.specs.Prelude.{◌≡◌, ℕ, Bool, true, false, not, ◌&&◌, 
 use Rattle.strm_pool.specs.declared.config.NewFault.{NewFault}
 use Rattle.strm_pool.specs.declared.config.NewFault.TheVariants.{BadConfig, BadShared, Memory}
 use Rattle.strm_pool.specs.PoolValue.{PoolValue}
+use Rattle.strm_shared.specs.declared.name.Name.{Ghosts}
 use Rattle.strm_shared.specs.declared.setup.Setup.{Setup}
 use Rattle.strm_shared.specs.Limits.{most_stamp, most_workers}
 
@@ -27,11 +28,15 @@ Starts v s (Err (BadShared, w)) = (is_bad_shared s ≡ true) × (w ≡ v)
 Starts v s (Err (Memory, w)) = (is_bad_shared s ≡ false) × (w ≡ v)
 Starts v s (Err (BadConfig which, w)) = ⊥
 
--- these are the numbers of a start that its name must have: the pool's id and how many message blocks it has, the number of
+-- the name of a start: the pool's id and how many message blocks it has, for each of which `held` has a place, the number of
 -- desks, the first stamp, the ledger
-pub record IsNameOf (id blocks desks first ledger : ℕ) (s : StartValue) : Type 0 where
-  pub same : id ≡ s.pool.arena.id
-  pub sized : blocks ≡ length s.pool.arena.held
-  pub counted : desks ≡ s.desks
-  pub begun : first ≡ s.first
-  pub named : ledger ≡ s.ledger
+abbrev pub name_of : {N : Type 0} → StartValue → Ghosts N
+name_of s = record { id = s.pool.arena.id; blocks = length s.pool.arena.held; desks = s.desks; first = s.first; ledger = s.ledger }
+
+-- these are the numbers of a name
+pub record IsNameOf {N : Type 0} (n : Ghosts N) (s : StartValue) : Type 0 where
+  pub same : n.id ≡ s.pool.arena.id
+  pub sized : n.blocks ≡ length s.pool.arena.held
+  pub counted : n.desks ≡ s.desks
+  pub begun : n.first ≡ s.first
+  pub named : n.ledger ≡ s.ledger

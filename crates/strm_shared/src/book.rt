@@ -1,5 +1,5 @@
 //! What the lock of a shared pool guards.
-ghost use Rattle.std.specs.Prelude.{◌≡◌, ◌+◌, ◌<◌, ◌≤◌};
+ghost use Rattle.std.specs.Prelude.{◌≡◌, ◌+◌, ◌<◌, ◌≤◌, length};
 ghost use Rattle.strm_shared.specs.Books.{Answers, IsLawfulBook};
 
 use crate::desk::Desk;
@@ -38,7 +38,9 @@ impl<N: Name> Book<N> {
     /// The laws of every book, whatever calls of whatever threads made it so. They hold each time the lock is got. Does
     /// nothing.
     pub fn lawful(&self)
-        ensures { IsLawfulBook N.id N.desks N.first self.now }
+        ensures law { IsLawfulBook N.id N.desks N.first self.now }
+        // The pool has as many message blocks as when it was shared.
+        ensures sized { length self.now.pool.arena.held ≡ N.blocks }
     {
         self.pool.lawful();
     }

@@ -29,8 +29,8 @@ pub struct Gathered<N: Name> {
 
 impl<N: Name> Shared<N> {
     /// Serves a call on the desk's registers under the lock, for which it waits, and answers its reply. The lock is held for
-    /// this one call. It is served, as `Book::turn` says, by some lawful book: who waits for a lock can't say by which, since
-    /// others have had it.
+    /// this one call. It is served, as `Book::turn` says, by a book that this pool may have: who waits for a lock can't say by
+    /// which, since others have had it.
     ///
     /// Refused as `Worn` and `Stranger` where `Book::turn` is; nothing changes then.
     pub fn serve(
@@ -40,18 +40,20 @@ impl<N: Name> Shared<N> {
         line: u32,
         call: &Call,
     ) -> Result<Reply, Refusal>
-        ensures { IsAfter desk.old call.now desk.new result }
+        ensures { IsAfter N.Name desk.old call.now desk.new result }
     {
         let mut lock = self.book.lock(rt);
         let book = &mut *lock;
         book.lawful();
-        book.turn(self, desk, line, call)
+        let answer = book.turn(self, desk, line, call);
+        book.lawful();
+        answer
     }
 
     /// Ends the sharing: the pool, and the desks in the order of their numbers.
     ///
-    /// Free, queued and held message blocks are as many as the pool was opened with, and as many are held as the tokens in
-    /// the registers of these desks have.
+    /// Free, queued and held message blocks are as many as when the pool was shared, and as many are held as the tokens in the
+    /// registers of these desks have.
     ///
     /// Refused as `DeskMissing` where fewer desks come than were handed out. Desks and pool come back as they were then; of
     /// the book behind the lock contracts see nothing, so of the pool only tests say so.

@@ -70,7 +70,7 @@ impl Start {
     /// Shares the pool under a name: the pool under its lock, and its desks 0, 1 and so on, with empty registers. It takes
     /// no memory, and can't fail.
     pub fn open<N: Name>(self) -> (Shared<N>, Desks<N>)
-        requires { IsNameOf N.id N.blocks N.desks N.first N.ledger self }
+        requires { IsNameOf N.Name self }
         ensures { result.1 ≡ fresh N.desks }
     {
         let Start {

@@ -188,7 +188,7 @@ fn two_desks_by_turns(rt: HostRuntime) {
 
 // A message goes from one desk to the other over the queue. Each has registers of its own.
 fn by_turns<N: Name, R: Wait + Abort>(rt: &R, start: Start)
-    requires { IsNameOf N.id N.blocks N.desks N.first N.ledger start }
+    requires { IsNameOf N.Name start }
 {
     let (a, b) = (reg(rt, b'a'), reg(rt, b'b'));
     let (shared, mut desks) = start.open::<N>();
@@ -236,7 +236,7 @@ fn the_last_stamps(rt: HostRuntime) {
 
 // One call is served before the last stamp, and none at it.
 fn worn<N: Name, R: Wait + Abort>(rt: &R, start: Start)
-    requires { IsNameOf N.id N.blocks N.desks N.first N.ledger start }
+    requires { IsNameOf N.Name start }
 {
     let a = reg(rt, b'a');
     let (shared, mut desks) = start.open::<N>();
@@ -275,7 +275,7 @@ fn ungathered<N: Name>(
 
 // Desk 1 is not there at first. Each time the others are gathered they come back, with the pool and the stamp as they were.
 fn missing<N: Name, R: Wait + Abort>(rt: &R, start: Start)
-    requires { IsNameOf N.id N.blocks N.desks N.first N.ledger start }
+    requires { IsNameOf N.Name start }
 {
     let a = reg(rt, b'a');
     let (shared, mut desks) = start.open::<N>();
@@ -306,8 +306,8 @@ fn two_shared_pools(rt: HostRuntime) {
 // What is served of one leaves the other as it was. With `desks` in the place of `others`, the calls of `second` do not
 // compile (tests/strangers).
 fn side_by_side<N: Name, M: Name, R: Wait + Abort>(rt: &R, one: Start, other: Start)
-    requires one { IsNameOf N.id N.blocks N.desks N.first N.ledger one }
-    requires other { IsNameOf M.id M.blocks M.desks M.first M.ledger other }
+    requires one { IsNameOf N.Name one }
+    requires other { IsNameOf M.Name other }
 {
     let a = reg(rt, b'a');
     let (first, mut desks) = one.open::<N>();
@@ -433,7 +433,7 @@ fn work<N: Name + Send + Sync, R: Threads + Wait + Abort + Sync, G: Gate>(
     gate: &G,
     rounds: u32,
 ) -> Result<(), Fail>
-    requires { IsNameOf N.id N.blocks N.desks N.first N.ledger start }
+    requires { IsNameOf N.Name start }
 {
     let (shared, mut desks) = start.open::<N>();
     assert!(rt; desks.len() > 0);
@@ -505,7 +505,7 @@ fn crowd<N: Name + Send + Sync, R: Threads + Wait + Abort + Sync>(
     alloc: Global,
     start: Start,
 ) -> Result<(), Fail>
-    requires { IsNameOf N.id N.blocks N.desks N.first N.ledger start }
+    requires { IsNameOf N.Name start }
 {
     let (shared, desks) = start.open::<N>();
     let Ok(parts) = queueing(alloc, reg(rt, b'a'), desks.len() as u8) else {
@@ -602,7 +602,7 @@ fn unlike<N: Name + Send + Sync, R: Threads + Wait + Abort + Sync>(
     count: usize,
     end: End,
 ) -> Result<(), Fail>
-    requires { IsNameOf N.id N.blocks N.desks N.first N.ledger start }
+    requires { IsNameOf N.Name start }
 {
     let a = reg(rt, b'a');
     let (shared, desks) = start.open::<N>();

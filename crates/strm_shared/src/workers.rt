@@ -56,7 +56,7 @@ impl<'a, N: Name> Drop for Serves<'a, N> {
 impl<'a, N: Name> Promise<Worker<N>> for Serves<'a, N> {
     ghost use Rattle.strm_shared.specs.Runs.{Worked};
 
-    ghost kept_by = { λ p w. Worked p.lines.now p.desk.value w.end w.replies.items w.desk };
+    ghost kept_by = { λ p w. Worked N.Name p.lines.now p.desk.value w.end w.replies.items w.desk };
 }
 
 impl<N: Name> Worker<N> {
@@ -78,7 +78,7 @@ impl<N: Name> Worker<N> {
         lines: &[Line],
     ) -> Worker<N>
         requires { IsReady lines.now self.replies }
-        ensures { Worked lines.now self.desk result.end result.replies.items result.desk }
+        ensures { Worked N.Name lines.now self.desk result.end result.replies.items result.desk }
     {
         let Worker {
             mut desk,
@@ -123,7 +123,7 @@ fn start<'s, E, N: Name + Send + Sync, R: Threads + Wait + Sync, G: Gate>(
 ) -> Started<'s, N>
     requires ready { IsReady lines.now worker.replies }
     requires end { worker.end ≡ NotStarted }
-    ensures { IsStartedFor lines.now worker.desk result }
+    ensures { IsStartedFor N.Name lines.now worker.desk result }
 {
     let promise = Serves {
         lines,
@@ -131,7 +131,7 @@ fn start<'s, E, N: Name + Send + Sync, R: Threads + Wait + Sync, G: Gate>(
     };
     let job = move || -> Worker<N>
         requires { IsReady lines.now worker.replies × (worker.end ≡ NotStarted) }
-        ensures { Worked lines.entry.now worker.desk result.end result.replies.items result.desk }
+        ensures { Worked N.Name lines.entry.now worker.desk result.end result.replies.items result.desk }
     {
         if refused.load(Ordering::SeqCst) == u64::from(number) + 1 {
             return worker;
@@ -149,7 +149,7 @@ fn start<'s, E, N: Name + Send + Sync, R: Threads + Wait + Sync, G: Gate>(
 
 // Waits for a worker's thread, if it has one.
 fn finish<N: Name, R: Threads>(rt: &R, started: Started<N>) -> Worker<N>
-    ensures { (lines : _) (desk : _) → IsStartedFor lines desk started.entry → Worked lines desk result.end result.replies.items result.desk }
+    ensures { (lines : _) (desk : _) → IsStartedFor N.Name lines desk started.entry → Worked N.Name lines desk result.end result.replies.items result.desk }
 {
     match started {
         Started::Running(child) => child.join(rt),
@@ -218,7 +218,7 @@ fn serve_all<'s, E, N: Name + Send + Sync, R: Threads + Wait + Sync, G: Gate>(
     requires ready { AreReady parts.now crew.old.rooms.items }
     requires room { HasRoom (length parts.now) done.old }
     requires empty { IsEmpty done.old }
-    ensures worked { AllWorked parts.now crew.old.desks done.new.ends.items done.new.replies.items done.new.desks }
+    ensures worked { AllWorked N.Name parts.now crew.old.desks done.new.ends.items done.new.replies.items done.new.desks }
     ensures room { (n : ℕ) → HasRoom (length parts.now + n) done.old → HasRoom n done.new }
     ensures spent { crew.new.desks ≡ [] }
 {
@@ -286,7 +286,7 @@ impl<N: Name> Carried<N> {
     where
         N: Send + Sync,
         requires { IsCarried parts.now self }
-        ensures worked { AllWorked parts.now self.crew.desks result.done.ends.items result.done.replies.items result.done.desks }
+        ensures worked { AllWorked N.Name parts.now self.crew.desks result.done.ends.items result.done.replies.items result.done.desks }
         ensures spent { result.crew.desks ≡ [] }
     {
         serve_all(
@@ -350,7 +350,7 @@ pub fn run_workers<N: Name + Send + Sync, R: Threads + Wait + Sync, G: Gate>(
     gate: &G,
 ) -> Result<Outcome<N>, (AllocError, Desks<N>)>
     requires { length parts.now ≡ length desks }
-    ensures worked { IfOk result (λ o. AllWorked parts.now desks o.ends o.replies o.desks) }
+    ensures worked { IfOk result (λ o. AllWorked N.Name parts.now desks o.ends o.replies o.desks) }
     ensures unserved { IfErr result (λ e. e.1 ≡ desks) }
 {
     let parts = parts.items();
@@ -379,7 +379,7 @@ pub fn run_workers<N: Name + Send + Sync, R: Threads + Wait + Sync, G: Gate>(
         rt,
         |scope| -> Carried<N>
             requires { IsCarried parts.now carried }
-            ensures { AllWorked parts.entry.now carried.crew.desks result.done.ends.items result.done.replies.items result.done.desks × (result.crew.desks ≡ []) }
+            ensures { AllWorked N.Name parts.entry.now carried.crew.desks result.done.ends.items result.done.replies.items result.done.desks × (result.crew.desks ≡ []) }
         { carried.serve(scope, rt, shared, gate, parts, refused) },
     );
     let Done {

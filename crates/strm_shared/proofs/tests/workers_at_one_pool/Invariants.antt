@@ -1,5 +1,5 @@
-use Rattle.std.proofs.Common.{length}
+use Rattle.strm_shared.specs.Starts.{name_of}
 use Rattle.strm_shared.proofs.tests.workers_at_one_pool.Given as goal
 
 abbrev pub ghosts-work : goal.ghosts-work
-ghosts-work g a = record { id = a.start.pool.arena.id; blocks = length a.start.pool.arena.held; desks = a.start.desks; first = a.start.first; ledger = a.start.ledger }
+ghosts-work g a = name_of a.start

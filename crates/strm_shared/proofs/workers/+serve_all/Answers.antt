@@ -53,11 +53,11 @@ returns-clause-worked g t c =
     let now = c.push.new.self in
     let parts = longer c.in-Some.earlier.now c.args.parts.now c.in-Some.lines.now c.in-Some.ensures.cases.0 in
     let desks = longer c.take_last-worker.new.self.desks c.args.crew.now.desks w.desk c.take_last-worker.ensures.desks in
-    worked_more c.args.parts.now c.in-Some.earlier.now c.in-Some.lines.now c.args.crew.now.desks c.take_last-worker.new.self.desks w.desk
+    worked_more g.N.Name c.args.parts.now c.in-Some.earlier.now c.in-Some.lines.now c.args.crew.now.desks c.take_last-worker.new.self.desks w.desk
     now.ends.items past.ends.items x.end now.replies.items past.replies.items x.replies.items now.desks past.desks x.desk
     c.in-Some.ensures.cases.0 c.take_last-worker.ensures.desks c.push.ensures.ends c.push.ensures.replies c.push.ensures.desks
     (omega (arith, parts, desks, c.requires.desks)) c.serve_all.ensures.worked
-    (c.finish.ensures c.in-Some.lines.now w.desk (subst (λ lines. IsStartedFor lines w.desk c.start-started.result) c.items.ensures c.start-started.ensures))
+    (c.finish.ensures c.in-Some.lines.now w.desk (subst (λ lines. IsStartedFor g.N.Name lines w.desk c.start-started.result) c.items.ensures c.start-started.ensures))
 
 pub returns-clause-room : goal.returns-clause-room
 returns-clause-room g t c n room =

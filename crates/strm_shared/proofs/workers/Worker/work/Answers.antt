@@ -18,7 +18,7 @@ loop-i-preserved g c =
     record {
       count = search rules;
       room = search rules;
-      served = subst (λ xs. AreServed lines c.args.self.desk xs left) (sym c.push_reserved.ensures.items)
-          (served_more lines c.args.self.desk replies desk line reply left c.loop-i.invariant.served below
-          (subst (λ n. IsAfter desk (get_or lines n line).call left (Ok reply)) (sym c.loop-i.invariant.count) (subst (λ (x : Line). IsAfter desk x.call left (Ok reply)) (sym here) c.in-Ok.ensures)));
+      served = subst (λ xs. AreServed g.N.Name lines c.args.self.desk xs left) (sym c.push_reserved.ensures.items)
+          (served_more g.N.Name lines c.args.self.desk replies desk line reply left c.loop-i.invariant.served below
+          (subst (λ n. IsAfter g.N.Name desk (get_or lines n line).call left (Ok reply)) (sym c.loop-i.invariant.count) (subst (λ (x : Line). IsAfter g.N.Name desk x.call left (Ok reply)) (sym here) c.in-Ok.ensures)));
     }

@@ -6,5 +6,5 @@ abbrev pub invariant-loop-i : goal.invariant-loop-i
 invariant-loop-i g l = record {
   count : length l.replies.items ≡ l.i;
   room : length l.lines ≤ vec_capacity l.replies;
-  served : AreServed l.lines l.initial.desk l.replies.items l.desk;
+  served : AreServed g.N.Name l.lines l.initial.desk l.replies.items l.desk;
 }
