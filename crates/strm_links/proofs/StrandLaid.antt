@@ -16,7 +16,7 @@ use Rattle.strm_links.specs.declared.strands.Span.{Span}
 use Rattle.strm_links.proofs.Chains.{LeadsOn-kept, next_is, walk_is}
 use Rattle.strm_links.proofs.OneList.{after-get, has_get, has_tail}
 use Rattle.strm_links.proofs.StrandLinks.{has_first, has_last}
-use Rattle.strm_links.proofs.StrandParts.{free_low, not_in_other, somewhere, strand_apart, strand_low}
+use Rattle.strm_links.proofs.StrandParts.{free_apart, free_low, not_in_other, somewhere, strand_apart, strand_low}
 
 -- ---- the view
 
@@ -141,6 +141,10 @@ module _ (nodes : List Node) (front : Option ℕ) (count : ℕ) (v : StrandLists
   next_held h i k is =
       next_is (next_at nodes) (strand_at v h) k (head_leads h (held_in v.held h) (laid.heads h)) (has_get (strand_at v h) i k is)
       ∙ after-get (strand_at v h) i k (strand_apart v laid.once h) is
+
+  -- and from each free node to the one behind it
+  pub next_free : (i k : ℕ) → slice_get v.free i ≡ Some k → next_at nodes k ≡ slice_get v.free (i + 1)
+  next_free i k is = next_is (next_at nodes) v.free k laid.free_leads (has_get v.free i k is) ∙ after-get v.free i k (free_apart v laid.once) is
 
   -- and only to nodes
   pub next_within : (k j : ℕ) → next_at nodes k ≡ Some j → j < length v.held

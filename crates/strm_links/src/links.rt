@@ -43,7 +43,9 @@ struct Ends {
     back: Slot,
 }
 
-const _: () = prove!(size_of::<Node>() == 12 && size_of::<Ends>() == 12);
+const _: () = prove!(
+    size_of::<Node>() == 12 && size_of::<Ends>() == 12 && size_of::<Links>() == 48
+);
 
 impl Node {
     // A node that is in no list.

@@ -251,14 +251,14 @@ impl Strands {
         self.nodes[head as usize].span.len
     }
 
-    /// The node behind this one in its chain: none behind the last. Nothing changes.
-    ///
-    /// Of a free node no clause says more than that the answer is one of the nodes.
+    /// The node behind this one, in its chain or among the free ones: none behind the last. Nothing changes.
     #[inline(always)]
     pub fn next(&self, node: u32) -> Option<u32>
         requires { node < length self.now.held }
         ensures value { (h i : ℕ) → slice_get (strand_at self.now h) i ≡ Some node
             → result ≡ slice_get (strand_at self.now h) (i + 1) }
+        ensures free { (i : ℕ) → slice_get self.now.free i ≡ Some node
+            → result ≡ slice_get self.now.free (i + 1) }
         ensures in_range { IfSome result (λ other. other < length self.now.held) }
     {
         self.nodes[node as usize].next.get()

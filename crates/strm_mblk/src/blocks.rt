@@ -61,7 +61,7 @@ struct Fields {
     band: u8,
 }
 
-const _: () = prove!(size_of::<Fields>() == 16);
+const _: () = prove!(size_of::<Fields>() == 16 && size_of::<Blocks>() == 240);
 
 impl Fields {
     // Both places at 0, and band 0.
@@ -200,7 +200,7 @@ impl Blocks {
 
     /// Takes the first free message block, and a data block of `size` bytes or more, for a new message of no bytes, type
     /// M_DATA and band 0. The data block is the first free one of the smallest class that fits and has one. Takes at most
-    /// a step for each class.
+    /// three steps for each class.
     ///
     /// Refused as `TooLarge` where the size is above the largest class, then as `NoMblk` where no message block is
     /// free, then as `NoData` where no data block is that fits; nothing changes then.

@@ -1,7 +1,7 @@
 use Rattle.std.proofs.Common.{◌≡◌, ap, sym, ◌∙◌}
 use Rattle.strm_links.specs.declared.strands.Node.{Node}
 use Rattle.strm_links.specs.StrandLayout.{next_at}
-use Rattle.strm_links.proofs.StrandLaid.{IfSome-from, next_held, next_within, node_read, seen}
+use Rattle.strm_links.proofs.StrandLaid.{IfSome-from, next_free, next_held, next_within, node_read, seen}
 use Rattle.strm_links.proofs.strands.Strands.next.Goals as goal
 use Rattle.strm_links.proofs.strands.Strands.next.Goals.{After-get}
 
@@ -11,6 +11,9 @@ read c = c.get.ensures ∙ ap (λ (x : Node). x.next) (node_read _ _ _ _ (seen _
 
 pub returns-clause-value : goal.returns-clause-value
 returns-clause-value c h i is = read c ∙ next_held _ _ _ _ (seen _ _ _ _ c.self.view_is c.self.invariant) h i c.args.node is
+
+pub returns-clause-free : goal.returns-clause-free
+returns-clause-free c i is = read c ∙ next_free _ _ _ _ (seen _ _ _ _ c.self.view_is c.self.invariant) i c.args.node is
 
 pub returns-clause-in_range : goal.returns-clause-in_range
 returns-clause-in_range c = IfSome-from c.get.result _ (λ j is. next_within _ _ _ _ (seen _ _ _ _ c.self.view_is c.self.invariant) c.args.node j (sym (read c) ∙ is))
