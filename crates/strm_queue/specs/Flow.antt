@@ -131,8 +131,8 @@ enabled q s = if (spec_at s.specs q).service && not (rows.has q s.run) then reco
 abbrev pub enabled_where : Bool → ℕ → QueueState → QueueState
 enabled_where so q s = if so then enabled q s else s
 
--- whether a message of this rank that is put on a queue with these marks enables it: one of high priority does always,
--- any other where that is not switched off and somebody wants to read, or its band is above 0
+-- whether a message of this rank that is put on a queue with these marks enables it: one of high priority does always, any
+-- other where that is not switched off, and either somebody wants to read or its band is above 0
 abbrev pub enables_put : Marks → ℕ → Bool
 enables_put marks rank = rank == 256 || (not marks.noenable && (marks.read || nat_lt 0 rank))
 

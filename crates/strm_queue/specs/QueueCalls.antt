@@ -159,7 +159,7 @@ bcanput q band v = if has_queue v q then Ok (asked_for_room (target v.queues.spe
 abbrev pub qenable : ℕ → QueuedBlocks → Given QueuedBlocks (Unit {0})
 qenable q v = if has_queue v q then Ok (tt, with_state (enabled_where true q) v) else Err NoSuchQueue
 
--- whether putting on q is to enable it no more, save with high priority
+-- whether to put on q, or to insert, is to enable it no more, save where high priority is put or put back
 abbrev pub switched : ℕ → Bool → QueuedBlocks → Given QueuedBlocks (Unit {0})
 switched q off v = if has_queue v q then Ok (tt, with_state (with_noenable q off) v) else Err NoSuchQueue
 

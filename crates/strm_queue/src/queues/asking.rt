@@ -101,8 +101,8 @@ impl Queues {
         Ok(())
     }
 
-    /// Switches enabling off: nothing but a high priority message put on the queue, `qenable`, and back-enabling enables
-    /// it any more. Takes constant time.
+    /// Switches enabling off: nothing but a high priority message that is put on the queue or put back, `qenable`, and
+    /// back-enabling enables it any more. Takes constant time.
     ///
     /// Refused as `NoSuchQueue` where there is no such queue; nothing changes then.
     pub fn noenable(&mut self, queue: u8) -> Result<(), Refusal>
