@@ -36,9 +36,9 @@ pub record IsBookOf (id desks first : ℕ) (b : BookValue) : Type 0 where
   pub accounted : AreAccounted b.pool.arena b.tables
 
 -- What is true whenever the lock is free. Each message block is free, in one message on one queue, or in one held
--- message, which stands in one register of one desk. Each data block is named by as many message blocks as its count
--- says. Each queue reads alike both ways, in priority order. The bytes of a queue's bands add up to those of its messages,
--- and a wanted mark stands only where the band has more bytes than the low water mark.
+-- message, which stands in one register of one desk. Each data block is free, or 1 to 255 message blocks name it. Each queue
+-- reads alike both ways, in priority order. The bytes of a queue's bands add up to those of its messages, and a wanted mark
+-- stands only where the band has more bytes than the low water mark.
 pub record IsLawfulBook (id desks first : ℕ) (b : BookValue) : Type 0 where
   pub book : IsBookOf id desks first b
   pub pool : IsLawful b.pool

@@ -1,5 +1,5 @@
 //! A list of desks that takes no memory.
-ghost use Rattle.std.specs.Prelude.{◌≡◌, ◌+◌, ◌≤◌, ◌<◌, ◌++◌, ◌∷◌, [], Some, length, remove, slice_index_or, IsPermutation, IsTrue, ◌↔◌};
+ghost use Rattle.std.specs.Prelude.{◌≡◌, ◌+◌, ◌≤◌, ◌<◌, ◌++◌, ◌∷◌, [], Some, length, slice_index_or, IsPermutation, IsTrue, ◌↔◌};
 ghost use Rattle.std.specs.List.Sorted.{IsNonDecreasingBy};
 ghost use Rattle.strm_shared.specs.Desks.{DeskValue};
 ghost use Rattle.strm_shared.specs.DesksLayout.{IsFilled, desk_in};
@@ -142,15 +142,6 @@ impl<N: Name> Desks<N> {
             unreachable!()
         };
         place.into_desk()
-    }
-
-    /// Takes the desk at a place, counted from 0, where there is one; those behind it move up.
-    pub fn take(&mut self, place: usize) -> Desk<N>
-        requires { place < length self.old }
-        ensures desk { result ≡ slice_index_or self.old place result }
-        ensures rest { self.new ≡ remove self.old place }
-    {
-        self.places.remove(place).into_desk()
     }
 
     /// Lends the desk at a place, counted from 0, where there is one.

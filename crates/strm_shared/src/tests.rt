@@ -13,8 +13,8 @@ use std::sync::atomic::{AtomicU32, Ordering};
 use std::test::Fail;
 use std::thread::Threads;
 use strm_pool::{
-    Call, Census, ClassSpec, ClassSpecs, Config, NewFault, Pool, QueueSpec, QueueSpecs, Refusal,
-    Reg, Reply,
+    Call, Census, ClassSpec, ClassSpecs, Config, Flush, NewFault, Pool, QueueSpec, QueueSpecs,
+    Refusal, Reg, Reply,
 };
 
 // A pool of eight message blocks over four data blocks of 16 bytes and two of 64, with one queue.
@@ -231,17 +231,29 @@ fn setups_out_of_bounds(rt: HostRuntime) {
 
 #[test]
 fn the_last_stamps(rt: HostRuntime) {
-    worn::<Brand, _>(&rt, start(&rt, rt.alloc(), 7, 1, MOST_STAMP - 1));
+    worn::<Brand, _>(&rt, start(&rt, rt.alloc(), 7, 1, MOST_STAMP - 11));
 }
 
-// One call is served before the last stamp, and none at it.
+// Each call before the last stamp is served and counts, and what it does to the pool shows in later ones; none is served at
+// the last.
 fn worn<N: Name, R: Wait + Abort>(rt: &R, start: Start)
     requires { IsNameOf N.Name start }
 {
     let a = reg(rt, b'a');
     let (shared, mut desks) = start.open::<N>();
     let mut desk = last(rt, &mut desks, 0);
+    assert_served(rt, &shared, &mut desk, &Call::Bufcall(16), &Reply::Id(1));
+    assert_served(rt, &shared, &mut desk, &Call::Ready, &Reply::Ready(1, 16));
     assert_served(rt, &shared, &mut desk, &Call::Allocb(a, 1), &Reply::Done);
+    assert_served(rt, &shared, &mut desk, &Call::Msgdsize(a), &Reply::Size(0));
+    assert_served(rt, &shared, &mut desk, &Call::Noenable(0), &Reply::Done);
+    assert_served(rt, &shared, &mut desk, &Call::Putq(0, a), &Reply::Done);
+    assert_served(rt, &shared, &mut desk, &Call::Service, &Reply::Nothing);
+    assert_served(rt, &shared, &mut desk, &Call::Qenable(0), &Reply::Done);
+    assert_served(rt, &shared, &mut desk, &Call::Service, &Reply::Queue(0));
+    let flush = Call::Flushq(0, Flush::All);
+    assert_served(rt, &shared, &mut desk, &flush, &Reply::Done);
+    assert_served(rt, &shared, &mut desk, &Call::Qsize(0), &Reply::Size(0));
     assert_refused(rt, &shared, &mut desk, &Call::Freemsg(a), Refusal::Worn);
     assert_refused(rt, &shared, &mut desk, &Call::Freemsg(a), Refusal::Worn);
     assert!(rt; desks.len() == 0);

@@ -339,8 +339,8 @@ impl Room {
 /// takes when it starts.
 ///
 /// There are as many desks as parts; none at all is lawful. A worker stops at its first refusal. One for which there is no
-/// thread has no replies and its desk as it was, and the others run on. Where memory is refused nothing was served, and the
-/// desks come back as they were.
+/// thread has no replies and its desk as it was, and the others run on. Where memory is refused the desks come back as they
+/// were; that nothing was served then is read off the code.
 pub fn run_workers<N: Name + Send + Sync, R: Threads + Wait + Sync, G: Gate>(
     rt: &R,
     alloc: Global,
