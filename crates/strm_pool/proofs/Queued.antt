@@ -8,6 +8,7 @@ use Rattle.strm_data.specs.declared.refusal.Refusal.TheVariants.{BadOrder, NoSuc
 use Rattle.strm_links.specs.Rows as rows
 use Rattle.strm_mblk.specs.Arena.{Arena, held_at, with_shelf}
 use Rattle.strm_mblk.specs.Block.{Message, head_of}
+use Rattle.strm_mblk.specs.Frame.{LeavesOthers}
 use Rattle.strm_mblk.specs.Given.{Given, value_after}
 use Rattle.strm_mblk.proofs.pulling.Drained.{freed_held, freed_id}
 use Rattle.strm_queue.specs.Flow.{QueueState, enabled_where, enables_inserted, enables_put, enables_put_back, target, with_noenable, with_wanted}
@@ -24,28 +25,31 @@ same_answer {X} {V} {x} {y} {v} {w} is =
     (ap (λ (p : X × V). p.0) both, ap (λ (p : X × V). p.1) both)
 
 -- the id stays, and so does what is held, save at these heads
-pub record LeavesHeld (a b : Arena) (heads : List ℕ) : Type 0 where
+pub record LeavesHeld (heads : List ℕ) (a b : Arena) : Type 0 where
   pub id : b.id ≡ a.id
-  pub others : (k : ℕ) → rows.has k heads ≡ false → held_at b k ≡ held_at a k
+  pub held : (k : ℕ) → rows.has k heads ≡ false → held_at b k ≡ held_at a k
+
+pub held_left : {a b : Arena} {heads : List ℕ} → LeavesOthers heads a b → LeavesHeld heads a b
+held_left others = record { id = others.id; held = others.held }
 
 -- all that is held stays
-pub held_stay : (a : Arena) → LeavesHeld a a []
-held_stay a = record { id = refl; others = λ k none. refl }
+pub held_stay : (a : Arena) → LeavesHeld [] a a
+held_stay a = record { id = refl; held = λ k none. refl }
 
-pub all_stays : (a b : Arena) → b ≡ a → LeavesHeld a b []
-all_stays a b same = record { id = ap (λ (c : Arena). c.id) same; others = λ k none. ap (λ (c : Arena). held_at c k) same }
+pub all_stays : (a b : Arena) → b ≡ a → LeavesHeld [] a b
+all_stays a b same = record { id = ap (λ (c : Arena). c.id) same; held = λ k none. ap (λ (c : Arena). held_at c k) same }
 
 other_head : (k h : ℕ) → rows.has k (h ∷ []) ≡ false → k ≡ h → ⊥
 other_head k h other same = false≢true (sym (or_parts (eqb h k) false other).0 ∙ eq-eqb h k (sym same))
 
 -- a message goes on a queue
 pub record IsPutAway (v w : QueuedBlocks) (h : ℕ) : Type 0 where
-  pub left : LeavesHeld v.arena w.arena (h ∷ [])
+  pub left : LeavesHeld (h ∷ []) v.arena w.arena
   pub gone : held_at w.arena h ≡ None
 
 put_away : (v : QueuedBlocks) (q h : ℕ) (ms : List Message) (change : QueueState → QueueState) → IsPutAway v (with_state change (with_put q h ms v)) h
 put_away v q h ms change = record {
-  left = record { id = refl; others = λ k other. get_or-set_other v.arena.held h k None None (other_head k h other) };
+  left = record { id = refl; held = λ k other. get_or-set_other v.arena.held h k None None (other_head k h other) };
   gone = none_at v.arena.held h;
 }
   where
@@ -91,17 +95,17 @@ module _ (v w : QueuedBlocks) (q h : ℕ) where
 -- a message comes off a queue
 module _ (v w : QueuedBlocks) (q : ℕ) where
   -- settling and marks leave the arena
-  got : (m : Message) (ms : List Message) → LeavesHeld v.arena (with_got q m ms v).arena (head_of m ∷ [])
-  got m ms = record { id = refl; others = λ k other. get_or-set_other v.arena.held (head_of m) k (Some m) None (other_head k (head_of m) other) }
+  got : (m : Message) (ms : List Message) → LeavesHeld (head_of m ∷ []) v.arena (with_got q m ms v).arena
+  got m ms = record { id = refl; held = λ k other. get_or-set_other v.arena.held (head_of m) k (Some m) None (other_head k (head_of m) other) }
 
-  pub getq_some : (n : ℕ) → getq q v ≡ Ok (Some n, w) → LeavesHeld v.arena w.arena (n ∷ [])
+  pub getq_some : (n : ℕ) → getq q v ≡ Ok (Some n, w) → LeavesHeld (n ∷ []) v.arena w.arena
   getq_some n = asked (has_queue v q)
     where
-      first : (ms : List Message) → got_first q ms v ≡ Ok (Some n, w) → LeavesHeld v.arena w.arena (n ∷ [])
+      first : (ms : List Message) → got_first q ms v ≡ Ok (Some n, w) → LeavesHeld (n ∷ []) v.arena w.arena
       first [] is = absurd (let e : None ≡ Some n = (same_answer is).0 in cc)
-      first (m ∷ ms) is = subst (λ (u : QueuedBlocks). LeavesHeld v.arena u.arena (n ∷ [])) (same_answer is).1 (subst (λ h. LeavesHeld v.arena (with_got q m ms v).arena (h ∷ [])) (let e : Some (head_of m) ≡ Some n = (same_answer is).0 in let f : head_of m ≡ n = cc in f) (got m ms))
+      first (m ∷ ms) is = subst (λ (u : QueuedBlocks). LeavesHeld (n ∷ []) v.arena u.arena) (same_answer is).1 (subst (λ h. LeavesHeld (h ∷ []) v.arena (with_got q m ms v).arena) (let e : Some (head_of m) ≡ Some n = (same_answer is).0 in let f : head_of m ≡ n = cc in f) (got m ms))
 
-      asked : (there : Bool) → (let g : Given QueuedBlocks (Option ℕ) = if there then got_first q (messages_on v q) v else Err NoSuchQueue in g ≡ Ok (Some n, w)) → LeavesHeld v.arena w.arena (n ∷ [])
+      asked : (there : Bool) → (let g : Given QueuedBlocks (Option ℕ) = if there then got_first q (messages_on v q) v else Err NoSuchQueue in g ≡ Ok (Some n, w)) → LeavesHeld (n ∷ []) v.arena w.arena
       asked true is = first (messages_on v q) is
       asked false is = absurd cc
 
@@ -116,16 +120,16 @@ module _ (v w : QueuedBlocks) (q : ℕ) where
       asked true is = first (messages_on v q) is
       asked false is = absurd cc
 
-  pub rmvq_left : (k n : ℕ) → rmvq q k v ≡ Ok (n, w) → LeavesHeld v.arena w.arena (n ∷ [])
+  pub rmvq_left : (k n : ℕ) → rmvq q k v ≡ Ok (n, w) → LeavesHeld (n ∷ []) v.arena w.arena
   rmvq_left k n = asked (has_queue v q)
     where
-      at : (o : Option Message) → got_at q k o v ≡ Ok (n, w) → LeavesHeld v.arena w.arena (n ∷ [])
+      at : (o : Option Message) → got_at q k o v ≡ Ok (n, w) → LeavesHeld (n ∷ []) v.arena w.arena
       at None is = absurd cc
       at (Some m) is =
-          subst (λ (u : QueuedBlocks). LeavesHeld v.arena u.arena (n ∷ [])) (same_answer is).1
-          (subst (λ h. LeavesHeld v.arena (with_got q m (without_place k (messages_on v q)) v).arena (h ∷ [])) (same_answer is).0 (got m (without_place k (messages_on v q))))
+          subst (λ (u : QueuedBlocks). LeavesHeld (n ∷ []) v.arena u.arena) (same_answer is).1
+          (subst (λ h. LeavesHeld (h ∷ []) v.arena (with_got q m (without_place k (messages_on v q)) v).arena) (same_answer is).0 (got m (without_place k (messages_on v q))))
 
-      asked : (there : Bool) → (let g : Given QueuedBlocks ℕ = if there then got_at q k (slice_get (messages_on v q) k) v else Err NoSuchQueue in g ≡ Ok (n, w)) → LeavesHeld v.arena w.arena (n ∷ [])
+      asked : (there : Bool) → (let g : Given QueuedBlocks ℕ = if there then got_at q k (slice_get (messages_on v q) k) v else Err NoSuchQueue in g ≡ Ok (n, w)) → LeavesHeld (n ∷ []) v.arena w.arena
       asked true is = at (slice_get (messages_on v q) k) is
       asked false is = absurd cc
 
@@ -137,9 +141,9 @@ at_queue v P given w now before false = before
 
 -- no message comes or goes
 module _ (v : QueuedBlocks) (q : ℕ) where
-  where_there : {X : Type 0} (given : X) (w : QueuedBlocks) → LeavesHeld v.arena w.arena [] → (there : Bool)
-      → (let g : Given QueuedBlocks X = if there then Ok (given, w) else Err NoSuchQueue in LeavesHeld v.arena (value_after v g).arena [])
-  where_there given w left = at_queue v (λ a. LeavesHeld v.arena a []) given w left (held_stay v.arena)
+  where_there : {X : Type 0} (given : X) (w : QueuedBlocks) → LeavesHeld [] v.arena w.arena → (there : Bool)
+      → (let g : Given QueuedBlocks X = if there then Ok (given, w) else Err NoSuchQueue in LeavesHeld [] v.arena (value_after v g).arena)
+  where_there given w left = at_queue v (λ a. LeavesHeld [] v.arena a) given w left (held_stay v.arena)
 
   module _ (band : Option ℕ) (flush : Flush) where
     abbrev picked : Message → Bool
@@ -154,24 +158,24 @@ module _ (v : QueuedBlocks) (q : ℕ) where
     pub flushed_held : (value_after v (flushed q band flush v)).arena.held ≡ v.arena.held
     flushed_held = at_queue v (λ a. a.held ≡ v.arena.held) tt (settled q (with_flushed q picked v)) (freed_held loose kept) refl (has_queue v q)
 
-    pub flushed_left : LeavesHeld v.arena (value_after v (flushed q band flush v)).arena []
+    pub flushed_left : LeavesHeld [] v.arena (value_after v (flushed q band flush v)).arena
     flushed_left = record {
       id = at_queue v (λ a. a.id ≡ v.arena.id) tt (settled q (with_flushed q picked v)) (freed_id loose kept) refl (has_queue v q);
-      others = λ k none. ap (λ (l : List (Option Message)). get_or l k None) flushed_held;
+      held = λ k none. ap (λ (l : List (Option Message)). get_or l k None) flushed_held;
     }
 
-  pub qenable_left : LeavesHeld v.arena (value_after v (qenable q v)).arena []
+  pub qenable_left : LeavesHeld [] v.arena (value_after v (qenable q v)).arena
   qenable_left = where_there tt (with_state (enabled_where true q) v) (held_stay v.arena) (has_queue v q)
 
-  pub switched_left : (off : Bool) → LeavesHeld v.arena (value_after v (switched q off v)).arena []
+  pub switched_left : (off : Bool) → LeavesHeld [] v.arena (value_after v (switched q off v)).arena
   switched_left off = where_there tt (with_state (with_noenable q off) v) (held_stay v.arena) (has_queue v q)
 
-  pub bcanput_left : (band : ℕ) → LeavesHeld v.arena (value_after v (bcanput q band v)).arena []
+  pub bcanput_left : (band : ℕ) → LeavesHeld [] v.arena (value_after v (bcanput q band v)).arena
   bcanput_left band = where_there (asked_for_room p band v).0 (asked_for_room p band v).1 (asked (is_full v p band)) (has_queue v q)
     where
       p : ℕ
       p = target v.queues.specs q
 
-      asked : (full : Bool) → (let o : Bool × QueuedBlocks = if full then (false, with_state (with_wanted p band) v) else (true, v) in LeavesHeld v.arena o.1.arena [])
+      asked : (full : Bool) → (let o : Bool × QueuedBlocks = if full then (false, with_state (with_wanted p band) v) else (true, v) in LeavesHeld [] v.arena o.1.arena)
       asked true = held_stay v.arena
       asked false = held_stay v.arena

@@ -8,9 +8,8 @@ use Rattle.strm_pool.specs.declared.call.Call.{Call}
 use Rattle.strm_pool.specs.declared.reply.Reply.{Reply}
 use Rattle.strm_pool.specs.PoolValue.{PoolValue, owns}
 use Rattle.strm_pool.specs.Registers.{AreDistinct, CarryId, Entries, entries_of, register, table_of}
-use Rattle.strm_pool.specs.Step.{Applies, Stepped, is_named}
+use Rattle.strm_pool.specs.Step.{Applies, is_named}
 use Rattle.strm_pool.proofs.Accounts.{accounted_distinct, accounted_owned, owned_carry}
-use Rattle.strm_pool.proofs.Totals.{step_keeps_total}
 use Rattle.strm_shared.specs.Books.{BookValue, IsBookOf, IsServed, book_value, table_at}
 use Rattle.strm_shared.specs.Desks.{DeskValue, IsDeskOf, desk_value}
 use Rattle.strm_shared.specs.Ledger.{blocks_held}
@@ -48,12 +47,12 @@ module _ (id desks first : ℕ) (b : BookValue) (d : DeskValue) (lawful : IsBook
 
       -- the pool has as many message blocks
       pub sized : length w.arena.held ≡ length b.pool.arena.held
-      sized = ap (λ (s : Stepped). length s.pool.arena.held) (sym applies.step) ∙ step_keeps_total b.pool (table_of d.regs) call
+      sized = applies.size
 
       pub desk_next : IsDeskOf id desks (desk_value d.number ss)
       desk_next = record {
         below = desk.below;
-        carry = subst (λ k. CarryId k ss) (applies.same distinct ∙ lawful.same) (owned_carry w ss (applies.owned distinct).0);
+        carry = subst (λ k. CarryId k ss) (applies.same ∙ lawful.same) (owned_carry w ss (applies.owned distinct).0);
       }
 
       -- the book once it has noted what the registers tell
@@ -62,7 +61,7 @@ module _ (id desks first : ℕ) (b : BookValue) (d : DeskValue) (lawful : IsBook
 
       pub book_next : b.stamp < most_stamp → IsBookOf id desks first after
       book_next unspent = record {
-        same = applies.same distinct ∙ lawful.same;
+        same = applies.same ∙ lawful.same;
         begun = omega (arith, lawful.begun);
         unspent = omega (arith, unspent);
         tables = length-set b.tables d.number (entries_of ss) ∙ lawful.tables;

@@ -12,8 +12,8 @@ ghost use Rattle.strm_pool.specs.PoolValue.{drained, on_arena, spent, with_arena
 
 use super::Pool;
 use crate::limits::MOST_OCTETS;
-use crate::octets::Octets;
 use crate::regs::Regs;
+use crate::short_list::Octets;
 use arrayvec::ArrayVec;
 use strm_data::{MsgType, Refusal};
 use strm_mblk::{BlockInfo, Rejected, Token};

@@ -9,7 +9,7 @@ use strm_data::Refusal;
 
 impl Pool {
     /// Records a wish for a message block over a data block of `size` bytes or more, behind all others, and answers its id.
-    /// Ids rise by 1 from the configuration's first one; 4,294,967,295 is the last. Takes constant time.
+    /// Ids rise by 1 from the configuration's first one; `LAST_ID` is the last. Takes constant time.
     ///
     /// Refused as `TooLarge` where the size is above the largest class, then as `Full` where as many wishes are recorded as
     /// the configuration allows, then as `IdsSpent` where the last id has been given; nothing changes then.
