@@ -15,6 +15,9 @@ impl Pool {
     /// Puts a message on a queue, behind the last one of rank at least its own. A high priority message ranks above all
     /// bands, and its first block gets band 0.
     ///
+    /// The queue is enabled, as by `qenable`, where the message is of high priority; or else where enabling is not switched
+    /// off and somebody wants to read from the queue or the message's band is above 0.
+    ///
     /// Rejected as `NoSuchQueue` where there is no such queue; nothing changes then, and the token comes back.
     pub fn putq(&mut self, queue: u8, token: Token) -> Result<(), Rejected>
         requires { IsTrue (has self.old.arena token) }
@@ -26,6 +29,9 @@ impl Pool {
 
     /// Puts a message back on a queue, before the first one of rank at most its own. A high priority message ranks above
     /// all bands, and its first block gets band 0.
+    ///
+    /// The queue is enabled, as by `qenable`, where the message is of high priority; or else where enabling is not switched
+    /// off and somebody wants to read from the queue.
     ///
     /// Rejected as `NoSuchQueue` where there is no such queue; nothing changes then, and the token comes back.
     pub fn putbq(&mut self, queue: u8, token: Token) -> Result<(), Rejected>
@@ -39,6 +45,8 @@ impl Pool {
     /// Puts a message on a queue before the one at `place`, counted from 0, or last where `place` is the number of
     /// messages. The first block of a high priority message gets band 0.
     ///
+    /// The queue is enabled, as by `qenable`, where enabling is not switched off and somebody wants to read from it.
+    ///
     /// Rejected as `NoSuchQueue` where there is no such queue, then as `NoSuchPlace` where it has fewer messages, then as
     /// `BadOrder` where ranks would rise from front to back; nothing changes then, and the token comes back.
     pub fn insq(&mut self, queue: u8, place: u32, token: Token) -> Result<(), Rejected>
@@ -49,7 +57,9 @@ impl Pool {
         self.queues.insq(&mut self.blocks, queue, place, token)
     }
 
-    /// Takes the first message off a queue, or nothing where the queue is empty.
+    /// Takes the first message off a queue, or nothing where the queue is empty: then somebody wants to read from it, else
+    /// nobody does any more. Where a message came, the queue settles: each wanted band with at most the low water mark loses
+    /// its wanted mark, and where one did, the nearest queue behind with a service procedure is enabled.
     ///
     /// Refused as `NoSuchQueue` where there is no such queue; nothing changes then.
     pub fn getq(&mut self, queue: u8) -> Result<Option<Token>, Refusal>
@@ -62,7 +72,8 @@ impl Pool {
         self.queues.getq(&mut self.blocks, queue)
     }
 
-    /// Takes the message at `place`, counted from 0, off a queue.
+    /// Takes the message at `place`, counted from 0, off a queue, which settles: each wanted band with at most the low water
+    /// mark loses its wanted mark, and where one did, the nearest queue behind with a service procedure is enabled.
     ///
     /// Refused as `NoSuchQueue` where there is no such queue, then as `NoSuchPlace` where it has no such message; nothing
     /// changes then.
@@ -85,7 +96,9 @@ impl Pool {
         self.queues.qsize(&self.blocks, queue)
     }
 
-    /// Frees the messages of a queue front to back: all, or those that carry data. What stays keeps its place.
+    /// Frees the messages of a queue front to back: all, or those that carry data. What stays keeps its place. The queue
+    /// settles: each wanted band with at most the low water mark loses its wanted mark, and where one did, the nearest queue
+    /// behind with a service procedure is enabled.
     ///
     /// Refused as `NoSuchQueue` where there is no such queue; nothing changes then.
     pub fn flushq(&mut self, queue: u8, flush: Flush) -> Result<(), Refusal>
@@ -96,7 +109,9 @@ impl Pool {
     }
 
     /// Frees the messages of one band of a queue, front to back: all of them, or those that carry data. High priority
-    /// messages are of band 0. What stays keeps its place.
+    /// messages are of band 0. What stays keeps its place. The queue settles: each wanted band, of whatever number, with at
+    /// most the low water mark loses its wanted mark, and where one did, the nearest queue behind with a service procedure is
+    /// enabled.
     ///
     /// Refused as `NoSuchQueue` where there is no such queue; nothing changes then.
     pub fn flushband(&mut self, queue: u8, band: u8, flush: Flush) -> Result<(), Refusal>
@@ -107,8 +122,8 @@ impl Pool {
     }
 
     /// Whether a message of a band may be put: asked of the first queue with a service procedure from this one on, or of
-    /// the last one there. Where the band has as many bytes as the high water mark there, its wanted mark is set, and the
-    /// answer is false.
+    /// the last one there. Where the band has as many bytes as the high water mark there, or more, its wanted mark is set,
+    /// and the answer is false.
     ///
     /// Refused as `NoSuchQueue` where there is no such queue; nothing changes then.
     pub fn bcanput(&mut self, queue: u8, band: u8) -> Result<bool, Refusal>
@@ -128,8 +143,8 @@ impl Pool {
         self.queues.qenable(queue)
     }
 
-    /// Switches enabling off: nothing but a high priority message put on the queue, `qenable`, and back-enabling enables
-    /// it any more.
+    /// Switches enabling off: nothing but a high priority message that is put on the queue or put back, `qenable`, and
+    /// back-enabling enables it any more.
     ///
     /// Refused as `NoSuchQueue` where there is no such queue; nothing changes then.
     pub fn noenable(&mut self, queue: u8) -> Result<(), Refusal>
