@@ -7,7 +7,7 @@ ghost use Rattle.strm_mblk.specs.BlockCalls.{banded};
 ghost use Rattle.strm_mblk.specs.Messages.{put_before_head};
 ghost use Rattle.strm_mblk.specs.Shelves as model;
 ghost use Rattle.strm_mblk.specs.Shelves.{stands_on};
-ghost use Rattle.strm_queue.specs.Limits.{ranks};
+ghost use Rattle.strm_queue.specs.Limits.{high_rank, ranks};
 ghost use Rattle.strm_queue.specs.QueuedBlocks.{AreInOrder};
 ghost use Rattle.strm_queue.specs.Rank.{as_queued, is_ordered, rank_of};
 
@@ -33,7 +33,7 @@ impl Queues {
         requires had { IsTrue (has blocks.old token) }
         requires rank { rank ≡ rank_of blocks.old.store (message_at blocks.old token.head) }
         requires few { rank < ranks }
-        requires high { let m = message_at blocks.old token.head in rank ≡ 256 → as_queued blocks.old.store m ≡ banded 0 m }
+        requires high { let m = message_at blocks.old token.head in rank ≡ high_rank → as_queued blocks.old.store m ≡ banded 0 m }
         requires before { ForSome before (λ head. IsTrue (stands_on blocks.old queue head)) }
         requires ordered { let m = as_queued blocks.old.store (message_at blocks.old token.head) in
             IsTrue (is_ordered (rank_of blocks.old.store) (put_before_head head_of before m (shelf_at blocks.old queue))) }

@@ -1,0 +1,5 @@
+-- Messages that are put on queues, taken off them and flushed.
+pub mod Shelve
+pub mod Puts
+pub mod Gets
+pub mod Flushing
