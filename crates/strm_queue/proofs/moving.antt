@@ -2,4 +2,5 @@
 pub mod Shelve
 pub mod Puts
 pub mod Gets
+pub mod Others
 pub mod Flushing

@@ -7,7 +7,7 @@ ghost use Rattle.strm_mblk.specs.Shelves.{heads_at};
 ghost use Rattle.strm_queue.specs.Flow.{AreMarksApart, band_count, band_of_rank, bytes_on, every_band, hiwat_of, spec_at};
 ghost use Rattle.strm_queue.specs.Limits.{most_queues, ranks};
 ghost use Rattle.strm_queue.specs.QueueSpecs.{are_lawful};
-ghost use Rattle.strm_queue.specs.QueuedBlocks.{Agrees, AreFlagsLawful, opening_value, tally_at, with_tally};
+ghost use Rattle.strm_queue.specs.QueuedBlocks.{Agrees, AreCountsTrue, AreFlagsLawful, AreFullMarksTrue, opening_value, tally_at, with_tally};
 ghost use Rattle.strm_queue.specs.QueuesLayout.{new_queue};
 ghost use Rattle.strm_queue.specs.Rank.{is_ordered, rank_of};
 ghost use Rattle.strm_queue.specs.Tallies.{count_of, one_less, one_more};
@@ -177,7 +177,7 @@ impl Queues {
     /// The law of queues and the message blocks that they agree with, whatever calls made them so. Does nothing.
     pub fn lawful(&self, blocks: &Blocks)
         requires { Agrees self.now blocks.now }
-        // The queues are lawful, of which there are `MOST_QUEUES` at most; each has marks, and no more of them are on the
+        // The queues are lawful, of which there are `MOST_QUEUES` at most; each has flags, and no more of them are on the
         // run list than there are.
         ensures specs { IsTrue (are_lawful self.now.state.specs) }
         ensures few { length self.now.state.specs ≤ most_queues }
@@ -188,7 +188,13 @@ impl Queues {
         ensures ordered { (queue : ℕ) → IsTrue (is_ordered (rank_of blocks.now.store) (shelf_at blocks.now queue)) }
         ensures forward { (queue : ℕ) → let heads = heads_at blocks.now queue in rows.Reads (λ head. rows.after head heads) (rows.first heads) heads }
         ensures backward { (queue : ℕ) → let heads = heads_at blocks.now queue in rows.Reads (λ head. rows.before head heads) (rows.last heads) (reverse heads) }
-        // A wanted mark stands only where the band has more bytes than the low water mark.
+        // What is stored of each queue is true of its messages: as the count of a band the sum of their bytes, and as its full
+        // mark whether that is at least the high water mark.
+        ensures counts { (queue : ℕ) → queue < length self.now.state.specs → AreCountsTrue self.now blocks.now queue }
+        ensures full { (queue : ℕ) → queue < length self.now.state.specs → AreFullMarksTrue self.now blocks.now queue }
+        // The low water mark of each band is below its high one, and a wanted mark stands only where the band has more bytes
+        // than the low one.
+        ensures apart { AreMarksApart self.now.state }
         ensures flags { (queue : ℕ) → AreFlagsLawful self.now.state blocks.now queue }
         // The bytes of a queue's bands add up to those of its messages.
         ensures whole { (queue : ℕ) → sum_by (λ band. band_count blocks.now.store band (shelf_at blocks.now queue)) every_band ≡ bytes_on (shelf_at blocks.now queue) }
@@ -196,6 +202,7 @@ impl Queues {
         ensures once { rows.IsApart self.now.state.run }
         ensures served { All (λ queue. IsTrue (spec_at self.now.state.specs queue).service) self.now.state.run }
     {
+        self.made_lawful();
         blocks.reads_alike();
         self.run.parts_nodes();
     }

@@ -10,7 +10,7 @@ use Rattle.strm_data.specs.MsgType.{is_high_priority}
 use Rattle.std.proofs.lemmas.List.Sums.{sum_by-cons}
 use Rattle.strm_mblk.specs.Arena.{Arena, opening_arena, shelf_at, shelved_blocks}
 use Rattle.strm_mblk.specs.Block.{Message, head_of, size_of}
-use Rattle.strm_mblk.specs.Frame.{IsSameData, LeavesOthers}
+use Rattle.strm_mblk.specs.Frame.{IsSameData, LeavesShelves}
 use Rattle.strm_mblk.specs.Messages.{blocks_on, put_before_head}
 use Rattle.strm_links.specs.Rows as rows
 use Rattle.strm_queue.specs.declared.queue_spec.QueueSpec.{QueueSpec}
@@ -229,7 +229,7 @@ module _ (v : QueuesValue) (a b : Arena) (shelves : b.shelves ≡ a.shelves) (sa
   flags_left_lawful q lawful band wanted =
       omega (arith, lawful band wanted, ap (λ x. band_count b.store band (get_or x q [])) shelves, count_same a.store b.store band (shelf_at a q) (shelf_same a.store b.store a.shelves q same))
 
-pub agrees_left : (v : QueuesValue) (heads : List ℕ) (a b : Arena) → Agrees v a → LeavesOthers heads a b → Agrees v b
+pub agrees_left : (v : QueuesValue) (heads : List ℕ) (a b : Arena) → Agrees v a → LeavesShelves heads a b → Agrees v b
 agrees_left v heads a b agrees left = record {
   in_order = in_order_left v a b left.shelves left.shelved_data agrees.in_order;
   flags = λ q. flags_left_lawful v a b left.shelves left.shelved_data q (agrees.flags q);

@@ -117,7 +117,7 @@ loop-message-preserved c =
         ap (λ (v : QueuesValue). v.state) w.self-is ∙ w.unshelve-token.ensures.state ∙ c.loop-message.invariant.1,
         subst (λ v. AreInOrder v c.if-takes.blocks) (sym w.self-is)
             (subst (AreInOrder w.unshelve-token.new.self) (sym w.blocks-is)
-            (in_order_left w.unshelve-token.new.self w.unshelve-token.new.blocks w.freemsg.new.self w.freemsg.ensures.others.shelves w.freemsg.ensures.others.shelved_data w.unshelve-token.ensures.in_order)),
+            (in_order_left w.unshelve-token.new.self w.unshelve-token.new.blocks w.freemsg.new.self w.freemsg.ensures.shelves.shelves w.freemsg.ensures.shelves.shelved_data w.unshelve-token.ensures.in_order)),
       )
       | else-takes w ↦ (
         subst (λ b. IsFlushing (picked at) (taken at) c.args.blocks.now c.args.queue (c.loop-message._message + 1) c.onward-at-in-loop-message.result b) (sym w.blocks-is)

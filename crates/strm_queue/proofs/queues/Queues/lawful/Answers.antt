@@ -27,3 +27,9 @@ returns-clause-flagged c =
 pub returns-clause-short : goal.returns-clause-short
 returns-clause-short c =
     subst (λ (v : QueuesValue). length v.state.run ≤ length v.state.specs) c.self.view_is (run_short c.self.inside c.parts_nodes.ensures.parting c.self.invariant)
+
+pub returns-clause-counts : goal.returns-clause-counts
+returns-clause-counts c queue there = (c.requires.in_order.true_of queue there).counts
+
+pub returns-clause-full : goal.returns-clause-full
+returns-clause-full c queue there = (c.requires.in_order.true_of queue there).full

@@ -1,6 +1,7 @@
-use Rattle.std.proofs.Common.{◌≡◌, ◌<◌, ◌^◌, ap, arith, length, subst, sym, ◌∙◌, get_or-set_same, length-set, [], ◌++◌, ◌∷◌, set, length-append}
+use Rattle.std.proofs.Common.{None, refl, ◌≡◌, ◌<◌, ◌^◌, ap, arith, length, subst, sym, ◌∙◌, get_or-set_same, length-set, [], ◌++◌, ◌∷◌, set, length-append}
 use Rattle.strm_mblk.specs.Arena.{Arena, message_at, shelf_at, with_shelf, without_held}
 use Rattle.strm_mblk.specs.Block.{Message, head_of}
+use Rattle.strm_mblk.specs.Frame.{LeavesOthers}
 use Rattle.strm_mblk.specs.Limits.{most_message_blocks}
 use Rattle.strm_mblk.specs.Messages.{put_before_head, blocks_of}
 use Rattle.strm_mblk.specs.Shelves.{shelve}
@@ -19,6 +20,7 @@ use Rattle.strm_queue.proofs.queues.Queues.shelve.Goals.{After-lawful-2, then-ra
 use Rattle.strm_links.specs.Rows.{IsApart}
 use Rattle.strm_queue.proofs.shelf.OnShelf.{heads}
 use Rattle.strm_queue.proofs.order.Fits.{IsParting, parting, placed_here}
+use Rattle.strm_mblk.proofs.arena.Frame.{others_one}
 use Rattle.strm_mblk.proofs.arena.Stands.{heads_apart}
 use Rattle.strm_queue.specs.declared.tally.Placed.{Placed}
 use Rattle.std.specs.Prelude.{IfSome}
@@ -120,3 +122,8 @@ returns-clause-in_order c =
     (subst (λ ms. IsApart (heads ms)) (here at) (heads_apart c.shelve.new.self c.lawful-2.ensures.parted c.args.queue)) (sides at).is
     (ap (λ (b : Arena). b.shelves) (after at) ∙ ap (set c.args.blocks.now.shelves c.args.queue) (between at))
     (sym (ap (is_ordered (rank_of c.args.blocks.now.store)) (between at)) ∙ c.requires.ordered))
+
+pub returns-clause-others : goal.returns-clause-others
+returns-clause-others c =
+    let at = (goal.at.returns-clause-others c).After-lawful-2 in
+    subst (LeavesOthers (c.args.token.head ∷ []) c.args.blocks.now) (sym (after at)) (others_one c.args.blocks.now (with_shelf c.args.queue (put_before_head head_of c.args.before (m at) (shelf_at c.args.blocks.now c.args.queue)) (without_held c.args.token.head c.args.blocks.now)) c.args.token.head None refl refl)
