@@ -5,7 +5,7 @@ ghost use Rattle.strm_data.specs.Classes.{are_lawful, fits_a_class};
 ghost use Rattle.strm_data.specs.DataStore.{class_infos};
 ghost use Rattle.strm_data.specs.CountedStore.{IsKept};
 ghost use Rattle.strm_mblk.specs.Arena.{IsParted, IsWithin, blocks_in, census_of, counted_in, has, held_at, message_at, opening_arena, token_of};
-ghost use Rattle.strm_mblk.specs.Frame.{LeavesOthers, head_answered};
+ghost use Rattle.strm_mblk.specs.Frame.{LeavesOthers, LeavesShelves, head_answered};
 ghost use Rattle.strm_mblk.specs.NodeLists.{nodes_at};
 ghost use Rattle.strm_mblk.specs.Given.{value_after, answer_of, answer_map};
 ghost use Rattle.strm_mblk.specs.Limits.{most_message_blocks};
@@ -211,6 +211,7 @@ impl Blocks {
         ensures had { IfOk result (λ token. IsTrue (has self.new token)) }
         ensures unheld { IfOk result (λ token. held_at self.old token.head ≡ None) }
         ensures others { LeavesOthers (head_answered result) self.old self.new }
+        ensures shelves { LeavesShelves (head_answered result) self.old self.new }
     {
         if !self.data.has_class_for(size) {
             return Err(Refusal::TooLarge);

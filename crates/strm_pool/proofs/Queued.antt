@@ -14,7 +14,7 @@ use Rattle.strm_mblk.proofs.pulling.Drained.{freed_held, freed_id}
 use Rattle.strm_queue.specs.Flow.{QueueState, enabled_where, enables_inserted, enables_put, enables_put_back, target, with_noenable, with_wanted}
 use Rattle.strm_queue.specs.declared.flush.Flush.{Flush}
 use Rattle.strm_queue.specs.Flush.{is_picked}
-use Rattle.strm_queue.specs.QueueCalls.{asked_for_room, bcanput, flushed, got_at, got_first, getq, has_queue, insq, is_full, marks_of, message_put, messages_on, putbq, putq, qenable, rank_put, rmvq, settled, switched, with_flushed, with_got, with_put, with_state}
+use Rattle.strm_queue.specs.QueueCalls.{asked_for_room, bcanput, flushed, got_at, got_first, getq, has_queue, insq, is_full, flags_of, message_put, messages_on, putbq, putq, qenable, rank_put, rmvq, settled, switched, with_flushed, with_got, with_put, with_state}
 use Rattle.strm_queue.specs.QueuedBlocks.{QueuedBlocks}
 use Rattle.strm_queue.specs.Rank.{is_ordered, put_ahead, put_at, put_behind, rank_of, without_place}
 
@@ -71,10 +71,10 @@ module _ (v w : QueuedBlocks) (q h : ℕ) where
   put_left ms change false is = refused NoSuchQueue is
 
   pub putq_left : putq q h v ≡ Ok (tt, w) → IsPutAway v w h
-  putq_left = put_left (put_behind (rank_of v.arena.store) (message_put h v) (messages_on v q)) (enabled_where (enables_put (marks_of v q) (rank_put h v)) q) (has_queue v q)
+  putq_left = put_left (put_behind (rank_of v.arena.store) (message_put h v) (messages_on v q)) (enabled_where (enables_put (flags_of v q) (rank_put h v)) q) (has_queue v q)
 
   pub putbq_left : putbq q h v ≡ Ok (tt, w) → IsPutAway v w h
-  putbq_left = put_left (put_ahead (rank_of v.arena.store) (message_put h v) (messages_on v q)) (enabled_where (enables_put_back (marks_of v q) (rank_put h v)) q) (has_queue v q)
+  putbq_left = put_left (put_ahead (rank_of v.arena.store) (message_put h v) (messages_on v q)) (enabled_where (enables_put_back (flags_of v q) (rank_put h v)) q) (has_queue v q)
 
   pub insq_left : (k : ℕ) → insq q k h v ≡ Ok (tt, w) → IsPutAway v w h
   insq_left k = cases (not (has_queue v q)) (nat_lt (length (messages_on v q)) k) (is_ordered (rank_of v.arena.store) ms)
@@ -83,7 +83,7 @@ module _ (v w : QueuedBlocks) (q h : ℕ) where
       ms = put_at k (message_put h v) (messages_on v q)
 
       change : QueueState → QueueState
-      change = enabled_where (enables_inserted (marks_of v q)) q
+      change = enabled_where (enables_inserted (flags_of v q)) q
 
       cases : (absent past fits : Bool)
           → (let g : Given QueuedBlocks (Unit {0}) = if absent then Err NoSuchQueue else (if past then Err NoSuchPlace else (if fits then Ok (tt, with_state change (with_put q h ms v)) else Err BadOrder)) in g ≡ Ok (tt, w)) → IsPutAway v w h

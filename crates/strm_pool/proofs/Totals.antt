@@ -16,7 +16,7 @@ use Rattle.strm_mblk.specs.Trimming.{adjmsg, bytes_asked, cut, pull, pull_asked,
 use Rattle.strm_mblk.proofs.pulling.Drained.{freed_held}
 use Rattle.strm_queue.specs.declared.flush.Flush.{Flush}
 use Rattle.strm_queue.specs.Flow.{enabled_where, enables_inserted, target, with_wanted}
-use Rattle.strm_queue.specs.QueueCalls.{bcanput, flushed, got_at, got_first, getq, has_queue, insq, is_full, marks_of, message_put, messages_on, putbq, putq, qenable, qsize, rmvq, switched, with_put, with_state}
+use Rattle.strm_queue.specs.QueueCalls.{bcanput, flushed, got_at, got_first, getq, has_queue, insq, is_full, flags_of, message_put, messages_on, putbq, putq, qenable, qsize, rmvq, switched, with_put, with_state}
 use Rattle.strm_queue.specs.QueuedBlocks.{QueuedBlocks}
 use Rattle.strm_queue.specs.Rank.{is_ordered, put_at, rank_of}
 use Rattle.strm_pool.specs.declared.call.Call.{Call}
@@ -191,7 +191,7 @@ module _ (v : QueuedBlocks) (q : ℕ) where
       ms : List Message
       ms = put_at k (message_put h v) (messages_on v q)
 
-      cases : (absent past fits : Bool) → KeepsQueued {X = Unit {0}} (if absent then Err NoSuchQueue else (if past then Err NoSuchPlace else (if fits then Ok (tt, with_state (enabled_where (enables_inserted (marks_of v q)) q) (with_put q h ms v)) else Err BadOrder)))
+      cases : (absent past fits : Bool) → KeepsQueued {X = Unit {0}} (if absent then Err NoSuchQueue else (if past then Err NoSuchPlace else (if fits then Ok (tt, with_state (enabled_where (enables_inserted (flags_of v q)) q) (with_put q h ms v)) else Err BadOrder)))
       cases true past fits = refl
       cases false true fits = refl
       cases false false true = length-set v.arena.held h None

@@ -5,7 +5,7 @@ ghost use Rattle.strm_data.specs.DataStore.{capacity_of, times};
 ghost use Rattle.strm_mblk.specs.Arena.{has, held_at, message_at, token_of};
 ghost use Rattle.strm_mblk.specs.Block.{Block, bytes_of, size_of};
 ghost use Rattle.strm_mblk.specs.BlocksLayout.{IsPlaced, fields_at, message_of, named_by};
-ghost use Rattle.strm_mblk.specs.Frame.{LeavesOthers};
+ghost use Rattle.strm_mblk.specs.Frame.{LeavesOthers, LeavesShelves};
 ghost use Rattle.strm_mblk.specs.Given.{value_after, answer_of};
 ghost use Rattle.strm_mblk.specs.Messages.{held_in};
 ghost use Rattle.strm_mblk.specs.NodeLists.{nodes_at};
@@ -168,6 +168,7 @@ impl Blocks {
         ensures token { token.new ≡ token_of self.new token.old.head }
         ensures had { IsTrue (has self.new token.new) }
         ensures others { LeavesOthers (token.old.head ∷ []) self.old self.new }
+        ensures shelves { LeavesShelves (token.old.head ∷ []) self.old self.new }
     {
         let head = token.head();
         let run = self.run_size(token);

@@ -18,8 +18,7 @@ use Rattle.strm_mblk.proofs.pulling.SecondTaken.{IsHeldHead, seen_head}
 use Rattle.strm_mblk.proofs.layout.Shown.{message_at-seen}
 use Rattle.strm_mblk.proofs.arena.Tokens.{had_message, token_had}
 use Rattle.strm_mblk.proofs.joining.Unlinkb.{token_is}
-use Rattle.strm_mblk.proofs.arena.Frame.{leaves_pullupmsg}
-use Rattle.strm_mblk.specs.Frame.{LeavesOthers}
+use Rattle.strm_mblk.proofs.arena.Frame.{Leaves, leaves_pullupmsg}
 use Rattle.strm_mblk.proofs.layout.Lawful.{parted_inside}
 use Rattle.strm_mblk.proofs.blocks.Blocks.pullupmsg.Goals as goal
 use Rattle.strm_mblk.proofs.blocks.Blocks.pullupmsg.Goals.{After-index, After-set_blocks, After-from_residual}
@@ -105,10 +104,16 @@ returns-in_err-gather-clause-after c =
     ∙ gather_refused (h d) c.in-Some.wanted (b d) (bs d) c.args.self.now (held d) c.args.count (asked d) (enough d) (more d c.if-wanted-len.false) c.in_err-gather.field-0.0
     (sym c.gather.ensures.answer ∙ c.in_err-gather.was)
 
-pub returns-in_err-gather-clause-others : goal.returns-in_err-gather-clause-others
-returns-in_err-gather-clause-others c =
-    subst (LeavesOthers (c.args.token.now.head ∷ []) c.args.self.now) (sym (returns-in_err-gather-clause-after c))
+left_refused : (c : After-from_residual) → Leaves (c.args.token.now.head ∷ []) c.args.self.now c.gather.new.self
+left_refused c =
+    subst (Leaves (c.args.token.now.head ∷ []) c.args.self.now) (sym (returns-in_err-gather-clause-after c))
     (leaves_pullupmsg c.args.self.now (parted_inside c.self.inside c.self.invariant c.args.self.now c.self.view_is) c.args.token.now.head c.args.count)
+
+pub returns-in_err-gather-clause-others : goal.returns-in_err-gather-clause-others
+returns-in_err-gather-clause-others c = (left_refused c).others
+
+pub returns-in_err-gather-clause-shelves : goal.returns-in_err-gather-clause-shelves
+returns-in_err-gather-clause-shelves c = (left_refused c).shelves
 
 -- ---- the first block takes a data block, and the others lose the bytes
 
@@ -167,7 +172,13 @@ returns-clause-had c =
     let d = (goal.at.returns-clause-had c).After-set_blocks in
     ap (has c.drain.new.self) (token_now d) ∙ token_had c.drain.new.self c.args.token.now.head _ (done d).held
 
-pub returns-clause-others : goal.returns-clause-others
-returns-clause-others c =
-    subst (LeavesOthers (c.args.token.now.head ∷ []) c.args.self.now) (ap (value_after c.args.self.now) (done (goal.at.returns-clause-others c).After-set_blocks).done)
+left : (c : After-set_blocks) → Leaves (c.args.token.now.head ∷ []) c.args.self.now c.drain.new.self
+left c =
+    subst (Leaves (c.args.token.now.head ∷ []) c.args.self.now) (ap (value_after c.args.self.now) (done (goal.at.returns-clause-others c).After-set_blocks).done)
     (leaves_pullupmsg c.args.self.now (parted_inside c.self.inside c.self.invariant c.args.self.now c.self.view_is) c.args.token.now.head c.args.count)
+
+pub returns-clause-others : goal.returns-clause-others
+returns-clause-others c = (left c).others
+
+pub returns-clause-shelves : goal.returns-clause-shelves
+returns-clause-shelves c = (left c).shelves

@@ -13,8 +13,7 @@ use Rattle.strm_mblk.specs.NodeLists.{nodes_at}
 use Rattle.strm_mblk.proofs.altering.Alteration.{settype_none, settype_shared, settype_done}
 use Rattle.strm_mblk.proofs.layout.Places.{IsAt, block_none, block_some}
 use Rattle.strm_mblk.proofs.layout.Rooms.{HasRooms, filled-over, rooms-kind}
-use Rattle.strm_mblk.proofs.arena.Frame.{leaves_settype}
-use Rattle.strm_mblk.specs.Frame.{LeavesOthers}
+use Rattle.strm_mblk.proofs.arena.Frame.{Leaves, leaves_settype}
 use Rattle.strm_mblk.proofs.arena.Tokens.{had_message}
 use Rattle.strm_mblk.proofs.blocks.Blocks.settype.Goals as goal
 use Rattle.strm_mblk.proofs.blocks.Blocks.settype.Goals.{After-count, After-set_kind, In_default}
@@ -79,8 +78,14 @@ returns-clause-after c = sym (ap (value_after c.args.self.now) (done c))
 pub returns-clause-answer : goal.returns-clause-answer
 returns-clause-answer c = sym (ap answer_of (done c))
 
-pub returns-clause-others : goal.returns-clause-others
-returns-clause-others c =
+left : (c : After-set_kind) → Leaves (c.args.token.now.head ∷ []) c.args.self.now (arena_of c.self.inside.id c.set_kind.new.self.store c.self.inside.blocks.items c.self.inside.chains)
+left c =
     let message = had_message c.args.self.now c.args.token.now c.requires in
-    subst (LeavesOthers (c.args.token.now.head ∷ []) c.args.self.now) (ap (value_after c.args.self.now) (done c))
+    subst (Leaves (c.args.token.now.head ∷ []) c.args.self.now) (ap (value_after c.args.self.now) (done c))
     (leaves_settype c.args.self.now c.args.token.now.head message.0 message.1.held c.args.place c.args.kind)
+
+pub returns-clause-others : goal.returns-clause-others
+returns-clause-others c = (left c).others
+
+pub returns-clause-shelves : goal.returns-clause-shelves
+returns-clause-shelves c = (left c).shelves

@@ -11,6 +11,7 @@ use Rattle.strm_mblk.specs.Arena.{Arena}
 use Rattle.strm_mblk.specs.Block.{Block, Message, kind_of, size_of, head_of}
 use Rattle.strm_mblk.specs.BlockCalls.{banded, info_of}
 use Rattle.strm_mblk.specs.Given.{answer_of}
+use Rattle.strm_queue.specs.Limits.{high_rank}
 use Rattle.strm_queue.specs.Rank.{as_queued, rank_of}
 
 -- what the first block tells
@@ -32,8 +33,8 @@ first_asked s (c ∷ cs) kind band k b = record { block = c; rest = cs; is = ref
 
 module _ (s : DataStore) (m : Message) (kind : MsgType) (band : ℕ) (first : IsFirst s m kind band) where
   -- its rank is what its first block says
-  pub rank_told : (if is_high_priority kind then 256 else band) ≡ rank_of s m
-  rank_told = (λ i. if is_high_priority (first.kind i) then 256 else first.band i) ∙ ap (rank_of s) (sym first.is)
+  pub rank_told : (if is_high_priority kind then high_rank else band) ≡ rank_of s m
+  rank_told = (λ i. if is_high_priority (first.kind i) then high_rank else first.band i) ∙ ap (rank_of s) (sym first.is)
 
   -- one of high priority stands on a queue in band 0
   pub high_queued : is_high_priority kind ≡ true → as_queued s m ≡ banded 0 m
@@ -43,10 +44,10 @@ module _ (s : DataStore) (m : Message) (kind : MsgType) (band : ℕ) (first : Is
       ∙ ap (banded 0) (sym first.is)
 
 -- and any other as it is
-pub low_queued : (s : DataStore) (m : Message) → rank_of s m ≢ 256 → as_queued s m ≡ m
+pub low_queued : (s : DataStore) (m : Message) → rank_of s m ≢ high_rank → as_queued s m ≡ m
 low_queued s [] low = refl
 low_queued s (b ∷ bs) low =
-    ap (λ c. c ∷ bs) (cond-false (is_high_priority (kind_of s b)) (record b { band = 0 }) b (false_from_ne_true _ (λ high. low (cond-true (is_high_priority (kind_of s b)) 256 b.band high))))
+    ap (λ c. c ∷ bs) (cond-false (is_high_priority (kind_of s b)) (record b { band = 0 }) b (false_from_ne_true _ (λ high. low (cond-true (is_high_priority (kind_of s b)) high_rank b.band high))))
 
 -- as it stands there, a message has the rank that it had
 pub rank_of-queued : (s : DataStore) (m : Message) → rank_of s (as_queued s m) ≡ rank_of s m

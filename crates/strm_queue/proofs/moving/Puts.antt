@@ -12,11 +12,11 @@ use Rattle.strm_mblk.specs.Messages.{put_before_head}
 use Rattle.strm_mblk.specs.Shelves.{heads_at}
 use Rattle.strm_mblk.proofs.arena.Stands.{heads_apart}
 use Rattle.strm_queue.specs.Flow.{enabled_where, enables_inserted, enables_put, enables_put_back}
-use Rattle.strm_queue.specs.QueueCalls.{insq, marks_of, putbq, putq, rank_put, with_put, with_state}
-use Rattle.strm_queue.specs.QueuedBlocks.{Agrees, QueuedBlocks, QueuesValue, together, AreInOrder, AreMarksLawful}
+use Rattle.strm_queue.specs.QueueCalls.{insq, flags_of, putbq, putq, rank_put, with_put, with_state}
+use Rattle.strm_queue.specs.QueuedBlocks.{Agrees, QueuedBlocks, QueuesValue, together, AreInOrder, AreFlagsLawful}
 use Rattle.strm_queue.specs.Rank.{as_queued, is_ordered, put_ahead, put_at, put_behind, rank_of}
-use Rattle.strm_queue.proofs.Agreeing.{agrees_enabled, marks_put}
-use Rattle.strm_queue.proofs.OnShelf.{first_at, heads, placed-between}
+use Rattle.strm_queue.proofs.agreeing.Agreeing.{agrees_enabled, flags_put}
+use Rattle.strm_queue.proofs.shelf.OnShelf.{first_at, heads, placed-between}
 
 module _ (v : QueuesValue) (a : Arena) (agrees : Agrees v a) (q h : ℕ) (there : nat_lt q (length v.state.specs) ≡ true) where
   -- the message, as it stands on a queue
@@ -47,21 +47,21 @@ module _ (v : QueuesValue) (a : Arena) (agrees : Agrees v a) (q h : ℕ) (there 
         (agrees_enabled put.put b so q
         (record {
           in_order = put.in_order;
-          marks = λ p.
-              subst (λ s. AreMarksLawful s b p) (sym put.state)
-              (marks_put v a agrees q (ltb-true _ _ there) before m b (ap (λ (x : Arena). x.store) put.arena) (ap (λ (x : Arena). x.shelves) put.arena) p);
+          flags = λ p.
+              subst (λ s. AreFlagsLawful s b p) (sym put.state)
+              (flags_put v a agrees q (ltb-true _ _ there) before m b (ap (λ (x : Arena). x.store) put.arena) (ap (λ (x : Arena). x.shelves) put.arena) p);
         }))
 
     -- behind its equals
     module _ (is : put_before_head head_of before m (shelf_at a q) ≡ put_behind (rank_of a.store) m (shelf_at a q)) where
-      pub putq_after : so ≡ enables_put (marks_of both q) (rank_put h both) → together w b ≡ value_after both (putq q h both)
+      pub putq_after : so ≡ enables_put (flags_of both q) (rank_put h both) → together w b ≡ value_after both (putq q h both)
       putq_after enables =
           put_together (put_behind (rank_of a.store) m (shelf_at a q)) is
           ∙ ap (λ c. with_state (enabled_where c q) (with_put q h (put_behind (rank_of a.store) m (shelf_at a q)) both)) enables ∙ sym (ap (value_after both) (cond-true _ _ _ there))
 
     -- before its equals
     module _ (is : put_before_head head_of before m (shelf_at a q) ≡ put_ahead (rank_of a.store) m (shelf_at a q)) where
-      pub putbq_after : so ≡ enables_put_back (marks_of both q) (rank_put h both) → together w b ≡ value_after both (putbq q h both)
+      pub putbq_after : so ≡ enables_put_back (flags_of both q) (rank_put h both) → together w b ≡ value_after both (putbq q h both)
       putbq_after enables =
           put_together (put_ahead (rank_of a.store) m (shelf_at a q)) is
           ∙ ap (λ c. with_state (enabled_where c q) (with_put q h (put_ahead (rank_of a.store) m (shelf_at a q)) both)) enables ∙ sym (ap (value_after both) (cond-true _ _ _ there))
@@ -77,7 +77,7 @@ module _ (v : QueuesValue) (a : Arena) (agrees : Agrees v a) (q h : ℕ) (there 
         ∙ placed-between m (take k ms) (drop k ms) (subst (λ xs. IsApart (heads xs)) (sym whole) (heads_apart a parted q))
 
     abbrev inserted : QueuedBlocks
-    inserted = with_state (enabled_where (enables_inserted (marks_of both q)) q) (with_put q h (put_at k m (shelf_at a q)) both)
+    inserted = with_state (enabled_where (enables_inserted (flags_of both q)) q) (with_put q h (put_at k m (shelf_at a q)) both)
 
     -- there is a place, so the order decides
     insq_there : insq q k h both ≡ (if is_ordered (rank_of a.store) (put_at k m (shelf_at a q)) then Ok (tt, inserted) else Err BadOrder)
@@ -91,5 +91,5 @@ module _ (v : QueuesValue) (a : Arena) (agrees : Agrees v a) (q h : ℕ) (there 
       pub insq_given : insq q k h both ≡ Ok (tt, inserted)
       insq_given = insq_there ∙ cond-true _ _ _ (sym (ap (is_ordered (rank_of a.store)) placed_at) ∙ ordered)
 
-      pub insq_after : (w : QueuesValue) (b : Arena) → IsPut (enables_inserted (marks_of both q)) before w b → together w b ≡ value_after both (insq q k h both)
-      insq_after w b put = put_together (enables_inserted (marks_of both q)) before w b put (put_at k m (shelf_at a q)) placed_at ∙ sym (ap (value_after both) insq_given)
+      pub insq_after : (w : QueuesValue) (b : Arena) → IsPut (enables_inserted (flags_of both q)) before w b → together w b ≡ value_after both (insq q k h both)
+      insq_after w b put = put_together (enables_inserted (flags_of both q)) before w b put (put_at k m (shelf_at a q)) placed_at ∙ sym (ap (value_after both) insq_given)

@@ -1,7 +1,6 @@
-//! The marks of queues.
-ghost use Rattle.std.specs.Prelude.{◌≡◌, ◌<◌, ◌&&◌, not, length, nat_le};
-ghost use Rattle.std.specs.List.{list_any};
-ghost use Rattle.strm_queue.specs.Flow.{bands_where, every_band, is_wanted, marks_at, spec_at, with_marks, with_noenable, with_read, with_wanted};
+//! The flags of queues.
+ghost use Rattle.std.specs.Prelude.{◌≡◌, ◌<◌, length};
+ghost use Rattle.strm_queue.specs.Flow.{flags_at, has_band, lowat_of, some_relieved, still_wanted, with_flags, with_noenable, with_read, with_wanted};
 ghost use Rattle.strm_mblk.specs.Arena.{Arena};
 ghost use Rattle.strm_mblk.specs.Given.{answer_of, value_after};
 ghost use Rattle.strm_queue.specs.QueueCalls.{switched};
@@ -15,7 +14,7 @@ impl Queues {
     // Whether somebody wants to read from a queue.
     pub(super) fn is_read(&self, queue: u8) -> bool
         requires { queue < length self.now.state.specs }
-        ensures { result ≡ (marks_at self.now.state queue).read }
+        ensures { result ≡ (flags_at self.now.state queue).read }
     {
         self.queues[usize::from(queue)].read
     }
@@ -23,7 +22,7 @@ impl Queues {
     // Whether enabling is switched off.
     pub(super) fn is_off(&self, queue: u8) -> bool
         requires { queue < length self.now.state.specs }
-        ensures { result ≡ (marks_at self.now.state queue).noenable }
+        ensures { result ≡ (flags_at self.now.state queue).noenable }
     {
         self.queues[usize::from(queue)].noenable
     }
@@ -31,7 +30,7 @@ impl Queues {
     // Whether somebody waits for room in a band.
     pub(super) fn is_wanted(&self, queue: u8, band: u8) -> bool
         requires { queue < length self.now.state.specs }
-        ensures { result ≡ is_wanted (marks_at self.now.state queue).wanted band }
+        ensures { result ≡ has_band (flags_at self.now.state queue).wanted band }
     {
         self.queues[usize::from(queue)].wanted.has(band)
     }
@@ -73,13 +72,13 @@ impl Queues {
         self.queues[usize::from(queue)].wanted.insert(band);
     }
 
-    // Takes away the wanted marks of bands with so few bytes as the low water mark. Whether there was one.
+    // Takes away the wanted mark of each band that has room again: it has at most as many bytes as the low water mark.
+    // Whether there was one.
     pub(super) fn relieve(&mut self, queue: u8) -> bool
         requires { queue < length self.old.state.specs }
-        ensures marks { let lowat = (spec_at self.old.state.specs queue).lowat in let marks = marks_at self.old.state queue in
-            self.new ≡ record self.old { state = with_marks queue (record marks { wanted = bands_where (λ band. is_wanted marks.wanted band && not (is_wanted marks.wanted band && nat_le (count_of (tally_at self.old queue) band) lowat)) }) self.old.state } }
-        ensures some { let lowat = (spec_at self.old.state.specs queue).lowat in
-            result ≡ list_any (λ band. is_wanted (marks_at self.old.state queue).wanted band && nat_le (count_of (tally_at self.old queue) band) lowat) every_band }
+        ensures flags { let flags = flags_at self.old.state queue in
+            self.new ≡ record self.old { state = with_flags queue (record flags { wanted = still_wanted flags.wanted (count_of (tally_at self.old queue)) (lowat_of self.old.state queue) }) self.old.state } }
+        ensures some { result ≡ some_relieved (flags_at self.old.state queue).wanted (count_of (tally_at self.old queue)) (lowat_of self.old.state queue) }
     {
         let Queue {
             spec,

@@ -6,11 +6,11 @@ use Rattle.std.proofs.lemmas.List.{get_or-map, length-map, map-set, set-get_or}
 use Rattle.strm_queue.specs.declared.queue_spec.QueueSpec.{QueueSpec}
 use Rattle.strm_queue.specs.declared.queues.Queue.{Queue}
 use Rattle.strm_queue.specs.declared.queues.Queues.TheInside.{Inside}
-use Rattle.strm_queue.specs.Flow.{Marks, marks_at, no_spec, opening_marks, spec_at, with_marks}
+use Rattle.strm_queue.specs.Flow.{Flags, flags_at, no_spec, opening_flags, spec_at, with_flags}
 use Rattle.strm_queue.specs.QueueSpecs.{are_lawful}
 use Rattle.strm_queue.specs.QueuedBlocks.{QueuesValue, opening_value, with_tally, tally_at}
 use Rattle.strm_queue.specs.Tallies.{Tally, no_tally}
-use Rattle.strm_queue.specs.QueuesLayout.{IsLawful, marks_in, new_queue, spec_in, tally_in, value_of}
+use Rattle.strm_queue.specs.QueuesLayout.{IsLawful, flags_in, new_queue, spec_in, tally_in, value_of}
 
 -- new queues
 map-new : {X : Type 0} (f : Queue → X) (specs : List QueueSpec) → map f (map new_queue specs) ≡ map (λ s. f (new_queue s)) specs
@@ -27,7 +27,7 @@ module _ (a : Inside) (specs : List QueueSpec) (queues : a.queues.items ≡ map 
 
   pub value_made : value_of a ≡ opening_value specs
   value_made = λ i. record {
-    state = record { specs = made_specs i; marks = (ap (map marks_in) queues ∙ map-new marks_in specs) i; run = none i };
+    state = record { specs = made_specs i; flags = (ap (map flags_in) queues ∙ map-new flags_in specs) i; run = none i };
     tallies = (ap (map tally_in) queues ∙ map-new tally_in specs) i;
   }
 
@@ -62,8 +62,8 @@ module _ (a : Inside) (q : ℕ) (x y : Queue) (is : x ≡ get_or a.queues.items 
     there within = omega (arith, place, within, ap (λ (w : QueuesValue). length w.state.specs) view, length-map a.queues.items spec_in)
 
     -- what is seen of the queue that stood there
-    pub marks_seen : p < length v.state.specs → marks_in x ≡ marks_at v.state p
-    marks_seen within = ap marks_in is ∙ sym (get_or-map marks_in a.queues.items q x opening_marks (there within)) ∙ (λ i. marks_at (view i).state (place i))
+    pub flags_seen : p < length v.state.specs → flags_in x ≡ flags_at v.state p
+    flags_seen within = ap flags_in is ∙ sym (get_or-map flags_in a.queues.items q x opening_flags (there within)) ∙ (λ i. flags_at (view i).state (place i))
 
     pub spec_seen : p < length v.state.specs → x.spec ≡ spec_at v.state.specs p
     spec_seen within = ap spec_in is ∙ sym (get_or-map spec_in a.queues.items q x no_spec (there within)) ∙ (λ i. spec_at (view i).state.specs (place i))
@@ -72,20 +72,20 @@ module _ (a : Inside) (q : ℕ) (x y : Queue) (is : x ≡ get_or a.queues.items 
     tally_seen within = ap tally_in is ∙ sym (get_or-map tally_in a.queues.items q x no_tally (there within)) ∙ (λ i. tally_at (view i) (place i))
 
     -- other marks
-    pub marks_changed : p < length v.state.specs → (change : Marks → Marks) → marks_in y ≡ change (marks_in x) → tally_in y ≡ tally_in x → value_of changed ≡ record v { state = with_marks p (change (marks_at v.state p)) v.state }
-    marks_changed within change marked same =
-        let at : marks_in x ≡ get_or (map marks_in a.queues.items) q opening_marks = ap marks_in is ∙ sym (get_or-map marks_in a.queues.items q x opening_marks (there within)) in
+    pub flags_changed : p < length v.state.specs → (change : Flags → Flags) → flags_in y ≡ change (flags_in x) → tally_in y ≡ tally_in x → value_of changed ≡ record v { state = with_flags p (change (flags_at v.state p)) v.state }
+    flags_changed within change marked same =
+        let at : flags_in x ≡ get_or (map flags_in a.queues.items) q opening_flags = ap flags_in is ∙ sym (get_or-map flags_in a.queues.items q x opening_flags (there within)) in
         (λ i. let w : QueuesValue = record {
-          state = record { specs = stays spec_in spec i; marks = (map-set marks_in a.queues.items q y ∙ ap (set (map marks_in a.queues.items) q) (marked ∙ ap change at)) i; run = (value_of a).state.run };
+          state = record { specs = stays spec_in spec i; flags = (map-set flags_in a.queues.items q y ∙ ap (set (map flags_in a.queues.items) q) (marked ∙ ap change at)) i; run = (value_of a).state.run };
           tallies = stays tally_in same i;
         } in w)
-        ∙ (λ i. record (view i) { state = with_marks (place i) (change (marks_at (view i).state (place i))) (view i).state })
+        ∙ (λ i. record (view i) { state = with_flags (place i) (change (flags_at (view i).state (place i))) (view i).state })
 
     -- other is stored of its messages
-    pub tally_changed : (t : Tally) → tally_in y ≡ t → marks_in y ≡ marks_in x → value_of changed ≡ with_tally p t v
+    pub tally_changed : (t : Tally) → tally_in y ≡ t → flags_in y ≡ flags_in x → value_of changed ≡ with_tally p t v
     tally_changed t tallied same =
         (λ i. let w : QueuesValue = record {
-          state = record { specs = stays spec_in spec i; marks = stays marks_in same i; run = (value_of a).state.run };
+          state = record { specs = stays spec_in spec i; flags = stays flags_in same i; run = (value_of a).state.run };
           tallies = (map-set tally_in a.queues.items q y ∙ ap (set (map tally_in a.queues.items) q) tallied) i;
         } in w)
         ∙ (λ i. with_tally (place i) t (view i))

@@ -1,5 +1,5 @@
 -- The run list, as one list of links.
-use Rattle.std.proofs.Common.{◌≡◌, ℕ, suc, ◌+◌, ◌<◌, ◌≤◌, true, List, [], ◌∷◌, length, map, drop, Some, sym, ap, ◌∙◌, subst, arith}
+use Rattle.std.proofs.Common.{◌≡◌, ℕ, suc, ◌+◌, ◌^◌, ◌<◌, ◌≤◌, true, List, [], ◌∷◌, length, map, drop, Some, sym, ap, ◌∙◌, subst, arith}
 use Rattle.std.specs.Prelude.{slice_get}
 use Rattle.std.specs.List.{All}
 use Rattle.std.specs.Option.{option_map_or}
@@ -10,7 +10,7 @@ use Rattle.strm_links.proofs.OneList.{after-get, first-without, has_get, length_
 use Rattle.strm_queue.specs.declared.queues.Queues.TheInside.{Inside}
 use Rattle.strm_queue.specs.Flow.{spec_at}
 use Rattle.strm_queue.specs.QueuesLayout.{IsLawful, spec_in, value_of}
-use Rattle.strm_queue.proofs.Lawful.{few_queues}
+use Rattle.strm_queue.proofs.layout.Lawful.{few_queues}
 
 -- the first one leaves
 module _ (run : Rows) (parting : IsParting run) (lists : length run.lists ≡ 1) (n : ℕ) (is : first (list_at 0 run) ≡ Some n) (left : Rows) (removed : left ≡ record run { lists = map (without n) run.lists }) where
@@ -32,7 +32,7 @@ module _ (run : Rows) (parting : IsParting run) (lists : length run.lists ≡ 1)
       behind_first P (x ∷ xs) all = λ k d within. all (suc k) d (omega (arith, within))
 
 -- queues are few, so that a node's number is a queue's
-pub run_fits : (a : Inside) → IsLawful a → (n : ℕ) → n < a.run.nodes → n < 256
+pub run_fits : (a : Inside) → IsLawful a → (n : ℕ) → n < a.run.nodes → n < 2 ^ 8
 run_fits a lawful n within = omega (arith, within, lawful.nodes, few_queues (value_of a).state.specs lawful.specs, length-map a.queues.items spec_in)
 
 -- and no more of them wait than there are

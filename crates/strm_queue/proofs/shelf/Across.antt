@@ -12,7 +12,7 @@ use Rattle.strm_mblk.proofs.arena.Counts.{blocks_in_adds, count_adds, times-all}
 use Rattle.strm_mblk.proofs.arena.Moves.{head_counts, number_is, one_most}
 use Rattle.strm_mblk.proofs.shelving.Shelving.{none_begins, parted_adds}
 use Rattle.strm_mblk.proofs.arena.Stands.{heads_apart}
-use Rattle.strm_queue.proofs.OnShelf.{heads, with-at}
+use Rattle.strm_queue.proofs.shelf.OnShelf.{heads, with-at}
 
 -- messages with this head
 abbrev begun : ℕ → List Message → List Message

@@ -10,7 +10,7 @@ use Rattle.strm_links.specs.Rows.{is_some_of}
 use Rattle.strm_queue.specs.declared.queue_spec.QueueSpec.{QueueSpec}
 use Rattle.strm_queue.specs.Flow.{behind, no_spec, spec_at, target_within, waker_within}
 use Rattle.strm_queue.specs.QueueSpecs.{are_lawful, next_fits, times_next}
-use Rattle.strm_queue.proofs.Lawful.{nexts_lawful}
+use Rattle.strm_queue.proofs.layout.Lawful.{nexts_lawful}
 
 -- what is true of all is true of each
 all_at : {X : Type 0} (p : X → Bool) (xs : List X) → list_all p xs ≡ true → (i : ℕ) (d : X) → i < length xs → p (get_or xs i d) ≡ true

@@ -1,42 +1,42 @@
 -- What is stored of a queue's messages stays true where one of them joins or leaves.
 use Rattle.std.proofs.Common.{◌≡◌, ◌≢◌, ℕ, ◌+◌, ◌-◌, ◌<◌, ◌≤◌, ◌^◌, false, List, [], ◌∷◌, ◌++◌, length, get_or, set, Option, refl, sym, ap, ◌∙◌, inl, inr, arith, length-append, length-set, get_or-set_same, get_or-set_other, None, subst, replicate, zero, suc, true}
-use Rattle.std.specs.Prelude.{nat_le, is_some}
+use Rattle.std.specs.Prelude.{is_some}
 use Rattle.std.proofs.lemmas.Bool.{cases_eq, cond-false, cond-true, eq-eqb, lt-leb, ne_eqb}
 use Rattle.std.proofs.lemmas.List.{get_or-replicate, length-replicate}
 use Rattle.strm_data.specs.DataStore.{DataStore}
 use Rattle.strm_mblk.specs.Block.{Message, head_of, size_of}
-use Rattle.strm_queue.specs.Flow.{band_count, band_of_rank, bytes_on}
+use Rattle.strm_queue.specs.Flow.{band_count, band_of_rank, bytes_on, fills}
 use Rattle.strm_queue.specs.Limits.{bands, ranks}
 use Rattle.strm_queue.specs.declared.tally.Placed.{Placed}
 use Rattle.strm_queue.specs.Ends.{first_of_rank, last_of_rank, of_rank}
 use Rattle.strm_queue.specs.Tallies.{IsTallyOf, Tally, count_of, end_joined, end_left, first_in, last_in, no_tally, one_less, one_more, with_count, with_ends}
 use Rattle.strm_queue.specs.Rank.{rank_of, is_ordered}
-use Rattle.strm_queue.proofs.Bands.{is_wanted_where, length-bands_where, length-every_band}
-use Rattle.strm_queue.proofs.Counts.{band_count-left, band_of_rank_range, count_in, counted, bytes_on-left}
+use Rattle.strm_queue.proofs.bands.Bands.{has_band_where, length-bands_where, length-every_band}
+use Rattle.strm_queue.proofs.counting.Counts.{band_count-left, band_of_rank_range, count_in, counted, bytes_on-left}
 use Rattle.strm_links.specs.Rows.{IsApart, first, last}
-use Rattle.strm_queue.proofs.OnShelf.{heads}
-use Rattle.strm_queue.proofs.Ends.{first_joined, last_joined, first_left, last_left, of_rank-other}
+use Rattle.strm_queue.proofs.shelf.OnShelf.{heads}
+use Rattle.strm_queue.proofs.order.Ends.{first_joined, last_joined, first_left, last_left, of_rank-other}
 
 -- no message
 abbrev none_given : Option ℕ
 none_given = None
 
 -- of no messages, where no band is full without bytes
-pub tally_none : (s : DataStore) (hiwat : ℕ) → 0 < hiwat → IsTallyOf s hiwat [] no_tally
+pub tally_none : (s : DataStore) (hiwat : ℕ → ℕ) → ((band : ℕ) → band < bands → 0 < hiwat band) → IsTallyOf s hiwat [] no_tally
 tally_none s hiwat some = record {
   len = refl;
   bytes = refl;
   each_band = length-replicate {A = ℕ} bands 0;
   each_mark = length-bands_where (λ band. false) ∙ length-every_band;
   counts = λ band below. get_or-replicate bands band 0 0 below;
-  full = λ band below. is_wanted_where (λ x. false) band below ∙ sym (lt-leb hiwat 0 some);
+  full = λ band below. has_band_where (λ x. false) band below ∙ sym (lt-leb (hiwat band) 0 (some band below));
   ends = record {
     each_first = length-replicate {A = Option ℕ} ranks None;
     each_last = length-replicate {A = Option ℕ} ranks None;
     each_used = length-bands_where (λ band. false) ∙ length-every_band;
     firsts = none_there ranks;
     lasts = none_there ranks;
-    used = λ r below. is_wanted_where (λ x. false) r below;
+    used = λ r below. has_band_where (λ x. false) r below;
   };
 }
   where
@@ -55,7 +55,7 @@ pub record IsPlaced (s : DataStore) (pre post : List Message) (m : Message) (p :
   pub few : p.rank < ranks
 
 -- one band has another count, and one rank other ends
-module _ (s : DataStore) (hiwat : ℕ) (ms ns : List Message) (t : Tally) (is : IsTallyOf s hiwat ms t) (len : ℕ) (long : len ≡ length ns) (bytes : ℕ) (heavy : bytes ≡ bytes_on ns)
+module _ (s : DataStore) (hiwat : ℕ → ℕ) (ms ns : List Message) (t : Tally) (is : IsTallyOf s hiwat ms t) (len : ℕ) (long : len ≡ length ns) (bytes : ℕ) (heavy : bytes ≡ bytes_on ns)
     (band n : ℕ) (within : band < bands) (here : n ≡ band_count s band ns) (others : (x : ℕ) → x ≢ band → band_count s x ns ≡ band_count s x ms)
     (r : ℕ) (end beginning : Option ℕ) (below : r < ranks) (first_is : beginning ≡ first_of_rank (rank_of s) r ns) (last_is : end ≡ last_of_rank (rank_of s) r ns)
     (other_ranks : (x : ℕ) → x ≢ r → of_rank (rank_of s) x ns ≡ of_rank (rank_of s) x ms) where
@@ -67,16 +67,16 @@ module _ (s : DataStore) (hiwat : ℕ) (ms ns : List Message) (t : Tally) (is : 
         | inr other ↦ get_or-set_other xs k x v d other ∙ old other
       ]
 
-  tally_set : IsTallyOf s hiwat ns (with_ends r beginning end (with_count hiwat band n (record t { len = len; bytes = bytes })))
+  tally_set : IsTallyOf s hiwat ns (with_ends r beginning end (with_count (hiwat band) band n (record t { len = len; bytes = bytes })))
   tally_set = record {
     len = long;
     bytes = heavy;
     each_band = length-set t.counts band n ∙ is.each_band;
-    each_mark = length-set t.full band (nat_le hiwat n) ∙ is.each_mark;
+    each_mark = length-set t.full band (fills (hiwat band) n) ∙ is.each_mark;
     counts = λ x inside. at_set (λ j. band_count s j ns) t.counts band n 0 (omega (arith, within, is.each_band)) here x (λ other. is.counts x inside ∙ sym (others x other));
     full = λ x inside.
-        at_set (λ j. nat_le hiwat (band_count s j ns)) t.full band (nat_le hiwat n) false (omega (arith, within, is.each_mark)) (ap (nat_le hiwat) here) x
-        (λ other. is.full x inside ∙ ap (nat_le hiwat) (sym (others x other)));
+        at_set (λ j. fills (hiwat j) (band_count s j ns)) t.full band (fills (hiwat band) n) false (omega (arith, within, is.each_mark)) (ap (fills (hiwat band)) here) x
+        (λ other. is.full x inside ∙ ap (fills (hiwat x)) (sym (others x other)));
     ends = record {
       each_first = length-set t.firsts r beginning ∙ is.ends.each_first;
       each_last = length-set t.lasts r end ∙ is.ends.each_last;
@@ -115,7 +115,7 @@ module _ (s : DataStore) (m : Message) where
   none : (x : ℕ) → x ≢ its → counted s x m ≡ 0
   none x other = cond-false _ (size_of m) 0 (ne_eqb its x (λ same. other (sym same)))
 
-  module _ (hiwat : ℕ) (t : Tally) (pre post : List Message) (p : Placed) (placed : IsPlaced s pre post m p) where
+  module _ (hiwat : ℕ → ℕ) (t : Tally) (pre post : List Message) (p : Placed) (placed : IsPlaced s pre post m p) where
     -- how the message stands
     abbrev own_place : Placed
     own_place = record { head = head_of m; rank = rank_of s m; size = size_of m; ahead = last (heads pre); behind = first (heads post) }
@@ -125,9 +125,9 @@ module _ (s : DataStore) (m : Message) where
 
     -- one joins
     module _ (is : IsTallyOf s hiwat (pre ++ post) t) where
-      pub tally_joined : is_ordered (rank_of s) (pre ++ m ∷ post) ≡ true → IsApart (heads (pre ++ m ∷ post)) → IsTallyOf s hiwat (pre ++ m ∷ post) (one_more hiwat p t)
+      pub tally_joined : is_ordered (rank_of s) (pre ++ m ∷ post) ≡ true → IsApart (heads (pre ++ m ∷ post)) → IsTallyOf s hiwat (pre ++ m ∷ post) (one_more (hiwat (band_of_rank p.rank)) p t)
       tally_joined ordered apart =
-          subst (λ k. IsTallyOf s hiwat (pre ++ m ∷ post) (one_more hiwat k t)) (sym place_is)
+          subst (λ k. IsTallyOf s hiwat (pre ++ m ∷ post) (one_more (hiwat (band_of_rank k.rank)) k t)) (sym place_is)
           (tally_set s hiwat (pre ++ post) (pre ++ m ∷ post) t is (t.len + 1) (omega (arith, is.len, length-append pre (m ∷ post), length-append pre post))
           (t.bytes + size_of m) (omega (arith, is.bytes, bytes_on-left pre post m))
           its (count_of t its + size_of m) (band_of_rank_range (rank_of s m)) (omega (arith, is.counts its (band_of_rank_range (rank_of s m)), band_count-left s its pre post m, own))
@@ -156,9 +156,9 @@ module _ (s : DataStore) (m : Message) where
 
     -- one leaves
     module _ (is : IsTallyOf s hiwat (pre ++ m ∷ post) t) where
-      pub tally_left : is_ordered (rank_of s) (pre ++ m ∷ post) ≡ true → IsApart (heads (pre ++ m ∷ post)) → IsTallyOf s hiwat (pre ++ post) (one_less hiwat p t)
+      pub tally_left : is_ordered (rank_of s) (pre ++ m ∷ post) ≡ true → IsApart (heads (pre ++ m ∷ post)) → IsTallyOf s hiwat (pre ++ post) (one_less (hiwat (band_of_rank p.rank)) p t)
       tally_left ordered apart =
-          subst (λ k. IsTallyOf s hiwat (pre ++ post) (one_less hiwat k t)) (sym place_is)
+          subst (λ k. IsTallyOf s hiwat (pre ++ post) (one_less (hiwat (band_of_rank k.rank)) k t)) (sym place_is)
           (tally_set s hiwat (pre ++ m ∷ post) (pre ++ post) t is (t.len - 1) (omega (arith, is.len, length-append pre (m ∷ post), length-append pre post))
           (t.bytes - size_of m) (omega (arith, is.bytes, bytes_on-left pre post m))
           its (count_of t its - size_of m) (band_of_rank_range (rank_of s m)) (omega (arith, is.counts its (band_of_rank_range (rank_of s m)), band_count-left s its pre post m, own))

@@ -11,8 +11,8 @@ use Rattle.strm_mblk.specs.Messages.{put_before_head}
 use Rattle.strm_mblk.specs.Shelves.{heads_at, stands_on}
 use Rattle.strm_mblk.proofs.arena.Stands.{heads_apart}
 use Rattle.strm_queue.specs.Rank.{is_ordered, rank_of}
-use Rattle.strm_queue.proofs.OnShelf.{Parts, after-head, at_there, before-head, first_none, first_of, first_there, heads, last_none, last_of, parts_of, placed-between}
-use Rattle.strm_queue.proofs.Order.{first_fits, fits_between, fits_first, ordered_last, rises_behind}
+use Rattle.strm_queue.proofs.shelf.OnShelf.{Parts, after-head, at_there, before-head, first_none, first_of, first_there, heads, last_none, last_of, parts_of, placed-between}
+use Rattle.strm_queue.proofs.order.Order.{first_fits, fits_between, fits_first, ordered_last, rises_behind}
 
 -- the messages of a shelf on both sides of a place: before this head, or behind all
 pub record IsParting (a : Arena) (q : ℕ) (o : Option ℕ) : Type 0 where

@@ -9,8 +9,9 @@ use Rattle.strm_mblk.specs.Messages.{blocks_of, put_before_head}
 use Rattle.strm_mblk.specs.Shelves.{shelve}
 use Rattle.strm_mblk.proofs.arena.Counts.{flat_map-set_adds, length_adds}
 use Rattle.strm_mblk.proofs.arena.Moves.{held_within}
+use Rattle.strm_queue.specs.Limits.{high_rank}
 use Rattle.strm_queue.specs.Rank.{as_queued, rank_of}
-use Rattle.strm_queue.proofs.Ranks.{low_queued}
+use Rattle.strm_queue.proofs.order.Ranks.{low_queued}
 
 module _ (a : Arena) (q : ℕ) (before : Option ℕ) (h : ℕ) where
   -- the arena once the message held at h stands on shelf q
@@ -25,7 +26,7 @@ module _ (a : Arena) (q : ℕ) (before : Option ℕ) (h : ℕ) where
       λ i. with_shelf q (put_before_head head_of before (now i) (shelf_at a q)) (record a { held = set-set a.held h (Some (banded 0 (message_at a h))) None i })
 
   -- any other goes there as it is
-  pub shelve_low : rank_of a.store (message_at a h) ≢ 256 → shelve q before h a ≡ put
+  pub shelve_low : rank_of a.store (message_at a h) ≢ high_rank → shelve q before h a ≡ put
   shelve_low low = λ i. with_shelf q (put_before_head head_of before (sym (low_queued a.store (message_at a h) low) i) (shelf_at a q)) (without_held h a)
 
 -- messages with blocks are no more than their blocks

@@ -11,7 +11,7 @@ use Rattle.std.proofs.lemmas.List.Folds.{list_any_at, list_any_none}
 use Rattle.std.proofs.lemmas.List.FromFn.{get_or-range_with_len, length-range_with_len}
 use Rattle.std.proofs.lemmas.Nat.Bits.{bit_at-zero, bit_at_clear_other, bit_at_clear_same, bit_at_set_other, bit_at_set_same}
 use Rattle.strm_queue.specs.BandSets.{IsFirstFrom, IsHighestTo, IsLastTo, IsLowestFrom, is_in}
-use Rattle.strm_queue.specs.Flow.{bands_where, every_band, is_wanted}
+use Rattle.strm_queue.specs.Flow.{bands_where, every_band, has_band}
 use Rattle.strm_queue.specs.Limits.{bands}
 
 -- ---- every band
@@ -32,22 +32,22 @@ get_or-every_band band below = ap (λ l. get_or l band 0) every_is ∙ omega (ar
 -- ---- marks
 
 -- the mark of a band
-pub is_wanted_where : (p : ℕ → Bool) (band : ℕ) → band < bands → is_wanted (bands_where p) band ≡ p band
-is_wanted_where p band below = get_or-map p every_band band 0 false (omega (arith, below, length-every_band)) ∙ ap p (get_or-every_band band below)
+pub has_band_where : (p : ℕ → Bool) (band : ℕ) → band < bands → has_band (bands_where p) band ≡ p band
+has_band_where p band below = get_or-map p every_band band 0 false (omega (arith, below, length-every_band)) ∙ ap p (get_or-every_band band below)
 
 -- there are as many marks as bands
 pub length-bands_where : (p : ℕ → Bool) → length (bands_where p) ≡ length every_band
 length-bands_where p = length-map every_band p
 
 -- past the last band there is no mark
-pub unmarked_past : (ms : List Bool) → length ms ≡ length every_band → (band : ℕ) → bands ≤ band → is_wanted ms band ≡ false
+pub unmarked_past : (ms : List Bool) → length ms ≡ length every_band → (band : ℕ) → bands ≤ band → has_band ms band ≡ false
 unmarked_past ms long band past = get_or_past ms band false (omega (arith, past, long, length-every_band))
 
-pub wanted_past : (p : ℕ → Bool) (band : ℕ) → bands ≤ band → is_wanted (bands_where p) band ≡ false
+pub wanted_past : (p : ℕ → Bool) (band : ℕ) → bands ≤ band → has_band (bands_where p) band ≡ false
 wanted_past p = unmarked_past (bands_where p) (length-bands_where p)
 
 -- so one that is marked is a band
-wanted_below : (ms : List Bool) → length ms ≡ length every_band → (band : ℕ) → is_wanted ms band ≡ true → band < bands
+wanted_below : (ms : List Bool) → length ms ≡ length every_band → (band : ℕ) → has_band ms band ≡ true → band < bands
 wanted_below ms long band marked =
     elim (cases_lt band bands) [
       | inl below ↦ below
@@ -55,41 +55,41 @@ wanted_below ms long band marked =
     ]
 
 -- marks that are those of p, band by band
-pub marks_are : (ms : List Bool) (p : ℕ → Bool) → length ms ≡ length every_band → ((band : ℕ) → band < bands → is_wanted ms band ≡ p band) → ms ≡ bands_where p
-marks_are ms p long same =
+pub bands_are : (ms : List Bool) (p : ℕ → Bool) → length ms ≡ length every_band → ((band : ℕ) → band < bands → has_band ms band ≡ p band) → ms ≡ bands_where p
+bands_are ms p long same =
     ext_get_or false ms (bands_where p) (long ∙ sym (length-bands_where p))
-    (λ band below. let low : band < bands = omega (arith, below, long, length-every_band) in same band low ∙ sym (is_wanted_where p band low))
+    (λ band below. let low : band < bands = omega (arith, below, long, length-every_band) in same band low ∙ sym (has_band_where p band low))
 
 -- the marks of what is the same of each band
 pub bands_where-same : (p q : ℕ → Bool) → ((band : ℕ) → band < bands → p band ≡ q band) → bands_where p ≡ bands_where q
-bands_where-same p q same = marks_are (bands_where p) q (length-bands_where p) (λ band below. is_wanted_where p band below ∙ same band below)
+bands_where-same p q same = bands_are (bands_where p) q (length-bands_where p) (λ band below. has_band_where p band below ∙ same band below)
 
 -- ---- one mark set
 
 -- one more band
 pub bands_where-set : (p : ℕ → Bool) (b : ℕ) → b < bands → slice_set (bands_where p) b true ≡ bands_where (λ band. band == b || p band)
-bands_where-set p b low = marks_are (slice_set (bands_where p) b true) (λ band. band == b || p band) (length-set (bands_where p) b true ∙ length-bands_where p) at
+bands_where-set p b low = bands_are (slice_set (bands_where p) b true) (λ band. band == b || p band) (length-set (bands_where p) b true ∙ length-bands_where p) at
   where
-    at : (band : ℕ) → band < bands → is_wanted (slice_set (bands_where p) b true) band ≡ (band == b || p band)
+    at : (band : ℕ) → band < bands → has_band (slice_set (bands_where p) b true) band ≡ (band == b || p band)
     at band below =
         elim (cases_eq band b) [
           | inl is ↦
               get_or-set_at (bands_where p) b band true false is (omega (arith, low, length-bands_where p, length-every_band)) ∙ sym (ap (λ t. t || p band) (eq-eqb band b is))
           | inr other ↦
-              get_or-set_other (bands_where p) b band true false other ∙ is_wanted_where p band below ∙ sym (ap (λ t. t || p band) (ne_eqb band b other))
+              get_or-set_other (bands_where p) b band true false other ∙ has_band_where p band below ∙ sym (ap (λ t. t || p band) (ne_eqb band b other))
         ]
 
 -- one band less
 pub bands_where-unset : (p : ℕ → Bool) (b : ℕ) → b < bands → slice_set (bands_where p) b false ≡ bands_where (λ band. not (band == b) && p band)
-bands_where-unset p b low = marks_are (slice_set (bands_where p) b false) (λ band. not (band == b) && p band) (length-set (bands_where p) b false ∙ length-bands_where p) at
+bands_where-unset p b low = bands_are (slice_set (bands_where p) b false) (λ band. not (band == b) && p band) (length-set (bands_where p) b false ∙ length-bands_where p) at
   where
-    at : (band : ℕ) → band < bands → is_wanted (slice_set (bands_where p) b false) band ≡ (not (band == b) && p band)
+    at : (band : ℕ) → band < bands → has_band (slice_set (bands_where p) b false) band ≡ (not (band == b) && p band)
     at band below =
         elim (cases_eq band b) [
           | inl is ↦
               get_or-set_at (bands_where p) b band false false is (omega (arith, low, length-bands_where p, length-every_band)) ∙ sym (ap (λ t. not t && p band) (eq-eqb band b is))
           | inr other ↦
-              get_or-set_other (bands_where p) b band false false other ∙ is_wanted_where p band below ∙ sym (ap (λ t. not t && p band) (ne_eqb band b other))
+              get_or-set_other (bands_where p) b band false false other ∙ has_band_where p band below ∙ sym (ap (λ t. not t && p band) (ne_eqb band b other))
         ]
 
 -- ---- whether there is one
@@ -133,8 +133,8 @@ module _ (words : List ℕ) (b word : ℕ) (within : b / 64 < length words) wher
 
 module _ (words : List ℕ) (b : ℕ) (long : length words ≡ 4) (low : b < bands) where
   -- a bit is set
-  pub marks-insert : bands_where (bit_in (slice_set words (b / 64) (bit_or (slice_index_or words (b / 64) 0) (1 * 2 ^ (b % 64) % 2 ^ 64)))) ≡ slice_set (bands_where (bit_in words)) b true
-  marks-insert = bands_where-same _ (λ band. band == b || bit_in words band) (λ band below. at band) ∙ sym (bands_where-set (bit_in words) b low)
+  pub bands-insert : bands_where (bit_in (slice_set words (b / 64) (bit_or (slice_index_or words (b / 64) 0) (1 * 2 ^ (b % 64) % 2 ^ 64)))) ≡ slice_set (bands_where (bit_in words)) b true
+  bands-insert = bands_where-same _ (λ band. band == b || bit_in words band) (λ band below. at band) ∙ sym (bands_where-set (bit_in words) b low)
     where
       word : ℕ
       word = bit_or (slice_index_or words (b / 64) 0) (1 * 2 ^ (b % 64) % 2 ^ 64)
@@ -154,8 +154,8 @@ module _ (words : List ℕ) (b : ℕ) (long : length words ≡ 4) (low : b < ban
           ]
 
   -- a bit is cleared
-  pub marks-remove : bands_where (bit_in (slice_set words (b / 64) (bit_and (slice_index_or words (b / 64) 0) (bit_not w64 (1 * 2 ^ (b % 64) % 2 ^ 64))))) ≡ slice_set (bands_where (bit_in words)) b false
-  marks-remove = bands_where-same _ (λ band. not (band == b) && bit_in words band) (λ band below. at band) ∙ sym (bands_where-unset (bit_in words) b low)
+  pub bands-remove : bands_where (bit_in (slice_set words (b / 64) (bit_and (slice_index_or words (b / 64) 0) (bit_not w64 (1 * 2 ^ (b % 64) % 2 ^ 64))))) ≡ slice_set (bands_where (bit_in words)) b false
+  bands-remove = bands_where-same _ (λ band. not (band == b) && bit_in words band) (λ band below. at band) ∙ sym (bands_where-unset (bit_in words) b low)
     where
       word : ℕ
       word = bit_and (slice_index_or words (b / 64) 0) (bit_not w64 (1 * 2 ^ (b % 64) % 2 ^ 64))
@@ -210,17 +210,17 @@ module _ (words : List ℕ) where
       ]
 
   -- so the marks say
-  pub none_marked : (from to : ℕ) → AreNone from to → (band : ℕ) → from ≤ band → (band < bands → band < to) → is_wanted (bands_where (bit_in words)) band ≡ false
+  pub none_marked : (from to : ℕ) → AreNone from to → (band : ℕ) → from ≤ band → (band < bands → band < to) → has_band (bands_where (bit_in words)) band ≡ false
   none_marked from to none band above below =
       elim (cases_lt band bands) [
-        | inl low ↦ is_wanted_where (bit_in words) band low ∙ none band above (below low)
+        | inl low ↦ has_band_where (bit_in words) band low ∙ none band above (below low)
         | inr past ↦ wanted_past (bit_in words) band past
       ]
 
   module _ (word : ℕ) (low : word < 4) where
     -- a bit that is 1
-    marked : (place : ℕ) → place < 64 → bit_at (slice_index_or words word 0) place ≡ 1 → is_wanted (bands_where (bit_in words)) (word * 64 + place) ≡ true
-    marked place within one = is_wanted_where (bit_in words) (word * 64 + place) (omega (arith, low, within)) ∙ bit_in-word word place within ∙ ap (λ n. n == 1) one
+    marked : (place : ℕ) → place < 64 → bit_at (slice_index_or words word 0) place ≡ 1 → has_band (bands_where (bit_in words)) (word * 64 + place) ≡ true
+    marked place within one = has_band_where (bit_in words) (word * 64 + place) (omega (arith, low, within)) ∙ bit_in-word word place within ∙ ap (λ n. n == 1) one
 
     module _ (band from : ℕ) (start : band ≤ word * 64 + from) (none : AreNone band (word * 64 + from)) where
       -- the words before have none, and this one has it
@@ -253,9 +253,9 @@ module _ (words : List ℕ) where
           (λ y above_word below. none y (omega (arith, above_word)) below) x (omega (arith, above)) below_end
 
 -- the first marked band from one on, or else the count of bands, is not before it
-pub first_from : (marks : List Bool) (from : ℕ) (first : Option ℕ) → from ≤ bands → IfSome first (IsFirstFrom marks from) → from ≤ unwrap_or first bands
-first_from marks from None low is = low
-first_from marks from (Some first) low is = is.0
+pub first_from : (set : List Bool) (from : ℕ) (first : Option ℕ) → from ≤ bands → IfSome first (IsFirstFrom set from) → from ≤ unwrap_or first bands
+first_from set from None low is = low
+first_from set from (Some first) low is = is.0
 
 -- ---- marks taken out, one band after the other
 
@@ -267,7 +267,7 @@ and-true false = refl
 module _ (old : List Bool) (may : ℕ → Bool) where
   -- whether a band leaves: it is marked and may
   abbrev pub leaves : ℕ → Bool
-  leaves band = is_wanted old band && may band
+  leaves band = has_band old band && may band
 
   -- so, among the bands before this one
   abbrev pub leaves_before : ℕ → ℕ → Bool
@@ -275,7 +275,7 @@ module _ (old : List Bool) (may : ℕ → Bool) where
 
   -- what is left when all the bands before this one were looked at
   abbrev pub left_before : ℕ → List Bool
-  left_before n = bands_where (λ band. is_wanted old band && not (leaves_before n band))
+  left_before n = bands_where (λ band. has_band old band && not (leaves_before n band))
 
   -- these are left then, and this says whether one left
   abbrev pub AreLookedAt : ℕ → List Bool → Bool → Type 0
@@ -291,28 +291,28 @@ module _ (old : List Bool) (may : ℕ → Bool) where
   -- at first none was looked at
   pub looked_at_first : length old ≡ length every_band → AreLookedAt 0 old false
   looked_at_first long = (
-    marks_are old _ long (λ band below. sym (ap (λ t. is_wanted old band && not t) (none_before 0 band (omega arith)) ∙ and-true (is_wanted old band))),
+    bands_are old _ long (λ band below. sym (ap (λ t. has_band old band && not t) (none_before 0 band (omega arith)) ∙ and-true (has_band old band))),
     sym (some_same (leaves_before 0) (λ band. false) (λ band below. none_before 0 band (omega arith)) ∙ list_any_none (λ band. false) every_band (λ k d l. refl)),
   )
 
   -- at last all were
   pub looked_at_last : (now : List Bool) (some : Bool) → AreLookedAt bands now some
-      → (now ≡ bands_where (λ band. is_wanted old band && not (leaves band))) × (some ≡ list_any leaves every_band)
+      → (now ≡ bands_where (λ band. has_band old band && not (leaves band))) × (some ≡ list_any leaves every_band)
   looked_at_last now some (left, are) = (
-    left ∙ bands_where-same _ _ (λ band below. ap (λ t. is_wanted old band && not t) (all_before bands band below)),
+    left ∙ bands_where-same _ _ (λ band below. ap (λ t. has_band old band && not t) (all_before bands band below)),
     are ∙ some_same (leaves_before bands) leaves (λ band below. all_before bands band below),
   )
 
   module _ (n : ℕ) (now : List Bool) (some : Bool) (are : AreLookedAt n now some) where
     -- a band that was not looked at has the mark that it had
-    wanted_still : (band : ℕ) → n ≤ band → band < bands → is_wanted now band ≡ is_wanted old band
+    wanted_still : (band : ℕ) → n ≤ band → band < bands → has_band now band ≡ has_band old band
     wanted_still band from low =
-        ap (λ ms. is_wanted ms band) are.0 ∙ is_wanted_where _ band low ∙ ap (λ t. is_wanted old band && not t) (none_before n band from) ∙ and-true (is_wanted old band)
+        ap (λ ms. has_band ms band) are.0 ∙ has_band_where _ band low ∙ ap (λ t. has_band old band && not t) (none_before n band from) ∙ and-true (has_band old band)
 
     -- none of the bands from this one on and before that one leaves: nothing changes
     looked_over : (m : ℕ) → n ≤ m → ((band : ℕ) → n ≤ band → band < m → band < bands → leaves band ≡ false) → AreLookedAt m now some
     looked_over m further stay = (
-      are.0 ∙ bands_where-same _ _ (λ band low. ap (λ t. is_wanted old band && not t) (same band low)),
+      are.0 ∙ bands_where-same _ _ (λ band low. ap (λ t. has_band old band && not t) (same band low)),
       are.1 ∙ some_same (leaves_before n) (leaves_before m) same,
     )
       where
@@ -329,17 +329,17 @@ module _ (old : List Bool) (may : ℕ → Bool) where
             ]
 
     -- a band that has no mark now and was not looked at does not leave
-    stays : (band : ℕ) → n ≤ band → band < bands → is_wanted now band ≡ false → leaves band ≡ false
+    stays : (band : ℕ) → n ≤ band → band < bands → has_band now band ≡ false → leaves band ≡ false
     stays band from low unmarked = ap (λ t. t && may band) (sym (wanted_still band from low) ∙ unmarked)
 
     -- the next marked one is looked for
-    pub looked_to : (next : Option ℕ) → n ≤ bands → IfSome next (IsFirstFrom now n) → IfNone next ((band : ℕ) → n ≤ band → is_wanted now band ≡ false)
-        → AreLookedAt (unwrap_or next bands) now some × IfSome next (λ band. is_wanted old band ≡ true)
+    pub looked_to : (next : Option ℕ) → n ≤ bands → IfSome next (IsFirstFrom now n) → IfNone next ((band : ℕ) → n ≤ band → has_band now band ≡ false)
+        → AreLookedAt (unwrap_or next bands) now some × IfSome next (λ band. has_band old band ≡ true)
     looked_to None low found none = (looked_over bands low (λ band from below in_range. stays band from in_range (none band from)), tt)
     looked_to (Some next) low (from, marked, none) _ =
         (looked_over next from (λ band above below in_range. stays band above in_range (none band above below)), sym (wanted_still next from (wanted_below now (ap length are.0 ∙ length-bands_where _) next marked)) ∙ marked)
 
-    module _ (low : n < bands) (marked : is_wanted old n ≡ true) where
+    module _ (low : n < bands) (marked : has_band old n ≡ true) where
       -- the band itself stays
       pub looked_stays : may n ≡ false → AreLookedAt (n + 1) now some
       looked_stays stays = looked_over (n + 1) (omega arith) (λ band from below in_range. let is : band ≡ n = omega (arith, from, below) in ap leaves is ∙ (λ i. marked i && stays i))
@@ -354,16 +354,16 @@ module _ (old : List Bool) (may : ℕ → Bool) where
           leaves_n : leaves n ≡ true
           leaves_n = λ i. marked i && goes i
 
-          less : (band : ℕ) → (not (band == n) && (is_wanted old band && not (leaves_before n band))) ≡ (is_wanted old band && not (leaves_before (n + 1) band))
+          less : (band : ℕ) → (not (band == n) && (has_band old band && not (leaves_before n band))) ≡ (has_band old band && not (leaves_before (n + 1) band))
           less band =
               elim (cases_order band n) [
                 | inl here ↦
-                    ap (λ t. not t && (is_wanted old band && not (leaves_before n band))) (eq-eqb band n here)
-                    ∙ sym (ap (λ t. is_wanted old band && not t) (all_before (n + 1) band (omega (arith, here)) ∙ ap leaves here ∙ leaves_n) ∙ and_right (is_wanted old band) false refl)
+                    ap (λ t. not t && (has_band old band && not (leaves_before n band))) (eq-eqb band n here)
+                    ∙ sym (ap (λ t. has_band old band && not t) (all_before (n + 1) band (omega (arith, here)) ∙ ap leaves here ∙ leaves_n) ∙ and_right (has_band old band) false refl)
                 | inr (inl below) ↦
-                    ap (λ t. not t && (is_wanted old band && not (leaves_before n band))) (ne_eqb band n (λ here. absurd (omega (arith, here, below))))
-                    ∙ ap (λ t. is_wanted old band && not t) (all_before n band below ∙ sym (all_before (n + 1) band (omega (arith, below))))
+                    ap (λ t. not t && (has_band old band && not (leaves_before n band))) (ne_eqb band n (λ here. absurd (omega (arith, here, below))))
+                    ∙ ap (λ t. has_band old band && not t) (all_before n band below ∙ sym (all_before (n + 1) band (omega (arith, below))))
                 | inr (inr above) ↦
-                    ap (λ t. not t && (is_wanted old band && not (leaves_before n band))) (ne_eqb band n (λ here. absurd (omega (arith, here, above))))
-                    ∙ ap (λ t. is_wanted old band && not t) (none_before n band (omega (arith, above)) ∙ sym (none_before (n + 1) band (omega (arith, above))))
+                    ap (λ t. not t && (has_band old band && not (leaves_before n band))) (ne_eqb band n (λ here. absurd (omega (arith, here, above))))
+                    ∙ ap (λ t. has_band old band && not t) (none_before n band (omega (arith, above)) ∙ sym (none_before (n + 1) band (omega (arith, above))))
               ]
