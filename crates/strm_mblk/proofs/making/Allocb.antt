@@ -51,7 +51,7 @@ module _ (id : ℕ) (s : CountedStore) (fields : List Fields) (v : NodeLists) (f
       ∙ ap (λ c. count_of s k + c) (sym (count_one (is_naming k) (new_block n d)))
 
   placed : All (λ b. IsPlaced t.store (fields_of b)) (new_block n d ∷ [])
-  placed zero other within = record { there = omega (arith, fresh.there, rooms.many); within = omega arith }
+  placed zero other within = record { there = omega (arith, fresh.there, rooms.many); within = omega arith; banded = omega arith }
   placed (suc i) other within = absurd (omega (arith, within))
 
   free_is : v.free ≡ n ∷ drop 1 v.free

@@ -158,7 +158,7 @@ module _ (id : ℕ) (s : CountedStore) (fields : List Fields) (v : NodeLists) (f
       rooms = subst (HasRooms s.store) (sym (ap (λ (c : CountedStore). c.store) t_is)) (rooms-both rooms_u (rooms-less u was.data_number))
 
       placed : IsPlaced t.store x
-      placed = subst (IsPlaced t.store) (sym x_is) (record { there = omega (arith, fresh.there, rooms.many); within = omega (arith, room, rooms.room d) })
+      placed = subst (IsPlaced t.store) (sym x_is) (record { there = omega (arith, fresh.there, rooms.many); within = omega (arith, room, rooms.room d); banded = (filled.placed h is.there).banded })
 
       pub gathers : IsGathered old t now v id h d n
       gathers = record {

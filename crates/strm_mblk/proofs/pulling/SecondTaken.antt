@@ -92,7 +92,7 @@ module _ (id : ℕ) (s : CountedStore) (fields : List Fields) (v : NodeLists) (f
       rooms = record { many = refl; room = λ k. refl }
 
       placed : IsPlaced s.store x
-      placed = subst (IsPlaced s.store) (sym x_is) (record { there = placed_was.there; within = omega (arith, few, placed_was.within) })
+      placed = subst (IsPlaced s.store) (sym x_is) (record { there = placed_was.there; within = omega (arith, few, placed_was.within); banded = placed_was.banded })
 
       named : x.data_number ≡ was.data_number
       named = ap (λ (f : Fields). f.data_number) x_is

@@ -126,7 +126,7 @@ module _ (from_tail : Bool) where
       → IsPlaced s (fields_at (with_bytes_cut from_tail n ks fields) j)
   cut_placed s ks n fields placed j within =
       cut_all (λ k f. k < length fields → IsPlaced s f) from_tail
-      (λ m k f is inside. record { there = (is inside).there; within = omega (arith, (is inside).within, cut_least from_tail m f) }) ks n fields placed j
+      (λ m k f is inside. record { there = (is inside).there; within = omega (arith, (is inside).within, cut_least from_tail m f); banded = (is inside).banded }) ks n fields placed j
       (omega (arith, within, length-cut ks n fields))
 
   -- blocks of other messages say what they said

@@ -82,7 +82,7 @@ loop-block-preserved c =
     (ap (λ (f : Fields). take_data (capacity_of c.loop-block.stored.store f.data_number) c.loop-block.stored.store) (sym (said before)) ∙ c.copy_data.ensures.taken)
     c.copy_data.ensures.unused
     (omega (arith, ap (λ (f : Fields). capacity_of c.loop-block.stored.store f.data_number) (said before), c.copy_data.ensures.room))
-    (placed before).within (written_at before) in
+    (placed before) (written_at before) in
     record {
       read = c.onward-read.ensures.held c.args.from c.loop-block._block c.loop-block.invariant.read;
       written = c.onward-written.ensures.held c.args.into c.loop-block._block c.loop-block.invariant.written;
