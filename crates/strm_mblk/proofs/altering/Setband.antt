@@ -1,6 +1,5 @@
 -- `setband`: the first block of a held message is of another band.
 use Rattle.std.proofs.Common.{◌≡◌, ℕ, ◌^◌, ◌<◌, true, List, [], ◌∷◌, length, set, Some, None, refl, sym, ap, ◌∙◌, subst, get_or-set_same, length-set}
-use Rattle.std.specs.Prelude.{slice_get}
 use Rattle.std.proofs.lemmas.Option.{same_Some, none-some}
 use Rattle.strm_links.specs.Rows.{first}
 use Rattle.strm_data.specs.CountedStore.{CountedStore}
@@ -13,13 +12,10 @@ use Rattle.strm_mblk.specs.BlocksLayout.{IsFilled, IsPlaced, arena_of, block_at,
 use Rattle.strm_mblk.specs.Messages.{blocks_of}
 use Rattle.strm_mblk.specs.NodeLists.{NodeLists}
 use Rattle.strm_mblk.proofs.arena.Moves.{held_within}
-use Rattle.strm_mblk.proofs.layout.Rewriting.{AreHeld, begins_with, held_nodes, node_room, rewrite_filled, rewrite_shows}
+use Rattle.strm_mblk.proofs.chaining.Standing.{begins_with}
+use Rattle.strm_mblk.proofs.layout.Rewriting.{AreHeld, held_nodes, node_room, rewrite_filled, rewrite_shows}
 use Rattle.strm_mblk.proofs.arena.Tokens.{IsHad, had_again, had_message}
-
--- a list that begins with h has it at place 0
-pub at_first : (ns : List ℕ) (h : ℕ) → first ns ≡ Some h → slice_get ns 0 ≡ Some h
-at_first [] h is = absurd (none-some h is)
-at_first (n ∷ ns) h is = is
+use Rattle.strm_mblk.proofs.lists.Numbers.{at_first}
 
 pub record IsBanded (a : Arena) (s : CountedStore) (fields : List Fields) (v : NodeLists) (id band : ℕ) (t : TokenValue) : Type 0 where
   pub filled : IsFilled s fields v (arena_of id s.store fields v)

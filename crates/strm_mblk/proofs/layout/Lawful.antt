@@ -1,5 +1,5 @@
 -- What holds of all message blocks, whatever calls made them so.
-use Rattle.std.proofs.Common.{◌≡◌, ℕ, ◌+◌, ◌^◌, ◌<◌, ◌≤◌, ◌&&◌, ◌==◌, List, [], ◌∷◌, ◌++◌, length, map, get_or, Option, Some, None, sym, ap, ◌∙◌, subst, inl, inr, arith, if◌then◌else◌}
+use Rattle.std.proofs.Common.{◌≡◌, ℕ, ◌+◌, ◌^◌, ◌<◌, ◌≤◌, ◌&&◌, ◌==◌, List, [], ◌∷◌, ◌++◌, length, map, get_or, Option, Some, None, sym, ap, ◌∙◌, subst, inl, inr, arith, if◌then◌else◌, ◌*◌}
 use Rattle.std.specs.Prelude.{nat_lt, option_map}
 use Rattle.std.specs.List.{All, range_with_len}
 use Rattle.std.proofs.lemmas.List.FromFn.{get_or-map-range_with_len, length-map-range_with_len}
@@ -14,13 +14,16 @@ use Rattle.strm_data.specs.DataStore.{class_of, times}
 use Rattle.strm_mblk.specs.declared.blocks.Blocks.TheInside.{Inside}
 use Rattle.strm_mblk.specs.declared.blocks.Fields.{Fields}
 use Rattle.strm_mblk.specs.Arena.{Arena, IsParted, IsWithin, blocks_in, counted_in, held_blocks, names_of, shelved_blocks}
-use Rattle.strm_mblk.specs.Block.{Block, head_of}
-use Rattle.strm_mblk.specs.BlocksLayout.{IsFilled, IsWhole, arena_in, arena_of, block_at, block_of, message_of, no_fields}
+use Rattle.strm_mblk.specs.Block.{Block, head_of, size_of}
+use Rattle.strm_mblk.specs.BlocksLayout.{IsFilled, IsWhole, arena_in, arena_of, block_at, block_of, message_of, no_fields, fields_at}
 use Rattle.strm_mblk.specs.Messages.{held_in, shelf_in}
 use Rattle.strm_mblk.specs.NodeLists.{NodeLists}
 use Rattle.strm_mblk.proofs.arena.Moves.{IsCounted, makes_arena}
 use Rattle.strm_mblk.proofs.layout.Shown.{blocks_in-seen, held_at-seen, nodes_in, numbers-seen, shelf_at-seen}
 use Rattle.strm_mblk.specs.Limits.{most_message_blocks}
+use Rattle.std.proofs.lemmas.List.Sums.{sum_by-append}
+use Rattle.strm_data.proofs.Kept.{capacity_range}
+use Rattle.strm_data.specs.Limits.{most_data_block_bytes}
 
 -- a message that begins with h
 head-seen : (fields : List Fields) (o : Option (List ℕ)) (h : ℕ) → IfSome o (λ m. first m ≡ Some h)
@@ -104,6 +107,21 @@ module _ (id : ℕ) (s : CountedStore) (fields : List Fields) (v : NodeLists) (f
 
   pub law_few : length (arena_of id s.store fields v).held ≤ most_message_blocks
   law_few = omega (arith, filled.few, length-map v.held (option_map (message_of fields)))
+
+-- a message block has no more bytes than the largest data block has room for
+pub len_most : (id : ℕ) (s : CountedStore) (fields : List Fields) (v : NodeLists) → IsFilled s fields v (arena_of id s.store fields v) → (n : ℕ) → (fields_at fields n).len ≤ most_data_block_bytes
+len_most id s fields v filled n =
+    elim (cases_lt n (length fields)) [
+      | inl within ↦
+          let placed = filled.placed n within in
+          omega (arith, placed.within, (capacity_range s (fields_at fields n).data_number filled.kept placed.there).1)
+      | inr past ↦ omega (arith, ap (λ (f : Fields). f.len) (get_or_past fields n no_fields past))
+    ]
+
+-- so a message has no more than so many for each of its blocks
+pub size_most : (fields : List Fields) (ns : List ℕ) → ((n : ℕ) → (fields_at fields n).len ≤ most_data_block_bytes) → size_of (message_of fields ns) ≤ length ns * most_data_block_bytes
+size_most fields [] few = omega arith
+size_most fields (n ∷ ns) few = omega (arith, sum_by-append (λ (c : Block). c.len) (block_at fields n ∷ []) (message_of fields ns), few n, size_most fields ns few)
 
 -- message blocks as they lie in memory are parted
 pub parted_inside : (i : Inside) → IsWhole i → (a : Arena) → arena_in i ≡ a → IsParted a

@@ -18,9 +18,8 @@ use Rattle.strm_mblk.specs.Copying.{AreCopied, with_copy}
 use Rattle.strm_mblk.specs.Given.{answer_map}
 use Rattle.strm_mblk.proofs.making.BegunAll.{length-with_fields, with_fields_other}
 use Rattle.strm_mblk.proofs.making.CopiesCounted.{answer_more, can_take, in_front, in_front_none, rooms-copied}
-use Rattle.strm_mblk.proofs.arena.Counts.{count_adds}
+use Rattle.strm_mblk.proofs.lists.Additive.{count_adds, count_one}
 use Rattle.strm_mblk.proofs.making.Giving.{times_part}
-use Rattle.strm_mblk.proofs.arena.Moves.{count_one}
 use Rattle.strm_mblk.proofs.layout.Rooms.{HasRooms, count_of-set, placed-over}
 
 -- ---- lists

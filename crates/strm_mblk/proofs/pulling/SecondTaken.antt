@@ -14,10 +14,11 @@ use Rattle.strm_mblk.specs.BlocksLayout.{IsFilled, IsPlaced, arena_of, block_at,
 use Rattle.strm_mblk.specs.Messages.{blocks_of, held_in}
 use Rattle.strm_mblk.specs.NodeLists.{NodeLists, nodes_at}
 use Rattle.strm_mblk.specs.Pulling.{second_taken, with_second_cut, with_second_freed, without_front}
-use Rattle.strm_mblk.proofs.layout.Rewriting.{begins_with, held_nodes, node_room, rewrite_filled, rewrite_shows}
+use Rattle.strm_mblk.proofs.chaining.Standing.{begins_with}
+use Rattle.strm_mblk.proofs.layout.Rewriting.{held_nodes, node_room, rewrite_filled, rewrite_shows}
 use Rattle.strm_mblk.proofs.layout.Rooms.{HasRooms}
 use Rattle.strm_mblk.proofs.pulling.SecondFreed.{IsSecond}
-use Rattle.strm_mblk.proofs.altering.Setband.{at_first}
+use Rattle.strm_mblk.proofs.lists.Numbers.{at_first}
 use Rattle.strm_mblk.proofs.layout.Shown.{message_at-seen}
 use Rattle.strm_mblk.proofs.arena.Tokens.{held_is}
 use Rattle.strm_mblk.proofs.joining.Unlinkb.{two_rest}

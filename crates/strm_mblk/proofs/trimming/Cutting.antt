@@ -11,9 +11,8 @@ use Rattle.strm_mblk.specs.Block.{Block, size_of}
 use Rattle.strm_mblk.specs.BlocksLayout.{IsPlaced, block_at, block_of, fields_at, message_of, no_fields}
 use Rattle.strm_mblk.specs.Cutting.{fields_cut, with_bytes_cut}
 use Rattle.strm_mblk.specs.Trimming.{cut_back, cut_front}
-use Rattle.strm_mblk.proofs.making.Begun.{alike_off}
+use Rattle.strm_mblk.proofs.layout.Shown.{alike_off, message-alike}
 use Rattle.strm_mblk.proofs.lists.ListParts.{drop_from}
-use Rattle.strm_mblk.proofs.layout.Shown.{message-alike}
 use Rattle.strm_mblk.proofs.trimming.Runs.{size_front}
 
 -- ---- one block

@@ -5,8 +5,8 @@ use Rattle.strm_mblk.specs.declared.blocks.Fields.{Fields}
 use Rattle.strm_mblk.specs.BlocksLayout.{arena_of, arena_in, fields_at, no_fields}
 use Rattle.strm_mblk.proofs.altering.Setband.{IsBanded, bands, head_there}
 use Rattle.strm_mblk.proofs.arena.Frame.{Leaves, leaves_setband}
-use Rattle.strm_mblk.proofs.blocks.Blocks.setband.Goals as goal
 use Rattle.strm_mblk.proofs.blocks.Blocks.setband.Goals.{After-self-1}
+use Rattle.strm_mblk.proofs.blocks.Blocks.setband.Goals as goal
 
 is_banded : (c : After-self-1) → IsBanded c.args.self.now c.self.inside.data (set c.self.inside.blocks.items c.head.result (record c.index_mut.result.now { band = c.args.band })) c.self.inside.chains c.self.inside.id c.args.band c.args.token.now
 is_banded c =

@@ -11,10 +11,10 @@ use Rattle.strm_mblk.specs.NodeLists.{nodes_at}
 use Rattle.strm_mblk.proofs.making.CopiesCounted.{next_block}
 use Rattle.strm_mblk.proofs.making.CopiedBlocks.{IsCopying, next_copied, next_fits, none_copied, source_stays}
 use Rattle.strm_mblk.proofs.layout.Places.{nodes_room}
-use Rattle.strm_mblk.proofs.layout.Rewriting.{times_at}
+use Rattle.strm_mblk.proofs.lists.Numbers.{times_at}
 use Rattle.strm_mblk.proofs.layout.Rooms.{placed-over}
-use Rattle.strm_mblk.proofs.blocks.copying.copy_blocks.Goals as goal
 use Rattle.strm_mblk.proofs.blocks.copying.copy_blocks.Goals.{In-loop-block}
+use Rattle.strm_mblk.proofs.blocks.copying.copy_blocks.Goals as goal
 
 pub loop-block-init : goal.loop-block-init
 loop-block-init c = record {
