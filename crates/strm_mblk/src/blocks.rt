@@ -1,5 +1,5 @@
 //! Message blocks by number, and the messages that they make.
-ghost use Rattle.std.specs.Prelude.{◌≡◌, ◌≢◌, ◌+◌, ◌<◌, ◌≤◌, ℕ, IfOk, IfSome, IsTrue, Some, None, is_some, length, option_map, slice_get};
+ghost use Rattle.std.specs.Prelude.{◌≡◌, ◌≢◌, ◌+◌, ◌^◌, ◌<◌, ◌≤◌, ℕ, IfOk, IfSome, IsTrue, Some, None, is_some, length, option_map, slice_get};
 ghost use Rattle.std.specs.List.{All};
 ghost use Rattle.strm_data.specs.Classes.{are_lawful, fits_a_class};
 ghost use Rattle.strm_data.specs.DataStore.{class_infos};
@@ -140,11 +140,20 @@ impl Blocks {
         ensures kept { IsKept (counted_in self.now) }
         // The places of each block of a message lie in its data block.
         ensures within { All (IsWithin self.now.store) (blocks_in self.now) }
+        // The band of each block of a message is below 256.
+        ensures bands { All (λ b. b.band < 2 ^ 8) (blocks_in self.now) }
         // Free, shelved and held message blocks are all there are, and no more than `MOST_MESSAGE_BLOCKS`.
         ensures few { length self.now.held ≤ most_message_blocks }
         ensures whole { (census_of self.now).free + (census_of self.now).queued + (census_of self.now).held ≡ length self.now.held }
     {
         let _ = &self.chains;
+    }
+
+    /// The data blocks, lent to look at: their counts are how many blocks of messages name each. Nothing changes.
+    pub fn data(&self) -> &Data
+        ensures { result.now ≡ counted_in self.now }
+    {
+        &self.data
     }
 
     /// Whether the token carries this id and a held message has its head and its number of blocks. Nothing changes.

@@ -26,7 +26,8 @@ use Rattle.strm_mblk.specs.Freeing.{freemsg, spent, with_block_freed, with_block
 use Rattle.strm_mblk.specs.Given.{Given, value_after, and_then, answer_map, answer_of, or_rejected}
 use Rattle.strm_mblk.specs.Messages.{blocks_of, divided, held_in, joined}
 use Rattle.strm_mblk.specs.Trimming.{adjmsg, bytes_asked, cut, left_over, pull, pull_asked, pulled, pulled_into, pullupmsg, run_of, used_up}
-use Rattle.strm_mblk.proofs.arena.Counts.{blocks_in_adds, count_adds}
+use Rattle.strm_mblk.proofs.lists.Additive.{count_adds}
+use Rattle.strm_mblk.proofs.arena.Counts.{blocks_in_adds}
 use Rattle.strm_mblk.proofs.arena.Moves.{held_among, out_of_held}
 
 -- ---- heads that are not among some

@@ -72,11 +72,11 @@ impl Blocks {
     // former one, which loses its name once the bytes stand in the other. The other blocks keep their bytes.
     //
     // Refused as `take` of the data blocks is; nothing changes then.
-    fn gather(&mut self, token: &Token, count: u32) -> Result<(), Refusal>
+    fn pull_front(&mut self, token: &Token, count: u32) -> Result<(), Refusal>
         requires had { IsTrue (has self.old token.now) }
         requires enough { count ≤ size_of (message_at self.old token.now.head) }
-        ensures after { self.new ≡ value_after self.old (pulling.gather token.now.head count self.old) }
-        ensures answer { result ≡ answer_of (pulling.gather token.now.head count self.old) }
+        ensures after { self.new ≡ value_after self.old (pulling.pull_front token.now.head count self.old) }
+        ensures answer { result ≡ answer_of (pulling.pull_front token.now.head count self.old) }
     {
         let head = token.head();
         let fields = self.blocks[head as usize];
@@ -182,7 +182,7 @@ impl Blocks {
         if wanted <= len {
             return Ok(());
         }
-        self.gather(token, wanted)?;
+        self.pull_front(token, wanted)?;
         self.drain(head, wanted - len, token.blocks());
         token.set_blocks(self.chains.len(head));
         Ok(())

@@ -15,8 +15,8 @@ use Rattle.strm_mblk.proofs.layout.Places.{block_some}
 use Rattle.strm_mblk.proofs.trimming.Adjmsg.{IsAdjusted, ahead, ends_small, run_adjusts}
 use Rattle.strm_mblk.proofs.reading.Summing.{nodes_small}
 use Rattle.strm_mblk.proofs.arena.Frame.{Leaves, leaves_adjmsg}
-use Rattle.strm_mblk.proofs.blocks.Blocks.adjmsg.Goals as goal
 use Rattle.strm_mblk.proofs.blocks.Blocks.adjmsg.Goals.{After-cut, After-self-1}
+use Rattle.strm_mblk.proofs.blocks.Blocks.adjmsg.Goals as goal
 
 pub run_in-run-requires-clause-small : goal.run_in-run-requires-clause-small
 run_in-run-requires-clause-small c =

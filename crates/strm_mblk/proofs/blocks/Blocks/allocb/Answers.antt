@@ -10,8 +10,8 @@ use Rattle.strm_mblk.proofs.making.BegunAll.{begin_room}
 use Rattle.strm_mblk.proofs.arena.Tokens.{token_had}
 use Rattle.strm_mblk.proofs.arena.Frame.{Leaves, leaves_allocb, leaves_given}
 use Rattle.strm_mblk.proofs.layout.Lawful.{parted_inside}
-use Rattle.strm_mblk.proofs.blocks.Blocks.allocb.Goals as goal
 use Rattle.strm_mblk.proofs.blocks.Blocks.allocb.Goals.{After-self-1, After-token}
+use Rattle.strm_mblk.proofs.blocks.Blocks.allocb.Goals as goal
 
 pub index_mut-requires : goal.index_mut-requires
 index_mut-requires c =

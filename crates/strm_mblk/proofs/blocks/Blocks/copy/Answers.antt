@@ -15,12 +15,12 @@ use Rattle.strm_mblk.specs.Given.{value_after, answer_map, answer_of}
 use Rattle.strm_mblk.specs.NodeLists.{nodes_at}
 use Rattle.strm_mblk.proofs.making.BegunBeside.{IsBeside, beside}
 use Rattle.strm_mblk.proofs.making.CopiedMessage.{IsCopied, copied_all}
-use Rattle.strm_mblk.proofs.arena.Heads.{of_blocks, few_free_copied, taken_many}
+use Rattle.strm_mblk.proofs.arena.Heads.{few_free_copied, of_blocks, taken_many}
 use Rattle.strm_mblk.proofs.arena.Tokens.{token_had}
 use Rattle.strm_mblk.proofs.arena.Frame.{Leaves, leaves_copied, leaves_given}
 use Rattle.strm_mblk.proofs.layout.Lawful.{parted_inside}
-use Rattle.strm_mblk.proofs.blocks.Blocks.copy.Goals as goal
 use Rattle.strm_mblk.proofs.blocks.Blocks.copy.Goals.{After-begin_all-head, After-copy_blocks, After-free_len, After-token}
+use Rattle.strm_mblk.proofs.blocks.Blocks.copy.Goals as goal
 
 module _ (c : After-begin_all-head) where
   had : has (arena_in c.self.inside) c.args.token.now ≡ true

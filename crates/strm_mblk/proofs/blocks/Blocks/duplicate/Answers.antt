@@ -14,12 +14,12 @@ use Rattle.strm_mblk.specs.Given.{value_after, answer_map, answer_of}
 use Rattle.strm_mblk.specs.NodeLists.{nodes_at}
 use Rattle.strm_mblk.proofs.making.BegunBeside.{IsBeside, beside}
 use Rattle.strm_mblk.proofs.making.Duplicated.{IsDuplicated, duplicates, refused, used}
-use Rattle.strm_mblk.proofs.arena.Heads.{of_blocks, few_free_duplicated, taken_many}
+use Rattle.strm_mblk.proofs.arena.Heads.{few_free_duplicated, of_blocks, taken_many}
 use Rattle.strm_mblk.proofs.arena.Tokens.{token_had}
 use Rattle.strm_mblk.proofs.arena.Frame.{Leaves, leaves_duplicated, leaves_given}
 use Rattle.strm_mblk.proofs.layout.Lawful.{parted_inside}
+use Rattle.strm_mblk.proofs.blocks.Blocks.duplicate.Goals.{After-copy_fields, After-deref, After-deref_mut, After-free_len, After-token, Then-not-give_names}
 use Rattle.strm_mblk.proofs.blocks.Blocks.duplicate.Goals as goal
-use Rattle.strm_mblk.proofs.blocks.Blocks.duplicate.Goals.{After-copy_fields, After-deref, After-deref_mut, Then-not-give_names, After-free_len, After-token}
 
 module _ (c : After-deref) where
   had : has (arena_in c.self.inside) c.args.token.now ≡ true

@@ -8,9 +8,9 @@ use Rattle.strm_mblk.specs.Freeing.{spent}
 use Rattle.strm_mblk.proofs.arena.Heads.{IsOneFreed, frees_one}
 use Rattle.strm_mblk.proofs.arena.Tokens.{had_message}
 use Rattle.strm_mblk.proofs.arena.Frame.{Leaves, leaves_freeb, spent_gone}
+use Rattle.strm_mblk.proofs.blocks.Blocks.freeb.Goals.{After-freemsg}
 use Rattle.strm_mblk.specs.Frame.{head_given}
 use Rattle.strm_mblk.proofs.blocks.Blocks.freeb.Goals as goal
-use Rattle.strm_mblk.proofs.blocks.Blocks.freeb.Goals.{After-freemsg}
 
 is_freed : (c : After-freemsg) → IsOneFreed c.args.self.now c.lawful.ensures.parted c.args.token.head c.unlinkb-rest.new.token (message_at c.args.self.now c.args.token.head)
 is_freed c =

@@ -8,10 +8,12 @@ use Rattle.strm_mblk.specs.BlocksLayout.{arena_of, named_by, with_names_dropped}
 use Rattle.strm_mblk.specs.Freeing.{spent}
 use Rattle.strm_mblk.specs.Messages.{held_in}
 use Rattle.strm_mblk.specs.NodeLists.{nodes_at}
-use Rattle.strm_mblk.proofs.freeing.Freemsg.{IsFreed, enough, frees, spent_had, token_held, token_named}
+use Rattle.strm_mblk.proofs.arena.Tokens.{spent_had}
+use Rattle.strm_mblk.proofs.layout.Places.{token_held, token_named}
+use Rattle.strm_mblk.proofs.freeing.Freemsg.{IsFreed, enough, frees}
 use Rattle.strm_mblk.proofs.arena.Frame.{Leaves, leaves_spent}
-use Rattle.strm_mblk.proofs.blocks.Blocks.freemsg.Goals as goal
 use Rattle.strm_mblk.proofs.blocks.Blocks.freemsg.Goals.{After-free, After-spend-token}
+use Rattle.strm_mblk.proofs.blocks.Blocks.freemsg.Goals as goal
 
 module _ (c : After-spend-token) (had : c.has-has.result ≡ true) where
   held : held_in c.self.inside.chains.held c.spend-token.result.head ≡ Some (nodes_at c.self.inside.chains c.spend-token.result.head)

@@ -6,8 +6,8 @@ use Rattle.strm_mblk.specs.Messages.{joined}
 use Rattle.strm_mblk.specs.NodeLists.{NodeLists}
 use Rattle.strm_mblk.proofs.joining.Linkb.{IsJoined, joins}
 use Rattle.strm_mblk.proofs.arena.Frame.{Leaves, leaves_linkb}
-use Rattle.strm_mblk.proofs.blocks.Blocks.linkb.Goals as goal
 use Rattle.strm_mblk.proofs.blocks.Blocks.linkb.Goals.{After-set_blocks}
+use Rattle.strm_mblk.proofs.blocks.Blocks.linkb.Goals as goal
 
 is_joined : (c : After-set_blocks) → IsJoined c.args.self.now c.self.inside.data c.self.inside.blocks.items c.join.new.self c.self.inside.id c.args.token.now.head c.args.tail.head
 is_joined c =

@@ -11,13 +11,13 @@ use Rattle.strm_mblk.specs.Given.{Given, value_after, answer_map, answer_of, or_
 use Rattle.strm_mblk.specs.Messages.{blocks_of}
 use Rattle.strm_mblk.specs.NodeLists.{nodes_at}
 use Rattle.strm_mblk.proofs.arena.Heads.{rmvb_first}
-use Rattle.strm_mblk.proofs.freeing.Freemsg.{token_nodes}
+use Rattle.strm_mblk.proofs.layout.Places.{token_nodes}
 use Rattle.strm_mblk.proofs.joining.TakenOut.{IsTakenOut, is_taken_out, refused_answer}
 use Rattle.strm_mblk.proofs.arena.Tokens.{had_message, token_had}
 use Rattle.strm_mblk.proofs.arena.Frame.{Leaves, leaves_rmvb}
+use Rattle.strm_mblk.proofs.blocks.Blocks.rmvb.Goals.{After-take_out-node, After-token-2, After-unlinkb-rest, Then-place-blocks}
 use Rattle.strm_mblk.specs.Frame.{heads_parted}
 use Rattle.strm_mblk.proofs.blocks.Blocks.rmvb.Goals as goal
-use Rattle.strm_mblk.proofs.blocks.Blocks.rmvb.Goals.{After-take_out-node, After-unlinkb-rest, Then-place-blocks, After-token-2}
 
 -- ---- block 0
 

@@ -10,13 +10,13 @@ use Rattle.strm_mblk.specs.BlockCalls.{settype}
 use Rattle.strm_mblk.specs.BlocksLayout.{arena_of, block_at, fields_at, no_fields}
 use Rattle.strm_mblk.specs.Given.{value_after, answer_of}
 use Rattle.strm_mblk.specs.NodeLists.{nodes_at}
-use Rattle.strm_mblk.proofs.altering.Alteration.{settype_none, settype_shared, settype_done}
+use Rattle.strm_mblk.proofs.altering.Alteration.{settype_done, settype_none, settype_shared}
 use Rattle.strm_mblk.proofs.layout.Places.{IsAt, block_none, block_some}
 use Rattle.strm_mblk.proofs.layout.Rooms.{HasRooms, filled-over, rooms-kind}
 use Rattle.strm_mblk.proofs.arena.Frame.{Leaves, leaves_settype}
 use Rattle.strm_mblk.proofs.arena.Tokens.{had_message}
-use Rattle.strm_mblk.proofs.blocks.Blocks.settype.Goals as goal
 use Rattle.strm_mblk.proofs.blocks.Blocks.settype.Goals.{After-count, After-set_kind, In_default}
+use Rattle.strm_mblk.proofs.blocks.Blocks.settype.Goals as goal
 
 none : (c : In_default) → slice_get (message_at c.args.self.now c.args.token.now.head) c.args.place ≡ None
 none c =

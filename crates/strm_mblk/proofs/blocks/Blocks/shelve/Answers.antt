@@ -2,7 +2,7 @@ use Rattle.std.proofs.Common.{[], ◌∷◌, ◌≡◌, ◌<◌, ap, refl, subst
 use Rattle.strm_links.specs.Rows.{has}
 use Rattle.strm_mblk.specs.declared.token.TokenValue.{TokenValue}
 use Rattle.strm_mblk.specs.Arena as arena
-use Rattle.strm_mblk.specs.Arena.{Arena, held_at, shelved_blocks}
+use Rattle.strm_mblk.specs.Arena.{Arena, held_at}
 use Rattle.strm_mblk.specs.Block.{Message}
 use Rattle.strm_mblk.specs.BlocksLayout.{arena_in, arena_of}
 use Rattle.strm_mblk.specs.Frame.{LeavesOthers}
@@ -10,8 +10,8 @@ use Rattle.strm_mblk.specs.Shelves.{heads_at, shelve}
 use Rattle.strm_mblk.proofs.shelving.Shelving.{heads_at-seen, shelve_filled, shelve_queued, shelve_shows, shelving_room}
 use Rattle.strm_mblk.proofs.arena.Tokens.{IsHad, had_message}
 use Rattle.strm_mblk.proofs.arena.Frame.{none_at, others_one}
-use Rattle.strm_mblk.proofs.blocks.Blocks.shelve.Goals as goal
 use Rattle.strm_mblk.proofs.blocks.Blocks.shelve.Goals.{After-len, After-shelve}
+use Rattle.strm_mblk.proofs.blocks.Blocks.shelve.Goals as goal
 
 had : (c : After-len) → (m : Message) × IsHad (arena_in c.self.inside) c.spend-head.result m
 had c = had_message (arena_in c.self.inside) c.spend-head.result (ap (λ (t : TokenValue). arena.has (arena_in c.self.inside) t) c.spend-head.ensures ∙ ap (λ a. arena.has a c.args.token) c.self.view_is ∙ c.requires.had)

@@ -6,13 +6,13 @@ use Rattle.strm_mblk.specs.BlockCalls.{unlinkb}
 use Rattle.strm_mblk.specs.BlocksLayout.{arena_of}
 use Rattle.strm_mblk.specs.Messages.{blocks_of, divided}
 use Rattle.strm_mblk.specs.NodeLists.{NodeLists, nodes_at}
-use Rattle.strm_mblk.proofs.freeing.Freemsg.{token_held}
+use Rattle.strm_mblk.proofs.layout.Places.{token_held}
 use Rattle.strm_mblk.proofs.arena.Tokens.{had_message, token_had}
 use Rattle.strm_mblk.proofs.joining.Unlinkb.{IsDivided, divides, token_is}
 use Rattle.strm_mblk.proofs.arena.Frame.{Leaves, leaves_unlinkb}
+use Rattle.strm_mblk.proofs.blocks.Blocks.unlinkb.Goals.{After-set_blocks, After-token}
 use Rattle.strm_mblk.specs.Frame.{head_given}
 use Rattle.strm_mblk.proofs.blocks.Blocks.unlinkb.Goals as goal
-use Rattle.strm_mblk.proofs.blocks.Blocks.unlinkb.Goals.{After-set_blocks, After-token}
 
 is_divided : (c : After-set_blocks) → IsDivided c.args.self.now c.self.inside.data c.self.inside.blocks.items c.divide.new.self c.self.inside.id c.args.token.now.head c.in_ok-rest.rest
 is_divided c =

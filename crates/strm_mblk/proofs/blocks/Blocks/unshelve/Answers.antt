@@ -2,7 +2,7 @@ use Rattle.std.proofs.Common.{[], ◌∷◌, ◌≡◌, ap, refl, subst, sym, tr
 use Rattle.std.specs.Prelude.{is_some}
 use Rattle.strm_links.specs.Rows.{has}
 use Rattle.strm_mblk.specs.Arena as arena
-use Rattle.strm_mblk.specs.Arena.{Arena, held_at, shelved_blocks}
+use Rattle.strm_mblk.specs.Arena.{Arena, shelved_blocks}
 use Rattle.strm_mblk.specs.BlocksLayout.{arena_in, arena_of}
 use Rattle.strm_mblk.specs.Frame.{LeavesOthers}
 use Rattle.strm_mblk.specs.Shelves.{heads_at, unshelve}
@@ -10,8 +10,8 @@ use Rattle.strm_mblk.proofs.layout.Rewriting.{held_nodes}
 use Rattle.strm_mblk.proofs.shelving.Shelving.{IsUnshelved, heads_at-seen, unshelves}
 use Rattle.strm_mblk.proofs.arena.Tokens.{token_had}
 use Rattle.strm_mblk.proofs.arena.Frame.{others_one}
-use Rattle.strm_mblk.proofs.blocks.Blocks.unshelve.Goals as goal
 use Rattle.strm_mblk.proofs.blocks.Blocks.unshelve.Goals.{After-from, After-unshelve}
+use Rattle.strm_mblk.proofs.blocks.Blocks.unshelve.Goals as goal
 
 -- the message stands on the shelf
 there : (c : After-from) → has c.args.head (heads_at (arena_in c.self.inside) c.from.result) ≡ true

@@ -10,13 +10,13 @@ use Rattle.strm_mblk.specs.BlockCalls.{write}
 use Rattle.strm_mblk.specs.BlocksLayout.{arena_of, arena_in, block_at, fields_at, no_fields}
 use Rattle.strm_mblk.specs.Given.{value_after, answer_of}
 use Rattle.strm_mblk.specs.NodeLists.{nodes_at}
-use Rattle.strm_mblk.proofs.altering.Alteration.{write_none, write_shared, write_full}
+use Rattle.strm_mblk.proofs.altering.Alteration.{write_full, write_none, write_shared}
 use Rattle.strm_mblk.proofs.layout.Places.{IsAt, block_none, block_some}
 use Rattle.strm_mblk.proofs.altering.Writing.{IsWritten, writes}
 use Rattle.strm_mblk.proofs.arena.Frame.{Leaves, leaves_write}
 use Rattle.strm_mblk.proofs.arena.Tokens.{had_message}
-use Rattle.strm_mblk.proofs.blocks.Blocks.write.Goals as goal
 use Rattle.strm_mblk.proofs.blocks.Blocks.write.Goals.{After-count, After-self-1, In_default}
+use Rattle.strm_mblk.proofs.blocks.Blocks.write.Goals as goal
 
 none : (c : In_default) → slice_get (message_at c.args.self.now c.args.token.now.head) c.args.place ≡ None
 none c =

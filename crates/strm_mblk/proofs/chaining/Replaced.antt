@@ -11,12 +11,10 @@ use Rattle.strm_links.proofs.OneList.{absent_both}
 use Rattle.strm_data.specs.DataStore.{times}
 use Rattle.strm_mblk.specs.ChainLayout.{nodes_of, IsChained}
 use Rattle.strm_mblk.specs.NodeLists.{NodeLists, after_begin, after_second_freed, nodes_at}
-use Rattle.strm_mblk.proofs.layout.Linked.{not_begun, not_head}
-use Rattle.strm_mblk.proofs.layout.Rewriting.{times_at}
-use Rattle.strm_mblk.proofs.altering.Setband.{at_first}
-use Rattle.strm_mblk.proofs.making.BegunLists.{free_unheld}
-use Rattle.strm_mblk.proofs.links.Parted.{alone, alone_parted}
-use Rattle.strm_mblk.proofs.links.Seen.{held_off, but_set, map_members, unlinked}
+use Rattle.strm_mblk.proofs.chaining.Standing.{free_unheld, not_begun, not_head}
+use Rattle.strm_mblk.proofs.lists.Numbers.{at_first, times_at}
+use Rattle.strm_mblk.proofs.chaining.Parted.{alone, alone_parted}
+use Rattle.strm_mblk.proofs.chaining.Seen.{but_set, held_off, map_members, unlinked}
 
 -- a list that is there
 pub there : (o : Option (List ℕ)) → IsSome o → o ≡ Some (items_of o)

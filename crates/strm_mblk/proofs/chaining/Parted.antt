@@ -12,10 +12,10 @@ use Rattle.strm_data.proofs.Times.{times-append}
 use Rattle.strm_mblk.specs.ChainLayout.{nodes_of, strands_but, IsChained}
 use Rattle.strm_mblk.specs.Messages.{blocks_of, blocks_on, blocks_held, held_in}
 use Rattle.strm_mblk.specs.NodeLists.{IsNodesParted, NodeLists}
-use Rattle.strm_mblk.proofs.arena.Counts.{count_adds, flat_map-set_adds}
-use Rattle.strm_mblk.proofs.layout.Rewriting.{nonempty}
-use Rattle.strm_mblk.proofs.links.Seen.{held_off, held_on, length-held, shelf-get}
-use Rattle.strm_mblk.proofs.links.Readings.{begins, on_list}
+use Rattle.strm_mblk.proofs.lists.Additive.{count_adds, flat_map-set_adds}
+use Rattle.strm_mblk.proofs.lists.Numbers.{nonempty}
+use Rattle.strm_mblk.proofs.chaining.Seen.{held_off, held_on, length-held, shelf-get}
+use Rattle.strm_mblk.proofs.chaining.Readings.{begins, on_list}
 
 -- strands alone, where no head stands on a shelf
 abbrev pub alone : StrandLists → NodeLists

@@ -15,14 +15,16 @@ use Rattle.strm_mblk.specs.BlocksLayout.{IsFilled, IsPlaced, arena_of, block_at,
 use Rattle.strm_mblk.specs.Freeing.{with_name_dropped}
 use Rattle.strm_mblk.specs.Messages.{blocks_of}
 use Rattle.strm_mblk.specs.NodeLists.{NodeLists, nodes_at}
-use Rattle.strm_mblk.specs.Pulling.{gathered, over_data, with_front_copied, with_message}
+use Rattle.strm_mblk.specs.Pulling.{front_pulled, over_data, with_front_copied, with_message}
 use Rattle.strm_mblk.specs.Trimming.{pulled_into}
-use Rattle.strm_mblk.proofs.making.Begun.{first_rest}
-use Rattle.strm_mblk.proofs.arena.Counts.{count_adds, held_moves}
+use Rattle.strm_mblk.proofs.lists.Numbers.{first_rest}
+use Rattle.strm_mblk.proofs.lists.Additive.{count_adds}
+use Rattle.strm_mblk.proofs.arena.Counts.{held_moves}
 use Rattle.strm_mblk.proofs.freeing.Dropping.{last_one, named_less, rooms-less}
 use Rattle.strm_mblk.proofs.freeing.Freemsg.{enough}
 use Rattle.strm_mblk.proofs.arena.Moves.{held_within}
-use Rattle.strm_mblk.proofs.layout.Rewriting.{begins_with, written_shows}
+use Rattle.strm_mblk.proofs.chaining.Standing.{begins_with}
+use Rattle.strm_mblk.proofs.layout.Rewriting.{written_shows}
 use Rattle.strm_mblk.proofs.layout.Rooms.{HasRooms, count_of-set, placed-set, rooms-both, rooms-kind, rooms-taken}
 use Rattle.strm_mblk.proofs.pulling.SecondTaken.{IsHeldHead}
 use Rattle.strm_mblk.proofs.layout.Shown.{held_at-seen, message_at-seen}
@@ -36,9 +38,9 @@ rooms-pulled s n b bs d room =
     rooms-both typed (rooms-written (with_kind d (kind_of s b) (with_data_taken d s)) d 0 (take n (bytes_of s (b ∷ bs))) (omega (arith, room, typed.room d, length-take n (bytes_of s (b ∷ bs)))))
 
 -- what the first block names is another data block: `a` is what was there
-pub record IsGathered (a : Arena) (t : CountedStore) (fields : List Fields) (v : NodeLists) (id h d n : ℕ) : Type 0 where
+pub record IsFrontPulled (a : Arena) (t : CountedStore) (fields : List Fields) (v : NodeLists) (id h d n : ℕ) : Type 0 where
   pub filled : IsFilled t fields v (arena_of id t.store fields v)
-  pub after : arena_of id t.store fields v ≡ gathered h n (message_at a h) a d
+  pub after : arena_of id t.store fields v ≡ front_pulled h n (message_at a h) a d
   pub shelved : shelved_blocks (arena_of id t.store fields v) ≡ shelved_blocks a
 
 module _ (id : ℕ) (s : CountedStore) (fields : List Fields) (v : NodeLists) (filled : IsFilled s fields v (arena_of id s.store fields v)) (h : ℕ) (is : IsHeldHead fields v h) where
@@ -158,10 +160,10 @@ module _ (id : ℕ) (s : CountedStore) (fields : List Fields) (v : NodeLists) (f
       rooms = subst (HasRooms s.store) (sym (ap (λ (c : CountedStore). c.store) t_is)) (rooms-both rooms_u (rooms-less u was.data_number))
 
       placed : IsPlaced t.store x
-      placed = subst (IsPlaced t.store) (sym x_is) (record { there = omega (arith, fresh.there, rooms.many); within = omega (arith, room, rooms.room d) })
+      placed = subst (IsPlaced t.store) (sym x_is) (record { there = omega (arith, fresh.there, rooms.many); within = omega (arith, room, rooms.room d); banded = (filled.placed h is.there).banded })
 
-      pub gathers : IsGathered old t now v id h d n
-      gathers = record {
+      pub pulls_front : IsFrontPulled old t now v id h d n
+      pulls_front = record {
         filled = record {
           kept = kept;
           parted = filled.parted;
@@ -170,6 +172,6 @@ module _ (id : ℕ) (s : CountedStore) (fields : List Fields) (v : NodeLists) (f
           placed = placed-set s.store t.store fields h x rooms placed filled.placed;
           counts = λ k. counted_now k ∙ ap (λ a. names_of a k) (sym shows);
         };
-        after = shows ∙ ap (λ w. record named { store = w }) store_is ∙ ap (λ m. gathered h n m old d) (sym message_is);
+        after = shows ∙ ap (λ w. record named { store = w }) store_is ∙ ap (λ m. front_pulled h n m old d) (sym message_is);
         shelved = ap shelved_blocks shows;
       }

@@ -14,7 +14,7 @@ use Rattle.strm_links.proofs.AllLists.{has-holder}
 use Rattle.strm_mblk.specs.ChainLayout.{IsChained, nodes_of}
 use Rattle.strm_mblk.specs.Messages.{shelf_in}
 use Rattle.strm_mblk.specs.NodeLists.{NodeLists, head_node, heads_on, nodes_at, shelved_nodes}
-use Rattle.strm_mblk.proofs.links.Seen.{held_off, held_on, length-held, length-shelves, off_shelf, shelf-get}
+use Rattle.strm_mblk.proofs.chaining.Seen.{held_off, held_on, length-held, length-shelves, off_shelf, shelf-get}
 
 -- a list in which something stands is there
 there_is : (o : Option (List ℕ)) (i x : ℕ) → slice_get (items_of o) i ≡ Some x → IsSome o

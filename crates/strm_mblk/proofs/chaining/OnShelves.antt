@@ -11,7 +11,7 @@ use Rattle.strm_links.proofs.OneList.{has_head, has_tail, has_cases}
 use Rattle.strm_mblk.specs.ChainLayout.{nodes_of, put_in, IsChained}
 use Rattle.strm_mblk.specs.Messages.{put_before_head, with_head, without_head}
 use Rattle.strm_mblk.specs.NodeLists.{NodeLists, head_node}
-use Rattle.strm_mblk.proofs.links.Seen.{held_as, held_off, held_on, length-held}
+use Rattle.strm_mblk.proofs.chaining.Seen.{held_as, held_off, held_on, length-held}
 
 -- ---- a row of messages that begin with the numbers of a row
 

@@ -9,17 +9,17 @@ use Rattle.strm_mblk.specs.Block.{bytes_of, kind_of}
 use Rattle.strm_mblk.specs.BlocksLayout.{arena_in, block_at, fields_at, message_of, named_by, no_fields}
 use Rattle.strm_mblk.specs.Given.{value_after, answer_map}
 use Rattle.strm_mblk.specs.NodeLists.{nodes_at}
-use Rattle.strm_mblk.specs.Pulling.{gather, gathered, with_front_copied}
+use Rattle.strm_mblk.specs.Pulling.{pull_front, front_pulled, with_front_copied}
 use Rattle.strm_mblk.specs.Trimming.{pulled_into}
 use Rattle.strm_mblk.proofs.reading.Bytes.{length-message}
 use Rattle.strm_mblk.proofs.freeing.Freemsg.{enough}
-use Rattle.strm_mblk.proofs.pulling.Gathered.{IsGathered, gathers, pulled_is, still_there, still_used}
+use Rattle.strm_mblk.proofs.pulling.FrontPulled.{IsFrontPulled, pulls_front, pulled_is, still_there, still_used}
 use Rattle.strm_mblk.proofs.pulling.SecondTaken.{IsHeldHead, seen_head}
 use Rattle.strm_mblk.proofs.layout.Shown.{message_at-seen}
 use Rattle.strm_mblk.proofs.arena.Tokens.{had_message}
 use Rattle.strm_mblk.proofs.layout.Unaltered.{bytes-message, bytes-typed}
-use Rattle.strm_mblk.proofs.blocks.Blocks.gather.Goals as goal
-use Rattle.strm_mblk.proofs.blocks.Blocks.gather.Goals.{After-drop_name, After-index-fields, After-copy_front, After-set_kind}
+use Rattle.strm_mblk.proofs.blocks.Blocks.pull_front.Goals.{After-copy_front, After-drop_name, After-index-fields, After-set_kind}
+use Rattle.strm_mblk.proofs.blocks.Blocks.pull_front.Goals as goal
 
 module _ (c : After-index-fields) where
   head : IsHeldHead c.self.inside.blocks.items c.self.inside.chains c.args.token.now.head
@@ -125,16 +125,16 @@ drop_name-requires-clause-used c =
 abbrev new_fields : After-drop_name → Fields
 new_fields c = record { data_number = c.in_ok-data_number.data_number; offset = 0; len = c.args.count; band = c.index-fields.result.now.band }
 
-is_gathered : (c : After-drop_name)
-    → IsGathered c.args.self.now c.drop_name.new.self (set c.self.inside.blocks.items c.head-head.result (new_fields c)) c.self.inside.chains c.self.inside.id c.args.token.now.head c.in_ok-data_number.data_number c.args.count
-is_gathered c =
+is_front_pulled : (c : After-drop_name)
+    → IsFrontPulled c.args.self.now c.drop_name.new.self (set c.self.inside.blocks.items c.head-head.result (new_fields c)) c.self.inside.chains c.self.inside.id c.args.token.now.head c.in_ok-data_number.data_number c.args.count
+is_front_pulled c =
     let before = (goal.at.invariant_of-self-2 c).After-index-fields in
     let typed_now = (goal.at.invariant_of-self-2 c).After-set_kind in
     let d = c.in_ok-data_number.data_number in
     let h = c.args.token.now.head in
-    subst (λ a. IsGathered a c.drop_name.new.self (set c.self.inside.blocks.items c.head-head.result (new_fields c)) c.self.inside.chains c.self.inside.id h d c.args.count) c.self.view_is
-    (subst (λ k. IsGathered (arena_in c.self.inside) c.drop_name.new.self (set c.self.inside.blocks.items k (new_fields c)) c.self.inside.chains c.self.inside.id h d c.args.count) (sym c.head-head.ensures)
-    (gathers c.self.inside.id c.self.inside.data c.self.inside.blocks.items c.self.inside.chains c.self.invariant.filled h (head before)
+    subst (λ a. IsFrontPulled a c.drop_name.new.self (set c.self.inside.blocks.items c.head-head.result (new_fields c)) c.self.inside.chains c.self.inside.id h d c.args.count) c.self.view_is
+    (subst (λ k. IsFrontPulled (arena_in c.self.inside) c.drop_name.new.self (set c.self.inside.blocks.items k (new_fields c)) c.self.inside.chains c.self.inside.id h d c.args.count) (sym c.head-head.ensures)
+    (pulls_front c.self.inside.id c.self.inside.data c.self.inside.blocks.items c.self.inside.chains c.self.invariant.filled h (head before)
     c.args.count d c.in_ok-data_number.ensures.unused c.in_ok-data_number.ensures.room c.copy_front.new.stored
     (copied (goal.at.invariant_of-self-2 c).After-copy_front (head before) (kind_is typed_now (read before)) (typed typed_now))
     c.drop_name.new.self (new_fields c) c.drop_name.ensures.kept
@@ -143,17 +143,17 @@ is_gathered c =
 
 pub invariant_of-self-2 : goal.invariant_of-self-2
 invariant_of-self-2 c =
-    let is = is_gathered c in
+    let is = is_front_pulled c in
     record { filled = is.filled; queued = c.self.invariant.queued ∙ ap (λ a. length (shelved_blocks a)) c.self.view_is ∙ ap length (sym is.shelved) }
 
 -- what the model gives
-value : (c : After-drop_name) → gather c.args.token.now.head c.args.count c.args.self.now
-    ≡ Ok (tt, gathered c.args.token.now.head c.args.count (message_at c.args.self.now c.args.token.now.head) c.args.self.now c.in_ok-data_number.data_number)
+value : (c : After-drop_name) → pull_front c.args.token.now.head c.args.count c.args.self.now
+    ≡ Ok (tt, front_pulled c.args.token.now.head c.args.count (message_at c.args.self.now c.args.token.now.head) c.args.self.now c.in_ok-data_number.data_number)
 value c =
-    ap (answer_map (λ d. (tt, gathered c.args.token.now.head c.args.count (message_at c.args.self.now c.args.token.now.head) c.args.self.now d)))
+    ap (answer_map (λ d. (tt, front_pulled c.args.token.now.head c.args.count (message_at c.args.self.now c.args.token.now.head) c.args.self.now d)))
     (ap (λ (a : Arena). take_data c.args.count a.store) (sym c.self.view_is) ∙ sym c.take.ensures.answer ∙ c.in_ok-data_number.was)
 
 pub returns-clause-after : goal.returns-clause-after
 returns-clause-after c =
     let d = (goal.at.returns-clause-after c).After-drop_name in
-    (is_gathered d).after ∙ sym (ap (value_after c.args.self.now) (value d))
+    (is_front_pulled d).after ∙ sym (ap (value_after c.args.self.now) (value d))
