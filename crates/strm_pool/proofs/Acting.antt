@@ -1,6 +1,6 @@
 -- What each arm of a call on registers shows, by its shape and the clauses of the call that it makes.
 use Rattle.std.proofs.Common.{◌≡◌, ℕ, zero, suc, ◌<◌, true, false, List, [], ◌∷◌, length, set, Option, Some, None, Result, Ok, Err, refl, sym, ap, ◌∙◌, subst}
-use Rattle.std.specs.Prelude.{IfOk, option_map}
+use Rattle.std.specs.Prelude.{IfOk, MatchResult, option_map}
 use Rattle.std.proofs.lemmas.Bool.{and_from, and_parts}
 use Rattle.std.proofs.lemmas.List.{set-set}
 use Rattle.std.specs.Option.{option_map_or}
@@ -11,7 +11,6 @@ use Rattle.strm_mblk.specs.declared.token.TokenValue.{TokenValue}
 use Rattle.strm_mblk.specs.Arena.{Arena, has, held_at, token_of}
 use Rattle.strm_mblk.specs.Frame.{LeavesOthers, head_answered, head_given}
 use Rattle.strm_mblk.specs.Given.{Given, answer_map, answer_of, or_rejected, value_after}
-use Rattle.strm_queue.specs.QueueCalls.{getq, rmvq}
 use Rattle.strm_queue.specs.QueuedBlocks.{QueuedBlocks}
 use Rattle.strm_pool.specs.declared.call.Call.{Call}
 use Rattle.strm_pool.specs.declared.reply.Reply.{Reply}
@@ -21,8 +20,11 @@ use Rattle.strm_pool.specs.Registers.{register, table_of}
 use Rattle.strm_pool.specs.Shapes.{IsReady, Settled, given_to, rejected_to, reply_done, reply_made}
 use Rattle.strm_pool.specs.Step.{Applies, act, answers, doing, gives, head_held, keeps, spends}
 use Rattle.strm_pool.proofs.OnParts.{arena_answer, queues_after, queues_answer}
-use Rattle.strm_pool.proofs.Queued.{IsPutAway, LeavesHeld, all_stays, getq_none, getq_some, held_left, rmvq_left}
 use Rattle.strm_pool.proofs.Shaped.{IsNaming, err_not_ok, gives_beside, head_is, keeps_one, put_back, same_ok, same_some, spends_one, tells}
+
+-- a call that leaves the arena leaves all messages
+pub all_stays : {a b : Arena} → b ≡ a → LeavesOthers [] a b
+all_stays {a} same = subst (LeavesOthers [] a) (sym same) (record { id = refl; size = refl; held = λ h none. refl })
 
 -- a pool owns registers that hold a token less
 pub owns_less : (v : PoolValue) (rs : List (Option TokenValue)) (x : ℕ) → owns v rs ≡ true → owns v (set rs x None) ≡ true
@@ -46,7 +48,7 @@ module _ {v w : PoolValue} {rs : List (Option TokenValue)} {call other : Call} (
   copies f x y {t} {given} named was acts pool token source had unheld others is =
       subst (λ (p : Settled). Applies v rs call w p.0 p.1) (sym is)
       (gives_beside called ready x y named was (on_arena v (f t.head)) given (acts ∙ ap (λ h. doing v (table_of rs) (gives y) (on_arena v (f h))) (head_is rs x t was)) pool
-      (token ∙ ap (answer_map (token_of w.arena)) (sym (arena_answer v (f t.head)))) source had unheld (held_left others))
+      (token ∙ ap (answer_map (token_of w.arena)) (sym (arena_answer v (f t.head)))) source had unheld others)
 
   -- the message of a register changes, and its token may tell of another number of blocks
   pub alters : (f : ℕ → Given Arena (Unit {0})) (x : ℕ) {t : TokenValue} (s : TokenValue) {done : Result (Unit {0}) Refusal} {ss : List (Option TokenValue)} {reply : Reply} → x ∷ [] ≡ registers_in (names_of other) → register rs x ≡ Some t
@@ -56,7 +58,7 @@ module _ {v w : PoolValue} {rs : List (Option TokenValue)} {call other : Call} (
   alters f x {t} s {done} {ss} {reply} named was head acts pool answer had others now is =
       subst (λ l. Applies v rs call w l reply) (sym now)
       (subst (Applies v rs call w (set rs x (Some s))) (sym is)
-      (keeps_one called ready x s named was head had (held_left others) (on_arena v (f t.head))
+      (keeps_one called ready x s named was head had others (on_arena v (f t.head))
       (acts ∙ ap (λ h. doing v (table_of rs) keeps (on_arena v (f h))) (head_is rs x t was)) pool (answer ∙ sym (arena_answer v (f t.head)))))
 
   -- the token stays as it was
@@ -68,28 +70,15 @@ module _ {v w : PoolValue} {rs : List (Option TokenValue)} {call other : Call} (
   -- the message of a register goes on a queue
   pub puts : (f : ℕ → Given QueuedBlocks (Unit {0})) (x : ℕ) {t : TokenValue} {done : Result (Unit {0}) Rejected} {settled : Settled} {ss : List (Option TokenValue)} → x ∷ [] ≡ registers_in (names_of other)
       → register rs x ≡ Some t → ss ≡ set rs x None → act v (table_of rs) other ≡ doing v (table_of rs) (spends x) (on_queues v (f (head_held (table_of rs) x)))
-      → w ≡ value_after v (on_queues v (f t.head)) → done ≡ or_rejected t (answer_of (f t.head)) → ((u : QueuedBlocks) → f t.head ≡ Ok (tt, u) → IsPutAway (queued v) u t.head)
-      → settled ≡ rejected_to x done ss → Applies v rs call w settled.0 settled.1
-  puts f x {t} {done} named was empty acts pool answer left is =
-      subst (λ (p : Settled). Applies v rs call w p.0 p.1) (sym (is ∙ ap (rejected_to x done) empty))
-      (spends_one called ready x (on_queues v (f t.head)) named was (acts ∙ ap (λ h. doing v (table_of rs) (spends x) (on_queues v (f h))) (head_is rs x t was)) pool
-      (queues_answer v (f t.head)) answer (each (f t.head) left pool answer done refl))
+      → w ≡ value_after v (on_queues v (f t.head)) → done ≡ or_rejected t (answer_of (f t.head)) → MatchResult done (λ u. held_at w.arena t.head ≡ None) (λ r. has w.arena t ≡ true)
+      → LeavesOthers (t.head ∷ []) v.arena w.arena → settled ≡ rejected_to x done ss → Applies v rs call w settled.0 settled.1
+  puts f x {t} {done} named was empty acts pool answer gone others is =
+      spends_one called ready x (on_queues v (f t.head)) named was (acts ∙ ap (λ h. doing v (table_of rs) (spends x) (on_queues v (f h))) (head_is rs x t was)) pool
+      (queues_answer v (f t.head)) answer (ok done gone) others (is ∙ ap (rejected_to x done) empty)
     where
-      each : (g : Given QueuedBlocks (Unit {0})) → ((u : QueuedBlocks) → g ≡ Ok (tt, u) → IsPutAway (queued v) u t.head) → w ≡ value_after v (on_queues v g) → done ≡ or_rejected t (answer_of g)
-          → (d : Result (Unit {0}) Rejected) → done ≡ d → IfOk d (λ u. LeavesHeld (t.head ∷ []) v.arena w.arena × (held_at w.arena t.head ≡ None))
-      each (Ok (a, u)) left after answer (Ok b) same =
-          let away = left u refl in
-          let arena : w.arena ≡ u.arena = ap (λ (p : PoolValue). p.arena) after in
-          (subst (LeavesHeld (t.head ∷ []) v.arena) (sym arena) away.left, ap (λ p. held_at p t.head) arena ∙ away.gone)
-      each (Ok (a, u)) left after answer (Err r) same = tt
-      each (Err why) left after answer (Ok b) same = absurd (let e : Ok b ≡ Err (record { why = why; token = t }) = sym same ∙ answer in cc)
-      each (Err why) left after answer (Err r) same = tt
-
-  -- a call on queues tells its answer, and all messages that are held stay
-  pub tells_queues : {X : Type 0} (made : X → Reply) (g : Given QueuedBlocks X) {answer : Result X Refusal} {reply : Reply} → [] ≡ registers_in (names_of other) → LeavesHeld [] v.arena (value_after (queued v) g).arena
-      → act v (table_of rs) other ≡ doing v (table_of rs) (answers made) (on_queues v g) → w ≡ value_after v (on_queues v g) → answer ≡ answer_of g → reply ≡ reply_made made answer → Applies v rs call w rs reply
-  tells_queues made g named left does after is told =
-      tells called ready made (on_queues v g) named (subst (LeavesHeld [] v.arena) (ap (λ (p : PoolValue). p.arena) (queues_after v g (value_after (queued v) g) refl ∙ sym after)) left) does after (is ∙ sym (queues_answer v g)) told
+      ok : (d : Result (Unit {0}) Rejected) → MatchResult d (λ u. held_at w.arena t.head ≡ None) (λ r. has w.arena t ≡ true) → IfOk d (λ u. held_at w.arena t.head ≡ None)
+      ok (Ok u) gone = gone
+      ok (Err r) had = tt
 
 -- a call on the arena answered, and so did the one on the pool
 pub on_arena_is : {X : Type 0} (v u : PoolValue) (g : Given Arena X) (x : X) → on_arena v g ≡ Ok (x, u) → g ≡ Ok (x, u.arena)
@@ -97,29 +86,3 @@ on_arena_is {X} v u (Ok given) x is =
     let both : ◌≡◌ {A = X × PoolValue} (given.0, with_arena v given.1) (x, u) = same_ok is in
     ap (λ (q : X × PoolValue). Ok (q.0, q.1.arena)) both
 on_arena_is v u (Err why) x is = absurd (err_not_ok is)
-
--- messages that come off a queue are the only ones that were not held before
-module _ (v w : PoolValue) (q : ℕ) where
-  arena_is : (u : QueuedBlocks) → w ≡ with_queued v u → w.arena ≡ u.arena
-  arena_is u is = ap (λ (p : PoolValue). p.arena) is
-
-  pub gets : (g : Given QueuedBlocks (Option ℕ)) → getq q (queued v) ≡ g → (given : Result (Option TokenValue) Refusal) → w ≡ value_after v (on_queues v g) → given ≡ answer_map (option_map (token_of w.arena)) (answer_of g)
-      → IfOk given (λ o. LeavesHeld (head_given o) v.arena w.arena)
-  gets (Ok (Some n, u)) is (Ok (Some t)) after answer =
-      subst (λ k. LeavesHeld (k ∷ []) v.arena w.arena) (sym (ap (λ (s : TokenValue). s.head) (same_some (same_ok answer))))
-      (subst (LeavesHeld (n ∷ []) v.arena) (sym (arena_is u after)) (getq_some (queued v) u q n is))
-  gets (Ok (Some n, u)) is (Ok None) after answer = absurd (let e : None ≡ Some (token_of w.arena n) = same_ok answer in cc)
-  gets (Ok (None, u)) is (Ok (Some t)) after answer = absurd (let e : Some t ≡ None = same_ok answer in cc)
-  gets (Ok (None, u)) is (Ok None) after answer = all_stays v.arena w.arena (arena_is u after ∙ getq_none (queued v) u q is)
-  gets (Ok given) is (Err why) after answer = absurd (err_not_ok answer)
-  gets (Err why) is (Ok o) after answer = absurd (err_not_ok (sym answer))
-  gets (Err why) is (Err other) after answer = tt
-
-  pub takes : (k : ℕ) (g : Given QueuedBlocks ℕ) → rmvq q k (queued v) ≡ g → (given : Result TokenValue Refusal) → w ≡ value_after v (on_queues v g) → given ≡ answer_map (token_of w.arena) (answer_of g)
-      → LeavesHeld (head_answered given) v.arena w.arena
-  takes k (Ok (n, u)) is (Ok t) after answer =
-      subst (λ h. LeavesHeld (h ∷ []) v.arena w.arena) (sym (ap (λ (s : TokenValue). s.head) (same_ok answer)))
-      (subst (LeavesHeld (n ∷ []) v.arena) (sym (arena_is u after)) (rmvq_left (queued v) u q k n is))
-  takes k (Ok given) is (Err why) after answer = absurd (err_not_ok answer)
-  takes k (Err why) is (Ok o) after answer = absurd (err_not_ok (sym answer))
-  takes k (Err why) is (Err other) after answer = all_stays v.arena w.arena (ap (λ (p : PoolValue). p.arena) after)

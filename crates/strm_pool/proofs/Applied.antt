@@ -7,6 +7,7 @@ use Rattle.strm_links.specs.Rows.{IsApart}
 use Rattle.strm_links.specs.Rows as rows
 use Rattle.strm_mblk.specs.declared.token.TokenValue.{TokenValue}
 use Rattle.strm_mblk.specs.Arena.{Arena, has, token_of}
+use Rattle.strm_mblk.specs.Frame.{LeavesOthers}
 use Rattle.strm_pool.specs.declared.call.Call.{Call}
 use Rattle.strm_pool.specs.declared.reply.Reply.{Reply}
 use Rattle.strm_pool.specs.declared.reply.Reply.TheVariants.{Empty, Taken, Refused}
@@ -14,10 +15,8 @@ use Rattle.strm_pool.specs.Names.{names_of, registers_in}
 use Rattle.strm_pool.specs.PoolValue.{PoolValue, owns}
 use Rattle.strm_pool.specs.Registers.{AreAccounted, AreDistinct, entries_of, register, table_of}
 use Rattle.strm_pool.specs.Shapes.{IsReady}
-use Rattle.strm_pool.specs.Step.{Applies, Stepped, act, is_named, is_taken, misses_token, replying, step}
+use Rattle.strm_pool.specs.Step.{Applies, act, is_named, is_taken, misses_token, replying, step}
 use Rattle.strm_pool.proofs.Accounts.{Balanced, accounted_balanced, accounted_distinct, owned_balanced, owned_token, table-at}
-use Rattle.strm_pool.proofs.Queued.{LeavesHeld}
-use Rattle.strm_pool.proofs.Totals.{step_keeps_total}
 use Rattle.strm_pool.proofs.Moved.{Changes, Each, Moves, moves_balanced, moves_had, news, olds, registers_of, token-has, with_new, with_other, with_tokens}
 
 -- a call that is ready acts
@@ -53,7 +52,7 @@ applies_nothing v rs call reply owned does = record {
 -- a call that changes the registers that it names
 module _ {v w : PoolValue} {rs : List (Option TokenValue)} {call other : Call} {reply : Reply} {heads : List ℕ} (us : Changes) (is : call ≡ other) (ready : IsReady v rs call)
     (named : registers_of us ≡ registers_in (names_of other)) (apart : IsApart (registers_of us)) (within : Each (λ y. y < length rs) (registers_of us))
-    (now : Each (λ t. has w.arena t ≡ true) (news us)) (left : LeavesHeld heads v.arena w.arena) (moves : AreDistinct (table_of rs) → Moves v.arena w.arena (olds us rs) (news us))
+    (now : Each (λ t. has w.arena t ≡ true) (news us)) (left : LeavesOthers heads v.arena w.arena) (moves : AreDistinct (table_of rs) → Moves v.arena w.arena (olds us rs) (news us))
     (does : act v (table_of rs) other ≡ replying w (table_of (with_tokens us rs)) reply) where
   pub applies_by : Applies v rs call w (with_tokens us rs) reply
   applies_by = record {
@@ -68,7 +67,7 @@ module _ {v w : PoolValue} {rs : List (Option TokenValue)} {call other : Call} {
         owned_balanced v w rs (with_tokens us rs) (balanced distinct)
         (moves_had v rs us w.arena left.id (λ x t there. owned_token v rs x t ready.owned there) apart within distinct (moves distinct)) ready.owned distinct;
     same = left.id;
-    size = ap (λ (s : Stepped). length s.pool.arena.held) (sym stepped) ∙ step_keeps_total v (table_of rs) call;
+    size = left.size;
     accounted = λ desks desk there at all.
         accounted_balanced v.arena w.arena (entries_of rs) (entries_of (with_tokens us rs)) (balanced (accounted_distinct v rs desks desk there at all)) desks desk there at all;
   }

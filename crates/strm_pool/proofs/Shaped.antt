@@ -10,7 +10,7 @@ use Rattle.strm_links.specs.Rows as rows
 use Rattle.strm_mblk.specs.declared.rejected.Rejected.{Rejected}
 use Rattle.strm_mblk.specs.declared.token.TokenValue.{TokenValue}
 use Rattle.strm_mblk.specs.Arena.{Arena, has, held_at, token_of}
-use Rattle.strm_mblk.specs.Frame.{head_answered, head_given, heads_parted}
+use Rattle.strm_mblk.specs.Frame.{LeavesOthers, head_answered, head_given, heads_answered, heads_parted}
 use Rattle.strm_mblk.specs.Given.{Given, answer_map, answer_of, or_rejected, value_after}
 use Rattle.strm_pool.specs.declared.call.Call.{Call}
 use Rattle.strm_pool.specs.declared.reply.Reply.{Reply}
@@ -22,7 +22,6 @@ use Rattle.strm_pool.specs.Shapes.{IsReady, Settled, any_given_to, given_to, par
 use Rattle.strm_pool.specs.Step.{Applies, act, answers, doing, gives, head_held, keeps, may_give, misses_token, parts, replying, spends}
 use Rattle.strm_pool.proofs.Accounts.{owned_token, table-at}
 use Rattle.strm_pool.proofs.Applied.{applies_by, applies_nothing, step_act}
-use Rattle.strm_pool.proofs.Queued.{LeavesHeld}
 use Rattle.strm_pool.proofs.Moved.{Each, Moves, held_has, news, table-set, tokens_in}
 
 pub err_not_ok : {X Y : Type 0} {e : Y} {x : X} → Err e ≡ Ok x → ⊥
@@ -74,7 +73,7 @@ not_both : {b : Bool} → b ≡ true → b ≡ false → ⊥
 not_both is not = false≢true (sym not ∙ is)
 
 -- a message stays held at its head, and changes
-moves_stay : {a b : Arena} {t s : TokenValue} → s.head ≡ t.head → has a t ≡ true → has b s ≡ true → LeavesHeld (t.head ∷ []) a b → Moves a b (t ∷ []) (s ∷ [])
+moves_stay : {a b : Arena} {t s : TokenValue} → s.head ≡ t.head → has a t ≡ true → has b s ≡ true → LeavesOthers (t.head ∷ []) a b → Moves a b (t ∷ []) (s ∷ [])
 moves_stay head had has_now left = record {
   others = λ h before after. left.held h before;
   had = (had, tt);
@@ -127,7 +126,7 @@ module _ {v w : PoolValue} {rs : List (Option TokenValue)} {call other : Call} (
 
   -- ---- no register takes part, and all messages that are held stay
 
-  pub leaves_held : {reply : Reply} → [] ≡ registers_in (names_of other) → LeavesHeld [] v.arena w.arena → act v (table_of rs) other ≡ replying w (table_of rs) reply → Applies v rs call w rs reply
+  pub leaves_held : {reply : Reply} → [] ≡ registers_in (names_of other) → LeavesOthers [] v.arena w.arena → act v (table_of rs) other ≡ replying w (table_of rs) reply → Applies v rs call w rs reply
   leaves_held named left does =
       applies_by [] called ready named tt tt tt left
       (λ distinct. record {
@@ -141,9 +140,9 @@ module _ {v w : PoolValue} {rs : List (Option TokenValue)} {call other : Call} (
       does
 
   -- the reply is made of the answer
-  pub tells : {X : Type 0} (made : X → Reply) (g : Given PoolValue X) {answer : Result X Refusal} {reply : Reply} → [] ≡ registers_in (names_of other) → LeavesHeld [] v.arena w.arena
-      → act v (table_of rs) other ≡ doing v (table_of rs) (answers made) g → w ≡ value_after v g → answer ≡ answer_of g → reply ≡ reply_made made answer → Applies v rs call w rs reply
-  tells {X} made g named left does after answered told = leaves_held named left (does ∙ telling g after ∙ ap (replying w (table_of rs)) (ap (reply_made made) (sym answered) ∙ sym told))
+  pub tells : {X : Type 0} (made : X → Reply) (g : Given PoolValue X) {a answer : Result X Refusal} {reply : Reply} → [] ≡ registers_in (names_of other) → LeavesOthers [] v.arena w.arena
+      → act v (table_of rs) other ≡ doing v (table_of rs) (answers made) g → w ≡ value_after v g → answer_of g ≡ a → answer ≡ a → reply ≡ reply_made made answer → Applies v rs call w rs reply
+  tells {X} made g named left does after same answered told = leaves_held named left (does ∙ telling g after ∙ ap (replying w (table_of rs)) (ap (reply_made made) (same ∙ sym answered) ∙ sym told))
     where
       telling : (g : Given PoolValue X) → w ≡ value_after v g → doing v (table_of rs) (answers made) g ≡ replying w (table_of rs) (reply_made made (answer_of g))
       telling (Ok given) after = ap (λ u. replying u (table_of rs) (made given.0)) (sym after)
@@ -153,7 +152,7 @@ module _ {v w : PoolValue} {rs : List (Option TokenValue)} {call other : Call} (
 
   -- its token changes, and its message stays held at its head
   module _ (x : ℕ) {t : TokenValue} (s : TokenValue) (named : x ∷ [] ≡ registers_in (names_of other)) (was : register rs x ≡ Some t) (head : s.head ≡ t.head) (had : has w.arena s ≡ true)
-      (left : LeavesHeld (t.head ∷ []) v.arena w.arena) where
+      (left : LeavesOthers (t.head ∷ []) v.arena w.arena) where
     pub keeps_one : (g : Given PoolValue (Unit {0})) {done : Result (Unit {0}) Refusal} → act v (table_of rs) other ≡ doing v (table_of rs) keeps g → w ≡ value_after v g → done ≡ answer_of g
         → Applies v rs call w (set rs x (Some s)) (reply_done done)
     keeps_one g {done} does after answered =
@@ -169,7 +168,7 @@ module _ {v w : PoolValue} {rs : List (Option TokenValue)} {call other : Call} (
         same = sym (table-set rs x (Some s) ∙ kept_head rs x t s was head)
 
   -- its message goes, and none is held at its head
-  spent_one : (x : ℕ) {t : TokenValue} {heads : List ℕ} → x ∷ [] ≡ registers_in (names_of other) → register rs x ≡ Some t → LeavesHeld heads v.arena w.arena
+  spent_one : (x : ℕ) {t : TokenValue} {heads : List ℕ} → x ∷ [] ≡ registers_in (names_of other) → register rs x ≡ Some t → LeavesOthers heads v.arena w.arena
       → ((h : ℕ) → rows.has h (t.head ∷ []) ≡ false → rows.has h heads ≡ false) → held_at w.arena t.head ≡ None
       → act v (table_of rs) other ≡ replying w (set (table_of rs) x None) Done → Applies v rs call w (set rs x None) Done
   spent_one x {t} named was left only gone does =
@@ -185,26 +184,25 @@ module _ {v w : PoolValue} {rs : List (Option TokenValue)} {call other : Call} (
       (does ∙ ap (λ table. replying w table Done) (sym (table-set rs x None)))
 
   -- a call that spends a token, or gives it back
-  pub spends_one : (x : ℕ) {t : TokenValue} (g : Given PoolValue (Unit {0})) {done : Result (Unit {0}) Rejected} {a : Result (Unit {0}) Refusal} → x ∷ [] ≡ registers_in (names_of other) → register rs x ≡ Some t
+  pub spends_one : (x : ℕ) {t : TokenValue} (g : Given PoolValue (Unit {0})) {done : Result (Unit {0}) Rejected} {a : Result (Unit {0}) Refusal} {settled : Settled} → x ∷ [] ≡ registers_in (names_of other) → register rs x ≡ Some t
       → act v (table_of rs) other ≡ doing v (table_of rs) (spends x) g → w ≡ value_after v g → answer_of g ≡ a → done ≡ or_rejected t a
-      → IfOk done (λ u. LeavesHeld (t.head ∷ []) v.arena w.arena × (held_at w.arena t.head ≡ None))
-      → let settled = rejected_to x done (set rs x None) in Applies v rs call w settled.0 settled.1
-  spends_one x {t} g {done} named was does after same answered left = each g done does after (answered ∙ ap (or_rejected t) (sym same)) left
+      → IfOk done (λ u. held_at w.arena t.head ≡ None) → LeavesOthers (t.head ∷ []) v.arena w.arena → settled ≡ rejected_to x done (set rs x None) → Applies v rs call w settled.0 settled.1
+  spends_one x {t} g {done} named was does after same answered gone left settled =
+      subst (λ (p : Settled). Applies v rs call w p.0 p.1) (sym settled) (each g done does after (answered ∙ ap (or_rejected t) (sym same)) gone)
     where
       each : (g : Given PoolValue (Unit {0})) (done : Result (Unit {0}) Rejected) → act v (table_of rs) other ≡ doing v (table_of rs) (spends x) g → w ≡ value_after v g → done ≡ or_rejected t (answer_of g)
-          → IfOk done (λ u. LeavesHeld (t.head ∷ []) v.arena w.arena × (held_at w.arena t.head ≡ None))
-          → let settled = rejected_to x done (set rs x None) in Applies v rs call w settled.0 settled.1
-      each (Ok given) (Ok u) does after answered left = spent_one x named was left.0 (λ h none. none) left.1 (does ∙ ap (λ p. replying p (set (table_of rs) x None) Done) (sym after))
-      each (Ok given) (Err rejected) does after answered left = absurd (err_not_ok answered)
-      each (Err why) (Ok u) does after answered left = absurd (err_not_ok (sym answered))
-      each (Err why) (Err rejected) does after answered left =
+          → IfOk done (λ u. held_at w.arena t.head ≡ None) → let settled = rejected_to x done (set rs x None) in Applies v rs call w settled.0 settled.1
+      each (Ok given) (Ok u) does after answered gone = spent_one x named was left (λ h none. none) gone (does ∙ ap (λ p. replying p (set (table_of rs) x None) Done) (sym after))
+      each (Ok given) (Err rejected) does after answered gone = absurd (err_not_ok answered)
+      each (Err why) (Ok u) does after answered gone = absurd (err_not_ok (sym answered))
+      each (Err why) (Err rejected) does after answered gone =
           subst (λ ss. Applies v rs call w ss (Refused rejected.why)) (sym (set-set rs x None (Some rejected.token) ∙ ap (λ (r : Rejected). set rs x (Some r.token)) (same_err answered) ∙ put_back rs x t was))
           (refused (spends x) rejected.why (does ∙ ap (λ (r : Rejected). doing v (table_of rs) (spends x) (Err r.why)) (sym (same_err answered))) after)
 
   -- its message is another one now, if there is one, whose head no held message had
   pub leaves_one : (x : ℕ) {t : TokenValue} (rest : Option TokenValue) (o : Option ℕ) → x ∷ [] ≡ registers_in (names_of other) → register rs x ≡ Some t
       → act v (table_of rs) other ≡ replying w (set (table_of rs) x o) Done → rest ≡ option_map (token_of w.arena) o
-      → IfSome rest (λ s. has w.arena s ≡ true) → IfSome rest (λ s. held_at v.arena s.head ≡ None) → LeavesHeld (t.head ∷ head_given rest) v.arena w.arena → held_at w.arena t.head ≡ None
+      → IfSome rest (λ s. has w.arena s ≡ true) → IfSome rest (λ s. held_at v.arena s.head ≡ None) → LeavesOthers (t.head ∷ head_given rest) v.arena w.arena → held_at w.arena t.head ≡ None
       → Applies v rs call w (set rs x rest) Done
   leaves_one x None None named was does is had unheld left gone = spent_one x named was left (λ h none. none) gone does
   leaves_one x None (Some n) named was does is had unheld left gone = absurd (let e : None ≡ Some (token_of w.arena n) = is in cc)
@@ -224,7 +222,7 @@ module _ {v w : PoolValue} {rs : List (Option TokenValue)} {call other : Call} (
   -- ---- a register is given a token
 
   module _ (y : ℕ) (named : IsNaming other None None (Some y)) where
-    given_one : (s : TokenValue) → has w.arena s ≡ true → held_at v.arena s.head ≡ None → LeavesHeld (s.head ∷ []) v.arena w.arena
+    given_one : (s : TokenValue) → has w.arena s ≡ true → held_at v.arena s.head ≡ None → LeavesOthers (s.head ∷ []) v.arena w.arena
         → act v (table_of rs) other ≡ replying w (set (table_of rs) y (Some s.head)) Done → Applies v rs call w (set rs y (Some s)) Done
     given_one s had unheld left does =
         let free = destination called ready None None y named in
@@ -239,7 +237,7 @@ module _ {v w : PoolValue} {rs : List (Option TokenValue)} {call other : Call} (
         }))
         (does ∙ ap (λ table. replying w table Done) (sym (table-set rs y (Some s))))
 
-    given_none : LeavesHeld [] v.arena w.arena → act v (table_of rs) other ≡ replying w (table_of rs) Nothing → Applies v rs call w rs Nothing
+    given_none : LeavesOthers [] v.arena w.arena → act v (table_of rs) other ≡ replying w (table_of rs) Nothing → Applies v rs call w rs Nothing
     given_none left does =
         let free = destination called ready None None y named in
         let same : set rs y None ≡ rs = ap (set rs y) (sym free.0) ∙ set-get_or rs y None in
@@ -257,13 +255,13 @@ module _ {v w : PoolValue} {rs : List (Option TokenValue)} {call other : Call} (
 
     pub gives_one : (g : Given PoolValue ℕ) {given : Result TokenValue Refusal} {a : Result ℕ Refusal} {settled : Settled} → act v (table_of rs) other ≡ doing v (table_of rs) (gives y) g → w ≡ value_after v g
         → answer_of g ≡ a → given ≡ answer_map (token_of w.arena) a → IfOk given (λ s. has w.arena s ≡ true) → IfOk given (λ s. held_at v.arena s.head ≡ None)
-        → LeavesHeld (head_answered given) v.arena w.arena → settled ≡ given_to y given rs → Applies v rs call w settled.0 settled.1
+        → LeavesOthers (head_answered given) v.arena w.arena → settled ≡ given_to y given rs → Applies v rs call w settled.0 settled.1
     gives_one g {given} does after same answered had unheld left settled =
         subst (λ (p : Settled). Applies v rs call w p.0 p.1) (sym settled) (each g given does after (answered ∙ ap (answer_map (token_of w.arena)) (sym same)) had unheld left)
       where
         each : (g : Given PoolValue ℕ) (given : Result TokenValue Refusal) → act v (table_of rs) other ≡ doing v (table_of rs) (gives y) g → w ≡ value_after v g
             → given ≡ answer_map (token_of w.arena) (answer_of g) → IfOk given (λ s. has w.arena s ≡ true) → IfOk given (λ s. held_at v.arena s.head ≡ None)
-            → LeavesHeld (head_answered given) v.arena w.arena → let settled = given_to y given rs in Applies v rs call w settled.0 settled.1
+            → LeavesOthers (head_answered given) v.arena w.arena → let settled = given_to y given rs in Applies v rs call w settled.0 settled.1
         each (Ok given) (Ok s) does after is had unheld left =
             given_one s had unheld left
             (does ∙ ap (λ p. replying p (set (table_of rs) y (Some given.0)) Done) (sym after) ∙ ap (λ (t : TokenValue). replying w (set (table_of rs) y (Some t.head)) Done) (sym (same_ok is)))
@@ -274,13 +272,13 @@ module _ {v w : PoolValue} {rs : List (Option TokenValue)} {call other : Call} (
     pub may_give_one : (g : Given PoolValue (Option ℕ)) {given : Result (Option TokenValue) Refusal} {a : Result (Option ℕ) Refusal} {settled : Settled} → act v (table_of rs) other ≡ doing v (table_of rs) (may_give y) g
         → w ≡ value_after v g → answer_of g ≡ a → given ≡ answer_map (option_map (token_of w.arena)) a
         → IfOk given (λ o. IfSome o (λ s. has w.arena s ≡ true)) → IfOk given (λ o. IfSome o (λ s. held_at v.arena s.head ≡ None))
-        → IfOk given (λ o. LeavesHeld (head_given o) v.arena w.arena) → settled ≡ any_given_to y given rs → Applies v rs call w settled.0 settled.1
+        → LeavesOthers (heads_answered given) v.arena w.arena → settled ≡ any_given_to y given rs → Applies v rs call w settled.0 settled.1
     may_give_one g {given} does after same answered had unheld left settled =
         subst (λ (p : Settled). Applies v rs call w p.0 p.1) (sym settled) (each g given does after (answered ∙ ap (answer_map (option_map (token_of w.arena))) (sym same)) had unheld left)
       where
         each : (g : Given PoolValue (Option ℕ)) (given : Result (Option TokenValue) Refusal) → act v (table_of rs) other ≡ doing v (table_of rs) (may_give y) g → w ≡ value_after v g
             → given ≡ answer_map (option_map (token_of w.arena)) (answer_of g) → IfOk given (λ o. IfSome o (λ s. has w.arena s ≡ true)) → IfOk given (λ o. IfSome o (λ s. held_at v.arena s.head ≡ None))
-            → IfOk given (λ o. LeavesHeld (head_given o) v.arena w.arena) → let settled = any_given_to y given rs in Applies v rs call w settled.0 settled.1
+            → LeavesOthers (heads_answered given) v.arena w.arena → let settled = any_given_to y given rs in Applies v rs call w settled.0 settled.1
         each (Ok (Some n, u)) (Ok (Some s)) does after is had unheld left =
             given_one s had unheld left
             (does ∙ ap (λ p. replying p (set (table_of rs) y (Some n)) Done) (sym after) ∙ ap (λ (t : TokenValue). replying w (set (table_of rs) y (Some t.head)) Done) (sym (same_some (same_ok is))))
@@ -295,7 +293,7 @@ module _ {v w : PoolValue} {rs : List (Option TokenValue)} {call other : Call} (
 
   module _ (x y : ℕ) {t : TokenValue} (named : IsNaming other (Some x) None (Some y)) (was : register rs x ≡ Some t) where
     -- both registers change
-    two : {heads : List ℕ} (o p : Option TokenValue) {reply : Reply} → LeavesHeld heads v.arena w.arena → Each (λ s. has w.arena s ≡ true) (news ((x, o) ∷ (y, p) ∷ [])) → Moves v.arena w.arena (t ∷ []) (news ((x, o) ∷ (y, p) ∷ []))
+    two : {heads : List ℕ} (o p : Option TokenValue) {reply : Reply} → LeavesOthers heads v.arena w.arena → Each (λ s. has w.arena s ≡ true) (news ((x, o) ∷ (y, p) ∷ [])) → Moves v.arena w.arena (t ∷ []) (news ((x, o) ∷ (y, p) ∷ []))
         → act v (table_of rs) other ≡ replying w (set (set (table_of rs) x (option_map (λ s. s.head) o)) y (option_map (λ s. s.head) p)) reply
         → Applies v rs call w (set (set rs x o) y p) reply
     two o p {reply} left now moves does =
@@ -310,7 +308,7 @@ module _ {v w : PoolValue} {rs : List (Option TokenValue)} {call other : Call} (
     -- the first register keeps its message, the other is given one that no held message had the head of
     pub gives_beside : (g : Given PoolValue ℕ) (given : Result TokenValue Refusal) → act v (table_of rs) other ≡ doing v (table_of rs) (gives y) g → w ≡ value_after v g
         → given ≡ answer_map (token_of w.arena) (answer_of g) → has w.arena t ≡ true → IfOk given (λ s. has w.arena s ≡ true) → IfOk given (λ s. held_at v.arena s.head ≡ None)
-        → LeavesHeld (head_answered given) v.arena w.arena → let settled = given_to y given rs in Applies v rs call w settled.0 settled.1
+        → LeavesOthers (head_answered given) v.arena w.arena → let settled = given_to y given rs in Applies v rs call w settled.0 settled.1
     gives_beside (Ok given) (Ok r) does after is kept had unheld left =
         subst (λ l. Applies v rs call w (set l y (Some r)) Done) (put_back rs x t was)
         (two (Some t) (Some r) left (kept, (had, tt))
@@ -326,7 +324,7 @@ module _ {v w : PoolValue} {rs : List (Option TokenValue)} {call other : Call} (
     pub unlinks : {s : TokenValue} (rest : Option TokenValue) (made : ℕ → Arena → Option ℕ × Arena) {settled : Settled} → act v (table_of rs) other ≡ doing v (table_of rs) (may_give y) (on_arena v (Ok (made (head_held (table_of rs) x) v.arena)))
         → w ≡ with_arena v (made t.head v.arena).1 → rest ≡ option_map (token_of w.arena) (made t.head v.arena).0
         → s ≡ token_of w.arena t.head → has w.arena s ≡ true → IfSome rest (λ r. has w.arena r ≡ true) → IfSome rest (λ r. held_at v.arena r.head ≡ None)
-        → LeavesHeld (t.head ∷ head_given rest) v.arena w.arena → settled ≡ any_given_to y (Ok rest) (set rs x (Some s)) → Applies v rs call w settled.0 settled.1
+        → LeavesOthers (t.head ∷ head_given rest) v.arena w.arena → settled ≡ any_given_to y (Ok rest) (set rs x (Some s)) → Applies v rs call w settled.0 settled.1
     unlinks {s} rest made does after is token kept had unheld left settled =
         subst (λ (p : Settled). Applies v rs call w p.0 p.1) (sym settled)
         (each rest (made t.head v.arena).0 (does ∙ ap (λ h. doing v (table_of rs) (may_give y) (on_arena v (Ok (made h v.arena)))) (head_is rs x t was)
@@ -345,7 +343,7 @@ module _ {v w : PoolValue} {rs : List (Option TokenValue)} {call other : Call} (
         table = sym (table-set rs x (Some s) ∙ kept_head rs x t s was head) ∙ ap table_of (sym same) ∙ table-set (set rs x (Some s)) y None ∙ ap (λ l. set l y None) (table-set rs x (Some s))
 
         each : (rest : Option TokenValue) (o : Option ℕ) → act v (table_of rs) other ≡ doing v (table_of rs) (may_give y) (Ok (o, w)) → rest ≡ option_map (token_of w.arena) o
-            → IfSome rest (λ r. has w.arena r ≡ true) → IfSome rest (λ r. held_at v.arena r.head ≡ None) → LeavesHeld (t.head ∷ head_given rest) v.arena w.arena
+            → IfSome rest (λ r. has w.arena r ≡ true) → IfSome rest (λ r. held_at v.arena r.head ≡ None) → LeavesOthers (t.head ∷ head_given rest) v.arena w.arena
             → let settled = any_given_to y (Ok rest) (set rs x (Some s)) in Applies v rs call w settled.0 settled.1
         each (Some r) (Some n) does is had unheld left =
             two (Some s) (Some r) left (kept, (had, tt)) (moves_beside head (owned_token v rs x t ready.owned was) kept had unheld left.held)
@@ -360,7 +358,7 @@ module _ {v w : PoolValue} {rs : List (Option TokenValue)} {call other : Call} (
         → parted ≡ or_rejected t (answer_map (λ heads. (token_of w.arena heads.0, option_map (token_of w.arena) heads.1)) (answer_of g))
         → IfOk parted (λ ts. has w.arena ts.0 ≡ true) → IfOk parted (λ ts. IfSome ts.1 (λ r. has w.arena r ≡ true))
         → IfOk parted (λ ts. ts.0.head ≢ t.head → held_at v.arena ts.0.head ≡ None) → IfOk parted (λ ts. IfSome ts.1 (λ r. r.head ≢ t.head → held_at v.arena r.head ≡ None))
-        → IfOk parted (λ ts. IfSome ts.1 (λ r. r.head ≢ ts.0.head)) → LeavesHeld (t.head ∷ heads_parted parted) v.arena w.arena
+        → IfOk parted (λ ts. IfSome ts.1 (λ r. r.head ≢ ts.0.head)) → LeavesOthers (t.head ∷ heads_parted parted) v.arena w.arena
         → ((n : ℕ) (o : Option ℕ) (u : PoolValue) → g ≡ Ok ((n, o), u) → n ≢ t.head → (o ≡ Some t.head → ⊥) → held_at u.arena t.head ≡ None)
         → let settled = parted_to x y parted (set rs x None) in Applies v rs call w settled.0 settled.1
     parts_two (Ok given) (Err rejected) does after is had rest_had unheld rest_unheld apart left gone = absurd (err_not_ok is)
@@ -458,7 +456,7 @@ sources_apart {v} {rs} called ready x y named was same =
 
 module _ {v w : PoolValue} {rs : List (Option TokenValue)} {call other : Call} (called : call ≡ other) (ready : IsReady v rs call) (x y : ℕ) {t u : TokenValue} (s : TokenValue) (named : x ∷ y ∷ [] ≡ registers_in (names_of other))
     (was : register rs x ≡ Some t) (tail : register rs y ≡ Some u) (apart : x ≢ y) (head : s.head ≡ t.head) (had : has w.arena s ≡ true)
-    (left : LeavesHeld (t.head ∷ u.head ∷ []) v.arena w.arena) (gone : t.head ≢ u.head → held_at w.arena u.head ≡ None) where
+    (left : LeavesOthers (t.head ∷ u.head ∷ []) v.arena w.arena) (gone : t.head ≢ u.head → held_at w.arena u.head ≡ None) where
   pub links : act v (table_of rs) other ≡ replying w (set (table_of rs) y None) Done → Applies v rs call w (set (set (set rs x None) y None) x (Some s)) Done
   links does =
       subst (λ l. Applies v rs call w l Done) (sym (set-comm (set rs x None) y x None (Some s) (λ same. apart (sym same)) ∙ ap (λ l. set l y None) (set-set rs x None (Some s))))

@@ -1,5 +1,5 @@
 -- What is true of every pool, whatever calls made it so.
-use Rattle.std.specs.Prelude.{◌≡◌, ℕ, ◌+◌, ◌≤◌, IsTrue, length, reverse, sum_by}
+use Rattle.std.specs.Prelude.{◌≡◌, ℕ, ◌+◌, ◌^◌, ◌<◌, ◌≤◌, IsTrue, length, reverse, sum_by}
 use Rattle.std.specs.List.{All}
 use Rattle.strm_data.specs.CountedStore.{IsKept}
 use Rattle.strm_data.specs.DataStore.{class_infos}
@@ -27,6 +27,8 @@ pub record IsLawful (v : PoolValue) : Type 0 where
   pub kept : IsKept (counted_in v.arena)
   -- The places of each block of a message lie in its data block.
   pub within : All (IsWithin v.arena.store) (blocks_in v.arena)
+  -- The band of each block of a message is below 256.
+  pub bands : All (λ b. b.band < 2 ^ 8) (blocks_in v.arena)
   -- Free blocks, queued and held ones make the pool, which has at most `MOST_MESSAGE_BLOCKS`.
   pub whole : (census_of v.arena).free + (census_of v.arena).queued + (census_of v.arena).held ≡ length v.arena.held
   pub few : length v.arena.held ≤ most_message_blocks

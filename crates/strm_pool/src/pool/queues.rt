@@ -1,6 +1,7 @@
 //! The calls on queues.
-ghost use Rattle.std.specs.Prelude.{◌≡◌, None, IfOk, IfSome, IsTrue, option_map};
+ghost use Rattle.std.specs.Prelude.{◌≡◌, [], ◌∷◌, None, IfOk, IfSome, IsTrue, MatchResult, option_map};
 ghost use Rattle.strm_mblk.specs.Arena.{has, held_at, token_of};
+ghost use Rattle.strm_mblk.specs.Frame.{LeavesOthers, head_answered, heads_answered};
 ghost use Rattle.strm_mblk.specs.Given.{answer_map, answer_of, or_rejected, value_after};
 ghost use Rattle.strm_pool.specs.PoolValue.{on_queues, queued, with_queued};
 ghost use Rattle.strm_queue.specs.QueueCalls as queues;
@@ -23,6 +24,9 @@ impl Pool {
         requires { IsTrue (has self.old.arena token) }
         ensures pool { self.new ≡ value_after self.old (on_queues self.old (queues.putq queue token.head (queued self.old))) }
         ensures answer { result ≡ or_rejected token (answer_of (queues.putq queue token.head (queued self.old))) }
+        // A message that was put is held no more, one that is refused still is, and all others are as they were.
+        ensures gone { MatchResult result (λ done. held_at self.new.arena token.head ≡ None) (λ rejected. IsTrue (has self.new.arena token)) }
+        ensures others { LeavesOthers (token.head ∷ []) self.old.arena self.new.arena }
     {
         self.queues.putq(&mut self.blocks, queue, token)
     }
@@ -38,6 +42,9 @@ impl Pool {
         requires { IsTrue (has self.old.arena token) }
         ensures pool { self.new ≡ value_after self.old (on_queues self.old (queues.putbq queue token.head (queued self.old))) }
         ensures answer { result ≡ or_rejected token (answer_of (queues.putbq queue token.head (queued self.old))) }
+        // A message that was put is held no more, one that is refused still is, and all others are as they were.
+        ensures gone { MatchResult result (λ done. held_at self.new.arena token.head ≡ None) (λ rejected. IsTrue (has self.new.arena token)) }
+        ensures others { LeavesOthers (token.head ∷ []) self.old.arena self.new.arena }
     {
         self.queues.putbq(&mut self.blocks, queue, token)
     }
@@ -53,6 +60,9 @@ impl Pool {
         requires { IsTrue (has self.old.arena token) }
         ensures pool { self.new ≡ value_after self.old (on_queues self.old (queues.insq queue place token.head (queued self.old))) }
         ensures answer { result ≡ or_rejected token (answer_of (queues.insq queue place token.head (queued self.old))) }
+        // A message that was put is held no more, one that is refused still is, and all others are as they were.
+        ensures gone { MatchResult result (λ done. held_at self.new.arena token.head ≡ None) (λ rejected. IsTrue (has self.new.arena token)) }
+        ensures others { LeavesOthers (token.head ∷ []) self.old.arena self.new.arena }
     {
         self.queues.insq(&mut self.blocks, queue, place, token)
     }
@@ -68,6 +78,8 @@ impl Pool {
         // The pool has the token, and no held message had its head.
         ensures had { IfOk result (λ given. IfSome given (λ token. IsTrue (has self.new.arena token))) }
         ensures unheld { IfOk result (λ given. IfSome given (λ token. held_at self.old.arena token.head ≡ None)) }
+        // All other held messages are as they were.
+        ensures others { LeavesOthers (heads_answered result) self.old.arena self.new.arena }
     {
         self.queues.getq(&mut self.blocks, queue)
     }
@@ -83,6 +95,8 @@ impl Pool {
         // The pool has the token, and no held message had its head.
         ensures had { IfOk result (λ token. IsTrue (has self.new.arena token)) }
         ensures unheld { IfOk result (λ token. held_at self.old.arena token.head ≡ None) }
+        // All other held messages are as they were.
+        ensures others { LeavesOthers (head_answered result) self.old.arena self.new.arena }
     {
         self.queues.rmvq(&mut self.blocks, queue, place)
     }
@@ -104,6 +118,7 @@ impl Pool {
     pub fn flushq(&mut self, queue: u8, flush: Flush) -> Result<(), Refusal>
         ensures pool { self.new ≡ value_after self.old (on_queues self.old (queues.flushq queue flush (queued self.old))) }
         ensures answer { result ≡ answer_of (queues.flushq queue flush (queued self.old)) }
+        ensures others { LeavesOthers [] self.old.arena self.new.arena }
     {
         self.queues.flushq(&mut self.blocks, queue, flush)
     }
@@ -117,6 +132,7 @@ impl Pool {
     pub fn flushband(&mut self, queue: u8, band: u8, flush: Flush) -> Result<(), Refusal>
         ensures pool { self.new ≡ value_after self.old (on_queues self.old (queues.flushband queue band flush (queued self.old))) }
         ensures answer { result ≡ answer_of (queues.flushband queue band flush (queued self.old)) }
+        ensures others { LeavesOthers [] self.old.arena self.new.arena }
     {
         self.queues.flushband(&mut self.blocks, queue, band, flush)
     }
@@ -129,6 +145,7 @@ impl Pool {
     pub fn bcanput(&mut self, queue: u8, band: u8) -> Result<bool, Refusal>
         ensures pool { self.new ≡ value_after self.old (on_queues self.old (queues.bcanput queue band (queued self.old))) }
         ensures answer { result ≡ answer_of (queues.bcanput queue band (queued self.old)) }
+        ensures arena { self.new.arena ≡ self.old.arena }
     {
         self.queues.bcanput(&self.blocks, queue, band)
     }
@@ -139,6 +156,7 @@ impl Pool {
     pub fn qenable(&mut self, queue: u8) -> Result<(), Refusal>
         ensures pool { self.new ≡ value_after self.old (on_queues self.old (queues.qenable queue (queued self.old))) }
         ensures answer { result ≡ answer_of (queues.qenable queue (queued self.old)) }
+        ensures arena { self.new.arena ≡ self.old.arena }
     {
         self.queues.qenable(queue)
     }
@@ -150,6 +168,7 @@ impl Pool {
     pub fn noenable(&mut self, queue: u8) -> Result<(), Refusal>
         ensures pool { self.new ≡ value_after self.old (on_queues self.old (queues.noenable queue (queued self.old))) }
         ensures answer { result ≡ answer_of (queues.noenable queue (queued self.old)) }
+        ensures arena { self.new.arena ≡ self.old.arena }
     {
         self.queues.noenable(queue)
     }
@@ -160,6 +179,7 @@ impl Pool {
     pub fn enableok(&mut self, queue: u8) -> Result<(), Refusal>
         ensures pool { self.new ≡ value_after self.old (on_queues self.old (queues.enableok queue (queued self.old))) }
         ensures answer { result ≡ answer_of (queues.enableok queue (queued self.old)) }
+        ensures arena { self.new.arena ≡ self.old.arena }
     {
         self.queues.enableok(queue)
     }
@@ -168,6 +188,7 @@ impl Pool {
     pub fn next_service(&mut self) -> Option<u8>
         ensures pool { self.new ≡ with_queued self.old (queues.next_service (queued self.old)).1 }
         ensures answer { result ≡ (queues.next_service (queued self.old)).0 }
+        ensures arena { self.new.arena ≡ self.old.arena }
     {
         self.queues.next_service()
     }

@@ -16,6 +16,7 @@ impl Pool {
     pub fn bufcall(&mut self, size: u32) -> Result<u32, Refusal>
         ensures pool { self.new ≡ value_after self.old (wishes.bufcall size self.old) }
         ensures answer { result ≡ answer_of (wishes.bufcall size self.old) }
+        ensures arena { self.new.arena ≡ self.old.arena }
     {
         if !self.blocks.has_class_for(size) {
             return Err(Refusal::TooLarge);
@@ -29,6 +30,7 @@ impl Pool {
     pub fn unbufcall(&mut self, id: u32) -> Result<(), Refusal>
         ensures pool { self.new ≡ value_after self.old (wishes.unbufcall id self.old) }
         ensures answer { result ≡ answer_of (wishes.unbufcall id self.old) }
+        ensures arena { self.new.arena ≡ self.old.arena }
     {
         match self.wishes.place_of(id) {
             Some(place) => {
@@ -55,6 +57,7 @@ impl Pool {
     pub fn take_ready(&mut self) -> Option<(u32, u32)>
         ensures pool { self.new ≡ (wishes.take_ready self.old).1 }
         ensures answer { result ≡ (wishes.take_ready self.old).0 }
+        ensures arena { self.new.arena ≡ self.old.arena }
     {
         let place = self.ready_place()?;
         self.wishes.remove(place)

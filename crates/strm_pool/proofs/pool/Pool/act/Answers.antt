@@ -14,15 +14,13 @@ use Rattle.strm_queue.specs.QueueCalls as queues
 use Rattle.strm_pool.specs.declared.call.Call.TheVariants.{Adjmsg, Linkb, Pullupmsg, Write}
 use Rattle.strm_pool.specs.declared.reply.Reply.TheVariants.{Done}
 use Rattle.strm_pool.specs.declared.reply.Reply.TheVariants as replies
-use Rattle.strm_pool.specs.PoolValue.{PoolValue, on_arena, on_queues, owns, queued, with_arena}
+use Rattle.strm_pool.specs.PoolValue.{PoolValue, on_arena, on_queues, owns, queued, with_arena, with_queued}
 use Rattle.strm_pool.specs.Registers.{register, table_of}
 use Rattle.strm_pool.specs.Shapes.{Settled, any_given_to, parted_to}
 use Rattle.strm_pool.specs.Step.{Applies, act, answers, doing, leaves, parts, queue_or_nothing, ready_or_nothing, replying, spends, yes_or_no}
-use Rattle.strm_pool.proofs.Acting.{alters, alters_kept, copies, gets, on_arena_is, owns_less, put_in_place, puts, takes, tells_queues}
+use Rattle.strm_pool.proofs.Acting.{all_stays, alters, alters_kept, copies, on_arena_is, owns_less, put_in_place, puts}
 use Rattle.strm_pool.proofs.OnParts.{arena_answer, queues_answer}
-use Rattle.strm_pool.proofs.Queued.{LeavesHeld, all_stays, bcanput_left, flushed_left, held_left, held_stay, insq_left, putbq_left, putq_left, qenable_left, switched_left}
-use Rattle.strm_pool.proofs.Shaped.{asks, gives_one, head_is, leaves_held, leaves_one, links, may_give_one, parts_two, sources_apart, spends_one, tells, unlinks}
-use Rattle.strm_pool.proofs.Waiting.{bufcall_stays, take_ready_stays, unbufcall_stays}
+use Rattle.strm_pool.proofs.Shaped.{asks, gives_one, head_is, leaves_one, links, may_give_one, parts_two, sources_apart, spends_one, tells, unlinks}
 use Rattle.strm_pool.specs.Wishes as wishes
 use Rattle.strm_pool.proofs.pool.Pool.act.Goals as goal
 
@@ -43,7 +41,7 @@ pub returns-in-Allocb : goal.returns-in-Allocb
 returns-in-Allocb c =
     let v = c.args.self.now in
     let made = blocks.allocb c.in-Allocb.size v.arena in
-    gives_one c.in-Allocb.is c.requires c.in-Allocb.into refl (on_arena v made) refl c.allocb.ensures.pool (arena_answer v made) c.allocb.ensures.token c.allocb.ensures.had c.allocb.ensures.unheld (held_left c.allocb.ensures.others) c.give.ensures
+    gives_one c.in-Allocb.is c.requires c.in-Allocb.into refl (on_arena v made) refl c.allocb.ensures.pool (arena_answer v made) c.allocb.ensures.token c.allocb.ensures.had c.allocb.ensures.unheld c.allocb.ensures.others c.give.ensures
 
 pub returns-in-Dupb : goal.returns-in-Dupb
 returns-in-Dupb c =
@@ -116,83 +114,82 @@ pub returns-in-Putq : goal.returns-in-Putq
 returns-in-Putq c =
     let token = c.picked-token-in-Putq.ensures in
     puts c.in-Putq.is c.requires (λ h. queues.putq c.in-Putq.queue h (queued c.args.self.now)) c.in-Putq.reg refl token.token token.empty refl
-    c.putq.ensures.pool c.putq.ensures.answer (λ u. putq_left (queued c.args.self.now) u c.in-Putq.queue c.picked-token-in-Putq.result.head) c.spend.ensures
+    c.putq.ensures.pool c.putq.ensures.answer c.putq.ensures.gone c.putq.ensures.others c.spend.ensures
 
 pub returns-in-Putbq : goal.returns-in-Putbq
 returns-in-Putbq c =
     let token = c.picked-token-in-Putbq.ensures in
     puts c.in-Putbq.is c.requires (λ h. queues.putbq c.in-Putbq.queue h (queued c.args.self.now)) c.in-Putbq.reg refl token.token token.empty refl
-    c.putbq.ensures.pool c.putbq.ensures.answer (λ u. putbq_left (queued c.args.self.now) u c.in-Putbq.queue c.picked-token-in-Putbq.result.head) c.spend-in-Putbq.ensures
+    c.putbq.ensures.pool c.putbq.ensures.answer c.putbq.ensures.gone c.putbq.ensures.others c.spend-in-Putbq.ensures
 
 pub returns-in-Insq : goal.returns-in-Insq
 returns-in-Insq c =
     let token = c.picked-token-in-Insq.ensures in
     puts c.in-Insq.is c.requires (λ h. queues.insq c.in-Insq.queue c.in-Insq.place h (queued c.args.self.now)) c.in-Insq.reg refl token.token token.empty refl
-    c.insq.ensures.pool c.insq.ensures.answer (λ u. insq_left (queued c.args.self.now) u c.in-Insq.queue c.picked-token-in-Insq.result.head c.in-Insq.place) c.spend-in-Insq.ensures
+    c.insq.ensures.pool c.insq.ensures.answer c.insq.ensures.gone c.insq.ensures.others c.spend-in-Insq.ensures
 
 pub returns-in-Getq : goal.returns-in-Getq
 returns-in-Getq c =
     let v = c.args.self.now in
     let made = queues.getq c.in-Getq.queue (queued v) in
-    may_give_one c.in-Getq.is c.requires c.in-Getq.into refl (on_queues v made) refl c.getq.ensures.pool (queues_answer v made) c.getq.ensures.token c.getq.ensures.had c.getq.ensures.unheld
-    (gets v c.getq.new.self c.in-Getq.queue made refl c.getq.result c.getq.ensures.pool c.getq.ensures.token) c.give_any-in-Getq.ensures
+    may_give_one c.in-Getq.is c.requires c.in-Getq.into refl (on_queues v made) refl c.getq.ensures.pool (queues_answer v made) c.getq.ensures.token c.getq.ensures.had c.getq.ensures.unheld c.getq.ensures.others c.give_any-in-Getq.ensures
 
 pub returns-in-Rmvq : goal.returns-in-Rmvq
 returns-in-Rmvq c =
     let v = c.args.self.now in
     let made = queues.rmvq c.in-Rmvq.queue c.in-Rmvq.place (queued v) in
-    gives_one c.in-Rmvq.is c.requires c.in-Rmvq.into refl (on_queues v made) refl c.rmvq.ensures.pool (queues_answer v made) c.rmvq.ensures.token c.rmvq.ensures.had c.rmvq.ensures.unheld
-    (takes v c.rmvq.new.self c.in-Rmvq.queue c.in-Rmvq.place made refl c.rmvq.result c.rmvq.ensures.pool c.rmvq.ensures.token) c.give-in-Rmvq.ensures
+    gives_one c.in-Rmvq.is c.requires c.in-Rmvq.into refl (on_queues v made) refl c.rmvq.ensures.pool (queues_answer v made) c.rmvq.ensures.token c.rmvq.ensures.had c.rmvq.ensures.unheld c.rmvq.ensures.others c.give-in-Rmvq.ensures
 
 -- ---- the messages that are held stay
 
 pub returns-in-Flushq : goal.returns-in-Flushq
 returns-in-Flushq c =
-    tells_queues c.in-Flushq.is c.requires (λ done. Done) (queues.flushq c.in-Flushq.queue c.in-Flushq.flush (queued c.args.self.now)) refl (flushed_left (queued c.args.self.now) c.in-Flushq.queue None c.in-Flushq.flush) refl c.flushq.ensures.pool c.flushq.ensures.answer c.done-in-Flushq.ensures
+    let made = queues.flushq c.in-Flushq.queue c.in-Flushq.flush (queued c.args.self.now) in
+    tells c.in-Flushq.is c.requires (λ done. Done) (on_queues c.args.self.now made) refl c.flushq.ensures.others refl c.flushq.ensures.pool (queues_answer c.args.self.now made) c.flushq.ensures.answer c.done-in-Flushq.ensures
 
 pub returns-in-Flushband : goal.returns-in-Flushband
 returns-in-Flushband c =
-    tells_queues c.in-Flushband.is c.requires (λ done. Done) (queues.flushband c.in-Flushband.queue c.in-Flushband.band c.in-Flushband.flush (queued c.args.self.now)) refl (flushed_left (queued c.args.self.now) c.in-Flushband.queue (Some c.in-Flushband.band) c.in-Flushband.flush) refl c.flushband.ensures.pool c.flushband.ensures.answer c.done-in-Flushband.ensures
-
-pub returns-in-Qenable : goal.returns-in-Qenable
-returns-in-Qenable c =
-    tells_queues c.in-Qenable.is c.requires (λ done. Done) (queues.qenable c.in-Qenable.queue (queued c.args.self.now)) refl (qenable_left (queued c.args.self.now) c.in-Qenable.queue) refl c.qenable.ensures.pool c.qenable.ensures.answer c.done-in-Qenable.ensures
-
-pub returns-in-Noenable : goal.returns-in-Noenable
-returns-in-Noenable c =
-    tells_queues c.in-Noenable.is c.requires (λ done. Done) (queues.noenable c.in-Noenable.queue (queued c.args.self.now)) refl (switched_left (queued c.args.self.now) c.in-Noenable.queue true) refl c.noenable.ensures.pool c.noenable.ensures.answer c.done-in-Noenable.ensures
-
-pub returns-in-Enableok : goal.returns-in-Enableok
-returns-in-Enableok c =
-    tells_queues c.in-Enableok.is c.requires (λ done. Done) (queues.enableok c.in-Enableok.queue (queued c.args.self.now)) refl (switched_left (queued c.args.self.now) c.in-Enableok.queue false) refl c.enableok.ensures.pool c.enableok.ensures.answer c.done-in-Enableok.ensures
+    let made = queues.flushband c.in-Flushband.queue c.in-Flushband.band c.in-Flushband.flush (queued c.args.self.now) in
+    tells c.in-Flushband.is c.requires (λ done. Done) (on_queues c.args.self.now made) refl c.flushband.ensures.others refl c.flushband.ensures.pool (queues_answer c.args.self.now made) c.flushband.ensures.answer c.done-in-Flushband.ensures
 
 pub returns-in-Bcanput : goal.returns-in-Bcanput
 returns-in-Bcanput c =
-    tells_queues c.in-Bcanput.is c.requires yes_or_no (queues.bcanput c.in-Bcanput.queue c.in-Bcanput.band (queued c.args.self.now)) refl (bcanput_left (queued c.args.self.now) c.in-Bcanput.queue c.in-Bcanput.band) refl
-    c.bcanput.ensures.pool c.bcanput.ensures.answer c.truth.ensures
+    let made = queues.bcanput c.in-Bcanput.queue c.in-Bcanput.band (queued c.args.self.now) in
+    tells c.in-Bcanput.is c.requires yes_or_no (on_queues c.args.self.now made) refl (all_stays c.bcanput.ensures.arena) refl c.bcanput.ensures.pool (queues_answer c.args.self.now made) c.bcanput.ensures.answer c.truth.ensures
+
+pub returns-in-Qenable : goal.returns-in-Qenable
+returns-in-Qenable c =
+    let made = queues.qenable c.in-Qenable.queue (queued c.args.self.now) in
+    tells c.in-Qenable.is c.requires (λ done. Done) (on_queues c.args.self.now made) refl (all_stays c.qenable.ensures.arena) refl c.qenable.ensures.pool (queues_answer c.args.self.now made) c.qenable.ensures.answer c.done-in-Qenable.ensures
+
+pub returns-in-Noenable : goal.returns-in-Noenable
+returns-in-Noenable c =
+    let made = queues.noenable c.in-Noenable.queue (queued c.args.self.now) in
+    tells c.in-Noenable.is c.requires (λ done. Done) (on_queues c.args.self.now made) refl (all_stays c.noenable.ensures.arena) refl c.noenable.ensures.pool (queues_answer c.args.self.now made) c.noenable.ensures.answer c.done-in-Noenable.ensures
+
+pub returns-in-Enableok : goal.returns-in-Enableok
+returns-in-Enableok c =
+    let made = queues.enableok c.in-Enableok.queue (queued c.args.self.now) in
+    tells c.in-Enableok.is c.requires (λ done. Done) (on_queues c.args.self.now made) refl (all_stays c.enableok.ensures.arena) refl c.enableok.ensures.pool (queues_answer c.args.self.now made) c.enableok.ensures.answer c.done-in-Enableok.ensures
 
 pub returns-in-Service : goal.returns-in-Service
 returns-in-Service c =
-    let served = queues.next_service (queued c.args.self.now) in
-    leaves_held c.in-Service.is c.requires refl (subst (λ (v : PoolValue). LeavesHeld [] c.args.self.now.arena v.arena) (sym c.next_service.ensures.pool) (held_stay c.args.self.now.arena))
-    (ap (λ v. replying v (table_of c.args.regs.now) (queue_or_nothing served.0)) (sym c.next_service.ensures.pool)
-    ∙ ap (replying c.next_service.new.self (table_of c.args.regs.now)) (ap queue_or_nothing (sym c.next_service.ensures.answer) ∙ sym c.queue.ensures))
+    let v = c.args.self.now in
+    tells c.in-Service.is c.requires queue_or_nothing (Ok ((queues.next_service (queued v)).0, with_queued v (queues.next_service (queued v)).1)) refl (all_stays c.next_service.ensures.arena) refl c.next_service.ensures.pool
+    refl (ap (λ o. Ok o) c.next_service.ensures.answer) c.queue.ensures
 
 pub returns-in-Bufcall : goal.returns-in-Bufcall
 returns-in-Bufcall c =
-    tells c.in-Bufcall.is c.requires (λ id. replies.Id id) (wishes.bufcall c.in-Bufcall.size c.args.self.now) refl
-    (all_stays c.args.self.now.arena c.bufcall.new.self.arena (ap (λ (v : PoolValue). v.arena) c.bufcall.ensures.pool ∙ bufcall_stays c.args.self.now c.in-Bufcall.size)) refl c.bufcall.ensures.pool c.bufcall.ensures.answer c.id.ensures
+    tells c.in-Bufcall.is c.requires (λ id. replies.Id id) (wishes.bufcall c.in-Bufcall.size c.args.self.now) refl (all_stays c.bufcall.ensures.arena) refl c.bufcall.ensures.pool refl c.bufcall.ensures.answer c.id.ensures
 
 pub returns-in-Unbufcall : goal.returns-in-Unbufcall
 returns-in-Unbufcall c =
-    tells c.in-Unbufcall.is c.requires (λ done. Done) (wishes.unbufcall c.in-Unbufcall.id c.args.self.now) refl
-    (all_stays c.args.self.now.arena c.unbufcall.new.self.arena (ap (λ (v : PoolValue). v.arena) c.unbufcall.ensures.pool ∙ unbufcall_stays c.args.self.now c.in-Unbufcall.id)) refl c.unbufcall.ensures.pool c.unbufcall.ensures.answer c.done-in-Unbufcall.ensures
+    tells c.in-Unbufcall.is c.requires (λ done. Done) (wishes.unbufcall c.in-Unbufcall.id c.args.self.now) refl (all_stays c.unbufcall.ensures.arena) refl c.unbufcall.ensures.pool refl c.unbufcall.ensures.answer c.done-in-Unbufcall.ensures
 
 pub returns-in-Ready : goal.returns-in-Ready
 returns-in-Ready c =
-    leaves_held c.in-Ready.is c.requires refl (all_stays c.args.self.now.arena c.take_ready.new.self.arena (ap (λ (v : PoolValue). v.arena) c.take_ready.ensures.pool ∙ take_ready_stays c.args.self.now))
-    (ap (λ v. replying v (table_of c.args.regs.now) (ready_or_nothing (wishes.take_ready c.args.self.now).0)) (sym c.take_ready.ensures.pool)
-    ∙ ap (replying c.take_ready.new.self (table_of c.args.regs.now)) (ap ready_or_nothing (sym c.take_ready.ensures.answer) ∙ sym c.ready.ensures))
+    let ready = wishes.take_ready c.args.self.now in
+    tells c.in-Ready.is c.requires ready_or_nothing (Ok (ready.0, ready.1)) refl (all_stays c.take_ready.ensures.arena) refl c.take_ready.ensures.pool refl (ap (λ o. Ok o) c.take_ready.ensures.answer) c.ready.ensures
 
 -- ---- it is freed
 
@@ -205,7 +202,7 @@ returns-in-Freeb c =
     (leaves_one c.in-Freeb.is c.requires c.in-Freeb.reg c.freeb-rest.result (blocks.freeb token.head v.arena).0 refl c.picked-token-in-Freeb.ensures.token
     (ap (λ h. doing v (table_of c.args.regs.now) (leaves c.in-Freeb.reg) (on_arena v (Ok (blocks.freeb h v.arena)))) (head_is c.args.regs.now c.in-Freeb.reg token c.picked-token-in-Freeb.ensures.token)
     ∙ ap (λ p. replying p (set (table_of c.args.regs.now) c.in-Freeb.reg (blocks.freeb token.head v.arena).0) Done) (sym freed.pool))
-    freed.rest freed.had freed.unheld (held_left freed.others) freed.gone)
+    freed.rest freed.had freed.unheld freed.others freed.gone)
 
 pub returns-in-Freemsg : goal.returns-in-Freemsg
 returns-in-Freemsg c =
@@ -216,7 +213,7 @@ returns-in-Freemsg c =
     (spends_one c.in-Freemsg.is c.requires c.in-Freemsg.reg (on_arena v (Ok (tt, freeing.freemsg token.head v.arena))) {done = Ok tt} refl picked.token
     (ap (λ h. doing v (table_of c.args.regs.now) (spends c.in-Freemsg.reg) (on_arena v (Ok (tt, freeing.freemsg h v.arena)))) (head_is c.args.regs.now c.in-Freemsg.reg token picked.token))
     (c.freemsg.ensures.pool ∙ ap (with_arena v) (cond-true (has v.arena token) (freeing.freemsg token.head v.arena) v.arena picked.had)) refl refl
-    (held_left c.freemsg.ensures.others, ap (λ (p : PoolValue). held_at p.arena token.head) c.freemsg.ensures.pool ∙ spent_gone v.arena token picked.had))
+    (ap (λ (p : PoolValue). held_at p.arena token.head) c.freemsg.ensures.pool ∙ spent_gone v.arena token picked.had) c.freemsg.ensures.others refl)
 
 -- ---- messages are joined and parted
 
@@ -230,7 +227,7 @@ returns-in-Linkb c =
     let behind = sym (get_or-set_other rs c.in-Linkb.reg c.in-Linkb.behind None None (λ same. apart (sym same))) ∙ ap (λ l. register l c.in-Linkb.behind) (sym c.picked-token.ensures.empty) ∙ c.picked-tail.ensures.token in
     subst (λ ss. Applies v rs c.args.call.now c.linkb.new.self ss Done)
     (sym (c.hold.ensures ∙ ap (λ (l : List (Option TokenValue)). set l c.in-Linkb.reg (Some c.linkb.new.token)) (c.picked-tail.ensures.empty ∙ ap (λ (l : List (Option TokenValue)). set l c.in-Linkb.behind None) c.picked-token.ensures.empty)))
-    (links c.in-Linkb.is c.requires c.in-Linkb.reg c.in-Linkb.behind c.linkb.new.token refl c.picked-token.ensures.token behind apart (ap (λ (t : TokenValue). t.head) c.linkb.ensures.token) c.linkb.ensures.had (held_left c.linkb.ensures.others)
+    (links c.in-Linkb.is c.requires c.in-Linkb.reg c.in-Linkb.behind c.linkb.new.token refl c.picked-token.ensures.token behind apart (ap (λ (t : TokenValue). t.head) c.linkb.ensures.token) c.linkb.ensures.had c.linkb.ensures.others
     (λ apart. ap (λ (p : PoolValue). held_at p.arena tail.head) c.linkb.ensures.pool ∙ linkb_gone v.arena token.head tail.head apart)
     ((λ i. replying (with_arena v (blocks.linkb (head_is rs c.in-Linkb.reg token c.picked-token.ensures.token i) (head_is rs c.in-Linkb.behind tail behind i) v.arena)) (set (table_of rs) c.in-Linkb.behind None) Done)
     ∙ ap (λ p. replying p (set (table_of rs) c.in-Linkb.behind None) Done) (sym c.linkb.ensures.pool)))
@@ -239,7 +236,7 @@ pub returns-in-Unlinkb : goal.returns-in-Unlinkb
 returns-in-Unlinkb c =
     let parted = c.unlinkb-rest.ensures in
     unlinks c.in-Unlinkb.is c.requires c.in-Unlinkb.reg c.in-Unlinkb.into refl c.picked-token-in-Unlinkb.ensures.token c.unlinkb-rest.result (λ h a. blocks.unlinkb h a) refl
-    parted.pool parted.rest parted.token parted.had parted.rest_had parted.unheld (held_left parted.others)
+    parted.pool parted.rest parted.token parted.had parted.rest_had parted.unheld parted.others
     (c.give_any.ensures ∙ ap (any_given_to c.in-Unlinkb.into (Ok c.unlinkb-rest.result)) (put_in_place c.args.regs.now c.in-Unlinkb.reg (Some c.unlinkb-rest.new.token) c.hold-in-Unlinkb.ensures c.picked-token-in-Unlinkb.ensures.empty))
 
 pub returns-in-Rmvb : goal.returns-in-Rmvb
@@ -254,5 +251,5 @@ returns-in-Rmvb c =
     (ap (λ h. doing v (table_of rs) (parts c.in-Rmvb.reg c.in-Rmvb.into) (on_arena v (blocks.rmvb h c.in-Rmvb.place v.arena))) (head_is rs c.in-Rmvb.reg token c.picked-token-in-Rmvb.ensures.token))
     removed.pool
     (removed.answer ∙ ap (λ r. or_rejected token (answer_map (λ heads. (token_of c.rmvb.new.self.arena heads.0, option_map (token_of c.rmvb.new.self.arena) heads.1)) r)) (sym (arena_answer v made)))
-    removed.had removed.rest_had removed.unheld removed.rest_unheld removed.apart (held_left removed.others)
+    removed.had removed.rest_had removed.unheld removed.rest_unheld removed.apart removed.others
     (λ n o u is. rmvb_gone v.arena u.arena token.head c.in-Rmvb.place n o (on_arena_is v u made (n, o) is)))

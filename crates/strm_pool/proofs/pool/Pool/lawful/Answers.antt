@@ -18,6 +18,7 @@ returns c =
       parted = blocks.parted;
       kept = blocks.kept;
       within = blocks.within;
+      bands = blocks.bands;
       whole = blocks.whole;
       few = blocks.few;
       few_classes = few_classes;
