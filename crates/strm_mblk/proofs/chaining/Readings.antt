@@ -14,10 +14,11 @@ use Rattle.strm_links.proofs.AllLists.{has-holder}
 use Rattle.strm_mblk.specs.ChainLayout.{IsChained, nodes_of}
 use Rattle.strm_mblk.specs.Messages.{shelf_in}
 use Rattle.strm_mblk.specs.NodeLists.{NodeLists, head_node, heads_on, nodes_at, shelved_nodes}
+use Rattle.strm_mblk.proofs.lists.Numbers.{at_first}
 use Rattle.strm_mblk.proofs.chaining.Seen.{held_off, held_on, length-held, length-shelves, off_shelf, shelf-get}
 
 -- a list in which something stands is there
-there_is : (o : Option (List ℕ)) (i x : ℕ) → slice_get (items_of o) i ≡ Some x → IsSome o
+pub there_is : (o : Option (List ℕ)) (i x : ℕ) → slice_get (items_of o) i ≡ Some x → IsSome o
 there_is None i x at = absurd (none-some x at)
 there_is (Some ns) i x at = refl
 
@@ -96,12 +97,15 @@ module _ (v : StrandLists) (heads : Rows) (laid : IsChained v heads) where
           | inr past ↦ inr (seen ∙ get_or_past (map (strand_at v) (list_at k heads)) j [] (omega (arith, past, length-map (list_at k heads) (strand_at v))))
         ]
 
-    pub next_shelved : (k j i x : ℕ) → slice_get (shelved_nodes w k j) i ≡ Some x → (o : Option ℕ) → ((g l : ℕ) → slice_get (strand_at v g) l ≡ Some x → o ≡ slice_get (strand_at v g) (l + 1))
-        → o ≡ slice_get (shelved_nodes w k j) (i + 1)
-    next_shelved k j i x at o next =
+    -- which is the strand of its head
+    pub strand_shelved : (k j h : ℕ) → slice_get (shelved_nodes w k j) 0 ≡ Some h → strand_at v h ≡ shelved_nodes w k j
+    strand_shelved k j h at =
         elim (shelved_along k j) [
-          | inl same ↦ next (get_or (list_at k heads) j 0) i (ap (λ ns. slice_get ns i) (sym same) ∙ at) ∙ ap (λ ns. slice_get ns (i + 1)) (sym same)
-          | inr none ↦ absurd (none-some x (ap (λ ns. slice_get ns i) (sym none) ∙ at))
+          | inl same ↦
+              let g = get_or (list_at k heads) j 0 in
+              let here = ap (λ ns. slice_get ns 0) (sym same) ∙ at in
+              ap (strand_at v) (sym (same_Some g h (sym (at_first (strand_at v g) g (begins g (there_is (held_in v.held g) 0 h here))) ∙ here))) ∙ sym same
+          | inr none ↦ absurd (none-some h (ap (λ ns. slice_get ns 0) (sym none) ∙ at))
         ]
 
     -- ---- the messages on a shelf

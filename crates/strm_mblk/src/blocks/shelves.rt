@@ -8,6 +8,7 @@ ghost use Rattle.strm_mblk.specs.Frame.{LeavesOthers};
 ghost use Rattle.strm_mblk.specs.Shelves as model;
 ghost use Rattle.strm_mblk.specs.Shelves.{head_block, heads_at, shelf_of, shelved_message, stands_on};
 
+use super::reading::sum_of_lengths;
 use super::{BlockNo, Blocks};
 use crate::token::Token;
 use strm_data::MsgType;
@@ -109,15 +110,6 @@ impl Blocks {
         requires { IsSome (shelf_of self.now head) }
         ensures { result ≡ size_of (shelved_message self.now head) }
     {
-        let mut size = 0;
-        let mut at = Some(head);
-        for _block in 0..self.queued {
-            let Some(node) = at else {
-                return size;
-            };
-            size += self.blocks[node as usize].len;
-            at = self.chains.next(node);
-        }
-        size
+        sum_of_lengths(self.chains.strands(), &self.blocks, &self.data, head, false)
     }
 }
