@@ -44,8 +44,9 @@ fn takes(blocks: &Blocks, head: BlockNo, flush: Flush) -> bool
 
 impl Queues {
     /// Frees the messages of a queue front to back: all, or those that carry data. What stays keeps its place and enables
-    /// nothing; a band that has room again may enable a queue behind. Takes a step for each message, two for each block that
-    /// is freed, and one for each wanted band of the queue.
+    /// nothing. Then the queue is settled, as by `getq`: a wanted band that has at most as many bytes as its low water mark
+    /// loses its wanted mark, and the nearest queue behind with a service procedure is enabled. Takes a step for each
+    /// message, two for each block that is freed, and one for each wanted band of the queue.
     ///
     /// Refused as `NoSuchQueue` where there is no such queue; nothing changes then.
     pub fn flushq(&mut self, blocks: &mut Blocks, queue: u8, flush: Flush) -> Result<(), Refusal>
@@ -59,9 +60,10 @@ impl Queues {
     }
 
     /// Frees the messages of one band of a queue, front to back: all of them, or those that carry data. High priority
-    /// messages are of band 0. What stays keeps its place and enables nothing; a band that has room again may enable a
-    /// queue behind. Takes a step for each message of the band, two for each block that is freed, and one for each wanted band
-    /// of the queue.
+    /// messages are of band 0. What stays keeps its place and enables nothing. Then the queue is settled, as by `getq`: a
+    /// wanted band that has at most as many bytes as its low water mark loses its wanted mark, and the nearest queue behind
+    /// with a service procedure is enabled. Takes a step for each message of the band, two for each block that is freed, and
+    /// one for each wanted band of the queue.
     ///
     /// Refused as `NoSuchQueue` where there is no such queue; nothing changes then.
     pub fn flushband(

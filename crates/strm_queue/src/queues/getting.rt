@@ -12,8 +12,11 @@ use strm_data::Refusal;
 use strm_mblk::{Blocks, Token};
 
 impl Queues {
-    /// Takes the first message off a queue, or nothing where the queue is empty, and settles it. Takes a step for each block
-    /// of the message, and for each wanted band of the queue.
+    /// Takes the first message off a queue, clears its want-to-read mark, and settles it: each wanted band that has at most
+    /// as many bytes as its low water mark loses its wanted mark, and where one does, the nearest queue behind with a
+    /// service procedure is enabled. Takes a step for each block of the message, and for each wanted band of the queue.
+    ///
+    /// Where the queue is empty, it gives nothing and sets the want-to-read mark: somebody wants to read from it.
     ///
     /// Refused as `NoSuchQueue` where there is no such queue; nothing changes then.
     #[tactic(auto, using(crate::proofs::moving::Others::others_same))]
@@ -42,8 +45,10 @@ impl Queues {
         Ok(Some(token))
     }
 
-    /// Takes the message at `place`, counted from 0, off a queue, and settles it. Takes `place` steps, and one for each block
-    /// of the message and for each wanted band of the queue.
+    /// Takes the message at `place`, counted from 0, off a queue, and settles it, as `getq` does: a wanted band that has at
+    /// most as many bytes as its low water mark loses its wanted mark, and the nearest queue behind with a service procedure
+    /// is enabled. The want-to-read mark stays. Takes `place` steps, and one for each block of the message and for each wanted
+    /// band of the queue.
     ///
     /// Refused as `NoSuchQueue` where there is no such queue, then as `NoSuchPlace` where it has no such message; nothing
     /// changes then.

@@ -15,6 +15,9 @@ impl Queues {
     /// Puts a message on a queue, behind the last one of rank at least its own. A high priority message ranks above all
     /// bands, and its first block gets band 0. Takes a step for each block of the message.
     ///
+    /// Enables the queue, as `qenable` does, where the message is of high priority; or else where enabling is not switched
+    /// off, and either somebody wants to read from the queue or the message is of a band above 0.
+    ///
     /// Rejected as `NoSuchQueue` where there is no such queue; nothing changes then, and the token comes back.
     #[tactic(auto, using(crate::proofs::moving::Others::others_same))]
     pub fn putq(&mut self, blocks: &mut Blocks, queue: u8, token: Token) -> Result<(), Rejected>
@@ -40,6 +43,9 @@ impl Queues {
 
     /// Puts a message back on a queue, before the first one of rank at most its own. A high priority message ranks above
     /// all bands, and its first block gets band 0. Takes a step for each block of the message.
+    ///
+    /// Enables the queue, as `qenable` does, where the message is of high priority; or else where enabling is not switched
+    /// off and somebody wants to read from the queue. The band of the message does not count.
     ///
     /// Rejected as `NoSuchQueue` where there is no such queue; nothing changes then, and the token comes back.
     #[tactic(auto, using(crate::proofs::moving::Others::others_same))]
@@ -67,6 +73,9 @@ impl Queues {
     /// Puts a message on a queue before the one at `place`, counted from 0, or last where `place` is the number of
     /// messages. The first block of a high priority message gets band 0. Takes `place` steps, and one for each block of the
     /// message.
+    ///
+    /// Enables the queue, as `qenable` does, where enabling is not switched off and somebody wants to read from the queue.
+    /// Not even high priority counts.
     ///
     /// Rejected as `NoSuchQueue` where there is no such queue, then as `NoSuchPlace` where it has fewer messages, then as
     /// `BadOrder` where ranks would rise from front to back; nothing changes then, and the token comes back.
