@@ -1,8 +1,16 @@
 # Builds, runs and tests the program strm. All that it needs is Rattle's command `rt` on PATH.
 
+SHELL := bash
+.SHELLFLAGS := -o pipefail -c
+
 PREFIX ?= /usr/local
 BUILT := crates/strm_driver/out/strm_driver
 SOURCES := crates.txt HANDLES $(shell find crates -path '*/out' -prune -o \( -name '*.rt' -o -name '*.antt' \) -print)
+# What `rt` said when it last proved and built the program.
+LOG := build/proving.log
+
+# Ends with one line where there is no `rt`.
+NEEDS_RT = $(if $(shell command -v rt 2>/dev/null),,$(error Rattle's command rt is not on PATH, and README.md says which is wanted))
 
 .PHONY: run test bench strm install
 
@@ -10,8 +18,9 @@ SOURCES := crates.txt HANDLES $(shell find crates -path '*/out' -prune -o \( -na
 run: $(BUILT)
 	@$(BUILT) --serial <examples/first_run.strm
 
-# Proves everything from nothing, and runs all tests and cases.
+# The whole gate: all proofs, the edits that must be refused, all tests and cases.
 test:
+	$(NEEDS_RT)
 	@.ci/run
 
 # Prints what a line and a call cost. OPTIONS are words of bench/run.py, as --instructions, or --write for docs/.
@@ -30,6 +39,8 @@ install: $(BUILT)
 
 # Only a proved program is built. `rt run` keeps its work, and runs the program once.
 $(BUILT): $(SOURCES)
-	@echo "proving and building strm: some ten minutes the first time, and seconds to minutes after a change" >&2
-	@cd crates/strm_driver && rt run -- --help </dev/null >/dev/null
+	$(NEEDS_RT)
+	@echo "proving and building strm, TO-MEASURE minutes the first time, and seconds to minutes after a change; what is said of it goes to $(LOG)" >&2
+	@mkdir -p $(dir $(LOG))
+	@cd crates/strm_driver && rt run -- --help </dev/null 2>&1 | tee $(CURDIR)/$(LOG) | awk '/^crate /{ name = $$2 } /^logic=proved/{ print name, "proved"; fflush() }' >&2 || { echo "not proved, for the reason in $(LOG)" >&2; exit 1; }
 	@touch $(BUILT)

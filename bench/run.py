@@ -13,10 +13,11 @@ import tempfile
 from functools import partial
 from itertools import count, islice
 
+from limits import DATA_BLOCK_BYTES, DATA_BLOCKS, MESSAGE_BLOCKS, SCRIPT_BYTES, WISHES
 from script import RANKED, WORDS, drawn
 
 SIZES = (1_000, 10_000, 100_000, 1_000_000)
-POOLS = (16, 255, 4_095)
+POOLS = (16, 255, MESSAGE_BLOCKS)
 QUEUED = (16, 255, 4_000)
 DOCS = os.path.join(os.path.dirname(os.path.abspath(__file__)), "..", "docs")
 BEGIN, END = "<!-- bench: begin -->\n", "<!-- bench: end -->\n"
@@ -42,7 +43,7 @@ class Meter:
     """Measures a program, by processor time or by instructions, so many times for a median."""
 
     def __init__(self, program, rounds, instructions, folder):
-        self.words = [program, "--serial", "--max", "16777216"]
+        self.words = [program, "--serial", "--max", str(SCRIPT_BYTES)]
         self.rounds = rounds
         self.instructions = instructions
         self.folder = folder
@@ -64,7 +65,7 @@ class Meter:
         return (used.ru_utime + used.ru_stime) * 1e9
 
     def more(self, short, long):
-        """How much more a script costs than another: the median of runs that take turns."""
+        """How much more a script costs than another: the median of so many runs of each, one after the other."""
         return statistics.median(self.cost(long) - self.cost(short) for _ in range(self.rounds))
 
     def peak(self, script):
@@ -124,8 +125,8 @@ def every_ranked_round(messages):
 
 def lines_to_fill(filled, blocks):
     """The lines up to a pool that is filled with one message, or with a queue of messages. README.md describes it."""
-    yield from (f"pool 1 {blocks}", f"class 16 {min(blocks, 4_091)}", "class 4096 4", "queue 65536 0 s -")
-    yield from ("bufcalls 64 1", "worker", "allocb c 16", "setband c 1")
+    yield from (f"pool 1 {blocks}", f"class 16 {min(blocks, DATA_BLOCKS - 4)}", f"class {DATA_BLOCK_BYTES} 4")
+    yield from ("queue 65536 0 s -", f"bufcalls {WISHES} 1", "worker", "allocb c 16", "setband c 1")
     if filled == "message":
         yield from ("allocb a 16", "write a 0 6162")
         for _ in range(numbers(blocks)["last"]):
@@ -234,7 +235,7 @@ def panel(left, top, width, height, title, xs, curves):
 
 
 def plot(meter, by_line, by_call):
-    """Both tables as a picture. Only words are named that cost four times as much at 4,095 message blocks as at 16."""
+    """Both tables as a picture. Only words are named that cost four times as much in the largest pool as in the smallest."""
     unit = "Instructions" if meter.instructions else "Nanoseconds"
     costs, peaks = zip(*by_line.values())
     growing = [(", ".join(words) if costs[-1] > 4 * costs[0] else "", costs) for words, _, costs in by_call]

@@ -4,10 +4,13 @@ import argparse
 import random
 from typing import Callable, NamedTuple
 
+from limits import COMMAND_LINES, DATA_BLOCK_BYTES, DATA_BLOCKS, MESSAGE_BLOCKS, WISHES
+
 REGISTERS = "abcdefghijklmnopqrstuvwxyz"
 QUEUES = "0123"
-HEADER = ["pool 1 4095", "class 16 2000", "class 64 1500", "class 256 500", "class 4096 95"]
-HEADER += ["queue 16 4 s 1", "queue 16 4 n 2", "queue 16 4 s 3", "queue 16 4 s -", "bufcalls 64 1"]
+HEADER = [f"pool 1 {MESSAGE_BLOCKS}", "class 16 2000", "class 64 1500", "class 256 500"]
+HEADER += [f"class {DATA_BLOCK_BYTES} {DATA_BLOCKS - 4000}"]
+HEADER += ["queue 16 4 s 1", "queue 16 4 n 2", "queue 16 4 s 3", "queue 16 4 s -", f"bufcalls {WISHES} 1"]
 
 # Items that are counted: the names that may stand there, and of how many blocks, or messages, at least and at most.
 COUNTED = {
@@ -135,7 +138,7 @@ def drawn(count, seed=1, workers=1):
 def main():
     """Writes a script to standard output."""
     words = argparse.ArgumentParser(description=__doc__)
-    words.add_argument("lines", type=int, help="how many command lines, at most 1048576")
+    words.add_argument("lines", type=int, help=f"how many command lines, at most {COMMAND_LINES}")
     words.add_argument("--seed", type=int, default=1)
     words.add_argument("--workers", type=int, default=1, help="how many sections")
     given = words.parse_args()

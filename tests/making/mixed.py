@@ -96,7 +96,7 @@ def written(value):
     return value.hex() or "-" if isinstance(value, bytes) else str(value)
 
 
-def turn(model, dice):
+def drawn(model, dice):
     """A line, and the reply to it, or None where it is none of a command."""
     if dice.below(20) == 0:
         return dice.one_of(["", "#", "# more"]), None
@@ -109,7 +109,7 @@ def turn(model, dice):
 def section(model, dice, lines):
     """So many lines of another worker, with their replies."""
     model.begin()
-    return [turn(model, dice) for _ in range(lines)]
+    return [drawn(model, dice) for _ in range(lines)]
 
 
 def write_mixed(folder, pool, workers, lines):

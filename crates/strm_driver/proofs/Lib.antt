@@ -1,3 +1,4 @@
-pub mod Merges
-pub mod Serving
-pub mod Rows
+mod Ends
+mod Merges
+mod Serving
+mod Rows

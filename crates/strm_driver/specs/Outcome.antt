@@ -6,7 +6,6 @@ use Rattle.strm_pool.specs.Config.{fault_of}
 use Rattle.strm_script.specs.declared.fault.Fault.{Fault}
 use Rattle.strm_driver.specs.declared.fault.RunFault.{RunFault}
 use Rattle.strm_driver.specs.declared.fault.RunFault.TheVariants.{TooLong, Script, Config}
-use Rattle.strm_shared.specs.declared.line.Line.{Line}
 use Rattle.strm_driver.specs.declared.run.Mode.{Mode}
 use Rattle.strm_driver.specs.declared.run.Mode.TheVariants.{Serial, Workers}
 use Rattle.strm_script.specs.Merge.{Served, IsMerge, serial_merge}
@@ -39,16 +38,18 @@ IsTextUnder script served text = IsMerge script.parts served × (text ≡ text_o
 abbrev pub IsSerialText : ScriptValue → List ℕ → Type 0
 IsSerialText script text = IsTextUnder script (serial_merge script.parts) text
 
--- the text of a script of these sections that workers serve: one section has one order; of several nothing is
--- said until a trace is kept
-abbrev pub IsTextByWorkers : ScriptValue → List (List Line) → List ℕ → Type 0
-IsTextByWorkers script (first ∷ second ∷ more) text = Unit {0}
-IsTextByWorkers script parts text = IsSerialText script text
+-- the mode in which a script is served: workers serve several sections, and one alone needs none
+abbrev pub mode_of : Mode → ScriptValue → Mode
+mode_of mode script = if nat_lt 1 (length script.parts) then mode else Serial
 
--- the text of a script that is served in this mode
+-- the text of a script that is served so; of workers nothing is said until a trace is kept
+abbrev pub IsTextServed : Mode → ScriptValue → List ℕ → Type 0
+IsTextServed Serial script text = IsSerialText script text
+IsTextServed Workers script text = Unit {0}
+
+-- the text of a script, where this mode was asked for
 abbrev pub IsTextOf : Mode → ScriptValue → List ℕ → Type 0
-IsTextOf Serial script text = IsSerialText script text
-IsTextOf Workers script text = IsTextByWorkers script script.parts text
+IsTextOf mode script text = IsTextServed (mode_of mode script) script text
 
 -- an input has no fault, and this is the text of its script
 abbrev pub IsTextOfInput : Mode → ℕ → List ℕ → List ℕ → Type 0

@@ -8,12 +8,15 @@ use Rattle.strm_pool.specs.declared.config.NewFault.TheVariants as new_faults
 use Rattle.strm_pool.specs.declared.config.Which.{Which}
 use Rattle.strm_script.specs.declared.fault.ParseFault.{ParseFault}
 use Rattle.strm_script.specs.declared.fault.ParseFault.TheVariants as parse_faults
+use Rattle.strm_shared.specs.Books.{MayRefuse}
 use Rattle.strm_shared.specs.declared.outcome.End.{End}
 use Rattle.strm_shared.specs.declared.outcome.End.TheVariants as ends
 use Rattle.strm_driver.specs.declared.fault.RunFault.{RunFault}
 use Rattle.strm_driver.specs.declared.fault.RunFault.TheVariants.{Read, TooLong, Write, Script, Config, Memory, Refused}
 use Rattle.strm_driver.specs.declared.fault.TextFault.{TextFault}
 use Rattle.strm_driver.specs.declared.fault.TextFault.TheVariants as text_faults
+use Rattle.strm_driver.specs.declared.run.Mode.{Mode}
+use Rattle.strm_driver.specs.declared.run.Mode.TheVariants.{Serial, Workers}
 use Rattle.strm_driver.specs.declared.input.ReadFault.{ReadFault}
 use Rattle.strm_driver.specs.declared.input.ReadFault.TheVariants as read_faults
 
@@ -30,11 +33,17 @@ TellsFault (Config which) first = first ≡ Some (Config which)
 TellsFault Memory first = Unit {0}
 TellsFault (Refused why) first = first ≡ None
 
--- the same of a configuration, whose fault comes before any want of memory, and of a pool that is to be shared
+-- the same of a configuration, whose fault comes before any want of memory; nothing else is wrong with a pool of one thread
 abbrev pub TellsNewFault : NewFault → Option Which → Type 0
 TellsNewFault (new_faults.BadConfig which) first = first ≡ Some which
-TellsNewFault new_faults.BadShared first = first ≡ None
+TellsNewFault new_faults.BadShared first = ⊥
 TellsNewFault new_faults.Memory first = first ≡ None
+
+-- a worker is told as refused where workers serve and nowhere else, as worn or as a stranger
+abbrev pub TellsWorker : RunFault → Mode → Type 0
+TellsWorker (Refused why) Workers = MayRefuse why
+TellsWorker (Refused why) Serial = ⊥
+TellsWorker other mode = Unit {0}
 
 -- ---- what a fault tells of the reader and of the writer
 

@@ -1,11 +1,13 @@
 //! The text of a script whose sections are served by workers.
-ghost use Rattle.std.specs.Prelude.{◌≡◌, ◌≤◌, IfErr, None, OnOk, length};
+ghost use Rattle.std.specs.Prelude.{◌≡◌, ◌≤◌, IfErr, IfSome, None, OnOk, length};
 ghost use Rattle.std.specs.List.{list_any};
 ghost use Rattle.strm_pool.specs.Config.{fault_of};
+ghost use Rattle.strm_shared.specs.Books.{MayRefuse};
 ghost use Rattle.strm_shared.specs.Limits.{most_workers};
 ghost use Rattle.strm_shared.specs.Starts.{IsNameOf};
 ghost use Rattle.strm_driver.specs.Outcome.{fault_of_config};
-ghost use Rattle.strm_driver.specs.Told.{TellsFault, ended_as, first_refused, is_not_started, run_fault_of_text};
+ghost use Rattle.strm_driver.specs.Told.{TellsFault, TellsWorker, ended_as, first_refused, is_not_started, run_fault_of_text};
+ghost use Rattle.strm_driver.specs.declared.run.Mode.TheVariants.{Workers};
 
 use crate::fault::TextFault;
 use crate::output::room_for;
@@ -41,8 +43,10 @@ fn first_refused(ends: &[End]) -> Option<Refusal>
 
 // How a run ends whose workers ended so.
 fn ended(ends: &[End]) -> Result<(), TextFault>
+    requires { IfSome (first_refused ends.now) (λ why. MayRefuse why) }
     ensures value { result ≡ ended_as ends.now }
     ensures told { IfErr result (λ fault. TellsFault (run_fault_of_text fault) None) }
+    ensures worker { IfErr result (λ fault. TellsWorker (run_fault_of_text fault) Workers) }
 {
     if lacks_thread(ends) {
         return Err(TextFault::Memory);
@@ -99,8 +103,10 @@ fn text_of_outcome<N: Name>(
     parts: &Parts,
     outcome: Outcome<N>,
 ) -> Result<Vec<u8>, TextFault>
-    requires { N.desks ≤ length outcome.desks }
-    ensures { IfErr result (λ fault. TellsFault (run_fault_of_text fault) None) }
+    requires whole { N.desks ≤ length outcome.desks }
+    requires refused { IfSome (first_refused outcome.ends) (λ why. MayRefuse why) }
+    ensures told { IfErr result (λ fault. TellsFault (run_fault_of_text fault) None) }
+    ensures worker { IfErr result (λ fault. TellsWorker (run_fault_of_text fault) Workers) }
 {
     let Outcome {
         desks,
@@ -123,8 +129,8 @@ fn text_of_outcome<N: Name>(
     }
 }
 
-// Opens a shared pool under a name, and has its desks serve the parts.
-fn day<N: Name + Send + Sync, R: Threads + Wait + Sync, G: Gate>(
+// The text of parts that desks serve, where the pool is shared under this name.
+fn shared_text<N: Name + Send + Sync, R: Threads + Wait + Sync, G: Gate>(
     rt: &R,
     alloc: Global,
     gate: &G,
@@ -133,7 +139,8 @@ fn day<N: Name + Send + Sync, R: Threads + Wait + Sync, G: Gate>(
 ) -> Result<Vec<u8>, TextFault>
     requires name { IsNameOf N.Name start }
     requires desks { start.desks ≡ length parts.now }
-    ensures { IfErr result (λ fault. TellsFault (run_fault_of_text fault) None) }
+    ensures told { IfErr result (λ fault. TellsFault (run_fault_of_text fault) None) }
+    ensures worker { IfErr result (λ fault. TellsWorker (run_fault_of_text fault) Workers) }
 {
     let (shared, desks) = start.open::<N>();
     match run_workers(rt, alloc, &shared, desks, parts, gate) {
@@ -154,9 +161,11 @@ pub fn workers_text<R: Threads + Wait + Sync, G: Gate>(
     gate: &G,
     script: Script,
 ) -> Result<Vec<u8>, TextFault>
-    requires { length script.parts ≤ most_workers }
+    requires some { 1 ≤ length script.parts }
+    requires few { length script.parts ≤ most_workers }
     ensures lawful { OnOk result (fault_of script.config ≡ None) }
     ensures refused { IfErr result (λ fault. TellsFault (run_fault_of_text fault) (fault_of_config script.config)) }
+    ensures worker { IfErr result (λ fault. TellsWorker (run_fault_of_text fault) Workers) }
 {
     let Script { config, parts } = script;
     let pool = Pool::new(alloc, config)?;
@@ -166,7 +175,7 @@ pub fn workers_text<R: Threads + Wait + Sync, G: Gate>(
         first_stamp: 0,
     };
     match Start::new(alloc, pool, setup) {
-        Ok(start) => day::<Brand, R, G>(rt, alloc, gate, start, &parts),
+        Ok(start) => shared_text::<Brand, R, G>(rt, alloc, gate, start, &parts),
         Err((fault, _)) => Err(fault.into()),
     }
 }

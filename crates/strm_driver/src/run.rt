@@ -3,8 +3,8 @@ ghost use Rattle.std.specs.Prelude.{◌≡◌, ◌≢◌, ◌≤◌, ◌+◌, �
 ghost use Rattle.std.specs.Io.KnownBytes.{Appends, Consumes, Keeps};
 ghost use Rattle.strm_script.specs.Limits.{most_script_bytes};
 ghost use Rattle.strm_script.specs.Script.{script_of};
-ghost use Rattle.strm_driver.specs.Outcome.{fault_of_script, fault_of_input, IsTextOf, IsTextOfInput};
-ghost use Rattle.strm_driver.specs.Told.{TellsFault, run_fault_of_text, errs, is_read, is_write};
+ghost use Rattle.strm_driver.specs.Outcome.{fault_of_script, fault_of_input, mode_of, IsTextOf, IsTextOfInput};
+ghost use Rattle.strm_driver.specs.Told.{TellsFault, TellsWorker, run_fault_of_text, errs, is_read, is_write};
 
 use crate::by_workers::workers_text;
 use crate::fault::{RunFault, TextFault};
@@ -41,6 +41,8 @@ fn text_of_script<E: Threads + Wait + Sync, G: Gate>(
     ensures text { IfOk result (λ text. IsOkAnd (script_of bytes.items) (λ script. IsTextOf mode script text.items)) }
     ensures lawful { OnOk result (fault_of_script (script_of bytes.items) ≡ None) }
     ensures refused { IfErr result (λ fault. TellsFault (run_fault_of_text fault) (fault_of_script (script_of bytes.items))) }
+    ensures mode { IfErr result (λ fault. TellsWorker (run_fault_of_text fault) mode) }
+    ensures sections { IfErr result (λ fault. IfOk (script_of bytes.items) (λ script. TellsWorker (run_fault_of_text fault) (mode_of mode script))) }
 {
     let script = parse(alloc, &bytes)?;
     drop(bytes);
@@ -69,6 +71,10 @@ pub fn run<E: AllocGlobal + Threads + Wait + Sync, G: Gate, R: Read, W: Write>(
     // An input too long, a script or a configuration is refused where it is at fault, and for its first fault.
     ensures refused { IfErr result (λ fault. IfSome (R.remaining reader.old.inner) (λ input.
         TellsFault fault (fault_of_input max input))) }
+    // A worker is told as refused in workers' mode alone, and of a script of several sections alone.
+    ensures mode { IfErr result (λ fault. TellsWorker fault mode) }
+    ensures sections { IfErr result (λ fault. IfSome (R.remaining reader.old.inner) (λ input.
+        IfOk (script_of input) (λ script. TellsWorker fault (mode_of mode script)))) }
     // After a write fault a prefix of the text was written.
     ensures cut { result ≡ Err RunFault.Write → IfSome (R.remaining reader.old.inner) (λ input.
         (text : List ℕ) × IsTextOfInput mode max input text

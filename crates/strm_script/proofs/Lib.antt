@@ -1,10 +1,10 @@
-pub mod Constants
-pub mod Words
-pub mod Forms
-pub mod Cuts
-pub mod Shapes
-pub mod Drafts
-pub mod Reading
-pub mod Scripts
-pub mod Digits
-pub mod Reports
+mod Constants
+mod Words
+mod Forms
+mod Cuts
+mod Shapes
+mod Drafts
+mod Reading
+mod Scripts
+mod Digits
+mod Reports

@@ -1,6 +1,6 @@
 -- The words of one length decide on a text of that length.
-use Rattle.std.proofs.Common.{◌≡◌, ◌≢◌, ℕ, ◌==◌, ◌<◌, arith, false, cond, List, [], ◌∷◌, length, filter, None, Some, inl, inr, refl, sym, ap, ◌∙◌, bytes_eq}
-use Rattle.std.proofs.lemmas.Bool.{cases_Bool, eqb-false, eqb-true, ne_eqb}
+use Rattle.std.proofs.Common.{◌≡◌, ◌≢◌, ℕ, ◌==◌, false, cond, List, [], ◌∷◌, length, filter, None, Some, inl, inr, refl, sym, ap, ◌∙◌, bytes_eq}
+use Rattle.std.proofs.lemmas.Bool.{cases_Bool, eqb-false, ne_eqb}
 use Rattle.std.proofs.lemmas.Slice.Eq.{bytes_eq-Decides}
 use Rattle.strm_script.specs.declared.word.Word.{Word}
 use Rattle.strm_script.specs.Lengths.{words_of_length}
@@ -21,21 +21,6 @@ word_among-length (w ∷ ws) text =
       | inl same ↦ rw same (ap (λ rest. cond (bytes_eq w.0 text) (Some w.1) rest) (word_among-length ws text))
       | inr apart ↦ rw (apart, bytes_eq-lengths w.0 text apart) (word_among-length ws text)
     ]
-
-among-unlike : (n : ℕ) (ws : List (List ℕ × Word)) (text : List ℕ) → n ≢ length text → None ≡ word_among (filter (λ w. length w.0 == n) ws) text
-among-unlike n [] text apart = refl
-among-unlike n (w ∷ ws) text apart =
-    elim (cases_Bool (length w.0 == n)) [
-      | inl same ↦ rw (same, bytes_eq-lengths w.0 text (ne_eqb _ _ (λ alike. apart (sym (eqb-true (length w.0) n same) ∙ alike)))) (among-unlike n ws text apart)
-      | inr other ↦ rw other (among-unlike n ws text apart)
-    ]
-
--- a text of another length is none of them
-pub none_shorter : (n : ℕ) (text : List ℕ) → length text < n → None ≡ word_among (words_of_length n) text
-none_shorter n text short = among-unlike n all_words text (λ is. absurd (omega (arith, is, short)))
-
-pub none_longer : (n : ℕ) (text : List ℕ) → n < length text → None ≡ word_among (words_of_length n) text
-none_longer n text long = among-unlike n all_words text (λ is. absurd (omega (arith, is, long)))
 
 pub word_of-length : (n : ℕ) (text : List ℕ) → length text ≡ n → word_among (words_of_length n) text ≡ word_of text
 word_of-length n text is = rw (← is) (word_among-length all_words text)

@@ -1,5 +1,5 @@
 //! The words that a line of a script may begin with.
-ghost use Rattle.std.specs.Prelude.{◌≡◌};
+ghost use Rattle.std.specs.Prelude.{◌≡◌, length};
 ghost use Rattle.strm_script.specs.Word.{word_among, word_of};
 ghost use Rattle.strm_script.specs.Lengths.{words_of_length};
 
@@ -19,6 +19,7 @@ pub enum Word {
 
 // The first word of four letters that a text is, or none.
 fn four_letters(text: &[u8]) -> Option<Word>
+    requires { length text.now ≡ 4 }
     ensures { result ≡ word_among (words_of_length 4) text.now }
 {
     match text {
@@ -37,6 +38,7 @@ fn four_letters(text: &[u8]) -> Option<Word>
 
 // The first word of five letters that a text is, or none.
 fn five_letters(text: &[u8]) -> Option<Word>
+    requires { length text.now ≡ 5 }
     ensures { result ≡ word_among (words_of_length 5) text.now }
 {
     match text {
@@ -57,6 +59,7 @@ fn five_letters(text: &[u8]) -> Option<Word>
 
 // The first word of six letters that a text is, or none.
 fn six_letters(text: &[u8]) -> Option<Word>
+    requires { length text.now ≡ 6 }
     ensures { result ≡ word_among (words_of_length 6) text.now }
 {
     match text {
@@ -72,6 +75,7 @@ fn six_letters(text: &[u8]) -> Option<Word>
 
 // The first word of seven letters that a text is, or none.
 fn seven_letters(text: &[u8]) -> Option<Word>
+    requires { length text.now ≡ 7 }
     ensures { result ≡ word_among (words_of_length 7) text.now }
 {
     match text {
@@ -90,6 +94,7 @@ fn seven_letters(text: &[u8]) -> Option<Word>
 
 // The first word of eight letters that a text is, or none.
 fn eight_letters(text: &[u8]) -> Option<Word>
+    requires { length text.now ≡ 8 }
     ensures { result ≡ word_among (words_of_length 8) text.now }
 {
     match text {
@@ -103,6 +108,7 @@ fn eight_letters(text: &[u8]) -> Option<Word>
 
 // The first word of nine letters that a text is, or none.
 fn nine_letters(text: &[u8]) -> Option<Word>
+    requires { length text.now ≡ 9 }
     ensures { result ≡ word_among (words_of_length 9) text.now }
 {
     match text {

@@ -1,3 +1,7 @@
+ghost use Rattle.std.specs.Prelude.{IfSome};
+ghost use Rattle.strm_shared.specs.Books.{MayRefuse};
+ghost use Rattle.strm_driver.specs.Told.{first_refused};
+
 use super::ended;
 use crate::fault::RunFault;
 use std::test::Fail;
@@ -5,7 +9,9 @@ use strm_pool::Refusal;
 use strm_shared::End;
 
 // What is said of a run whose workers ended so, or nothing where it succeeds.
-fn said(rt: &HostRuntime, ends: &[End]) -> Result<String, Fail> {
+fn said(rt: &HostRuntime, ends: &[End]) -> Result<String, Fail>
+    requires { IfSome (first_refused ends.now) (λ why. MayRefuse why) }
+{
     match ended(ends) {
         Ok(()) => Ok(String::new(rt.alloc())),
         Err(fault) => Ok(format!(in rt.alloc(); "{}", RunFault::from(fault))?),

@@ -1,9 +1,11 @@
 ghost use Rattle.std.specs.Prelude.{◌≤◌};
+ghost use Rattle.strm_script.specs.Limits.{most_script_bytes};
 
 use super::{Mode, run};
 use crate::fault::RunFault;
-use crate::faulty::{choppy_writer, slow_reader};
+use crate::faulty::{Choppy, choppy_writer, slow_reader};
 use crate::watched::Watched;
+use std::process::Abort;
 use std::sync::Wait;
 use std::sync::atomic::{AtomicU32, Ordering};
 use std::test::Fail;
@@ -100,78 +102,150 @@ fn workers_have_registers_of_their_own(rt: HostRuntime) -> Result<(), Fail> {
     Ok(())
 }
 
-// A gate in which two workers meet, each before its first line.
+// Two sections of two lines each: lines 6 and 7, and lines 9 and 10.
+const MEETING: &[u8] =
+    b"pool 1 8\nclass 16 4\nqueue 10 4 s -\nbufcalls 2 1\nworker\nallocb a 3\nfreemsg a\nworker\nallocb a 3\nfreemsg a\n";
+
+const MEETING_TEXT: &[u8] =
+    b"0:6 ok\n0:7 ok\n1:9 ok\n1:10 ok\nblocks free=8 queued=0 held=0 total=8\n\
+      data size=16 free=4 total=4\nqueue 0 msgs=0 bytes=0 read=1 noenable=0 enabled=0\nrun -\nwishes -\n";
+
+// How often a worker looks for the other at most.
+const LOOKS: u32 = 100_000_000;
+
+// The four lines, once each, as the gate counts them: each in a digit of four bits, and any other line in a fifth one.
+const EACH_LINE: u32 = 0x1111;
+
+// The digit of a worker's line.
+fn digit(worker: u8, line: u32) -> u32 {
+    match (worker, line) {
+        (0, 6) => 0x0001,
+        (0, 7) => 0x0010,
+        (1, 9) => 0x0100,
+        (1, 10) => 0x1000,
+        _ => 0x1_0000,
+    }
+}
+
+// A gate in which two workers meet, each before its lines: which lines have come, which were answered, and how many waited
+// in vain for the other worker.
 #[derive(Drop)]
 struct Meeting {
-    came: [AtomicU32; 2],
+    came: AtomicU32,
+    answered: AtomicU32,
     missed: AtomicU32,
 }
 
-// How often a worker looks for the other.
-const LOOKS: u32 = 1_000_000_000;
-
-impl Gate for Meeting {
-    fn before(&self, worker: u8, _line: u32) {
-        let own = usize::from(worker) % 2;
-        self.came[own].store(1, Ordering::SeqCst);
-        for _ in 0..LOOKS {
-            if self.came[1 - own].load(Ordering::SeqCst) > 0 {
-                return;
-            }
+impl Meeting {
+    fn new() -> Meeting {
+        Meeting {
+            came: AtomicU32::new(0),
+            answered: AtomicU32::new(0),
+            missed: AtomicU32::new(0),
         }
-        self.missed.fetch_add(1, Ordering::SeqCst);
     }
 
-    fn after(&self, _worker: u8, _line: u32) {}
+    // Whether the other worker comes in time, which has other digits.
+    fn meets(&self, worker: u8) -> bool {
+        let others = if worker == 0 { 0xFF00 } else { 0x00FF };
+        for _ in 0..LOOKS {
+            if self.came.load(Ordering::SeqCst) & others != 0 {
+                return true;
+            }
+        }
+        false
+    }
+}
+
+impl Gate for Meeting {
+    fn before(&self, worker: u8, line: u32) {
+        self.came.fetch_add(digit(worker, line), Ordering::SeqCst);
+        if !self.meets(worker) {
+            self.missed.fetch_add(1, Ordering::SeqCst);
+        }
+    }
+
+    fn after(&self, worker: u8, line: u32) {
+        self.answered.fetch_add(digit(worker, line), Ordering::SeqCst);
+    }
+}
+
+// What is written for a script, where the gate was told these lines before and after, and nobody waited in vain.
+fn written_at_a_gate(
+    rt: &(impl Abort + AllocGlobal + Threads + Wait + Sync),
+    mode: Mode,
+    script: &[u8],
+    told: u32,
+) -> Result<Vec<u8>, Fail> {
+    let gate = Meeting::new();
+    let text = written(rt, mode, &gate, script)?;
+    assert_eq!(rt; gate.came.load(Ordering::SeqCst), told);
+    assert_eq!(rt; gate.answered.load(Ordering::SeqCst), told);
+    assert_eq!(rt; gate.missed.load(Ordering::SeqCst), 0);
+    Ok(text)
 }
 
 #[test]
 fn workers_run_at_once(rt: HostRuntime) -> Result<(), Fail> {
-    let gate = Meeting {
-        came: [AtomicU32::new(0), AtomicU32::new(0)],
-        missed: AtomicU32::new(0),
-    };
     assert_eq!(rt;
-        written(&rt, Mode::Workers, &gate, APART)?.as_slice(),
-        APART_TEXT
+        written_at_a_gate(&rt, Mode::Workers, MEETING, EACH_LINE)?.as_slice(),
+        MEETING_TEXT
     );
-    assert_eq!(rt; gate.missed.load(Ordering::SeqCst), 0);
     Ok(())
 }
 
 #[test]
+fn a_line_that_no_worker_serves_passes_no_gate(rt: HostRuntime) -> Result<(), Fail> {
+    assert_eq!(rt;
+        written_at_a_gate(&rt, Mode::Serial, MEETING, 0)?.as_slice(),
+        MEETING_TEXT
+    );
+    assert_eq!(rt;
+        written_at_a_gate(&rt, Mode::Workers, SCRIPT, 0)?.as_slice(),
+        TEXT
+    );
+    Ok(())
+}
+
+// The fault of a run of the two sections whose replies are the same in any order, where reader and writer fail so.
+fn fault_at(
+    rt: &(impl AllocGlobal + Threads + Wait + Sync),
+    mode: Mode,
+    read: Option<usize>,
+    writer: &mut Choppy,
+) -> Option<RunFault> {
+    run(
+        rt,
+        mode,
+        MAX,
+        &OpenGate,
+        &mut Watched::new(slow_reader(APART, read)),
+        &mut Watched::new(writer),
+    )
+    .err()
+}
+
+#[test]
 fn a_failing_reader_leaves_nothing_written(rt: HostRuntime) {
-    for cut in [0, 9, SCRIPT.len()] {
-        let mut writer = choppy_writer(rt.alloc(), 100, None, true);
-        let fault = run(
-            &rt,
-            Mode::Serial,
-            MAX,
-            &OpenGate,
-            &mut Watched::new(slow_reader(SCRIPT, Some(cut))),
-            &mut Watched::new(&mut writer),
-        )
-        .err();
-        assert!(rt; fault == Some(RunFault::Read), "at {cut}");
-        assert!(rt; writer.got.is_empty());
+    for mode in [Mode::Serial, Mode::Workers] {
+        for cut in [0, 9, APART.len()] {
+            let mut writer = choppy_writer(rt.alloc(), 100, None, true);
+            let fault = fault_at(&rt, mode, Some(cut), &mut writer);
+            assert!(rt; fault == Some(RunFault::Read), "at {cut}");
+            assert!(rt; writer.got.is_empty());
+        }
     }
 }
 
 #[test]
 fn a_failing_writer_has_the_beginning(rt: HostRuntime) {
-    for cut in [0, 7, 14] {
-        let mut writer = choppy_writer(rt.alloc(), 7, Some(cut), true);
-        let fault = run(
-            &rt,
-            Mode::Serial,
-            MAX,
-            &OpenGate,
-            &mut Watched::new(slow_reader(SCRIPT, None)),
-            &mut Watched::new(&mut writer),
-        )
-        .err();
-        assert!(rt; fault == Some(RunFault::Write));
-        assert_eq!(rt; writer.got.as_slice(), &TEXT[..cut]);
+    for mode in [Mode::Serial, Mode::Workers] {
+        for cut in [0, 7, 14] {
+            let mut writer = choppy_writer(rt.alloc(), 7, Some(cut), true);
+            let fault = fault_at(&rt, mode, None, &mut writer);
+            assert!(rt; fault == Some(RunFault::Write), "at {cut}");
+            assert_eq!(rt; writer.got.as_slice(), &APART_TEXT[..cut]);
+        }
     }
 }
 
@@ -182,7 +256,7 @@ fn fault_of(
     script: &[u8],
 ) -> Option<RunFault>
     requires least { 1 ≤ max }
-    requires most { max ≤ 16777216 }
+    requires most { max ≤ most_script_bytes }
 {
     let mut writer = choppy_writer(rt.alloc(), 100, None, true);
     let fault = run(

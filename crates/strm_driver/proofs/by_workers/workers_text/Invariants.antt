@@ -2,5 +2,5 @@
 use Rattle.strm_shared.specs.Starts.{name_of}
 use Rattle.strm_driver.proofs.by_workers.workers_text.Given as goal
 
-abbrev pub ghosts-day : goal.ghosts-day
-ghosts-day g a = name_of a.start
+abbrev pub ghosts-shared_text : goal.ghosts-shared_text
+ghosts-shared_text g a = name_of a.start

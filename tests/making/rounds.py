@@ -1,13 +1,13 @@
-"""Sections of turns: the same 64 commands of all words again and again.
+"""Sections of rounds: the same 64 commands of all words again and again.
 
-A turn begins with empty registers and a pool that nobody has used, and leaves them so, but that two ids are given. As
-many commands as there may be are whole turns in each of one or sixteen sections."""
+A round begins with empty registers and a pool that nobody has used, and leaves them so, but that two ids are given. As
+many commands as there may be are whole rounds in each of one or sixteen sections."""
 
 # How many command lines there may be.
 MOST = 1_048_576
 HEADER = ["pool 1 8", "class 16 4", "class 64 2", "queue 10 4 s 1", "queue 2 1 s -", "bufcalls 2 1"]
 # Each command with its reply.
-TURN = [
+ROUND = [
     ("allocb a 16", "ok"),
     ("write a 0 616263", "ok"),
     ("settype a 0 M_PROTO", "ok"),
@@ -89,9 +89,9 @@ def section(commands):
     for command in commands:
         if command % 1_000 == 999:
             yield "# more", None
-        turn, place = divmod(command, len(TURN))
-        ids = {"first": 2 * turn + 1, "second": 2 * turn + 2}
-        line, reply = TURN[place]
+        number, place = divmod(command, len(ROUND))
+        ids = {"first": 2 * number + 1, "second": 2 * number + 2}
+        line, reply = ROUND[place]
         yield line.format_map(ids), reply.format_map(ids)
 
 

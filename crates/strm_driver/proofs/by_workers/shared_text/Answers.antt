@@ -1,6 +1,6 @@
 use Rattle.std.proofs.Common.{length, sym, ap, ◌∙◌, arith}
 use Rattle.strm_shared.proofs.Opening.{length-fresh}
-use Rattle.strm_driver.proofs.by_workers.day.Goals as goal
+use Rattle.strm_driver.proofs.by_workers.shared_text.Goals as goal
 
 pub run_workers-requires-after_bounds : goal.run_workers-requires-after_bounds
 run_workers-requires-after_bounds g c κs within = (
