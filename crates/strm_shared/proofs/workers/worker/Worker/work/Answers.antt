@@ -3,7 +3,7 @@ use Rattle.strm_shared.specs.declared.line.Line.{Line}
 use Rattle.strm_shared.specs.Books.{IsAfter}
 use Rattle.strm_shared.specs.Runs.{AreServed}
 use Rattle.strm_shared.proofs.Crews.{served_more}
-use Rattle.strm_shared.proofs.workers.Worker.work.Goals as goal
+use Rattle.strm_shared.proofs.workers.worker.Worker.work.Goals as goal
 
 pub loop-i-preserved : goal.loop-i-preserved
 loop-i-preserved g c =

@@ -1,7 +1,7 @@
 use Rattle.std.proofs.Common.{◌+◌, ◌++◌, ◌∷◌, [], sym, subst, arith}
 use Rattle.strm_shared.specs.RunsLayout.{AreReady, IsReady, IsStartedFor}
 use Rattle.strm_shared.proofs.Crews.{length-ready, longer, ready_last, worked_more}
-use Rattle.strm_shared.proofs.workers.+serve_all.Goals as goal
+use Rattle.strm_shared.proofs.workers.carried.+serve_all.Goals as goal
 
 pub take_last-worker-requires : goal.take_last-worker-requires
 take_last-worker-requires g t c =

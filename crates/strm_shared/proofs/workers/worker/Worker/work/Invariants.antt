@@ -1,6 +1,6 @@
 use Rattle.std.proofs.Common.{◌≡◌, ◌≤◌, length, vec_capacity}
 use Rattle.strm_shared.specs.Runs.{AreServed}
-use Rattle.strm_shared.proofs.workers.Worker.work.Given as goal
+use Rattle.strm_shared.proofs.workers.worker.Worker.work.Given as goal
 
 abbrev pub invariant-loop-i : goal.invariant-loop-i
 invariant-loop-i g l = record {

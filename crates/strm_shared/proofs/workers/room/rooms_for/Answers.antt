@@ -2,7 +2,7 @@ use Rattle.std.proofs.Common.{rules, ◌++◌, ◌∷◌, [], get_or, take, sym,
 use Rattle.std.proofs.lemmas.List.{take_more}
 use Rattle.strm_shared.specs.RunsLayout.{AreReady, IsReady}
 use Rattle.strm_shared.proofs.Crews.{ready_more}
-use Rattle.strm_shared.proofs.workers.rooms_for.Goals as goal
+use Rattle.strm_shared.proofs.workers.room.rooms_for.Goals as goal
 
 pub loop-i-preserved : goal.loop-i-preserved
 loop-i-preserved c =

@@ -1,6 +1,6 @@
 use Rattle.std.proofs.Common.{◌≡◌, ◌≤◌, length, take, vec_capacity}
 use Rattle.strm_shared.specs.RunsLayout.{AreReady}
-use Rattle.strm_shared.proofs.workers.rooms_for.Given as goal
+use Rattle.strm_shared.proofs.workers.room.rooms_for.Given as goal
 
 abbrev pub invariant-loop-i : goal.invariant-loop-i
 invariant-loop-i l = record {
