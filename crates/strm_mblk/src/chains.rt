@@ -1,8 +1,7 @@
 //! Messages as chains of message blocks, linked by number, and which of the message blocks are free.
 ghost use Rattle.std.specs.Prelude.{◌≡◌, ◌≢◌, ℕ, ◌+◌, ◌<◌, ◌≤◌, ◌++◌, IfOk, IfSome, IsSome, IsTrue, None, Some, [], ◌∷◌, drop, is_some, length, reverse, slice_get, slice_set, take};
 ghost use Rattle.std.specs.Option.{ForSome};
-ghost use Rattle.strm_links.specs.Rows.{IsParting, after, before, first, has, holder, last, list_at};
-ghost use Rattle.strm_mblk.specs.ChainLayout.{put_in};
+ghost use Rattle.strm_links.specs.Rows.{IsParting, after, before, first, has, holder, last, list_at, put_in};
 ghost use Rattle.strm_mblk.specs.Messages.{divided, held_in, joined, put_before_head, shelf_in, with_head, without_head};
 ghost use Rattle.strm_mblk.specs.NodeLists.{IsNodesParted, IsReached, after_begin, after_second_freed, head_node, heads_on, nodes_at, opening_nodes, shelved_nodes};
 
@@ -79,7 +78,7 @@ impl Chains {
         requires { head < length self.now.held }
         ensures { result ≡ is_some (held_in self.now.held head) }
     {
-        self.strands.is_held(head) && self.heads.list_of(head).is_none()
+        self.strands.begins_chain(head) && self.heads.list_of(head).is_none()
     }
 
     // How many blocks a held message has.

@@ -16,7 +16,7 @@ use Rattle.strm_mblk.proofs.arena.Counts.{blocks_in_adds, count_adds, times-all}
 use Rattle.strm_mblk.proofs.freeing.Freemsg.{spent_had}
 use Rattle.strm_mblk.proofs.arena.Moves.{count_one, held_among, held_within, in_range, number_is, one_most, blocks_numbered}
 use Rattle.strm_mblk.proofs.arena.Tokens.{had_message, token_had}
-use Rattle.strm_data.proofs.Times.{one_if}
+use Rattle.strm_links.proofs.lists.Counting.{one_if}
 
 -- two places that are written in either order
 pub set_apart : {X : Type 0} (xs : List X) (i j : ℕ) (x y : X) → i ≢ j → set (set xs i x) j y ≡ set (set xs j y) i x

@@ -10,7 +10,7 @@ use Rattle.strm_mblk.specs.Block.{Block, Message, head_of, is_naming, numbers_of
 use Rattle.strm_mblk.specs.Messages.{blocks_of}
 use Rattle.strm_data.specs.DataStore.{times}
 use Rattle.strm_data.specs.CountedStore.{CountedStore, count_of}
-use Rattle.strm_data.proofs.Times.{as_many, one_if, times-cons}
+use Rattle.strm_links.proofs.lists.Counting.{as_many, one_if, times-cons}
 use Rattle.strm_mblk.proofs.arena.Counts.{count_adds, held_moves, shelf_moves, blocks_in_adds, flat_map-set_adds, times-all}
 
 abbrev pub number_is : ℕ → Block → Bool

@@ -8,7 +8,7 @@ use Rattle.std.proofs.lemmas.Option.{none-some, same_Some}
 use Rattle.strm_links.specs.Rows.{first}
 use Rattle.strm_data.specs.CountedStore.{CountedStore}
 use Rattle.strm_data.specs.DataStore.{times}
-use Rattle.strm_data.proofs.Times.{one_if, times-append, times-cons, times_here}
+use Rattle.strm_links.proofs.lists.Counting.{one_if, times-append, times-cons, times_here}
 use Rattle.strm_mblk.specs.declared.blocks.Fields.{Fields}
 use Rattle.strm_mblk.specs.Arena.{names_of}
 use Rattle.strm_mblk.specs.Block.{is_naming}

@@ -4,7 +4,7 @@ use Rattle.std.specs.Prelude.{drop, take}
 use Rattle.std.proofs.lemmas.Option.{none-some, same_Some}
 use Rattle.strm_links.specs.Rows.{first}
 use Rattle.strm_data.specs.DataStore.{times}
-use Rattle.strm_data.proofs.Times.{times-append}
+use Rattle.strm_links.proofs.lists.Counting.{times-append}
 use Rattle.strm_mblk.specs.Messages.{blocks_held, blocks_of, blocks_on, held_in}
 use Rattle.strm_mblk.specs.NodeLists.{IsNodesParted, NodeLists, after_begin}
 use Rattle.strm_mblk.proofs.arena.Counts.{count_adds, flat_map-set_adds}

@@ -14,7 +14,7 @@ use Rattle.strm_mblk.specs.BlocksLayout.{IsFilled, arena_of, block_at, fields_at
 use Rattle.strm_mblk.specs.Messages.{blocks_on, shelf_in}
 use Rattle.strm_mblk.specs.NodeLists.{NodeLists, shelved_nodes}
 use Rattle.strm_mblk.specs.Shelves.{shelf_of, shelved_message}
-use Rattle.strm_data.proofs.Kept.{capacity_range}
+use Rattle.strm_data.proofs.store.Kept.{capacity_range}
 use Rattle.strm_data.specs.Limits.{most_data_block_bytes}
 use Rattle.strm_mblk.proofs.layout.Lawful.{all_there}
 use Rattle.strm_mblk.proofs.shelving.Shelving.{IsHead, is_head}
