@@ -222,7 +222,7 @@ impl Twin {
             assert_eq!(rt; info.total, COUNTS[usize::from(class)]);
         }
         assert_eq!(rt; self.data.class_info(3), None);
-        assert_eq!(rt; self.data.class_info(255), None);
+        assert_eq!(rt; self.data.class_info(u8::MAX), None);
         Ok(())
     }
 
