@@ -2,7 +2,7 @@
 use Rattle.std.proofs.Common.{◌≡◌, ℕ, ◌+◌, ◌≤◌, true, List, length, set, Some, None, Ok, refl, sym, ap, ◌∙◌, subst, arith, get_or-set_same, length-set}
 use Rattle.strm_data.specs.CountedStore.{CountedStore, IsKept}
 use Rattle.strm_data.specs.DataStore.{DataStore, capacity_of, data_block_at, overwritten, with_bytes_written}
-use Rattle.strm_data.proofs.Tables.{length-overwritten}
+use Rattle.strm_data.proofs.lists.Tables.{length-overwritten}
 use Rattle.strm_mblk.specs.declared.blocks.Fields.{Fields}
 use Rattle.strm_mblk.specs.declared.token.TokenValue.{TokenValue}
 use Rattle.strm_mblk.specs.Arena.{Arena, has, held_at, names_of, shelved_blocks}

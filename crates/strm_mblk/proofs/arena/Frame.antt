@@ -12,10 +12,10 @@ use Rattle.strm_data.specs.declared.refusal.Refusal.{Refusal}
 use Rattle.strm_data.specs.declared.refusal.Refusal.TheVariants.{NoData, NoMblk, NoRoom, RefMax, Shared, Short, TooLarge}
 use Rattle.strm_data.specs.Classes.{fits_a_class}
 use Rattle.strm_data.specs.DataStore.{DataStore, capacity_of, class_of, data_block_at, fitting, free_of, no_data_block, take_data, times, with_bytes_written, with_data_freed, with_data_taken, with_kind}
-use Rattle.strm_data.proofs.Fitting.{if_fits}
-use Rattle.strm_data.proofs.Times.{one_if, times-append, times-cons, times_here}
+use Rattle.strm_data.proofs.store.Fitting.{if_fits}
+use Rattle.strm_links.proofs.lists.Counting.{one_if, times-append, times-cons, times_here}
 use Rattle.strm_links.specs.Rows.{has}
-use Rattle.strm_links.proofs.OneList.{has_head}
+use Rattle.strm_links.proofs.lists.OneList.{has_head}
 use Rattle.strm_mblk.specs.declared.token.TokenValue.{TokenValue}
 use Rattle.strm_mblk.specs.Arena.{has as has_token}
 use Rattle.strm_mblk.specs.Arena.{Arena, IsParted, held_at, message_at, names_of, shelved_blocks, token_of, with_held, without_held}

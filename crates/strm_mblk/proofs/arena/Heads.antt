@@ -17,7 +17,7 @@ use Rattle.strm_mblk.proofs.arena.Counts.{blocks_in_adds, times-all}
 use Rattle.strm_mblk.proofs.arena.Tokens.{had_message, spent_had, token_had}
 use Rattle.strm_mblk.proofs.lists.Numbers.{in_range, one_most}
 use Rattle.strm_mblk.proofs.arena.Moves.{blocks_numbered, held_among, held_within, number_is}
-use Rattle.strm_data.proofs.Times.{one_if}
+use Rattle.strm_links.proofs.lists.Counting.{one_if}
 
 -- two places that are written in either order
 pub set_apart : {X : Type 0} (xs : List X) (i j : ℕ) (x y : X) → i ≢ j → set (set xs i x) j y ≡ set (set xs j y) i x

@@ -10,7 +10,7 @@ use Rattle.strm_mblk.specs.Block.{Block, Message, head_of, is_naming, numbers_of
 use Rattle.strm_mblk.specs.Messages.{blocks_of}
 use Rattle.strm_data.specs.DataStore.{times}
 use Rattle.strm_data.specs.CountedStore.{CountedStore, count_of}
-use Rattle.strm_data.proofs.Times.{as_many, one_if, times-cons}
+use Rattle.strm_links.proofs.lists.Counting.{as_many, one_if, times-cons}
 use Rattle.strm_mblk.proofs.lists.Additive.{count_adds, count_one, flat_map-set_adds}
 use Rattle.strm_mblk.proofs.arena.Counts.{blocks_in_adds, held_moves, shelf_moves, times-all}
 pub use Rattle.strm_mblk.proofs.lists.Numbers.{one_most}

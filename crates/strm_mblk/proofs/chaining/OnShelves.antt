@@ -4,11 +4,11 @@ use Rattle.std.specs.Prelude.{filter}
 use Rattle.std.specs.List.{slice_get}
 use Rattle.std.proofs.lemmas.Bool.{cases_eq, cases_lt, cond-true, cond-false, eq-eqb, ne_eqb, false≢true, not_from_true, not_from_false}
 use Rattle.std.proofs.lemmas.List.{get_or_past, map-append, map-set}
-use Rattle.strm_links.specs.Rows.{IsParting, Rows, has, without, put_before, holder}
-use Rattle.strm_links.specs.Held.{held_in}
+use Rattle.strm_links.specs.Rows.{IsParting, Rows, has, without, put_before, put_in, holder}
+use Rattle.strm_links.specs.Chains.{chain_in as held_in}
 use Rattle.strm_links.specs.StrandLists.{StrandLists, strand_at}
-use Rattle.strm_links.proofs.OneList.{has_head, has_tail, has_cases}
-use Rattle.strm_mblk.specs.ChainLayout.{nodes_of, put_in, IsChained}
+use Rattle.strm_links.proofs.lists.OneList.{has_head, has_tail, has_cases}
+use Rattle.strm_mblk.specs.ChainLayout.{nodes_of, IsChained}
 use Rattle.strm_mblk.specs.Messages.{put_before_head, with_head, without_head}
 use Rattle.strm_mblk.specs.NodeLists.{NodeLists, head_node}
 use Rattle.strm_mblk.proofs.chaining.Seen.{held_as, held_off, held_on, length-held}
@@ -78,14 +78,14 @@ pub room_of : (held : List (Option (List ℕ))) (h : ℕ) → IsSome (held_in he
 room_of held h some = elim (cases_lt h (length held)) [ inl within ↦ within | inr past ↦ absurd (false≢true (sym (ap is_some (get_or_past held h None past)) ∙ some)) ]
 
 module _ (v : StrandLists) (heads : Rows) (laid : IsChained v heads) (w : NodeLists) (is : nodes_of v heads ≡ w) (head shelf : ℕ) (ys : List ℕ)
-    (new : Rows) (lists : new ≡ record heads { lists = set heads.lists shelf ys }) (others : (k : ℕ) → k ≢ head → holder k new ≡ holder k heads) (begun : IsSome (held_in v.held head)) (parting : IsParting new) where
+    (new : Rows) (lists : new ≡ record heads { lists = set heads.lists shelf ys }) (others : (k : ℕ) → k ≢ head → holder k new ≡ holder k heads) (begun : IsSome (held_in v.chains head)) (parting : IsParting new) where
   -- the layout holds
   pub reheaded_laid : IsChained v new
   reheaded_laid = record {
     head_nodes = ap (λ (r : Rows). r.nodes) lists ∙ laid.head_nodes;
     begun = λ k on.
         elim (cases_eq k head) [
-          | inl same ↦ subst (λ j. IsSome (held_in v.held j)) (sym same) begun
+          | inl same ↦ subst (λ j. IsSome (held_in v.chains j)) (sym same) begun
           | inr differs ↦ laid.begun k (subst IsSome (others k differs) on)
         ];
     strands_parted = laid.strands_parted;
@@ -93,16 +93,16 @@ module _ (v : StrandLists) (heads : Rows) (laid : IsChained v heads) (w : NodeLi
   }
 
   -- what is seen, where the message at the head is held or not, and the shelf has these messages
-  pub reheaded_is : (o : Option (List ℕ)) → (holder head new ≡ None → o ≡ held_in v.held head) → (IsSome (holder head new) → o ≡ None) → (ms : List (List ℕ)) → map (strand_at v) ys ≡ ms
+  pub reheaded_is : (o : Option (List ℕ)) → (holder head new ≡ None → o ≡ held_in v.chains head) → (IsSome (holder head new) → o ≡ None) → (ms : List (List ℕ)) → map (strand_at v) ys ≡ ms
       → nodes_of v new ≡ record w { held = set w.held head o; shelves = set w.shelves shelf ms }
   reheaded_is o off on ms row =
       let u = nodes_of v heads in
-      let room : head < length u.held = omega (arith, room_of v.held head begun, length-held v heads) in
+      let room : head < length u.held = omega (arith, room_of v.chains head begun, length-held v heads) in
       let here : held_in (set u.held head o) head ≡ o = get_or-set_same u.held head o None room in
       let held : (nodes_of v new).held ≡ set u.held head o =
       held_as v new (set u.held head o) (length-set u.held head o ∙ length-held v heads)
       (λ h none. elim (cases_eq h head) [
-        | inl same ↦ ap (held_in (set u.held head o)) same ∙ here ∙ off (ap (λ k. holder k new) (sym same) ∙ none) ∙ ap (held_in v.held) (sym same)
+        | inl same ↦ ap (held_in (set u.held head o)) same ∙ here ∙ off (ap (λ k. holder k new) (sym same) ∙ none) ∙ ap (held_in v.chains) (sym same)
         | inr differs ↦ get_or-set_other u.held head h o None differs ∙ held_off v heads h (sym (others h differs) ∙ none)
       ])
       (λ h some. elim (cases_eq h head) [

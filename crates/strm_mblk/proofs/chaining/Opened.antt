@@ -5,7 +5,7 @@ use Rattle.std.proofs.lemmas.List.{length-replicate}
 use Rattle.std.specs.List.{concat}
 use Rattle.strm_links.specs.Rows.{IsParting, Rows, holder}
 use Rattle.strm_links.specs.StrandLists.{IsParted, StrandLists, opening_strands, strand_at}
-use Rattle.strm_data.proofs.Filling.{holder-empty}
+use Rattle.strm_links.proofs.lists.AllLists.{holder-empty}
 use Rattle.strm_mblk.specs.ChainLayout.{IsChained, nodes_of, strands_but}
 use Rattle.strm_mblk.specs.NodeLists.{opening_nodes}
 
@@ -22,11 +22,11 @@ module _ (n s : ℕ) (v : StrandLists) (heads : Rows) (opened : v ≡ opening_st
   pub opened_is : nodes_of v heads ≡ opening_nodes n s
   opened_is =
       (λ i. nodes_of (opened i) (empty i))
-      ∙ (λ i. record { free = (opening_strands n).free; held = strands_but (none_linked s i) (opening_strands n).held; shelves = none_shelved (strand_at (opening_strands n)) s i })
+      ∙ (λ i. record { free = (opening_strands n).free; held = strands_but (none_linked s i) (opening_strands n).chains; shelves = none_shelved (strand_at (opening_strands n)) s i })
 
   pub IsChained-opened : IsParted v → IsParting heads → IsChained v heads
   IsChained-opened strands_parted heads_parting = record {
-    head_nodes = ap (λ (r : Rows). r.nodes) empty ∙ sym (ap (λ (u : StrandLists). length u.held) opened ∙ length-replicate {A = Option (List ℕ)} n None);
+    head_nodes = ap (λ (r : Rows). r.nodes) empty ∙ sym (ap (λ (u : StrandLists). length u.chains) opened ∙ length-replicate {A = Option (List ℕ)} n None);
     begun = λ h on. absurd (false≢true (sym (ap is_some (ap (holder h) empty ∙ holder-empty n s h)) ∙ on));
     strands_parted = strands_parted;
     heads_parting = heads_parting;

@@ -6,9 +6,9 @@ use Rattle.std.proofs.lemmas.List.Concat.{flat_map-append}
 use Rattle.std.proofs.lemmas.List.Folds.{flat_map-map}
 use Rattle.strm_links.specs.Rows.{Rows, has, IsApart, first, list_at, holder, linked_nodes}
 use Rattle.strm_links.specs.StrandLists.{IsParted, StrandLists, strand_at}
-use Rattle.strm_links.proofs.OneList.{All-has, differ, has_head, has_tail}
+use Rattle.strm_links.proofs.lists.OneList.{All-has, differ, has_head, has_tail}
 use Rattle.strm_data.specs.DataStore.{times}
-use Rattle.strm_data.proofs.Times.{times-append}
+use Rattle.strm_links.proofs.lists.Counting.{times-append}
 use Rattle.strm_mblk.specs.ChainLayout.{nodes_of, strands_but, IsChained}
 use Rattle.strm_mblk.specs.Messages.{blocks_of, blocks_on, blocks_held, held_in}
 use Rattle.strm_mblk.specs.NodeLists.{IsNodesParted, NodeLists}
@@ -19,7 +19,7 @@ use Rattle.strm_mblk.proofs.chaining.Readings.{begins, on_list}
 
 -- strands alone, where no head stands on a shelf
 abbrev pub alone : StrandLists → NodeLists
-alone v = record { free = v.free; held = v.held; shelves = [] }
+alone v = record { free = v.free; held = v.chains; shelves = [] }
 
 pub alone_parted : (v : StrandLists) → IsParted v → IsNodesParted (alone v)
 alone_parted v parted = record { once = parted.once; heads = parted.heads; shelved = λ s i d within. absurd (omega arith) }
@@ -60,8 +60,8 @@ IsNodesParted-chained v heads laid = record {
         times-append n v.free (blocks_on (nodes_of v heads).shelves ++ blocks_held (nodes_of v heads).held),
         times-append n (blocks_on (nodes_of v heads).shelves) (blocks_held (nodes_of v heads).held),
         ap (times n) (shelves_flat (strand_at v) heads.lists),
-        parts_sum n (linked_nodes heads) v.held laid.heads_parting.apart (λ h there. omega (arith, laid.head_nodes, All-has (λ k. k < heads.nodes) (linked_nodes heads) h laid.heads_parting.within there)),
-        times-append n v.free (blocks_held v.held),
+        parts_sum n (linked_nodes heads) v.chains laid.heads_parting.apart (λ h there. omega (arith, laid.head_nodes, All-has (λ k. k < heads.nodes) (linked_nodes heads) h laid.heads_parting.within there)),
+        times-append n v.free (blocks_held v.chains),
         laid.strands_parted.once n,
         ap {B = ℕ} (λ l. if nat_lt n l then 1 else 0) (length-held v heads),
       );

@@ -7,10 +7,10 @@ use Rattle.std.proofs.lemmas.List.{get_or_past, get_or-map, length-map}
 use Rattle.std.proofs.lemmas.Option.{none-some, same_Some}
 use Rattle.strm_links.specs.Rows.{Rows, has, first, after, before, list_at, holder, next_in, previous_in}
 use Rattle.std.specs.Option.{option_map_or}
-use Rattle.strm_links.specs.Held.{items_of, held_in}
+use Rattle.strm_links.specs.Chains.{items_of, chain_in as held_in}
 use Rattle.strm_links.specs.StrandLists.{StrandLists, strand_at}
-use Rattle.strm_links.proofs.OneList.{has_head, has_tail, some_of}
-use Rattle.strm_links.proofs.AllLists.{has-holder}
+use Rattle.strm_links.proofs.lists.OneList.{has_head, has_tail, some_of}
+use Rattle.strm_links.proofs.lists.AllLists.{has-holder}
 use Rattle.strm_mblk.specs.ChainLayout.{IsChained, nodes_of}
 use Rattle.strm_mblk.specs.Messages.{shelf_in}
 use Rattle.strm_mblk.specs.NodeLists.{NodeLists, head_node, heads_on, nodes_at, shelved_nodes}
@@ -29,8 +29,8 @@ first_node (y ∷ ys) x is = same_Some y x is
 
 module _ (v : StrandLists) (heads : Rows) (laid : IsChained v heads) where
   -- a strand that is there begins with its number
-  pub begins : (h : ℕ) → IsSome (held_in v.held h) → first (strand_at v h) ≡ Some h
-  begins h some = by_case (held_in v.held h) some (laid.strands_parted.heads h)
+  pub begins : (h : ℕ) → IsSome (held_in v.chains h) → first (strand_at v h) ≡ Some h
+  begins h some = by_case (held_in v.chains h) some (laid.strands_parted.heads h)
     where
       by_case : (o : Option (List ℕ)) → IsSome o → IfSome o (λ xs. first xs ≡ Some h) → first (items_of o) ≡ Some h
       by_case None some is = absurd (false≢true some)
@@ -46,7 +46,7 @@ module _ (v : StrandLists) (heads : Rows) (laid : IsChained v heads) where
 
   module _ (w : NodeLists) (is : nodes_of v heads ≡ w) where
     -- a number that the value has is one of all
-    pub within : length w.held ≡ length v.held
+    pub within : length w.held ≡ length v.chains
     within = ap (λ (u : NodeLists). length u.held) (sym is) ∙ length-held v heads
 
     -- a shelf of the value is one
@@ -58,22 +58,22 @@ module _ (v : StrandLists) (heads : Rows) (laid : IsChained v heads) where
     off h some = off_shelf v heads h (subst (λ (u : NodeLists). IsSome (held_in u.held h)) (sym is) some)
 
     -- and is a strand
-    pub held_is : (h : ℕ) → IsSome (held_in w.held h) → held_in w.held h ≡ held_in v.held h
+    pub held_is : (h : ℕ) → IsSome (held_in w.held h) → held_in w.held h ≡ held_in v.chains h
     held_is h some = ap (λ (u : NodeLists). held_in u.held h) (sym is) ∙ held_off v heads h (off h some)
 
-    pub strand_there : (h : ℕ) → IsSome (held_in w.held h) → IsSome (held_in v.held h)
+    pub strand_there : (h : ℕ) → IsSome (held_in w.held h) → IsSome (held_in v.chains h)
     strand_there h some = subst IsSome (held_is h some) some
 
     pub nodes_is : (h : ℕ) → IsSome (held_in w.held h) → nodes_at w h ≡ strand_at v h
     nodes_is h some = ap items_of (held_is h some)
 
     -- whether a number is seen as held
-    pub is_held_at : (h : ℕ) → is_some (held_in w.held h) ≡ (is_some (held_in v.held h) && not (is_some (holder h heads)))
+    pub is_held_at : (h : ℕ) → is_some (held_in w.held h) ≡ (is_some (held_in v.chains h) && not (is_some (holder h heads)))
     is_held_at h =
         ap (λ (u : NodeLists). is_some (held_in u.held h)) (sym is)
-        ∙ elim (holder h heads) as (λ o. holder h heads ≡ o → is_some (held_in (nodes_of v heads).held h) ≡ (is_some (held_in v.held h) && not (is_some o))) [
-          | None ↦ λ none. ap is_some (held_off v heads h none) ∙ sym (and-true (is_some (held_in v.held h)))
-          | Some k ↦ λ some. ap is_some (held_on v heads h (ap is_some some)) ∙ sym (and-false (is_some (held_in v.held h)))
+        ∙ elim (holder h heads) as (λ o. holder h heads ≡ o → is_some (held_in (nodes_of v heads).held h) ≡ (is_some (held_in v.chains h) && not (is_some o))) [
+          | None ↦ λ none. ap is_some (held_off v heads h none) ∙ sym (and-true (is_some (held_in v.chains h)))
+          | Some k ↦ λ some. ap is_some (held_on v heads h (ap is_some some)) ∙ sym (and-false (is_some (held_in v.chains h)))
         ] refl
 
     -- ---- what stands behind

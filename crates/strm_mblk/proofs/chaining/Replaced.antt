@@ -5,9 +5,9 @@ use Rattle.std.specs.List.{concat}
 use Rattle.std.proofs.lemmas.Bool.{false≢true}
 use Rattle.std.proofs.lemmas.List.{set-set}
 use Rattle.strm_links.specs.Rows.{Rows, first, has, holder, linked_nodes}
-use Rattle.strm_links.specs.Held.{items_of, held_in, joined, divided, set_apart, taken_out}
+use Rattle.strm_links.specs.Chains.{items_of, chain_in as held_in, joined, divided, set_apart, taken_out}
 use Rattle.strm_links.specs.StrandLists.{IsParted, StrandLists, strand_at, with_first_begun, with_second_freed}
-use Rattle.strm_links.proofs.OneList.{absent_both}
+use Rattle.strm_links.proofs.lists.OneList.{absent_both}
 use Rattle.strm_data.specs.DataStore.{times}
 use Rattle.strm_mblk.specs.ChainLayout.{nodes_of, IsChained}
 use Rattle.strm_mblk.specs.NodeLists.{NodeLists, after_begin, after_second_freed, nodes_at}
@@ -29,18 +29,18 @@ shelves_alike h f g (xs ∷ lists) off same =
     λ i. map_members f g xs (λ k there. same k (λ is. false≢true (sym parts.0 ∙ ap (λ j. has j xs) (sym is) ∙ there))) i ∷ shelves_alike h f g lists parts.1 same i
 
 -- one strand is another
-replaced : (v : StrandLists) (heads : Rows) (h : ℕ) (o : Option (List ℕ)) → holder h heads ≡ None → nodes_of (record v { held = set v.held h o }) heads ≡ record (nodes_of v heads) { held = set (nodes_of v heads).held h o }
+replaced : (v : StrandLists) (heads : Rows) (h : ℕ) (o : Option (List ℕ)) → holder h heads ≡ None → nodes_of (record v { chains = set v.chains h o }) heads ≡ record (nodes_of v heads) { held = set (nodes_of v heads).held h o }
 replaced v heads h o off =
-    let w : StrandLists = record v { held = set v.held h o } in
+    let w : StrandLists = record v { chains = set v.chains h o } in
     λ i. record {
       free = v.free;
-      held = but_set h o (linked_nodes heads) v.held (unlinked h heads off) i;
-      shelves = shelves_alike h (strand_at w) (strand_at v) heads.lists (unlinked h heads off) (λ k other. ap (λ m. items_of m) (get_or-set_other v.held h k o None other)) i;
+      held = but_set h o (linked_nodes heads) v.chains (unlinked h heads off) i;
+      shelves = shelves_alike h (strand_at w) (strand_at v) heads.lists (unlinked h heads off) (λ k other. ap (λ m. items_of m) (get_or-set_other v.chains h k o None other)) i;
     }
 
 module _ (v : StrandLists) (heads : Rows) (laid : IsChained v heads) (w : NodeLists) (is : nodes_of v heads ≡ w) where
   -- a number with which no strand begins stands on no shelf
-  unheld_off : (h : ℕ) → held_in v.held h ≡ None → holder h heads ≡ None
+  unheld_off : (h : ℕ) → held_in v.chains h ≡ None → holder h heads ≡ None
   unheld_off h none =
       elim (holder h heads) as (λ o. holder h heads ≡ o → holder h heads ≡ None) [
         | None ↦ λ off. off
@@ -52,42 +52,42 @@ module _ (v : StrandLists) (heads : Rows) (laid : IsChained v heads) (w : NodeLi
   free_off n free = unheld_off n (free_unheld (alone v) (alone_parted v laid.strands_parted) n free)
 
   -- and those behind the first of a strand
-  pub behind_off : (h i n : ℕ) (ns : List ℕ) → held_in v.held h ≡ Some ns → slice_get ns i ≡ Some n → n ≢ h → holder n heads ≡ None
+  pub behind_off : (h i n : ℕ) (ns : List ℕ) → held_in v.chains h ≡ Some ns → slice_get ns i ≡ Some n → n ≢ h → holder n heads ≡ None
   behind_off h i n ns held at other = unheld_off n (not_begun (alone v) (alone_parted v laid.strands_parted) h i n ns held at other)
 
   -- ---- one strand, that begins with h, is another
 
   module _ (new : StrandLists) (free : List ℕ) (h : ℕ) (o : Option (List ℕ)) (off : holder h heads ≡ None) where
-    kept : (g : ℕ) → IsSome (holder g heads) → held_in (set v.held h o) g ≡ held_in v.held g
-    kept g on = get_or-set_other v.held h g o None (λ same. false≢true (sym (ap (λ k. is_some (holder k heads)) same ∙ ap is_some off) ∙ on))
+    kept : (g : ℕ) → IsSome (holder g heads) → held_in (set v.chains h o) g ≡ held_in v.chains g
+    kept g on = get_or-set_other v.chains h g o None (λ same. false≢true (sym (ap (λ k. is_some (holder k heads)) same ∙ ap is_some off) ∙ on))
 
-    pub one_is : new ≡ record { free = free; held = set v.held h o } → nodes_of new heads ≡ record w { free = free; held = set w.held h o }
+    pub one_is : new ≡ record { free = free; chains = set v.chains h o } → nodes_of new heads ≡ record w { free = free; held = set w.held h o }
     one_is now =
         ap (λ u. nodes_of u heads) now ∙ ap (λ (u : NodeLists). record u { free = free }) (replaced v heads h o off) ∙ ap (λ (u : NodeLists). record u { free = free; held = set u.held h o }) is
 
     -- ---- and so is another, that begins with g
 
     module _ (g : ℕ) (p : Option (List ℕ)) (off_g : holder g heads ≡ None) where
-      pub two_is : new ≡ record { free = free; held = set (set v.held h o) g p } → nodes_of new heads ≡ record w { free = free; held = set (set w.held h o) g p }
+      pub two_is : new ≡ record { free = free; chains = set (set v.chains h o) g p } → nodes_of new heads ≡ record w { free = free; held = set (set w.held h o) g p }
       two_is now =
-          ap (λ u. nodes_of u heads) now ∙ ap (λ (u : NodeLists). record u { free = free }) (replaced (record v { held = set v.held h o }) heads g p off_g)
+          ap (λ u. nodes_of u heads) now ∙ ap (λ (u : NodeLists). record u { free = free }) (replaced (record v { chains = set v.chains h o }) heads g p off_g)
           ∙ ap (λ (u : NodeLists). record u { free = free; held = set u.held g p }) (replaced v heads h o off) ∙ ap (λ (u : NodeLists). record u { free = free; held = set (set u.held h o) g p }) is
 
       -- the layout holds
-      pub two_laid : new ≡ record { free = free; held = set (set v.held h o) g p } → IsParted new → IsChained new heads
+      pub two_laid : new ≡ record { free = free; chains = set (set v.chains h o) g p } → IsParted new → IsChained new heads
       two_laid now parted = record {
-        head_nodes = laid.head_nodes ∙ sym (ap (λ (u : StrandLists). length u.held) now ∙ length-set (set v.held h o) g p ∙ length-set v.held h o);
+        head_nodes = laid.head_nodes ∙ sym (ap (λ (u : StrandLists). length u.chains) now ∙ length-set (set v.chains h o) g p ∙ length-set v.chains h o);
         begun = λ k on.
             subst IsSome
-            (sym (ap (λ (u : StrandLists). held_in u.held k) now
-            ∙ get_or-set_other (set v.held h o) g k p None (λ same. false≢true (sym (ap (λ j. is_some (holder j heads)) same ∙ ap is_some off_g) ∙ on)) ∙ kept k on))
+            (sym (ap (λ (u : StrandLists). held_in u.chains k) now
+            ∙ get_or-set_other (set v.chains h o) g k p None (λ same. false≢true (sym (ap (λ j. is_some (holder j heads)) same ∙ ap is_some off_g) ∙ on)) ∙ kept k on))
             (laid.begun k on);
         strands_parted = parted;
         heads_parting = laid.heads_parting;
       }
 
-    pub one_laid : new ≡ record { free = free; held = set v.held h o } → IsParted new → IsChained new heads
-    one_laid now parted = two_laid h o off (now ∙ ap (λ held. record { free = free; held = held }) (sym (set-set v.held h o o))) parted
+    pub one_laid : new ≡ record { free = free; chains = set v.chains h o } → IsParted new → IsChained new heads
+    one_laid now parted = two_laid h o off (now ∙ ap (λ chains. record { free = free; chains = chains }) (sym (set-set v.chains h o o))) parted
 
   -- ---- the calls that do so
 
@@ -113,7 +113,7 @@ module _ (v : StrandLists) (heads : Rows) (laid : IsChained v heads) (w : NodeLi
             (one_is new ns n (Some (n ∷ [])) off same, one_laid new ns n (Some (n ∷ [])) off same parted)
 
     -- the first of them are one
-    pub begun_all : (count h : ℕ) → first v.free ≡ Some h → new ≡ record v { free = drop count v.free; held = set v.held h (Some (take count v.free)) }
+    pub begun_all : (count h : ℕ) → first v.free ≡ Some h → new ≡ record v { free = drop count v.free; held = set v.chains h (Some (take count v.free)) }
         → IsNow (record w { free = drop count w.free; held = set w.held h (Some (take count w.free)) })
     begun_all count h begins now =
         let off = free_off h (times_at h v.free 0 (at_first v.free h begins)) in (
@@ -123,7 +123,7 @@ module _ (v : StrandLists) (heads : Rows) (laid : IsChained v heads) (w : NodeLi
         )
 
     -- a message is joined by another
-    pub joins : (h g : ℕ) → holder h heads ≡ None → holder g heads ≡ None → new ≡ record v { held = joined h g v.held } → IsNow (record w { held = joined h g w.held })
+    pub joins : (h g : ℕ) → holder h heads ≡ None → holder g heads ≡ None → new ≡ record v { chains = joined h g v.chains } → IsNow (record w { held = joined h g w.held })
     joins h g off off_g now =
         let both = strand_at v h ++ strand_at v g in (
           two_is new v.free g None off_g h (Some both) off now
@@ -132,7 +132,7 @@ module _ (v : StrandLists) (heads : Rows) (laid : IsChained v heads) (w : NodeLi
         )
 
     -- the blocks of a message are free
-    pub freed : (h : ℕ) → holder h heads ≡ None → new ≡ record v { free = reverse (strand_at v h) ++ v.free; held = set v.held h None }
+    pub freed : (h : ℕ) → holder h heads ≡ None → new ≡ record v { free = reverse (strand_at v h) ++ v.free; held = set v.chains h None }
         → IsNow (record w { free = reverse (nodes_at w h) ++ w.free; held = set w.held h None })
     freed h off now = (
       one_is new (reverse (strand_at v h) ++ v.free) h None off now
@@ -141,8 +141,8 @@ module _ (v : StrandLists) (heads : Rows) (laid : IsChained v heads) (w : NodeLi
     )
 
     -- what stands behind the first of a message
-    set_off : (h : ℕ) (ns : List ℕ) → held_in v.held h ≡ Some ns → holder h heads ≡ None → (k n : ℕ) → slice_get ns k ≡ Some n → 0 < k → (ms ls : List ℕ)
-        → new ≡ record v { held = set (set v.held h (Some ms)) n (Some ls) } → IsNow (record w { held = set (set w.held h (Some ms)) n (Some ls) })
+    set_off : (h : ℕ) (ns : List ℕ) → held_in v.chains h ≡ Some ns → holder h heads ≡ None → (k n : ℕ) → slice_get ns k ≡ Some n → 0 < k → (ms ls : List ℕ)
+        → new ≡ record v { chains = set (set v.chains h (Some ms)) n (Some ls) } → IsNow (record w { held = set (set w.held h (Some ms)) n (Some ls) })
     set_off h ns held off k n at behind ms ls now =
         let other : n ≢ h = not_head (alone v) (alone_parted v laid.strands_parted) h k n ns held at (k - 1) (omega arith) in
         let off_n = behind_off h k n ns held at other in (
@@ -166,20 +166,20 @@ module _ (v : StrandLists) (heads : Rows) (laid : IsChained v heads) (w : NodeLi
         )
 
     -- the others are a message
-    pub divides : (h : ℕ) → IsSome (held_in v.held h) → holder h heads ≡ None → new ≡ record v { held = divided (λ n. n) h (strand_at v h) v.held }
+    pub divides : (h : ℕ) → IsSome (held_in v.chains h) → holder h heads ≡ None → new ≡ record v { chains = divided (λ n. n) h (strand_at v h) v.chains }
         → IsNow (record w { held = divided (λ n. n) h (nodes_at w h) w.held })
-    divides h some off now = subst (λ ns. IsNow (record w { held = divided (λ n. n) h ns w.held })) (sym (nodes_are h off)) (by_case (strand_at v h) (there (held_in v.held h) some) now)
+    divides h some off now = subst (λ ns. IsNow (record w { held = divided (λ n. n) h ns w.held })) (sym (nodes_are h off)) (by_case (strand_at v h) (there (held_in v.chains h) some) now)
       where
-        by_case : (ns : List ℕ) → held_in v.held h ≡ Some ns → new ≡ record v { held = divided (λ n. n) h ns v.held } → IsNow (record w { held = divided (λ n. n) h ns w.held })
+        by_case : (ns : List ℕ) → held_in v.chains h ≡ Some ns → new ≡ record v { chains = divided (λ n. n) h ns v.chains } → IsNow (record w { held = divided (λ n. n) h ns w.held })
         by_case [] held same = unchanged same
         by_case (x ∷ []) held same = unchanged same
         by_case (x ∷ y ∷ rest) held same = set_off h (x ∷ y ∷ rest) held off 1 y refl (omega arith) (x ∷ []) (y ∷ rest) same
 
     -- a block behind the first is one
-    pub takes_out : (h k n : ℕ) → held_in v.held h ≡ Some (strand_at v h) → holder h heads ≡ None → slice_get (strand_at v h) k ≡ Some n → 0 < k
-        → new ≡ record v { held = taken_out (λ n. n) h k (strand_at v h) v.held }
+    pub takes_out : (h k n : ℕ) → held_in v.chains h ≡ Some (strand_at v h) → holder h heads ≡ None → slice_get (strand_at v h) k ≡ Some n → 0 < k
+        → new ≡ record v { chains = taken_out (λ n. n) h k (strand_at v h) v.chains }
         → IsNow (record w { held = set (set w.held h (Some (take k (nodes_at w h) ++ drop (k + 1) (nodes_at w h)))) n (Some (n ∷ [])) })
     takes_out h k n held off at behind now =
         let rest = take k (strand_at v h) ++ drop (k + 1) (strand_at v h) in
         subst (λ ns. IsNow (record w { held = set (set w.held h (Some (take k ns ++ drop (k + 1) ns))) n (Some (n ∷ [])) })) (sym (nodes_are h off))
-        (set_off h (strand_at v h) held off k n at behind rest (n ∷ []) (now ∙ ap (λ o. record v { held = set_apart (λ n. n) h rest o v.held }) at))
+        (set_off h (strand_at v h) held off k n at behind rest (n ∷ []) (now ∙ ap (λ o. record v { chains = set_apart (λ n. n) h rest o v.chains }) at))

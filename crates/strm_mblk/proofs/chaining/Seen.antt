@@ -4,10 +4,10 @@ use Rattle.std.specs.List.{concat}
 use Rattle.std.proofs.lemmas.Bool.{cases_eq, cases_lt, false≢true, false_from_ne_true, or_cases}
 use Rattle.std.proofs.lemmas.List.{ext_get_or, get_or_past, length-map, set_comm, set_past}
 use Rattle.strm_links.specs.Rows.{Rows, has, list_at, holder, linked_nodes}
-use Rattle.strm_links.specs.Held.{held_in}
+use Rattle.strm_links.specs.Chains.{chain_in as held_in}
 use Rattle.strm_links.specs.StrandLists.{StrandLists, strand_at}
-use Rattle.strm_links.proofs.OneList.{absent_parts, has-append, has_cases, has_head, has_tail, number_of}
-use Rattle.strm_links.proofs.AllLists.{holder_has, holder_none, has_linked}
+use Rattle.strm_links.proofs.lists.OneList.{absent_parts, has-append, has_cases, has_head, has_tail, number_of}
+use Rattle.strm_links.proofs.lists.AllLists.{holder_has, holder_none, has_linked}
 use Rattle.strm_mblk.specs.ChainLayout.{nodes_of, strands_but}
 use Rattle.strm_mblk.specs.Messages.{shelf_in}
 
@@ -79,12 +79,12 @@ map_members f g (x ∷ xs) same = λ i. same x (has_head x x xs refl) i ∷ map_
 
 module _ (v : StrandLists) (heads : Rows) where
   -- a strand whose head stands on no shelf is held
-  pub held_off : (h : ℕ) → holder h heads ≡ None → held_in (nodes_of v heads).held h ≡ held_in v.held h
-  held_off h off = but_absent h (linked_nodes heads) v.held (unlinked h heads off)
+  pub held_off : (h : ℕ) → holder h heads ≡ None → held_in (nodes_of v heads).held h ≡ held_in v.chains h
+  held_off h off = but_absent h (linked_nodes heads) v.chains (unlinked h heads off)
 
   -- any other number begins no held message
   pub held_on : (h : ℕ) → IsSome (holder h heads) → held_in (nodes_of v heads).held h ≡ None
-  held_on h on = but_there h (linked_nodes heads) v.held (linked h heads on)
+  held_on h on = but_there h (linked_nodes heads) v.chains (linked h heads on)
 
   -- what is held stands on no shelf
   pub off_shelf : (h : ℕ) → IsSome (held_in (nodes_of v heads).held h) → holder h heads ≡ None
@@ -95,8 +95,8 @@ module _ (v : StrandLists) (heads : Rows) where
       ] refl
 
   -- as many places as numbers, and as many shelves as lists of heads
-  pub length-held : length (nodes_of v heads).held ≡ length v.held
-  length-held = length-but (linked_nodes heads) v.held
+  pub length-held : length (nodes_of v heads).held ≡ length v.chains
+  length-held = length-but (linked_nodes heads) v.chains
 
   pub length-shelves : length (nodes_of v heads).shelves ≡ length heads.lists
   length-shelves = length-map heads.lists (map (strand_at v))
@@ -111,7 +111,7 @@ module _ (v : StrandLists) (heads : Rows) where
       by_place (xs ∷ lists) (suc k) = by_place lists k
 
   -- what is held is this, where it is so number by number
-  pub held_as : (w : List (Option (List ℕ))) → length w ≡ length v.held → ((h : ℕ) → holder h heads ≡ None → held_in w h ≡ held_in v.held h) → ((h : ℕ) → IsSome (holder h heads) → held_in w h ≡ None)
+  pub held_as : (w : List (Option (List ℕ))) → length w ≡ length v.chains → ((h : ℕ) → holder h heads ≡ None → held_in w h ≡ held_in v.chains h) → ((h : ℕ) → IsSome (holder h heads) → held_in w h ≡ None)
       → (nodes_of v heads).held ≡ w
   held_as w long off on =
       ext_get_or None (nodes_of v heads).held w (length-held ∙ sym long) (λ h within.

@@ -7,7 +7,7 @@ use Rattle.std.proofs.lemmas.List.{get_or_past}
 use Rattle.std.proofs.lemmas.Option.{same_Some, none-some}
 use Rattle.strm_links.specs.Rows.{first}
 use Rattle.strm_data.specs.DataStore.{times}
-use Rattle.strm_data.proofs.Times.{times-append, times_here}
+use Rattle.strm_links.proofs.lists.Counting.{times-append, times_here}
 use Rattle.strm_mblk.specs.Messages.{blocks_of, blocks_held, blocks_on, held_in}
 use Rattle.strm_mblk.specs.NodeLists.{IsNodesParted, NodeLists}
 use Rattle.strm_mblk.proofs.lists.Additive.{count_adds, flat_map-set_adds}

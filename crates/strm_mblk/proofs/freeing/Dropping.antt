@@ -6,7 +6,7 @@ use Rattle.std.proofs.lemmas.Bool.Decides.{eqb_tells}
 use Rattle.std.proofs.lemmas.List.{append_assoc, get_or_past, reverse-append}
 use Rattle.strm_data.specs.CountedStore.{CountedStore, count_of, without_name}
 use Rattle.strm_data.specs.DataStore.{DataStore, times, with_data_freed}
-use Rattle.strm_data.proofs.Times.{one_if, times-cons}
+use Rattle.strm_links.proofs.lists.Counting.{one_if, times-cons}
 use Rattle.strm_mblk.specs.declared.blocks.Fields.{Fields}
 use Rattle.strm_mblk.specs.Arena.{Arena}
 use Rattle.strm_mblk.specs.Block.{Message, is_naming}

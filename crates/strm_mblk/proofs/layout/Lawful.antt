@@ -22,7 +22,7 @@ use Rattle.strm_mblk.proofs.arena.Moves.{IsCounted, makes_arena}
 use Rattle.strm_mblk.proofs.layout.Shown.{blocks_in-seen, held_at-seen, nodes_in, numbers-seen, shelf_at-seen}
 use Rattle.strm_mblk.specs.Limits.{most_message_blocks}
 use Rattle.std.proofs.lemmas.List.Sums.{sum_by-append}
-use Rattle.strm_data.proofs.Kept.{capacity_range}
+use Rattle.strm_data.proofs.store.Kept.{capacity_range}
 use Rattle.strm_data.specs.Limits.{most_data_block_bytes}
 
 -- a message that begins with h

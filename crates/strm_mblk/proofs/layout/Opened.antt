@@ -9,8 +9,8 @@ use Rattle.strm_data.specs.declared.class_spec.ClassSpec.{ClassSpec}
 use Rattle.strm_data.specs.Classes.{are_lawful, each_has_blocks, sizes_rise, total_of}
 use Rattle.strm_data.specs.CountedStore.{CountedStore, IsKept, count_of, opening_counted}
 use Rattle.strm_data.specs.DataStore.{opening_store}
-use Rattle.strm_data.proofs.Opening.{length-blocks_from}
-use Rattle.strm_data.proofs.Repeated.{copies-at, flat_map-replicate, map-replicate}
+use Rattle.strm_data.proofs.store.Opening.{length-blocks_from}
+use Rattle.strm_data.proofs.lists.Repeated.{copies-at, flat_map-replicate, map-replicate}
 use Rattle.strm_data.specs.Limits.{most_classes}
 use Rattle.strm_mblk.specs.declared.blocks.Fields.{Fields}
 use Rattle.strm_mblk.specs.Arena.{blocks_in, names_of, opening_arena, shelved_blocks}

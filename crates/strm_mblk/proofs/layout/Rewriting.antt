@@ -7,7 +7,7 @@ use Rattle.std.proofs.lemmas.Option.{same_Some, none-some}
 use Rattle.strm_links.specs.Rows.{first}
 use Rattle.strm_data.specs.CountedStore.{CountedStore, IsKept}
 use Rattle.strm_data.specs.DataStore.{DataStore, times}
-use Rattle.strm_data.proofs.Times.{one_if, times-append, times-cons, times_here, times_other}
+use Rattle.strm_links.proofs.lists.Counting.{one_if, times-append, times-cons, times_here, times_other}
 use Rattle.strm_mblk.specs.declared.blocks.Fields.{Fields}
 use Rattle.strm_mblk.specs.Arena.{held_at, names_of}
 use Rattle.strm_mblk.specs.Block.{Block, Message, head_of}

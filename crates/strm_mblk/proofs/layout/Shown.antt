@@ -10,7 +10,7 @@ use Rattle.strm_mblk.specs.Block.{Block, Message, numbers_of}
 use Rattle.strm_mblk.specs.BlocksLayout.{arena_of, block_at, fields_at, message_of, no_fields}
 use Rattle.strm_mblk.specs.Messages.{blocks_of, held_in, shelf_in, blocks_on, blocks_held}
 use Rattle.strm_mblk.specs.NodeLists.{NodeLists, nodes_at}
-use Rattle.strm_data.proofs.Times.{times-cons, times_here}
+use Rattle.strm_links.proofs.lists.Counting.{times-cons, times_here}
 
 -- ---- by place
 

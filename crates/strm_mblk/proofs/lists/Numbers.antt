@@ -3,7 +3,7 @@ use Rattle.std.proofs.Common.{◌≡◌, ℕ, ◌+◌, ◌<◌, ◌≤◌, Bool,
 use Rattle.std.specs.Prelude.{count_by, slice_get, drop, take}
 use Rattle.std.proofs.lemmas.Bool.{cases_lt}
 use Rattle.strm_data.specs.DataStore.{times}
-use Rattle.strm_data.proofs.Times.{one_if, times-cons, times_here}
+use Rattle.strm_links.proofs.lists.Counting.{one_if, times-cons, times_here}
 use Rattle.strm_mblk.proofs.lists.Additive.{count_adds, count_one}
 use Rattle.std.proofs.lemmas.Option.{same_Some, none-some}
 use Rattle.strm_links.specs.Rows.{first}

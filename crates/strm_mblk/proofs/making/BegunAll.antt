@@ -8,7 +8,7 @@ use Rattle.std.proofs.lemmas.Option.{none-some, same_Some}
 use Rattle.strm_links.specs.Rows.{first}
 use Rattle.strm_data.specs.CountedStore.{CountedStore, IsKept, count_of}
 use Rattle.strm_data.specs.DataStore.{DataStore, times}
-use Rattle.strm_data.proofs.Times.{times-append, times-cons, times_here, times_other}
+use Rattle.strm_links.proofs.lists.Counting.{times-append, times-cons, times_here, times_other}
 use Rattle.strm_mblk.specs.declared.blocks.Fields.{Fields}
 use Rattle.strm_mblk.specs.Arena.{Arena, held_at, names_of, shelved_blocks, with_held}
 use Rattle.strm_mblk.specs.Block.{Block, Message, head_of, is_naming}

@@ -6,7 +6,7 @@ use Rattle.std.proofs.lemmas.Option.{none-some}
 use Rattle.strm_links.specs.Rows.{first}
 use Rattle.strm_data.specs.CountedStore.{CountedStore}
 use Rattle.strm_data.specs.DataStore.{times}
-use Rattle.strm_data.proofs.Times.{times-append, times_here}
+use Rattle.strm_links.proofs.lists.Counting.{times-append, times_here}
 use Rattle.strm_mblk.specs.declared.blocks.Fields.{Fields}
 use Rattle.strm_mblk.specs.declared.token.TokenValue.{TokenValue}
 use Rattle.strm_mblk.specs.Arena.{has}

@@ -9,7 +9,7 @@ use Rattle.std.proofs.lemmas.List.Elements.{All-append}
 use Rattle.std.proofs.lemmas.Option.{get_or_from_slice_get, slice_get_within}
 use Rattle.strm_data.specs.CountedStore.{CountedStore, IsUnused, count_of}
 use Rattle.strm_data.specs.DataStore.{capacity_of, take_data, times}
-use Rattle.strm_data.proofs.Times.{one_if}
+use Rattle.strm_links.proofs.lists.Counting.{one_if}
 use Rattle.strm_mblk.specs.declared.blocks.Fields.{Fields}
 use Rattle.strm_mblk.specs.Block.{Block, is_naming}
 use Rattle.strm_mblk.specs.BlockCalls.{copied_into, copies}

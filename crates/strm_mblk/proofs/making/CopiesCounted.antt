@@ -9,8 +9,8 @@ use Rattle.strm_data.specs.Classes.{fits_a_class}
 use Rattle.std.proofs.lemmas.List.Folds.{list_any_at}
 use Rattle.strm_data.specs.CountedStore.{CountedStore, IsKept, IsUnused, after_take}
 use Rattle.strm_data.specs.DataStore.{DataStore, IsTakenFrom, capacity_of, class_of, class_spec_at, data_block_at, free_of, no_class_spec, overwritten, take_data, with_data_taken, with_kind}
-use Rattle.strm_data.proofs.Kept.{IsKept-altered, IsKept-take, first_unused}
-use Rattle.strm_data.proofs.Tables.{length-overwritten}
+use Rattle.strm_data.proofs.store.Kept.{IsKept-altered, IsKept-take, first_unused}
+use Rattle.strm_data.proofs.lists.Tables.{length-overwritten}
 use Rattle.strm_mblk.specs.Block.{Block, bytes_of_block, kind_of}
 use Rattle.strm_mblk.specs.BlockCalls.{copied_into, copies}
 use Rattle.strm_mblk.specs.declared.blocks.Fields.{Fields}

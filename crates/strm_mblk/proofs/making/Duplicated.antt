@@ -11,7 +11,7 @@ use Rattle.strm_links.specs.Rows.{first}
 use Rattle.strm_data.specs.CountedStore.{CountedStore, IsKept, count_of}
 use Rattle.strm_data.specs.DataStore.{DataStore, times}
 use Rattle.strm_data.specs.declared.refusal.Refusal.TheVariants.{RefMax}
-use Rattle.strm_data.proofs.Fitting.{list_any-map}
+use Rattle.strm_data.proofs.store.Fitting.{list_any-map}
 use Rattle.strm_data.specs.Limits.{most_data_block_names}
 use Rattle.strm_mblk.specs.declared.blocks.Fields.{Fields}
 use Rattle.strm_mblk.specs.declared.token.TokenValue.{TokenValue}

@@ -9,7 +9,7 @@ use Rattle.std.proofs.lemmas.List.Folds.{list_any_none}
 use Rattle.std.proofs.lemmas.Option.{none-some, same_Some}
 use Rattle.strm_data.specs.CountedStore.{CountedStore, IsKept, count_of, with_name, without_name}
 use Rattle.strm_data.specs.DataStore.{times, with_data_freed}
-use Rattle.strm_data.proofs.Times.{one_if, times-append, times-cons, times_here}
+use Rattle.strm_links.proofs.lists.Counting.{one_if, times-append, times-cons, times_here}
 use Rattle.strm_data.specs.Limits.{most_data_block_names}
 use Rattle.strm_mblk.specs.BlocksLayout.{exceeds_counts, with_names_dropped, with_names_given}
 use Rattle.strm_mblk.proofs.lists.Numbers.{slice_get-take, times_at}

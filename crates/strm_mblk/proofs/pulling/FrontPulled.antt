@@ -7,7 +7,7 @@ use Rattle.std.proofs.lemmas.Bool.Decides.{eqb_tells}
 use Rattle.strm_data.specs.declared.msg_type.MsgType.{MsgType}
 use Rattle.strm_data.specs.CountedStore.{CountedStore, IsKept, IsUnused, count_of, without_name}
 use Rattle.strm_data.specs.DataStore.{DataStore, capacity_of, times, with_bytes_written, with_data_freed, with_data_taken, with_kind}
-use Rattle.strm_data.proofs.Times.{one_if, times_here}
+use Rattle.strm_links.proofs.lists.Counting.{one_if, times_here}
 use Rattle.strm_mblk.specs.declared.blocks.Fields.{Fields}
 use Rattle.strm_mblk.specs.Arena.{Arena, held_at, message_at, names_of, shelved_blocks}
 use Rattle.strm_mblk.specs.Block.{Block, bytes_of, is_naming, kind_of}

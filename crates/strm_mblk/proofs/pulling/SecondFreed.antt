@@ -6,10 +6,10 @@ use Rattle.std.proofs.lemmas.Bool.{cases_eq}
 use Rattle.std.proofs.lemmas.List.{length-map, set-get_or, set-set}
 use Rattle.std.proofs.lemmas.Option.{none-some}
 use Rattle.strm_links.specs.Rows.{first}
-use Rattle.strm_links.proofs.HeldLists.{times-set}
+use Rattle.strm_links.proofs.lists.Chains.{times-set}
 use Rattle.strm_data.specs.CountedStore.{CountedStore, IsKept, count_of, without_name}
 use Rattle.strm_data.specs.DataStore.{times}
-use Rattle.strm_data.proofs.Times.{times-append}
+use Rattle.strm_links.proofs.lists.Counting.{times-append}
 use Rattle.strm_mblk.specs.declared.blocks.Fields.{Fields}
 use Rattle.strm_mblk.specs.Arena.{Arena, held_at, message_at, shelved_blocks, with_held, without_held}
 use Rattle.strm_mblk.specs.Block.{Block, Message}

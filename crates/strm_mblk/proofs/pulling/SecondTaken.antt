@@ -5,7 +5,7 @@ use Rattle.std.specs.Option.{IsSome}
 use Rattle.std.proofs.lemmas.Bool.{cond-true, cond-false, le-leb, lt-leb}
 use Rattle.std.proofs.lemmas.Option.{none-some, same_Some}
 use Rattle.strm_data.specs.CountedStore.{CountedStore}
-use Rattle.strm_data.proofs.Kept.{capacity_range}
+use Rattle.strm_data.proofs.store.Kept.{capacity_range}
 use Rattle.strm_data.specs.Limits.{most_data_block_bytes}
 use Rattle.strm_mblk.specs.declared.blocks.Fields.{Fields}
 use Rattle.strm_mblk.specs.Arena.{Arena, held_at, message_at, shelved_blocks}

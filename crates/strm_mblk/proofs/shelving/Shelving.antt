@@ -7,7 +7,7 @@ use Rattle.std.specs.List.{All, flat_map}
 use Rattle.std.proofs.lemmas.Bool.{cases_eq, cond-true, cond-false, eq-eqb, ne_eqb, false≢true}
 use Rattle.std.proofs.lemmas.List.{length-map, map-append, map-set}
 use Rattle.strm_links.specs.Rows.{has}
-use Rattle.strm_links.proofs.OneList.{has_cases, has_head, has_tail}
+use Rattle.strm_links.proofs.lists.OneList.{has_cases, has_head, has_tail}
 use Rattle.strm_data.specs.CountedStore.{CountedStore}
 use Rattle.strm_data.specs.DataStore.{DataStore}
 use Rattle.strm_mblk.specs.declared.blocks.Fields.{Fields}

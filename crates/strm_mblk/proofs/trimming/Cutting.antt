@@ -5,7 +5,7 @@ use Rattle.std.proofs.lemmas.Bool.{cases_eq, cases_lt}
 use Rattle.std.proofs.lemmas.List.{reverse-append, set-get_or, set_past}
 use Rattle.std.proofs.lemmas.List.Sums.{sum_by-append}
 use Rattle.strm_data.specs.DataStore.{DataStore, times}
-use Rattle.strm_data.proofs.Times.{times-cons, times_here}
+use Rattle.strm_links.proofs.lists.Counting.{times-cons, times_here}
 use Rattle.strm_mblk.specs.declared.blocks.Fields.{Fields}
 use Rattle.strm_mblk.specs.Block.{Block, size_of}
 use Rattle.strm_mblk.specs.BlocksLayout.{IsPlaced, block_at, block_of, fields_at, message_of, no_fields}

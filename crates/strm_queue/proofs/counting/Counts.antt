@@ -8,7 +8,7 @@ use Rattle.std.proofs.lemmas.List.Sums.{sum_by-append, sum_by-cons, sum_by-le, s
 use Rattle.strm_data.specs.CountedStore.{IsKept}
 use Rattle.strm_data.specs.DataStore.{DataBlock, DataStore, no_data_block}
 use Rattle.strm_data.specs.Limits.{most_data_block_bytes}
-use Rattle.strm_data.proofs.Kept.{capacity_range}
+use Rattle.strm_data.proofs.store.Kept.{capacity_range}
 use Rattle.strm_mblk.specs.Arena.{Arena, IsWithin, blocks_in, census_of, counted_in, held_blocks, shelf_at, shelved_blocks}
 use Rattle.strm_mblk.specs.Block.{Block, Message, head_of, size_of}
 use Rattle.strm_mblk.specs.Limits.{most_message_blocks}

@@ -5,8 +5,8 @@ use Rattle.std.specs.List.{All}
 use Rattle.std.specs.Option.{option_map_or}
 use Rattle.std.proofs.lemmas.List.{get_or-map, length-map}
 use Rattle.strm_links.specs.Rows.{IsParting, Rows, after, first, holder, list_at, next_in, without}
-use Rattle.strm_links.proofs.AllLists.{All-listed, IsApart-list_at, has-holder}
-use Rattle.strm_links.proofs.OneList.{after-get, first-without, has_get, length_below, some_of}
+use Rattle.strm_links.proofs.lists.AllLists.{All-listed, IsApart-list_at, has-holder}
+use Rattle.strm_links.proofs.lists.OneList.{after-get, first-without, has_get, length_below, some_of}
 use Rattle.strm_queue.specs.declared.queues.Queues.TheInside.{Inside}
 use Rattle.strm_queue.specs.Flow.{spec_at}
 use Rattle.strm_queue.specs.QueuesLayout.{IsLawful, spec_in, value_of}

@@ -9,7 +9,7 @@ use Rattle.std.proofs.lemmas.List.Elements.{filter-append}
 use Rattle.std.proofs.lemmas.List.Folds.{list_all-append}
 use Rattle.std.proofs.lemmas.Option.{none-some, same_Some}
 use Rattle.strm_links.specs.Rows.{IsApart, first, has, is_some_of, last, last_or}
-use Rattle.strm_links.proofs.OneList.{ApartParts, IsApart-parts, absent_parts, differ, first_has, has_cases, has_head, has_tail, is_some_of-same, last_has, last_or-append}
+use Rattle.strm_links.proofs.lists.OneList.{ApartParts, IsApart-parts, absent_parts, differ, first_has, has_cases, has_head, has_tail, is_some_of-same, last_has, last_or-append}
 use Rattle.strm_mblk.specs.Block.{Message, head_of}
 use Rattle.strm_queue.specs.Ends.{first_of_rank, last_of_rank, of_rank}
 use Rattle.strm_queue.specs.Rank.{is_ordered}

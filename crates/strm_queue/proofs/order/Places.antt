@@ -5,7 +5,7 @@ use Rattle.std.specs.List.{list_any}
 use Rattle.std.proofs.lemmas.Bool.{cases_eq, cases_order, false_from_ne_true, false≢true, leb-true, lt-leb, or_from, cases_Bool, cond-true, cond-false, ltb-true}
 use Rattle.std.proofs.lemmas.List.{append_assoc, map-append, get_or_past}
 use Rattle.strm_links.specs.Rows.{IsApart, after, first, has}
-use Rattle.strm_links.proofs.OneList.{first_has, has-append, is_some_of-same, last_has}
+use Rattle.strm_links.proofs.lists.OneList.{first_has, has-append, is_some_of-same, last_has}
 use Rattle.strm_mblk.specs.Block.{Message, head_of}
 use Rattle.strm_mblk.specs.Messages.{put_before_head}
 use Rattle.strm_queue.specs.Ends.{first_of_rank, last_of_rank, of_rank}

@@ -5,7 +5,7 @@ use Rattle.std.proofs.lemmas.Bool.{cond-true, cond-false, eq-eqb, ne_eqb, falseâ
 use Rattle.std.proofs.lemmas.List.{map-append, append-nil}
 use Rattle.std.proofs.lemmas.Option.{none-some, same_Some}
 use Rattle.strm_links.specs.Rows.{IsApart, after, before, first, has, last, last_or}
-use Rattle.strm_links.proofs.OneList.{absent_around, absent_parts, after-at, before-at, has_cases, has_head, has_right, last_some}
+use Rattle.strm_links.proofs.lists.OneList.{absent_around, absent_parts, after-at, before-at, has_cases, has_head, has_right, last_some}
 use Rattle.strm_mblk.specs.Arena.{Arena, shelf_at, with_held, with_shelf}
 use Rattle.strm_mblk.specs.Block.{Message, head_of}
 use Rattle.strm_mblk.specs.Messages.{put_before_head, without_head}

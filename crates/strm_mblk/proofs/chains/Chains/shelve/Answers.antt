@@ -1,7 +1,7 @@
 use Rattle.std.proofs.Common.{ℕ, ◌≡◌, Some, None, refl, sym, ◌∙◌, arith}
 use Rattle.std.proofs.lemmas.Option.{none-some}
 use Rattle.strm_links.specs.Rows.{holder, list_at}
-use Rattle.strm_links.proofs.AllLists.{holder_has}
+use Rattle.strm_links.proofs.lists.AllLists.{holder_has}
 use Rattle.strm_mblk.specs.Messages.{shelf_in, put_before_head}
 use Rattle.strm_mblk.specs.NodeLists.{head_node, nodes_at}
 use Rattle.strm_mblk.proofs.chaining.OnShelves.{placed_in, reheaded_is, reheaded_laid, room_of}
@@ -19,7 +19,7 @@ place-requires-clause-list c = omega (arith, c.requires.shelf, shelves_within _ 
 
 pub place-requires-clause-node : goal.place-requires-clause-node
 place-requires-clause-node c =
-    omega (arith, c.self.invariant.head_nodes, room_of c.self.inside.strands.held c.args.head (strand_there _ _ c.self.invariant _ c.self.view_is c.args.head c.requires.held))
+    omega (arith, c.self.invariant.head_nodes, room_of c.self.inside.strands.chains c.args.head (strand_there _ _ c.self.invariant _ c.self.view_is c.args.head c.requires.held))
 
 pub place-requires-clause-free : goal.place-requires-clause-free
 place-requires-clause-free c = off _ _ c.self.invariant _ c.self.view_is c.args.head c.requires.held

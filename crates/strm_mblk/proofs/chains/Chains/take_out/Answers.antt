@@ -12,8 +12,8 @@ use Rattle.strm_mblk.proofs.chains.Chains.take_out.Goals as goal
 nodes : (c : After-self) → nodes_at c.args.self.now c.args.head ≡ strand_at c.self.inside.strands c.args.head
 nodes c = nodes_is _ _ c.self.invariant _ c.self.view_is c.args.head c.requires.held
 
-pub take_out-requires-clause-held : goal.take_out-requires-clause-held
-take_out-requires-clause-held c = strand_there _ _ c.self.invariant _ c.self.view_is c.args.head c.requires.held
+pub take_out-requires-clause-head : goal.take_out-requires-clause-head
+take_out-requires-clause-head c = strand_there _ _ c.self.invariant _ c.self.view_is c.args.head c.requires.held
 
 pub unwrap-requires : goal.unwrap-requires
 unwrap-requires c =

@@ -1,8 +1,8 @@
 use Rattle.std.proofs.Common.{◌≤◌, length, subst, arith}
 use Rattle.strm_data.specs.DataStore.{class_infos}
 use Rattle.strm_data.specs.Limits.{most_classes}
-use Rattle.strm_data.proofs.Kept.{length-class_infos}
-use Rattle.strm_data.proofs.Lawful.{lawful_few}
+use Rattle.strm_data.proofs.store.Kept.{length-class_infos}
+use Rattle.strm_data.proofs.store.Lawful.{lawful_few}
 use Rattle.strm_mblk.specs.Arena.{counted_in}
 use Rattle.strm_pool.specs.Lawful.{IsLawful}
 use Rattle.strm_pool.proofs.pool.Pool.lawful.Goals as goal
