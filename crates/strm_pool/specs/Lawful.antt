@@ -11,7 +11,7 @@ use Rattle.strm_mblk.specs.Shelves.{heads_at}
 use Rattle.strm_queue.specs.Flow.{band_count, bytes_on, every_band, spec_at}
 use Rattle.strm_queue.specs.Limits.{most_queues}
 use Rattle.strm_queue.specs.QueueSpecs.{are_lawful}
-use Rattle.strm_queue.specs.QueuedBlocks.{AreFlagsLawful}
+use Rattle.strm_queue.specs.QueuedBlocks.{AreMarksLawful}
 use Rattle.strm_queue.specs.Rank.{is_ordered, rank_of}
 use Rattle.strm_pool.specs.Limits.{most_wishes}
 use Rattle.strm_pool.specs.PoolValue.{PoolValue}
@@ -45,7 +45,7 @@ pub record IsLawful (v : PoolValue) : Type 0 where
   pub forward : (queue : ℕ) → let heads = heads_at v.arena queue in rows.Reads (λ head. rows.after head heads) (rows.first heads) heads
   pub backward : (queue : ℕ) → let heads = heads_at v.arena queue in rows.Reads (λ head. rows.before head heads) (rows.last heads) (reverse heads)
   -- A wanted mark stands only where the band has more bytes than the low water mark.
-  pub flags : (queue : ℕ) → AreFlagsLawful v.queues v.arena queue
+  pub marks : (queue : ℕ) → AreMarksLawful v.queues v.arena queue
   -- The bytes of a queue's bands add up to those of its messages.
   pub bytes : (queue : ℕ) → sum_by (λ band. band_count v.arena.store band (shelf_at v.arena queue)) every_band ≡ bytes_on (shelf_at v.arena queue)
   -- There are no more wishes than the configuration allows, and their ids rise in order of recording, below the

@@ -42,13 +42,13 @@ abbrev pub AreFullMarksTrue : QueuesValue → Arena → ℕ → Type 0
 AreFullMarksTrue v a q = (band : ℕ) → band < bands → has_band (tally_at v q).full band ≡ fills (hiwat_of v.state q band) (band_count a.store band (shelf_at a q))
 
 -- a wanted mark of this queue stands only where the band has more bytes than the low water mark
-abbrev pub AreFlagsLawful : QueueState → Arena → ℕ → Type 0
-AreFlagsLawful s a q = (band : ℕ) → IsTrue (has_band (flags_at s q).wanted band) → lowat_of s q band < band_count a.store band (shelf_at a q)
+abbrev pub AreMarksLawful : QueueState → Arena → ℕ → Type 0
+AreMarksLawful s a q = (band : ℕ) → IsTrue (has_band (flags_at s q).wanted band) → lowat_of s q band < band_count a.store band (shelf_at a q)
 
 -- `Queues` and message blocks belong together: messages are in order, what is stored is true, and so are wanted marks
 pub record Agrees (v : QueuesValue) (a : Arena) : Type 0 where
   pub in_order : AreInOrder v a
-  pub flags : (q : ℕ) → AreFlagsLawful v.state a q
+  pub marks : (q : ℕ) → AreMarksLawful v.state a q
 
 abbrev pub opening_value : List QueueSpec → QueuesValue
 opening_value specs = record { state = opening_queues specs; tallies = map (λ q. no_tally) specs }

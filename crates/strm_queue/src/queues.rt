@@ -7,7 +7,7 @@ ghost use Rattle.strm_mblk.specs.Shelves.{heads_at};
 ghost use Rattle.strm_queue.specs.Flow.{AreMarksApart, band_count, band_of_rank, bytes_on, every_band, hiwat_of, spec_at};
 ghost use Rattle.strm_queue.specs.Limits.{most_queues, ranks};
 ghost use Rattle.strm_queue.specs.QueueSpecs.{are_lawful};
-ghost use Rattle.strm_queue.specs.QueuedBlocks.{Agrees, AreCountsTrue, AreFlagsLawful, AreFullMarksTrue, opening_value, tally_at, with_tally};
+ghost use Rattle.strm_queue.specs.QueuedBlocks.{Agrees, AreCountsTrue, AreMarksLawful, AreFullMarksTrue, opening_value, tally_at, with_tally};
 ghost use Rattle.strm_queue.specs.QueuesLayout.{new_queue};
 ghost use Rattle.strm_queue.specs.Rank.{is_ordered, rank_of};
 ghost use Rattle.strm_queue.specs.Tallies.{count_of, one_less, one_more};
@@ -195,7 +195,7 @@ impl Queues {
         // The low water mark of each band is below its high one, and a wanted mark stands only where the band has more bytes
         // than the low one.
         ensures apart { AreMarksApart self.now.state }
-        ensures flags { (queue : ℕ) → AreFlagsLawful self.now.state blocks.now queue }
+        ensures marks { (queue : ℕ) → AreMarksLawful self.now.state blocks.now queue }
         // The bytes of a queue's bands add up to those of its messages.
         ensures whole { (queue : ℕ) → sum_by (λ band. band_count blocks.now.store band (shelf_at blocks.now queue)) every_band ≡ bytes_on (shelf_at blocks.now queue) }
         // No queue is on the run list twice, and each that is has a service procedure.

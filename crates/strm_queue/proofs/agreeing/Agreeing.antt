@@ -16,7 +16,7 @@ use Rattle.strm_links.specs.Rows as rows
 use Rattle.strm_queue.specs.declared.queue_spec.QueueSpec.{QueueSpec}
 use Rattle.strm_queue.specs.Ends.{of_rank}
 use Rattle.strm_queue.specs.Flow.{Flags, QueueState, band_count, band_of_rank, bands_where, enabled_where, every_band, fills, flags_at, has_band, hiwat_of, is_of_band, lowat_of, opening_flags, opening_queues, spec_at, with_read}
-use Rattle.strm_queue.specs.QueuedBlocks.{Agrees, AreInOrder, AreFlagsLawful, QueuesValue, opening_value, tally_at, with_tally}
+use Rattle.strm_queue.specs.QueuedBlocks.{Agrees, AreInOrder, AreMarksLawful, QueuesValue, opening_value, tally_at, with_tally}
 use Rattle.strm_queue.specs.Tallies.{IsTallyOf, Tally, no_tally, one_less, one_more}
 use Rattle.strm_queue.specs.Rank.{is_ordered, rank_of}
 use Rattle.strm_queue.proofs.counting.Counts.{band_count-placed}
@@ -61,14 +61,14 @@ module _ (v : QueuesValue) (a : Arena) (in_order : AreInOrder v a) (q : ℕ) (wi
 
 module _ (s : QueueState) (a : Arena) (q : ℕ) (ms : List Message) (b : Arena) (store : b.store ≡ a.store) (shelves : b.shelves ≡ set a.shelves q ms) where
   -- marks of other queues are lawful as they were
-  pub flags_other : (p : ℕ) → p ≢ q → AreFlagsLawful s a p → AreFlagsLawful s b p
-  flags_other p other lawful band wanted =
+  pub marks_other : (p : ℕ) → p ≢ q → AreMarksLawful s a p → AreMarksLawful s b p
+  marks_other p other lawful band wanted =
       subst (λ x. lowat_of s p band < band_count x band (shelf_at b p)) (sym store)
       (subst (λ xs. lowat_of s p band < band_count a.store band xs) (sym (ap (λ x. get_or x p []) shelves ∙ get_or-set_other a.shelves q p ms [] other)) (lawful band wanted))
 
   -- and so are those of q where no band lost bytes
-  flags_more : q < length a.shelves → ((band : ℕ) → band_count a.store band (shelf_at a q) ≤ band_count a.store band ms) → AreFlagsLawful s a q → AreFlagsLawful s b q
-  flags_more within more lawful band wanted =
+  marks_more : q < length a.shelves → ((band : ℕ) → band_count a.store band (shelf_at a q) ≤ band_count a.store band ms) → AreMarksLawful s a q → AreMarksLawful s b q
+  marks_more within more lawful band wanted =
       subst (λ x. lowat_of s q band < band_count x band (shelf_at b q)) (sym store)
       (subst (λ xs. lowat_of s q band < band_count a.store band xs) (sym (ap (λ x. get_or x q []) shelves ∙ get_or-set_same a.shelves q ms [] within)) (omega (arith, lawful band wanted, more band)))
 
@@ -93,15 +93,15 @@ module _ (v : QueuesValue) (a : Arena) (in_order : AreInOrder v a) (q : ℕ) (wi
         (tally_left a.store m hiwat (tally_at v q) pre post p placed (subst (λ ms. IsTallyOf a.store hiwat ms (tally_at v q)) is (in_order.true_of q within)) ordered apart)
 
 -- the marks of all queues stay lawful where a message joins one
-pub flags_put : (v : QueuesValue) (a : Arena) (agrees : Agrees v a) (q : ℕ) (within : q < length v.state.specs) (before : Option ℕ) (m : Message) (b : Arena) → b.store ≡ a.store
-    → b.shelves ≡ set a.shelves q (put_before_head head_of before m (shelf_at a q)) → (p : ℕ) → AreFlagsLawful v.state b p
-flags_put v a agrees q within before m b store shelves p =
+pub marks_put : (v : QueuesValue) (a : Arena) (agrees : Agrees v a) (q : ℕ) (within : q < length v.state.specs) (before : Option ℕ) (m : Message) (b : Arena) → b.store ≡ a.store
+    → b.shelves ≡ set a.shelves q (put_before_head head_of before m (shelf_at a q)) → (p : ℕ) → AreMarksLawful v.state b p
+marks_put v a agrees q within before m b store shelves p =
     elim (cases_eq p q) [
       | inl same ↦
-          subst (AreFlagsLawful v.state b) (sym same)
-          (flags_more v.state a q (put_before_head head_of before m (shelf_at a q)) b store shelves (omega (arith, within, agrees.in_order.shelves))
-          (λ band. omega (arith, band_count-placed a.store band before m (shelf_at a q))) (agrees.flags q))
-      | inr other ↦ flags_other v.state a q (put_before_head head_of before m (shelf_at a q)) b store shelves p other (agrees.flags p)
+          subst (AreMarksLawful v.state b) (sym same)
+          (marks_more v.state a q (put_before_head head_of before m (shelf_at a q)) b store shelves (omega (arith, within, agrees.in_order.shelves))
+          (λ band. omega (arith, band_count-placed a.store band before m (shelf_at a q))) (agrees.marks q))
+      | inr other ↦ marks_other v.state a q (put_before_head head_of before m (shelf_at a q)) b store shelves p other (agrees.marks p)
     ]
 
 -- ---- enabling
@@ -225,14 +225,14 @@ module _ (v : QueuesValue) (a b : Arena) (shelves : b.shelves ≡ a.shelves) (sa
         (tally_same a.store b.store (hiwat_of v.state q) (shelf_at a q) (tally_at v q) (shelf_same a.store b.store a.shelves q same) (in_order.true_of q below));
   }
 
-  pub flags_left_lawful : (q : ℕ) → AreFlagsLawful v.state a q → AreFlagsLawful v.state b q
-  flags_left_lawful q lawful band wanted =
+  pub marks_left_lawful : (q : ℕ) → AreMarksLawful v.state a q → AreMarksLawful v.state b q
+  marks_left_lawful q lawful band wanted =
       omega (arith, lawful band wanted, ap (λ x. band_count b.store band (get_or x q [])) shelves, count_same a.store b.store band (shelf_at a q) (shelf_same a.store b.store a.shelves q same))
 
 pub agrees_left : (v : QueuesValue) (heads : List ℕ) (a b : Arena) → Agrees v a → LeavesShelves heads a b → Agrees v b
 agrees_left v heads a b agrees left = record {
   in_order = in_order_left v a b left.shelves left.shelved_data agrees.in_order;
-  flags = λ q. flags_left_lawful v a b left.shelves left.shelved_data q (agrees.flags q);
+  marks = λ q. marks_left_lawful v a b left.shelves left.shelved_data q (agrees.marks q);
 }
 
 -- new queues agree with new message blocks that have a shelf for each
@@ -247,7 +247,7 @@ agrees_new specs lawful id mblks classes = record {
         (subst (λ ms. IsTallyOf (opening_arena id mblks classes (length specs)).store (hiwat_of (opening_queues specs) q) ms no_tally) (sym (empty (length specs) q))
         (tally_none (opening_arena id mblks classes (length specs)).store (hiwat_of (opening_queues specs) q) (λ band within. omega (arith, marks_below (opening_queues specs) lawful q band below within))));
   };
-  flags = λ q band wanted. absurd (false≢true (sym (ap (λ (m : Flags). has_band m.wanted band) (unmarked specs q) ∙ none_wanted_at band) ∙ wanted));
+  marks = λ q band wanted. absurd (false≢true (sym (ap (λ (m : Flags). has_band m.wanted band) (unmarked specs q) ∙ none_wanted_at band) ∙ wanted));
 }
   where
     no_messages : List Message

@@ -18,7 +18,7 @@ module _ (v : QueuesValue) (a : Arena) (s : QueueState) (specs : s.specs ≡ v.s
   pub agrees_state : ((q : ℕ) → (flags_at s q).wanted ≡ (flags_at v.state q).wanted) → Agrees v a → Agrees (record v { state = s }) a
   agrees_state wanted agrees = record {
     in_order = in_order_state agrees.in_order;
-    flags = λ q band is.
+    marks = λ q band is.
         subst (λ marks. marks band < band_count a.store band (shelf_at a q)) (sym (lowat_of-same v.state s specs q))
-        (agrees.flags q band (subst (λ ws. has_band ws band ≡ true) (wanted q) is));
+        (agrees.marks q band (subst (λ ws. has_band ws band ≡ true) (wanted q) is));
   }

@@ -7,7 +7,7 @@ use Rattle.strm_mblk.specs.Arena.{Arena, shelf_at}
 use Rattle.strm_queue.specs.Flow.{Flags, QueueState, band_count, enabled, every_band, flags_at, has_band, is_relieved, lowat_of, opening_flags, some_relieved, still_wanted, waker, with_flags}
 use Rattle.strm_queue.specs.Limits.{bands}
 use Rattle.strm_queue.specs.QueueCalls.{count_on, flags_left, has_relieved, settled, waker_enabled_where}
-use Rattle.strm_queue.specs.QueuedBlocks.{Agrees, AreInOrder, AreFlagsLawful, QueuedBlocks, QueuesValue, together, tally_at}
+use Rattle.strm_queue.specs.QueuedBlocks.{Agrees, AreInOrder, AreMarksLawful, QueuedBlocks, QueuesValue, together, tally_at}
 use Rattle.strm_queue.specs.Tallies.{count_of}
 use Rattle.strm_queue.proofs.agreeing.Agreeing.{enabled_flags, enabled_specs}
 use Rattle.strm_queue.proofs.bands.Bands.{bands_where-same, has_band_where, some_same, wanted_past}
@@ -82,7 +82,7 @@ module _ (v : QueuesValue) (a : Arena) (q : ℕ) where
 
   -- ---- afterwards wanted marks are lawful
 
-  module _ (others : (p : ℕ) → p ≢ q → AreFlagsLawful v.state a p) where
+  module _ (others : (p : ℕ) → p ≢ q → AreMarksLawful v.state a p) where
     abbrev left : QueueState
     left = with_flags q (flags_left both q) v.state
 
@@ -91,7 +91,7 @@ module _ (v : QueuesValue) (a : Arena) (q : ℕ) where
     above true n l is = leb-false n l (not-true (nat_le n l) is)
     above false n l is = absurd (false≢true is)
 
-    left_here : AreFlagsLawful left a q
+    left_here : AreMarksLawful left a q
     left_here band is =
         elim (set_or v.state.flags q (flags_left both q) opening_flags) [
           | inl set ↦
@@ -105,10 +105,10 @@ module _ (v : QueuesValue) (a : Arena) (q : ℕ) where
           | inr past ↦ absurd (false≢true (sym (ap (λ (m : Flags). has_band m.wanted band) past ∙ new_flags band) ∙ is))
         ]
 
-    left_at : (p : ℕ) → AreFlagsLawful left a p
+    left_at : (p : ℕ) → AreMarksLawful left a p
     left_at p =
         elim (cases_eq p q) [
-          | inl same ↦ subst (AreFlagsLawful left a) (sym same) left_here
+          | inl same ↦ subst (AreMarksLawful left a) (sym same) left_here
           | inr other ↦ λ band is. others p other band (sym (ap (λ (m : Flags). has_band m.wanted band) (get_or-set_other v.state.flags q p (flags_left both q) opening_flags other)) ∙ is)
         ]
 
@@ -119,7 +119,7 @@ module _ (v : QueuesValue) (a : Arena) (q : ℕ) where
         let flags = ap (λ (t : QueueState). t.flags) state ∙ waker_flags (has_relieved both q) q left in
         record {
           in_order = in_order_state v a s specs in_order;
-          flags = λ p band here.
+          marks = λ p band here.
               subst (λ marks. marks band < band_count a.store band (shelf_at a p)) (sym (lowat_of-same v.state s specs p))
               (left_at p band (subst (λ ms. has_band (get_or ms p opening_flags).wanted band ≡ true) flags here));
         }

@@ -4,12 +4,12 @@ use Rattle.std.proofs.lemmas.Bool.{cases_eq, false≢true}
 use Rattle.strm_mblk.specs.Arena.{Arena, shelf_at}
 use Rattle.strm_queue.specs.Flow.{AreMarksApart, Flags, QueueState, band_count, flags_at, has_band, hiwat_of, lowat_of, opening_flags, with_wanted}
 use Rattle.strm_queue.specs.Limits.{bands}
-use Rattle.strm_queue.specs.QueuedBlocks.{Agrees, AreFlagsLawful, QueuesValue}
+use Rattle.strm_queue.specs.QueuedBlocks.{Agrees, AreMarksLawful, QueuesValue}
 use Rattle.strm_queue.proofs.flow.Settling.{new_flags, set_or}
 
 module _ (s : QueueState) (a : Arena) (p band : ℕ) (above : lowat_of s p band < band_count a.store band (shelf_at a p)) where
   -- at the queue that was asked
-  flagged_here : AreFlagsLawful s a p → AreFlagsLawful (with_wanted p band s) a p
+  flagged_here : AreMarksLawful s a p → AreMarksLawful (with_wanted p band s) a p
   flagged_here lawful b is =
       elim (set_or s.flags p (record (flags_at s p) { wanted = set (flags_at s p).wanted band true }) opening_flags) [
         | inl here ↦
@@ -22,10 +22,10 @@ module _ (s : QueueState) (a : Arena) (p band : ℕ) (above : lowat_of s p band 
       ]
 
   -- at every queue
-  marked : ((q : ℕ) → AreFlagsLawful s a q) → (q : ℕ) → AreFlagsLawful (with_wanted p band s) a q
+  marked : ((q : ℕ) → AreMarksLawful s a q) → (q : ℕ) → AreMarksLawful (with_wanted p band s) a q
   marked lawful q =
       elim (cases_eq q p) [
-        | inl same ↦ subst (AreFlagsLawful (with_wanted p band s) a) (sym same) (flagged_here (lawful p))
+        | inl same ↦ subst (AreMarksLawful (with_wanted p band s) a) (sym same) (flagged_here (lawful p))
         | inr other ↦ λ b is.
             lawful q b
             (sym (ap (λ (m : Flags). has_band m.wanted b) (get_or-set_other s.flags p q (record (flags_at s p) { wanted = set (flags_at s p).wanted band true }) opening_flags other)) ∙ is)
@@ -40,5 +40,5 @@ agrees_wanted v a p band apart within low full agrees = record {
     ordered = agrees.in_order.ordered;
     true_of = agrees.in_order.true_of;
   };
-  flags = marked v.state a p band (omega (arith, full, apart p band within low)) agrees.flags;
+  marks = marked v.state a p band (omega (arith, full, apart p band within low)) agrees.marks;
 }

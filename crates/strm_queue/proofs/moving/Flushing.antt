@@ -29,10 +29,10 @@ use Rattle.strm_queue.specs.Limits.{bands}
 use Rattle.strm_queue.specs.Flushing.{from_band}
 use Rattle.strm_queue.specs.Rank.{is_ordered, rank_of}
 use Rattle.strm_queue.specs.Flush.{carries_data, is_flushed, is_picked, with_freed}
-use Rattle.strm_queue.specs.QueuedBlocks.{Agrees, AreFlagsLawful, QueuesValue}
+use Rattle.strm_queue.specs.QueuedBlocks.{Agrees, AreMarksLawful, QueuesValue}
 use Rattle.strm_queue.proofs.order.Ends.{ahead_more, behind_less, of_rank-append, of_rank-refused}
 use Rattle.strm_queue.proofs.shelf.Across.{shelved_message-at}
-use Rattle.strm_queue.proofs.agreeing.Agreeing.{flags_left_lawful, flags_other, rank_of-same}
+use Rattle.strm_queue.proofs.agreeing.Agreeing.{marks_left_lawful, marks_other, rank_of-same}
 use Rattle.strm_queue.proofs.shelf.OnShelf.{FirstParts, after-head, at_there, first_of, heads, unshelved}
 
 -- ---- what the first block tells
@@ -379,10 +379,10 @@ module _ (picked taken : Message → Bool) (old : Arena) (q : ℕ) (within : q <
 
 -- the marks of other queues are lawful as they were
 pub flushed_flags : (v : QueuesValue) (a : Arena) → Agrees v a → (q : ℕ) (picked : Message → Bool) (b : Arena)
-    → b ≡ with_freed (filter picked (shelf_at a q)) (with_shelf q (filter (λ m. not (picked m)) (shelf_at a q)) a) → (p : ℕ) → p ≢ q → AreFlagsLawful v.state b p
+    → b ≡ with_freed (filter picked (shelf_at a q)) (with_shelf q (filter (λ m. not (picked m)) (shelf_at a q)) a) → (p : ℕ) → p ≢ q → AreMarksLawful v.state b p
 flushed_flags v a agrees q picked b is p other =
     let stay = filter (λ m. not (picked m)) (shelf_at a q) in
     let gone = flat_map (λ m. m) (filter picked (shelf_at a q)) in
-    flags_left_lawful v (with_shelf q stay a) b (ap (λ (x : Arena). x.shelves) is ∙ freed_shelves gone (with_shelf q stay a))
+    marks_left_lawful v (with_shelf q stay a) b (ap (λ (x : Arena). x.shelves) is ∙ freed_shelves gone (with_shelf q stay a))
     (data_same a.store b.store (ap (λ (x : Arena). x.store.blocks) is ∙ freed_data gone (with_shelf q stay a)) (shelved_blocks (with_shelf q stay a))) p
-    (flags_other v.state a q stay (with_shelf q stay a) refl refl p other (agrees.flags p))
+    (marks_other v.state a q stay (with_shelf q stay a) refl refl p other (agrees.marks p))

@@ -13,9 +13,9 @@ use Rattle.strm_mblk.proofs.lists.ListParts.{drop_from}
 use Rattle.strm_mblk.proofs.arena.Stands.{heads_apart}
 use Rattle.strm_queue.specs.Flow.{with_read}
 use Rattle.strm_queue.specs.QueueCalls.{getq, got_at, got_first, rmvq, settled, with_got, with_state}
-use Rattle.strm_queue.specs.QueuedBlocks.{Agrees, AreFlagsLawful, QueuedBlocks, QueuesValue, together}
+use Rattle.strm_queue.specs.QueuedBlocks.{Agrees, AreMarksLawful, QueuedBlocks, QueuesValue, together}
 use Rattle.strm_queue.specs.Rank.{without_place}
-use Rattle.strm_queue.proofs.agreeing.Agreeing.{flags_other}
+use Rattle.strm_queue.proofs.agreeing.Agreeing.{marks_other}
 use Rattle.strm_queue.proofs.shelf.OnShelf.{FirstParts, first_none, first_of, unshelved}
 use Rattle.strm_mblk.specs.Messages.{without_head}
 
@@ -36,10 +36,10 @@ module _ (v : QueuesValue) (a : Arena) (agrees : Agrees v a) (parted : IsParted 
     got_together = λ i. record { queues = got.state i; arena = arena_is i }
 
   -- the marks of other queues are lawful as they were
-  pub got_others : (w : QueuesValue) (b : Arena) → IsGot w b → (p : ℕ) → p ≢ q → AreFlagsLawful w.state b p
+  pub got_others : (w : QueuesValue) (b : Arena) → IsGot w b → (p : ℕ) → p ≢ q → AreMarksLawful w.state b p
   got_others w b got p other =
-      subst (λ s. AreFlagsLawful s b p) (sym got.state)
-      (flags_other v.state a q (without_head head_of h (shelf_at a q)) b (ap (λ (x : Arena). x.store) got.arena) (ap (λ (x : Arena). x.shelves) got.arena) p other (agrees.flags p))
+      subst (λ s. AreMarksLawful s b p) (sym got.state)
+      (marks_other v.state a q (without_head head_of h (shelf_at a q)) b (ap (λ (x : Arena). x.store) got.arena) (ap (λ (x : Arena). x.shelves) got.arena) p other (agrees.marks p))
 
   -- ---- the first one
 

@@ -13,9 +13,9 @@ use Rattle.strm_mblk.specs.Shelves.{heads_at}
 use Rattle.strm_mblk.proofs.arena.Stands.{heads_apart}
 use Rattle.strm_queue.specs.Flow.{enabled_where, enables_inserted, enables_put, enables_put_back}
 use Rattle.strm_queue.specs.QueueCalls.{insq, flags_of, putbq, putq, rank_put, with_put, with_state}
-use Rattle.strm_queue.specs.QueuedBlocks.{Agrees, QueuedBlocks, QueuesValue, together, AreInOrder, AreFlagsLawful}
+use Rattle.strm_queue.specs.QueuedBlocks.{Agrees, QueuedBlocks, QueuesValue, together, AreInOrder, AreMarksLawful}
 use Rattle.strm_queue.specs.Rank.{as_queued, is_ordered, put_ahead, put_at, put_behind, rank_of}
-use Rattle.strm_queue.proofs.agreeing.Agreeing.{agrees_enabled, flags_put}
+use Rattle.strm_queue.proofs.agreeing.Agreeing.{agrees_enabled, marks_put}
 use Rattle.strm_queue.proofs.shelf.OnShelf.{first_at, heads, placed-between}
 
 module _ (v : QueuesValue) (a : Arena) (agrees : Agrees v a) (q h : ℕ) (there : nat_lt q (length v.state.specs) ≡ true) where
@@ -47,9 +47,9 @@ module _ (v : QueuesValue) (a : Arena) (agrees : Agrees v a) (q h : ℕ) (there 
         (agrees_enabled put.put b so q
         (record {
           in_order = put.in_order;
-          flags = λ p.
-              subst (λ s. AreFlagsLawful s b p) (sym put.state)
-              (flags_put v a agrees q (ltb-true _ _ there) before m b (ap (λ (x : Arena). x.store) put.arena) (ap (λ (x : Arena). x.shelves) put.arena) p);
+          marks = λ p.
+              subst (λ s. AreMarksLawful s b p) (sym put.state)
+              (marks_put v a agrees q (ltb-true _ _ there) before m b (ap (λ (x : Arena). x.store) put.arena) (ap (λ (x : Arena). x.shelves) put.arena) p);
         }))
 
     -- behind its equals

@@ -7,7 +7,7 @@ use Rattle.strm_mblk.specs.Frame.{LeavesOthers}
 use Rattle.strm_mblk.specs.Given.{value_after}
 use Rattle.strm_queue.specs.Flush.{is_picked}
 use Rattle.strm_queue.specs.QueueCalls.{settled}
-use Rattle.strm_queue.specs.QueuedBlocks.{AreFlagsLawful, QueuedBlocks, together}
+use Rattle.strm_queue.specs.QueuedBlocks.{AreMarksLawful, QueuedBlocks, together}
 use Rattle.strm_queue.proofs.moving.Flushing.{flushed_flags}
 use Rattle.strm_queue.proofs.moving.Others.{others_freed}
 use Rattle.strm_queue.proofs.queues.Queues.flush_band.Goals as goal
@@ -23,7 +23,7 @@ pub returns-clause-agrees : goal.returns-clause-agrees
 returns-clause-agrees c =
     c.settle.ensures.agrees c.flush_shelf.new.blocks c.flush_shelf.ensures.in_order
     (λ other away.
-    subst (λ s. AreFlagsLawful s c.flush_shelf.new.blocks other) (sym c.flush_shelf.ensures.state)
+    subst (λ s. AreMarksLawful s c.flush_shelf.new.blocks other) (sym c.flush_shelf.ensures.state)
     (flushed_flags c.args.self.now c.args.blocks.now c.requires c.args.queue (is_picked c.args.blocks.now.store c.args.band c.args.flush) c.flush_shelf.new.blocks c.flush_shelf.ensures.after other away))
 
 pub returns-clause-others : goal.returns-clause-others
