@@ -113,7 +113,7 @@ module _ (v : StrandLists) (heads : Rows) (laid : IsChained v heads) (w : NodeLi
             (one_is new ns n (Some (n ∷ [])) off same, one_laid new ns n (Some (n ∷ [])) off same parted)
 
     -- the first of them are one
-    pub begun_all : (count h : ℕ) → first v.free ≡ Some h → new ≡ record v { free = drop count v.free; held = set v.chains h (Some (take count v.free)) }
+    pub begun_all : (count h : ℕ) → first v.free ≡ Some h → new ≡ record v { free = drop count v.free; chains = set v.chains h (Some (take count v.free)) }
         → IsNow (record w { free = drop count w.free; held = set w.held h (Some (take count w.free)) })
     begun_all count h begins now =
         let off = free_off h (times_at h v.free 0 (at_first v.free h begins)) in (
@@ -132,7 +132,7 @@ module _ (v : StrandLists) (heads : Rows) (laid : IsChained v heads) (w : NodeLi
         )
 
     -- the blocks of a message are free
-    pub freed : (h : ℕ) → holder h heads ≡ None → new ≡ record v { free = reverse (strand_at v h) ++ v.free; held = set v.chains h None }
+    pub freed : (h : ℕ) → holder h heads ≡ None → new ≡ record v { free = reverse (strand_at v h) ++ v.free; chains = set v.chains h None }
         → IsNow (record w { free = reverse (nodes_at w h) ++ w.free; held = set w.held h None })
     freed h off now = (
       one_is new (reverse (strand_at v h) ++ v.free) h None off now
