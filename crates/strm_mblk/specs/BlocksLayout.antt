@@ -81,7 +81,7 @@ pub record IsPlaced (s : DataStore) (f : Fields) : Type 0 where
 -- they are counted in 32 bits
 pub record IsSummable (strands : StrandLists) (fields : List Fields) (s : DataStore) (head : ℕ) : Type 0 where
   pub begins : slice_get (strand_at strands head) 0 ≡ Some head
-  pub listed : length fields ≡ length strands.held
+  pub listed : length fields ≡ length strands.chains
   pub named : (n : ℕ) → n < length fields → (fields_at fields n).data_number < length s.blocks
   pub small : model.size_of (message_of fields (strand_at strands head)) < 2 ^ 32
 

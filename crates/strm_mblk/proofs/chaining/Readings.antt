@@ -104,7 +104,7 @@ module _ (v : StrandLists) (heads : Rows) (laid : IsChained v heads) where
           | inl same ↦
               let g = get_or (list_at k heads) j 0 in
               let here = ap (λ ns. slice_get ns 0) (sym same) ∙ at in
-              ap (strand_at v) (sym (same_Some g h (sym (at_first (strand_at v g) g (begins g (there_is (held_in v.held g) 0 h here))) ∙ here))) ∙ sym same
+              ap (strand_at v) (sym (same_Some g h (sym (at_first (strand_at v g) g (begins g (there_is (held_in v.chains g) 0 h here))) ∙ here))) ∙ sym same
           | inr none ↦ absurd (none-some h (ap (λ ns. slice_get ns 0) (sym none) ∙ at))
         ]
 

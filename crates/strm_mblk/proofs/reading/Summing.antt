@@ -96,7 +96,7 @@ nodes_small id s fields v filled a is t had =
     )
 
 -- the lengths of a message can be summed up along its strand
-pub summable : (id : ℕ) (s : CountedStore) (fields : List Fields) (v : NodeLists) → IsFilled s fields v (arena_of id s.store fields v) → (strands : StrandLists) → length strands.held ≡ length v.held
+pub summable : (id : ℕ) (s : CountedStore) (fields : List Fields) (v : NodeLists) → IsFilled s fields v (arena_of id s.store fields v) → (strands : StrandLists) → length strands.chains ≡ length v.held
     → (h : ℕ) (ns : List ℕ) → strand_at strands h ≡ ns → slice_get ns 0 ≡ Some h → size_of (message_of fields ns) < 2 ^ 32 → IsSummable strands fields s.store h
 summable id s fields v filled strands many h ns is begins small = record {
   begins = ap (λ xs. slice_get xs 0) is ∙ begins;
