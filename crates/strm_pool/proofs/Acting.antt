@@ -1,6 +1,6 @@
 -- What each arm of a call on registers shows, by its shape and the clauses of the call that it makes.
-use Rattle.std.proofs.Common.{◌≡◌, ℕ, zero, suc, ◌<◌, true, false, List, [], ◌∷◌, length, set, Option, Some, None, Result, Ok, Err, refl, sym, ap, ◌∙◌, subst}
-use Rattle.std.specs.Prelude.{IfOk, MatchResult, option_map}
+use Rattle.std.proofs.Common.{◌≡◌, ℕ, zero, suc, true, List, [], ◌∷◌, set, Option, Some, None, Result, Ok, Err, refl, sym, ap, ◌∙◌, subst}
+use Rattle.std.specs.Prelude.{IfOk, MatchResult}
 use Rattle.std.proofs.lemmas.Bool.{and_from, and_parts}
 use Rattle.std.proofs.lemmas.List.{set-set}
 use Rattle.std.specs.Option.{option_map_or}
@@ -9,18 +9,18 @@ use Rattle.strm_links.specs.Rows as rows
 use Rattle.strm_mblk.specs.declared.rejected.Rejected.{Rejected}
 use Rattle.strm_mblk.specs.declared.token.TokenValue.{TokenValue}
 use Rattle.strm_mblk.specs.Arena.{Arena, has, held_at, token_of}
-use Rattle.strm_mblk.specs.Frame.{LeavesOthers, head_answered, head_given}
+use Rattle.strm_mblk.specs.Frame.{LeavesOthers, head_answered}
 use Rattle.strm_mblk.specs.Given.{Given, answer_map, answer_of, or_rejected, value_after}
 use Rattle.strm_queue.specs.QueuedBlocks.{QueuedBlocks}
 use Rattle.strm_pool.specs.declared.call.Call.{Call}
 use Rattle.strm_pool.specs.declared.reply.Reply.{Reply}
 use Rattle.strm_pool.specs.Names.{names_of, registers_in}
-use Rattle.strm_pool.specs.PoolValue.{PoolValue, on_arena, on_queues, owns, queued, with_arena, with_queued}
+use Rattle.strm_pool.specs.PoolValue.{PoolValue, on_arena, on_queues, owns, with_arena}
 use Rattle.strm_pool.specs.Registers.{register, table_of}
-use Rattle.strm_pool.specs.Shapes.{IsReady, Settled, given_to, rejected_to, reply_done, reply_made}
-use Rattle.strm_pool.specs.Step.{Applies, act, answers, doing, gives, head_held, keeps, spends}
-use Rattle.strm_pool.proofs.OnParts.{arena_answer, queues_after, queues_answer}
-use Rattle.strm_pool.proofs.Shaped.{IsNaming, err_not_ok, gives_beside, head_is, keeps_one, put_back, same_ok, same_some, spends_one, tells}
+use Rattle.strm_pool.specs.Shapes.{IsReady, Settled, given_to, rejected_to, reply_done}
+use Rattle.strm_pool.specs.Step.{Applies, act, doing, gives, head_held, keeps, spends}
+use Rattle.strm_pool.proofs.OnParts.{arena_answer, queues_answer}
+use Rattle.strm_pool.proofs.Shaped.{IsNaming, err_not_ok, gives_beside, head_is, keeps_one, put_back, same_ok, spends_one}
 
 -- a call that leaves the arena leaves all messages
 pub all_stays : {a b : Arena} → b ≡ a → LeavesOthers [] a b

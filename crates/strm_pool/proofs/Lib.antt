@@ -1,4 +1,4 @@
-pub mod Constants
+mod Constants
 mod OnParts
 mod Reading
 pub mod Accounts

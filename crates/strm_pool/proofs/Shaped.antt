@@ -66,6 +66,10 @@ within_list (r ∷ rs) (suc x) t is = omega (arith, within_list rs x t is)
 free_other : (rs : List (Option TokenValue)) (x y : ℕ) (t : TokenValue) → register rs x ≡ Some t → register rs y ≡ None → x ≢ y
 free_other rs x y t held free same = absurd (let e : Some t ≡ None = sym held ∙ ap (register rs) same ∙ free in cc)
 
+-- a token of the same head shows the same
+kept_head : (rs : List (Option TokenValue)) (x : ℕ) (t s : TokenValue) → register rs x ≡ Some t → s.head ≡ t.head → set (table_of rs) x (Some s.head) ≡ table_of rs
+kept_head rs x t s was head = ap (set (table_of rs) x) (ap (λ k. Some k) head ∙ sym (table-at rs x ∙ ap (option_map (λ (y : TokenValue). y.head)) was)) ∙ set-get_or (table_of rs) x None
+
 lone : (h k : ℕ) → rows.has h (k ∷ []) ≡ true → k ≡ h
 lone h k is = elim (cases_Bool (eqb k h)) [ inl same ↦ eqb-true k h same | inr other ↦ absurd (false≢true (sym (ap (λ b. b || false) other) ∙ is)) ]
 
@@ -82,10 +86,6 @@ moves_stay head had has_now left = record {
   gone = λ h before after. absurd (not_both (ap (λ k. rows.has h (k ∷ [])) head ∙ before) after);
   new = λ h before after. absurd (not_both (ap (λ k. rows.has h (k ∷ [])) (sym head) ∙ after) before);
 }
-
--- a token of the same head shows the same
-kept_head : (rs : List (Option TokenValue)) (x : ℕ) (t s : TokenValue) → register rs x ≡ Some t → s.head ≡ t.head → set (table_of rs) x (Some s.head) ≡ table_of rs
-kept_head rs x t s was head = ap (set (table_of rs) x) (ap (λ k. Some k) head ∙ sym (table-at rs x ∙ ap (option_map (λ (y : TokenValue). y.head)) was)) ∙ set-get_or (table_of rs) x None
 
 -- it stays so, and a message is new whose head no held message had
 moves_beside : {a b : Arena} {t s r : TokenValue} → s.head ≡ t.head → has a t ≡ true → has b s ≡ true → has b r ≡ true → held_at a r.head ≡ None

@@ -1,4 +1,4 @@
-use Rattle.std.proofs.Common.{rules, FitsSigned, of_z, to_z, w32, ◌≡◌, ℕ, true, false, List, [], set, Option, Some, None, Ok, refl, sym, ap, ◌∙◌, subst, get_or-set_other}
+use Rattle.std.proofs.Common.{rules, FitsSigned, of_z, to_z, w32, ◌≡◌, ℕ, true, List, set, Option, Some, None, Ok, refl, sym, ap, ◌∙◌, subst, get_or-set_other}
 use Rattle.std.specs.Prelude.{option_map, slice_get}
 use Rattle.std.proofs.lemmas.Bool.{cond-true}
 use Rattle.std.proofs.lemmas.Int.{to_z-of_z}
@@ -11,7 +11,7 @@ use Rattle.strm_mblk.specs.Given.{answer_map, or_rejected, value_after}
 use Rattle.strm_mblk.specs.Trimming as trimming
 use Rattle.strm_mblk.proofs.arena.Frame.{linkb_gone, rmvb_gone, spent_gone}
 use Rattle.strm_queue.specs.QueueCalls as queues
-use Rattle.strm_pool.specs.declared.call.Call.TheVariants.{Adjmsg, Linkb, Pullupmsg, Write}
+use Rattle.strm_pool.specs.declared.call.Call.TheVariants.{Adjmsg, Pullupmsg, Write}
 use Rattle.strm_pool.specs.declared.reply.Reply.TheVariants.{Done}
 use Rattle.strm_pool.specs.declared.reply.Reply.TheVariants as replies
 use Rattle.strm_pool.specs.PoolValue.{PoolValue, on_arena, on_queues, owns, queued, with_arena, with_queued}
