@@ -1,5 +1,6 @@
 mod Constants
 mod Rows
+mod Lists
 mod bands
 mod shelf
 mod order

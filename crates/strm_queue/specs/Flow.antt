@@ -105,9 +105,13 @@ AreMarksApart s = (q band : ℕ) → q < length s.specs → band < bands → low
 abbrev pub fills : ℕ → ℕ → Bool
 fills hiwat count = nat_le hiwat count
 
--- whether a wanted band has room again, by the bytes and the low water mark of each band: at most as many
+-- whether a band with this low water mark has room again with so many bytes: with at most as many
+abbrev pub has_room : ℕ → ℕ → Bool
+has_room lowat count = nat_le count lowat
+
+-- whether a band is wanted and has room again, by the bytes and the low water mark of each
 abbrev pub is_relieved : List Bool → (ℕ → ℕ) → (ℕ → ℕ) → ℕ → Bool
-is_relieved wanted counts lowat band = has_band wanted band && nat_le (counts band) (lowat band)
+is_relieved wanted counts lowat band = has_band wanted band && has_room (lowat band) (counts band)
 
 -- whether some band has
 abbrev pub some_relieved : List Bool → (ℕ → ℕ) → (ℕ → ℕ) → Bool

@@ -1,5 +1,5 @@
 -- When queues and message blocks agree, and how calls keep it.
-use Rattle.std.proofs.Common.{◌≡◌, ℕ, zero, suc, Bool, ◌+◌, ◌<◌, ◌≤◌, ◌≢◌, true, false, ◌&&◌, ◌==◌, List, [], ◌∷◌, ◌++◌, length, map, get_or, set, replicate, Option, refl, sym, ap, ◌∙◌, subst, inl, inr, arith, if◌then◌else◌, length-set, length-append, get_or-set_same, get_or-set_other}
+use Rattle.std.proofs.Common.{◌≡◌, ℕ, zero, suc, Bool, ◌+◌, ◌<◌, ◌≤◌, ◌≢◌, true, false, ◌&&◌, ◌==◌, List, [], ◌∷◌, ◌++◌, length, get_or, set, replicate, Option, refl, sym, ap, ◌∙◌, subst, inl, inr, arith, if◌then◌else◌, length-set, length-append, get_or-set_same, get_or-set_other}
 use Rattle.std.specs.Prelude.{nat_le, not, is_some}
 use Rattle.std.specs.List.{All, flat_map, list_all}
 use Rattle.std.proofs.lemmas.Bool.{cases_eq, false≢true}
@@ -15,7 +15,7 @@ use Rattle.strm_mblk.specs.Messages.{blocks_on, put_before_head}
 use Rattle.strm_links.specs.Rows as rows
 use Rattle.strm_queue.specs.declared.queue_spec.QueueSpec.{QueueSpec}
 use Rattle.strm_queue.specs.Ends.{of_rank}
-use Rattle.strm_queue.specs.Flow.{Flags, QueueState, band_count, band_of_rank, bands_where, enabled_where, every_band, fills, flags_at, has_band, hiwat_of, is_of_band, lowat_of, opening_flags, opening_queues, spec_at, with_read}
+use Rattle.strm_queue.specs.Flow.{Flags, QueueState, band_count, band_of_rank, enabled_where, every_band, fills, flags_at, has_band, hiwat_of, is_of_band, lowat_of, opening_flags, opening_queues, spec_at, with_read}
 use Rattle.strm_queue.specs.QueuedBlocks.{Agrees, AreInOrder, AreMarksLawful, QueuesValue, opening_value, tally_at, with_tally}
 use Rattle.strm_queue.specs.Tallies.{IsTallyOf, Tally, no_tally, one_less, one_more}
 use Rattle.strm_queue.specs.Rank.{is_ordered, rank_of}
@@ -24,6 +24,7 @@ use Rattle.strm_queue.proofs.agreeing.Flagged.{agrees_state}
 use Rattle.strm_queue.proofs.order.Order.{ordered_without}
 use Rattle.strm_queue.specs.Limits.{high_rank}
 use Rattle.strm_queue.specs.QueueSpecs.{are_lawful}
+use Rattle.strm_queue.proofs.Lists.{get_or-map_same, get_or-replicate_same}
 use Rattle.strm_queue.proofs.layout.Lawful.{marks_below}
 use Rattle.strm_queue.proofs.counting.Tallies.{tally_joined, tally_left, tally_none, IsPlaced}
 use Rattle.strm_queue.specs.declared.tally.Placed.{Placed}
@@ -243,35 +244,15 @@ agrees_new specs lawful id mblks classes = record {
     stored = length-map specs (λ q. no_tally);
     ordered = λ q. ap (is_ordered (rank_of (opening_arena id mblks classes (length specs)).store)) (empty (length specs) q);
     true_of = λ q below.
-        subst (IsTallyOf (opening_arena id mblks classes (length specs)).store (hiwat_of (opening_queues specs) q) (shelf_at (opening_arena id mblks classes (length specs)) q)) (sym (none specs q))
+        subst (IsTallyOf (opening_arena id mblks classes (length specs)).store (hiwat_of (opening_queues specs) q) (shelf_at (opening_arena id mblks classes (length specs)) q)) (sym (get_or-map_same specs no_tally q))
         (subst (λ ms. IsTallyOf (opening_arena id mblks classes (length specs)).store (hiwat_of (opening_queues specs) q) ms no_tally) (sym (empty (length specs) q))
         (tally_none (opening_arena id mblks classes (length specs)).store (hiwat_of (opening_queues specs) q) (λ band within. omega (arith, marks_below (opening_queues specs) lawful q band below within))));
   };
-  marks = λ q band wanted. absurd (false≢true (sym (ap (λ (m : Flags). has_band m.wanted band) (unmarked specs q) ∙ none_wanted_at band) ∙ wanted));
+  marks = λ q band wanted. absurd (false≢true (sym (ap (λ (m : Flags). has_band m.wanted band) (get_or-map_same specs opening_flags q) ∙ get_or-map_same every_band false band) ∙ wanted));
 }
   where
     no_messages : List Message
     no_messages = []
 
     empty : (n q : ℕ) → get_or (replicate n no_messages) q no_messages ≡ no_messages
-    empty zero q = refl
-    empty (suc n) zero = refl
-    empty (suc n) (suc q) = empty n q
-
-    none : (specs : List QueueSpec) (q : ℕ) → get_or (map (λ (s : QueueSpec). no_tally) specs) q no_tally ≡ no_tally
-    none [] q = refl
-    none (x ∷ xs) zero = refl
-    none (x ∷ xs) (suc q) = none xs q
-
-    unmarked : (specs : List QueueSpec) (q : ℕ) → get_or (map (λ (s : QueueSpec). opening_flags) specs) q opening_flags ≡ opening_flags
-    unmarked [] q = refl
-    unmarked (x ∷ xs) zero = refl
-    unmarked (x ∷ xs) (suc q) = unmarked xs q
-
-    none_at : (xs : List ℕ) (band : ℕ) → get_or (map (λ x. false) xs) band false ≡ false
-    none_at [] band = refl
-    none_at (x ∷ xs) zero = refl
-    none_at (x ∷ xs) (suc band) = none_at xs band
-
-    none_wanted_at : (band : ℕ) → has_band (bands_where (λ x. false)) band ≡ false
-    none_wanted_at band = none_at every_band band
+    empty n q = get_or-replicate_same n no_messages q

@@ -1,5 +1,5 @@
 -- What is stored of a queue's messages stays true where one of them joins or leaves.
-use Rattle.std.proofs.Common.{◌≡◌, ◌≢◌, ℕ, ◌+◌, ◌-◌, ◌<◌, ◌≤◌, ◌^◌, false, List, [], ◌∷◌, ◌++◌, length, get_or, set, Option, refl, sym, ap, ◌∙◌, inl, inr, arith, length-append, length-set, get_or-set_same, get_or-set_other, None, subst, replicate, zero, suc, true}
+use Rattle.std.proofs.Common.{◌≡◌, ◌≢◌, ℕ, ◌+◌, ◌-◌, ◌<◌, ◌≤◌, ◌^◌, false, List, [], ◌∷◌, ◌++◌, length, get_or, set, Option, refl, sym, ap, ◌∙◌, inl, inr, arith, length-append, length-set, get_or-set_same, get_or-set_other, None, subst, true}
 use Rattle.std.specs.Prelude.{is_some}
 use Rattle.std.proofs.lemmas.Bool.{cases_eq, cond-false, cond-true, eq-eqb, lt-leb, ne_eqb}
 use Rattle.std.proofs.lemmas.List.{get_or-replicate, length-replicate}
@@ -11,6 +11,7 @@ use Rattle.strm_queue.specs.declared.tally.Placed.{Placed}
 use Rattle.strm_queue.specs.Ends.{first_of_rank, last_of_rank, of_rank}
 use Rattle.strm_queue.specs.Tallies.{IsTallyOf, Tally, count_of, end_joined, end_left, first_in, last_in, no_tally, one_less, one_more, with_count, with_ends}
 use Rattle.strm_queue.specs.Rank.{rank_of, is_ordered}
+use Rattle.strm_queue.proofs.Lists.{get_or-replicate_same}
 use Rattle.strm_queue.proofs.bands.Bands.{has_band_where, length-bands_where, length-every_band}
 use Rattle.strm_queue.proofs.counting.Counts.{band_count-left, band_of_rank_range, count_in, counted, bytes_on-left}
 use Rattle.strm_links.specs.Rows.{IsApart, first, last}
@@ -34,16 +35,11 @@ tally_none s hiwat some = record {
     each_first = length-replicate {A = Option ℕ} ranks None;
     each_last = length-replicate {A = Option ℕ} ranks None;
     each_used = length-bands_where (λ band. false) ∙ length-every_band;
-    firsts = none_there ranks;
-    lasts = none_there ranks;
+    firsts = get_or-replicate_same ranks none_given;
+    lasts = get_or-replicate_same ranks none_given;
     used = λ r below. has_band_where (λ x. false) r below;
   };
 }
-  where
-    none_there : (n r : ℕ) → get_or (replicate n none_given) r none_given ≡ none_given
-    none_there zero r = refl
-    none_there (suc n) zero = refl
-    none_there (suc n) (suc r) = none_there n r
 
 -- a message stands between these, of this rank, with these bytes
 pub record IsPlaced (s : DataStore) (pre post : List Message) (m : Message) (p : Placed) : Type 0 where

@@ -1,10 +1,10 @@
 -- Settling: which wanted marks stand afterwards, and which queue is enabled.
-use Rattle.std.proofs.Common.{◌≡◌, ◌≢◌, ℕ, zero, suc, ◌<◌, ◌⊎◌, inl, inr, Bool, true, false, ◌&&◌, List, [], ◌∷◌, length, get_or, set, map, Option, Some, None, refl, sym, ap, ◌∙◌, subst, if◌then◌else◌, get_or-set_other}
-use Rattle.std.specs.Prelude.{nat_le, not}
+use Rattle.std.proofs.Common.{◌≡◌, ◌≢◌, ℕ, zero, suc, ◌<◌, ◌⊎◌, inl, inr, Bool, true, false, ◌&&◌, List, [], ◌∷◌, length, get_or, set, Option, Some, None, refl, sym, ap, ◌∙◌, subst, if◌then◌else◌, get_or-set_other}
+use Rattle.std.specs.Prelude.{not}
 use Rattle.std.specs.Option.{option_map_or}
 use Rattle.std.proofs.lemmas.Bool.{cases_eq, cases_lt, false≢true, leb-false, not-true}
 use Rattle.strm_mblk.specs.Arena.{Arena, shelf_at}
-use Rattle.strm_queue.specs.Flow.{Flags, QueueState, band_count, enabled, every_band, flags_at, has_band, is_relieved, lowat_of, opening_flags, some_relieved, still_wanted, waker, with_flags}
+use Rattle.strm_queue.specs.Flow.{Flags, QueueState, band_count, enabled, every_band, flags_at, has_band, has_room, is_relieved, lowat_of, opening_flags, some_relieved, still_wanted, waker, with_flags}
 use Rattle.strm_queue.specs.Limits.{bands}
 use Rattle.strm_queue.specs.QueueCalls.{count_on, flags_left, has_relieved, settled, waker_enabled_where}
 use Rattle.strm_queue.specs.QueuedBlocks.{Agrees, AreInOrder, AreMarksLawful, QueuedBlocks, QueuesValue, together, tally_at}
@@ -12,6 +12,7 @@ use Rattle.strm_queue.specs.Tallies.{count_of}
 use Rattle.strm_queue.proofs.agreeing.Agreeing.{enabled_flags, enabled_specs}
 use Rattle.strm_queue.proofs.bands.Bands.{bands_where-same, has_band_where, some_same, wanted_past}
 use Rattle.strm_queue.proofs.agreeing.Flagged.{in_order_state}
+use Rattle.strm_queue.proofs.Lists.{get_or-map_same}
 use Rattle.strm_queue.proofs.layout.Lawful.{lowat_of-same}
 
 -- enabling the queue behind changes the run list alone
@@ -34,12 +35,7 @@ module _ (so : Bool) (q : ℕ) (s : QueueState) where
 
 -- a new queue has no wanted mark
 pub new_flags : (band : ℕ) → has_band opening_flags.wanted band ≡ false
-new_flags = none_at every_band
-  where
-    none_at : (xs : List ℕ) (band : ℕ) → get_or (map (λ x. false) xs) band false ≡ false
-    none_at [] band = refl
-    none_at (x ∷ xs) zero = refl
-    none_at (x ∷ xs) (suc band) = none_at xs band
+new_flags band = get_or-map_same every_band false band
 
 -- what stands at a place where something was set, if the list is so long
 pub set_or : (ms : List Flags) (q : ℕ) (m d : Flags) → (get_or (set ms q m) q d ≡ m) ⊎ (get_or (set ms q m) q d ≡ d)
@@ -70,7 +66,7 @@ module _ (v : QueuesValue) (a : Arena) (q : ℕ) where
     relieved_state = with_flags q (record (flags_at v.state q) { wanted = still_wanted wanted (count_of (tally_at v q)) lowat }) v.state
 
     relieved_same : (band : ℕ) → band < bands → relieved_by band ≡ is_relieved wanted (count_on both q) lowat band
-    relieved_same band below = ap (λ n. has_band wanted band && nat_le n (lowat band)) ((in_order.true_of q within).counts band below)
+    relieved_same band below = ap (λ n. has_band wanted band && has_room (lowat band) n) ((in_order.true_of q within).counts band below)
 
     pub settled_by : (so : Bool) → so ≡ some_relieved wanted (count_of (tally_at v q)) lowat → record both { queues = waker_enabled_where so q relieved_state } ≡ settled q both
     settled_by so some =
@@ -87,8 +83,8 @@ module _ (v : QueuesValue) (a : Arena) (q : ℕ) where
     left = with_flags q (flags_left both q) v.state
 
     -- a wanted mark that is left stands at more bytes than the low water mark
-    above : (w : Bool) (n l : ℕ) → w && not (w && nat_le n l) ≡ true → l < n
-    above true n l is = leb-false n l (not-true (nat_le n l) is)
+    above : (w : Bool) (n l : ℕ) → w && not (w && has_room l n) ≡ true → l < n
+    above true n l is = leb-false n l (not-true (has_room l n) is)
     above false n l is = absurd (false≢true is)
 
     left_here : AreMarksLawful left a q
