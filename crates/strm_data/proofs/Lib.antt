@@ -1,15 +1,4 @@
-pub mod Constants
-pub mod Lawful
-pub mod Fitting
-pub mod Times
-pub mod Repeated
-pub mod Kept
-pub mod Opening
-pub mod Tables
-pub mod Laid
-pub mod Alterations
-pub mod Members
-pub mod Filling
-pub mod Opened
-pub mod Regions
-pub mod Copying
+mod Constants
+pub mod lists
+pub mod store
+mod layout

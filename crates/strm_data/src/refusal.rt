@@ -16,7 +16,7 @@ pub enum Refusal {
     NoMblk = 2,
     #[error("no data block is free of a class that fits")]
     NoData = 3,
-    #[error("a data block would be named by more than 255 message blocks")]
+    #[error("a data block would be named by more message blocks than it may be")]
     RefMax = 4,
     #[error("the message has no such block")]
     NoSuchBlock = 5,

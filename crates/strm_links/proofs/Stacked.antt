@@ -9,10 +9,10 @@ use Rattle.strm_links.specs.Rows.{Rows, IsParting, has, IsApart, first, without,
 use Rattle.strm_links.specs.Layout.{LeadsOn}
 use Rattle.strm_links.specs.Counting.{times}
 use Rattle.strm_links.specs.StackLayout.{no_top, behind_at, top_at, stack, stacked_rows, IsStack, IsStacked}
-use Rattle.strm_links.proofs.OneList.{has_at, first_has, first-without, is_some_of-same, length_below, some_of}
-use Rattle.strm_links.proofs.AllLists.{All-listed, has-holder, holder_none, holder-insert_here, holder-insert_other, holder-remove, map-without, IsApart-list_at}
-use Rattle.strm_links.proofs.Chains.{walk_is, LeadsOn-kept}
-use Rattle.strm_links.proofs.Counting.{times-append, times-cons, times_absent, times_here, times_other, times_has, apart_once}
+use Rattle.strm_links.proofs.lists.OneList.{has_at, first_has, first-without, is_some_of-same, length_below, some_of}
+use Rattle.strm_links.proofs.lists.AllLists.{All-listed, has-holder, holder_none, holder-insert_here, holder-insert_other, holder-remove, map-without, IsApart-list_at}
+use Rattle.strm_links.proofs.lists.ListLinks.{walk_is, LeadsOn-kept}
+use Rattle.strm_links.proofs.lists.Counting.{times-append, times-cons, times_absent, times_here, times_other, times_has, apart_once}
 
 -- ---- how often a number stands in all the lists
 

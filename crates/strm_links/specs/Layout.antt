@@ -1,7 +1,6 @@
 -- How `Links` lays out its lists. No public clause cites this module.
-use Rattle.std.specs.Prelude.{◌≡◌, ℕ, zero, suc, ◌<◌, ◌^◌, List, [], ◌∷◌, ◌++◌, map, length, Option, Some, None, slice_index_or}
-use Rattle.std.specs.Option.{option_map_or}
-use Rattle.strm_links.specs.Rows.{Rows, has, IsApart, first_or, first, last, put_before, is_some_of, list_at}
+use Rattle.std.specs.Prelude.{◌≡◌, ℕ, zero, suc, ◌<◌, ◌^◌, List, [], ◌∷◌, map, length, Option, Some, None, slice_index_or}
+use Rattle.strm_links.specs.Rows.{Rows, has, IsApart, first_or, first, last, is_some_of, list_at}
 use Rattle.strm_links.specs.declared.links.Node.{Node}
 use Rattle.strm_links.specs.declared.links.Ends.{Ends}
 
@@ -30,23 +29,19 @@ next_at nodes k = (node_at nodes k).next
 abbrev pub ends_at : List Ends → ℕ → Ends
 ends_at ends l = slice_index_or ends l no_ends
 
--- the list once a node has joined it just before `next`, or behind all where that is none
-abbrev pub put_ahead : Option ℕ → ℕ → List ℕ → List ℕ
-put_ahead next node xs = option_map_or (λ at. put_before at node xs) next (xs ++ node ∷ [])
-
 -- so many nodes at most, read off the links from a first one on
 abbrev pub walk : (ℕ → Option ℕ) → ℕ → Option ℕ → List ℕ
 walk next zero at = []
 walk next (suc count) None = []
 walk next (suc count) (Some k) = k ∷ walk next count (next k)
 
--- the nodes between these ends
-unfoldable pub chain : List Node → Ends → List ℕ
-chain nodes e = walk (next_at nodes) e.len e.front
+-- the nodes between these ends, along the links
+unfoldable pub nodes_between : List Node → Ends → List ℕ
+nodes_between nodes e = walk (next_at nodes) e.len e.front
 
 -- what a contract sees
 abbrev pub rows_of : List Node → List Ends → Rows
-rows_of nodes ends = record { nodes = length nodes; lists = map (chain nodes) ends }
+rows_of nodes ends = record { nodes = length nodes; lists = map (nodes_between nodes) ends }
 
 -- `next` leads from each node to the one behind it, and from the last to `beyond`
 abbrev pub LeadsOn : (ℕ → Option ℕ) → List ℕ → Option ℕ → Type 0

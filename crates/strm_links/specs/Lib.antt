@@ -1,5 +1,5 @@
 pub mod Counting
-pub mod Held
+pub mod Chains
 pub mod Layout
 pub mod Rows
 pub mod Slot

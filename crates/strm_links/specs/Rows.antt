@@ -1,5 +1,5 @@
 -- What a contract sees of `Links`: lists of node numbers, and the words for one list and for all.
-use Rattle.std.specs.Prelude.{◌≡◌, ℕ, ◌<◌, Bool, false, List, [], ◌∷◌, Option, Some, None, not, ◌==◌, filter, slice_index_or, if◌then◌else◌, refl}
+use Rattle.std.specs.Prelude.{◌≡◌, ℕ, ◌<◌, Bool, false, List, [], ◌∷◌, ◌++◌, Option, Some, None, not, ◌==◌, filter, slice_index_or, if◌then◌else◌, refl}
 use Rattle.std.specs.List.{All, list_any, position, concat}
 use Rattle.std.specs.Option.{option_map_or}
 use Rattle.std.specs.Coded.{Coded, code_by, coded×, coded_ℕ, coded_list}
@@ -75,6 +75,11 @@ without node xs = filter (λ x. not (x == node)) xs
 abbrev pub put_before : ℕ → ℕ → List ℕ → List ℕ
 put_before at node [] = []
 put_before at node (x ∷ xs) = if x == at then node ∷ x ∷ xs else x ∷ put_before at node xs
+
+-- the list once a node has joined it just before another, or behind all where that is none
+abbrev pub put_in : Option ℕ → ℕ → List ℕ → List ℕ
+put_in None node xs = xs ++ node ∷ []
+put_in (Some at) node xs = put_before at node xs
 
 -- `step` leads from `at` through these nodes, and ends with the last of them
 abbrev pub Reads : (ℕ → Option ℕ) → Option ℕ → List ℕ → Type 0

@@ -4,7 +4,7 @@ use Rattle.std.specs.List.{range_with_len}
 use Rattle.strm_links.specs.Rows.{first, last}
 use Rattle.strm_links.specs.Layout.{walk, LeadsOn}
 use Rattle.strm_links.specs.Counting.{times}
-use Rattle.strm_links.specs.Held.{held_in}
+use Rattle.strm_links.specs.Chains.{chain_in}
 use Rattle.strm_links.specs.StrandLists.{StrandLists, all_nodes}
 use Rattle.strm_links.specs.declared.strands.Node.{Node}
 use Rattle.strm_links.specs.declared.strands.Span.{Span}
@@ -47,9 +47,9 @@ strand nodes h = if (span_at nodes h).len == 0 then None else Some (path nodes (
 
 -- what a contract sees
 abbrev pub strands_of : List Node → Option ℕ → ℕ → StrandLists
-strands_of nodes front count = record {
-  free = path nodes count front;
-  held = map (strand nodes) (range_with_len 0 (length nodes));
+strands_of nodes first_free free_len = record {
+  free = path nodes free_len first_free;
+  chains = map (strand nodes) (range_with_len 0 (length nodes));
 }
 
 -- the links, and what is kept at the head, say that these nodes are a chain
@@ -65,11 +65,11 @@ IsHeadOf next span h None = span.len ≡ 0
 IsHeadOf next span h (Some xs) = IsStrand next span h xs
 
 -- the nodes hold these free nodes and these chains, and each node once in all
-pub record IsLaid (nodes : List Node) (front : Option ℕ) (count : ℕ) (v : StrandLists) : Type 0 where
-  pub node_count : length nodes ≡ length v.held
-  pub few_nodes : length v.held < 2 ^ 32
-  pub free_count : count ≡ length v.free
-  pub free_front : front ≡ first v.free
+pub record IsLaid (nodes : List Node) (first_free : Option ℕ) (free_len : ℕ) (v : StrandLists) : Type 0 where
+  pub node_count : length nodes ≡ length v.chains
+  pub few_nodes : length v.chains < 2 ^ 32
+  pub free_count : free_len ≡ length v.free
+  pub free_front : first_free ≡ first v.free
   pub free_leads : LeadsOn (next_at nodes) v.free None
-  pub heads : (h : ℕ) → IsHeadOf (next_at nodes) (span_at nodes h) h (held_in v.held h)
-  pub once : (n : ℕ) → times n (all_nodes v) ≡ (if nat_lt n (length v.held) then 1 else 0)
+  pub heads : (h : ℕ) → IsHeadOf (next_at nodes) (span_at nodes h) h (chain_in v.chains h)
+  pub once : (n : ℕ) → times n (all_nodes v) ≡ (if nat_lt n (length v.chains) then 1 else 0)

@@ -4,12 +4,12 @@ use Rattle.std.specs.List.{range_with_len}
 use Rattle.std.specs.Coded.{Coded, code_by, coded×, coded_ℕ, coded_list, coded_option}
 use Rattle.strm_links.specs.Rows.{first}
 use Rattle.strm_links.specs.Counting.{times}
-use Rattle.strm_links.specs.Held.{items_of, held_in, items_held}
+use Rattle.strm_links.specs.Chains.{items_of, chain_in, items_in}
 
 -- the free nodes, the next to be taken first; and for each node the chain that begins with it, if there is one
 pub record StrandLists : Type 0 where
   pub free : List ℕ
-  pub held : List (Option (List ℕ))
+  pub chains : List (Option (List ℕ))
 
 -- they are stored as the pair of their fields
 abbrev pub strands_code : Coded StrandLists
@@ -17,34 +17,34 @@ strands_code =
     code_by
     (List ℕ × List (Option (List ℕ)))
     (coded× (coded_list coded_ℕ) (coded_list (coded_option (coded_list coded_ℕ))))
-    (λ v. (v.free, v.held))
-    (λ p. record { free = p.0; held = p.1 })
+    (λ v. (v.free, v.chains))
+    (λ p. record { free = p.0; chains = p.1 })
     (λ _. refl)
 
 -- the nodes of the chain with this head, first to last
 abbrev pub strand_at : StrandLists → ℕ → List ℕ
-strand_at v h = items_of (held_in v.held h)
+strand_at v h = items_of (chain_in v.chains h)
 
 -- all nodes, free or of a chain
 abbrev pub all_nodes : StrandLists → List ℕ
-all_nodes v = v.free ++ items_held v.held
+all_nodes v = v.free ++ items_in v.chains
 
 -- each node stands once in all, and a chain stands at its first node
 pub record IsParted (v : StrandLists) : Type 0 where
-  pub once : (n : ℕ) → times n (all_nodes v) ≡ (if nat_lt n (length v.held) then 1 else 0)
-  pub heads : (h : ℕ) → IfSome (held_in v.held h) (λ xs. first xs ≡ Some h)
+  pub once : (n : ℕ) → times n (all_nodes v) ≡ (if nat_lt n (length v.chains) then 1 else 0)
+  pub heads : (h : ℕ) → IfSome (chain_in v.chains h) (λ xs. first xs ≡ Some h)
 
 -- so many free nodes, in rising order
 abbrev pub opening_strands : ℕ → StrandLists
-opening_strands nodes = record { free = range_with_len 0 nodes; held = replicate nodes None }
+opening_strands nodes = record { free = range_with_len 0 nodes; chains = replicate nodes None }
 
 -- the first of these free nodes, if there is one, is a chain
 abbrev pub with_first_begun : List ℕ → StrandLists → StrandLists
 with_first_begun [] v = v
-with_first_begun (n ∷ ns) v = record v { free = ns; held = slice_set v.held n (Some (n ∷ [])) }
+with_first_begun (n ∷ ns) v = record v { free = ns; chains = slice_set v.chains n (Some (n ∷ [])) }
 
 -- the second of these nodes, which stand at h, is free, if there is one
 abbrev pub with_second_freed : ℕ → List ℕ → StrandLists → StrandLists
 with_second_freed h [] v = v
 with_second_freed h (x ∷ []) v = v
-with_second_freed h (x ∷ y ∷ rest) v = record { free = y ∷ v.free; held = slice_set v.held h (Some (x ∷ rest)) }
+with_second_freed h (x ∷ y ∷ rest) v = record { free = y ∷ v.free; chains = slice_set v.chains h (Some (x ∷ rest)) }

@@ -5,8 +5,8 @@
 //! choice.
 ghost use Rattle.std.specs.Prelude.{◌≡◌, ℕ, ◌+◌, ◌^◌, ◌<◌, ◌-◌, [], ◌∷◌, ◌++◌, All, length, map, reverse, replicate, if◌then◌else◌, is_none, IsSome, IsTrue, IfOk, IfSome, ◌≢◌, slice_set, vec_len};
 ghost use Rattle.std.specs.Option.{ForSome, option_map_or};
-ghost use Rattle.strm_links.specs.Rows.{has, IsApart, IsParting, first, last, without, put_before, Reads, is_some_of, list_at, holder, next_in, previous_in, linked_nodes};
-ghost use Rattle.strm_links.specs.Layout.{no_node, no_ends, owner_at, previous_at, next_at, put_ahead, walk};
+ghost use Rattle.strm_links.specs.Rows.{has, IsApart, IsParting, first, last, without, put_before, put_in, Reads, is_some_of, list_at, holder, next_in, previous_in, linked_nodes};
+ghost use Rattle.strm_links.specs.Layout.{no_node, no_ends, owner_at, previous_at, next_at, walk};
 
 use crate::slot::Slot;
 use std::alloc::{AllocError, Global};
@@ -246,7 +246,7 @@ impl Links {
         requires free { holder node self.old ≡ None }
         requires next { ForSome next (λ at. holder at self.old ≡ Some list) }
         ensures lists { self.new ≡ record self.old {
-          lists = slice_set self.old.lists list (put_ahead next node (list_at list self.old));
+          lists = slice_set self.old.lists list (put_in next node (list_at list self.old));
         } }
         ensures held { holder node self.new ≡ Some list }
         ensures others { (k : ℕ) → k ≢ node → holder k self.new ≡ holder k self.old }

@@ -7,7 +7,7 @@ ghost use Rattle.std.specs.Prelude.{◌≡◌, ◌≢◌, ℕ, ◌+◌, ◌-◌,
 ghost use Rattle.std.specs.List.{range_with_len};
 ghost use Rattle.strm_links.specs.Rows.{IsApart, first, has, last};
 ghost use Rattle.strm_links.specs.Layout.{LeadsOn, walk};
-ghost use Rattle.strm_links.specs.Held.{divided, held_in, joined, taken_out};
+ghost use Rattle.strm_links.specs.Chains.{divided, chain_in, joined, taken_out};
 ghost use Rattle.strm_links.specs.StrandLists.{IsParted, opening_strands, strand_at, with_first_begun, with_second_freed};
 ghost use Rattle.strm_links.specs.StrandLayout.{free_node, next_at, no_span, onward, path, span_at};
 
@@ -19,7 +19,7 @@ use std::mem::size_of;
 /// A fixed number of nodes, each of which is free or stands in one chain.
 ///
 /// Nodes are numbers from 0 on, and each call asks for numbers in range. A chain is named by its first
-/// node, its head, and has one node at least: `is_held` tells whether a chain begins with a node. The
+/// node, its head, and has one node at least: `begins_chain` tells whether a chain begins with a node. The
 /// free nodes stand in an order of their own, and are taken from its front.
 ///
 /// Only `new` takes memory, 12 bytes for a node. Every call takes constant time but for `new`,
@@ -29,8 +29,8 @@ use std::mem::size_of;
 pub struct Strands {
     nodes: Vec<Node>,
     // The first of the free nodes, which are linked as those of a chain, and how many there are.
-    front: Slot,
-    count: u32,
+    first_free: Slot,
+    free_len: u32,
 }
 
 #[derive(Clone, Copy, Debug)]
@@ -58,10 +58,10 @@ impl Model for Strands {
 
     ghost use Rattle.strm_links.specs.StrandLayout.{IsLaid, strands_of};
 
-    ghost view = { λ s. strands_of s.nodes.items s.front s.count };
+    ghost view = { λ s. strands_of s.nodes.items s.first_free s.free_len };
 
-    ghost invariant = { λ s. IsLaid s.nodes.items s.front s.count
-        (strands_of s.nodes.items s.front s.count) };
+    ghost invariant = { λ s. IsLaid s.nodes.items s.first_free s.free_len
+        (strands_of s.nodes.items s.first_free s.free_len) };
 }
 
 impl Span {
@@ -194,9 +194,11 @@ fn turn(nodes: &mut Vec<Node>, head: u32, len: u32, beyond: Slot)
 fn free_nodes(alloc: Global, nodes: u32) -> Result<Vec<Node>, AllocError>
     ensures { IfOk result (λ v. v.items ≡ map (free_node nodes) (range_with_len 0 nodes)) }
 {
-    (0..nodes)
-        .map(|number| Node::free(number, nodes))
-        .collect(alloc)
+    let mut free = Vec::with_capacity(alloc, nodes as usize)?;
+    for number in 0..nodes {
+        free.push(Node::free(number, nodes))?;
+    }
+    Ok(free)
 }
 
 // The first of so many nodes, if there is one.
@@ -220,8 +222,8 @@ impl Strands {
     {
         Ok(Strands {
             nodes: free_nodes(alloc, nodes)?,
-            front: first_of(nodes),
-            count: nodes,
+            first_free: first_of(nodes),
+            free_len: nodes,
         })
     }
 
@@ -230,14 +232,14 @@ impl Strands {
     pub fn free_len(&self) -> u32
         ensures { result ≡ length self.now.free }
     {
-        self.count
+        self.free_len
     }
 
     /// Whether a chain begins with this node. Nothing changes.
     #[inline(always)]
-    pub fn is_held(&self, head: u32) -> bool
-        requires { head < length self.now.held }
-        ensures { result ≡ is_some (held_in self.now.held head) }
+    pub fn begins_chain(&self, head: u32) -> bool
+        requires { head < length self.now.chains }
+        ensures { result ≡ is_some (chain_in self.now.chains head) }
     {
         self.nodes[head as usize].span.len > 0
     }
@@ -245,7 +247,7 @@ impl Strands {
     /// How many nodes a chain has. Nothing changes.
     #[inline(always)]
     pub fn len(&self, head: u32) -> u32
-        requires { IsSome (held_in self.now.held head) }
+        requires { IsSome (chain_in self.now.chains head) }
         ensures { result ≡ length (strand_at self.now head) }
     {
         self.nodes[head as usize].span.len
@@ -254,33 +256,23 @@ impl Strands {
     /// The node behind this one, in its chain or among the free ones: none behind the last. Nothing changes.
     #[inline(always)]
     pub fn next(&self, node: u32) -> Option<u32>
-        requires { node < length self.now.held }
+        requires { node < length self.now.chains }
         ensures value { (h i : ℕ) → slice_get (strand_at self.now h) i ≡ Some node
             → result ≡ slice_get (strand_at self.now h) (i + 1) }
         ensures free { (i : ℕ) → slice_get self.now.free i ≡ Some node
             → result ≡ slice_get self.now.free (i + 1) }
-        ensures in_range { IfSome result (λ other. other < length self.now.held) }
+        ensures in_range { IfSome result (λ other. other < length self.now.chains) }
     {
         self.nodes[node as usize].next.get()
     }
 
-    /// The last node of a chain. Nothing changes.
-    #[inline(always)]
-    pub fn tail(&self, head: u32) -> u32
-        requires { IsSome (held_in self.now.held head) }
-        ensures value { last (strand_at self.now head) ≡ Some result }
-        ensures in_range { result < length self.now.held }
-    {
-        self.nodes[head as usize].span.last
-    }
-
     /// The first free node, which `begin` takes next: none where no node is free. Nothing changes.
     #[inline(always)]
-    pub fn front(&self) -> Option<u32>
+    pub fn first_free(&self) -> Option<u32>
         ensures value { result ≡ first self.now.free }
-        ensures in_range { IfSome result (λ node. node < length self.now.held) }
+        ensures in_range { IfSome result (λ node. node < length self.now.chains) }
     {
-        self.front.get()
+        self.first_free.get()
     }
 
     /// Makes the first free node a chain, and names it. None where no node is free, and then nothing
@@ -289,12 +281,12 @@ impl Strands {
     pub fn begin(&mut self) -> Option<u32>
         ensures answer { result ≡ first self.old.free }
         ensures after { self.new ≡ with_first_begun self.old.free self.old }
-        ensures in_range { IfSome result (λ node. node < length self.old.held) }
+        ensures in_range { IfSome result (λ node. node < length self.old.chains) }
         ensures parted { IsParted self.new }
     {
-        let first = self.front.get()?;
-        self.front = self.nodes[first as usize].next;
-        self.count -= 1;
+        let first = self.first_free.get()?;
+        self.first_free = self.nodes[first as usize].next;
+        self.free_len -= 1;
         chain_up(&mut self.nodes, first, first, 1);
         Some(first)
     }
@@ -308,15 +300,15 @@ impl Strands {
         ensures answer { first self.old.free ≡ Some result }
         ensures after { self.new ≡ record self.old {
           free = drop count self.old.free;
-          held = slice_set self.old.held result (Some (take count self.old.free));
+          chains = slice_set self.old.chains result (Some (take count self.old.free));
         } }
-        ensures in_range { result < length self.old.held }
+        ensures in_range { result < length self.old.chains }
         ensures parted { IsParted self.new }
     {
-        let head = self.front.number();
+        let head = self.first_free.number();
         let last = node_behind(&self.nodes, head, count - 1);
-        self.front = self.nodes[last as usize].next;
-        self.count -= count;
+        self.first_free = self.nodes[last as usize].next;
+        self.free_len -= count;
         chain_up(&mut self.nodes, head, last, count);
         head
     }
@@ -324,10 +316,10 @@ impl Strands {
     /// Puts the chain `tail` behind another, which has the nodes of both then.
     #[inline(always)]
     pub fn join(&mut self, head: u32, tail: u32)
-        requires head { IsSome (held_in self.old.held head) }
-        requires tail { IsSome (held_in self.old.held tail) }
+        requires head { IsSome (chain_in self.old.chains head) }
+        requires tail { IsSome (chain_in self.old.chains tail) }
         requires other { head ≢ tail }
-        ensures after { self.new ≡ record self.old { held = joined head tail self.old.held } }
+        ensures after { self.new ≡ record self.old { chains = joined head tail self.old.chains } }
         ensures parted { IsParted self.new }
     {
         let span = self.nodes[head as usize].span;
@@ -348,12 +340,12 @@ impl Strands {
     /// none where there are no others, and then nothing changes.
     #[inline(always)]
     pub fn divide(&mut self, head: u32) -> Option<u32>
-        requires { IsSome (held_in self.old.held head) }
+        requires { IsSome (chain_in self.old.chains head) }
         ensures answer { result ≡ slice_get (strand_at self.old head) 1 }
         ensures after { self.new ≡ record self.old {
-          held = divided (λ n. n) head (strand_at self.old head) self.old.held;
+          chains = divided (λ n. n) head (strand_at self.old head) self.old.chains;
         } }
-        ensures in_range { IfSome result (λ node. node < length self.old.held) }
+        ensures in_range { IfSome result (λ node. node < length self.old.chains) }
         ensures parted { IsParted self.new }
     {
         let Node { next, span } = self.nodes[head as usize];
@@ -375,13 +367,13 @@ impl Strands {
     ///
     /// Takes a step for each node before it. The first node stays: `divide` parts it from the others.
     pub fn take_out(&mut self, head: u32, place: u32) -> Option<u32>
-        requires held { IsSome (held_in self.old.held head) }
+        requires head { IsSome (chain_in self.old.chains head) }
         requires place { 0 < place }
         ensures answer { result ≡ slice_get (strand_at self.old head) place }
         ensures after { self.new ≡ record self.old {
-          held = taken_out (λ n. n) head place (strand_at self.old head) self.old.held;
+          chains = taken_out (λ n. n) head place (strand_at self.old head) self.old.chains;
         } }
-        ensures in_range { IfSome result (λ node. node < length self.old.held) }
+        ensures in_range { IfSome result (λ node. node < length self.old.chains) }
         ensures parted { IsParted self.new }
     {
         let span = self.nodes[head as usize].span;
@@ -402,38 +394,38 @@ impl Strands {
     /// Takes a step for each.
     #[inline(always)]
     pub fn free(&mut self, head: u32)
-        requires { IsSome (held_in self.old.held head) }
+        requires { IsSome (chain_in self.old.chains head) }
         ensures after { self.new ≡ record self.old {
           free = reverse (strand_at self.old head) ++ self.old.free;
-          held = slice_set self.old.held head None;
+          chains = slice_set self.old.chains head None;
         } }
         ensures parted { IsParted self.new }
     {
         let span = self.nodes[head as usize].span;
-        turn(&mut self.nodes, head, span.len, self.front);
+        turn(&mut self.nodes, head, span.len, self.first_free);
         keep(&mut self.nodes, head, Span::none());
-        self.front = Slot::some(span.last);
-        self.count += span.len;
+        self.first_free = Slot::some(span.last);
+        self.free_len += span.len;
     }
 
     /// Frees the second node of a chain, to the front of the free ones, and names it. None where the chain
     /// has no second node, and then nothing changes.
     #[inline(always)]
     pub fn free_second(&mut self, head: u32) -> Option<u32>
-        requires { IsSome (held_in self.old.held head) }
+        requires { IsSome (chain_in self.old.chains head) }
         ensures answer { result ≡ slice_get (strand_at self.old head) 1 }
         ensures after { self.new ≡ with_second_freed head (strand_at self.old head) self.old }
-        ensures in_range { IfSome result (λ node. node < length self.old.held) }
+        ensures in_range { IfSome result (λ node. node < length self.old.chains) }
         ensures parted { IsParted self.new }
     {
         let Node { next, span } = self.nodes[head as usize];
         let second = next.get()?;
         let beyond = self.nodes[second as usize].next;
         lead(&mut self.nodes, head, beyond);
-        lead(&mut self.nodes, second, self.front);
+        lead(&mut self.nodes, second, self.first_free);
         keep(&mut self.nodes, head, span.without_one(head, beyond));
-        self.front = next;
-        self.count += 1;
+        self.first_free = next;
+        self.free_len += 1;
         Some(second)
     }
 
@@ -441,7 +433,7 @@ impl Strands {
     /// stands at its first node. Every call that changes them says so too. Does nothing.
     pub fn parts_nodes(&self)
         ensures parted { IsParted self.now }
-        ensures few_nodes { length self.now.held < 2 ^ 32 }
+        ensures few_nodes { length self.now.chains < 2 ^ 32 }
     {
         let _ = &self.nodes;
     }

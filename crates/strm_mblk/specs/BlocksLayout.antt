@@ -1,8 +1,9 @@
 -- How message blocks lie in memory. No public clause cites this module.
-use Rattle.std.specs.Prelude.{◌≡◌, ℕ, ◌+◌, ◌<◌, ◌≤◌, Bool, List, [], ◌∷◌, length, map, option_map, slice_index_or, slice_set, nat_lt}
+use Rattle.std.specs.Prelude.{◌≡◌, ℕ, ◌+◌, ◌^◌, ◌<◌, ◌≤◌, Bool, List, [], ◌∷◌, length, map, Some, option_map, slice_get, slice_index_or, slice_set, nat_lt}
 use Rattle.strm_data.specs.CountedStore.{CountedStore, IsKept, count_of, without_name, with_name}
 use Rattle.strm_data.specs.DataStore.{DataStore, capacity_of, times}
 use Rattle.std.specs.List.{list_any}
+use Rattle.strm_links.specs.StrandLists.{StrandLists, strand_at}
 use Rattle.strm_data.specs.Limits.{most_data_block_names}
 use Rattle.strm_mblk.specs.declared.blocks.Blocks.TheInside.{Inside}
 use Rattle.strm_mblk.specs.declared.blocks.Fields.{Fields}
@@ -70,10 +71,19 @@ arena_of id store fields lists = record {
 abbrev pub arena_in : Inside → Arena
 arena_in a = arena_of a.id a.data.store a.blocks.items a.chains
 
--- the data block is there, and the places lie in its capacity
+-- the data block is there, the places lie in its capacity, and the band is one
 pub record IsPlaced (s : DataStore) (f : Fields) : Type 0 where
   pub there : f.data_number < length s.blocks
   pub within : f.offset + f.len ≤ capacity_of s f.data_number
+  pub banded : f.band < 2 ^ 8
+
+-- a message that begins with `head`, over message blocks that name data blocks that are there, and has so few bytes that
+-- they are counted in 32 bits
+pub record IsSummable (strands : StrandLists) (fields : List Fields) (s : DataStore) (head : ℕ) : Type 0 where
+  pub begins : slice_get (strand_at strands head) 0 ≡ Some head
+  pub listed : length fields ≡ length strands.chains
+  pub named : (n : ℕ) → n < length fields → (fields_at fields n).data_number < length s.blocks
+  pub small : model.size_of (message_of fields (strand_at strands head)) < 2 ^ 32
 
 -- every message block, a free one too, has its places in a data block; and data blocks count the names that they have
 pub record IsFilled (s : CountedStore) (fields : List Fields) (lists : NodeLists) (arena : Arena) : Type 0 where

@@ -1,7 +1,7 @@
 -- How messages lie in strands, and their heads on shelves. No public clause cites this module.
-use Rattle.std.specs.Prelude.{◌≡◌, ℕ, List, [], ◌∷◌, ◌++◌, length, map, Option, None, Some, IsSome, slice_set}
-use Rattle.strm_links.specs.Rows.{IsParting, Rows, holder, linked_nodes, put_before}
-use Rattle.strm_links.specs.Held.{held_in}
+use Rattle.std.specs.Prelude.{◌≡◌, ℕ, List, [], ◌∷◌, length, map, Option, None, Some, IsSome, slice_set}
+use Rattle.strm_links.specs.Rows.{IsParting, Rows, holder, linked_nodes}
+use Rattle.strm_links.specs.Chains.{chain_in}
 use Rattle.strm_links.specs.StrandLists.{IsParted, StrandLists, strand_at}
 use Rattle.strm_mblk.specs.NodeLists.{NodeLists}
 use Rattle.strm_mblk.specs.declared.chains.Chains.TheInside.{Inside}
@@ -15,19 +15,14 @@ strands_but (h ∷ hs) held = strands_but hs (slice_set held h None)
 abbrev pub nodes_of : StrandLists → Rows → NodeLists
 nodes_of strands heads = record {
   free = strands.free;
-  held = strands_but (linked_nodes heads) strands.held;
+  held = strands_but (linked_nodes heads) strands.chains;
   shelves = map (map (strand_at strands)) heads.lists;
 }
 
--- a list once a node has joined it, just before `at`, or behind all where that is none
-abbrev pub put_in : Option ℕ → ℕ → List ℕ → List ℕ
-put_in None node xs = xs ++ node ∷ []
-put_in (Some at) node xs = put_before at node xs
-
 -- each head on a shelf begins a strand
 pub record IsChained (strands : StrandLists) (heads : Rows) : Type 0 where
-  pub head_nodes : heads.nodes ≡ length strands.held
-  pub begun : (h : ℕ) → IsSome (holder h heads) → IsSome (held_in strands.held h)
+  pub head_nodes : heads.nodes ≡ length strands.chains
+  pub begun : (h : ℕ) → IsSome (holder h heads) → IsSome (chain_in strands.chains h)
   pub strands_parted : IsParted strands
   pub heads_parting : IsParting heads
 

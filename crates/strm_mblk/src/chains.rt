@@ -1,8 +1,8 @@
 //! Messages as chains of message blocks, linked by number, and which of the message blocks are free.
 ghost use Rattle.std.specs.Prelude.{◌≡◌, ◌≢◌, ℕ, ◌+◌, ◌<◌, ◌≤◌, ◌++◌, IfOk, IfSome, IsSome, IsTrue, None, Some, [], ◌∷◌, drop, is_some, length, reverse, slice_get, slice_set, take};
 ghost use Rattle.std.specs.Option.{ForSome};
-ghost use Rattle.strm_links.specs.Rows.{IsParting, after, before, first, has, holder, last, list_at};
-ghost use Rattle.strm_mblk.specs.ChainLayout.{put_in};
+ghost use Rattle.strm_links.specs.Rows.{IsParting, after, before, first, has, holder, last, list_at, put_in};
+ghost use Rattle.strm_links.specs.StrandLists.{strand_at};
 ghost use Rattle.strm_mblk.specs.Messages.{divided, held_in, joined, put_before_head, shelf_in, with_head, without_head};
 ghost use Rattle.strm_mblk.specs.NodeLists.{IsNodesParted, IsReached, after_begin, after_second_freed, head_node, heads_on, nodes_at, opening_nodes, shelved_nodes};
 
@@ -79,7 +79,17 @@ impl Chains {
         requires { head < length self.now.held }
         ensures { result ≡ is_some (held_in self.now.held head) }
     {
-        self.strands.is_held(head) && self.heads.list_of(head).is_none()
+        self.strands.begins_chain(head) && self.heads.list_of(head).is_none()
+    }
+
+    // The messages by their heads, lent to look at, whether they are held or stand on shelves.
+    #[inline(always)]
+    pub(crate) fn strands(&self) -> &Strands
+        ensures held { (h : ℕ) → IsSome (held_in self.now.held h) → strand_at result.now h ≡ nodes_at self.now h }
+        ensures shelved { (s k h : ℕ) → slice_get (shelved_nodes self.now s k) 0 ≡ Some h → strand_at result.now h ≡ shelved_nodes self.now s k }
+        ensures many { length result.now.chains ≡ length self.now.held }
+    {
+        &self.strands
     }
 
     // How many blocks a held message has.
@@ -96,7 +106,6 @@ impl Chains {
     pub(crate) fn next(&self, node: u32) -> Option<u32>
         requires { node < length self.now.held }
         ensures held { (h i : ℕ) → slice_get (nodes_at self.now h) i ≡ Some node → result ≡ slice_get (nodes_at self.now h) (i + 1) }
-        ensures shelved { (s k i : ℕ) → slice_get (shelved_nodes self.now s k) i ≡ Some node → result ≡ slice_get (shelved_nodes self.now s k) (i + 1) }
         ensures in_range { IfSome result (λ n. n < length self.now.held) }
     {
         self.strands.next(node)

@@ -1,5 +1,5 @@
 -- What is true of every pool, whatever calls made it so.
-use Rattle.std.specs.Prelude.{◌≡◌, ℕ, ◌+◌, ◌≤◌, IsTrue, length, reverse, sum_by}
+use Rattle.std.specs.Prelude.{◌≡◌, ℕ, ◌+◌, ◌^◌, ◌<◌, ◌≤◌, IsTrue, length, reverse, sum_by}
 use Rattle.std.specs.List.{All}
 use Rattle.strm_data.specs.CountedStore.{IsKept}
 use Rattle.strm_data.specs.DataStore.{class_infos}
@@ -27,15 +27,17 @@ pub record IsLawful (v : PoolValue) : Type 0 where
   pub kept : IsKept (counted_in v.arena)
   -- The places of each block of a message lie in its data block.
   pub within : All (IsWithin v.arena.store) (blocks_in v.arena)
+  -- The band of each block of a message is below 256.
+  pub bands : All (λ b. b.band < 2 ^ 8) (blocks_in v.arena)
   -- Free blocks, queued and held ones make the pool, which has at most `MOST_MESSAGE_BLOCKS`.
   pub whole : (census_of v.arena).free + (census_of v.arena).queued + (census_of v.arena).held ≡ length v.arena.held
   pub few : length v.arena.held ≤ most_message_blocks
   -- There are `MOST_CLASSES` size classes at most.
   pub few_classes : length (class_infos v.arena.store) ≤ most_classes
-  -- The queues are lawful, of which there are `MOST_QUEUES` at most, each with marks and a shelf of messages.
+  -- The queues are lawful, of which there are `MOST_QUEUES` at most, each with flags and a shelf of messages.
   pub lawful_queues : IsTrue (are_lawful v.queues.specs)
   pub few_queues : length v.queues.specs ≤ most_queues
-  pub marked : length v.queues.marks ≡ length v.queues.specs
+  pub flagged : length v.queues.flags ≡ length v.queues.specs
   pub shelves : length v.arena.shelves ≡ length v.queues.specs
   -- Each queue is in order, since ranks never rise from front to back, and reads alike both ways: going forward from
   -- the first head gives the heads of its messages, and going backward from the last gives their reverse.

@@ -1,13 +1,16 @@
 -- Flow control, flushing and places, computed by the definitions alone. Nothing else rests on these rows.
 use Rattle.std.proofs.Common.{◌≡◌, ℕ, Bool, true, false, List, [], ◌∷◌, map, Option, Some, None, Ok, Err, refl}
+use Rattle.strm_data.specs.declared.msg_type.MsgType.TheVariants.{MPcproto}
+use Rattle.strm_data.specs.DataStore.{with_kind}
 use Rattle.strm_data.specs.declared.refusal.Refusal.TheVariants.{BadOrder, NoSuchPlace, NoSuchQueue}
 use Rattle.strm_mblk.specs.Arena.{Arena, opening_arena, shelf_at}
 use Rattle.strm_mblk.specs.Block.{Block, head_of}
+use Rattle.strm_mblk.specs.BlockCalls.{setband}
 use Rattle.strm_mblk.specs.Given.{answer_of, value_after}
 use Rattle.strm_queue.specs.declared.queue_spec.QueueSpec.{QueueSpec}
 use Rattle.strm_queue.specs.declared.flush.Flush.TheVariants.{All}
-use Rattle.strm_queue.specs.Flow.{every_band, is_wanted, marks_at, opening_queues, target, waker}
-use Rattle.strm_queue.specs.QueueCalls.{bcanput, flushband, insq, putbq, putq, rmvq}
+use Rattle.strm_queue.specs.Flow.{every_band, flags_at, has_band, opening_queues, target, waker}
+use Rattle.strm_queue.specs.QueueCalls.{bcanput, count_on, enableok, flushband, getq, insq, noenable, putbq, putq, qenable, rmvq}
 use Rattle.strm_queue.specs.QueuedBlocks.{QueuedBlocks}
 
 abbrev queue : Bool → Option ℕ → QueueSpec
@@ -65,7 +68,7 @@ bcanput-no_such_queue = refl
 abbrev waited_for : QueuedBlocks
 waited_for = value_after before (bcanput 1 3 before)
 
-pub wanted-at_the_target : is_wanted (marks_at waited_for.queues 3).wanted 3 ≡ true
+pub wanted-at_the_target : has_band (flags_at waited_for.queues 3).wanted 3 ≡ true
 unfolding every_band
 wanted-at_the_target = refl
 
@@ -73,7 +76,7 @@ abbrev with_room : QueuedBlocks
 with_room = value_after waited_for (rmvq 3 1 waited_for)
 
 -- the 4 bytes that stay are as many as the low water mark
-pub wanted-no_more : is_wanted (marks_at with_room.queues 3).wanted 3 ≡ false
+pub wanted-no_more : has_band (flags_at with_room.queues 3).wanted 3 ≡ false
 unfolding every_band
 wanted-no_more = refl
 
@@ -100,3 +103,93 @@ no-such-place = refl
 -- the first that is freed is the last that is taken again
 pub flushed-front-to-back : (value_after before (flushband 3 3 All before)).arena.free ≡ 3 ∷ 2 ∷ 1 ∷ 5 ∷ 6 ∷ 7 ∷ []
 flushed-front-to-back = refl
+
+-- ---- high priority
+
+-- the message that is held at 4 is of high priority
+abbrev urgent : QueuedBlocks
+urgent = record before { arena = record arena { store = with_kind 4 MPcproto arena.store } }
+
+abbrev put_urgent : QueuedBlocks
+put_urgent = value_after urgent (putq 3 4 urgent)
+
+pub high_priority-first : map head_of (shelf_at put_urgent.arena 3) ≡ 4 ∷ 0 ∷ 1 ∷ 3 ∷ []
+high_priority-first = refl
+
+-- in band 0, with which its byte counts
+pub high_priority-band_0 : shelf_at (value_after urgent (putq 4 4 urgent)).arena 4 ≡ (block 4 1 0 ∷ []) ∷ []
+high_priority-band_0 = refl
+
+pub count-high_priority : count_on put_urgent 3 0 ≡ 1
+count-high_priority = refl
+
+-- flushing band 0 takes it, and not what has a block of band 0 behind its first one
+pub flushed-band_0 : map head_of (shelf_at (value_after put_urgent (flushband 3 0 All put_urgent)).arena 3) ≡ 0 ∷ 1 ∷ 3 ∷ []
+flushed-band_0 = refl
+
+-- ---- enabling
+
+-- at first somebody wants to read
+pub enabled-put : (value_after before (putq 3 4 before)).queues.run ≡ 3 ∷ []
+enabled-put = refl
+
+-- where enabling is switched off, high priority alone enables, but not where it is inserted
+abbrev off : QueuedBlocks → QueuedBlocks
+off v = value_after v (noenable 3 v)
+
+pub off-put : (value_after (off before) (putq 3 4 (off before))).queues.run ≡ []
+off-put = refl
+
+pub off-put_urgent : (value_after (off urgent) (putq 3 4 (off urgent))).queues.run ≡ 3 ∷ []
+off-put_urgent = refl
+
+pub off-put_back_urgent : (value_after (off urgent) (putbq 3 4 (off urgent))).queues.run ≡ 3 ∷ []
+off-put_back_urgent = refl
+
+pub off-inserted_urgent : (value_after (off urgent) (insq 3 0 4 (off urgent))).queues.run ≡ []
+off-inserted_urgent = refl
+
+pub off-asked_for : (value_after (off before) (qenable 3 (off before))).queues.run ≡ 3 ∷ []
+off-asked_for = refl
+
+pub on-again : (let v = value_after (off before) (enableok 3 (off before)) in (value_after v (putq 3 4 v)).queues.run) ≡ 3 ∷ []
+on-again = refl
+
+-- a queue without a service procedure is never enabled
+pub enabled-without_service : (value_after before (qenable 4 before)).queues.run ≡ []
+enabled-without_service = refl
+
+-- ---- the want-to-read mark
+
+-- a message was read: nobody wants to read any more
+abbrev read : QueuedBlocks
+read = value_after before (getq 3 before)
+
+pub read-no_more : (flags_at read.queues 3).read ≡ false
+unfolding every_band
+read-no_more = refl
+
+-- so only a band above 0 enables, and only where it is put behind
+pub read-put : (value_after read (putq 3 4 read)).queues.run ≡ 3 ∷ []
+unfolding every_band
+read-put = refl
+
+pub read-put_in_band_0 : (let v : QueuedBlocks = record read { arena = setband 4 0 read.arena } in (value_after v (putq 3 4 v)).queues.run) ≡ []
+unfolding every_band
+read-put_in_band_0 = refl
+
+pub read-put_back : (value_after read (putbq 3 4 read)).queues.run ≡ []
+unfolding every_band
+read-put_back = refl
+
+-- until an empty queue is read
+abbrev drained : QueuedBlocks
+drained = let v : QueuedBlocks = value_after read (getq 3 read) in let w : QueuedBlocks = value_after v (getq 3 v) in value_after w (getq 3 w)
+
+pub wanted-to_read : (flags_at drained.queues 3).read ≡ true
+unfolding every_band
+wanted-to_read = refl
+
+pub drained-put_back : (value_after drained (putbq 3 4 drained)).queues.run ≡ 3 ∷ []
+unfolding every_band
+drained-put_back = refl

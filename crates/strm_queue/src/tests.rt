@@ -1,9 +1,11 @@
-ghost use Rattle.std.specs.Prelude.{◌≡◌, ◌<◌, IsTrue, length};
+ghost use Rattle.std.specs.Prelude.{◌≡◌, ◌≤◌, IsTrue};
 ghost use Rattle.strm_data.specs.Classes.{are_lawful};
 ghost use Rattle.strm_mblk.specs.Arena.{has};
+ghost use Rattle.strm_mblk.specs.Limits.{most_message_blocks};
 ghost use Rattle.strm_queue.specs.QueueSpecs as queue_specs;
 ghost use Rattle.strm_queue.specs.QueuedBlocks.{Agrees};
 
+use crate::limits::HIGH_RANK;
 use crate::{QueueSpec, Queues};
 use std::alloc::Global;
 use std::process::Abort;
@@ -43,7 +45,7 @@ fn opened(
     classes: &[ClassSpec],
     queues: &[QueueSpec],
 ) -> (Queues, Blocks)
-    requires few_blocks { mblks < 4096 }
+    requires few_blocks { mblks ≤ most_message_blocks }
     requires classes { IsTrue (are_lawful classes.now) }
     requires queues { IsTrue (queue_specs.are_lawful queues.now) }
     ensures { Agrees result.0 result.1 }
@@ -76,7 +78,7 @@ fn set_kind(rt: &impl Abort, queues: &Queues, blocks: &mut Blocks, token: &Token
 }
 
 // Gives a message a band.
-#[tactic(auto, using(crate::proofs::Agreeing::agrees_left))]
+#[tactic(auto, using(crate::proofs::agreeing::Agreeing::agrees_left))]
 fn set_band(queues: &Queues, blocks: &mut Blocks, token: &Token, band: u8)
     requires agrees { Agrees queues.now blocks.old }
     requires had { IsTrue (has blocks.old token.now) }
@@ -110,7 +112,7 @@ fn drafted(rt: &impl Abort, queues: &Queues, blocks: &mut Blocks, how: Draft) ->
     token
 }
 
-// How a message of no bytes and this rank is made: of high priority for 256, and then with band 9, else of this band.
+// How a message of no bytes and this rank is made: of high priority for that rank, and then with band 9, else of this band.
 fn ranked(rank: u16) -> Draft {
     match u8::try_from(rank) {
         Ok(band) => Draft {
@@ -161,7 +163,7 @@ fn rank_of(rt: &impl Abort, blocks: &Blocks, token: &Token) -> u16 {
     match blocks.block(token, 0) {
         Ok(first) if first.kind.is_high_priority() => {
             assert_eq!(rt; first.band, 0);
-            256
+            HIGH_RANK
         }
         Ok(first) => u16::from(first.band),
         Err(why) => panic!(rt; "{why:?}"),

@@ -7,10 +7,9 @@ use Rattle.strm_mblk.specs.Arena.{census_of, token_of}
 use Rattle.strm_pool.specs.declared.call.Call.{Call}
 use Rattle.strm_pool.specs.declared.reply.Reply.{Reply}
 use Rattle.strm_pool.specs.PoolValue.{PoolValue, owns}
-use Rattle.strm_pool.specs.Registers.{AreDistinct, CarryId, Entries, entries_of, register, table_of}
-use Rattle.strm_pool.specs.Step.{Applies, Stepped, is_named}
+use Rattle.strm_pool.specs.Registers.{AreAccounted, AreDistinct, CarryId, Entries, entries_of, register, table_of}
+use Rattle.strm_pool.specs.Step.{Applies, is_named}
 use Rattle.strm_pool.proofs.Accounts.{accounted_distinct, accounted_owned, owned_carry}
-use Rattle.strm_pool.proofs.Totals.{step_keeps_total}
 use Rattle.strm_shared.specs.Books.{BookValue, IsBookOf, IsServed, book_value, table_at}
 use Rattle.strm_shared.specs.Desks.{DeskValue, IsDeskOf, desk_value}
 use Rattle.strm_shared.specs.Ledger.{blocks_held}
@@ -21,61 +20,75 @@ use Rattle.strm_shared.proofs.Weighing.{held_moves}
 pub table_is : (b : BookValue) (n : ℕ) (t : Entries) → n < length b.tables → t ≡ get_or b.tables n t → table_at b n ≡ t
 table_is b n t within is = get_or_default b.tables n [] t within ∙ sym is
 
-module _ (id desks first : ℕ) (b : BookValue) (d : DeskValue) (lawful : IsBookOf id desks first b) (desk : IsDeskOf id desks d) where
-  pub within : d.number < length b.tables
-  within = omega (arith, desk.below, lawful.tables)
+-- the book knows what the desk's registers tell
+pub record IsKnown (id desks first : ℕ) (b : BookValue) (d : DeskValue) : Type 0 where
+  pub book : IsBookOf id desks first b
+  pub desk : IsDeskOf id desks d
+  pub table : table_at b d.number ≡ entries_of d.regs
 
-  module _ (known : table_at b d.number ≡ entries_of d.regs) where
-    -- no message is held by two of its registers, and the pool owns them
-    distinct : AreDistinct (table_of d.regs)
-    distinct = accounted_distinct b.pool d.regs b.tables d.number within known lawful.accounted
+-- A call on such a desk was served: what became of book and desk, that what is held of the pool moved by what the desk's
+-- registers tell, and that the pool has as many message blocks.
+pub record Turns (id desks first : ℕ) (b : BookValue) (d : DeskValue) (call : Call) (c : BookValue) (e : DeskValue) (reply : Reply) : Type 0 where
+  pub book : IsBookOf id desks first c
+  pub desk : IsDeskOf id desks e
+  pub served : IsServed b d call c e reply
+  pub moved : (census_of c.pool.arena).held + blocks_held d.regs ≡ (census_of b.pool.arena).held + blocks_held e.regs
+  pub sized : length c.pool.arena.held ≡ length b.pool.arena.held
 
-    pub owned : owns b.pool d.regs ≡ true
-    owned = accounted_owned b.pool d.regs b.tables d.number within known lawful.accounted (subst (λ k. CarryId k d.regs) (sym lawful.same) desk.carry)
+module _ (id desks first : ℕ) (b : BookValue) (d : DeskValue) where
+  pub within : IsBookOf id desks first b → IsDeskOf id desks d → d.number < length b.tables
+  within book desk = omega (arith, desk.below, book.tables)
 
-    module _ (call : Call) (w : PoolValue) (ss : List (Option TokenValue)) (reply : Reply) (applies : Applies b.pool d.regs call w ss reply) where
-      -- registers that the call does not name
-      pub others : (x : ℕ) → is_named call x ≡ false → register ss x ≡ register d.regs x
-      others x unnamed =
-          applies.tokens x
-          ∙ ap (λ (named : Bool). if named then option_map (token_of w.arena) (register (table_of ss) x) else register d.regs x) unnamed
+module _ {id desks first : ℕ} {b : BookValue} {d : DeskValue} (known : IsKnown id desks first b d) where
+  inside : d.number < length b.tables
+  inside = within id desks first b d known.book known.desk
 
-      -- what is held of the pool moves by what the desk's registers tell
-      pub held_moved : (census_of w.arena).held + blocks_held d.regs ≡ (census_of b.pool.arena).held + blocks_held ss
-      held_moved =
-          held_moves b.pool.arena w.arena b.tables d.number (entries_of d.regs) (entries_of ss) within known lawful.accounted
-          (applies.accounted b.tables d.number within known lawful.accounted)
+  -- no message is held by two of its registers, and the pool owns them
+  distinct : AreDistinct (table_of d.regs)
+  distinct = accounted_distinct b.pool d.regs b.tables d.number inside known.table known.book.accounted
 
-      -- the pool has as many message blocks
-      pub sized : length w.arena.held ≡ length b.pool.arena.held
-      sized = ap (λ (s : Stepped). length s.pool.arena.held) (sym applies.step) ∙ step_keeps_total b.pool (table_of d.regs) call
+  pub owned : owns b.pool d.regs ≡ true
+  owned = accounted_owned b.pool d.regs b.tables d.number inside known.table known.book.accounted (subst (λ k. CarryId k d.regs) (sym known.book.same) known.desk.carry)
 
-      pub desk_next : IsDeskOf id desks (desk_value d.number ss)
-      desk_next = record {
-        below = desk.below;
-        carry = subst (λ k. CarryId k ss) (applies.same distinct ∙ lawful.same) (owned_carry w ss (applies.owned distinct).0);
-      }
+  module _ {call : Call} {w : PoolValue} {ss : List (Option TokenValue)} {reply : Reply} (applies : Applies b.pool d.regs call w ss reply) where
+    -- registers that the call does not name
+    pub others : (x : ℕ) → is_named call x ≡ false → register ss x ≡ register d.regs x
+    others x unnamed =
+        applies.tokens x
+        ∙ ap (λ (named : Bool). if named then option_map (token_of w.arena) (register (table_of ss) x) else register d.regs x) unnamed
 
-      -- the book once it has noted what the registers tell
-      abbrev pub after : BookValue
-      after = book_value w (b.stamp + 1) (set b.tables d.number (entries_of ss))
+    -- what is held of the pool moves by what the desk's registers tell
+    pub held_moved : (census_of w.arena).held + blocks_held d.regs ≡ (census_of b.pool.arena).held + blocks_held ss
+    held_moved =
+        held_moves b.pool.arena w.arena b.tables d.number (entries_of d.regs) (entries_of ss) inside known.table known.book.accounted
+        (applies.accounted b.tables d.number inside known.table known.book.accounted)
 
-      pub book_next : b.stamp < most_stamp → IsBookOf id desks first after
-      book_next unspent = record {
-        same = applies.same distinct ∙ lawful.same;
-        begun = omega (arith, lawful.begun);
-        unspent = omega (arith, unspent);
-        tables = length-set b.tables d.number (entries_of ss) ∙ lawful.tables;
-        accounted = applies.accounted b.tables d.number within known lawful.accounted;
-      }
-
-      pub served : b.stamp < most_stamp → IsServed b d call after (desk_value d.number ss) reply
-      served unspent = record {
-        unspent = unspent;
-        known = known;
-        step = applies.step;
-        stamp = refl;
-        tables = refl;
-        number = refl;
-        others = others;
-      }
+    -- once the book has noted what the registers tell now
+    pub turns : (n : ℕ) (t : Entries) → n ≡ d.number → t ≡ entries_of ss → b.stamp < most_stamp
+        → Turns id desks first b d call (book_value w (b.stamp + 1) (set b.tables n t)) (desk_value d.number ss) reply
+    turns n t same noted unspent =
+        let tables : set b.tables n t ≡ set b.tables d.number (entries_of ss) = ap (λ k. set b.tables k t) same ∙ ap (set b.tables d.number) noted in
+        record {
+          book = record {
+            same = applies.same ∙ known.book.same;
+            begun = omega (arith, known.book.begun);
+            unspent = omega (arith, unspent);
+            tables = length-set b.tables n t ∙ known.book.tables;
+            accounted = subst (AreAccounted w.arena) (sym tables) (applies.accounted b.tables d.number inside known.table known.book.accounted);
+          };
+          desk = record {
+            below = known.desk.below;
+            carry = subst (λ k. CarryId k ss) (applies.same ∙ known.book.same) (owned_carry w ss (applies.owned distinct).0);
+          };
+          served = record {
+            unspent = unspent;
+            known = known.table;
+            step = applies.step;
+            stamp = refl;
+            tables = tables;
+            number = refl;
+            others = others;
+          };
+          moved = held_moved;
+          sized = applies.size;
+        }

@@ -4,11 +4,11 @@ use Rattle.std.specs.Global.{Vec}
 use Rattle.strm_pool.specs.declared.reply.Reply.{Reply}
 use Rattle.strm_shared.specs.declared.line.Line.{Line}
 use Rattle.strm_shared.specs.declared.name.Name.{Ghosts}
-use Rattle.strm_shared.specs.declared.workers.Carried.{Carried}
-use Rattle.strm_shared.specs.declared.workers.Done.{Done}
-use Rattle.strm_shared.specs.declared.workers.Room.{Room}
-use Rattle.strm_shared.specs.declared.workers.Started.{Started}
-use Rattle.strm_shared.specs.declared.workers.Started.TheVariants.{Running, Not}
+use Rattle.strm_shared.specs.declared.workers.carried.Carried.{Carried}
+use Rattle.strm_shared.specs.declared.workers.crew.Done.{Done}
+use Rattle.strm_shared.specs.declared.workers.room.Room.{Room}
+use Rattle.strm_shared.specs.declared.workers.started.Started.{Started}
+use Rattle.strm_shared.specs.declared.workers.started.Started.TheVariants.{Running, Not}
 use Rattle.strm_shared.specs.Desks.{DeskValue}
 use Rattle.strm_shared.specs.Limits.{most_workers}
 use Rattle.strm_shared.specs.Runs.{Worked}

@@ -45,6 +45,13 @@ impl<N: Name> Book<N> {
         self.pool.lawful();
     }
 
+    /// The pool as it is now. So what the laws of `Pool` say of any is known of a lent book's.
+    pub fn pool(&self) -> &Pool
+        ensures { result.now ≡ self.now.pool }
+    {
+        &self.pool
+    }
+
     /// Serves a call on the desk's registers, and answers its reply. Takes the steps of the call, and a few for each
     /// register; no memory is taken.
     ///

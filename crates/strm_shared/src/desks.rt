@@ -1,12 +1,12 @@
 //! A list of desks that takes no memory.
-ghost use Rattle.std.specs.Prelude.{◌≡◌, ◌+◌, ◌≤◌, ◌<◌, ◌++◌, ◌∷◌, [], Some, length, slice_index_or, IsPermutation, IsTrue, ◌↔◌};
+ghost use Rattle.std.specs.Prelude.{◌≡◌, ◌+◌, ◌≤◌, ◌<◌, ◌++◌, ◌∷◌, [], length, slice_index_or, IsPermutation, IsTrue, ◌↔◌};
 ghost use Rattle.std.specs.List.Sorted.{IsNonDecreasingBy};
 ghost use Rattle.strm_shared.specs.Desks.{DeskValue};
-ghost use Rattle.strm_shared.specs.DesksLayout.{IsFilled, desk_in};
 ghost use Rattle.strm_shared.specs.Ledger.{blocks_at};
 ghost use Rattle.strm_shared.specs.Limits.{most_workers};
 
 use crate::desk::Desk;
+use crate::desk_slot::DeskSlot;
 use crate::held::Held;
 use crate::limits::MOST_WORKERS;
 use crate::name::Name;
@@ -14,73 +14,11 @@ use arrayvec::ArrayVec;
 use std::marker::Model;
 use std::sync::ledger::{self, Share};
 
-// A place of the list; one that is not in use is empty. The elements of an `ArrayVec` must be such as may be dropped;
-// dropped, a place gives its desk up, with the tokens in it.
-struct Place<N: Name> {
-    desk: Option<Desk<N>>,
-}
-
-impl<N: Name> Drop for Place<N> {
-    fn drop(self) {
-        let Place { desk } = self;
-        if let Some(desk) = desk {
-            desk.forget();
-        }
-    }
-}
-
-impl<N: Name> Default for Place<N> {
-    fn default() -> Place<N> {
-        Place { desk: None }
-    }
-}
-
-impl<N: Name> Place<N> {
-    ghost use Rattle.std.specs.Borrow.{Lends, sem};
-    ghost use Rattle.strm_shared.specs.DesksLayout.{filled};
-    ghost use Rattle.strm_shared.specs.contracts.desks.Place.{the_row as place_row};
-    ghost use Rattle.strm_shared.specs.contracts.desk.Desk.{the_row as desk_row};
-
-    // The number of its desk.
-    fn number(&self) -> u8
-        ensures { result ≡ (desk_in self.now).number }
-    {
-        match &self.desk {
-            Some(desk) => desk.number(),
-            None => 0,
-        }
-    }
-
-    // Lends its desk.
-    fn desk_mut(&mut self) -> &mut Desk<N>
-        requires { IsFilled self.old }
-        ensures* writes_back { sem 𝓛 (Lends (place_row N.row N.Name) (desk_row N.row N.Name) self.entry result filled) }
-        ensures value { self.old.desk ≡ Some result.now }
-    {
-        let Some(desk) = &mut self.desk else {
-            unreachable!()
-        };
-        desk
-    }
-
-    // Its desk.
-    fn into_desk(self) -> Desk<N>
-        requires { IsFilled self }
-        ensures { self.desk ≡ Some result }
-    {
-        let Place { desk } = self;
-        match desk {
-            Some(desk) => desk,
-            None => unreachable!(),
-        }
-    }
-}
-
 /// At most `MOST_WORKERS` desks of one shared pool, in order. They lie in the value itself, and no call takes memory. As
 /// its desks, a list of them must be spent: it can be neither cloned nor dropped.
 #[must_use]
 pub struct Desks<N: Name> {
-    places: ArrayVec<Place<N>, MOST_WORKERS>,
+    slots: ArrayVec<DeskSlot<N>, MOST_WORKERS>,
 }
 
 impl<N: Name> Model for Desks<N> {
@@ -90,9 +28,9 @@ impl<N: Name> Model for Desks<N> {
 
     ghost Value = { List DeskValue };
 
-    ghost view = { λ d. desks_in d.places.items };
+    ghost view = { λ d. desks_in d.slots.items };
 
-    ghost invariant = { λ d. AreFilled d.places.items };
+    ghost invariant = { λ d. AreFilled d.slots.items };
 }
 
 impl<N: Name> Desks<N> {
@@ -106,7 +44,7 @@ impl<N: Name> Desks<N> {
         ensures { result ≡ [] }
     {
         Desks {
-            places: ArrayVec::new(),
+            slots: ArrayVec::new(),
         }
     }
 
@@ -115,14 +53,14 @@ impl<N: Name> Desks<N> {
         ensures count { result ≡ length self.now }
         ensures few { result ≤ most_workers }
     {
-        self.places.len()
+        self.slots.len()
     }
 
     /// Whether there are none.
     pub fn is_empty(&self) -> bool
         ensures { IsTrue result ↔ (self.now ≡ []) }
     {
-        self.places.is_empty()
+        self.slots.is_empty()
     }
 
     /// Adds a desk behind the others, where there is room for one more.
@@ -130,7 +68,7 @@ impl<N: Name> Desks<N> {
         requires { length self.old < most_workers }
         ensures { self.new ≡ self.old ++ desk ∷ [] }
     {
-        self.places.push(Place { desk: Some(desk) });
+        self.slots.push(DeskSlot::of(desk));
     }
 
     /// Takes the last desk, where there is one.
@@ -138,10 +76,10 @@ impl<N: Name> Desks<N> {
         requires { 0 < length self.old }
         ensures { self.old ≡ self.new ++ result ∷ [] }
     {
-        let Some(place) = self.places.pop() else {
+        let Some(slot) = self.slots.pop() else {
             unreachable!()
         };
-        place.into_desk()
+        slot.into_desk()
     }
 
     /// Lends the desk at a place, counted from 0, where there is one.
@@ -150,10 +88,10 @@ impl<N: Name> Desks<N> {
         ensures* writes_back { sem 𝓛 (Lends (desks_row N.row N.Name) (desk_row N.row N.Name) self.entry result (slice_set self.old place)) }
         ensures value { result.now ≡ slice_index_or self.old place result.now }
     {
-        let Some(place) = self.places.get_mut(place) else {
+        let Some(slot) = self.slots.get_mut(place) else {
             unreachable!()
         };
-        place.desk_mut()
+        slot.desk_mut()
     }
 
     // Puts the desks in the order of their numbers.
@@ -161,9 +99,9 @@ impl<N: Name> Desks<N> {
         ensures same { IsPermutation self.old self.new }
         ensures sorted { IsNonDecreasingBy (λ (d : DeskValue). d.number) self.new }
     {
-        self.places
+        self.slots
             .as_mut_slice()
-            .sort_unstable_by_key(|place| place.number());
+            .sort_unstable_by_key(|slot| slot.number());
     }
 
     // Tells of the ledger's book that it counts what these desks hold, where all parts of the ledger are here. Nothing
@@ -225,12 +163,12 @@ impl<N: Name> Desks<N> {
     pub fn end(self)
         requires { self ≡ [] }
     {
-        let Desks { places: _ } = self;
+        let Desks { slots: _ } = self;
     }
 
     /// Gives the desks up, and the tokens in their registers. The messages of these stay held, and nothing can reach them
     /// any more.
     pub fn forget(self) {
-        let Desks { places: _ } = self;
+        let Desks { slots: _ } = self;
     }
 }

@@ -4,6 +4,7 @@
 mod book;
 mod desk;
 mod desk_count;
+mod desk_slot;
 mod desk_table;
 mod desks;
 mod gate;

@@ -1,5 +1,5 @@
 use super::class;
-use crate::{ClassInfo, Data, MsgType, Refusal};
+use crate::{ClassInfo, Data, MOST_DATA_BLOCK_BYTES, MsgType, Refusal};
 use std::process::Abort;
 use std::test::Fail;
 
@@ -55,14 +55,14 @@ fn opens_with_all_free(rt: HostRuntime) -> Result<(), Fail> {
 
 #[test]
 fn has_classes_up_to_the_largest(rt: HostRuntime) -> Result<(), Fail> {
-    let mut data = Data::new(rt.alloc(), &[class(1, 1), class(4096, 1)])?;
+    let mut data = Data::new(rt.alloc(), &[class(1, 1), class(MOST_DATA_BLOCK_BYTES, 1)])?;
     assert_eq!(rt; data.take(2), Ok(1));
     for (size, has, fits) in [
         (0, true, true),
         (1, true, true),
         (2, true, false),
-        (4096, true, false),
-        (4097, false, false),
+        (MOST_DATA_BLOCK_BYTES, true, false),
+        (MOST_DATA_BLOCK_BYTES + 1, false, false),
         (u32::MAX, false, false),
     ] {
         assert_eq!(rt; data.has_class_for(size), has);
@@ -155,7 +155,10 @@ fn copies_within_a_class(rt: HostRuntime) -> Result<(), Fail> {
 
 #[test]
 fn copies_between_classes(rt: HostRuntime) -> Result<(), Fail> {
-    let mut data = Data::new(rt.alloc(), &[class(4, 2), class(6, 2), class(4096, 1)])?;
+    let mut data = Data::new(
+        rt.alloc(),
+        &[class(4, 2), class(6, 2), class(MOST_DATA_BLOCK_BYTES, 1)],
+    )?;
     data.write(1, 0, &[1, 2, 3, 4]);
     data.write(3, 0, &[5, 6, 7, 8, 9, 10]);
     data.copy(1, 0, 3, 2, 4);
@@ -171,10 +174,11 @@ fn copies_between_classes(rt: HostRuntime) -> Result<(), Fail> {
 
 #[test]
 fn copies_to_and_from_the_last_places(rt: HostRuntime) -> Result<(), Fail> {
-    let mut data = Data::new(rt.alloc(), &[class(4, 2), class(4096, 1)])?;
+    let mut data = Data::new(rt.alloc(), &[class(4, 2), class(MOST_DATA_BLOCK_BYTES, 1)])?;
     data.write(1, 0, &[1, 2, 3, 4]);
-    data.copy(1, 0, 2, 4092, 4);
-    data.copy(2, 4092, 0, 0, 4);
+    let last = MOST_DATA_BLOCK_BYTES - 4;
+    data.copy(1, 0, 2, last, 4);
+    data.copy(2, last, 0, 0, 4);
     holds(&rt, &data, 0, [1, 2, 3, 4])?;
     holds(&rt, &data, 2, [0, 0, 0, 0])
 }

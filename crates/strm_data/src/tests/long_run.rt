@@ -2,7 +2,7 @@
 ghost use Rattle.std.specs.Prelude.{◌≡◌, ◌<◌, length};
 
 use super::class;
-use crate::{Data, MsgType, Refusal};
+use crate::{Data, MOST_DATA_BLOCK_NAMES, MsgType, Refusal};
 use std::alloc::{AllocError, Global};
 use std::process::Abort;
 use std::test::Fail;
@@ -95,9 +95,9 @@ impl Twin {
     fn name(&mut self, rt: &impl Abort, number: u32) -> Result<(), Fail> {
         assert!(rt; number < BLOCKS);
         let plain = self.blocks.get_mut(number as usize).ok_or("no block")?;
-        if plain.count > 0 && plain.count < 255 {
+        if plain.count > 0 && plain.count < MOST_DATA_BLOCK_NAMES {
             let count = self.data.count(number);
-            assert!(rt; count > 0 && count < 255);
+            assert!(rt; count > 0 && count < MOST_DATA_BLOCK_NAMES);
             self.data.name(number);
             plain.count = plain.count.saturating_add(1);
         }
@@ -222,7 +222,7 @@ impl Twin {
             assert_eq!(rt; info.total, COUNTS[usize::from(class)]);
         }
         assert_eq!(rt; self.data.class_info(3), None);
-        assert_eq!(rt; self.data.class_info(255), None);
+        assert_eq!(rt; self.data.class_info(u8::MAX), None);
         Ok(())
     }
 
@@ -259,15 +259,15 @@ fn long_run_beside_vectors(rt: HostRuntime) -> Result<(), Fail> {
 }
 
 #[test]
-fn names_a_block_255_times(rt: HostRuntime) -> Result<(), Fail> {
+fn names_a_block_as_often_as_can_be(rt: HostRuntime) -> Result<(), Fail> {
     let mut twin = Twin::new(rt.alloc())?;
     twin.take(&rt, 5)?;
-    for _ in 0..254 {
+    for _ in 1..MOST_DATA_BLOCK_NAMES {
         twin.name(&rt, 3)?;
     }
-    assert_eq!(rt; twin.data.count(3), 255);
+    assert_eq!(rt; twin.data.count(3), MOST_DATA_BLOCK_NAMES);
     twin.compare_all(&rt)?;
-    for _ in 0..254 {
+    for _ in 1..MOST_DATA_BLOCK_NAMES {
         twin.drop_name(&rt, 3)?;
     }
     assert_eq!(rt; twin.data.count(3), 1);

@@ -1,4 +1,14 @@
-use crate::{MsgType, Refusal};
+use crate::{
+    MOST_CLASSES, MOST_DATA_BLOCK_BYTES, MOST_DATA_BLOCK_NAMES, MOST_DATA_BLOCKS, MsgType, Refusal,
+};
+
+#[test]
+fn limits_have_their_numbers(rt: HostRuntime) {
+    assert_eq!(rt; MOST_CLASSES, 8);
+    assert_eq!(rt; MOST_DATA_BLOCK_BYTES, 4096);
+    assert_eq!(rt; MOST_DATA_BLOCKS, 4095);
+    assert_eq!(rt; MOST_DATA_BLOCK_NAMES, 255);
+}
 
 #[test]
 fn refusals_have_their_numbers(rt: HostRuntime) {

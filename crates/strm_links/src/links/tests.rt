@@ -66,18 +66,18 @@ fn worked_rows(rt: HostRuntime) -> Result<(), Fail> {
     Ok(())
 }
 
-const NODES: u32 = 4095;
+const NODES: u32 = 4000;
 
-const LISTS: u32 = 48;
+const LISTS: u32 = 50;
 
 // The same lists twice: linked by index, and as plain vectors.
 #[derive(Drop)]
 struct Twin {
     links: Links,
     plain: Vec<Vec<u32>>,
-    ghost node_count: { links.nodes ≡ 4095 },
-    ghost list_count: { length links.lists ≡ 48 },
-    ghost plain_count: { vec_len plain ≡ 48 },
+    ghost node_count: { links.nodes ≡ 4000 },
+    ghost list_count: { length links.lists ≡ 50 },
+    ghost plain_count: { vec_len plain ≡ 50 },
 }
 
 impl Twin {

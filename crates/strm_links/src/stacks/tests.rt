@@ -25,24 +25,24 @@ fn worked_rows(rt: HostRuntime) -> Result<(), Fail> {
     Ok(())
 }
 
-const NODES: u32 = 4095;
+const NODES: u32 = 4000;
 
-const LISTS: u32 = 8;
+const LISTS: u32 = 7;
 
 // The same stacks twice: linked by index, and as plain vectors that end with the front.
 #[derive(Drop)]
 struct Twin {
     stacks: Stacks,
     plain: Vec<Vec<u32>>,
-    ghost node_count: { stacks.nodes ≡ 4095 },
-    ghost list_count: { length stacks.lists ≡ 8 },
-    ghost plain_count: { vec_len plain ≡ 8 },
+    ghost node_count: { stacks.nodes ≡ 4000 },
+    ghost list_count: { length stacks.lists ≡ 7 },
+    ghost plain_count: { vec_len plain ≡ 7 },
 }
 
 // The nodes, put on the stacks in turn.
 fn dealt(alloc: Global) -> Result<Stacks, AllocError>
-    ensures nodes { IfOk result (λ s. s.nodes ≡ 4095) }
-    ensures lists { IfOk result (λ s. length s.lists ≡ 8) }
+    ensures nodes { IfOk result (λ s. s.nodes ≡ 4000) }
+    ensures lists { IfOk result (λ s. length s.lists ≡ 7) }
 {
     let mut stacks = Stacks::new(alloc, NODES, LISTS)?;
     for node in 0..NODES {

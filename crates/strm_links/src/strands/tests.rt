@@ -7,7 +7,7 @@ use std::mem;
 use std::process::Abort;
 use std::test::Fail;
 
-const NODES: u32 = 255;
+const NODES: u32 = 250;
 
 // The same chains twice: linked by number, and as plain vectors.
 #[derive(Drop)]
@@ -17,11 +17,11 @@ struct Twin {
     free: Vec<u32>,
     // At each node the chain that begins with it; empty where none does.
     chains: Vec<Vec<u32>>,
-    ghost node_count: { length strands.held ≡ 255 },
-    ghost chain_count: { vec_len chains ≡ 255 },
+    ghost node_count: { length strands.chains ≡ 250 },
+    ghost chain_count: { vec_len chains ≡ 250 },
 }
 
-#[tactic(auto, using(crate::proofs::NodeCounts::node_counts))]
+#[tactic(auto, using(crate::proofs::chaining::NodeCounts::node_counts))]
 impl Twin {
     fn new(alloc: Global) -> Result<Self, AllocError> {
         let strands = Strands::new(alloc, NODES)?;
@@ -37,9 +37,9 @@ impl Twin {
     }
 
     // Whether a chain begins with this node.
-    fn is_held(&self, rt: &impl Abort, head: u32) -> bool {
+    fn begins_chain(&self, rt: &impl Abort, head: u32) -> bool {
         assert!(rt; head < NODES);
-        self.strands.is_held(head)
+        self.strands.begins_chain(head)
     }
 
     // Begins a chain with the first free node, if one is free.
@@ -66,8 +66,8 @@ impl Twin {
     // Puts a chain behind another.
     fn join(&mut self, rt: &impl Abort, head: u32, tail: u32) -> Result<(), Fail> {
         assert!(rt; head < NODES && tail < NODES && head != tail);
-        assert!(rt; self.strands.is_held(head));
-        assert!(rt; self.strands.is_held(tail));
+        assert!(rt; self.strands.begins_chain(head));
+        assert!(rt; self.strands.begins_chain(tail));
         self.strands.join(head, tail);
         let behind = mem::try_take(&mut self.chains[tail as usize])?;
         self.chains[head as usize].extend(behind.iter().copied())?;
@@ -77,7 +77,7 @@ impl Twin {
     // Parts a chain behind its first node.
     fn divide(&mut self, rt: &impl Abort, head: u32) -> Result<(), Fail> {
         assert!(rt; head < NODES);
-        assert!(rt; self.strands.is_held(head));
+        assert!(rt; self.strands.begins_chain(head));
         let rest = self.strands.divide(head);
         let plain = &mut self.chains[head as usize];
         assert!(rt; !plain.is_empty());
@@ -92,7 +92,7 @@ impl Twin {
     // Takes the node at a place behind the first out of a chain, if there is one.
     fn take_out(&mut self, rt: &impl Abort, head: u32, place: u32) -> Result<(), Fail> {
         assert!(rt; head < NODES && 0 < place);
-        assert!(rt; self.strands.is_held(head));
+        assert!(rt; self.strands.begins_chain(head));
         let taken = self.strands.take_out(head, place);
         let plain = &mut self.chains[head as usize];
         assert_eq!(rt; taken, plain.get(place as usize).copied());
@@ -106,7 +106,7 @@ impl Twin {
     // Frees the second node of a chain, if there is one.
     fn free_second(&mut self, rt: &impl Abort, head: u32) -> Result<(), Fail> {
         assert!(rt; head < NODES);
-        assert!(rt; self.strands.is_held(head));
+        assert!(rt; self.strands.begins_chain(head));
         let freed = self.strands.free_second(head);
         let plain = &mut self.chains[head as usize];
         assert_eq!(rt; freed, plain.get(1).copied());
@@ -120,19 +120,18 @@ impl Twin {
     // Frees the nodes of a chain.
     fn free(&mut self, rt: &impl Abort, head: u32) -> Result<(), Fail> {
         assert!(rt; head < NODES);
-        assert!(rt; self.strands.is_held(head));
+        assert!(rt; self.strands.begins_chain(head));
         self.strands.free(head);
         let freed = mem::try_take(&mut self.chains[head as usize])?;
         self.free.extend(freed.iter().copied())?;
         Ok(())
     }
 
-    // A chain reads as this list, and its length and its last node are those of the list.
+    // A chain reads as this list, and its length is that of the list.
     fn compare(&self, rt: &impl Abort, head: u32, plain: &[u32]) {
         assert!(rt; head < NODES);
-        assert!(rt; self.strands.is_held(head));
+        assert!(rt; self.strands.begins_chain(head));
         assert_eq!(rt; self.strands.len(head) as usize, plain.len());
-        assert_eq!(rt; Some(self.strands.tail(head)), plain.last().copied());
         let mut at = Some(head);
         for node in plain {
             assert_eq!(rt; at, Some(*node));
@@ -147,7 +146,7 @@ impl Twin {
         assert_eq!(rt; self.strands.free_len() as usize, self.free.len());
         for head in 0..NODES {
             let plain = self.chains[head as usize].as_slice();
-            assert_eq!(rt; self.strands.is_held(head), !plain.is_empty());
+            assert_eq!(rt; self.strands.begins_chain(head), !plain.is_empty());
             if !plain.is_empty() {
                 self.compare(rt, head, plain);
             }
@@ -160,7 +159,7 @@ impl Twin {
         let other = below(draw, NODES);
         let small = 1 + below(draw, 6);
         let choice = below(draw, 9);
-        if !self.is_held(rt, head) {
+        if !self.begins_chain(rt, head) {
             return self.start(rt, small, choice);
         }
         match choice {
@@ -168,7 +167,7 @@ impl Twin {
             1 => self.divide(rt, head),
             2 | 3 => self.take_out(rt, head, small),
             4 => self.free_second(rt, head),
-            _ if head != other && self.is_held(rt, other) => self.join(rt, head, other),
+            _ if head != other && self.begins_chain(rt, other) => self.join(rt, head, other),
             _ => Ok(()),
         }
     }

@@ -2,7 +2,7 @@
 use Rattle.std.proofs.Common.{◌≡◌, ℕ, ◌+◌, ◌≤◌, true, List, length, set, Some, None, Ok, refl, sym, ap, ◌∙◌, subst, arith, get_or-set_same, length-set}
 use Rattle.strm_data.specs.CountedStore.{CountedStore, IsKept}
 use Rattle.strm_data.specs.DataStore.{DataStore, capacity_of, data_block_at, overwritten, with_bytes_written}
-use Rattle.strm_data.proofs.Tables.{length-overwritten}
+use Rattle.strm_data.proofs.lists.Tables.{length-overwritten}
 use Rattle.strm_mblk.specs.declared.blocks.Fields.{Fields}
 use Rattle.strm_mblk.specs.declared.token.TokenValue.{TokenValue}
 use Rattle.strm_mblk.specs.Arena.{Arena, has, held_at, names_of, shelved_blocks}
@@ -45,7 +45,7 @@ module _ (id : ℕ) (s : CountedStore) (fields : List Fields) (v : NodeLists) (f
     rooms = subst (HasRooms s.store) (sym (ap (λ (c : CountedStore). c.store) new_is)) (rooms-written s.store was.data_number (was.offset + was.len) bytes room)
 
     placed : IsPlaced new.store x
-    placed = subst (IsPlaced new.store) (sym x_is) (record { there = omega (arith, at.placed.there, rooms.many); within = omega (arith, room, rooms.room was.data_number) })
+    placed = subst (IsPlaced new.store) (sym x_is) (record { there = omega (arith, at.placed.there, rooms.many); within = omega (arith, room, rooms.room was.data_number); banded = at.placed.banded })
 
     named : x.data_number ≡ was.data_number
     named = ap (λ (f : Fields). f.data_number) x_is

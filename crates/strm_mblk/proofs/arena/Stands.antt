@@ -6,14 +6,16 @@ use Rattle.std.proofs.lemmas.Bool.{cases_lt, cond-true, lt-ltb, cases_eq, false_
 use Rattle.std.proofs.lemmas.List.{get_or_past}
 use Rattle.std.proofs.lemmas.List.Sums.{fails_before_first}
 use Rattle.strm_links.specs.Rows.{IsApart, has}
-use Rattle.strm_links.proofs.OneList.{has_cases}
+use Rattle.strm_links.proofs.lists.OneList.{has_cases}
 use Rattle.strm_data.specs.DataStore.{times}
-use Rattle.strm_data.proofs.Times.{times-cons, times_here, times_other}
+use Rattle.strm_links.proofs.lists.Counting.{times-cons, times_here, times_other}
 use Rattle.strm_mblk.specs.Arena.{Arena, IsParted, shelf_at}
 use Rattle.strm_mblk.specs.Block.{Message, head_of}
 use Rattle.strm_mblk.specs.Shelves.{heads_at, shelf_of, stands_on}
-use Rattle.strm_mblk.proofs.arena.Counts.{blocks_in_adds, count_adds, times-all}
-use Rattle.strm_mblk.proofs.arena.Moves.{head_counts, number_is, one_most}
+use Rattle.strm_mblk.proofs.lists.Additive.{count_adds}
+use Rattle.strm_mblk.proofs.arena.Counts.{blocks_in_adds, times-all}
+use Rattle.strm_mblk.proofs.lists.Numbers.{one_most}
+use Rattle.strm_mblk.proofs.arena.Moves.{head_counts, number_is}
 
 module _ (a : Arena) (s h : ℕ) (there : stands_on a s h ≡ true) where
   pub shelf_of-there : is_some (shelf_of a h) ≡ true

@@ -9,8 +9,8 @@ use Rattle.strm_data.specs.declared.class_spec.ClassSpec.{ClassSpec}
 use Rattle.strm_data.specs.Classes.{are_lawful, each_has_blocks, sizes_rise, total_of}
 use Rattle.strm_data.specs.CountedStore.{CountedStore, IsKept, count_of, opening_counted}
 use Rattle.strm_data.specs.DataStore.{opening_store}
-use Rattle.strm_data.proofs.Opening.{length-blocks_from}
-use Rattle.strm_data.proofs.Repeated.{copies-at, flat_map-replicate, map-replicate}
+use Rattle.strm_data.proofs.store.Opening.{length-blocks_from}
+use Rattle.strm_data.proofs.lists.Repeated.{copies-at, flat_map-replicate, map-replicate}
 use Rattle.strm_data.specs.Limits.{most_classes}
 use Rattle.strm_mblk.specs.declared.blocks.Fields.{Fields}
 use Rattle.strm_mblk.specs.Arena.{blocks_in, names_of, opening_arena, shelved_blocks}
@@ -57,6 +57,7 @@ module _ (id mblks shelves : ℕ) (classes : List ClassSpec) (s : CountedStore) 
     placed = λ n within. subst (IsPlaced s.store) (sym (ap (λ fs. fields_at fs n) fields_are ∙ copies-at mblks n no_fields)) (record {
       there = omega (arith, ap (λ (t : CountedStore). length t.store.blocks) s_is, length-blocks_from 0 classes, some_total classes lawful);
       within = omega arith;
+      banded = omega arith;
     });
     counts = λ d. ap (λ t. count_of t d) s_is ∙ copies-at (length (opening_store classes).blocks) d 0 ∙ sym (ap (λ a. names_of a d) opening_shows ∙ ap (count_by _) no_blocks);
   }

@@ -1,5 +1,5 @@
 -- Parts of a list, and a part put in the place of another.
-use Rattle.std.proofs.Common.{◌≡◌, ℕ, zero, suc, ◌+◌, ◌-◌, ◌≤◌, List, [], ◌∷◌, ◌++◌, length, take, drop, Some, None, refl, sym, ap, ◌∙◌, inl, inr, arith}
+use Rattle.std.proofs.Common.{◌≡◌, ℕ, zero, suc, ◌+◌, ◌-◌, ◌≤◌, List, [], ◌∷◌, ◌++◌, length, take, drop, Some, sym, ap, ◌∙◌, inl, inr, arith}
 use Rattle.std.specs.Prelude.{min, slice_get}
 use Rattle.std.proofs.lemmas.Bool.{cases_lt}
 use Rattle.std.proofs.lemmas.List.{append-nil, drop-drop, drop-take, drop_all, length-drop, take-take}
@@ -12,13 +12,6 @@ drop_from [] k x is = absurd (none-some x is)
 drop_from (y ∷ xs) zero x is = ap (λ z. z ∷ xs) (same_Some y x is)
 drop_from (y ∷ xs) (suc k) x is =
     drop_from xs k x is ∙ ap (λ j. x ∷ drop j (y ∷ xs)) (let e : suc (k + 1) ≡ suc k + 1 = omega arith in e)
-
--- and from behind the last on
-pub drop_past : {X : Type 0} (xs : List X) (k : ℕ) → slice_get xs k ≡ None → drop k xs ≡ []
-drop_past [] zero none = refl
-drop_past [] (suc k) none = refl
-drop_past (x ∷ xs) zero none = absurd (none-some x (sym none))
-drop_past (x ∷ xs) (suc k) none = drop_past xs k none
 
 -- a part of a part of a list, as a part of the list
 pub take-part : {X : Type 0} (n at len from : ℕ) (xs : List X) → n ≤ len - min at len → take n (drop (from + min at len) xs) ≡ take n (drop at (take len (drop from xs)))

@@ -8,7 +8,7 @@ use Rattle.std.proofs.lemmas.Option.{none-some, same_Some}
 use Rattle.strm_links.specs.Rows.{first}
 use Rattle.strm_data.specs.CountedStore.{CountedStore, IsKept, count_of}
 use Rattle.strm_data.specs.DataStore.{DataStore, times}
-use Rattle.strm_data.proofs.Times.{times-append, times-cons, times_here, times_other}
+use Rattle.strm_links.proofs.lists.Counting.{times-append, times-cons, times_here, times_other}
 use Rattle.strm_mblk.specs.declared.blocks.Fields.{Fields}
 use Rattle.strm_mblk.specs.Arena.{Arena, held_at, names_of, shelved_blocks, with_held}
 use Rattle.strm_mblk.specs.Block.{Block, Message, head_of, is_naming}
@@ -16,12 +16,13 @@ use Rattle.strm_mblk.specs.BlockCalls.{held_under, renumbered}
 use Rattle.strm_mblk.specs.BlocksLayout.{IsFilled, IsPlaced, arena_of, block_of, fields_at, fields_of, message_of, no_fields, with_fields}
 use Rattle.strm_mblk.specs.Messages.{blocks_held, blocks_on, blocks_of}
 use Rattle.strm_mblk.specs.NodeLists.{IsNodesParted, NodeLists}
-use Rattle.strm_mblk.proofs.making.Begun.{alike_each, first_rest}
-use Rattle.strm_mblk.proofs.making.BegunLists.{after_begin_all, free_room, free_unheld}
-use Rattle.strm_mblk.proofs.arena.Counts.{count_adds, held_moves}
-use Rattle.strm_mblk.proofs.arena.Moves.{count_one, one_most}
+use Rattle.strm_mblk.proofs.layout.Shown.{AreAlike, alike_each, held-alike, held_at-seen, nodes_in, shelves-alike}
+use Rattle.strm_mblk.proofs.lists.Numbers.{first_rest, one_most}
+use Rattle.strm_mblk.proofs.chaining.Standing.{free_room, free_unheld}
+use Rattle.strm_mblk.proofs.making.BegunLists.{after_begin_all}
+use Rattle.strm_mblk.proofs.lists.Additive.{count_adds, count_one}
+use Rattle.strm_mblk.proofs.arena.Counts.{held_moves}
 use Rattle.strm_mblk.proofs.layout.Rooms.{HasRooms, placed-over, placed-set}
-use Rattle.strm_mblk.proofs.layout.Shown.{AreAlike, held-alike, held_at-seen, nodes_in, shelves-alike}
 
 -- ---- several message blocks say something else
 

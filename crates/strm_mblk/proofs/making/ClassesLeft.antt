@@ -12,8 +12,8 @@ use Rattle.strm_data.specs.declared.refusal.Refusal.TheVariants.{NoData, TooLarg
 use Rattle.strm_data.specs.Classes.{fits_a_class}
 use Rattle.strm_data.specs.CountedStore.{CountedStore, IsKept}
 use Rattle.strm_data.specs.DataStore.{DataStore, IsTakenFrom, class_infos, class_spec_at, fitting, free_of, no_class_spec, take_data}
-use Rattle.strm_data.proofs.Fitting.{IsTakenFrom-found, fitting_from, fitting_from_next, if_fits, if_fits-empty, if_fits-small}
-use Rattle.strm_data.proofs.Kept.{length-class_infos}
+use Rattle.strm_data.proofs.store.Fitting.{IsTakenFrom-found, fitting_from, fitting_from_next, if_fits, if_fits-empty, if_fits-small}
+use Rattle.strm_data.proofs.store.Kept.{length-class_infos}
 use Rattle.strm_mblk.specs.Copying.{AreLeft, IsLeft}
 
 -- ---- what is told of a class

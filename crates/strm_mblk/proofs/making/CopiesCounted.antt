@@ -9,20 +9,20 @@ use Rattle.strm_data.specs.Classes.{fits_a_class}
 use Rattle.std.proofs.lemmas.List.Folds.{list_any_at}
 use Rattle.strm_data.specs.CountedStore.{CountedStore, IsKept, IsUnused, after_take}
 use Rattle.strm_data.specs.DataStore.{DataStore, IsTakenFrom, capacity_of, class_of, class_spec_at, data_block_at, free_of, no_class_spec, overwritten, take_data, with_data_taken, with_kind}
-use Rattle.strm_data.proofs.Kept.{IsKept-altered, IsKept-take, first_unused}
-use Rattle.strm_data.proofs.Tables.{length-overwritten}
+use Rattle.strm_data.proofs.store.Kept.{IsKept-altered, IsKept-take, first_unused}
+use Rattle.strm_data.proofs.lists.Tables.{length-overwritten}
 use Rattle.strm_mblk.specs.Block.{Block, bytes_of_block, kind_of}
 use Rattle.strm_mblk.specs.BlockCalls.{copied_into, copies}
 use Rattle.strm_mblk.specs.declared.blocks.Fields.{Fields}
 use Rattle.strm_mblk.specs.BlocksLayout.{block_at, message_of}
-use Rattle.strm_mblk.proofs.freeing.Dropping.{slice_get-take}
+use Rattle.strm_mblk.proofs.lists.Numbers.{slice_get-take}
 use Rattle.strm_mblk.proofs.lists.ListParts.{drop_from}
 use Rattle.strm_mblk.proofs.layout.Shown.{slice_get-mapped}
+use Rattle.strm_mblk.proofs.making.ClassesLeft.{takes_left, takes_none}
+use Rattle.strm_mblk.proofs.layout.Rooms.{HasRooms, rooms-kind, rooms-set, rooms-taken}
 use Rattle.std.specs.Prelude.{nat_le, option_map, slice_get}
 use Rattle.strm_mblk.specs.Copying.{AreLeft, IsLeft, with_copy}
 use Rattle.strm_mblk.specs.Given.{and_then, answer_map}
-use Rattle.strm_mblk.proofs.making.ClassesLeft.{takes_left, takes_none}
-use Rattle.strm_mblk.proofs.layout.Rooms.{HasRooms, rooms-kind, rooms-set, rooms-taken}
 
 -- ---- answers
 

@@ -11,7 +11,7 @@ use Rattle.strm_links.specs.Rows.{first}
 use Rattle.strm_data.specs.CountedStore.{CountedStore, IsKept, count_of}
 use Rattle.strm_data.specs.DataStore.{DataStore, times}
 use Rattle.strm_data.specs.declared.refusal.Refusal.TheVariants.{RefMax}
-use Rattle.strm_data.proofs.Fitting.{list_any-map}
+use Rattle.strm_data.proofs.store.Fitting.{list_any-map}
 use Rattle.strm_data.specs.Limits.{most_data_block_names}
 use Rattle.strm_mblk.specs.declared.blocks.Fields.{Fields}
 use Rattle.strm_mblk.specs.declared.token.TokenValue.{TokenValue}
@@ -24,8 +24,10 @@ use Rattle.strm_mblk.specs.NodeLists.{IsNodesParted, NodeLists, nodes_at}
 use Rattle.strm_mblk.proofs.making.BegunAll.{IsBegunAll, begins_all}
 use Rattle.strm_mblk.proofs.making.BegunBeside.{IsBeside, beside}
 use Rattle.strm_mblk.proofs.making.BegunLists.{after_begin_all}
-use Rattle.strm_mblk.proofs.freeing.Dropping.{naming-named, slice_get-take}
-use Rattle.strm_mblk.proofs.freeing.Freemsg.{enough, token_nodes}
+use Rattle.strm_mblk.proofs.lists.Numbers.{slice_get-take}
+use Rattle.strm_mblk.proofs.freeing.Dropping.{naming-named}
+use Rattle.strm_mblk.proofs.layout.Places.{token_nodes}
+use Rattle.strm_mblk.proofs.freeing.Freemsg.{enough}
 use Rattle.strm_mblk.proofs.making.Giving.{AreUsed, counts_given, store_given, used_part}
 use Rattle.strm_mblk.proofs.layout.Rewriting.{node_room}
 use Rattle.strm_mblk.proofs.layout.Rooms.{HasRooms}

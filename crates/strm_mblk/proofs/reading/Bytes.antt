@@ -5,7 +5,7 @@ use Rattle.std.proofs.Math.Seq.{drop-nil}
 use Rattle.std.proofs.lemmas.List.{drop_all, length-drop}
 use Rattle.std.proofs.lemmas.List.Sums.{sum_by-append}
 use Rattle.std.proofs.lemmas.Option.{none-some, same_Some}
-use Rattle.strm_data.proofs.Tables.{length-part}
+use Rattle.strm_data.proofs.lists.Tables.{length-part}
 use Rattle.strm_data.specs.CountedStore.{CountedStore}
 use Rattle.strm_data.specs.DataStore.{DataStore, data_block_at}
 use Rattle.strm_mblk.specs.declared.blocks.Fields.{Fields}

@@ -1,5 +1,5 @@
 -- The lengths of a held message's blocks, summed up one by one.
-use Rattle.std.proofs.Common.{◌≡◌, ℕ, ◌+◌, ◌*◌, ◌^◌, ◌<◌, ◌≤◌, Bool, true, false, List, [], ◌∷◌, drop, length, Some, None, ap, ◌∙◌, arith}
+use Rattle.std.proofs.Common.{◌≡◌, ℕ, ◌+◌, ◌*◌, ◌^◌, ◌<◌, ◌≤◌, Bool, true, false, List, [], ◌∷◌, drop, length, Some, None, ap, ◌∙◌, arith, refl, subst, sym}
 use Rattle.std.specs.Prelude.{slice_get, sum_by, not, ◌||◌, if◌then◌else◌}
 use Rattle.strm_data.specs.declared.msg_type.MsgType.TheVariants.{MData}
 use Rattle.strm_data.specs.MsgType.{same_kind}
@@ -8,16 +8,16 @@ use Rattle.std.proofs.lemmas.List.Sums.{sum_by-append}
 use Rattle.strm_data.specs.DataStore.{DataStore}
 use Rattle.strm_data.specs.CountedStore.{CountedStore}
 use Rattle.strm_data.specs.Limits.{most_data_block_bytes}
+use Rattle.strm_links.specs.StrandLists.{StrandLists, strand_at}
 use Rattle.strm_mblk.specs.declared.blocks.Fields.{Fields}
 use Rattle.strm_mblk.specs.declared.token.TokenValue.{TokenValue}
 use Rattle.strm_mblk.specs.Arena.{Arena, has, message_at}
-use Rattle.strm_mblk.specs.BlocksLayout.{IsFilled, arena_of, block_at, message_of}
+use Rattle.strm_mblk.specs.BlocksLayout.{IsFilled, IsSummable, arena_of, block_at, message_of}
 use Rattle.strm_mblk.specs.Messages.{blocks_of}
 use Rattle.strm_mblk.specs.NodeLists.{NodeLists, nodes_at}
-use Rattle.strm_mblk.proofs.arena.Counts.{flat_map-set_adds, length_adds}
-use Rattle.strm_mblk.proofs.shelving.HeadSize.{len_most, size_most}
-use Rattle.strm_mblk.proofs.lists.ListParts.{drop_from, drop_past}
-use Rattle.strm_mblk.proofs.layout.Lawful.{all_there}
+use Rattle.strm_mblk.proofs.lists.Additive.{flat_map-set_adds, length_adds}
+use Rattle.strm_mblk.proofs.lists.ListParts.{drop_from}
+use Rattle.strm_mblk.proofs.layout.Lawful.{all_there, len_most, size_most}
 use Rattle.strm_mblk.proofs.arena.Moves.{held_within}
 use Rattle.strm_mblk.proofs.layout.Rewriting.{held_nodes}
 use Rattle.strm_mblk.proofs.layout.Shown.{message_at-seen}
@@ -28,10 +28,6 @@ use Rattle.strm_mblk.specs.Limits.{most_message_blocks}
 -- from a block on there is its own and what is behind it
 pub sum_from : {X : Type 0} (f : X → ℕ) (xs : List X) (k : ℕ) (x : X) → slice_get xs k ≡ Some x → sum_by f (drop k xs) ≡ f x + sum_by f (drop (k + 1) xs)
 sum_from f xs k x is = omega (arith, ap (sum_by f) (drop_from xs k x is), sum_by-append f (x ∷ []) (drop (k + 1) xs))
-
--- behind the last there is nothing
-pub sum_past : {X : Type 0} (f : X → ℕ) (xs : List X) (k : ℕ) → slice_get xs k ≡ None → sum_by f (drop k xs) ≡ 0
-sum_past f xs k none = ap (sum_by f) (drop_past xs k none)
 
 -- no more counts than there is
 pub counted_most : (data_alone : Bool) (s : DataStore) (m : Message) → sum_by (len_counted data_alone s) m ≤ size_of m
@@ -51,6 +47,22 @@ counted_most data_alone s (b ∷ m) =
 
     one : (t : Bool) → len_counted t s b ≤ b.len
     one t = part (same_kind (kind_of s b) MData || not t)
+
+-- and where all count, as much
+pub all_counted : (s : DataStore) (m : Message) → sum_by (len_counted false s) m ≡ size_of m
+all_counted s [] = refl
+all_counted s (b ∷ m) =
+    omega (
+      arith,
+      sum_by-append (len_counted false s) (b ∷ []) m,
+      sum_by-append (λ (c : Block). c.len) (b ∷ []) m,
+      one (same_kind (kind_of s b) MData),
+      all_counted s m,
+    )
+  where
+    one : (t : Bool) → (if t || true then b.len else 0) ≡ b.len
+    one true = refl
+    one false = refl
 
 -- a held message has so many bytes at most
 pub message_small : (id : ℕ) (s : CountedStore) (fields : List Fields) (v : NodeLists) → IsFilled s fields v (arena_of id s.store fields v) → (t : TokenValue) → has (arena_of id s.store fields v) t ≡ true
@@ -82,3 +94,13 @@ nodes_small id s fields v filled a is t had =
       message_small id s fields v filled t (ap (λ x. has x t) is ∙ had),
       ap size_of (message_at-seen id s.store fields v t.head),
     )
+
+-- the lengths of a message can be summed up along its strand
+pub summable : (id : ℕ) (s : CountedStore) (fields : List Fields) (v : NodeLists) → IsFilled s fields v (arena_of id s.store fields v) → (strands : StrandLists) → length strands.chains ≡ length v.held
+    → (h : ℕ) (ns : List ℕ) → strand_at strands h ≡ ns → slice_get ns 0 ≡ Some h → size_of (message_of fields ns) < 2 ^ 32 → IsSummable strands fields s.store h
+summable id s fields v filled strands many h ns is begins small = record {
+  begins = ap (λ xs. slice_get xs 0) is ∙ begins;
+  listed = filled.listed ∙ sym many;
+  named = λ n within. (filled.placed n within).there;
+  small = subst (λ xs. size_of (message_of fields xs) < 2 ^ 32) (sym is) small;
+}

@@ -1,35 +1,61 @@
 //! How many bytes a held message has, and which.
 ghost use Rattle.std.specs.Prelude.{◌≡◌, ◌<◌, ◌-◌, ◌++◌, ℕ, IsTrue, drop, length, min, sum_by, take};
 ghost use Rattle.strm_mblk.specs.Arena.{has, message_at};
-ghost use Rattle.strm_mblk.specs.BlocksLayout.{IsPlaced, block_of};
+ghost use Rattle.strm_links.specs.StrandLists.{strand_at};
+ghost use Rattle.strm_mblk.specs.BlocksLayout.{IsPlaced, IsSummable, block_of, message_of};
 ghost use Rattle.strm_mblk.specs.Block.{bytes_of, bytes_of_block, data_size_of, len_counted, size_of};
 
 use super::{Blocks, Fields};
 use crate::token::Token;
-use strm_data::MsgType;
+use strm_data::{Data, MsgType};
+use strm_links::Strands;
+
+// The length of a message block that says so, where all count, or those of type M_DATA alone and it is one.
+fn length_of(stored: &Data, fields: Fields, data_alone: bool) -> u32
+    requires { fields.data_number < length stored.now.store.blocks }
+    ensures { (n : ℕ) → result ≡ len_counted data_alone stored.now.store (block_of n fields) }
+{
+    if !data_alone {
+        return fields.len;
+    }
+    let is_data = stored.kind(fields.data_number) == MsgType::MData;
+    if is_data { fields.len } else { 0 }
+}
+
+// The lengths of a message's blocks, of all or of those of type M_DATA alone, summed up. Takes as many steps as there are.
+pub(super) fn sum_of_lengths(
+    strands: &Strands,
+    blocks: &[Fields],
+    stored: &Data,
+    head: u32,
+    data_alone: bool,
+) -> u32
+    requires { IsSummable strands.now blocks.now stored.now.store head }
+    ensures { result ≡ sum_by (len_counted data_alone stored.now.store) (message_of blocks.now (strand_at strands.now head)) }
+{
+    let count = strands.len(head);
+    let mut sum = 0;
+    let mut node = head;
+    for _block in 0..count {
+        sum += length_of(stored, blocks[node as usize], data_alone);
+        node = strands.next(node).unwrap_or(node);
+    }
+    sum
+}
 
 impl Blocks {
-    // The length of a message block that says so, where all count, or those of type M_DATA alone and it is one.
-    fn length_of(&self, fields: Fields, data_alone: bool) -> u32
-        requires { fields.data_number < length self.now.store.blocks }
-        ensures { (n : ℕ) → result ≡ len_counted data_alone self.now.store (block_of n fields) }
-    {
-        let is_data = self.data.kind(fields.data_number) == MsgType::MData;
-        if is_data | !data_alone { fields.len } else { 0 }
-    }
-
-    // The lengths of a message's blocks, of all or of those of type M_DATA alone, summed up.
-    fn sum_of_lengths(&self, token: &Token, data_alone: bool) -> u32
+    // The same of a held message.
+    fn sum_of_held(&self, token: &Token, data_alone: bool) -> u32
         requires { IsTrue (has self.now token.now) }
         ensures { result ≡ sum_by (len_counted data_alone self.now.store) (message_at self.now token.now.head) }
     {
-        let mut sum = 0;
-        let mut node = token.head();
-        for _block in 0..token.blocks() {
-            sum += self.length_of(self.blocks[node as usize], data_alone);
-            node = self.chains.onward(node);
-        }
-        sum
+        sum_of_lengths(
+            self.chains.strands(),
+            &self.blocks,
+            &self.data,
+            token.head(),
+            data_alone,
+        )
     }
 
     /// How many bytes a message has, over all its blocks. Takes as many steps as it has blocks. Nothing changes.
@@ -37,7 +63,7 @@ impl Blocks {
         requires { IsTrue (has self.now token.now) }
         ensures { result ≡ size_of (message_at self.now token.now.head) }
     {
-        self.sum_of_lengths(token, false)
+        self.sum_of_held(token, false)
     }
 
     /// How many bytes a message has in its blocks of type M_DATA. Takes as many steps as it has blocks. Nothing changes.
@@ -45,7 +71,7 @@ impl Blocks {
         requires { IsTrue (has self.now token.now) }
         ensures { result ≡ data_size_of self.now.store (message_at self.now token.now.head) }
     {
-        self.sum_of_lengths(token, true)
+        self.sum_of_held(token, true)
     }
 
     // Copies the bytes of a message block that says so, from place `at` on, as far as there are bytes and room for them,

@@ -17,7 +17,7 @@ pub(crate) fn is_on(chains: &Chains, shelf: u32, head: u32) -> bool
 
 // The free message blocks are these, in this order.
 pub(crate) fn assert_free(rt: &impl Abort, chains: &Chains, free: &[u32]) {
-    let mut at = chains.strands.front();
+    let mut at = chains.strands.first_free();
     for number in free {
         let node = at.expect(rt, "a message block is not free");
         assert!(rt; node == *number);

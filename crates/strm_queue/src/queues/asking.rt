@@ -1,4 +1,4 @@
-//! What is asked of queues, and their marks and the run list for callers.
+//! What is asked of queues, and their flags and the run list for callers.
 ghost use Rattle.std.specs.Prelude.{◌≡◌};
 ghost use Rattle.strm_mblk.specs.Arena.{Arena};
 ghost use Rattle.strm_mblk.specs.Given.{answer_of, value_after};
@@ -63,8 +63,8 @@ impl Queues {
     }
 
     /// Whether a message of a band may be put: asked of the first queue with a service procedure from this one on, or of
-    /// the last one there. Where the band has as many bytes as the high water mark there, it is full: its wanted mark is
-    /// set, and the answer is false. Takes a step for each queue that is passed.
+    /// the last one there. Where the band has at least as many bytes as the high water mark there, it is full: its wanted
+    /// mark is set, and the answer is false. Takes a step for each queue that is passed.
     ///
     /// Refused as `NoSuchQueue` where there is no such queue; nothing changes then.
     pub fn bcanput(&mut self, blocks: &Blocks, queue: u8, band: u8) -> Result<bool, Refusal>

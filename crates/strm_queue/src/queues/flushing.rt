@@ -1,9 +1,10 @@
 //! Messages are flushed.
-ghost use Rattle.std.specs.Prelude.{◌≡◌, ◌<◌, ◌∷◌, ◌++◌, ℕ, IsSome, IsTrue, List, filter, length, map, not};
+ghost use Rattle.std.specs.Prelude.{◌≡◌, ◌<◌, [], ◌∷◌, ◌++◌, ℕ, IsSome, IsTrue, List, filter, length, map, not};
 ghost use Rattle.std.specs.Option.{ForSome};
 ghost use Rattle.strm_links.specs.Rows as rows;
 ghost use Rattle.strm_mblk.specs.Arena.{shelf_at, with_shelf};
 ghost use Rattle.strm_mblk.specs.Block.{Message, head_of};
+ghost use Rattle.strm_mblk.specs.Frame.{LeavesOthers};
 ghost use Rattle.strm_mblk.specs.Given.{answer_of, value_after};
 ghost use Rattle.strm_mblk.specs.Shelves.{shelf_of, stands_on};
 ghost use Rattle.strm_queue.specs.Flush.{carries_data, is_flushed, is_picked, with_freed};
@@ -43,23 +44,26 @@ fn takes(blocks: &Blocks, head: BlockNo, flush: Flush) -> bool
 
 impl Queues {
     /// Frees the messages of a queue front to back: all, or those that carry data. What stays keeps its place and enables
-    /// nothing; a band that has room again may enable a queue behind. Takes a step for each message, two for each block that
-    /// is freed, and one for each wanted band of the queue.
+    /// nothing. Then the queue is settled, as by `getq`: a wanted band that has at most as many bytes as its low water mark
+    /// loses its wanted mark, and the nearest queue behind with a service procedure is enabled. Takes a step for each
+    /// message, two for each block that is freed, and one for each wanted band of the queue.
     ///
     /// Refused as `NoSuchQueue` where there is no such queue; nothing changes then.
     pub fn flushq(&mut self, blocks: &mut Blocks, queue: u8, flush: Flush) -> Result<(), Refusal>
         requires { Agrees self.old blocks.old }
         ensures after { together self.new blocks.new ≡ value_after (together self.old blocks.old) (model.flushq queue flush (together self.old blocks.old)) }
         ensures answer { result ≡ answer_of (model.flushq queue flush (together self.old blocks.old)) }
+        ensures others { LeavesOthers [] blocks.old blocks.new }
         ensures agrees { Agrees self.new blocks.new }
     {
         self.flush_band(blocks, queue, None, flush)
     }
 
     /// Frees the messages of one band of a queue, front to back: all of them, or those that carry data. High priority
-    /// messages are of band 0. What stays keeps its place and enables nothing; a band that has room again may enable a
-    /// queue behind. Takes a step for each message of the band, two for each block that is freed, and one for each wanted band
-    /// of the queue.
+    /// messages are of band 0. What stays keeps its place and enables nothing. Then the queue is settled, as by `getq`: a
+    /// wanted band that has at most as many bytes as its low water mark loses its wanted mark, and the nearest queue behind
+    /// with a service procedure is enabled. Takes a step for each message of the band, two for each block that is freed, and
+    /// one for each wanted band of the queue.
     ///
     /// Refused as `NoSuchQueue` where there is no such queue; nothing changes then.
     pub fn flushband(
@@ -72,12 +76,14 @@ impl Queues {
         requires { Agrees self.old blocks.old }
         ensures after { together self.new blocks.new ≡ value_after (together self.old blocks.old) (model.flushband queue band flush (together self.old blocks.old)) }
         ensures answer { result ≡ answer_of (model.flushband queue band flush (together self.old blocks.old)) }
+        ensures others { LeavesOthers [] blocks.old blocks.new }
         ensures agrees { Agrees self.new blocks.new }
     {
         self.flush_band(blocks, queue, Some(band), flush)
     }
 
     // Frees the messages of a queue, or of one band of it, that a flush takes.
+    #[tactic(auto, using(crate::proofs::moving::Others::others_same))]
     fn flush_band(
         &mut self,
         blocks: &mut Blocks,
@@ -88,6 +94,7 @@ impl Queues {
         requires { Agrees self.old blocks.old }
         ensures after { together self.new blocks.new ≡ value_after (together self.old blocks.old) (model.flushed queue band flush (together self.old blocks.old)) }
         ensures answer { result ≡ answer_of (model.flushed queue band flush (together self.old blocks.old)) }
+        ensures others { LeavesOthers [] blocks.old blocks.new }
         ensures agrees { Agrees self.new blocks.new }
     {
         if !self.has_queue(queue) {

@@ -1,6 +1,7 @@
 //! Messages are taken off queues.
 ghost use Rattle.std.specs.Prelude.{◌≡◌, IfOk, IfSome, IsTrue, None, option_map};
 ghost use Rattle.strm_mblk.specs.Arena.{has, held_at, token_of};
+ghost use Rattle.strm_mblk.specs.Frame.{LeavesOthers, head_answered, heads_answered};
 ghost use Rattle.strm_mblk.specs.Given.{value_after, answer_map, answer_of};
 ghost use Rattle.strm_queue.specs.QueueCalls as model;
 ghost use Rattle.strm_queue.specs.QueuedBlocks.{Agrees, together};
@@ -11,10 +12,14 @@ use strm_data::Refusal;
 use strm_mblk::{Blocks, Token};
 
 impl Queues {
-    /// Takes the first message off a queue, or nothing where the queue is empty, and settles it. Takes a step for each block
-    /// of the message, and for each wanted band of the queue.
+    /// Takes the first message off a queue, clears its want-to-read mark, and settles it: each wanted band that has at most
+    /// as many bytes as its low water mark loses its wanted mark, and where one does, the nearest queue behind with a
+    /// service procedure is enabled. Takes a step for each block of the message, and for each wanted band of the queue.
+    ///
+    /// Where the queue is empty, it gives nothing and sets the want-to-read mark: somebody wants to read from it.
     ///
     /// Refused as `NoSuchQueue` where there is no such queue; nothing changes then.
+    #[tactic(auto, using(crate::proofs::moving::Others::others_same))]
     pub fn getq(&mut self, blocks: &mut Blocks, queue: u8) -> Result<Option<Token>, Refusal>
         requires { Agrees self.old blocks.old }
         ensures after { together self.new blocks.new ≡ value_after (together self.old blocks.old) (model.getq queue (together self.old blocks.old)) }
@@ -22,6 +27,8 @@ impl Queues {
         // The token is of these blocks, and no held message had its head.
         ensures had { IfOk result (λ given. IfSome given (λ token. IsTrue (has blocks.new token))) }
         ensures unheld { IfOk result (λ given. IfSome given (λ token. held_at blocks.old token.head ≡ None)) }
+        // All other held messages are as they were.
+        ensures others { LeavesOthers (heads_answered result) blocks.old blocks.new }
         ensures agrees { Agrees self.new blocks.new }
     {
         blocks.lawful();
@@ -38,11 +45,14 @@ impl Queues {
         Ok(Some(token))
     }
 
-    /// Takes the message at `place`, counted from 0, off a queue, and settles it. Takes `place` steps, and one for each block
-    /// of the message and for each wanted band of the queue.
+    /// Takes the message at `place`, counted from 0, off a queue, and settles it, as `getq` does: a wanted band that has at
+    /// most as many bytes as its low water mark loses its wanted mark, and the nearest queue behind with a service procedure
+    /// is enabled. The want-to-read mark stays. Takes `place` steps, and one for each block of the message and for each wanted
+    /// band of the queue.
     ///
     /// Refused as `NoSuchQueue` where there is no such queue, then as `NoSuchPlace` where it has no such message; nothing
     /// changes then.
+    #[tactic(auto, using(crate::proofs::moving::Others::others_same))]
     pub fn rmvq(&mut self, blocks: &mut Blocks, queue: u8, place: u32) -> Result<Token, Refusal>
         requires { Agrees self.old blocks.old }
         ensures after { together self.new blocks.new ≡ value_after (together self.old blocks.old) (model.rmvq queue place (together self.old blocks.old)) }
@@ -50,6 +60,8 @@ impl Queues {
         // The token is of these blocks, and no held message had its head.
         ensures had { IfOk result (λ token. IsTrue (has blocks.new token)) }
         ensures unheld { IfOk result (λ token. held_at blocks.old token.head ≡ None) }
+        // All other held messages are as they were.
+        ensures others { LeavesOthers (head_answered result) blocks.old blocks.new }
         ensures agrees { Agrees self.new blocks.new }
     {
         blocks.lawful();

@@ -1,12 +1,14 @@
 //! Queues with message blocks of their own, beside plain ones: each call is made on both, which answer alike and are the
 //! same afterwards.
 ghost use Rattle.strm_queue.specs.QueueSpecs as queue_specs;
-ghost use Rattle.std.specs.Prelude.{◌<◌, IsTrue};
+ghost use Rattle.std.specs.Prelude.{◌≤◌, IsTrue};
 ghost use Rattle.strm_data.specs.Classes.{are_lawful};
+ghost use Rattle.strm_mblk.specs.Limits.{most_message_blocks};
 ghost use Rattle.strm_queue.specs.QueuedBlocks.{Agrees};
 
 use super::plain::{Entry, Plain};
 use super::{Draft, drafted, duplicated, free, opened};
+use crate::limits::HIGH_RANK;
 use crate::{QueueSpec, Queues};
 use std::alloc::Global;
 use std::process::Abort;
@@ -33,7 +35,7 @@ impl Bench {
         classes: &[ClassSpec],
         specs: &[QueueSpec],
     ) -> Bench
-        requires few_blocks { mblks < 4096 }
+        requires few_blocks { mblks ≤ most_message_blocks }
         requires classes { IsTrue (are_lawful classes.now) }
         requires queues { IsTrue (queue_specs.are_lawful specs.now) }
         ensures { Agrees result.queues result.blocks }
@@ -93,7 +95,7 @@ fn entry(rt: &impl Abort, blocks: &Blocks, token: &Token) -> Entry {
         Ok(first) => Entry {
             head: token.head(),
             rank: if first.kind.is_high_priority() {
-                256
+                HIGH_RANK
             } else {
                 u16::from(first.band)
             },

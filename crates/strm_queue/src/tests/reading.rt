@@ -5,7 +5,7 @@ ghost use Rattle.strm_mblk.specs.Shelves.{stands_on};
 ghost use Rattle.strm_queue.specs.QueuedBlocks.{Agrees};
 
 use crate::Queues;
-use crate::limits::BANDS;
+use crate::limits::{BANDS, HIGH_RANK};
 use crate::tests::plain::Entry;
 use std::process::Abort;
 use strm_mblk::{BlockNo, Blocks};
@@ -50,7 +50,7 @@ fn rank(blocks: &Blocks, queue: u8, head: BlockNo) -> u16
     requires { IsTrue (stands_on blocks.now queue head) }
 {
     if blocks.head_kind(head).is_high_priority() {
-        256
+        HIGH_RANK
     } else {
         u16::from(blocks.head_band(head))
     }
@@ -69,7 +69,7 @@ pub(super) fn counted(rt: &impl Abort, blocks: &Blocks, queue: u8, messages: u32
     requires { queue < length blocks.now.shelves }
 {
     let mut counts = [0u32; BANDS];
-    let mut passed = (256, None);
+    let mut passed = (HIGH_RANK, None);
     let mut at = first(blocks, queue);
     for _message in 0..messages {
         let Some(head) = at else {

@@ -1,5 +1,6 @@
 //! Thousands of calls beside plain queues, on queues of many shapes.
-ghost use Rattle.std.specs.Prelude.{◌<◌, IsTrue};
+ghost use Rattle.std.specs.Prelude.{◌<◌, ◌≤◌, IsTrue};
+ghost use Rattle.strm_mblk.specs.Limits.{most_message_blocks};
 ghost use Rattle.strm_queue.specs.QueueSpecs.{are_lawful};
 ghost use Rattle.strm_queue.specs.QueuedBlocks.{Agrees};
 
@@ -7,16 +8,17 @@ mod large;
 
 use super::bench::Bench;
 use super::{Draft, ranked};
+use crate::limits::{MOST_QUEUES, RANKS};
 use crate::{Flush, QueueSpec};
 use std::alloc::Global;
 use std::process::Abort;
 use strm_data::{ClassSpec, MsgType};
-use strm_mblk::{Census, Token};
+use strm_mblk::{Census, MOST_MESSAGE_BLOCKS, Token};
 
 // As many data blocks as there can be message blocks.
 const CLASSES: [ClassSpec; 1] = [ClassSpec {
     size: 8,
-    count: 4095,
+    count: MOST_MESSAGE_BLOCKS,
 }];
 
 // A queue that messages are handed past, and one with a service procedure.
@@ -51,7 +53,7 @@ const SHORT: [QueueSpec; 3] = [
 ];
 
 // As many queues as there may be, in two chains: of 14, and of 2.
-const MANY: [QueueSpec; 16] = [
+const MANY: [QueueSpec; MOST_QUEUES] = [
     QueueSpec {
         next: Some(1),
         ..PASSES
@@ -290,7 +292,11 @@ impl Bench {
         ensures { Agrees self.new.queues self.new.blocks }
     {
         for number in 0..many {
-            self.put_new(rt, 0, ranked(one.unwrap_or((number % 257) as u16)));
+            self.put_new(
+                rt,
+                0,
+                ranked(one.unwrap_or((number as usize % RANKS) as u16)),
+            );
         }
         self.assert_around(rt, 0);
     }
@@ -326,7 +332,7 @@ impl Bench {
 
 // So many messages of one rank, or of all, are put on queue 0; then come so many steps, and the messages are freed.
 fn run(rt: &impl Abort, alloc: Global, specs: &[QueueSpec], many: u32, one: Option<u16>, steps: u32)
-    requires few { many < 4096 }
+    requires few { many ≤ most_message_blocks }
     requires queues { IsTrue (are_lawful specs.now) }
 {
     let queues = specs.len() as u8;
@@ -338,7 +344,7 @@ fn run(rt: &impl Abort, alloc: Global, specs: &[QueueSpec], many: u32, one: Opti
 
 // So many steps with so many message blocks, in which queues behind are enabled so often at the least.
 fn flow(rt: &impl Abort, alloc: Global, specs: &[QueueSpec], many: u32, steps: u32, woken: u32)
-    requires few { many < 4096 }
+    requires few { many ≤ most_message_blocks }
     requires queues { IsTrue (are_lawful specs.now) }
 {
     let queues = specs.len() as u8;
@@ -365,7 +371,7 @@ fn all_ranks(rt: HostRuntime) {
 
 #[test]
 fn most_messages(rt: HostRuntime) {
-    run(&rt, rt.alloc(), &SHORT, 4095, None, 8);
+    run(&rt, rt.alloc(), &SHORT, MOST_MESSAGE_BLOCKS, None, 8);
 }
 
 #[test]

@@ -1,8 +1,9 @@
 use Rattle.std.proofs.Common.{◌≡◌, ◌-◌, [], length, get_or, replicate, set, refl, ap, ◌∙◌, arith}
 use Rattle.std.specs.List.{range_with_len}
 use Rattle.strm_links.specs.Rows.{Rows, holder}
+use Rattle.strm_links.proofs.lists.AllLists.{holder-empty}
 use Rattle.strm_data.specs.DataStore.{no_class_spec}
-use Rattle.strm_data.proofs.Filling.{length-filled, filled-next, filled-more, total_of_next, total_of_more, holder-empty}
+use Rattle.strm_data.proofs.layout.Filling.{length-filled, filled-next, filled-more, total_of_next, total_of_more}
 use Rattle.strm_data.proofs.data.free_lists.Goals as goal
 
 pub loop-number-init : goal.loop-number-init

@@ -2,7 +2,7 @@ use Rattle.std.proofs.Common.{◌≡◌, suc, ◌-◌, ◌+◌, arith, ap, sym, 
 use Rattle.std.proofs.lemmas.List.{get_or_read}
 use Rattle.strm_links.specs.declared.strands.Node.{Node}
 use Rattle.strm_links.specs.StrandLayout.{no_node, next_at, onward}
-use Rattle.strm_links.proofs.StrandLinks.{onward_some}
+use Rattle.strm_links.proofs.chaining.ChainLinks.{onward_some}
 use Rattle.strm_links.proofs.strands.node_behind.Goals as goal
 use Rattle.strm_links.proofs.strands.node_behind.Goals.{After-index-nodes-at}
 

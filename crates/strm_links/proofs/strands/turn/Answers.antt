@@ -1,9 +1,9 @@
 use Rattle.std.proofs.Common.{◌≡◌, ◌<◌, length, Some, IsSome, refl, arith, sym, ◌∙◌, subst, get_or}
 use Rattle.std.proofs.lemmas.Option.{same_Some}
 use Rattle.strm_links.specs.StrandLayout.{path}
-use Rattle.strm_links.proofs.OneList.{has_at}
-use Rattle.strm_links.proofs.StrandLinks.{has_first}
-use Rattle.strm_links.proofs.StrandFreed.{Turns-more, Turns-start, turn_at, turned_all}
+use Rattle.strm_links.proofs.lists.OneList.{has_at}
+use Rattle.strm_links.proofs.chaining.ChainLinks.{has_first}
+use Rattle.strm_links.proofs.chaining.Freed.{Turns-more, Turns-start, turn_at, turned_all}
 use Rattle.strm_links.proofs.strands.turn.Goals as goal
 use Rattle.strm_links.proofs.strands.turn.Goals.{After-number-number}
 

@@ -1,6 +1,6 @@
 use Rattle.std.proofs.Common.{Some}
 use Rattle.strm_links.specs.StrandLayout.{path}
-use Rattle.strm_links.proofs.StrandFreed.{Turns}
+use Rattle.strm_links.proofs.chaining.Freed.{Turns}
 use Rattle.strm_links.proofs.strands.turn.Given as goal
 
 abbrev pub invariant-loop-turned : goal.invariant-loop-turned

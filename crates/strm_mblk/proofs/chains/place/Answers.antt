@@ -1,7 +1,7 @@
 use Rattle.std.proofs.Common.{ap, sym, ◌∙◌, set}
 use Rattle.strm_links.specs.Rows.{list_at}
-use Rattle.strm_links.proofs.AllLists.{map-put_before}
-use Rattle.strm_mblk.specs.ChainLayout.{put_in}
+use Rattle.strm_links.proofs.lists.AllLists.{map-put_before}
+use Rattle.strm_links.specs.Rows.{put_in}
 use Rattle.strm_mblk.proofs.chains.place.Goals as goal
 
 pub returns-in-Some-clause-lists : goal.returns-in-Some-clause-lists

@@ -2,6 +2,7 @@
 ghost use Rattle.strm_queue.specs.QueuedBlocks.{Agrees};
 
 use super::Bench;
+use crate::limits::MOST_QUEUES;
 use crate::tests::reading::assert_on;
 use crate::{BandInfo, QueueInfo};
 use std::process::Abort;
@@ -68,7 +69,7 @@ impl Bench {
 
     // The run list is the same.
     fn assert_run(&self, rt: &impl Abort) {
-        for place in 0..17 {
+        for place in 0..=MOST_QUEUES as u32 {
             let expected = self.plain.run().get(place as usize).copied();
             assert_eq!(rt; self.queues.run_at(place), expected);
         }

@@ -1,5 +1,6 @@
 //! A message on a plain queue.
 use crate::Flush;
+use crate::limits::HIGH_RANK;
 use strm_data::MsgType;
 
 // A message on a queue: its head, its rank, how many bytes it has, and the type of its first block.
@@ -14,7 +15,7 @@ pub(in crate::tests) struct Entry {
 impl Entry {
     // High priority counts with band 0.
     pub(super) fn is_of_band(&self, band: u8) -> bool {
-        self.rank % 256 == u16::from(band)
+        self.rank % HIGH_RANK == u16::from(band)
     }
 
     // Whether a flush takes it, of one band or of all.

@@ -1,6 +1,6 @@
 //! A plain queue.
 use super::entry::Entry;
-use crate::limits::BANDS;
+use crate::limits::{BANDS, HIGH_RANK};
 use crate::{BandInfo, Flush, QueueInfo, QueueSpec};
 use std::alloc::Global;
 use std::process::Abort;
@@ -97,7 +97,7 @@ impl Queue {
         let place = as_high(&self.entries, entry.rank);
         insert(rt, &mut self.entries, place, entry);
         match entry.rank {
-            256 => true,
+            HIGH_RANK => true,
             0 => self.read && !self.off,
             _ => !self.off,
         }
@@ -108,7 +108,7 @@ impl Queue {
         let place = higher(&self.entries, entry.rank);
         insert(rt, &mut self.entries, place, entry);
         match entry.rank {
-            256 => true,
+            HIGH_RANK => true,
             _ => self.read && !self.off,
         }
     }

@@ -1,5 +1,6 @@
 //! What enables a queue, step by step.
 use crate::QueueSpec;
+use crate::limits::HIGH_RANK;
 use crate::tests::bench::Bench;
 use crate::tests::{QUEUE, ranked};
 use strm_data::ClassSpec;
@@ -23,10 +24,10 @@ fn switched_off(rt: HostRuntime) {
     bench.put_new(&rt, 0, ranked(3));
     bench.put_back_new(&rt, 0, ranked(0));
     bench.assert_waiting(&rt, &[]);
-    bench.put_new(&rt, 0, ranked(256));
+    bench.put_new(&rt, 0, ranked(HIGH_RANK));
     bench.assert_waiting(&rt, &[0]);
     assert_eq!(&rt; bench.next_service(&rt), Some(0));
-    bench.put_back_new(&rt, 0, ranked(256));
+    bench.put_back_new(&rt, 0, ranked(HIGH_RANK));
     bench.assert_waiting(&rt, &[0]);
     assert_eq!(&rt; bench.next_service(&rt), Some(0));
     assert_eq!(&rt; bench.next_service(&rt), None);
@@ -70,8 +71,8 @@ fn no_service_procedure(rt: HostRuntime) {
     bench.qenable(&rt, 1);
     bench.put_new(&rt, 1, ranked(0));
     bench.put_new(&rt, 1, ranked(3));
-    bench.put_new(&rt, 1, ranked(256));
-    bench.put_back_new(&rt, 1, ranked(256));
+    bench.put_new(&rt, 1, ranked(HIGH_RANK));
+    bench.put_back_new(&rt, 1, ranked(HIGH_RANK));
     bench.assert_waiting(&rt, &[]);
     // There is no queue 2.
     bench.qenable(&rt, 2);

@@ -9,10 +9,10 @@ use crate::tests::reading::counted;
 use crate::tests::{Draft, assert_put, drafted, free, opened, rank_of};
 use crate::{Flush, QueueSpec, Queues};
 use std::process::Abort;
-use strm_mblk::{Blocks, Census, Token};
+use strm_mblk::{Blocks, Census, MOST_MESSAGE_BLOCKS, Token};
 
 // How many messages there are.
-const MANY: u32 = 4095;
+const MANY: u32 = MOST_MESSAGE_BLOCKS;
 
 // A band is full with about half of its messages, and has room again with about a tenth of them.
 const QUEUES: [QueueSpec; 1] = [QueueSpec {

@@ -1,8 +1,8 @@
 use Rattle.std.proofs.Common.{arith, subst}
 use Rattle.strm_data.specs.CountedStore.{IsKept}
-use Rattle.strm_data.proofs.Laid.{class_within, capacity_is}
+use Rattle.strm_data.proofs.layout.Laid.{class_within, capacity_is}
 use Rattle.strm_data.proofs.data.Data.cap.Goals as goal
-use Rattle.strm_data.proofs.Kept.{capacity_range}
+use Rattle.strm_data.proofs.store.Kept.{capacity_range}
 
 pub index-requires-2 : goal.index-requires-2
 index-requires-2 c =

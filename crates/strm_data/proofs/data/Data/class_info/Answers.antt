@@ -1,6 +1,6 @@
 use Rattle.std.proofs.Common.{Some, [], get_or, length, sym, ap, ◌∙◌, arith}
 use Rattle.std.proofs.lemmas.Bool.{ltb-true, ltb-false}
-use Rattle.strm_data.proofs.Laid.{info_there, info_past, free_there}
+use Rattle.strm_data.proofs.layout.Laid.{info_there, info_past, free_there}
 use Rattle.strm_data.proofs.data.Data.class_info.Goals as goal
 
 pub returns-in_err-spec-clause-answer : goal.returns-in_err-spec-clause-answer

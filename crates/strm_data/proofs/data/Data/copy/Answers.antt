@@ -4,9 +4,9 @@ use Rattle.std.proofs.lemmas.List.{with_items_is}
 use Rattle.strm_data.specs.CountedStore.{IsKept}
 use Rattle.strm_data.specs.DataLayout.{block_at, bytes_of, class_at, counted, region_at, start_in, IsPlaced}
 use Rattle.strm_data.specs.DataStore.{capacity_of, data_block_at, overwritten, with_bytes_written}
-use Rattle.strm_data.proofs.Copying.{in_region, overwrites, part_is, IsPlaced-overwrites}
-use Rattle.strm_data.proofs.Kept.{IsKept-altered, capacity_range}
-use Rattle.strm_data.proofs.Tables.{length-overwritten, length-part}
+use Rattle.strm_data.proofs.layout.Copying.{in_region, overwrites, part_is, IsPlaced-overwrites}
+use Rattle.strm_data.proofs.store.Kept.{IsKept-altered, capacity_range}
+use Rattle.strm_data.proofs.lists.Tables.{length-overwritten, length-part}
 use Rattle.strm_data.proofs.data.Data.copy.Goals as goal
 use Rattle.strm_data.proofs.data.Data.copy.Goals.{After-deref_mut}
 

@@ -2,10 +2,10 @@ use Rattle.std.proofs.Common.{◌≢◌, ◌∷◌, [], get_or, set, refl, sym, 
 use Rattle.strm_links.specs.Rows.{Rows}
 use Rattle.strm_data.specs.CountedStore.{IsKept, IsInUse, without_name}
 use Rattle.strm_data.specs.DataLayout.{counted_store}
-use Rattle.strm_data.proofs.Alterations.{kept, lowered, released, IsLaidOut-altered}
-use Rattle.strm_data.proofs.Kept.{IsKept-without_name}
-use Rattle.strm_data.proofs.Laid.{count_is, list_within}
-use Rattle.strm_data.proofs.Members.{holder_unlisted}
+use Rattle.strm_data.proofs.layout.Alterations.{kept, lowered, released, IsLaidOut-altered}
+use Rattle.strm_data.proofs.store.Kept.{IsKept-without_name}
+use Rattle.strm_data.proofs.layout.Laid.{count_is, list_within}
+use Rattle.strm_data.proofs.layout.Members.{holder_unlisted}
 use Rattle.strm_data.proofs.data.Data.drop_name.Goals as goal
 use Rattle.strm_data.proofs.data.Data.drop_name.Goals.{After-index_mut-block}
 

@@ -5,7 +5,7 @@ use Rattle.strm_data.specs.Classes.{fits_a_class}
 use Rattle.strm_data.specs.CountedStore.{CountedStore}
 use Rattle.strm_data.specs.declared.class_spec.ClassSpec.{ClassSpec}
 use Rattle.strm_data.specs.declared.data.Class.{Class}
-use Rattle.strm_data.proofs.Fitting.{list_any-map}
+use Rattle.strm_data.proofs.store.Fitting.{list_any-map}
 use Rattle.strm_data.proofs.data.Data.has_class_for.Goals as goal
 
 pub returns : goal.returns

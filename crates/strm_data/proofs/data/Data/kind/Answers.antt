@@ -1,4 +1,4 @@
-use Rattle.strm_data.proofs.Laid.{kind_is}
+use Rattle.strm_data.proofs.layout.Laid.{kind_is}
 use Rattle.strm_data.proofs.data.Data.kind.Goals as goal
 
 pub returns : goal.returns

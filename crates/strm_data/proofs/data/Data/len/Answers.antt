@@ -1,6 +1,6 @@
 use Rattle.std.proofs.Common.{length, sym, ap, ◌∙◌}
 use Rattle.strm_data.specs.CountedStore.{CountedStore}
-use Rattle.strm_data.proofs.Laid.{length_seen}
+use Rattle.strm_data.proofs.layout.Laid.{length_seen}
 use Rattle.strm_data.proofs.data.Data.len.Goals as goal
 
 pub returns : goal.returns

@@ -1,7 +1,7 @@
 use Rattle.std.proofs.Common.{refl, sym, subst}
 use Rattle.strm_data.specs.CountedStore.{IsKept}
-use Rattle.strm_data.proofs.Alterations.{kept, named, IsLaidOut-altered}
-use Rattle.strm_data.proofs.Kept.{IsKept-with_name}
+use Rattle.strm_data.proofs.layout.Alterations.{kept, named, IsLaidOut-altered}
+use Rattle.strm_data.proofs.store.Kept.{IsKept-with_name}
 use Rattle.strm_data.proofs.data.Data.name.Goals as goal
 
 pub returns-clause-after : goal.returns-clause-after

@@ -1,5 +1,5 @@
 use Rattle.std.proofs.Common.{map, take}
-use Rattle.strm_data.proofs.Opened.{AreOpened}
+use Rattle.strm_data.proofs.layout.Opened.{AreOpened}
 use Rattle.strm_data.proofs.data.Data.new.Given as goal
 
 -- the classes so far are laid out

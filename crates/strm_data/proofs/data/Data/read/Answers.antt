@@ -1,7 +1,7 @@
 use Rattle.std.proofs.Common.{◌+◌, length, map, take, drop, sym, ap, ◌∙◌, arith}
 use Rattle.strm_data.specs.DataLayout.{start_in, region_at}
-use Rattle.strm_data.proofs.Laid.{class_within, region_within, first_is, capacity_is, region_is, range_within, bytes_are}
-use Rattle.strm_data.proofs.Tables.{part_of}
+use Rattle.strm_data.proofs.layout.Laid.{class_within, region_within, first_is, capacity_is, region_is, range_within, bytes_are}
+use Rattle.strm_data.proofs.lists.Tables.{part_of}
 use Rattle.strm_data.proofs.data.Data.read.Goals as goal
 
 pub index-requires-2 : goal.index-requires-2

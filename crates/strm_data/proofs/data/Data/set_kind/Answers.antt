@@ -1,7 +1,7 @@
 use Rattle.std.proofs.Common.{refl, sym, subst}
 use Rattle.strm_data.specs.CountedStore.{IsKept}
-use Rattle.strm_data.proofs.Alterations.{kept, retyped, IsLaidOut-altered}
-use Rattle.strm_data.proofs.Kept.{IsKept-altered}
+use Rattle.strm_data.proofs.layout.Alterations.{kept, retyped, IsLaidOut-altered}
+use Rattle.strm_data.proofs.store.Kept.{IsKept-altered}
 use Rattle.strm_data.proofs.data.Data.set_kind.Goals as goal
 
 pub returns-clause-after : goal.returns-clause-after

@@ -1,8 +1,8 @@
 use Rattle.std.proofs.Common.{◌≡◌, Some, refl, sym, ap, ◌∙◌, subst}
 use Rattle.strm_links.specs.Rows.{Rows, first, list_at}
 use Rattle.strm_data.specs.CountedStore.{IsKept}
-use Rattle.strm_data.proofs.Alterations.{unused, room, taken, IsLaidOut-altered}
-use Rattle.strm_data.proofs.Kept.{IsKept-take}
+use Rattle.strm_data.proofs.layout.Alterations.{unused, room, taken, IsLaidOut-altered}
+use Rattle.strm_data.proofs.store.Kept.{IsKept-take}
 use Rattle.strm_data.proofs.data.Data.take.Goals as goal
 use Rattle.strm_data.proofs.data.Data.take.Goals.{After-unwrap-number}
 

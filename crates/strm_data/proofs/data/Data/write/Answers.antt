@@ -4,10 +4,10 @@ use Rattle.std.proofs.lemmas.List.{map-set, with_items_is}
 use Rattle.strm_data.specs.CountedStore.{IsKept}
 use Rattle.strm_data.specs.DataLayout.{start_in, region_at, counted, IsPlaced}
 use Rattle.strm_data.specs.DataStore.{overwritten}
-use Rattle.strm_data.proofs.Alterations.{kept, written_is, IsPlaced-written_is}
-use Rattle.strm_data.proofs.Kept.{IsKept-altered}
-use Rattle.strm_data.proofs.Laid.{class_within, region_within, region_is, first_is, capacity_is, range_within}
-use Rattle.strm_data.proofs.Tables.{length-overwritten}
+use Rattle.strm_data.proofs.layout.Alterations.{kept, written_is, IsPlaced-written_is}
+use Rattle.strm_data.proofs.store.Kept.{IsKept-altered}
+use Rattle.strm_data.proofs.layout.Laid.{class_within, region_within, region_is, first_is, capacity_is, range_within}
+use Rattle.strm_data.proofs.lists.Tables.{length-overwritten}
 use Rattle.strm_data.proofs.data.Data.write.Goals as goal
 use Rattle.strm_data.proofs.data.Data.write.Goals.{After-deref_mut}
 

@@ -3,11 +3,11 @@ use Rattle.std.proofs.lemmas.Bool.{cond-true, cond-false, false_from_ne_true}
 use Rattle.strm_links.specs.declared.links.Ends.{Ends}
 use Rattle.strm_links.specs.Rows.{list_at, holder}
 use Rattle.strm_links.specs.Layout.{IsSound}
-use Rattle.strm_links.proofs.OneList.{is_some_of-same, some_of}
-use Rattle.strm_links.proofs.AllLists.{holder-append}
-use Rattle.strm_links.proofs.Arena.{seen, apart_all, closed, rows_of_is, ends_read, parts}
-use Rattle.strm_links.proofs.Changes.{Rewires-both}
-use Rattle.strm_links.proofs.Linking.{walked_within, front_within, back_within, both_len, appended}
+use Rattle.strm_links.proofs.lists.OneList.{is_some_of-same, some_of}
+use Rattle.strm_links.proofs.lists.AllLists.{holder-append}
+use Rattle.strm_links.proofs.linking.Shown.{seen, apart_all, closed, rows_of_is, ends_read, parts}
+use Rattle.strm_links.proofs.linking.Changes.{Rewires-both}
+use Rattle.strm_links.proofs.linking.Places.{walked_within, front_within, back_within, both_len, appended}
 use Rattle.strm_links.proofs.links.Links.append.Goals as goal
 use Rattle.strm_links.proofs.links.Links.append.Goals.{After-index_mut-2}
 

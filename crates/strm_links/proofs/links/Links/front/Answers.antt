@@ -1,6 +1,6 @@
 use Rattle.std.proofs.Common.{sym, ◌∙◌}
-use Rattle.strm_links.proofs.Arena.{seen, ends_read}
-use Rattle.strm_links.proofs.Linking.{IfSome-from, front_holder, holder_within}
+use Rattle.strm_links.proofs.linking.Shown.{seen, ends_read}
+use Rattle.strm_links.proofs.linking.Places.{IfSome-from, front_holder, holder_within}
 use Rattle.strm_links.proofs.links.Links.front.Goals as goal
 
 pub returns-clause-member : goal.returns-clause-member

@@ -1,10 +1,9 @@
 use Rattle.std.proofs.Common.{arith, ap, set, sym, subst, ◌∙◌, IsSome}
 use Rattle.std.proofs.lemmas.Option.{same_Some}
-use Rattle.strm_links.specs.Rows.{holder, list_at}
-use Rattle.strm_links.specs.Layout.{put_ahead}
-use Rattle.strm_links.proofs.AllLists.{map-put_before}
-use Rattle.strm_links.proofs.Arena.{seen, apart_all}
-use Rattle.strm_links.proofs.Linking.{held_within, held_list, left_list}
+use Rattle.strm_links.specs.Rows.{holder, list_at, put_in}
+use Rattle.strm_links.proofs.lists.AllLists.{map-put_before}
+use Rattle.strm_links.proofs.linking.Shown.{seen, apart_all}
+use Rattle.strm_links.proofs.linking.Places.{held_within, held_list, left_list}
 use Rattle.strm_links.proofs.links.Links.insert_before.Goals as goal
 
 pub index-requires : goal.index-requires
@@ -41,7 +40,7 @@ returns-clause-lists c =
     let rows = c.args.self.now in
     let l = c.unwrap-list.result in
     c.link.ensures.lists
-    ∙ (λ i. record rows { lists = (ap (λ next. set rows.lists l (put_ahead next c.args.node (list_at l rows))) c.some.ensures ∙ sym (map-put_before rows (apart_all _ _ _ sound) c.args.at c.args.node l holds)) i })
+    ∙ (λ i. record rows { lists = (ap (λ next. set rows.lists l (put_in next c.args.node (list_at l rows))) c.some.ensures ∙ sym (map-put_before rows (apart_all _ _ _ sound) c.args.at c.args.node l holds)) i })
 
 pub returns-clause-held : goal.returns-clause-held
 returns-clause-held c =

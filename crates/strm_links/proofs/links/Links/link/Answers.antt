@@ -2,11 +2,11 @@ use Rattle.std.proofs.Common.{List, ◌+◌, set, arith, ap, sym, ◌∙◌}
 use Rattle.std.specs.Option.{option_map_or}
 use Rattle.strm_links.specs.declared.links.Node.{Node}
 use Rattle.strm_links.specs.declared.links.Ends.{Ends}
-use Rattle.strm_links.specs.Rows.{list_at, holder}
-use Rattle.strm_links.specs.Layout.{previous_at, put_ahead, IsSound}
-use Rattle.strm_links.proofs.Arena.{seen, closed, rows_of_is, ends_read, parts}
-use Rattle.strm_links.proofs.Changes.{Rewires-both}
-use Rattle.strm_links.proofs.Linking.{joined_next_within, joined_ahead_within, joined_len, joined, joined_holder, other_holder}
+use Rattle.strm_links.specs.Rows.{list_at, holder, put_in}
+use Rattle.strm_links.specs.Layout.{previous_at, IsSound}
+use Rattle.strm_links.proofs.linking.Shown.{seen, closed, rows_of_is, ends_read, parts}
+use Rattle.strm_links.proofs.linking.Changes.{Rewires-both}
+use Rattle.strm_links.proofs.linking.Places.{joined_next_within, joined_ahead_within, joined_len, joined, joined_holder, other_holder}
 use Rattle.strm_links.proofs.links.Links.link.Goals as goal
 use Rattle.strm_links.proofs.links.Links.link.Goals.{After-index_mut-2}
 
@@ -35,7 +35,7 @@ overflow_add-ends c =
     omega (arith, len, sound.few_nodes, joined_len _ _ _ sound c.args.list c.args.node c.args.next c.requires.list c.requires.node c.requires.free c.requires.next)
 
 -- what the writes make of the fields
-changes : (c : After-index_mut-2) → IsSound c.set_previous.new.nodes.items (set c.self.inside.ends.items c.args.list (record c.set_previous.new.ends { len = c.set_previous.new.ends.len + 1 })) (record c.args.self.now { lists = set c.args.self.now.lists c.args.list (put_ahead c.args.next c.args.node (list_at c.args.list c.args.self.now)) })
+changes : (c : After-index_mut-2) → IsSound c.set_previous.new.nodes.items (set c.self.inside.ends.items c.args.list (record c.set_previous.new.ends { len = c.set_previous.new.ends.len + 1 })) (record c.args.self.now { lists = set c.args.self.now.lists c.args.list (put_in c.args.next c.args.node (list_at c.args.list c.args.self.now)) })
 changes c =
     let sound = seen _ _ _ c.self.view_is c.self.invariant in
     joined _ _ _ sound c.args.list c.args.node c.args.next c.requires.list c.requires.node c.requires.free c.requires.next

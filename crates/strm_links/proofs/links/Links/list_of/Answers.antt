@@ -1,7 +1,7 @@
 use Rattle.std.proofs.Common.{ap, sym, ◌∙◌}
 use Rattle.strm_links.specs.declared.links.Node.{Node}
-use Rattle.strm_links.proofs.Arena.{seen, node_read, holder-owner}
-use Rattle.strm_links.proofs.Linking.{IfSome-from}
+use Rattle.strm_links.proofs.linking.Shown.{seen, node_read, holder-owner}
+use Rattle.strm_links.proofs.linking.Places.{IfSome-from}
 use Rattle.strm_links.proofs.links.Links.list_of.Goals as goal
 
 pub returns-clause-value : goal.returns-clause-value

@@ -1,4 +1,4 @@
-use Rattle.strm_links.proofs.Arena.{closed, parts, rows_of_is, IsSound-new}
+use Rattle.strm_links.proofs.linking.Shown.{closed, parts, rows_of_is, IsSound-new}
 use Rattle.strm_links.proofs.links.Links.new.Goals as goal
 
 pub invariant_of-result : goal.invariant_of-result

@@ -1,4 +1,4 @@
-use Rattle.strm_links.proofs.Arena.{seen, parts}
+use Rattle.strm_links.proofs.linking.Shown.{seen, parts}
 use Rattle.strm_links.proofs.links.Links.parts_nodes.Goals as goal
 
 pub returns-clause-parting : goal.returns-clause-parting

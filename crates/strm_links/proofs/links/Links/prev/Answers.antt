@@ -1,7 +1,7 @@
 use Rattle.std.proofs.Common.{ap, sym, ◌∙◌}
 use Rattle.strm_links.specs.declared.links.Node.{Node}
-use Rattle.strm_links.proofs.Arena.{seen, node_read, previous_in-at}
-use Rattle.strm_links.proofs.Linking.{IfSome-from, previous_holder, previous_within}
+use Rattle.strm_links.proofs.linking.Shown.{seen, node_read, previous_in-at}
+use Rattle.strm_links.proofs.linking.Places.{IfSome-from, previous_holder, previous_within}
 use Rattle.strm_links.proofs.links.Links.prev.Goals as goal
 
 pub returns-clause-value : goal.returns-clause-value

@@ -1,8 +1,7 @@
 use Rattle.std.proofs.Common.{ap, set, ◌∙◌}
-use Rattle.strm_links.specs.Rows.{list_at}
-use Rattle.strm_links.specs.Layout.{put_ahead}
-use Rattle.strm_links.proofs.Arena.{seen, ends_read}
-use Rattle.strm_links.proofs.Linking.{front_holder, put_ahead-first, front_is}
+use Rattle.strm_links.specs.Rows.{list_at, put_in}
+use Rattle.strm_links.proofs.linking.Shown.{seen, ends_read}
+use Rattle.strm_links.proofs.linking.Places.{front_holder, put_in-first, front_is}
 use Rattle.strm_links.proofs.links.Links.push_front.Goals as goal
 
 pub link-requires-clause-next : goal.link-requires-clause-next
@@ -16,4 +15,4 @@ returns-clause-lists c =
     let xs = list_at c.args.list c.args.self.now in
     let front = front_is _ _ _ sound c.args.list c.requires.list _ (ends_read _ _ _ sound c.args.list _ c.requires.list c.index.ensures) in
     c.link.ensures.lists
-    ∙ (λ i. record c.args.self.now { lists = set c.args.self.now.lists c.args.list ((ap (λ next. put_ahead next c.args.node xs) front ∙ put_ahead-first c.args.node xs) i) })
+    ∙ (λ i. record c.args.self.now { lists = set c.args.self.now.lists c.args.list ((ap (λ next. put_in next c.args.node xs) front ∙ put_in-first c.args.node xs) i) })

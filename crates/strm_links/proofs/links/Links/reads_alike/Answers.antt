@@ -1,4 +1,4 @@
-use Rattle.strm_links.proofs.Arena.{seen, reads_forward, reads_backward}
+use Rattle.strm_links.proofs.linking.Shown.{seen, reads_forward, reads_backward}
 use Rattle.strm_links.proofs.links.Links.reads_alike.Goals as goal
 
 pub returns-clause-forward : goal.returns-clause-forward

@@ -4,10 +4,10 @@ use Rattle.strm_links.specs.declared.links.Node.{Node}
 use Rattle.strm_links.specs.declared.links.Ends.{Ends}
 use Rattle.strm_links.specs.Rows.{holder, without}
 use Rattle.strm_links.specs.Layout.{IsSound}
-use Rattle.strm_links.proofs.AllLists.{holder-remove}
-use Rattle.strm_links.proofs.Arena.{seen, apart_all, closed, rows_of_is, ends_read, parts}
-use Rattle.strm_links.proofs.Changes.{Rewires-both}
-use Rattle.strm_links.proofs.Linking.{held_within, held_node, held_list, left_list, left_previous, left_next, left_len, left}
+use Rattle.strm_links.proofs.lists.AllLists.{holder-remove}
+use Rattle.strm_links.proofs.linking.Shown.{seen, apart_all, closed, rows_of_is, ends_read, parts}
+use Rattle.strm_links.proofs.linking.Changes.{Rewires-both}
+use Rattle.strm_links.proofs.linking.Places.{held_within, held_node, held_list, left_list, left_previous, left_next, left_len, left}
 use Rattle.strm_links.proofs.links.Links.remove.Goals as goal
 use Rattle.strm_links.proofs.links.Links.remove.Goals.{After-index_mut-2}
 

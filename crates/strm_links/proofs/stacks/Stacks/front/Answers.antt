@@ -1,5 +1,5 @@
 use Rattle.std.proofs.Common.{sym, ◌∙◌}
-use Rattle.strm_links.proofs.Linking.{IfSome-from}
+use Rattle.strm_links.proofs.linking.Places.{IfSome-from}
 use Rattle.strm_links.proofs.Stacked.{seen, front_holder, front_within}
 use Rattle.strm_links.proofs.stacks.Stacks.front.Goals as goal
 

@@ -2,13 +2,13 @@ use Rattle.std.proofs.Common.{◌<◌, ◌-◌, length, arith, ap, sym, ◌∙�
 use Rattle.strm_links.specs.declared.strands.Node.{Node}
 use Rattle.strm_links.specs.StrandLayout.{IsLaid}
 use Rattle.strm_links.specs.StrandLists.{with_first_begun}
-use Rattle.strm_links.proofs.StrandBegun.{IsLaid-begun_one, one_low}
-use Rattle.strm_links.proofs.StrandLaid.{closed, node_read, parted, seen, strands_of_is}
+use Rattle.strm_links.proofs.chaining.Begun.{IsLaid-begun_one, one_low}
+use Rattle.strm_links.proofs.chaining.Laid.{closed, node_read, parted, seen, strands_of_is}
 use Rattle.strm_links.proofs.strands.Strands.begin.Goals as goal
 use Rattle.strm_links.proofs.strands.Strands.begin.Goals.{After-chain_up, In_ok-first}
 
 -- the first free one is a node
-low : (c : In_ok-first) → c.in_ok-first.first < length c.args.self.now.held
+low : (c : In_ok-first) → c.in_ok-first.first < length c.args.self.now.chains
 low c = one_low _ _ _ _ (seen _ _ _ _ c.self.view_is c.self.invariant) c.in_ok-first.first (sym c.get.ensures ∙ c.in_ok-first.was)
 
 within : (c : In_ok-first) → c.in_ok-first.first < length c.self.inside.nodes.items
@@ -23,11 +23,11 @@ chain_up-requires-clause-head c = omega (arith, within (goal.at.chain_up-require
 pub chain_up-requires-clause-last : goal.chain_up-requires-clause-last
 chain_up-requires-clause-last c = omega (arith, within (goal.at.chain_up-requires-clause-last c).In_ok-first)
 
-laid : (c : After-chain_up) → c.in_ok-first.first < length c.args.self.now.held → IsLaid c.chain_up.new.nodes.items c.index.result.now.next (c.self.inside.count - 1) (with_first_begun c.args.self.now.free c.args.self.now)
+laid : (c : After-chain_up) → c.in_ok-first.first < length c.args.self.now.chains → IsLaid c.chain_up.new.nodes.items c.index.result.now.next (c.self.inside.free_len - 1) (with_first_begun c.args.self.now.free c.args.self.now)
 laid c low =
     let was = seen _ _ _ _ c.self.view_is c.self.invariant in
     let n = c.in_ok-first.first in
-    subst (λ o. IsLaid c.chain_up.new.nodes.items o (c.self.inside.count - 1) (with_first_begun c.args.self.now.free c.args.self.now))
+    subst (λ o. IsLaid c.chain_up.new.nodes.items o (c.self.inside.free_len - 1) (with_first_begun c.args.self.now.free c.args.self.now))
     (sym (ap (λ (x : Node). x.next) (node_read _ _ _ _ was n _ low c.index.ensures)))
     (IsLaid-begun_one _ _ _ _ was n (sym c.get.ensures ∙ c.in_ok-first.was) c.chain_up.new.nodes.items (omega (arith, c.chain_up.ensures.len)) c.chain_up.ensures.nexts c.chain_up.ensures.spans)
 

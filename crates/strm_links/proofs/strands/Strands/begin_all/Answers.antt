@@ -2,13 +2,13 @@ use Rattle.std.proofs.Common.{◌≡◌, ◌<◌, ◌-◌, suc, drop, length, se
 use Rattle.strm_links.specs.declared.strands.Node.{Node}
 use Rattle.strm_links.specs.StrandLists.{StrandLists}
 use Rattle.strm_links.specs.StrandLayout.{IsLaid, next_at, onward}
-use Rattle.strm_links.proofs.StrandBegun.{IsLaid-begun_several, one_low, several_low, several_there}
-use Rattle.strm_links.proofs.StrandLaid.{closed, next_within, node_read, parted, seen, strands_of_is}
+use Rattle.strm_links.proofs.chaining.Begun.{IsLaid-begun_several, one_low, several_low, several_there}
+use Rattle.strm_links.proofs.chaining.Laid.{closed, next_within, node_read, parted, seen, strands_of_is}
 use Rattle.strm_links.proofs.strands.Strands.begin_all.Goals as goal
 use Rattle.strm_links.proofs.strands.Strands.begin_all.Goals.{After-chain_up, After-deref, After-number-head}
 
 -- the first free one is a node
-low : (c : After-number-head) → c.number-head.result < length c.args.self.now.held
+low : (c : After-number-head) → c.number-head.result < length c.args.self.now.chains
 low c = one_low _ _ _ _ (seen _ _ _ _ c.self.view_is c.self.invariant) c.number-head.result c.number-head.ensures
 
 pub node_behind-last-requires-clause-from : goal.node_behind-last-requires-clause-from
@@ -38,17 +38,17 @@ chain_up-requires-clause-head c =
     omega (arith, laid.node_count, low (goal.at.chain_up-requires-clause-head c).After-number-head)
 
 laid : (c : After-chain_up) → c.args.count ≡ suc (c.args.count - 1)
-    → IsLaid c.chain_up.new.nodes.items c.index.result.now.next (c.self.inside.count - c.args.count)
-    (record { free = drop c.args.count c.args.self.now.free; held = set c.args.self.now.held c.number-head.result (Some (take c.args.count c.args.self.now.free)) })
+    → IsLaid c.chain_up.new.nodes.items c.index.result.now.next (c.self.inside.free_len - c.args.count)
+    (record { free = drop c.args.count c.args.self.now.free; chains = set c.args.self.now.chains c.number-head.result (Some (take c.args.count c.args.self.now.free)) })
 laid c is =
     let was = seen _ _ _ _ c.self.view_is c.self.invariant in
     let h = c.number-head.result in
     let t = c.node_behind-last.result in
-    let v' : StrandLists = record { free = drop c.args.count c.args.self.now.free; held = set c.args.self.now.held h (Some (take c.args.count c.args.self.now.free)) } in
+    let v' : StrandLists = record { free = drop c.args.count c.args.self.now.free; chains = set c.args.self.now.chains h (Some (take c.args.count c.args.self.now.free)) } in
     let enough : c.args.count - 1 < length c.args.self.now.free = omega (arith, c.requires.some, c.requires.enough) in
     let walked = ap (λ nodes. onward (next_at nodes) (c.args.count - 1) (Some h)) (sym c.deref.ensures.value) ∙ c.node_behind-last.ensures.value in
-    let low : t < length c.args.self.now.held = (several_low _ _ _ _ was h c.args.count (c.args.count - 1) c.number-head.ensures is enough t walked).1 in
-    subst (λ o. IsLaid c.chain_up.new.nodes.items o (c.self.inside.count - c.args.count) v') (sym (ap (λ (x : Node). x.next) (node_read _ _ _ _ was t _ low c.index.ensures)))
+    let low : t < length c.args.self.now.chains = (several_low _ _ _ _ was h c.args.count (c.args.count - 1) c.number-head.ensures is enough t walked).1 in
+    subst (λ o. IsLaid c.chain_up.new.nodes.items o (c.self.inside.free_len - c.args.count) v') (sym (ap (λ (x : Node). x.next) (node_read _ _ _ _ was t _ low c.index.ensures)))
     (IsLaid-begun_several _ _ _ _ was h c.args.count (c.args.count - 1) c.number-head.ensures is enough t walked c.chain_up.new.nodes.items
     (omega (arith, c.chain_up.ensures.len))
     c.chain_up.ensures.nexts c.chain_up.ensures.spans)

@@ -1,11 +1,11 @@
 use Rattle.std.specs.Prelude.{slice_get}
 use Rattle.std.proofs.Common.{◌≡◌, ℕ, List, ◌==◌, ◌-◌, ◌<◌, length, ap, arith, sym, ◌∙◌, if◌then◌else◌}
 use Rattle.strm_links.specs.declared.strands.Node.{Node}
-use Rattle.strm_links.specs.Held.{divided}
+use Rattle.strm_links.specs.Chains.{divided}
 use Rattle.strm_links.specs.StrandLists.{strand_at}
 use Rattle.strm_links.specs.StrandLayout.{IsLaid, next_at, node_at}
-use Rattle.strm_links.proofs.StrandDivided.{IsLaid-divided, alone, divided_len, divided_low, divided_second}
-use Rattle.strm_links.proofs.StrandLaid.{closed, head_low, node_read, parted, seen, strands_of_is}
+use Rattle.strm_links.proofs.chaining.Divided.{IsLaid-divided, alone, divided_len, divided_low, divided_second}
+use Rattle.strm_links.proofs.chaining.Laid.{closed, head_low, node_read, parted, seen, strands_of_is}
 use Rattle.strm_links.proofs.strands.Strands.divide.Goals as goal
 use Rattle.strm_links.proofs.strands.Strands.divide.Goals.{After-get, After-keep, In_ok-rest}
 
@@ -27,7 +27,7 @@ pub returns-in_err-rest-clause-after : goal.returns-in_err-rest-clause-after
 returns-in_err-rest-clause-after c =
     let none = sym (link (goal.at.returns-in_err-rest-clause-after c).After-get) ∙ c.in_err-rest.was in
     let same = alone _ _ _ _ (seen _ _ _ _ c.self.view_is c.self.invariant) c.args.head c.requires none in
-    λ i. record c.args.self.now { held = divided (λ n. n) c.args.head (sym same i) c.args.self.now.held }
+    λ i. record c.args.self.now { chains = divided (λ n. n) c.args.head (sym same i) c.args.self.now.chains }
 
 pub overflow_sub-span : goal.overflow_sub-span
 overflow_sub-span c =
@@ -39,7 +39,7 @@ overflow_sub-span c =
     )
 
 -- what the head leads on to is a node
-low : (c : In_ok-rest) → c.get.result ≡ next_at c.self.inside.nodes.items c.args.head → c.in_ok-rest.rest < length c.args.self.now.held
+low : (c : In_ok-rest) → c.get.result ≡ next_at c.self.inside.nodes.items c.args.head → c.in_ok-rest.rest < length c.args.self.now.chains
 low c link = divided_low _ _ _ _ (seen _ _ _ _ c.self.view_is c.self.invariant) c.args.head c.requires c.in_ok-rest.rest (sym link ∙ c.in_ok-rest.was)
 
 pub keep-requires : goal.keep-requires
@@ -49,7 +49,7 @@ keep-requires c =
     omega (arith, laid.node_count, c.chain_up.ensures.len, low at.In_ok-rest (link at.After-get))
 
 laid : (c : After-keep) → c.get.result ≡ next_at c.self.inside.nodes.items c.args.head → c.index.result.now ≡ node_at c.self.inside.nodes.items c.args.head
-    → IsLaid c.keep.new.nodes.items c.self.inside.front c.self.inside.count (record c.args.self.now { held = divided (λ n. n) c.args.head (strand_at c.args.self.now c.args.head) c.args.self.now.held })
+    → IsLaid c.keep.new.nodes.items c.self.inside.first_free c.self.inside.free_len (record c.args.self.now { chains = divided (λ n. n) c.args.head (strand_at c.args.self.now c.args.head) c.args.self.now.chains })
 laid c link is =
     let nodes = c.self.inside.nodes.items in
     let h = c.args.head in

@@ -5,10 +5,10 @@ use Rattle.strm_links.specs.declared.strands.Node.{Node}
 use Rattle.strm_links.specs.declared.strands.Span.{Span}
 use Rattle.strm_links.specs.StrandLists.{StrandLists, strand_at}
 use Rattle.strm_links.specs.StrandLayout.{IsLaid, next_at, path, span_at}
-use Rattle.strm_links.proofs.Chains.{LeadsOn-kept}
-use Rattle.strm_links.proofs.StrandFreed.{IsLaid-freed, freed_room}
-use Rattle.strm_links.proofs.StrandLaid.{closed, head_low, last_low, node_read, parted, seen, strand_laid, strand_path, strands_of_is}
-use Rattle.strm_links.proofs.StrandParts.{strand_apart, strand_low}
+use Rattle.strm_links.proofs.lists.ListLinks.{LeadsOn-kept}
+use Rattle.strm_links.proofs.chaining.Freed.{IsLaid-freed, freed_room}
+use Rattle.strm_links.proofs.chaining.Laid.{closed, head_low, last_low, node_read, parted, seen, strand_laid, strand_path, strands_of_is}
+use Rattle.strm_links.proofs.chaining.Parts.{strand_apart, strand_low}
 use Rattle.strm_links.proofs.strands.Strands.free.Goals as goal
 use Rattle.strm_links.proofs.strands.Strands.free.Goals.{After-index, After-some-self-inside}
 
@@ -59,17 +59,17 @@ overflow_add-self c =
 
 laid : (c : After-some-self-inside) → c.index.result.now.span ≡ span_at c.self.inside.nodes.items c.args.head
     → path c.self.inside.nodes.items c.index.result.now.span.len (Some c.args.head) ≡ strand_at c.args.self.now c.args.head
-    → IsLaid c.keep.new.nodes.items c.some-self-inside.result (c.self.inside.count + c.index.result.now.span.len)
-    (record { free = reverse (strand_at c.args.self.now c.args.head) ++ c.args.self.now.free; held = set c.args.self.now.held c.args.head None })
+    → IsLaid c.keep.new.nodes.items c.some-self-inside.result (c.self.inside.free_len + c.index.result.now.span.len)
+    (record { free = reverse (strand_at c.args.self.now c.args.head) ++ c.args.self.now.free; chains = set c.args.self.now.chains c.args.head None })
 laid c first turned =
     let h = c.args.head in
     let new = c.keep.new.nodes.items in
-    let v' : StrandLists = record { free = reverse (strand_at c.args.self.now h) ++ c.args.self.now.free; held = set c.args.self.now.held h None } in
+    let v' : StrandLists = record { free = reverse (strand_at c.args.self.now h) ++ c.args.self.now.free; chains = set c.args.self.now.chains h None } in
     let was = seen _ _ _ _ c.self.view_is c.self.invariant in
-    let leads : LeadsOn (next_at new) (reverse (strand_at c.args.self.now h)) c.self.inside.front =
-    subst (λ (xs : List ℕ). LeadsOn (next_at new) (reverse xs) c.self.inside.front) turned (LeadsOn-kept _ (next_at new) _ _ (λ k _. c.keep.ensures.nexts k) c.turn.ensures.turned) in
-    subst (λ o. IsLaid new o (c.self.inside.count + c.index.result.now.span.len) v') (sym (c.some-self-inside.ensures ∙ ap (λ (s : Span). Some s.last) first))
-    (subst (λ n. IsLaid new (Some (span_at c.self.inside.nodes.items h).last) (c.self.inside.count + n) v') (sym (ap (λ (s : Span). s.len) first))
+    let leads : LeadsOn (next_at new) (reverse (strand_at c.args.self.now h)) c.self.inside.first_free =
+    subst (λ (xs : List ℕ). LeadsOn (next_at new) (reverse xs) c.self.inside.first_free) turned (LeadsOn-kept _ (next_at new) _ _ (λ k _. c.keep.ensures.nexts k) c.turn.ensures.turned) in
+    subst (λ o. IsLaid new o (c.self.inside.free_len + c.index.result.now.span.len) v') (sym (c.some-self-inside.ensures ∙ ap (λ (s : Span). Some s.last) first))
+    (subst (λ n. IsLaid new (Some (span_at c.self.inside.nodes.items h).last) (c.self.inside.free_len + n) v') (sym (ap (λ (s : Span). s.len) first))
     (IsLaid-freed _ _ _ _ was h c.requires new (omega (arith, c.keep.ensures.len, c.turn.ensures.len)) leads
     (λ k absent. c.keep.ensures.nexts k ∙ c.turn.ensures.others k (ap (has k) turned ∙ absent))
     (λ k. c.keep.ensures.spans k ∙ (λ i. if h == k then c.none.ensures i else c.turn.ensures.spans k i))))

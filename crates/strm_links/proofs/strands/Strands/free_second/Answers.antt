@@ -3,9 +3,9 @@ use Rattle.std.proofs.Common.{◌≡◌, ℕ, List, ◌==◌, ◌+◌, ◌-◌, 
 use Rattle.strm_links.specs.declared.strands.Node.{Node}
 use Rattle.strm_links.specs.StrandLists.{strand_at, with_second_freed}
 use Rattle.strm_links.specs.StrandLayout.{IsLaid, next_at, node_at}
-use Rattle.strm_links.proofs.StrandDivided.{alone, divided_len, divided_low, divided_second}
-use Rattle.strm_links.proofs.StrandLaid.{closed, head_low, node_read, parted, seen, strands_of_is}
-use Rattle.strm_links.proofs.StrandSecond.{IsLaid-second_freed, one_room}
+use Rattle.strm_links.proofs.chaining.Divided.{alone, divided_len, divided_low, divided_second}
+use Rattle.strm_links.proofs.chaining.Laid.{closed, head_low, node_read, parted, seen, strands_of_is}
+use Rattle.strm_links.proofs.chaining.SecondFreed.{IsLaid-second_freed, one_room}
 use Rattle.strm_links.proofs.strands.Strands.free_second.Goals as goal
 use Rattle.strm_links.proofs.strands.Strands.free_second.Goals.{After-get, After-keep, In_ok-second}
 
@@ -32,7 +32,7 @@ returns-in_err-second-clause-after c =
 
 -- ---- what the head leads on to
 
-low : (c : In_ok-second) → c.get.result ≡ next_at c.self.inside.nodes.items c.args.head → c.in_ok-second.second < length c.args.self.now.held
+low : (c : In_ok-second) → c.get.result ≡ next_at c.self.inside.nodes.items c.args.head → c.in_ok-second.second < length c.args.self.now.chains
 low c link = divided_low _ _ _ _ (seen _ _ _ _ c.self.view_is c.self.invariant) c.args.head c.requires c.in_ok-second.second (sym link ∙ c.in_ok-second.was)
 
 pub index-requires-2 : goal.index-requires-2
@@ -65,7 +65,7 @@ overflow_add-self c =
 -- ---- what the nodes hold then
 
 laid : (c : After-keep) → c.get.result ≡ next_at c.self.inside.nodes.items c.args.head → c.index.result.now ≡ node_at c.self.inside.nodes.items c.args.head
-    → IsLaid c.keep.new.nodes.items c.index.result.now.next (c.self.inside.count + 1) (with_second_freed c.args.head (strand_at c.args.self.now c.args.head) c.args.self.now)
+    → IsLaid c.keep.new.nodes.items c.index.result.now.next (c.self.inside.free_len + 1) (with_second_freed c.args.head (strand_at c.args.self.now c.args.head) c.args.self.now)
 laid c link is =
     let nodes = c.self.inside.nodes.items in
     let h = c.args.head in
@@ -74,10 +74,10 @@ laid c link is =
     let on : next_at nodes h ≡ Some n = sym link ∙ c.in_ok-second.was in
     let behind : c.index-2.result.now.next ≡ next_at nodes n =
     ap (λ (x : Node). x.next) (node_read _ _ _ _ was n _ (divided_low _ _ _ _ was h c.requires n on) c.index-2.ensures) in
-    subst (λ o. IsLaid c.keep.new.nodes.items o (c.self.inside.count + 1) (with_second_freed h (strand_at c.args.self.now h) c.args.self.now)) (sym (ap (λ (x : Node). x.next) is ∙ on))
+    subst (λ o. IsLaid c.keep.new.nodes.items o (c.self.inside.free_len + 1) (with_second_freed h (strand_at c.args.self.now h) c.args.self.now)) (sym (ap (λ (x : Node). x.next) is ∙ on))
     (IsLaid-second_freed _ _ _ _ was h c.requires n on
     c.keep.new.nodes.items (omega (arith, c.keep.ensures.len, c.lead-2.ensures.len, c.lead.ensures.len))
-    (λ k. c.keep.ensures.nexts k ∙ c.lead-2.ensures.nexts k ∙ (λ i. if n == k then c.self.inside.front else c.lead.ensures.nexts k i) ∙ (λ i. if n == k then c.self.inside.front else (if h == k then behind i else next_at nodes k)))
+    (λ k. c.keep.ensures.nexts k ∙ c.lead-2.ensures.nexts k ∙ (λ i. if n == k then c.self.inside.first_free else c.lead.ensures.nexts k i) ∙ (λ i. if n == k then c.self.inside.first_free else (if h == k then behind i else next_at nodes k)))
     (λ k. c.keep.ensures.spans k
     ∙ (λ i. if h == k then c.without_one.ensures i else c.lead-2.ensures.spans k i)
     ∙ (λ i. if h == k then record { last = (if is_none (behind i) then h else (is i).span.last); len = (is i).span.len - 1 } else c.lead.ensures.spans k i)))

@@ -1,10 +1,10 @@
 use Rattle.std.proofs.Common.{◌≡◌, ◌==◌, ◌+◌, ap, arith, ◌∙◌, if◌then◌else◌}
 use Rattle.strm_links.specs.declared.strands.Node.{Node}
 use Rattle.strm_links.specs.declared.strands.Span.{Span}
-use Rattle.strm_links.specs.Held.{joined}
+use Rattle.strm_links.specs.Chains.{joined}
 use Rattle.strm_links.specs.StrandLayout.{IsLaid, next_at, span_at}
-use Rattle.strm_links.proofs.StrandJoined.{IsLaid-joined, joined_few}
-use Rattle.strm_links.proofs.StrandLaid.{closed, head_low, last_low, node_read, parted, seen, strands_of_is}
+use Rattle.strm_links.proofs.chaining.Joined.{IsLaid-joined, joined_few}
+use Rattle.strm_links.proofs.chaining.Laid.{closed, head_low, last_low, node_read, parted, seen, strands_of_is}
 use Rattle.strm_links.proofs.strands.Strands.join.Goals as goal
 use Rattle.strm_links.proofs.strands.Strands.join.Goals.{After-index, After-index-2, After-keep-2}
 
@@ -37,7 +37,7 @@ overflow_add-span c =
     )
 
 laid : (c : After-keep-2) → c.index.result.now.span ≡ span_at c.self.inside.nodes.items c.args.head → c.index-2.result.now.span ≡ span_at c.self.inside.nodes.items c.args.tail
-    → IsLaid c.keep-2.new.nodes.items c.self.inside.front c.self.inside.count (record c.args.self.now { held = joined c.args.head c.args.tail c.args.self.now.held })
+    → IsLaid c.keep-2.new.nodes.items c.self.inside.first_free c.self.inside.free_len (record c.args.self.now { chains = joined c.args.head c.args.tail c.args.self.now.chains })
 laid c first second =
     let nodes = c.self.inside.nodes.items in
     let h = c.args.head in

@@ -1,5 +1,5 @@
-use Rattle.strm_links.proofs.StrandLaid.{closed, parted, strands_of_is}
-use Rattle.strm_links.proofs.StrandOpened.{IsLaid-opened}
+use Rattle.strm_links.proofs.chaining.Laid.{closed, parted, strands_of_is}
+use Rattle.strm_links.proofs.chaining.Opened.{IsLaid-opened}
 use Rattle.strm_links.proofs.strands.Strands.new.Goals as goal
 
 pub invariant_of-result : goal.invariant_of-result

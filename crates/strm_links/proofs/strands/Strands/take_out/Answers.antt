@@ -2,11 +2,11 @@ use Rattle.std.proofs.Common.{◌≡◌, ◌==◌, ◌<◌, ◌-◌, suc, length
 use Rattle.std.specs.Prelude.{is_none, slice_get}
 use Rattle.strm_links.specs.declared.strands.Node.{Node}
 use Rattle.strm_links.specs.declared.strands.Span.{Span}
-use Rattle.strm_links.specs.Held.{taken_out}
+use Rattle.strm_links.specs.Chains.{taken_out}
 use Rattle.strm_links.specs.StrandLists.{strand_at}
 use Rattle.strm_links.specs.StrandLayout.{IsLaid, next_at, onward, span_at}
-use Rattle.strm_links.proofs.StrandTakenOut.{IsLaid-taken_out, no_place, place_is, place_low, place_next, place_there}
-use Rattle.strm_links.proofs.StrandLaid.{closed, head_low, next_within, node_read, parted, seen, strands_of_is}
+use Rattle.strm_links.proofs.chaining.TakenOut.{IsLaid-taken_out, no_place, place_is, place_low, place_next, place_there}
+use Rattle.strm_links.proofs.chaining.Laid.{closed, head_low, next_within, node_read, parted, seen, strands_of_is}
 use Rattle.strm_links.proofs.strands.Strands.take_out.Goals as goal
 use Rattle.strm_links.proofs.strands.Strands.take_out.Goals.{After-index, After-index-2, After-keep, After-number-node}
 
@@ -14,20 +14,20 @@ use Rattle.strm_links.proofs.strands.Strands.take_out.Goals.{After-index, After-
 at_head : (c : After-index) → c.index.result.now.span ≡ span_at c.self.inside.nodes.items c.args.head
 at_head c =
     let laid = seen _ _ _ _ c.self.view_is c.self.invariant in
-    ap (λ (x : Node). x.span) (node_read _ _ _ _ laid c.args.head _ (head_low _ _ _ _ laid c.args.head c.requires.held) c.index.ensures)
+    ap (λ (x : Node). x.span) (node_read _ _ _ _ laid c.args.head _ (head_low _ _ _ _ laid c.args.head c.requires.head) c.index.ensures)
 
 -- ---- no such place
 
 pub returns-then-span-place-clause-answer : goal.returns-then-span-place-clause-answer
 returns-then-span-place-clause-answer c =
     let len = ap (λ (s : Span). s.len) (at_head (goal.at.returns-then-span-place-clause-answer c).After-index) in
-    sym (no_place _ _ _ _ (seen _ _ _ _ c.self.view_is c.self.invariant) c.args.head c.requires.held c.args.place (omega (arith, len, c.if-span-place.true))).0
+    sym (no_place _ _ _ _ (seen _ _ _ _ c.self.view_is c.self.invariant) c.args.head c.requires.head c.args.place (omega (arith, len, c.if-span-place.true))).0
 
 pub returns-then-span-place-clause-after : goal.returns-then-span-place-clause-after
 returns-then-span-place-clause-after c =
     let len = ap (λ (s : Span). s.len) (at_head (goal.at.returns-then-span-place-clause-after c).After-index) in
-    let same = (no_place _ _ _ _ (seen _ _ _ _ c.self.view_is c.self.invariant) c.args.head c.requires.held c.args.place (omega (arith, len, c.if-span-place.true))).1 in
-    λ i. record c.args.self.now { held = sym same i }
+    let same = (no_place _ _ _ _ (seen _ _ _ _ c.self.view_is c.self.invariant) c.args.head c.requires.head c.args.place (omega (arith, len, c.if-span-place.true))).1 in
+    λ i. record c.args.self.now { chains = sym same i }
 
 -- ---- the walk to the node before the place
 
@@ -38,7 +38,7 @@ is_suc c = omega (arith, c.requires.place)
 pub node_behind-ahead-requires-clause-from : goal.node_behind-ahead-requires-clause-from
 node_behind-ahead-requires-clause-from c =
     let laid = seen _ _ _ _ c.self.view_is c.self.invariant in
-    omega (arith, laid.node_count, c.deref.ensures.len, head_low _ _ _ _ laid c.args.head c.requires.held)
+    omega (arith, laid.node_count, c.deref.ensures.len, head_low _ _ _ _ laid c.args.head c.requires.head)
 
 pub node_behind-ahead-requires-clause-within : goal.node_behind-ahead-requires-clause-within
 node_behind-ahead-requires-clause-within c k j is =
@@ -49,7 +49,7 @@ pub node_behind-ahead-requires-clause-there : goal.node_behind-ahead-requires-cl
 node_behind-ahead-requires-clause-there c =
     let at = (goal.at.node_behind-ahead-requires-clause-there c).After-index in
     let len = ap (λ (s : Span). s.len) (at_head at) in
-    let ahead = place_there _ _ _ _ (seen _ _ _ _ c.self.view_is c.self.invariant) c.args.head c.requires.held c.args.place (c.args.place - 1) (is_suc at) (omega (arith, len, c.if-span-place.false)) in
+    let ahead = place_there _ _ _ _ (seen _ _ _ _ c.self.view_is c.self.invariant) c.args.head c.requires.head c.args.place (c.args.place - 1) (is_suc at) (omega (arith, len, c.if-span-place.false)) in
     subst IsSome (sym (ap (λ nodes. onward (next_at nodes) (c.args.place - 1) (Some c.args.head)) c.deref.ensures.value ∙ ahead)) refl
 
 -- the node that it leads to, and its link
@@ -65,7 +65,7 @@ pub number-node-requires : goal.number-node-requires
 number-node-requires c =
     let at = goal.at.number-node-requires c in
     let len = ap (λ (s : Span). s.len) (at_head at.After-index) in
-    let next = place_next _ _ _ _ (seen _ _ _ _ c.self.view_is c.self.invariant) c.args.head c.requires.held c.args.place (c.args.place - 1) (is_suc at.After-index)
+    let next = place_next _ _ _ _ (seen _ _ _ _ c.self.view_is c.self.invariant) c.args.head c.requires.head c.args.place (c.args.place - 1) (is_suc at.After-index)
     (omega (arith, len, c.if-span-place.false)) c.node_behind-ahead.result (walked at.After-index-2) in
     subst IsSome (sym (link at.After-index-2 ∙ next)) refl
 
@@ -73,14 +73,14 @@ number-node-requires c =
 
 -- what is known of it, from what is read at the head and before the place
 there : (c : After-number-node) → c.index.result.now.span ≡ span_at c.self.inside.nodes.items c.args.head → c.index-2.result.now.next ≡ next_at c.self.inside.nodes.items c.node_behind-ahead.result
-    → (slice_get (strand_at c.args.self.now c.args.head) c.args.place ≡ Some c.number-node.result) × (c.number-node.result < length c.args.self.now.held)
+    → (slice_get (strand_at c.args.self.now c.args.head) c.args.place ≡ Some c.number-node.result) × (c.number-node.result < length c.args.self.now.chains)
 there c read link =
     let was = seen _ _ _ _ c.self.view_is c.self.invariant in
     let is : c.args.place ≡ suc (c.args.place - 1) = omega (arith, c.requires.place) in
     let fits : c.args.place < (span_at c.self.inside.nodes.items c.args.head).len = omega (arith, ap (λ (s : Span). s.len) read, c.if-span-place.false) in
     let walked = ap (λ nodes. onward (next_at nodes) (c.args.place - 1) (Some c.args.head)) (sym c.deref.ensures.value) ∙ c.node_behind-ahead.ensures.value in (
-      place_is _ _ _ _ was c.args.head c.requires.held c.args.place (c.args.place - 1) is fits _ c.number-node.result walked (sym link ∙ c.number-node.ensures),
-      (place_low _ _ _ _ was c.args.head c.requires.held c.args.place (c.args.place - 1) is fits _ c.number-node.result walked (sym link ∙ c.number-node.ensures)).1,
+      place_is _ _ _ _ was c.args.head c.requires.head c.args.place (c.args.place - 1) is fits _ c.number-node.result walked (sym link ∙ c.number-node.ensures),
+      (place_low _ _ _ _ was c.args.head c.requires.head c.args.place (c.args.place - 1) is fits _ c.number-node.result walked (sym link ∙ c.number-node.ensures)).1,
     )
 
 pub index-requires-3 : goal.index-requires-3
@@ -104,8 +104,8 @@ chain_up-requires-clause-last c =
 -- ---- what the nodes hold then
 
 laid : (c : After-keep) → c.index.result.now.span ≡ span_at c.self.inside.nodes.items c.args.head → c.index-2.result.now.next ≡ next_at c.self.inside.nodes.items c.node_behind-ahead.result
-    → c.number-node.result < length c.args.self.now.held
-    → IsLaid c.keep.new.nodes.items c.self.inside.front c.self.inside.count (record c.args.self.now { held = taken_out (λ n. n) c.args.head c.args.place (strand_at c.args.self.now c.args.head) c.args.self.now.held })
+    → c.number-node.result < length c.args.self.now.chains
+    → IsLaid c.keep.new.nodes.items c.self.inside.first_free c.self.inside.free_len (record c.args.self.now { chains = taken_out (λ n. n) c.args.head c.args.place (strand_at c.args.self.now c.args.head) c.args.self.now.chains })
 laid c read link low =
     let was = seen _ _ _ _ c.self.view_is c.self.invariant in
     let nodes = c.self.inside.nodes.items in
@@ -118,7 +118,7 @@ laid c read link low =
     let behind : c.index-3.result.now.next ≡ next_at nodes n = ap (λ (x : Node). x.next) (node_read _ _ _ _ was n _ low c.index-3.ensures) in
     let less : c.without_one.result ≡ record { last = (if is_none (next_at nodes n) then t else (span_at nodes h).last); len = (span_at nodes h).len - 1 } =
     c.without_one.ensures ∙ (λ i. record { last = (if is_none (behind i) then t else (read i).last); len = (read i).len - 1 }) in
-    IsLaid-taken_out _ _ _ _ was h c.requires.held c.args.place (c.args.place - 1) is fits t n walked (sym link ∙ c.number-node.ensures)
+    IsLaid-taken_out _ _ _ _ was h c.requires.head c.args.place (c.args.place - 1) is fits t n walked (sym link ∙ c.number-node.ensures)
     c.keep.new.nodes.items (omega (arith, c.keep.ensures.len, c.chain_up.ensures.len, c.lead.ensures.len))
     (λ k. c.keep.ensures.nexts k ∙ c.chain_up.ensures.nexts k ∙ (λ i. if n == k then None else c.lead.ensures.nexts k i) ∙ (λ i. if n == k then None else (if t == k then behind i else next_at nodes k)))
     (λ k. c.keep.ensures.spans k

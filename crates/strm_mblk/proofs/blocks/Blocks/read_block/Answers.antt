@@ -2,7 +2,7 @@ use Rattle.std.proofs.Common.{◌+◌, ◌-◌, ◌≤◌, ◌++◌, drop, take,
 use Rattle.std.specs.Prelude.{min}
 use Rattle.std.proofs.lemmas.List.{length-take-le}
 use Rattle.strm_data.specs.DataStore.{data_block_at}
-use Rattle.strm_data.proofs.Kept.{capacity_range}
+use Rattle.strm_data.proofs.store.Kept.{capacity_range}
 use Rattle.strm_mblk.specs.Arena.{Arena}
 use Rattle.strm_mblk.specs.BlocksLayout.{IsPlaced}
 use Rattle.strm_mblk.proofs.lists.ListParts.{take-part}

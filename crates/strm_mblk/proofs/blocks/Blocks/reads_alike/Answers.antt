@@ -1,4 +1,4 @@
-use Rattle.strm_links.proofs.Chains.{Reads-after, Reads-before}
+use Rattle.strm_links.proofs.lists.ListLinks.{Reads-after, Reads-before}
 use Rattle.strm_mblk.specs.Shelves.{heads_at}
 use Rattle.strm_mblk.proofs.layout.Lawful.{parted_inside}
 use Rattle.strm_mblk.proofs.arena.Stands.{heads_apart}

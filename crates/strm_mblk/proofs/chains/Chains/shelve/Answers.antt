@@ -1,14 +1,14 @@
 use Rattle.std.proofs.Common.{ℕ, ◌≡◌, Some, None, refl, sym, ◌∙◌, arith}
 use Rattle.std.proofs.lemmas.Option.{none-some}
 use Rattle.strm_links.specs.Rows.{holder, list_at}
-use Rattle.strm_links.proofs.AllLists.{holder_has}
+use Rattle.strm_links.proofs.lists.AllLists.{holder_has}
 use Rattle.strm_mblk.specs.Messages.{shelf_in, put_before_head}
 use Rattle.strm_mblk.specs.NodeLists.{head_node, nodes_at}
-use Rattle.strm_mblk.proofs.links.OnShelves.{placed_in, reheaded_is, reheaded_laid, room_of}
-use Rattle.strm_mblk.proofs.links.Parted.{IsNodesParted-chained}
-use Rattle.strm_mblk.proofs.links.Readings.{head_node-strand, nodes_is, off, shelf_is, shelved_at, shelves_within, strand_there}
-use Rattle.strm_mblk.proofs.chains.Chains.shelve.Goals as goal
+use Rattle.strm_mblk.proofs.chaining.OnShelves.{placed_in, reheaded_is, reheaded_laid, room_of}
+use Rattle.strm_mblk.proofs.chaining.Parted.{IsNodesParted-chained}
+use Rattle.strm_mblk.proofs.chaining.Readings.{head_node-strand, nodes_is, off, shelf_is, shelved_at, shelves_within, strand_there}
 use Rattle.strm_mblk.proofs.chains.Chains.shelve.Goals.{After-self}
+use Rattle.strm_mblk.proofs.chains.Chains.shelve.Goals as goal
 
 -- the one that it comes before stands on the shelf
 there : (c : After-self) (at : ℕ) → c.args.before ≡ Some at → holder at c.self.inside.heads ≡ Some c.args.shelf
@@ -19,7 +19,7 @@ place-requires-clause-list c = omega (arith, c.requires.shelf, shelves_within _ 
 
 pub place-requires-clause-node : goal.place-requires-clause-node
 place-requires-clause-node c =
-    omega (arith, c.self.invariant.head_nodes, room_of c.self.inside.strands.held c.args.head (strand_there _ _ c.self.invariant _ c.self.view_is c.args.head c.requires.held))
+    omega (arith, c.self.invariant.head_nodes, room_of c.self.inside.strands.chains c.args.head (strand_there _ _ c.self.invariant _ c.self.view_is c.args.head c.requires.held))
 
 pub place-requires-clause-free : goal.place-requires-clause-free
 place-requires-clause-free c = off _ _ c.self.invariant _ c.self.view_is c.args.head c.requires.held

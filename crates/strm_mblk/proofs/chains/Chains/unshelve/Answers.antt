@@ -1,22 +1,22 @@
 use Rattle.std.proofs.Common.{ℕ, ◌≡◌, true, Some, IsSome, is_some, set, ap, sym, ◌∙◌}
 use Rattle.std.proofs.lemmas.Bool.{false≢true}
 use Rattle.strm_links.specs.Rows.{has, holder, list_at, without}
-use Rattle.strm_links.specs.Held.{held_in}
-use Rattle.strm_links.proofs.AllLists.{holder_has, map-without}
+use Rattle.strm_links.specs.Chains.{chain_in}
+use Rattle.strm_links.proofs.lists.AllLists.{holder_has, map-without}
 use Rattle.strm_mblk.specs.Messages.{shelf_in, with_head, without_head}
 use Rattle.strm_mblk.specs.NodeLists.{head_node}
-use Rattle.strm_mblk.proofs.links.OnShelves.{reheaded_is, reheaded_laid, with-map, without-map}
-use Rattle.strm_mblk.proofs.links.Parted.{IsNodesParted-chained}
-use Rattle.strm_mblk.proofs.links.Replaced.{there}
-use Rattle.strm_mblk.proofs.links.Readings.{head_node-strand, shelf_is, shelved_at}
+use Rattle.strm_mblk.proofs.chaining.OnShelves.{reheaded_is, reheaded_laid, with-map, without-map}
+use Rattle.strm_mblk.proofs.chaining.Parted.{IsNodesParted-chained}
+use Rattle.strm_mblk.proofs.chaining.Replaced.{there}
+use Rattle.strm_mblk.proofs.chaining.Readings.{head_node-strand, shelf_is, shelved_at}
+use Rattle.strm_mblk.proofs.chains.Chains.unshelve.Goals.{After-remove, After-self}
 use Rattle.strm_mblk.proofs.chains.Chains.unshelve.Goals as goal
-use Rattle.strm_mblk.proofs.chains.Chains.unshelve.Goals.{After-self, After-remove}
 
 -- the message stands on the shelf
 on : (c : After-self) → holder c.args.head c.self.inside.heads ≡ Some c.args.shelf
 on c = shelved_at _ _ c.self.invariant _ c.self.view_is c.args.head c.args.shelf c.requires.there
 
-begun : (c : After-self) → IsSome (held_in c.self.inside.strands.held c.args.head)
+begun : (c : After-self) → IsSome (chain_in c.self.inside.strands.chains c.args.head)
 begun c = c.self.invariant.begun c.args.head (ap is_some (on c))
 
 lists : (c : After-remove) → holder c.args.head c.self.inside.heads ≡ Some c.args.shelf

@@ -1,8 +1,8 @@
 use Rattle.std.proofs.Common.{◌≤◌, length, subst, arith}
 use Rattle.strm_data.specs.DataStore.{class_infos}
 use Rattle.strm_data.specs.Limits.{most_classes}
-use Rattle.strm_data.proofs.Kept.{length-class_infos}
-use Rattle.strm_data.proofs.Lawful.{lawful_few}
+use Rattle.strm_data.proofs.store.Kept.{length-class_infos}
+use Rattle.strm_data.proofs.store.Lawful.{lawful_few}
 use Rattle.strm_mblk.specs.Arena.{counted_in}
 use Rattle.strm_pool.specs.Lawful.{IsLawful}
 use Rattle.strm_pool.proofs.pool.Pool.lawful.Goals as goal
@@ -18,12 +18,13 @@ returns c =
       parted = blocks.parted;
       kept = blocks.kept;
       within = blocks.within;
+      bands = blocks.bands;
       whole = blocks.whole;
       few = blocks.few;
       few_classes = few_classes;
       lawful_queues = queues.specs;
       few_queues = queues.few;
-      marked = queues.marked;
+      flagged = queues.flagged;
       shelves = c.self.invariant.in_order.shelves;
       ordered = queues.ordered;
       forward = queues.forward;

@@ -1,5 +1,5 @@
 use Rattle.std.proofs.Common.{sym, ◌∙◌}
-use Rattle.strm_links.proofs.OneList.{after-get, has_get}
+use Rattle.strm_links.proofs.lists.OneList.{after-get, has_get}
 use Rattle.strm_mblk.specs.Shelves.{heads_at}
 use Rattle.strm_mblk.proofs.arena.Stands.{heads_apart, shelf_of-there}
 use Rattle.strm_queue.proofs.queues.places.head_at.Goals as goal

@@ -1,0 +1,300 @@
+-- What a contract sees of the data blocks once one of them, a region or a free list is written to in memory.
+use Rattle.std.proofs.Common.{◌≡◌, ◌≢◌, ℕ, zero, suc, ◌+◌, ◌-◌, ◌*◌, ◌<◌, ◌≤◌, List, [], ◌∷◌, length, get_or, set, map, refl, sym, ap, ◌∙◌, subst, inl, inr, arith, Some, None, Vec, Global, length-set, get_or-set_same, get_or-set_other}
+use Rattle.std.proofs.lemmas.Bool.{cases_eq, cases_lt}
+use Rattle.std.proofs.lemmas.List.{map-set, get_or-map, length-map, set-get_or, get_or_past, get_or_default}
+use Rattle.std.proofs.lemmas.Option.{slice_get-get_or, slice_get_past}
+use Rattle.std.proofs.Math.Nat.{mul-le-mul_right}
+use Rattle.std.specs.Prelude.{option_map, slice_get}
+use Rattle.std.specs.List.{zip}
+use Rattle.strm_data.specs.declared.class_info.ClassInfo.{ClassInfo}
+use Rattle.strm_data.specs.declared.class_spec.ClassSpec.{ClassSpec}
+use Rattle.strm_data.specs.declared.data.Class.{Class}
+use Rattle.strm_data.specs.declared.data.Data.TheInside.{Inside}
+use Rattle.strm_data.specs.declared.data.DataBlock.{DataBlock}
+use Rattle.strm_data.specs.CountedStore.{CountedStore, IsKept, count_of}
+use Rattle.strm_data.specs.DataLayout.{no_class, no_block, class_at, block_at, region_at, start_in, bytes_in, seen_block, tabulated, counted, counted_store, IsPlaced}
+use Rattle.strm_data.specs.DataStore as store
+use Rattle.strm_data.specs.DataStore.{class_infos, no_data_block, data_block_at, class_of, capacity_of, overwritten, class_spec_at, no_class_spec}
+use Rattle.strm_data.proofs.lists.Tables.{length-tabulated, get_or-tabulated, tabulated-set, length-part, length-overwritten, part_before, part_behind, part_over}
+use Rattle.strm_data.proofs.store.Kept.{free_within}
+
+-- ---- one data block more or less to the right
+
+-- the place behind a data block is at most that of a later one
+start_later : (k : Class) (d e : ℕ) → k.first ≤ d → d < e → start_in k d + k.spec.size ≤ start_in k e
+start_later k d e from later =
+    let next : (d - k.first + 1) * k.spec.size ≤ (e - k.first) * k.spec.size = mul-le-mul_right k.spec.size (let l : d - k.first + 1 ≤ e - k.first = omega arith in l) in
+    omega (arith, next)
+
+-- and the region goes on to behind it
+pub start_within : (k : Class) (d : ℕ) → k.first ≤ d → d < k.first + k.spec.count → start_in k d + k.spec.size ≤ k.spec.size * k.spec.count
+start_within k d from below =
+    let next : (d - k.first + 1) * k.spec.size ≤ k.spec.count * k.spec.size = mul-le-mul_right k.spec.size (let l : d - k.first + 1 ≤ k.spec.count = omega arith in l) in
+    omega (arith, next)
+
+module _ (classes : List Class) (regions : List (List ℕ)) (blocks : List DataBlock) (free : List (List ℕ)) where
+  abbrev s : CountedStore
+  s = counted classes regions blocks free
+
+  pub length_seen : length s.store.blocks ≡ length blocks
+  length_seen = length-tabulated (seen_block classes regions blocks) (length blocks)
+
+  module _ (d : ℕ) (within : d < length blocks) where
+    pub seen_at : data_block_at s.store d ≡ seen_block classes regions blocks d
+    seen_at = get_or-tabulated (seen_block classes regions blocks) (length blocks) d no_data_block within
+
+    pub seen_count : count_of s d ≡ (block_at blocks d).names
+    seen_count = get_or-map (λ (b : DataBlock). b.names) blocks d no_block 0 within
+
+    pub seen_class : class_of s.store d ≡ (block_at blocks d).class
+    seen_class = ap (λ (b : store.DataBlock). b.class) seen_at
+
+    -- another block of the same class in its place
+    module _ (b : DataBlock) (class : b.class ≡ (block_at blocks d).class) where
+      abbrev new : List DataBlock
+      new = set blocks d b
+
+      here : block_at new d ≡ b
+      here = get_or-set_same blocks d b no_block within
+
+      elsewhere : (e : ℕ) → e ≢ d → block_at new e ≡ block_at blocks e
+      elsewhere e other = get_or-set_other blocks d e b no_block other
+
+      class_stays : (e : ℕ) → (block_at new e).class ≡ (block_at blocks e).class
+      class_stays e = elim (cases_eq e d) [
+        | inl same ↦ ap (λ j. (block_at new j).class) same ∙ ap (λ (x : DataBlock). x.class) here ∙ class ∙ ap (λ j. (block_at blocks j).class) (sym same)
+        | inr other ↦ ap (λ (x : DataBlock). x.class) (elsewhere e other)
+      ]
+
+      altered_here : seen_block classes regions new d ≡ record (data_block_at s.store d) { kind = b.kind }
+      altered_here =
+          ap (λ (x : DataBlock). record { class = x.class; kind = x.kind; bytes = bytes_in (class_at classes x.class) (region_at regions x.class) d }) here
+          ∙ ap (λ c. record { class = c; kind = b.kind; bytes = bytes_in (class_at classes c) (region_at regions c) d }) class
+          ∙ ap (λ (x : store.DataBlock). record x { kind = b.kind }) (sym seen_at)
+
+      altered_blocks : tabulated (seen_block classes regions new) (length new) ≡ set s.store.blocks d (record (data_block_at s.store d) { kind = b.kind })
+      altered_blocks =
+          ap (tabulated (seen_block classes regions new)) (length-set blocks d b)
+          ∙ tabulated-set (seen_block classes regions new) (seen_block classes regions blocks) (length blocks) d _ within altered_here
+          (λ e _ other. ap (λ (x : DataBlock). record { class = x.class; kind = x.kind; bytes = bytes_in (class_at classes x.class) (region_at regions x.class) e }) (elsewhere e other))
+
+      altered_counts : map (λ (x : DataBlock). x.names) new ≡ set s.counts d b.names
+      altered_counts = map-set (λ (x : DataBlock). x.names) blocks d b
+
+      pub seen_altered : (lists : List (List ℕ)) → counted classes regions new lists
+          ≡ record { store = record { classes = s.store.classes; blocks = set s.store.blocks d (record (data_block_at s.store d) { kind = b.kind }); free = lists }; counts = set s.counts d b.names }
+      seen_altered lists = λ i. record { store = record { classes = s.store.classes; blocks = altered_blocks i; free = lists }; counts = altered_counts i }
+
+      pub IsPlaced-altered : IsPlaced classes regions blocks → IsPlaced classes regions new
+      IsPlaced-altered placed = record {
+        regioned = placed.regioned;
+        filled = placed.filled;
+        from = λ e there. rw (class_stays e) (placed.from e (omega (arith, length-set blocks d b)));
+        below = λ e there. rw (class_stays e) (placed.below e (omega (arith, length-set blocks d b)));
+      }
+
+      -- of the same type too
+      renamed_blocks : b.kind ≡ (block_at blocks d).kind → tabulated (seen_block classes regions new) (length new) ≡ s.store.blocks
+      renamed_blocks kind =
+          altered_blocks ∙ ap (λ k. set s.store.blocks d (record (data_block_at s.store d) { kind = k })) (kind ∙ ap (λ (x : store.DataBlock). x.kind) (sym seen_at))
+          ∙ set-get_or s.store.blocks d no_data_block
+
+      -- and of as many names
+      pub seen_recounted : (lists : List (List ℕ)) → b.kind ≡ (block_at blocks d).kind → counted classes regions new lists
+          ≡ record { store = record s.store { free = lists }; counts = set s.counts d b.names }
+      seen_recounted lists kind = λ i. record { store = record { classes = s.store.classes; blocks = renamed_blocks kind i; free = lists }; counts = altered_counts i }
+
+    -- ---- bytes
+
+    module _ (placed : IsPlaced classes regions blocks) where
+      abbrev c : ℕ
+      c = (block_at blocks d).class
+
+      abbrev k : Class
+      k = class_at classes c
+
+      abbrev region : List ℕ
+      region = region_at regions c
+
+      -- the bytes of the data block lie in the region
+      pub whole : start_in k d + k.spec.size ≤ length region
+      whole = omega (arith, placed.filled c, start_within k d (placed.from d within) (placed.below d within))
+
+      pub seen_capacity : capacity_of s.store d ≡ k.spec.size
+      seen_capacity = ap (λ (b : store.DataBlock). length b.bytes) seen_at ∙ length-part k.spec.size (start_in k d) region whole
+
+      pub in_classes : c < length classes
+      in_classes = elim (cases_lt c (length classes)) [
+        | inl inside ↦ inside
+        | inr past ↦ absurd (omega (arith, ap (λ (x : Class). x.first + x.spec.count) (get_or_past classes c no_class past), placed.below d within))
+      ]
+
+      pub in_regions : c < length regions
+      in_regions = omega (arith, in_classes, placed.regioned)
+
+      -- bytes written over those of the data block
+      module _ (at : ℕ) (bytes : List ℕ) (room : at + length bytes ≤ k.spec.size) where
+        abbrev written : List ℕ
+        written = overwritten (start_in k d + at) bytes region
+
+        abbrev after : List (List ℕ)
+        after = set regions c written
+
+        pub length_written : length written ≡ length region
+        length_written = length-overwritten (start_in k d + at) bytes region (omega (arith, whole))
+
+        written_here : bytes_in k written d ≡ overwritten at bytes (bytes_in k region d)
+        written_here = part_over k.spec.size (start_in k d) at bytes region room whole
+
+        -- another block of the class
+        written_there : (e : ℕ) → e < length blocks → (block_at blocks e).class ≡ c → e ≢ d → bytes_in k written e ≡ bytes_in k region e
+        written_there e there same other =
+            let wide : start_in k d + at + length bytes ≤ length region = omega (arith, whole) in
+            let from : k.first ≤ e = subst (λ j. (class_at classes j).first ≤ e) same (placed.from e there) in
+            let below : e < k.first + k.spec.count = subst (λ j. e < (class_at classes j).first + (class_at classes j).spec.count) same (placed.below e there) in
+            elim (cases_lt e d) [
+              | inl earlier ↦ part_before (start_in k d + at) bytes region wide k.spec.size (start_in k e) (omega (arith, start_later k e d from earlier))
+              | inr later ↦
+                  part_behind (start_in k d + at) bytes region wide k.spec.size (start_in k e)
+                  (omega (arith, start_later k d e (placed.from d within) (omega (arith, other))))
+                  (omega (arith, start_within k e from below, placed.filled c))
+            ]
+
+        abbrev entry_with : List ℕ → ℕ → store.DataBlock
+        entry_with bytes e = record { class = (block_at blocks e).class; kind = (block_at blocks e).kind; bytes = bytes }
+
+        seen_here : seen_block classes after blocks d ≡ record (data_block_at s.store d) { bytes = overwritten at bytes (data_block_at s.store d).bytes }
+        seen_here =
+            ap (λ r. entry_with (bytes_in k r d) d) (get_or-set_same regions c written [] in_regions) ∙ ap (λ xs. entry_with xs d) written_here
+            ∙ ap (λ (x : store.DataBlock). record x { bytes = overwritten at bytes x.bytes }) (sym seen_at)
+
+        seen_there : (e : ℕ) → e < length blocks → e ≢ d → seen_block classes after blocks e ≡ seen_block classes regions blocks e
+        seen_there e there other =
+            let m = (block_at blocks e).class in
+            elim (cases_eq m c) [
+              | inl same ↦
+                  let of_class : (j : ℕ) → j ≡ c → bytes_in (class_at classes j) (region_at after j) e ≡ bytes_in (class_at classes j) (region_at regions j) e =
+                  λ j is. subst (λ i. bytes_in (class_at classes i) (region_at after i) e ≡ bytes_in (class_at classes i) (region_at regions i) e) (sym is)
+                  (ap (λ r. bytes_in k r e) (get_or-set_same regions c written [] in_regions) ∙ written_there e there same other) in
+                  ap (λ xs. entry_with xs e) (of_class m same)
+              | inr differs ↦ ap (λ r. entry_with (bytes_in (class_at classes m) r e) e) (get_or-set_other regions c m written [] differs)
+            ]
+
+        pub written_blocks : tabulated (seen_block classes after blocks) (length blocks) ≡ set s.store.blocks d (record (data_block_at s.store d) { bytes = overwritten at bytes (data_block_at s.store d).bytes })
+        written_blocks = tabulated-set (seen_block classes after blocks) (seen_block classes regions blocks) (length blocks) d _ within seen_here seen_there
+
+        pub IsPlaced-written : IsPlaced classes after blocks
+        IsPlaced-written = record {
+          regioned = omega (arith, placed.regioned, length-set regions c written);
+          filled = λ j. elim (cases_eq j c) [
+            | inl same ↦
+                subst (λ i. length (region_at after i) ≡ (class_at classes i).spec.size * (class_at classes i).spec.count) (sym same)
+                (ap length (get_or-set_same regions c written [] in_regions) ∙ length_written ∙ placed.filled c)
+            | inr other ↦ ap length (get_or-set_other regions c j written [] other) ∙ placed.filled j
+          ];
+          from = placed.from;
+          below = placed.below;
+        }
+
+-- ---- from what a contract sees
+
+module _ (a : Inside) (v : CountedStore) (view : counted_store a ≡ v) (d : ℕ) (there : d < length v.store.blocks) where
+  abbrev regions_of : List (List ℕ)
+  regions_of = map (λ r. r.items) a.regions.items
+
+  pub block_within : d < length a.blocks.items
+  block_within = omega (arith, ap (λ (s : CountedStore). length s.store.blocks) view, length_seen a.classes.items regions_of a.blocks.items a.free.lists)
+
+  -- b is data block d
+  module _ (b : DataBlock) (read : b ≡ get_or a.blocks.items d b) where
+    pub block_is : b ≡ block_at a.blocks.items d
+    block_is = read ∙ get_or_default a.blocks.items d b no_block block_within
+
+    pub count_is : b.names ≡ count_of v d
+    count_is =
+        ap (λ (x : DataBlock). x.names) block_is ∙ sym (seen_count a.classes.items regions_of a.blocks.items a.free.lists d block_within)
+        ∙ ap (λ (s : CountedStore). count_of s d) view
+
+    pub kind_is : b.kind ≡ (data_block_at v.store d).kind
+    kind_is =
+        ap (λ (x : DataBlock). x.kind) block_is ∙ ap (λ (x : store.DataBlock). x.kind) (sym (seen_at a.classes.items regions_of a.blocks.items a.free.lists d block_within))
+        ∙ ap (λ (s : CountedStore). (data_block_at s.store d).kind) view
+
+    pub class_of_is : b.class ≡ class_of v.store d
+    class_of_is =
+        ap (λ (x : DataBlock). x.class) block_is ∙ sym (seen_class a.classes.items regions_of a.blocks.items a.free.lists d block_within)
+        ∙ ap (λ (s : CountedStore). class_of s.store d) view
+
+    -- in class i, which k is
+    module _ (placed : IsPlaced a.classes.items regions_of a.blocks.items) (i : ℕ) (index : i ≡ b.class) where
+      pub same_class : i ≡ (block_at a.blocks.items d).class
+      same_class = index ∙ ap (λ (x : DataBlock). x.class) block_is
+
+      pub class_within : i < length a.classes.items
+      class_within = omega (arith, same_class, in_classes a.classes.items regions_of a.blocks.items a.free.lists d block_within placed)
+
+      pub region_within : i < length a.regions.items
+      region_within = omega (arith, class_within, placed.regioned, length-map a.regions.items (λ r. r.items))
+
+      -- r is its region
+      pub region_is : (r : Vec ℕ Global) → r ≡ get_or a.regions.items i r → region_at regions_of i ≡ r.items
+      region_is r read_region = get_or-map (λ (x : Vec ℕ Global). x.items) a.regions.items i r [] region_within ∙ ap (λ (x : Vec ℕ Global). x.items) (sym read_region)
+
+      pub list_within : IsKept (counted_store a) → i < length a.free.lists
+      list_within kept = omega (arith, class_within, kept.lists, length-map a.classes.items (λ k. k.spec))
+
+      module _ (k : Class) (read_class : k ≡ get_or a.classes.items i k) where
+        pub class_is : k ≡ class_at a.classes.items (block_at a.blocks.items d).class
+        class_is = read_class ∙ get_or_default a.classes.items i k no_class class_within ∙ ap (class_at a.classes.items) same_class
+
+        pub first_is : k.first ≤ d
+        first_is = rw class_is (placed.from d block_within)
+
+        pub capacity_is : k.spec.size ≡ capacity_of v.store d
+        capacity_is =
+            ap (λ (x : Class). x.spec.size) class_is ∙ sym (seen_capacity a.classes.items regions_of a.blocks.items a.free.lists d block_within placed)
+            ∙ ap (λ (s : CountedStore). capacity_of s.store d) view
+
+        -- where its bytes lie
+        pub range_within : start_in k d + k.spec.size ≤ length (region_at regions_of i)
+        range_within = rw (class_is, same_class) (whole a.classes.items regions_of a.blocks.items a.free.lists d block_within placed)
+
+        pub bytes_are : bytes_in k (region_at regions_of i) d ≡ (data_block_at v.store d).bytes
+        bytes_are =
+            (λ j. bytes_in (class_is j) (region_at regions_of (same_class j)) d)
+            ∙ ap (λ (x : store.DataBlock). x.bytes) (sym (seen_at a.classes.items regions_of a.blocks.items a.free.lists d block_within))
+            ∙ ap (λ (s : CountedStore). (data_block_at s.store d).bytes) view
+
+-- ---- what is told of a class
+
+abbrev pub info_of : ClassSpec × List ℕ → ClassInfo
+info_of p = record { size = p.0.size; free = length p.1; total = p.0.count }
+
+infos-get : (classes : List Class) (lists : List (List ℕ)) (c : ℕ) → length lists ≡ length classes
+    → slice_get (map info_of (zip (map (λ k. k.spec) classes) lists)) c ≡ option_map (λ k. info_of (k.spec, get_or lists c [])) (slice_get classes c)
+infos-get [] [] c long = refl
+infos-get [] (xs ∷ lists) c long = absurd (omega (arith, long))
+infos-get (k ∷ classes) [] c long = absurd (omega (arith, long))
+infos-get (k ∷ classes) (xs ∷ lists) zero long = refl
+infos-get (k ∷ classes) (xs ∷ lists) (suc c) long = infos-get classes lists c (omega (arith, long))
+
+module _ (a : Inside) (v : CountedStore) (view : counted_store a ≡ v) (kept : IsKept (counted_store a)) (c : ℕ) where
+  info_is : slice_get (class_infos v.store) c ≡ option_map (λ k. info_of (k.spec, get_or a.free.lists c [])) (slice_get a.classes.items c)
+  info_is =
+      ap (λ (s : CountedStore). slice_get (class_infos s.store) c) (sym view)
+      ∙ infos-get a.classes.items a.free.lists c (kept.lists ∙ length-map a.classes.items (λ k. k.spec))
+
+  -- of a class that is there
+  pub info_there : (k : Class) → c < length a.classes.items → k ≡ get_or a.classes.items c k → Some (info_of (k.spec, get_or a.free.lists c [])) ≡ slice_get (class_infos v.store) c
+  info_there k within read =
+      sym (info_is ∙ ap (option_map (λ (x : Class). info_of (x.spec, get_or a.free.lists c []))) (slice_get-get_or a.classes.items c k within ∙ ap Some (sym read)))
+
+  -- no more of it are free than there are
+  pub free_there : (k : Class) → c < length a.classes.items → k ≡ get_or a.classes.items c k → length (get_or a.free.lists c []) ≤ k.spec.count
+  free_there k within read =
+      let spec : class_spec_at (counted_store a).store c ≡ k.spec = get_or-map (λ (x : Class). x.spec) a.classes.items c k no_class_spec within ∙ ap (λ (x : Class). x.spec) (sym read) in
+      omega (arith, free_within (counted_store a) kept c, ap (λ (x : ClassSpec). x.count) spec)
+
+  -- and of one that isn't
+  pub info_past : length a.classes.items ≤ c → None ≡ slice_get (class_infos v.store) c
+  info_past past = sym (info_is ∙ ap (option_map (λ (x : Class). info_of (x.spec, get_or a.free.lists c []))) (slice_get_past a.classes.items c past))

@@ -1,0 +1,161 @@
+-- Data blocks that are laid out class by class.
+use Rattle.std.proofs.Common.{◌≡◌, ℕ, ◌+◌, ◌-◌, ◌*◌, ◌<◌, ◌≤◌, List, [], ◌∷◌, ◌++◌, length, get_or, map, take, replicate, refl, sym, ap, ◌∙◌, inl, inr, arith, length-append}
+use Rattle.std.proofs.lemmas.Bool.{cases_eq, cases_lt}
+use Rattle.std.proofs.lemmas.List.{get_or_append_left, get_or-append_right, get_or-replicate, get_or_past, length-replicate, length-map, map_push, map-append, replicate-append-replicate, drop-replicate, take-replicate}
+use Rattle.std.proofs.Math.Nat.{mul-le-mul_right}
+use Rattle.strm_data.specs.declared.class_spec.ClassSpec.{ClassSpec}
+use Rattle.strm_data.specs.declared.data.Class.{Class}
+use Rattle.strm_data.specs.declared.data.DataBlock.{DataBlock}
+use Rattle.strm_data.specs.declared.msg_type.MsgType.TheVariants.{MData}
+use Rattle.strm_data.specs.CountedStore.{opening_counted}
+use Rattle.strm_data.specs.Classes.{total_of}
+use Rattle.strm_data.specs.DataLayout.{no_class, no_block, class_at, block_at, region_at, start_in, bytes_in, seen_block, tabulated, counted, IsPlaced}
+use Rattle.strm_data.specs.DataStore.{fresh_data_block, numbers_from}
+use Rattle.strm_data.proofs.store.Opening.{blocks_from, blocks_from-push, length-blocks_from}
+use Rattle.strm_data.proofs.lists.Tables.{length-tabulated, tabulated-more}
+use Rattle.strm_data.proofs.lists.Repeated.{map-replicate}
+
+-- the data blocks of these classes are laid out, as new ones
+pub record AreOpened (specs : List ClassSpec) (classes : List Class) (regions : List (List ℕ)) (blocks : List DataBlock) : Type 0 where
+  pub specs_are : map (λ k. k.spec) classes ≡ specs
+  pub placed : IsPlaced classes regions blocks
+  pub classed : (d : ℕ) → d < length blocks → (block_at blocks d).class < length classes
+  pub fresh : tabulated (seen_block classes regions blocks) (length blocks) ≡ blocks_from 0 specs
+  pub unnamed : map (λ b. b.names) blocks ≡ replicate (length blocks) 0
+
+pub AreOpened-nil : AreOpened [] [] [] []
+AreOpened-nil = record {
+  specs_are = refl;
+  placed = record { regioned = refl; filled = λ c. refl; from = λ d there. absurd (omega arith); below = λ d there. absurd (omega arith) };
+  classed = λ d there. absurd (omega arith);
+  fresh = refl;
+  unnamed = refl;
+}
+
+-- bytes of a data block in a region of zeros
+zeros : (k : Class) (d : ℕ) → k.first ≤ d → d < k.first + k.spec.count → bytes_in k (replicate (k.spec.size * k.spec.count) 0) d ≡ replicate k.spec.size 0
+zeros k d from below =
+    let size = k.spec.size in
+    let next : (d - k.first + 1) * size ≤ k.spec.count * size = mul-le-mul_right size (let l : d - k.first + 1 ≤ k.spec.count = omega arith in l) in
+    let left : size ≤ size * k.spec.count - start_in k d = omega (arith, next) in
+    ap (take size) (drop-replicate (start_in k d) (size * k.spec.count) 0) ∙ take-replicate size (size * k.spec.count - start_in k d) 0 left
+
+-- one class more
+module _ (specs : List ClassSpec) (classes : List Class) (regions : List (List ℕ)) (blocks : List DataBlock) (opened : AreOpened specs classes regions blocks) (spec : ClassSpec) where
+  abbrev n : ℕ
+  n = length blocks
+
+  abbrev c : ℕ
+  c = length classes
+
+  abbrev class : Class
+  class = record { spec = spec; first = n }
+
+  abbrev block : DataBlock
+  block = record { class = c; kind = MData; names = 0 }
+
+  abbrev classes' : List Class
+  classes' = classes ++ class ∷ []
+
+  abbrev regions' : List (List ℕ)
+  regions' = regions ++ replicate (spec.size * spec.count) 0 ∷ []
+
+  abbrev blocks' : List DataBlock
+  blocks' = blocks ++ replicate spec.count block
+
+  length_blocks : length blocks' ≡ n + spec.count
+  length_blocks = omega (arith, length-append blocks (replicate spec.count block), length-replicate spec.count block)
+
+  old_class : (e : ℕ) → e < c → class_at classes' e ≡ class_at classes e
+  old_class e within = get_or_append_left classes (class ∷ []) no_class e within
+
+  old_region : (e : ℕ) → e < c → region_at regions' e ≡ region_at regions e
+  old_region e within = get_or_append_left regions (replicate (spec.size * spec.count) 0 ∷ []) [] e (omega (arith, opened.placed.regioned))
+
+  old_block : (d : ℕ) → d < n → block_at blocks' d ≡ block_at blocks d
+  old_block d within = get_or_append_left blocks (replicate spec.count block) no_block d within
+
+  new_class : class_at classes' c ≡ class
+  new_class = get_or-append_right classes (class ∷ []) c c no_class refl (omega arith) ∙ ap (λ j. get_or (class ∷ []) j no_class) (let e : c - c ≡ 0 = omega arith in e)
+
+  new_region : region_at regions' c ≡ replicate (spec.size * spec.count) 0
+  new_region =
+      get_or-append_right regions (replicate (spec.size * spec.count) 0 ∷ []) c c [] opened.placed.regioned (omega arith)
+      ∙ ap (λ j. get_or (replicate (spec.size * spec.count) 0 ∷ []) j []) (let e : c - c ≡ 0 = omega arith in e)
+
+  new_block : (d : ℕ) → n ≤ d → d < n + spec.count → block_at blocks' d ≡ block
+  new_block d past within = get_or-append_right blocks (replicate spec.count block) n d no_block refl past ∙ get_or-replicate spec.count (d - n) block no_block (omega arith)
+
+  class_of_old : (d : ℕ) → d < n → class_at classes' (block_at blocks' d).class ≡ class_at classes (block_at blocks d).class
+  class_of_old d within = ap (λ (x : DataBlock). class_at classes' x.class) (old_block d within) ∙ old_class (block_at blocks d).class (opened.classed d within)
+
+  class_of_new : (d : ℕ) → n ≤ d → d < n + spec.count → class_at classes' (block_at blocks' d).class ≡ class
+  class_of_new d past within = ap (λ (x : DataBlock). class_at classes' x.class) (new_block d past within) ∙ new_class
+
+  -- a data block of an earlier class is seen as before
+  seen_old : (d : ℕ) → d < n → seen_block classes' regions' blocks' d ≡ seen_block classes regions blocks d
+  seen_old d within =
+      let b = block_at blocks d in
+      ap (λ (x : DataBlock). record { class = x.class; kind = x.kind; bytes = bytes_in (class_at classes' x.class) (region_at regions' x.class) d }) (old_block d within)
+      ∙ (λ i. record { class = b.class; kind = b.kind; bytes = bytes_in (old_class b.class (opened.classed d within) i) (old_region b.class (opened.classed d within) i) d })
+
+  seen_new : (d : ℕ) → n ≤ d → d < n + spec.count → seen_block classes' regions' blocks' d ≡ fresh_data_block c spec
+  seen_new d past within =
+      ap (λ (x : DataBlock). record { class = x.class; kind = x.kind; bytes = bytes_in (class_at classes' x.class) (region_at regions' x.class) d }) (new_block d past within)
+      ∙ (λ i. record { class = c; kind = MData; bytes = bytes_in (new_class i) (new_region i) d })
+      ∙ ap (λ bs. record { class = c; kind = MData; bytes = bs }) (zeros class d past within)
+
+  pub AreOpened-push : AreOpened (specs ++ spec ∷ []) classes' regions' blocks'
+  AreOpened-push = record {
+    specs_are = map_push (λ (k : Class). k.spec) classes class ∙ ap (λ xs. xs ++ spec ∷ []) opened.specs_are;
+    placed = record {
+      regioned = omega (arith, length-append regions (replicate (spec.size * spec.count) 0 ∷ []), length-append classes (class ∷ []), opened.placed.regioned);
+      filled = λ e. elim (cases_lt e c) [
+        | inl before ↦ ap length (old_region e before) ∙ opened.placed.filled e ∙ ap (λ (k : Class). k.spec.size * k.spec.count) (sym (old_class e before))
+        | inr past ↦
+            elim (cases_eq e c) [
+              | inl same ↦
+                  ap (λ j. length (region_at regions' j)) same ∙ ap length new_region ∙ length-replicate (spec.size * spec.count) 0
+                  ∙ ap (λ (k : Class). k.spec.size * k.spec.count) (sym new_class) ∙ ap (λ j. (class_at classes' j).spec.size * (class_at classes' j).spec.count) (sym same)
+              | inr other ↦
+                  ap length (get_or_past regions' e [] (omega (arith, length-append regions (replicate (spec.size * spec.count) 0 ∷ []), opened.placed.regioned, other)))
+                  ∙ ap (λ (k : Class). k.spec.size * k.spec.count) (sym (get_or_past classes' e no_class (omega (arith, length-append classes (class ∷ []), other))))
+            ]
+      ];
+      from = λ d there. elim (cases_lt d n) [
+        | inl before ↦ omega (arith, ap (λ (k : Class). k.first) (class_of_old d before), opened.placed.from d before)
+        | inr past ↦ omega (arith, ap (λ (k : Class). k.first) (class_of_new d past (omega (arith, length_blocks))))
+      ];
+      below = λ d there. elim (cases_lt d n) [
+        | inl before ↦ omega (arith, ap (λ (k : Class). k.first + k.spec.count) (class_of_old d before), opened.placed.below d before)
+        | inr past ↦ omega (arith, ap (λ (k : Class). k.first + k.spec.count) (class_of_new d past (omega (arith, length_blocks))), length_blocks)
+      ];
+    };
+    classed = λ d there. elim (cases_lt d n) [
+      | inl before ↦ omega (arith, ap (λ (x : DataBlock). x.class) (old_block d before), opened.classed d before, length-append classes (class ∷ []))
+      | inr past ↦ omega (arith, ap (λ (x : DataBlock). x.class) (new_block d past (omega (arith, length_blocks))), length-append classes (class ∷ []))
+    ];
+    fresh =
+        ap (tabulated (seen_block classes' regions' blocks')) length_blocks
+        ∙ tabulated-more (seen_block classes' regions' blocks') (seen_block classes regions blocks) n spec.count (fresh_data_block c spec) seen_old seen_new
+        ∙ ap (λ bs. bs ++ replicate spec.count (fresh_data_block c spec)) opened.fresh
+        ∙ ap (λ m. blocks_from 0 specs ++ replicate spec.count (fresh_data_block m spec)) (let e : c ≡ 0 + length specs = omega (arith, ap length opened.specs_are, length-map classes (λ (k : Class). k.spec)) in e)
+        ∙ sym (blocks_from-push 0 specs spec);
+    unnamed =
+        map-append (λ (b : DataBlock). b.names) blocks (replicate spec.count block)
+        ∙ (λ i. opened.unnamed i ++ map-replicate (λ (b : DataBlock). b.names) spec.count block i)
+        ∙ replicate-append-replicate n spec.count 0 ∙ ap (λ m. replicate m 0) (sym length_blocks);
+  }
+
+-- all classes
+module _ (specs : List ClassSpec) (classes : List Class) (regions : List (List ℕ)) (blocks : List DataBlock) (opened : AreOpened specs classes regions blocks) where
+  pub length_opened : length blocks ≡ total_of specs
+  length_opened = sym (length-tabulated (seen_block classes regions blocks) (length blocks)) ∙ ap length opened.fresh ∙ length-blocks_from 0 specs
+
+  pub classes_opened : length classes ≡ length specs
+  classes_opened = omega (arith, ap length opened.specs_are, length-map classes (λ (k : Class). k.spec))
+
+  pub opened_is : counted classes regions blocks (numbers_from 0 specs) ≡ opening_counted specs
+  opened_is =
+      (λ i. record { store = record { classes = opened.specs_are i; blocks = opened.fresh i; free = numbers_from 0 specs }; counts = opened.unnamed i })
+      ∙ ap (λ n. record { store = (opening_counted specs).store; counts = replicate n 0 }) (length_opened ∙ sym (length-blocks_from 0 specs))

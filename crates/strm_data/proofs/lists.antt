@@ -1,0 +1,3 @@
+-- Plain lists.
+pub mod Repeated
+pub mod Tables

@@ -1,0 +1,139 @@
+-- The nodes of a chain become free, the last in front.
+use Rattle.std.proofs.Common.{◌≡◌, ◌≢◌, ℕ, suc, ◌+◌, ◌<◌, ◌≤◌, true, false, ◌==◌, List, [], ◌∷◌, ◌++◌, length, reverse, get_or, set, take, drop, Option, Some, None, IsSome, if◌then◌else◌, refl, sym, ap, ◌∙◌, subst, inl, inr, arith, length-append, length-set, drop-cons, get_or-set_same, get_or-set_other}
+use Rattle.std.proofs.lemmas.Bool.{cases_eq, false≢true}
+use Rattle.std.proofs.lemmas.List.{get_or_read, length-reverse, reverse-append, take_all, take_more}
+use Rattle.std.proofs.lemmas.Option.{none-some}
+use Rattle.strm_links.specs.Rows.{has, IsApart, first, first_or, last}
+use Rattle.strm_links.specs.Layout.{LeadsOn}
+use Rattle.strm_links.specs.Chains.{chain_in}
+use Rattle.strm_links.specs.StrandLists.{StrandLists, strand_at}
+use Rattle.strm_links.specs.StrandLayout.{IsLaid, IsStrand, next_at, no_node, no_span, node_at, span_at}
+use Rattle.strm_links.specs.declared.strands.Node.{Node}
+use Rattle.strm_links.specs.declared.strands.Span.{Span}
+use Rattle.strm_links.proofs.lists.ListLinks.{LeadsOn-kept}
+use Rattle.strm_links.proofs.lists.Counting.{has_times, times-append, times-reverse, times_has}
+use Rattle.strm_links.proofs.lists.Chains.{Changes-one, times-set}
+use Rattle.strm_links.proofs.lists.OneList.{absent_both, absent_parts}
+use Rattle.strm_links.proofs.chaining.Laid.{head_low, strand_laid}
+use Rattle.strm_links.proofs.chaining.ChainLinks.{absent_take, first_front, link_at, LeadsOn-append}
+use Rattle.strm_links.proofs.chaining.Moves.{IsLaid-moved, Moves, unwritten, written}
+use Rattle.strm_links.proofs.chaining.Parts.{freed_few, not_in_other, not_in_strand}
+
+-- the last comes first once a list is turned round
+first-reverse : (xs : List ℕ) (t : ℕ) → last xs ≡ Some t → first (reverse xs) ≡ Some t
+first-reverse [] t is = absurd (none-some t is)
+first-reverse (x ∷ []) t is = is
+first-reverse (x ∷ y ∷ ys) t is = ap first (reverse-append (x ∷ []) (y ∷ ys)) ∙ first_front t (reverse (y ∷ ys)) (x ∷ []) (first-reverse (y ∷ ys) t is)
+
+module _ (nodes : List Node) (first_free : Option ℕ) (free_len : ℕ) (v : StrandLists) (laid : IsLaid nodes first_free free_len v) (h : ℕ) (some_h : IsSome (chain_in v.chains h)) where
+  was : IsStrand (next_at nodes) (span_at nodes h) h (strand_at v h)
+  was = strand_laid nodes first_free free_len v laid h some_h
+
+  -- with the free ones they are no more than there are nodes
+  pub freed_room : free_len + (span_at nodes h).len ≤ length v.chains
+  freed_room = omega (arith, laid.free_count, was.len, length-append (strand_at v h) v.free, freed_few v laid.once h)
+
+  module _ (new : List Node) (long : length new ≡ length nodes) (turned : LeadsOn (next_at new) (reverse (strand_at v h)) first_free)
+      (links : (k : ℕ) → has k (strand_at v h) ≡ false → next_at new k ≡ next_at nodes k)
+      (spans : (k : ℕ) → span_at new k ≡ (if h == k then no_span else span_at nodes k)) where
+    free : List ℕ
+    free = reverse (strand_at v h) ++ v.free
+
+    moves : Moves nodes new v free (strand_at v h) (set v.chains h None) h h None None
+    unfolding free
+    moves =
+        let none : (span_at new h).len ≡ 0 = ap (λ (s : Span). s.len) (spans h ∙ written h _ _) in
+        record {
+          long = long;
+          changes = Changes-one v.chains h None (head_low nodes first_free free_len v laid h some_h);
+          spans = λ g other _. spans g ∙ unwritten h g _ _ other;
+          links = links;
+          others = λ g k other _ there. not_in_other v laid.once g h k other there;
+          here = none;
+          there = none;
+          free_leads = LeadsOn-append (next_at new) (reverse (strand_at v h)) v.free None (subst (LeadsOn (next_at new) (reverse (strand_at v h))) laid.free_front turned)
+              (LeadsOn-kept (next_at nodes) (next_at new) v.free None (λ k there. links k (not_in_strand v laid.once h k there)) laid.free_leads);
+          same = λ k.
+              omega (
+                arith,
+                times-append k (reverse (strand_at v h)) v.free,
+                times-reverse k (strand_at v h),
+                times-set k h None v.chains (head_low nodes first_free free_len v laid h some_h),
+              );
+        }
+
+    pub IsLaid-freed : IsLaid new (Some (span_at nodes h).last) (free_len + (span_at nodes h).len) (record v { free = reverse (strand_at v h) ++ v.free; chains = set v.chains h None })
+    unfolding free
+    IsLaid-freed =
+        IsLaid-moved nodes new v free (strand_at v h) (set v.chains h None) h h None None moves first_free (Some (span_at nodes h).last) free_len (free_len + (span_at nodes h).len) laid
+        (sym (first_front _ (reverse (strand_at v h)) v.free (first-reverse (strand_at v h) _ was.last)))
+        (omega (arith, laid.free_count, was.len, length-append (reverse (strand_at v h)) v.free, length-reverse (strand_at v h)))
+
+-- ---- the walk that turns the links
+
+has-reverse : (k : ℕ) (xs : List ℕ) → has k (reverse xs) ≡ true → has k xs ≡ true
+has-reverse k xs there = has_times k xs (omega (arith, times-reverse k xs, times_has k (reverse xs) there))
+
+-- the first `i` of `xs` are turned, and lead on to `beyond`; the walk is at the next one, and `onto` is the last turned
+pub record Turns (old now : List Node) (beyond : Option ℕ) (xs : List ℕ) (i : ℕ) (at onto : Option ℕ) : Type 0 where
+  pub at_is : at ≡ first (drop i xs)
+  pub onto_is : onto ≡ first_or beyond (reverse (take i xs))
+  pub turned : LeadsOn (next_at now) (reverse (take i xs)) beyond
+  pub others : (k : ℕ) → has k (take i xs) ≡ false → next_at now k ≡ next_at old k
+  pub spans : (k : ℕ) → span_at now k ≡ span_at old k
+  pub len : length now ≡ length old
+
+pub Turns-start : (nodes : List Node) (beyond at : Option ℕ) (xs : List ℕ) → at ≡ first xs → Turns nodes nodes beyond xs 0 at beyond
+Turns-start nodes beyond at xs begins = record {
+  at_is = begins;
+  onto_is = refl;
+  turned = tt;
+  others = λ k _. refl;
+  spans = λ k. refl;
+  len = refl;
+}
+
+module _ (old now : List Node) (beyond : Option ℕ) (xs : List ℕ) (i : ℕ) (at onto : Option ℕ) (turns : Turns old now beyond xs i at onto) where
+  -- at the end all are turned
+  pub turned_all : length xs ≤ i → (LeadsOn (next_at now) (reverse xs) beyond) × ((k : ℕ) → has k xs ≡ false → next_at now k ≡ next_at old k)
+  turned_all all =
+      let whole : take i xs ≡ xs = take_all i xs all in
+      (subst (λ ys. LeadsOn (next_at now) (reverse ys) beyond) whole turns.turned, λ k absent. turns.others k (ap (has k) whole ∙ absent))
+
+  module _ (more : i < length xs) where
+    -- before the end there is a next one
+    pub turn_at : at ≡ Some (get_or xs i 0)
+    turn_at = turns.at_is ∙ ap first (drop-cons xs i 0 more)
+
+    module _ (apart : IsApart xs) (leads : LeadsOn (next_at old) xs None) (n : ℕ) (is : n ≡ get_or xs i 0) (low : n < length now) where
+      off : has n (take i xs) ≡ false
+      off = ap (λ j. has j (take i xs)) is ∙ absent_take xs i apart more
+
+      -- and it leads on to what was turned before it
+      pub Turns-more : (y : Node) (later : List Node) (at' onto' : Option ℕ) → y ≡ get_or now n y → later ≡ set now n (record y { next = onto }) → at' ≡ y.next → onto' ≡ Some n → Turns old later beyond xs (i + 1) at' onto'
+      Turns-more y later at' onto' read write on last =
+          let known : y ≡ node_at now n = get_or_read now n y low read no_node in
+          let same : (k : ℕ) → k ≢ n → node_at later k ≡ node_at now k = λ k other. ap (λ ys. node_at ys k) write ∙ get_or-set_other now n k (record y { next = onto }) no_node other in
+          let new : node_at later n ≡ record y { next = onto } = ap (λ ys. node_at ys n) write ∙ get_or-set_same now n (record y { next = onto }) no_node low in
+          let longer : take (i + 1) xs ≡ take i xs ++ n ∷ [] = take_more xs i 0 more ∙ ap (λ j. take i xs ++ j ∷ []) (sym is) in
+          let turn : reverse (take (i + 1) xs) ≡ n ∷ reverse (take i xs) = ap reverse longer ∙ reverse-append (take i xs) (n ∷ []) in
+          let one_more : suc i ≡ i + 1 = omega arith in
+          record {
+            at_is = on ∙ ap (λ (x : Node). x.next) known ∙ turns.others n off ∙ ap (next_at old) is ∙ link_at (next_at old) xs None i leads more ∙ ap (λ j. first (drop j xs)) one_more;
+            onto_is = last ∙ sym (ap (first_or beyond) turn);
+            turned = subst (λ ys. LeadsOn (next_at later) ys beyond) (sym turn)
+                ((
+                  ap (λ (x : Node). x.next) new ∙ turns.onto_is,
+                  LeadsOn-kept (next_at now) (next_at later) (reverse (take i xs)) beyond
+                      (λ k there. ap (λ (x : Node). x.next) (same k (λ equal. false≢true (sym off ∙ ap (λ j. has j (take i xs)) (sym equal) ∙ has-reverse k (take i xs) there))))
+                      turns.turned,
+                ));
+            others = λ k absent.
+                let far = absent_both k (take i xs) (n ∷ []) (sym (ap (has k) longer) ∙ absent) in
+                ap (λ (x : Node). x.next) (same k (λ equal. (absent_parts n k [] far.1).0 (sym equal))) ∙ turns.others k far.0;
+            spans = λ k. elim (cases_eq k n) [
+              | inl equal ↦ ap (span_at later) equal ∙ ap (λ (x : Node). x.span) new ∙ ap (λ (x : Node). x.span) known ∙ ap (span_at now) (sym equal) ∙ turns.spans k
+              | inr other ↦ ap (λ (x : Node). x.span) (same k other) ∙ turns.spans k
+            ];
+            len = ap length write ∙ length-set now n (record y { next = onto }) ∙ turns.len;
+          }

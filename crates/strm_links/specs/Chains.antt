@@ -1,0 +1,34 @@
+-- Chains of anything, each at the number of its first item. No link shows.
+use Rattle.std.specs.Prelude.{ℕ, ◌+◌, List, [], ◌∷◌, ◌++◌, take, drop, Option, None, Some, unwrap_or, slice_get, slice_index_or, slice_set}
+use Rattle.std.specs.List.{flat_map}
+
+-- the items of a chain, if there is one
+abbrev pub items_of : {X : Type 0} → Option (List X) → List X
+items_of m = unwrap_or m []
+
+-- the chain that begins with this number, if there is one
+abbrev pub chain_in : {X : Type 0} → List (Option (List X)) → ℕ → Option (List X)
+chain_in chains h = slice_index_or chains h None
+
+-- all items of these chains
+abbrev pub items_in : {X : Type 0} → List (Option (List X)) → List X
+items_in chains = flat_map items_of chains
+
+-- the chain at g joins the one at h, behind it
+abbrev pub joined : {X : Type 0} → ℕ → ℕ → List (Option (List X)) → List (Option (List X))
+joined h g chains = slice_set (slice_set chains g None) h (Some (items_of (chain_in chains h) ++ items_of (chain_in chains g)))
+
+-- these items, which stand at h, without the first: the others are a chain of their own, if there are any
+abbrev pub divided : {X : Type 0} → (X → ℕ) → ℕ → List X → List (Option (List X)) → List (Option (List X))
+divided number h [] chains = chains
+divided number h (x ∷ []) chains = chains
+divided number h (x ∷ y ∷ rest) chains = slice_set (slice_set chains h (Some (x ∷ []))) (number y) (Some (y ∷ rest))
+
+-- the item, if there is one, is a chain of its own; the rest stays at h
+abbrev pub set_apart : {X : Type 0} → (X → ℕ) → ℕ → List X → Option X → List (Option (List X)) → List (Option (List X))
+set_apart number h rest None chains = chains
+set_apart number h rest (Some x) chains = slice_set (slice_set chains h (Some rest)) (number x) (Some (x ∷ []))
+
+-- item k of these, which stand at h, is a chain of its own, if there is such an item
+abbrev pub taken_out : {X : Type 0} → (X → ℕ) → ℕ → ℕ → List X → List (Option (List X)) → List (Option (List X))
+taken_out number h k xs chains = set_apart number h (take k xs ++ drop (k + 1) xs) (slice_get xs k) chains

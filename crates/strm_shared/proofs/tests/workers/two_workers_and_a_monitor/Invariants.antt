@@ -1,0 +1,5 @@
+use Rattle.strm_shared.specs.Starts.{name_of}
+use Rattle.strm_shared.proofs.tests.workers.two_workers_and_a_monitor.Given as goal
+
+abbrev pub ghosts-work : goal.ghosts-work
+ghosts-work g a = name_of a.start

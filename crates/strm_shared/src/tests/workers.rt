@@ -1,0 +1,328 @@
+//! Workers on threads of their own.
+ghost use Rattle.std.specs.Prelude.{◌≡◌, length};
+ghost use Rattle.strm_shared.specs.Starts.{IsNameOf};
+
+use super::{assert_census, assert_served, emptied, opened, reg, start, start_of, ungathered};
+use crate::{
+    Brand, Desks, End, Gate, Line, Lines, MOST_STAMP, MOST_WORKERS, Name, OpenGate, Outcome, Parts,
+    Replies, Shared, Start, run_workers,
+};
+use std::alloc::{AllocError, Global};
+use std::process::Abort;
+use std::sync::Wait;
+use std::sync::atomic::{AtomicU32, Ordering};
+use std::test::Fail;
+use std::thread::Threads;
+use strm_pool::{Call, Census, Refusal, Reg, Reply};
+
+// Each of two workers waits before its lines until the other has come, for so many turns at most.
+const TURNS: u32 = 100_000_000;
+
+// Where two workers of two lines each wait for each other: which lines have come, and were answered, each as a digit of four
+// bits, how many waited in vain, and how many were answered that had not come.
+#[derive(Drop)]
+struct Meeting {
+    came: AtomicU32,
+    answered: AtomicU32,
+    missed: AtomicU32,
+    early: AtomicU32,
+}
+
+// All four lines, once each.
+const ALL: u32 = 0x1111;
+
+// The digit of a worker's line.
+fn digit(worker: u8, line: u32) -> u32 {
+    1_u32.wrapping_shl(
+        u32::from(worker)
+            .wrapping_mul(8)
+            .wrapping_add(line.wrapping_mul(4)),
+    )
+}
+
+impl Meeting {
+    fn new() -> Meeting {
+        Meeting {
+            came: AtomicU32::new(0),
+            answered: AtomicU32::new(0),
+            missed: AtomicU32::new(0),
+            early: AtomicU32::new(0),
+        }
+    }
+
+    // Whether the other worker comes in time, which has other digits.
+    fn meets(&self, worker: u8) -> bool {
+        let others = if worker == 0 { 0xFF00 } else { 0x00FF };
+        for _ in 0..TURNS {
+            if self.came.load(Ordering::SeqCst) & others != 0 {
+                return true;
+            }
+        }
+        false
+    }
+}
+
+impl Gate for Meeting {
+    fn before(&self, worker: u8, line: u32) {
+        self.came.fetch_add(digit(worker, line), Ordering::SeqCst);
+        if !self.meets(worker) {
+            self.missed.fetch_add(1, Ordering::SeqCst);
+        }
+    }
+
+    fn after(&self, worker: u8, line: u32) {
+        let own = digit(worker, line);
+        if self.came.load(Ordering::SeqCst) & own == 0 {
+            self.early.fetch_add(1, Ordering::SeqCst);
+        }
+        self.answered.fetch_add(own, Ordering::SeqCst);
+    }
+}
+
+// So many lines of a worker, each an `allocb` and then a `freemsg` of a register.
+fn lines(alloc: Global, reg: Reg, rounds: u32) -> Result<Lines, AllocError> {
+    let mut list = Vec::new(alloc);
+    for round in 0..rounds {
+        let number = round.wrapping_mul(2);
+        let call = Call::Allocb(reg, 16);
+        list.push(Line { number, call })?;
+        let call = Call::Freemsg(reg);
+        list.push(Line {
+            number: number.wrapping_add(1),
+            call,
+        })?;
+    }
+    Ok(Lines::of(list))
+}
+
+// Such lines of so many workers.
+fn parts(alloc: Global, reg: Reg, workers: u8, rounds: u32) -> Result<Parts, AllocError> {
+    let mut list = Vec::new(alloc);
+    for _ in 0..workers {
+        list.push(lines(alloc, reg, rounds)?)?;
+    }
+    Ok(Parts::of(list))
+}
+
+// Each worker has all its lines answered as done.
+fn assert_done(rt: &impl Abort, replies: &[Replies], ends: &[End], count: usize) {
+    assert!(rt; ends.iter().all(|end| *end == End::Done));
+    for given in replies {
+        assert_eq!(rt; given.items().len(), count);
+        assert!(rt; given.items().iter().all(|reply| *reply == Reply::Done));
+    }
+}
+
+// What workers leave that have these parts served, each on the desk of its place.
+fn ran<N: Name + Send + Sync, R: Threads + Wait + Abort + Sync, G: Gate>(
+    rt: &R,
+    alloc: Global,
+    shared: &Shared<N>,
+    desks: Desks<N>,
+    parts: &Parts,
+    gate: &G,
+) -> Outcome<N> {
+    assert!(rt; parts.items().len() == desks.len());
+    match run_workers(rt, alloc, shared, desks, parts, gate) {
+        Ok(outcome) => outcome,
+        Err((_, desks)) => {
+            desks.forget();
+            panic!(rt; "out of memory")
+        }
+    }
+}
+
+// A pool of four message blocks over two data blocks of 16 bytes, which so many desks share.
+fn small(rt: &impl Abort, alloc: Global, desks: u8) -> Start {
+    let pool = opened(rt, alloc, 1, 4, &[(16, 2)]);
+    start_of(rt, alloc, pool, desks, 0)
+}
+
+// Two workers at most have so many rounds served at the small pool. One desk more is a monitor's, who looks once they have
+// ended.
+fn work<N: Name + Send + Sync, R: Threads + Wait + Abort + Sync, G: Gate>(
+    rt: &R,
+    alloc: Global,
+    start: Start,
+    gate: &G,
+    rounds: u32,
+) -> Result<(), Fail>
+    requires { IsNameOf N.Name start }
+{
+    let (shared, mut desks) = start.open::<N>();
+    assert!(rt; desks.len() > 0);
+    let mut monitor = desks.take_last();
+    let parts = parts(alloc, reg(rt, b'a'), desks.len() as u8, rounds).expect(rt, "memory");
+    let Outcome {
+        desks,
+        replies,
+        ends,
+    } = ran(rt, alloc, &shared, desks, &parts, gate);
+    let count = (rounds as usize).wrapping_mul(2);
+    assert_done(rt, replies.items(), ends.items(), count);
+    let (free, queued, held) = (4, 0, 0);
+    let census = Reply::Census(Census { free, queued, held });
+    assert_served(rt, &shared, &mut monitor, &Call::Census, &census);
+    let (shared, mut desks) = ungathered(rt, shared, desks);
+    assert!(rt; desks.len() < MOST_WORKERS);
+    desks.push(monitor);
+    let pool = emptied(rt, shared.gather(desks));
+    assert_census(rt, &pool, (4, 0, 0));
+    Ok(())
+}
+
+#[test]
+fn two_threads_at_once(rt: HostRuntime) -> Result<(), Fail> {
+    let gate = Meeting::new();
+    work::<Brand, _, _>(&rt, rt.alloc(), small(&rt, rt.alloc(), 3), &gate, 1)?;
+    assert_eq!(rt; gate.missed.load(Ordering::SeqCst), 0);
+    assert_eq!(rt; gate.early.load(Ordering::SeqCst), 0);
+    assert_eq!(rt; gate.came.load(Ordering::SeqCst), ALL);
+    assert_eq!(rt; gate.answered.load(Ordering::SeqCst), ALL);
+    Ok(())
+}
+
+#[test]
+fn sixteen_workers_at_one_pool(rt: HostRuntime) -> Result<(), Fail> {
+    let sixteen = start(&rt, rt.alloc(), 7, 16, 0);
+    crowd::<Brand, _>(&rt, rt.alloc(), sixteen)
+}
+
+// Each of sixteen workers puts messages on one queue and takes others off it, 1,000 lines in all. What is left on the
+// queue is what was put and not taken.
+fn crowd<N: Name + Send + Sync, R: Threads + Wait + Abort + Sync>(
+    rt: &R,
+    alloc: Global,
+    start: Start,
+) -> Result<(), Fail>
+    requires { IsNameOf N.Name start }
+{
+    let (shared, desks) = start.open::<N>();
+    let parts = queueing(alloc, reg(rt, b'a'), desks.len() as u8).expect(rt, "memory");
+    let Outcome {
+        desks,
+        replies,
+        ends,
+    } = ran(rt, alloc, &shared, desks, &parts, &OpenGate);
+    assert!(rt; ends.items().iter().all(|end| *end == End::Done));
+    let left = count_left(replies.items());
+    let pool = emptied(rt, shared.gather(desks));
+    assert!(rt; left > 0);
+    assert_eq!(rt; pool.census().queued, left);
+    assert_eq!(rt; pool.census().held, 0);
+    Ok(())
+}
+
+// The lines of so many workers, 1,000 for each: `allocb`, `putq`, `getq` and `freemsg`, and so on; in the last round nothing
+// is taken off the queue.
+fn queueing(alloc: Global, reg: Reg, workers: u8) -> Result<Parts, AllocError> {
+    let mut list = Vec::new(alloc);
+    for _ in 0..workers {
+        let mut lines = Vec::new(alloc);
+        for number in 0..1000 {
+            let call = match number % 4 {
+                0 => Call::Allocb(reg, 16),
+                1 => Call::Putq(0, reg),
+                2 if number < 998 => Call::Getq(0, reg),
+                2 => Call::Census,
+                _ => Call::Freemsg(reg),
+            };
+            lines.push(Line { number, call })?;
+        }
+        list.push(Lines::of(lines))?;
+    }
+    Ok(Parts::of(list))
+}
+
+// How many more messages were put on the queue than taken off it.
+fn count_left(replies: &[Replies]) -> u32 {
+    let mut left: u32 = 0;
+    for given in replies {
+        for (place, reply) in given.items().iter().enumerate() {
+            if *reply == Reply::Done {
+                match place % 4 {
+                    1 => left = left.wrapping_add(1),
+                    2 => left = left.wrapping_sub(1),
+                    _ => {}
+                }
+            }
+        }
+    }
+    left
+}
+
+#[test]
+fn two_workers_and_a_monitor(rt: HostRuntime) -> Result<(), Fail> {
+    let two = small(&rt, rt.alloc(), 3);
+    work::<Brand, _, _>(&rt, rt.alloc(), two, &OpenGate, 500)
+}
+
+#[test]
+fn one_worker_of_many_lines(rt: HostRuntime) -> Result<(), Fail> {
+    let one = small(&rt, rt.alloc(), 2);
+    work::<Brand, _, _>(&rt, rt.alloc(), one, &OpenGate, 1500)
+}
+
+#[test]
+fn replies_in_order(rt: HostRuntime) -> Result<(), Fail> {
+    unlike::<Brand, _>(
+        &rt,
+        rt.alloc(),
+        start(&rt, rt.alloc(), 7, 1, 0),
+        4,
+        End::Done,
+    )?;
+    let end = End::Refused(Refusal::Worn);
+    let late = start(&rt, rt.alloc(), 7, 1, MOST_STAMP - 3);
+    unlike::<Brand, _>(&rt, rt.alloc(), late, 3, end)
+}
+
+// One worker has four lines with replies of four sorts, of which so many are served, and ends so.
+fn unlike<N: Name + Send + Sync, R: Threads + Wait + Abort + Sync>(
+    rt: &R,
+    alloc: Global,
+    start: Start,
+    count: usize,
+    end: End,
+) -> Result<(), Fail>
+    requires { IsNameOf N.Name start }
+{
+    let a = reg(rt, b'a');
+    let (shared, desks) = start.open::<N>();
+    let calls = [
+        Call::Allocb(a, 3),
+        Call::Allocb(a, 3),
+        Call::Msgdsize(a),
+        Call::Qsize(9),
+    ];
+    let parts = one_part(alloc, calls).expect(rt, "memory");
+    let Outcome {
+        desks,
+        replies,
+        ends,
+    } = ran(rt, alloc, &shared, desks, &parts, &OpenGate);
+    let replies = replies.items();
+    let wanted = [
+        Reply::Done,
+        Reply::Taken,
+        Reply::Size(0),
+        Reply::Refused(Refusal::NoSuchQueue),
+    ];
+    assert!(rt; ends.items() == [end].as_slice());
+    assert_eq!(rt; replies.len(), 1);
+    assert!(rt; count <= wanted.len() && replies[0].items() == &wanted[..count]);
+    let pool = emptied(rt, shared.gather(desks));
+    assert_census(rt, &pool, (8, 0, 0));
+    Ok(())
+}
+
+// One worker's lines, which are these calls.
+fn one_part(alloc: Global, calls: [Call; 4]) -> Result<Parts, AllocError> {
+    let mut lines = Vec::new(alloc);
+    for call in calls {
+        lines.push(Line { number: 1, call })?;
+    }
+    let mut list = Vec::new(alloc);
+    list.push(Lines::of(lines))?;
+    Ok(Parts::of(list))
+}

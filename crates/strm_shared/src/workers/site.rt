@@ -1,0 +1,46 @@
+//! What every worker is handed.
+use crate::name::Name;
+use crate::shared::Shared;
+use std::sync::atomic::{AtomicU64, Ordering};
+
+// What every worker is handed: by what it waits, the pool, the gate, and which worker had no thread.
+pub(super) struct Site<'s, N: Name, R, G> {
+    pub(super) rt: &'s R,
+    pub(super) shared: &'s Shared<N>,
+    pub(super) gate: &'s G,
+    // The number of the last one that had none, raised by 1, or 0.
+    refused: AtomicU64,
+}
+
+impl<'s, N: Name, R, G> Drop for Site<'s, N, R, G> {
+    fn drop(self) {
+        let Site {
+            rt: _,
+            shared: _,
+            gate: _,
+            refused: _,
+        } = self;
+    }
+}
+
+impl<'s, N: Name, R, G> Site<'s, N, R, G> {
+    // Where no worker was refused a thread.
+    pub(super) fn new(rt: &'s R, shared: &'s Shared<N>, gate: &'s G) -> Site<'s, N, R, G> {
+        Site {
+            rt,
+            shared,
+            gate,
+            refused: AtomicU64::new(0),
+        }
+    }
+
+    // Notes that this worker has no thread.
+    pub(super) fn refuse(&self, number: u8) {
+        self.refused.store(u64::from(number) + 1, Ordering::SeqCst);
+    }
+
+    // Whether this worker was the last one that had no thread.
+    pub(super) fn has_refused(&self, number: u8) -> bool {
+        self.refused.load(Ordering::SeqCst) == u64::from(number) + 1
+    }
+}

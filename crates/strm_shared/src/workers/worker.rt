@@ -1,0 +1,76 @@
+//! A worker, with its desk and its replies.
+ghost use Rattle.std.specs.Prelude.{◌≡◌};
+ghost use Rattle.strm_shared.specs.Runs.{Worked};
+ghost use Rattle.strm_shared.specs.RunsLayout.{IsReady};
+
+use super::site::Site;
+use crate::desk::Desk;
+use crate::gate::Gate;
+use crate::line::Line;
+use crate::name::Name;
+use crate::outcome::End;
+use std::sync::Wait;
+use strm_pool::Reply;
+
+// A worker: its desk, its replies, with room for all that come, and how it ended. A thread takes and gives back only what
+// may be dropped; dropped, a worker gives its desk up.
+pub(super) struct Worker<N: Name> {
+    pub(super) desk: Desk<N>,
+    pub(super) replies: Vec<Reply>,
+    pub(super) end: End,
+}
+
+impl<N: Name> Drop for Worker<N> {
+    fn drop(self) {
+        let Worker {
+            desk,
+            replies: _,
+            end: _,
+        } = self;
+        desk.forget();
+    }
+}
+
+impl<N: Name> Worker<N> {
+    // Its parts.
+    pub(super) fn apart(self) -> (Desk<N>, Vec<Reply>, End)
+        ensures { (result.0 ≡ self.desk) × (result.1 ≡ self.replies) × (result.2 ≡ self.end) }
+    {
+        let Worker { desk, replies, end } = self;
+        (desk, replies, end)
+    }
+
+    // Has the lines served, up to the first that is refused.
+    pub(super) fn work<R: Wait, G: Gate>(
+        self,
+        site: &Site<N, R, G>,
+        number: u8,
+        lines: &[Line],
+    ) -> Worker<N>
+        requires { IsReady lines.now self.replies }
+        ensures { Worked N.Name lines.now self.desk result.end result.replies.items result.desk }
+    {
+        let Worker {
+            mut desk,
+            mut replies,
+            end: _,
+        } = self;
+        for i in 0..lines.len() {
+            let line = &lines[i];
+            site.gate.before(number, line.number);
+            let answer = site
+                .shared
+                .serve(site.rt, &mut desk, line.number, &line.call);
+            site.gate.after(number, line.number);
+            match answer {
+                Ok(reply) => replies.push_reserved(reply),
+                Err(why) => {
+                    let end = End::Refused(why);
+                    return Worker { desk, replies, end };
+                }
+            }
+        }
+        let end = End::Done;
+        Worker { desk, replies, end }
+    }
+}
