@@ -8,7 +8,7 @@ use Rattle.strm_shared.specs.declared.name.Name.{Ghosts}
 use Rattle.strm_shared.specs.declared.outcome.End.{End}
 use Rattle.strm_shared.specs.declared.outcome.End.TheVariants as ends
 use Rattle.strm_shared.specs.Books.{MayRefuse}
-use Rattle.strm_shared.specs.Desks.{DeskValue, empty_desk}
+use Rattle.strm_shared.specs.Desks.{DeskValue}
 use Rattle.strm_shared.specs.Runs.{AllWorked, Worked}
 use Rattle.strm_driver.specs.Told.{first_refused}
 

@@ -1,4 +1,5 @@
 mod Ends
+mod Faults
 mod Merges
 mod Serving
 mod Rows

@@ -1,5 +1,5 @@
 -- What an input gives: its first fault, or a text.
-use Rattle.std.specs.Prelude.{◌≡◌, ℕ, nat_lt, List, ◌∷◌, length, Option, None, Some, Result, Ok, Err, IsOkAnd, if◌then◌else◌}
+use Rattle.std.specs.Prelude.{◌≡◌, ℕ, nat_lt, List, length, Option, None, Some, Result, Ok, Err, IsOkAnd, if◌then◌else◌}
 use Rattle.std.specs.Option.{option_map}
 use Rattle.strm_pool.specs.declared.config.Config.{Config as ConfigValue}
 use Rattle.strm_pool.specs.Config.{fault_of}

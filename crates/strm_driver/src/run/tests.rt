@@ -166,7 +166,8 @@ impl Gate for Meeting {
     }
 
     fn after(&self, worker: u8, line: u32) {
-        self.answered.fetch_add(digit(worker, line), Ordering::SeqCst);
+        self.answered
+            .fetch_add(digit(worker, line), Ordering::SeqCst);
     }
 }
 
