@@ -1,14 +1,14 @@
-pub mod Constants
-pub mod Rows
+mod Constants
+mod Rows
 pub mod lists
-pub mod links
+mod chaining
 pub mod arena
-pub mod layout
-pub mod making
-pub mod altering
-pub mod joining
-pub mod freeing
-pub mod trimming
+mod layout
+mod altering
+mod joining
+mod freeing
+mod making
+mod trimming
+mod reading
 pub mod pulling
-pub mod reading
 pub mod shelving

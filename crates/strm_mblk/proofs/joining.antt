@@ -1,4 +1,5 @@
 -- Messages joined and parted.
+pub mod Regrouped
 pub mod Linkb
 pub mod Unlinkb
 pub mod TakenOut

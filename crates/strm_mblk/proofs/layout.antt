@@ -4,6 +4,5 @@ pub mod Lawful
 pub mod Places
 pub mod Rooms
 pub mod Rewriting
-pub mod Linked
 pub mod Opened
 pub mod Unaltered

@@ -1,3 +1,5 @@
 -- Plain lists.
 pub mod ListParts
 pub mod Overlaid
+pub mod Additive
+pub mod Numbers

@@ -1,5 +1,4 @@
 -- Calls that make messages.
-pub mod Begun
 pub mod BegunLists
 pub mod BegunAll
 pub mod BegunBeside

@@ -2,6 +2,6 @@
 pub mod SecondFreed
 pub mod SecondTaken
 pub mod FrontCopied
-pub mod Gathered
+pub mod FrontPulled
 pub mod Drained
 pub mod Pulled

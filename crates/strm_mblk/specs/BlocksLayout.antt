@@ -1,5 +1,5 @@
 -- How message blocks lie in memory. No public clause cites this module.
-use Rattle.std.specs.Prelude.{◌≡◌, ℕ, ◌+◌, ◌<◌, ◌≤◌, Bool, List, [], ◌∷◌, length, map, option_map, slice_index_or, slice_set, nat_lt}
+use Rattle.std.specs.Prelude.{◌≡◌, ℕ, ◌+◌, ◌^◌, ◌<◌, ◌≤◌, Bool, List, [], ◌∷◌, length, map, option_map, slice_index_or, slice_set, nat_lt}
 use Rattle.strm_data.specs.CountedStore.{CountedStore, IsKept, count_of, without_name, with_name}
 use Rattle.strm_data.specs.DataStore.{DataStore, capacity_of, times}
 use Rattle.std.specs.List.{list_any}
@@ -70,10 +70,11 @@ arena_of id store fields lists = record {
 abbrev pub arena_in : Inside → Arena
 arena_in a = arena_of a.id a.data.store a.blocks.items a.chains
 
--- the data block is there, and the places lie in its capacity
+-- the data block is there, the places lie in its capacity, and the band is one
 pub record IsPlaced (s : DataStore) (f : Fields) : Type 0 where
   pub there : f.data_number < length s.blocks
   pub within : f.offset + f.len ≤ capacity_of s f.data_number
+  pub banded : f.band < 2 ^ 8
 
 -- every message block, a free one too, has its places in a data block; and data blocks count the names that they have
 pub record IsFilled (s : CountedStore) (fields : List Fields) (lists : NodeLists) (arena : Arena) : Type 0 where

@@ -1,5 +1,6 @@
--- What a call on held messages leaves as it was: every shelf, and every message that it neither names nor gives.
-use Rattle.std.specs.Prelude.{◌≡◌, ℕ, false, List, [], ◌∷◌, Option, None, Some, Result, Ok, Err}
+-- What a call leaves as it was: every held message that it neither names nor gives, and, where it goes about held messages
+-- alone, every shelf.
+use Rattle.std.specs.Prelude.{◌≡◌, ℕ, false, List, [], ◌∷◌, length, Option, None, Some, Result, Ok, Err}
 use Rattle.std.specs.List.{All}
 use Rattle.strm_data.specs.declared.refusal.Refusal.{Refusal}
 use Rattle.strm_data.specs.DataStore.{DataStore, data_block_at}
@@ -13,13 +14,17 @@ use Rattle.strm_mblk.specs.Block.{Block}
 abbrev pub IsSameData : DataStore → DataStore → Block → Type 0
 IsSameData s t b = data_block_at t b.data_number ≡ data_block_at s b.data_number
 
--- All is as it was, save for the messages held at these heads: the id; each shelf with its messages and their blocks;
--- what is held at every other head; and the type and the bytes of each data block that these messages name.
+-- Held messages are as they were, save for those at these heads; so are the id, and how many message blocks there are.
 pub record LeavesOthers (heads : List ℕ) (old new : Arena) : Type 0 where
   pub id : new.id ≡ old.id
+  pub size : length new.held ≡ length old.held
+  pub held : (h : ℕ) → rows.has h heads ≡ false → held_at new h ≡ held_at old h
+
+-- Each shelf has its messages and their blocks; and each data block that these name, or a message held at another head than
+-- these, has its type and its bytes.
+pub record LeavesShelves (heads : List ℕ) (old new : Arena) : Type 0 where
   pub shelves : new.shelves ≡ old.shelves
   pub shelved_data : All (IsSameData old.store new.store) (shelved_blocks old)
-  pub held : (h : ℕ) → rows.has h heads ≡ false → held_at new h ≡ held_at old h
   pub held_data : (h : ℕ) → rows.has h heads ≡ false → All (IsSameData old.store new.store) (message_at old h)
 
 -- ---- the heads of the tokens that a call gives
@@ -31,6 +36,10 @@ head_given (Some t) = t.head ∷ []
 abbrev pub head_answered : Result TokenValue Refusal → List ℕ
 head_answered (Ok t) = t.head ∷ []
 head_answered (Err why) = []
+
+abbrev pub heads_answered : Result (Option TokenValue) Refusal → List ℕ
+heads_answered (Ok given) = head_given given
+heads_answered (Err why) = []
 
 abbrev pub heads_parted : Result (TokenValue × Option TokenValue) Rejected → List ℕ
 heads_parted (Ok tokens) = tokens.0.head ∷ head_given tokens.1

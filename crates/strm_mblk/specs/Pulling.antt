@@ -23,13 +23,13 @@ abbrev pub over_data : ℕ → ℕ → Block → Block
 over_data d n b = record b { data_number = d; offset = 0; len = n }
 
 -- the first block has the first n bytes of the message, and the others still have theirs
-abbrev pub gathered : ℕ → ℕ → Message → Arena → ℕ → Arena
-gathered h n [] a d = a
-gathered h n (b ∷ bs) a d =
+abbrev pub front_pulled : ℕ → ℕ → Message → Arena → ℕ → Arena
+front_pulled h n [] a d = a
+front_pulled h n (b ∷ bs) a d =
     with_name_dropped b.data_number [] (with_message h (over_data d n b ∷ bs) (record a { store = pulled_into n (b ∷ bs) a.store d }))
 
-abbrev pub gather : ℕ → ℕ → Arena → Given Arena (Unit {0})
-gather h n a = answer_map (λ d. (tt, gathered h n (message_at a h) a d)) (take_data n a.store)
+abbrev pub pull_front : ℕ → ℕ → Arena → Given Arena (Unit {0})
+pull_front h n a = answer_map (λ d. (tt, front_pulled h n (message_at a h) a d)) (take_data n a.store)
 
 -- ---- the second block
 

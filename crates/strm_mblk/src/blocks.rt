@@ -1,11 +1,11 @@
 //! Message blocks by number, and the messages that they make.
-ghost use Rattle.std.specs.Prelude.{◌≡◌, ◌≢◌, ◌+◌, ◌<◌, ◌≤◌, ℕ, IfOk, IfSome, IsTrue, Some, None, is_some, length, option_map, slice_get};
+ghost use Rattle.std.specs.Prelude.{◌≡◌, ◌≢◌, ◌+◌, ◌^◌, ◌<◌, ◌≤◌, ℕ, IfOk, IfSome, IsTrue, Some, None, is_some, length, option_map, slice_get};
 ghost use Rattle.std.specs.List.{All};
 ghost use Rattle.strm_data.specs.Classes.{are_lawful, fits_a_class};
 ghost use Rattle.strm_data.specs.DataStore.{class_infos};
 ghost use Rattle.strm_data.specs.CountedStore.{IsKept};
 ghost use Rattle.strm_mblk.specs.Arena.{IsParted, IsWithin, blocks_in, census_of, counted_in, has, held_at, message_at, opening_arena, token_of};
-ghost use Rattle.strm_mblk.specs.Frame.{LeavesOthers, head_answered};
+ghost use Rattle.strm_mblk.specs.Frame.{LeavesOthers, LeavesShelves, head_answered};
 ghost use Rattle.strm_mblk.specs.NodeLists.{nodes_at};
 ghost use Rattle.strm_mblk.specs.Given.{value_after, answer_of, answer_map};
 ghost use Rattle.strm_mblk.specs.Limits.{most_message_blocks};
@@ -140,11 +140,20 @@ impl Blocks {
         ensures kept { IsKept (counted_in self.now) }
         // The places of each block of a message lie in its data block.
         ensures within { All (IsWithin self.now.store) (blocks_in self.now) }
+        // The band of each block of a message is below 256.
+        ensures bands { All (λ b. b.band < 2 ^ 8) (blocks_in self.now) }
         // Free, shelved and held message blocks are all there are, and no more than `MOST_MESSAGE_BLOCKS`.
         ensures few { length self.now.held ≤ most_message_blocks }
         ensures whole { (census_of self.now).free + (census_of self.now).queued + (census_of self.now).held ≡ length self.now.held }
     {
         let _ = &self.chains;
+    }
+
+    /// The data blocks, lent to look at: their counts are how many blocks of messages name each. Nothing changes.
+    pub fn data(&self) -> &Data
+        ensures { result.now ≡ counted_in self.now }
+    {
+        &self.data
     }
 
     /// Whether the token carries this id and a held message has its head and its number of blocks. Nothing changes.
@@ -211,6 +220,7 @@ impl Blocks {
         ensures had { IfOk result (λ token. IsTrue (has self.new token)) }
         ensures unheld { IfOk result (λ token. held_at self.old token.head ≡ None) }
         ensures others { LeavesOthers (head_answered result) self.old self.new }
+        ensures shelves { LeavesShelves (head_answered result) self.old self.new }
     {
         if !self.data.has_class_for(size) {
             return Err(Refusal::TooLarge);

@@ -17,8 +17,8 @@ pub struct TokenValue {
 /// The right to one held message.
 ///
 /// A token is given by the call that makes a message or takes it off a shelf, and must be spent: it can be
-/// neither cloned nor dropped, so no message is lost and none is freed twice. A token carries the id of the
-/// pool that gave it. STREAMS passes a pointer to the message here.
+/// neither cloned nor dropped, so no message is freed twice, and save by `forget` none is lost. A token carries
+/// the id of the pool that gave it. STREAMS passes a pointer to the message here.
 #[must_use]
 #[derive(Debug)]
 pub struct Token {

@@ -1,38 +1,31 @@
 -- When a call on registers is a step: by what it does to the tokens of the registers that it names.
-use Rattle.std.proofs.Common.{◌≡◌, ◌<◌, Bool, true, false, List, [], length, set, Option, Some, None, refl, sym, ap, ◌∙◌, subst, if◌then◌else◌}
+use Rattle.std.proofs.Common.{◌≡◌, ℕ, ◌<◌, Bool, true, false, List, [], length, set, Option, Some, None, refl, sym, ap, ◌∙◌, subst, if◌then◌else◌}
 use Rattle.std.specs.Prelude.{option_map}
-use Rattle.std.specs.Option.{ForSome}
 use Rattle.std.proofs.lemmas.List.{set-get_or}
 use Rattle.strm_data.specs.declared.refusal.Refusal.TheVariants.{NoSuchQueue}
 use Rattle.strm_links.specs.Rows.{IsApart}
 use Rattle.strm_links.specs.Rows as rows
 use Rattle.strm_mblk.specs.declared.token.TokenValue.{TokenValue}
 use Rattle.strm_mblk.specs.Arena.{Arena, has, token_of}
+use Rattle.strm_mblk.specs.Frame.{LeavesOthers}
 use Rattle.strm_pool.specs.declared.call.Call.{Call}
 use Rattle.strm_pool.specs.declared.reply.Reply.{Reply}
 use Rattle.strm_pool.specs.declared.reply.Reply.TheVariants.{Empty, Taken, Refused}
 use Rattle.strm_pool.specs.Names.{names_of, registers_in}
 use Rattle.strm_pool.specs.PoolValue.{PoolValue, owns}
 use Rattle.strm_pool.specs.Registers.{AreAccounted, AreDistinct, entries_of, register, table_of}
-use Rattle.strm_pool.specs.Step.{Applies, act, is_named, is_taken, misses_queue, misses_token, replying, step}
+use Rattle.strm_pool.specs.Shapes.{IsReady}
+use Rattle.strm_pool.specs.Step.{Applies, act, is_named, is_taken, misses_token, replying, step}
 use Rattle.strm_pool.proofs.Accounts.{Balanced, accounted_balanced, accounted_distinct, owned_balanced, owned_token, table-at}
 use Rattle.strm_pool.proofs.Moved.{Changes, Each, Moves, moves_balanced, moves_had, news, olds, registers_of, token-has, with_new, with_other, with_tokens}
 
--- its queue is there, its sources hold tokens, and its destination is there and holds none
-pub record Ready (v : PoolValue) (rs : List (Option TokenValue)) (call : Call) : Type 0 where
-  pub owned : owns v rs ≡ true
-  pub queue : misses_queue v (names_of call) ≡ false
-  pub sources : misses_token (table_of rs) (names_of call) ≡ false
-  pub free : is_taken (table_of rs) (names_of call) ≡ false
-  pub there : ForSome (names_of call).destination (λ x. x < length rs)
-
--- then it acts
-pub step_act : (v : PoolValue) (rs : List (Option TokenValue)) (call : Call) → Ready v rs call → step v (table_of rs) call ≡ act v (table_of rs) call
-step_act v rs call ready =
+-- a call that is ready acts
+pub step_act : {v : PoolValue} {rs : List (Option TokenValue)} {call other : Call} → call ≡ other → IsReady v rs call → step v (table_of rs) call ≡ act v (table_of rs) other
+step_act {v} {rs} {call} is ready =
     let t = table_of rs in
     ap (λ b. if b then replying v t (Refused NoSuchQueue) else (if misses_token t (names_of call) then replying v t Empty else (if is_taken t (names_of call) then replying v t Taken else act v t call))) ready.queue
     ∙ ap (λ b. if b then replying v t Empty else (if is_taken t (names_of call) then replying v t Taken else act v t call)) ready.sources
-    ∙ ap (λ b. if b then replying v t Taken else act v t call) ready.free
+    ∙ ap (λ b. if b then replying v t Taken else act v t call) ready.free ∙ ap (act v t) is
 
 -- a token that the pool has, or none, is that of what the table shows
 shown : (a : Arena) (o : Option TokenValue) → ((t : TokenValue) → o ≡ Some t → has a t ≡ true) → o ≡ option_map (token_of a) (option_map (λ t. t.head) o)
@@ -51,31 +44,39 @@ applies_nothing v rs call reply owned does = record {
       named_or_not (is_named call x) _ _ (register rs x)
       (λ _. shown v.arena (register rs x) (λ t is. owned_token v rs x t owned is) ∙ ap (option_map (token_of v.arena)) (sym (table-at rs x))) (λ _. refl);
   owned = λ distinct. (owned, distinct);
-  same = λ _. refl;
+  same = refl;
+  size = refl;
   accounted = λ desks desk within at all. subst (AreAccounted v.arena) (sym (ap (set desks desk) (sym at) ∙ set-get_or desks desk [])) all;
 }
 
 -- a call that changes the registers that it names
-module _ (v w : PoolValue) (rs : List (Option TokenValue)) (call : Call) (reply : Reply) (us : Changes)
-    (owned : owns v rs ≡ true) (named : registers_of us ≡ registers_in (names_of call)) (apart : IsApart (registers_of us)) (within : Each (λ y. y < length rs) (registers_of us))
-    (now : Each (λ t. has w.arena t ≡ true) (news us)) (moves : AreDistinct (table_of rs) → Moves v.arena w.arena (olds us rs) (news us))
-    (does : step v (table_of rs) call ≡ replying w (table_of (with_tokens us rs)) reply) where
+module _ {v w : PoolValue} {rs : List (Option TokenValue)} {call other : Call} {reply : Reply} {heads : List ℕ} (us : Changes) (is : call ≡ other) (ready : IsReady v rs call)
+    (named : registers_of us ≡ registers_in (names_of other)) (apart : IsApart (registers_of us)) (within : Each (λ y. y < length rs) (registers_of us))
+    (now : Each (λ t. has w.arena t ≡ true) (news us)) (left : LeavesOthers heads v.arena w.arena) (moves : AreDistinct (table_of rs) → Moves v.arena w.arena (olds us rs) (news us))
+    (does : act v (table_of rs) other ≡ replying w (table_of (with_tokens us rs)) reply) where
   pub applies_by : Applies v rs call w (with_tokens us rs) reply
   applies_by = record {
-    step = does;
+    step = stepped;
     tokens = λ x.
         named_or_not (is_named call x) _ _ (register (with_tokens us rs) x)
         (λ yes.
-        shown w.arena (register (with_tokens us rs) x) (λ t is. with_new (λ y. has w.arena y ≡ true) us rs x t apart within now (ap (rows.has x) named ∙ yes) is)
+        shown w.arena (register (with_tokens us rs) x) (λ t there. with_new (λ y. has w.arena y ≡ true) us rs x t apart within now (changes x ∙ yes) there)
         ∙ ap (option_map (token_of w.arena)) (sym (table-at (with_tokens us rs) x)))
-        (λ no. with_other us rs x (ap (rows.has x) named ∙ no));
+        (λ no. with_other us rs x (changes x ∙ no));
     owned = λ distinct.
         owned_balanced v w rs (with_tokens us rs) (balanced distinct)
-        (moves_had v rs us w.arena (λ x t is. owned_token v rs x t owned is) apart within distinct (moves distinct)) owned distinct;
-    same = λ distinct. (moves distinct).id;
+        (moves_had v rs us w.arena left.id (λ x t there. owned_token v rs x t ready.owned there) apart within distinct (moves distinct)) ready.owned distinct;
+    same = left.id;
+    size = left.size;
     accounted = λ desks desk there at all.
         accounted_balanced v.arena w.arena (entries_of rs) (entries_of (with_tokens us rs)) (balanced (accounted_distinct v rs desks desk there at all)) desks desk there at all;
   }
     where
+      stepped : step v (table_of rs) call ≡ replying w (table_of (with_tokens us rs)) reply
+      stepped = step_act is ready ∙ does
+
+      changes : (x : ℕ) → rows.has x (registers_of us) ≡ is_named call x
+      changes x = ap (rows.has x) (named ∙ ap (λ c. registers_in (names_of c)) (sym is))
+
       balanced : AreDistinct (table_of rs) → Balanced v.arena w.arena (entries_of rs) (entries_of (with_tokens us rs))
       balanced distinct = moves_balanced v.arena w.arena us rs apart within distinct (moves distinct)

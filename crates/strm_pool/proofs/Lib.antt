@@ -1,13 +1,10 @@
-pub mod Constants
-pub mod OnParts
-pub mod Reading
+mod Constants
+mod OnParts
+mod Reading
 pub mod Accounts
-pub mod Moved
-pub mod Applied
-pub mod Shaped
-pub mod Queued
-pub mod Waiting
-pub mod Wishing
-pub mod Acting
-pub mod Kept
-pub mod Totals
+mod Moved
+mod Applied
+mod Shaped
+mod Wishing
+mod Acting
+mod Kept

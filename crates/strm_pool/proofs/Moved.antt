@@ -96,7 +96,6 @@ weigh_stands a (t ∷ ts) had apart h n is =
 
 -- The messages of these tokens change: before, they are those of the first tokens, and afterwards those of the others.
 pub record Moves (a b : Arena) (before after : List TokenValue) : Type 0 where
-  pub id : b.id ≡ a.id
   pub others : (h : ℕ) → rows.has h (heads_of before) ≡ false → rows.has h (heads_of after) ≡ false → held_at b h ≡ held_at a h
   pub had : Each (λ t. has a t ≡ true) before
   pub has_now : Each (λ t. has b t ≡ true) after
@@ -249,7 +248,7 @@ moves_balanced a b us rs apart within distinct moves h n =
     omega (arith, moves_weigh a b (olds us rs) (news us) moves (olds_apart us rs distinct apart) h n, count_with us rs h n apart within)
 
 -- each register has a token that the pool has
-module _ (v : PoolValue) (rs : List (Option TokenValue)) (us : Changes) (b : Arena)
+module _ (v : PoolValue) (rs : List (Option TokenValue)) (us : Changes) (b : Arena) (id : b.id ≡ v.arena.id)
     (owned : (x : ℕ) (t : TokenValue) → register rs x ≡ Some t → has v.arena t ≡ true)
     (apart : IsApart (registers_of us)) (within : Each (λ y. y < length rs) (registers_of us))
     (distinct : AreDistinct (table_of rs)) (moves : Moves v.arena b (olds us rs) (news us)) where
@@ -263,6 +262,6 @@ module _ (v : PoolValue) (rs : List (Option TokenValue)) (us : Changes) (b : Are
             let lack = olds_lack us rs x t.head distinct (table-at rs x ∙ ap (option_map (λ (y : TokenValue). y.head)) was) other in
             elim (cases_Bool (rows.has t.head (heads_of (news us)))) [
               | inl new ↦ absurd (held_has v.arena t before (moves.new t.head lack new))
-              | inr old ↦ has-kept v.arena b t moves.id (moves.others t.head lack old) before
+              | inr old ↦ has-kept v.arena b t id (moves.others t.head lack old) before
             ]
       ]

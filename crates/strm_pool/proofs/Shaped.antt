@@ -1,6 +1,7 @@
 -- The shapes of calls on registers: what a call on tokens that answers so does to registers is its step.
 use Rattle.std.proofs.Common.{◌≡◌, ◌≢◌, ℕ, zero, suc, ◌<◌, Bool, true, false, eqb, ◌||◌, arith, List, [], ◌∷◌, ◌++◌, length, set, Option, Some, None, Result, Ok, Err, refl, sym, ap, ◌∙◌, subst, inl, inr, get_or-set_other}
-use Rattle.std.specs.Prelude.{IfOk, IfSome, is_none, is_some, option_map}
+use Rattle.std.specs.Prelude.{IfOk, IfSome, is_none, is_some, option_map, unwrap_or}
+use Rattle.std.specs.Option.{option_map_or}
 use Rattle.std.proofs.lemmas.Bool.{cases_Bool, cases_eq, eq-eqb, eqb-true, false≢true, ne_eqb, or_parts}
 use Rattle.std.proofs.lemmas.List.{set-get_or, set-set}
 use Rattle.strm_data.specs.declared.refusal.Refusal.{Refusal}
@@ -8,20 +9,19 @@ use Rattle.strm_links.specs.Rows.{IsApart}
 use Rattle.strm_links.specs.Rows as rows
 use Rattle.strm_mblk.specs.declared.rejected.Rejected.{Rejected}
 use Rattle.strm_mblk.specs.declared.token.TokenValue.{TokenValue}
-use Rattle.strm_mblk.specs.Arena.{has, held_at, token_of}
-use Rattle.strm_mblk.specs.Frame.{head_answered, head_given, heads_parted}
+use Rattle.strm_mblk.specs.Arena.{Arena, has, held_at, token_of}
+use Rattle.strm_mblk.specs.Frame.{LeavesOthers, head_answered, head_given, heads_answered, heads_parted}
 use Rattle.strm_mblk.specs.Given.{Given, answer_map, answer_of, or_rejected, value_after}
 use Rattle.strm_pool.specs.declared.call.Call.{Call}
 use Rattle.strm_pool.specs.declared.reply.Reply.{Reply}
 use Rattle.strm_pool.specs.declared.reply.Reply.TheVariants.{Done, Nothing, Refused}
 use Rattle.strm_pool.specs.Names.{names_of, naming, registers_in}
-use Rattle.strm_pool.specs.PoolValue.{PoolValue}
+use Rattle.strm_pool.specs.PoolValue.{PoolValue, on_arena, with_arena}
 use Rattle.strm_pool.specs.Registers.{AreDistinct, register, table_of}
-use Rattle.strm_pool.specs.Shapes.{any_given_to, given_to, parted_to, rejected_to, reply_done, reply_made}
-use Rattle.strm_pool.specs.Step.{Applies, act, answers, doing, gives, keeps, may_give, misses_token, parts, replying, spends}
+use Rattle.strm_pool.specs.Shapes.{IsReady, Settled, any_given_to, given_to, parted_to, rejected_to, reply_done, reply_made}
+use Rattle.strm_pool.specs.Step.{Applies, act, answers, doing, gives, head_held, keeps, may_give, misses_token, parts, replying, spends}
 use Rattle.strm_pool.proofs.Accounts.{owned_token, table-at}
-use Rattle.strm_pool.proofs.Applied.{Ready, applies_by, applies_nothing, step_act}
-use Rattle.strm_pool.proofs.Queued.{LeavesHeld}
+use Rattle.strm_pool.proofs.Applied.{applies_by, applies_nothing, step_act}
 use Rattle.strm_pool.proofs.Moved.{Each, Moves, held_has, news, table-set, tokens_in}
 
 pub err_not_ok : {X Y : Type 0} {e : Y} {x : X} → Err e ≡ Ok x → ⊥
@@ -36,9 +36,13 @@ same_err is = cc
 pub same_some : {X : Type 0} {x y : X} → (let o : Option X = Some x in let p : Option X = Some y in o ≡ p) → x ≡ y
 same_some is = cc
 
--- a call is another one
-pub at_call : (v w : PoolValue) (rs ss : List (Option TokenValue)) (call other : Call) (reply : Reply) → call ≡ other → Ready v rs call → (Ready v rs other → Applies v rs other w ss reply) → Applies v rs call w ss reply
-at_call v w rs ss call other reply is ready applies = subst (λ c. Applies v rs c w ss reply) (sym is) (applies (subst (Ready v rs) is ready))
+-- the head of a register that holds a token
+pub head_is : (rs : List (Option TokenValue)) (x : ℕ) (t : TokenValue) → register rs x ≡ Some t → head_held (table_of rs) x ≡ t.head
+head_is rs x t is = ap (λ (o : Option ℕ). unwrap_or o 0) (table-at rs x ∙ ap (option_map (λ (y : TokenValue). y.head)) is)
+
+-- a call names these registers, and no other
+abbrev pub IsNaming : Call → Option ℕ → Option ℕ → Option ℕ → Type 0
+IsNaming call source second destination = names_of call ≡ naming (names_of call).queue source second destination
 
 -- a register that shows nothing holds nothing
 pub is_free : (rs : List (Option TokenValue)) (x : ℕ) → is_some (register (table_of rs) x) ≡ false → register rs x ≡ None
@@ -62,311 +66,310 @@ within_list (r ∷ rs) (suc x) t is = omega (arith, within_list rs x t is)
 free_other : (rs : List (Option TokenValue)) (x y : ℕ) (t : TokenValue) → register rs x ≡ Some t → register rs y ≡ None → x ≢ y
 free_other rs x y t held free same = absurd (let e : Some t ≡ None = sym held ∙ ap (register rs) same ∙ free in cc)
 
+-- a token of the same head shows the same
+kept_head : (rs : List (Option TokenValue)) (x : ℕ) (t s : TokenValue) → register rs x ≡ Some t → s.head ≡ t.head → set (table_of rs) x (Some s.head) ≡ table_of rs
+kept_head rs x t s was head = ap (set (table_of rs) x) (ap (λ k. Some k) head ∙ sym (table-at rs x ∙ ap (option_map (λ (y : TokenValue). y.head)) was)) ∙ set-get_or (table_of rs) x None
+
 lone : (h k : ℕ) → rows.has h (k ∷ []) ≡ true → k ≡ h
 lone h k is = elim (cases_Bool (eqb k h)) [ inl same ↦ eqb-true k h same | inr other ↦ absurd (false≢true (sym (ap (λ b. b || false) other) ∙ is)) ]
 
 not_both : {b : Bool} → b ≡ true → b ≡ false → ⊥
 not_both is not = false≢true (sym not ∙ is)
 
-module _ (v w : PoolValue) (rs : List (Option TokenValue)) (call : Call) (ready : Ready v rs call) where
+-- a message stays held at its head, and changes
+moves_stay : {a b : Arena} {t s : TokenValue} → s.head ≡ t.head → has a t ≡ true → has b s ≡ true → LeavesOthers (t.head ∷ []) a b → Moves a b (t ∷ []) (s ∷ [])
+moves_stay head had has_now left = record {
+  others = λ h before after. left.held h before;
+  had = (had, tt);
+  has_now = (has_now, tt);
+  apart = (refl, tt);
+  gone = λ h before after. absurd (not_both (ap (λ k. rows.has h (k ∷ [])) head ∙ before) after);
+  new = λ h before after. absurd (not_both (ap (λ k. rows.has h (k ∷ [])) (sym head) ∙ after) before);
+}
+
+-- it stays so, and a message is new whose head no held message had
+moves_beside : {a b : Arena} {t s r : TokenValue} → s.head ≡ t.head → has a t ≡ true → has b s ≡ true → has b r ≡ true → held_at a r.head ≡ None
+    → ((h : ℕ) → rows.has h (t.head ∷ r.head ∷ []) ≡ false → held_at b h ≡ held_at a h) → Moves a b (t ∷ []) (s ∷ r ∷ [])
+moves_beside {a} {b} {t} {s} {r} head had kept given unheld others = record {
+  others = λ h before after. others h (ap (λ b. b || rows.has h (r.head ∷ [])) (or_parts (eqb t.head h) false before).0 ∙ (or_parts (eqb s.head h) (rows.has h (r.head ∷ [])) after).1);
+  had = (had, tt);
+  has_now = (kept, (given, tt));
+  apart = (ap (λ b. b || false) (ne_eqb r.head s.head (λ same. held_has a t had (ap (held_at a) (sym (same ∙ head)) ∙ unheld))), (refl, tt));
+  gone = λ h before after. absurd (not_both (eq-eqb s.head h (head ∙ lone h t.head before)) (or_parts (eqb s.head h) (rows.has h (r.head ∷ [])) after).0);
+  new = λ h before after.
+      subst (λ k. held_at a k ≡ None)
+      (lone h r.head (ap (λ b. b || rows.has h (r.head ∷ [])) (sym (ap (λ k. eqb k h) head ∙ (or_parts (eqb t.head h) false before).0)) ∙ after)) unheld;
+}
+
+module _ {v : PoolValue} {rs : List (Option TokenValue)} {call other : Call} (called : call ≡ other) (ready : IsReady v rs call) where
+  -- its destination is there, and holds nothing
+  destination : (source second : Option ℕ) (y : ℕ) → IsNaming other source second (Some y) → (register rs y ≡ None) × (y < length rs)
+  destination source second y only =
+      let named : (names_of call).destination ≡ Some y = ap (λ c. (names_of c).destination) called ∙ ap (λ names. names.destination) only in
+      (is_free rs y (ap (λ (o : Option ℕ). option_map_or (λ x. is_some (register (table_of rs) x)) o false) (sym named) ∙ ready.free), ready.there y named)
+
+  -- a call that asks
+  pub asks : {X : Type 0} (made : X → Reply) (g : Given PoolValue X) {answer : Result X Refusal} {reply : Reply} → act v (table_of rs) other ≡ doing v (table_of rs) (answers made) g → v ≡ value_after v g → answer ≡ answer_of g
+      → reply ≡ reply_made made answer → Applies v rs call v rs reply
+  asks {X} made g does after answered told =
+      applies_nothing v rs call _ ready.owned (step_act called ready ∙ does ∙ telling g after ∙ ap (replying v (table_of rs)) (ap (reply_made made) (sym answered) ∙ sym told))
+    where
+      telling : (g : Given PoolValue X) → v ≡ value_after v g → doing v (table_of rs) (answers made) g ≡ replying v (table_of rs) (reply_made made (answer_of g))
+      telling (Ok given) after = ap (λ u. replying u (table_of rs) (made given.0)) (sym after)
+      telling (Err why) after = refl
+
+module _ {v w : PoolValue} {rs : List (Option TokenValue)} {call other : Call} (called : call ≡ other) (ready : IsReady v rs call) where
   -- a call that was refused
-  refused : {X : Type 0} (told : X → List (ℕ × Option ℕ) × Reply) (why : Refusal) → act v (table_of rs) call ≡ doing v (table_of rs) told (Err why) → w ≡ v → Applies v rs call w rs (Refused why)
+  refused : {X : Type 0} (told : X → List (ℕ × Option ℕ) × Reply) (why : Refusal) → act v (table_of rs) other ≡ doing v (table_of rs) told (Err why) → w ≡ v → Applies v rs call w rs (Refused why)
   refused told why does same =
-      subst (λ u. Applies v rs call u rs (Refused why)) (sym same) (applies_nothing v rs call (Refused why) ready.owned (step_act v rs call ready ∙ does))
+      subst (λ u. Applies v rs call u rs (Refused why)) (sym same) (applies_nothing v rs call (Refused why) ready.owned (step_act called ready ∙ does))
 
   -- ---- no register takes part, and all messages that are held stay
 
-  pub leaves_held : (reply : Reply) → [] ≡ registers_in (names_of call) → LeavesHeld v.arena w.arena [] → act v (table_of rs) call ≡ replying w (table_of rs) reply → Applies v rs call w rs reply
-  leaves_held reply named left does =
-      applies_by v w rs call reply [] ready.owned named tt tt tt
+  pub leaves_held : {reply : Reply} → [] ≡ registers_in (names_of other) → LeavesOthers [] v.arena w.arena → act v (table_of rs) other ≡ replying w (table_of rs) reply → Applies v rs call w rs reply
+  leaves_held named left does =
+      applies_by [] called ready named tt tt tt left
       (λ distinct. record {
-        id = left.id;
-        others = λ h before after. left.others h refl;
+        others = λ h before after. left.held h refl;
         had = tt;
         has_now = tt;
         apart = tt;
         gone = λ h before after. absurd (false≢true before);
         new = λ h before after. absurd (false≢true after);
       })
-      (step_act v rs call ready ∙ does)
+      does
 
   -- the reply is made of the answer
-  pub tells : {X : Type 0} (made : X → Reply) (g : Given PoolValue X) (answer : Result X Refusal) → [] ≡ registers_in (names_of call) → LeavesHeld v.arena w.arena []
-      → act v (table_of rs) call ≡ doing v (table_of rs) (answers made) g → w ≡ value_after v g → answer ≡ answer_of g → Applies v rs call w rs (reply_made made answer)
-  tells {X} made g answer named left does after is = leaves_held (reply_made made answer) named left (does ∙ told g after is)
+  pub tells : {X : Type 0} (made : X → Reply) (g : Given PoolValue X) {a answer : Result X Refusal} {reply : Reply} → [] ≡ registers_in (names_of other) → LeavesOthers [] v.arena w.arena
+      → act v (table_of rs) other ≡ doing v (table_of rs) (answers made) g → w ≡ value_after v g → answer_of g ≡ a → answer ≡ a → reply ≡ reply_made made answer → Applies v rs call w rs reply
+  tells {X} made g named left does after same answered told = leaves_held named left (does ∙ telling g after ∙ ap (replying w (table_of rs)) (ap (reply_made made) (same ∙ sym answered) ∙ sym told))
     where
-      told : (g : Given PoolValue X) → w ≡ value_after v g → answer ≡ answer_of g → doing v (table_of rs) (answers made) g ≡ replying w (table_of rs) (reply_made made answer)
-      told (Ok given) after is = ap (λ u. replying u (table_of rs) (made given.0)) (sym after) ∙ ap (λ a. replying w (table_of rs) (reply_made made a)) (sym is)
-      told (Err why) after is = ap (λ u. replying u (table_of rs) (Refused why)) (sym after) ∙ ap (λ a. replying w (table_of rs) (reply_made made a)) (sym is)
-
-  -- a call that asks
-  pub asks : {X : Type 0} (made : X → Reply) (g : Given PoolValue X) (answer : Result X Refusal) → act v (table_of rs) call ≡ doing v (table_of rs) (answers made) g → v ≡ value_after v g → answer ≡ answer_of g
-      → Applies v rs call v rs (reply_made made answer)
-  asks made (Ok given) answer does after is =
-      applies_nothing v rs call (reply_made made answer) ready.owned
-      (step_act v rs call ready ∙ does ∙ ap (λ u. replying u (table_of rs) (made given.0)) (sym after) ∙ ap (λ a. replying v (table_of rs) (reply_made made a)) (sym is))
-  asks made (Err why) answer does after is =
-      applies_nothing v rs call (reply_made made answer) ready.owned (step_act v rs call ready ∙ does ∙ ap (λ a. replying v (table_of rs) (reply_made made a)) (sym is))
+      telling : (g : Given PoolValue X) → w ≡ value_after v g → doing v (table_of rs) (answers made) g ≡ replying w (table_of rs) (reply_made made (answer_of g))
+      telling (Ok given) after = ap (λ u. replying u (table_of rs) (made given.0)) (sym after)
+      telling (Err why) after = ap (λ u. replying u (table_of rs) (Refused why)) (sym after)
 
   -- ---- one register takes part
 
   -- its token changes, and its message stays held at its head
-  module _ (x : ℕ) (t s : TokenValue) (named : x ∷ [] ≡ registers_in (names_of call)) (was : register rs x ≡ Some t) (head : s.head ≡ t.head) (had : has w.arena s ≡ true)
-      (id : w.arena.id ≡ v.arena.id) (others : (h : ℕ) → rows.has h (t.head ∷ []) ≡ false → held_at w.arena h ≡ held_at v.arena h) where
-    stays : Moves v.arena w.arena (t ∷ []) (s ∷ [])
-    stays = record {
-      id = id;
-      others = λ h before after. others h before;
-      had = (owned_token v rs x t ready.owned was, tt);
-      has_now = (had, tt);
-      apart = (refl, tt);
-      gone = λ h before after. absurd (not_both (ap (λ k. rows.has h (k ∷ [])) head ∙ before) after);
-      new = λ h before after. absurd (not_both (ap (λ k. rows.has h (k ∷ [])) (sym head) ∙ after) before);
-    }
-
-    pub keeps_one : (g : Given PoolValue (Unit {0})) (done : Result (Unit {0}) Refusal) → act v (table_of rs) call ≡ doing v (table_of rs) keeps g → w ≡ value_after v g → done ≡ answer_of g
+  module _ (x : ℕ) {t : TokenValue} (s : TokenValue) (named : x ∷ [] ≡ registers_in (names_of other)) (was : register rs x ≡ Some t) (head : s.head ≡ t.head) (had : has w.arena s ≡ true)
+      (left : LeavesOthers (t.head ∷ []) v.arena w.arena) where
+    pub keeps_one : (g : Given PoolValue (Unit {0})) {done : Result (Unit {0}) Refusal} → act v (table_of rs) other ≡ doing v (table_of rs) keeps g → w ≡ value_after v g → done ≡ answer_of g
         → Applies v rs call w (set rs x (Some s)) (reply_done done)
-    keeps_one g done does after is =
-        applies_by v w rs call (reply_done done) ((x, Some s) ∷ []) ready.owned named (refl, tt) (within_list rs x t was, tt) (had, tt)
-        (λ distinct. subst (λ o. Moves v.arena w.arena (tokens_in o ++ []) (s ∷ [])) (sym was) stays)
-        (step_act v rs call ready ∙ does ∙ kept g after is ∙ ap (λ table. replying w table (reply_done done)) same)
+    keeps_one g {done} does after answered =
+        applies_by ((x, Some s) ∷ []) called ready named (refl, tt) (within_list rs x t was, tt) (had, tt) left
+        (λ distinct. subst (λ o. Moves v.arena w.arena (tokens_in o ++ []) (s ∷ [])) (sym was) (moves_stay head (owned_token v rs x t ready.owned was) had left))
+        (does ∙ kept g after ∙ ap (λ a. replying w (table_of rs) (reply_done a)) (sym answered) ∙ ap (λ table. replying w table (reply_done done)) same)
       where
-        kept : (g : Given PoolValue (Unit {0})) → w ≡ value_after v g → done ≡ answer_of g → doing v (table_of rs) keeps g ≡ replying w (table_of rs) (reply_done done)
-        kept (Ok given) after is = ap (λ u. replying u (table_of rs) Done) (sym after) ∙ ap (λ a. replying w (table_of rs) (reply_done a)) (sym is)
-        kept (Err why) after is = ap (λ u. replying u (table_of rs) (Refused why)) (sym after) ∙ ap (λ a. replying w (table_of rs) (reply_done a)) (sym is)
+        kept : (g : Given PoolValue (Unit {0})) → w ≡ value_after v g → doing v (table_of rs) keeps g ≡ replying w (table_of rs) (reply_done (answer_of g))
+        kept (Ok given) after = ap (λ u. replying u (table_of rs) Done) (sym after)
+        kept (Err why) after = ap (λ u. replying u (table_of rs) (Refused why)) (sym after)
 
         same : table_of rs ≡ table_of (set rs x (Some s))
-        same =
-            sym (set-get_or (table_of rs) x None)
-            ∙ ap (set (table_of rs) x) (table-at rs x ∙ ap (option_map (λ (y : TokenValue). y.head)) was ∙ ap (λ h. Some h) (sym head))
-            ∙ sym (table-set rs x (Some s))
+        same = sym (table-set rs x (Some s) ∙ kept_head rs x t s was head)
 
   -- its message goes, and none is held at its head
-  spent_one : (x : ℕ) (t : TokenValue) → x ∷ [] ≡ registers_in (names_of call) → register rs x ≡ Some t → w.arena.id ≡ v.arena.id
-      → ((h : ℕ) → rows.has h (t.head ∷ []) ≡ false → held_at w.arena h ≡ held_at v.arena h) → held_at w.arena t.head ≡ None
-      → act v (table_of rs) call ≡ replying w (set (table_of rs) x None) Done → Applies v rs call w (set rs x None) Done
-  spent_one x t named was id others gone does =
-      applies_by v w rs call Done ((x, None) ∷ []) ready.owned named (refl, tt) (within_list rs x t was, tt) tt
+  spent_one : (x : ℕ) {t : TokenValue} {heads : List ℕ} → x ∷ [] ≡ registers_in (names_of other) → register rs x ≡ Some t → LeavesOthers heads v.arena w.arena
+      → ((h : ℕ) → rows.has h (t.head ∷ []) ≡ false → rows.has h heads ≡ false) → held_at w.arena t.head ≡ None
+      → act v (table_of rs) other ≡ replying w (set (table_of rs) x None) Done → Applies v rs call w (set rs x None) Done
+  spent_one x {t} named was left only gone does =
+      applies_by ((x, None) ∷ []) called ready named (refl, tt) (within_list rs x t was, tt) tt left
       (λ distinct. subst (λ o. Moves v.arena w.arena (tokens_in o ++ []) []) (sym was) (record {
-        id = id;
-        others = λ h before after. others h before;
+        others = λ h before after. left.held h (only h before);
         had = (owned_token v rs x t ready.owned was, tt);
         has_now = tt;
         apart = tt;
         gone = λ h before after. ap (held_at w.arena) (sym (lone h t.head before)) ∙ gone;
         new = λ h before after. absurd (false≢true after);
       }))
-      (step_act v rs call ready ∙ does ∙ ap (λ table. replying w table Done) (sym (table-set rs x None)))
+      (does ∙ ap (λ table. replying w table Done) (sym (table-set rs x None)))
 
   -- a call that spends a token, or gives it back
-  pub spends_one : (x : ℕ) (t : TokenValue) (g : Given PoolValue (Unit {0})) (done : Result (Unit {0}) Rejected) → x ∷ [] ≡ registers_in (names_of call) → register rs x ≡ Some t
-      → act v (table_of rs) call ≡ doing v (table_of rs) (spends x) g → w ≡ value_after v g → done ≡ or_rejected t (answer_of g)
-      → (IfOk done (λ u. (w.arena.id ≡ v.arena.id) × ((h : ℕ) → rows.has h (t.head ∷ []) ≡ false → held_at w.arena h ≡ held_at v.arena h) × (held_at w.arena t.head ≡ None)))
-      → let settled = rejected_to x done (set rs x None) in Applies v rs call w settled.0 settled.1
-  spends_one x t (Ok given) (Ok u) named was does after is left =
-      spent_one x t named was left.0 left.1 left.2 (does ∙ ap (λ p. replying p (set (table_of rs) x None) Done) (sym after))
-  spends_one x t (Ok given) (Err rejected) named was does after is left = absurd (err_not_ok is)
-  spends_one x t (Err why) (Ok u) named was does after is left = absurd (err_not_ok (sym is))
-  spends_one x t (Err why) (Err rejected) named was does after is left =
-      subst (λ ss. Applies v rs call w ss (Refused rejected.why)) (sym (set-set rs x None (Some rejected.token) ∙ ap (λ (r : Rejected). set rs x (Some r.token)) (same_err is) ∙ put_back rs x t was))
-      (refused (spends x) rejected.why (does ∙ ap (λ (r : Rejected). doing v (table_of rs) (spends x) (Err r.why)) (sym (same_err is))) after)
+  pub spends_one : (x : ℕ) {t : TokenValue} (g : Given PoolValue (Unit {0})) {done : Result (Unit {0}) Rejected} {a : Result (Unit {0}) Refusal} {settled : Settled} → x ∷ [] ≡ registers_in (names_of other) → register rs x ≡ Some t
+      → act v (table_of rs) other ≡ doing v (table_of rs) (spends x) g → w ≡ value_after v g → answer_of g ≡ a → done ≡ or_rejected t a
+      → IfOk done (λ u. held_at w.arena t.head ≡ None) → LeavesOthers (t.head ∷ []) v.arena w.arena → settled ≡ rejected_to x done (set rs x None) → Applies v rs call w settled.0 settled.1
+  spends_one x {t} g {done} named was does after same answered gone left settled =
+      subst (λ (p : Settled). Applies v rs call w p.0 p.1) (sym settled) (each g done does after (answered ∙ ap (or_rejected t) (sym same)) gone)
+    where
+      each : (g : Given PoolValue (Unit {0})) (done : Result (Unit {0}) Rejected) → act v (table_of rs) other ≡ doing v (table_of rs) (spends x) g → w ≡ value_after v g → done ≡ or_rejected t (answer_of g)
+          → IfOk done (λ u. held_at w.arena t.head ≡ None) → let settled = rejected_to x done (set rs x None) in Applies v rs call w settled.0 settled.1
+      each (Ok given) (Ok u) does after answered gone = spent_one x named was left (λ h none. none) gone (does ∙ ap (λ p. replying p (set (table_of rs) x None) Done) (sym after))
+      each (Ok given) (Err rejected) does after answered gone = absurd (err_not_ok answered)
+      each (Err why) (Ok u) does after answered gone = absurd (err_not_ok (sym answered))
+      each (Err why) (Err rejected) does after answered gone =
+          subst (λ ss. Applies v rs call w ss (Refused rejected.why)) (sym (set-set rs x None (Some rejected.token) ∙ ap (λ (r : Rejected). set rs x (Some r.token)) (same_err answered) ∙ put_back rs x t was))
+          (refused (spends x) rejected.why (does ∙ ap (λ (r : Rejected). doing v (table_of rs) (spends x) (Err r.why)) (sym (same_err answered))) after)
 
   -- its message is another one now, if there is one, whose head no held message had
-  pub leaves_one : (x : ℕ) (t : TokenValue) (rest : Option TokenValue) (o : Option ℕ) → x ∷ [] ≡ registers_in (names_of call) → register rs x ≡ Some t
-      → act v (table_of rs) call ≡ replying w (set (table_of rs) x o) Done → rest ≡ option_map (token_of w.arena) o
-      → IfSome rest (λ s. has w.arena s ≡ true) → IfSome rest (λ s. held_at v.arena s.head ≡ None)
-      → w.arena.id ≡ v.arena.id → ((h : ℕ) → rows.has h (t.head ∷ head_given rest) ≡ false → held_at w.arena h ≡ held_at v.arena h)
-      → (rows.has t.head (head_given rest) ≡ false → held_at w.arena t.head ≡ None)
+  pub leaves_one : (x : ℕ) {t : TokenValue} (rest : Option TokenValue) (o : Option ℕ) → x ∷ [] ≡ registers_in (names_of other) → register rs x ≡ Some t
+      → act v (table_of rs) other ≡ replying w (set (table_of rs) x o) Done → rest ≡ option_map (token_of w.arena) o
+      → IfSome rest (λ s. has w.arena s ≡ true) → IfSome rest (λ s. held_at v.arena s.head ≡ None) → LeavesOthers (t.head ∷ head_given rest) v.arena w.arena → held_at w.arena t.head ≡ None
       → Applies v rs call w (set rs x rest) Done
-  leaves_one x t None None named was does is had unheld id others gone = spent_one x t named was id others (gone refl) does
-  leaves_one x t None (Some n) named was does is had unheld id others gone = absurd (let e : None ≡ Some (token_of w.arena n) = is in cc)
-  leaves_one x t (Some s) None named was does is had unheld id others gone = absurd (let e : Some s ≡ None = is in cc)
-  leaves_one x t (Some s) (Some n) named was does is had unheld id others gone =
-      let token = same_some is in
-      let held = owned_token v rs x t ready.owned was in
-      applies_by v w rs call Done ((x, Some s) ∷ []) ready.owned named (refl, tt) (within_list rs x t was, tt) (had, tt)
+  leaves_one x None None named was does is had unheld left gone = spent_one x named was left (λ h none. none) gone does
+  leaves_one x None (Some n) named was does is had unheld left gone = absurd (let e : None ≡ Some (token_of w.arena n) = is in cc)
+  leaves_one x (Some s) None named was does is had unheld left gone = absurd (let e : Some s ≡ None = is in cc)
+  leaves_one x {t} (Some s) (Some n) named was does is had unheld left gone =
+      applies_by ((x, Some s) ∷ []) called ready named (refl, tt) (within_list rs x t was, tt) (had, tt) left
       (λ distinct. subst (λ o. Moves v.arena w.arena (tokens_in o ++ []) (s ∷ [])) (sym was) (record {
-        id = id;
-        others = λ h before after. others h (ap (λ b. b || rows.has h (s.head ∷ [])) (or_parts (eqb t.head h) false before).0 ∙ after);
-        had = (held, tt);
+        others = λ h before after. left.held h (ap (λ b. b || rows.has h (s.head ∷ [])) (or_parts (eqb t.head h) false before).0 ∙ after);
+        had = (owned_token v rs x t ready.owned was, tt);
         has_now = (had, tt);
         apart = (refl, tt);
-        gone = λ h before after.
-            subst (λ k. held_at w.arena k ≡ None) (lone h t.head before)
-            (gone (subst (λ k. rows.has k (s.head ∷ []) ≡ false) (sym (lone h t.head before)) after));
+        gone = λ h before after. subst (λ k. held_at w.arena k ≡ None) (lone h t.head before) gone;
         new = λ h before after. subst (λ k. held_at v.arena k ≡ None) (lone h s.head after) unheld;
       }))
-      (step_act v rs call ready ∙ does ∙ ap (λ table. replying w table Done) (ap (λ (y : TokenValue). set (table_of rs) x (Some y.head)) (sym token) ∙ sym (table-set rs x (Some s))))
+      (does ∙ ap (λ table. replying w table Done) (ap (λ (y : TokenValue). set (table_of rs) x (Some y.head)) (sym (same_some is)) ∙ sym (table-set rs x (Some s))))
 
   -- ---- a register is given a token
 
-  module _ (y : ℕ) (named : y ∷ [] ≡ registers_in (names_of call)) (free : register rs y ≡ None) (there : y < length rs) (id : w.arena.id ≡ v.arena.id) where
-    given_one : (s : TokenValue) → has w.arena s ≡ true → held_at v.arena s.head ≡ None → ((h : ℕ) → rows.has h (s.head ∷ []) ≡ false → held_at w.arena h ≡ held_at v.arena h)
-        → act v (table_of rs) call ≡ replying w (set (table_of rs) y (Some s.head)) Done → Applies v rs call w (set rs y (Some s)) Done
-    given_one s had unheld others does =
-        applies_by v w rs call Done ((y, Some s) ∷ []) ready.owned named (refl, tt) (there, tt) (had, tt)
-        (λ distinct. subst (λ o. Moves v.arena w.arena (tokens_in o ++ []) (s ∷ [])) (sym free) (record {
-          id = id;
-          others = λ h before after. others h after;
+  module _ (y : ℕ) (named : IsNaming other None None (Some y)) where
+    given_one : (s : TokenValue) → has w.arena s ≡ true → held_at v.arena s.head ≡ None → LeavesOthers (s.head ∷ []) v.arena w.arena
+        → act v (table_of rs) other ≡ replying w (set (table_of rs) y (Some s.head)) Done → Applies v rs call w (set rs y (Some s)) Done
+    given_one s had unheld left does =
+        let free = destination called ready None None y named in
+        applies_by ((y, Some s) ∷ []) called ready (ap registers_in (sym named)) (refl, tt) (free.1, tt) (had, tt) left
+        (λ distinct. subst (λ o. Moves v.arena w.arena (tokens_in o ++ []) (s ∷ [])) (sym free.0) (record {
+          others = λ h before after. left.held h after;
           had = tt;
           has_now = (had, tt);
           apart = (refl, tt);
           gone = λ h before after. absurd (false≢true before);
           new = λ h before after. subst (λ k. held_at v.arena k ≡ None) (lone h s.head after) unheld;
         }))
-        (step_act v rs call ready ∙ does ∙ ap (λ table. replying w table Done) (sym (table-set rs y (Some s))))
+        (does ∙ ap (λ table. replying w table Done) (sym (table-set rs y (Some s))))
 
-    given_none : ((h : ℕ) → held_at w.arena h ≡ held_at v.arena h) → act v (table_of rs) call ≡ replying w (table_of rs) Nothing → Applies v rs call w rs Nothing
-    given_none others does =
+    given_none : LeavesOthers [] v.arena w.arena → act v (table_of rs) other ≡ replying w (table_of rs) Nothing → Applies v rs call w rs Nothing
+    given_none left does =
+        let free = destination called ready None None y named in
+        let same : set rs y None ≡ rs = ap (set rs y) (sym free.0) ∙ set-get_or rs y None in
         subst (λ ss. Applies v rs call w ss Nothing) same
-        (applies_by v w rs call Nothing ((y, None) ∷ []) ready.owned named (refl, tt) (there, tt) tt
-        (λ distinct. subst (λ o. Moves v.arena w.arena (tokens_in o ++ []) []) (sym free) (record {
-          id = id;
-          others = λ h before after. others h;
+        (applies_by ((y, None) ∷ []) called ready (ap registers_in (sym named)) (refl, tt) (free.1, tt) tt left
+        (λ distinct. subst (λ o. Moves v.arena w.arena (tokens_in o ++ []) []) (sym free.0) (record {
+          others = λ h before after. left.held h refl;
           had = tt;
           has_now = tt;
           apart = tt;
           gone = λ h before after. absurd (false≢true before);
           new = λ h before after. absurd (false≢true after);
         }))
-        (step_act v rs call ready ∙ does ∙ ap (λ l. replying w (table_of l) Nothing) (sym same)))
+        (does ∙ ap (λ l. replying w (table_of l) Nothing) (sym same)))
+
+    pub gives_one : (g : Given PoolValue ℕ) {given : Result TokenValue Refusal} {a : Result ℕ Refusal} {settled : Settled} → act v (table_of rs) other ≡ doing v (table_of rs) (gives y) g → w ≡ value_after v g
+        → answer_of g ≡ a → given ≡ answer_map (token_of w.arena) a → IfOk given (λ s. has w.arena s ≡ true) → IfOk given (λ s. held_at v.arena s.head ≡ None)
+        → LeavesOthers (head_answered given) v.arena w.arena → settled ≡ given_to y given rs → Applies v rs call w settled.0 settled.1
+    gives_one g {given} does after same answered had unheld left settled =
+        subst (λ (p : Settled). Applies v rs call w p.0 p.1) (sym settled) (each g given does after (answered ∙ ap (answer_map (token_of w.arena)) (sym same)) had unheld left)
       where
-        same : set rs y None ≡ rs
-        same = ap (set rs y) (sym free) ∙ set-get_or rs y None
+        each : (g : Given PoolValue ℕ) (given : Result TokenValue Refusal) → act v (table_of rs) other ≡ doing v (table_of rs) (gives y) g → w ≡ value_after v g
+            → given ≡ answer_map (token_of w.arena) (answer_of g) → IfOk given (λ s. has w.arena s ≡ true) → IfOk given (λ s. held_at v.arena s.head ≡ None)
+            → LeavesOthers (head_answered given) v.arena w.arena → let settled = given_to y given rs in Applies v rs call w settled.0 settled.1
+        each (Ok given) (Ok s) does after is had unheld left =
+            given_one s had unheld left
+            (does ∙ ap (λ p. replying p (set (table_of rs) y (Some given.0)) Done) (sym after) ∙ ap (λ (t : TokenValue). replying w (set (table_of rs) y (Some t.head)) Done) (sym (same_ok is)))
+        each (Ok given) (Err why) does after is had unheld left = absurd (err_not_ok is)
+        each (Err why) (Ok s) does after is had unheld left = absurd (err_not_ok (sym is))
+        each (Err why) (Err other) does after is had unheld left = refused (gives y) other (does ∙ ap (λ e. replying v (table_of rs) (Refused e)) (sym (same_err is))) after
 
-    pub gives_one : (g : Given PoolValue ℕ) (given : Result TokenValue Refusal) → act v (table_of rs) call ≡ doing v (table_of rs) (gives y) g → w ≡ value_after v g
-        → given ≡ answer_map (token_of w.arena) (answer_of g) → IfOk given (λ s. has w.arena s ≡ true) → IfOk given (λ s. held_at v.arena s.head ≡ None)
-        → ((h : ℕ) → rows.has h (head_answered given) ≡ false → held_at w.arena h ≡ held_at v.arena h) → let settled = given_to y given rs in Applies v rs call w settled.0 settled.1
-    gives_one (Ok given) (Ok s) does after is had unheld others =
-        given_one s had unheld others
-        (does ∙ ap (λ p. replying p (set (table_of rs) y (Some given.0)) Done) (sym after) ∙ ap (λ (t : TokenValue). replying w (set (table_of rs) y (Some t.head)) Done) (sym (same_ok is)))
-    gives_one (Ok given) (Err why) does after is had unheld others = absurd (err_not_ok is)
-    gives_one (Err why) (Ok s) does after is had unheld others = absurd (err_not_ok (sym is))
-    gives_one (Err why) (Err other) does after is had unheld others = refused (gives y) other (does ∙ ap (λ e. replying v (table_of rs) (Refused e)) (sym (same_err is))) after
-
-    pub may_give_one : (g : Given PoolValue (Option ℕ)) (given : Result (Option TokenValue) Refusal) → act v (table_of rs) call ≡ doing v (table_of rs) (may_give y) g → w ≡ value_after v g
-        → given ≡ answer_map (option_map (token_of w.arena)) (answer_of g)
+    pub may_give_one : (g : Given PoolValue (Option ℕ)) {given : Result (Option TokenValue) Refusal} {a : Result (Option ℕ) Refusal} {settled : Settled} → act v (table_of rs) other ≡ doing v (table_of rs) (may_give y) g
+        → w ≡ value_after v g → answer_of g ≡ a → given ≡ answer_map (option_map (token_of w.arena)) a
         → IfOk given (λ o. IfSome o (λ s. has w.arena s ≡ true)) → IfOk given (λ o. IfSome o (λ s. held_at v.arena s.head ≡ None))
-        → IfOk given (λ o. (h : ℕ) → rows.has h (head_given o) ≡ false → held_at w.arena h ≡ held_at v.arena h) → let settled = any_given_to y given rs in Applies v rs call w settled.0 settled.1
-    may_give_one (Ok (Some n, u)) (Ok (Some s)) does after is had unheld others =
-        given_one s had unheld others
-        (does ∙ ap (λ p. replying p (set (table_of rs) y (Some n)) Done) (sym after) ∙ ap (λ (t : TokenValue). replying w (set (table_of rs) y (Some t.head)) Done) (sym (same_some (same_ok is))))
-    may_give_one (Ok (Some n, u)) (Ok None) does after is had unheld others = absurd (let e : None ≡ Some (token_of w.arena n) = same_ok is in cc)
-    may_give_one (Ok (None, u)) (Ok (Some s)) does after is had unheld others = absurd (let e : Some s ≡ None = same_ok is in cc)
-    may_give_one (Ok (None, u)) (Ok None) does after is had unheld others = given_none (λ h. others h refl) (does ∙ ap (λ p. replying p (table_of rs) Nothing) (sym after))
-    may_give_one (Ok given) (Err why) does after is had unheld others = absurd (err_not_ok is)
-    may_give_one (Err why) (Ok o) does after is had unheld others = absurd (err_not_ok (sym is))
-    may_give_one (Err why) (Err other) does after is had unheld others = refused (may_give y) other (does ∙ ap (λ e. replying v (table_of rs) (Refused e)) (sym (same_err is))) after
+        → LeavesOthers (heads_answered given) v.arena w.arena → settled ≡ any_given_to y given rs → Applies v rs call w settled.0 settled.1
+    may_give_one g {given} does after same answered had unheld left settled =
+        subst (λ (p : Settled). Applies v rs call w p.0 p.1) (sym settled) (each g given does after (answered ∙ ap (answer_map (option_map (token_of w.arena))) (sym same)) had unheld left)
+      where
+        each : (g : Given PoolValue (Option ℕ)) (given : Result (Option TokenValue) Refusal) → act v (table_of rs) other ≡ doing v (table_of rs) (may_give y) g → w ≡ value_after v g
+            → given ≡ answer_map (option_map (token_of w.arena)) (answer_of g) → IfOk given (λ o. IfSome o (λ s. has w.arena s ≡ true)) → IfOk given (λ o. IfSome o (λ s. held_at v.arena s.head ≡ None))
+            → LeavesOthers (heads_answered given) v.arena w.arena → let settled = any_given_to y given rs in Applies v rs call w settled.0 settled.1
+        each (Ok (Some n, u)) (Ok (Some s)) does after is had unheld left =
+            given_one s had unheld left
+            (does ∙ ap (λ p. replying p (set (table_of rs) y (Some n)) Done) (sym after) ∙ ap (λ (t : TokenValue). replying w (set (table_of rs) y (Some t.head)) Done) (sym (same_some (same_ok is))))
+        each (Ok (Some n, u)) (Ok None) does after is had unheld left = absurd (let e : None ≡ Some (token_of w.arena n) = same_ok is in cc)
+        each (Ok (None, u)) (Ok (Some s)) does after is had unheld left = absurd (let e : Some s ≡ None = same_ok is in cc)
+        each (Ok (None, u)) (Ok None) does after is had unheld left = given_none left (does ∙ ap (λ p. replying p (table_of rs) Nothing) (sym after))
+        each (Ok given) (Err why) does after is had unheld left = absurd (err_not_ok is)
+        each (Err why) (Ok o) does after is had unheld left = absurd (err_not_ok (sym is))
+        each (Err why) (Err other) does after is had unheld left = refused (may_give y) other (does ∙ ap (λ e. replying v (table_of rs) (Refused e)) (sym (same_err is))) after
 
   -- ---- a register is given a token beside one that keeps its own, or has another one of the same head
 
-  module _ (x y : ℕ) (t : TokenValue) (named : x ∷ y ∷ [] ≡ registers_in (names_of call)) (was : register rs x ≡ Some t) (free : register rs y ≡ None) (there : y < length rs)
-      (id : w.arena.id ≡ v.arena.id) where
-    apart_two : IsApart (x ∷ y ∷ [])
-    apart_two = (ap (λ b. b || false) (ne_eqb y x (λ same. free_other rs x y t was free (sym same))), (refl, tt))
-
+  module _ (x y : ℕ) {t : TokenValue} (named : IsNaming other (Some x) None (Some y)) (was : register rs x ≡ Some t) where
     -- both registers change
-    two : (o p : Option TokenValue) (reply : Reply) → Each (λ s. has w.arena s ≡ true) (news ((x, o) ∷ (y, p) ∷ [])) → Moves v.arena w.arena (t ∷ []) (news ((x, o) ∷ (y, p) ∷ []))
-        → act v (table_of rs) call ≡ replying w (set (set (table_of rs) x (option_map (λ s. s.head) o)) y (option_map (λ s. s.head) p)) reply
+    two : {heads : List ℕ} (o p : Option TokenValue) {reply : Reply} → LeavesOthers heads v.arena w.arena → Each (λ s. has w.arena s ≡ true) (news ((x, o) ∷ (y, p) ∷ [])) → Moves v.arena w.arena (t ∷ []) (news ((x, o) ∷ (y, p) ∷ []))
+        → act v (table_of rs) other ≡ replying w (set (set (table_of rs) x (option_map (λ s. s.head) o)) y (option_map (λ s. s.head) p)) reply
         → Applies v rs call w (set (set rs x o) y p) reply
-    two o p reply now moves does =
-        applies_by v w rs call reply ((x, o) ∷ (y, p) ∷ []) ready.owned named apart_two (within_list rs x t was, (there, tt)) now
+    two o p {reply} left now moves does =
+        let free = destination called ready (Some x) None y named in
+        let apart : IsApart (x ∷ y ∷ []) = (ap (λ b. b || false) (ne_eqb y x (λ same. free_other rs x y t was free.0 (sym same))), (refl, tt)) in
+        applies_by ((x, o) ∷ (y, p) ∷ []) called ready (ap registers_in (sym named)) apart (within_list rs x t was, (free.1, tt)) now left
         (λ distinct. subst (λ q. Moves v.arena w.arena (tokens_in q ++ (tokens_in (register rs y) ++ [])) (news ((x, o) ∷ (y, p) ∷ []))) (sym was)
-        (subst (λ q. Moves v.arena w.arena (t ∷ (tokens_in q ++ [])) (news ((x, o) ∷ (y, p) ∷ []))) (sym free) moves))
-        (step_act v rs call ready ∙ does
+        (subst (λ q. Moves v.arena w.arena (t ∷ (tokens_in q ++ [])) (news ((x, o) ∷ (y, p) ∷ []))) (sym free.0) moves))
+        (does
         ∙ ap (λ table. replying w table reply) (ap (λ table. set table y (option_map (λ s. s.head) p)) (sym (table-set rs x o)) ∙ sym (table-set (set rs x o) y p)))
 
     -- the first register keeps its message, the other is given one that no held message had the head of
-    beside : (s r : TokenValue) → s.head ≡ t.head → has w.arena s ≡ true → has w.arena r ≡ true → held_at v.arena r.head ≡ None
-        → ((h : ℕ) → rows.has h (t.head ∷ r.head ∷ []) ≡ false → held_at w.arena h ≡ held_at v.arena h) → Moves v.arena w.arena (t ∷ []) (s ∷ r ∷ [])
-    beside s r head kept had unheld others = record {
-      id = id;
-      others = λ h before after. others h (ap (λ b. b || rows.has h (r.head ∷ [])) (or_parts (eqb t.head h) false before).0 ∙ (or_parts (eqb s.head h) (rows.has h (r.head ∷ [])) after).1);
-      had = (owned_token v rs x t ready.owned was, tt);
-      has_now = (kept, (had, tt));
-      apart = (ap (λ b. b || false) (ne_eqb r.head s.head (λ same. held_has v.arena t (owned_token v rs x t ready.owned was) (ap (held_at v.arena) (sym (same ∙ head)) ∙ unheld))), (refl, tt));
-      gone = λ h before after. absurd (not_both (eq-eqb s.head h (head ∙ lone h t.head before)) (or_parts (eqb s.head h) (rows.has h (r.head ∷ [])) after).0);
-      new = λ h before after.
-          subst (λ k. held_at v.arena k ≡ None)
-          (lone h r.head (ap (λ b. b || rows.has h (r.head ∷ [])) (sym (ap (λ k. eqb k h) head ∙ (or_parts (eqb t.head h) false before).0)) ∙ after)) unheld;
-    }
-
-    pub gives_beside : (g : Given PoolValue ℕ) (given : Result TokenValue Refusal) → act v (table_of rs) call ≡ doing v (table_of rs) (gives y) g → w ≡ value_after v g
+    pub gives_beside : (g : Given PoolValue ℕ) (given : Result TokenValue Refusal) → act v (table_of rs) other ≡ doing v (table_of rs) (gives y) g → w ≡ value_after v g
         → given ≡ answer_map (token_of w.arena) (answer_of g) → has w.arena t ≡ true → IfOk given (λ s. has w.arena s ≡ true) → IfOk given (λ s. held_at v.arena s.head ≡ None)
-        → ((h : ℕ) → rows.has h (head_answered given) ≡ false → held_at w.arena h ≡ held_at v.arena h) → let settled = given_to y given rs in Applies v rs call w settled.0 settled.1
-    gives_beside (Ok given) (Ok r) does after is kept had unheld others =
+        → LeavesOthers (head_answered given) v.arena w.arena → let settled = given_to y given rs in Applies v rs call w settled.0 settled.1
+    gives_beside (Ok given) (Ok r) does after is kept had unheld left =
         subst (λ l. Applies v rs call w (set l y (Some r)) Done) (put_back rs x t was)
-        (two (Some t) (Some r) Done (kept, (had, tt))
-        (beside t r refl kept had unheld (λ h none. others h (or_parts (eqb t.head h) (rows.has h (r.head ∷ [])) none).1))
+        (two (Some t) (Some r) left (kept, (had, tt))
+        (moves_beside refl (owned_token v rs x t ready.owned was) kept had unheld (λ h none. left.held h (or_parts (eqb t.head h) (rows.has h (r.head ∷ [])) none).1))
         (does ∙ ap (λ p. replying p (set (table_of rs) y (Some given.0)) Done) (sym after) ∙ ap (λ (s : TokenValue). replying w (set (table_of rs) y (Some s.head)) Done) (sym (same_ok is))
-        ∙ ap (λ table. replying w (set table y (Some r.head)) Done) (sym kept_head)))
-      where
-        kept_head : set (table_of rs) x (Some t.head) ≡ table_of rs
-        kept_head = ap (set (table_of rs) x) (sym (table-at rs x ∙ ap (option_map (λ (s : TokenValue). s.head)) was)) ∙ set-get_or (table_of rs) x None
-    gives_beside (Ok given) (Err why) does after is kept had unheld others = absurd (err_not_ok is)
-    gives_beside (Err why) (Ok s) does after is kept had unheld others = absurd (err_not_ok (sym is))
-    gives_beside (Err why) (Err other) does after is kept had unheld others =
+        ∙ ap (λ table. replying w (set table y (Some r.head)) Done) (sym (kept_head rs x t t was refl))))
+    gives_beside (Ok given) (Err why) does after is kept had unheld left = absurd (err_not_ok is)
+    gives_beside (Err why) (Ok s) does after is kept had unheld left = absurd (err_not_ok (sym is))
+    gives_beside (Err why) (Err other) does after is kept had unheld left =
         refused (gives y) other (does ∙ ap (λ e. replying v (table_of rs) (Refused e)) (sym (same_err is))) after
 
     -- the first register keeps the first block, and the other is given the rest, if there is one
-    pub unlinks : (s : TokenValue) (rest : Option TokenValue) (u : PoolValue) (o : Option ℕ) → act v (table_of rs) call ≡ doing v (table_of rs) (may_give y) (Ok (o, u)) → w ≡ u → rest ≡ option_map (token_of w.arena) o
-        → s.head ≡ t.head → has w.arena s ≡ true → IfSome rest (λ r. has w.arena r ≡ true) → IfSome rest (λ r. held_at v.arena r.head ≡ None)
-        → ((h : ℕ) → rows.has h (t.head ∷ head_given rest) ≡ false → held_at w.arena h ≡ held_at v.arena h)
-        → let settled = any_given_to y (Ok rest) (set rs x (Some s)) in Applies v rs call w settled.0 settled.1
-    unlinks s (Some r) u (Some n) does after is head kept had unheld others =
-        two (Some s) (Some r) Done (kept, (had, tt)) (beside s r head kept had unheld others)
-        (does ∙ ap (λ p. replying p (set (table_of rs) y (Some n)) Done) (sym after) ∙ ap (λ (q : TokenValue). replying w (set (table_of rs) y (Some q.head)) Done) (sym (same_some is))
-        ∙ ap (λ table. replying w (set table y (Some r.head)) Done) (sym (kept_head s head)))
+    pub unlinks : {s : TokenValue} (rest : Option TokenValue) (made : ℕ → Arena → Option ℕ × Arena) {settled : Settled} → act v (table_of rs) other ≡ doing v (table_of rs) (may_give y) (on_arena v (Ok (made (head_held (table_of rs) x) v.arena)))
+        → w ≡ with_arena v (made t.head v.arena).1 → rest ≡ option_map (token_of w.arena) (made t.head v.arena).0
+        → s ≡ token_of w.arena t.head → has w.arena s ≡ true → IfSome rest (λ r. has w.arena r ≡ true) → IfSome rest (λ r. held_at v.arena r.head ≡ None)
+        → LeavesOthers (t.head ∷ head_given rest) v.arena w.arena → settled ≡ any_given_to y (Ok rest) (set rs x (Some s)) → Applies v rs call w settled.0 settled.1
+    unlinks {s} rest made does after is token kept had unheld left settled =
+        subst (λ (p : Settled). Applies v rs call w p.0 p.1) (sym settled)
+        (each rest (made t.head v.arena).0 (does ∙ ap (λ h. doing v (table_of rs) (may_give y) (on_arena v (Ok (made h v.arena)))) (head_is rs x t was)
+        ∙ ap (λ u. doing v (table_of rs) (may_give y) (Ok ((made t.head v.arena).0, u))) (sym after)) is had unheld left)
       where
-        kept_head : (q : TokenValue) → q.head ≡ t.head → set (table_of rs) x (Some q.head) ≡ table_of rs
-        kept_head q same = ap (λ k. set (table_of rs) x (Some k)) same ∙ ap (set (table_of rs) x) (sym (table-at rs x ∙ ap (option_map (λ (a : TokenValue). a.head)) was)) ∙ set-get_or (table_of rs) x None
-    unlinks s (Some r) u None does after is head kept had unheld others = absurd (let e : Some r ≡ None = is in cc)
-    unlinks s None u (Some n) does after is head kept had unheld others = absurd (let e : None ≡ Some (token_of w.arena n) = is in cc)
-    unlinks s None u None does after is head kept had unheld others =
-        subst (λ ss. Applies v rs call w ss Nothing) same
-        (two (Some s) None Nothing (kept, tt) (stays_at)
-        (does ∙ ap (λ p. replying p (table_of rs) Nothing) (sym after) ∙ ap (λ table. replying w table Nothing) table))
-      where
+        head : s.head ≡ t.head
+        head = ap (λ (q : TokenValue). q.head) token
+
         free_still : register (set rs x (Some s)) y ≡ None
-        free_still = get_or-set_other rs x y (Some s) None (λ e. free_other rs x y t was free (sym e)) ∙ free
+        free_still = get_or-set_other rs x y (Some s) None (λ e. free_other rs x y t was (destination called ready (Some x) None y named).0 (sym e)) ∙ (destination called ready (Some x) None y named).0
 
         same : set (set rs x (Some s)) y None ≡ set rs x (Some s)
         same = ap (set (set rs x (Some s)) y) (sym free_still) ∙ set-get_or (set rs x (Some s)) y None
 
         table : table_of rs ≡ set (set (table_of rs) x (Some s.head)) y None
-        table =
-            sym (set-get_or (table_of rs) x None) ∙ ap (set (table_of rs) x) (table-at rs x ∙ ap (option_map (λ (a : TokenValue). a.head)) was ∙ ap (λ k. Some k) (sym head)) ∙ sym (table-set rs x (Some s))
-            ∙ ap table_of (sym same) ∙ table-set (set rs x (Some s)) y None ∙ ap (λ l. set l y None) (table-set rs x (Some s))
+        table = sym (table-set rs x (Some s) ∙ kept_head rs x t s was head) ∙ ap table_of (sym same) ∙ table-set (set rs x (Some s)) y None ∙ ap (λ l. set l y None) (table-set rs x (Some s))
 
-        stays_at : Moves v.arena w.arena (t ∷ []) (s ∷ [])
-        stays_at = record {
-          id = id;
-          others = λ h before after. others h before;
-          had = (owned_token v rs x t ready.owned was, tt);
-          has_now = (kept, tt);
-          apart = (refl, tt);
-          gone = λ h before after. absurd (not_both (ap (λ k. rows.has h (k ∷ [])) head ∙ before) after);
-          new = λ h before after. absurd (not_both (ap (λ k. rows.has h (k ∷ [])) (sym head) ∙ after) before);
-        }
+        each : (rest : Option TokenValue) (o : Option ℕ) → act v (table_of rs) other ≡ doing v (table_of rs) (may_give y) (Ok (o, w)) → rest ≡ option_map (token_of w.arena) o
+            → IfSome rest (λ r. has w.arena r ≡ true) → IfSome rest (λ r. held_at v.arena r.head ≡ None) → LeavesOthers (t.head ∷ head_given rest) v.arena w.arena
+            → let settled = any_given_to y (Ok rest) (set rs x (Some s)) in Applies v rs call w settled.0 settled.1
+        each (Some r) (Some n) does is had unheld left =
+            two (Some s) (Some r) left (kept, (had, tt)) (moves_beside head (owned_token v rs x t ready.owned was) kept had unheld left.held)
+            (does ∙ ap (λ (q : TokenValue). replying w (set (table_of rs) y (Some q.head)) Done) (sym (same_some is)) ∙ ap (λ table. replying w (set table y (Some r.head)) Done) (sym (kept_head rs x t s was head)))
+        each (Some r) None does is had unheld left = absurd (let e : Some r ≡ None = is in cc)
+        each None (Some n) does is had unheld left = absurd (let e : None ≡ Some (token_of w.arena n) = is in cc)
+        each None None does is had unheld left =
+            subst (λ ss. Applies v rs call w ss Nothing) same (two (Some s) None left (kept, tt) (moves_stay head (owned_token v rs x t ready.owned was) kept left) (does ∙ ap (λ table. replying w table Nothing) table))
 
     -- the token that comes first goes to the other register, and the first has the other one, if there is one
-    pub parts_two : (g : Given PoolValue (ℕ × Option ℕ)) (parted : Result (TokenValue × Option TokenValue) Rejected) → act v (table_of rs) call ≡ doing v (table_of rs) (parts x y) g → w ≡ value_after v g
+    pub parts_two : (g : Given PoolValue (ℕ × Option ℕ)) (parted : Result (TokenValue × Option TokenValue) Rejected) → act v (table_of rs) other ≡ doing v (table_of rs) (parts x y) g → w ≡ value_after v g
         → parted ≡ or_rejected t (answer_map (λ heads. (token_of w.arena heads.0, option_map (token_of w.arena) heads.1)) (answer_of g))
         → IfOk parted (λ ts. has w.arena ts.0 ≡ true) → IfOk parted (λ ts. IfSome ts.1 (λ r. has w.arena r ≡ true))
         → IfOk parted (λ ts. ts.0.head ≢ t.head → held_at v.arena ts.0.head ≡ None) → IfOk parted (λ ts. IfSome ts.1 (λ r. r.head ≢ t.head → held_at v.arena r.head ≡ None))
-        → IfOk parted (λ ts. IfSome ts.1 (λ r. r.head ≢ ts.0.head))
-        → ((h : ℕ) → rows.has h (t.head ∷ heads_parted parted) ≡ false → held_at w.arena h ≡ held_at v.arena h)
+        → IfOk parted (λ ts. IfSome ts.1 (λ r. r.head ≢ ts.0.head)) → LeavesOthers (t.head ∷ heads_parted parted) v.arena w.arena
         → ((n : ℕ) (o : Option ℕ) (u : PoolValue) → g ≡ Ok ((n, o), u) → n ≢ t.head → (o ≡ Some t.head → ⊥) → held_at u.arena t.head ≡ None)
         → let settled = parted_to x y parted (set rs x None) in Applies v rs call w settled.0 settled.1
-    parts_two (Ok given) (Err rejected) does after is had rest_had unheld rest_unheld apart others gone = absurd (err_not_ok is)
-    parts_two (Err why) (Ok ts) does after is had rest_had unheld rest_unheld apart others gone = absurd (err_not_ok (sym is))
-    parts_two (Err why) (Err rejected) does after is had rest_had unheld rest_unheld apart others gone =
+    parts_two (Ok given) (Err rejected) does after is had rest_had unheld rest_unheld apart left gone = absurd (err_not_ok is)
+    parts_two (Err why) (Ok ts) does after is had rest_had unheld rest_unheld apart left gone = absurd (err_not_ok (sym is))
+    parts_two (Err why) (Err rejected) does after is had rest_had unheld rest_unheld apart left gone =
         subst (λ ss. Applies v rs call w ss (Refused rejected.why)) (sym (set-set rs x None (Some rejected.token) ∙ ap (λ (r : Rejected). set rs x (Some r.token)) (same_err is) ∙ put_back rs x t was))
         (refused (parts x y) rejected.why (does ∙ ap (λ (r : Rejected). doing v (table_of rs) (parts x y) (Err r.why)) (sym (same_err is))) after)
-    parts_two (Ok ((n, o), u)) (Ok (f, rest)) does left is had rest_had unheld rest_unheld apart others gone =
+    parts_two (Ok ((n, o), u)) (Ok (f, rest)) does now is had rest_had unheld rest_unheld apart left gone =
         subst (λ l. Applies v rs call w (set l y (Some f)) Done) (sym (set-set rs x None rest))
-        (two rest (Some f) Done (each rest rest_had) (moves rest o (ap (λ p. p.1) both) rest_had rest_unheld apart others (gone n o u refl))
-        (does ∙ ap (λ p. replying p (set (set (table_of rs) x o) y (Some n)) Done) (sym left)
+        (two rest (Some f) left (each rest rest_had) (moves rest o (ap (λ p. p.1) both) rest_had rest_unheld apart left.held (gone n o u refl))
+        (does ∙ ap (λ p. replying p (set (set (table_of rs) x o) y (Some n)) Done) (sym now)
         ∙ (λ i. replying w (set (set (table_of rs) x (heads_same i)) y (Some (first_same i))) Done)))
       where
         both : ◌≡◌ {A = TokenValue × Option TokenValue} (f, rest) (token_of w.arena n, option_map (token_of w.arena) o)
@@ -390,14 +393,13 @@ module _ (v w : PoolValue) (rs : List (Option TokenValue)) (call : Call) (ready 
             → IfSome r (λ s. s.head ≢ f.head) → ((h : ℕ) → rows.has h (t.head ∷ f.head ∷ head_given r) ≡ false → held_at w.arena h ≡ held_at v.arena h)
             → (n ≢ t.head → (p ≡ Some t.head → ⊥) → held_at u.arena t.head ≡ None) → Moves v.arena w.arena (t ∷ []) (tokens_in r ++ (f ∷ []))
         moves None None is rest_had rest_unheld apart others gone = record {
-          id = id;
           others = λ h before after. others h (ap (λ b. b || rows.has h (f.head ∷ [])) (or_parts (eqb t.head h) false before).0 ∙ after);
           had = (owned_token v rs x t ready.owned was, tt);
           has_now = (had, tt);
           apart = (refl, tt);
           gone = λ h before after.
               subst (λ k. held_at w.arena k ≡ None) (lone h t.head before)
-              (ap (λ (q : PoolValue). held_at q.arena t.head) left
+              (ap (λ (q : PoolValue). held_at q.arena t.head) now
               ∙ gone (λ same. not_both (ap (λ b. b || false) (eq-eqb f.head h (sym first_same ∙ same ∙ lone h t.head before))) after) (λ e. absurd cc));
           new = λ h before after.
               subst (λ k. held_at v.arena k ≡ None) (lone h f.head after)
@@ -406,7 +408,6 @@ module _ (v w : PoolValue) (rs : List (Option TokenValue)) (call : Call) (ready 
         moves None (Some k) is rest_had rest_unheld apart others gone = absurd (let e : None ≡ Some (token_of w.arena k) = is in cc)
         moves (Some r) None is rest_had rest_unheld apart others gone = absurd (let e : Some r ≡ None = is in cc)
         moves (Some r) (Some k) is rest_had rest_unheld apart others gone = record {
-          id = id;
           others = λ h before after.
               let parts = or_parts (eqb r.head h) (rows.has h (f.head ∷ [])) after in
               others h
@@ -418,7 +419,7 @@ module _ (v w : PoolValue) (rs : List (Option TokenValue)) (call : Call) (ready 
           gone = λ h before after.
               let parts = or_parts (eqb r.head h) (rows.has h (f.head ∷ [])) after in
               subst (λ k. held_at w.arena k ≡ None) (lone h t.head before)
-              (ap (λ (q : PoolValue). held_at q.arena t.head) left
+              (ap (λ (q : PoolValue). held_at q.arena t.head) now
               ∙ gone (λ same. not_both (ap (λ b. b || false) (eq-eqb f.head h (sym first_same ∙ same ∙ lone h t.head before))) parts.1)
               (λ same. not_both (eq-eqb r.head h (ap (λ (q : TokenValue). q.head) (same_some is) ∙ same_some same ∙ lone h t.head before)) parts.0));
           new = λ h before after.
@@ -441,9 +442,10 @@ set-comm (x ∷ xs) (suc i) zero a b other = refl
 set-comm (x ∷ xs) (suc i) (suc j) a b other = ap (λ l. x ∷ l) (set-comm xs i j a b (λ same. other (ap suc same)))
 
 -- a second source that holds a token still, once the first is empty, is another one
-pub sources_apart : (rs : List (Option TokenValue)) (x y : ℕ) (t : TokenValue) → register rs x ≡ Some t → misses_token (table_of rs) (naming None (Some x) (Some y) None) ≡ false → x ≢ y
-sources_apart rs x y t was there same =
+pub sources_apart : {v : PoolValue} {rs : List (Option TokenValue)} {call other : Call} → call ≡ other → IsReady v rs call → (x y : ℕ) {t : TokenValue} → IsNaming other (Some x) (Some y) None → register rs x ≡ Some t → x ≢ y
+sources_apart {v} {rs} called ready x y named was same =
     let emptied = set (table_of rs) x None in
+    let there : misses_token (table_of rs) (naming None (Some x) (Some y) None) ≡ false = ap (misses_token (table_of rs)) (sym (ap names_of called ∙ named)) ∙ ready.sources in
     let second : is_none (register emptied y) ≡ false = (or_parts (is_none (register (table_of rs) x)) (is_none (register emptied y)) there).1 in
     absurd (not_both (ap is_none (ap (register emptied) (sym same) ∙ none_at (table_of rs) x)) second)
   where
@@ -452,17 +454,17 @@ sources_apart rs x y t was there same =
     none_at (k ∷ ks) zero = refl
     none_at (k ∷ ks) (suc i) = none_at ks i
 
-module _ (v w : PoolValue) (rs : List (Option TokenValue)) (call : Call) (ready : Ready v rs call) (x y : ℕ) (t u s : TokenValue) (named : x ∷ y ∷ [] ≡ registers_in (names_of call))
-    (was : register rs x ≡ Some t) (tail : register rs y ≡ Some u) (other : x ≢ y) (head : s.head ≡ t.head) (had : has w.arena s ≡ true) (id : w.arena.id ≡ v.arena.id)
-    (others : (h : ℕ) → rows.has h (t.head ∷ u.head ∷ []) ≡ false → held_at w.arena h ≡ held_at v.arena h) (gone : t.head ≢ u.head → held_at w.arena u.head ≡ None) where
-  pub links : act v (table_of rs) call ≡ replying w (set (table_of rs) y None) Done → Applies v rs call w (set (set (set rs x None) y None) x (Some s)) Done
+module _ {v w : PoolValue} {rs : List (Option TokenValue)} {call other : Call} (called : call ≡ other) (ready : IsReady v rs call) (x y : ℕ) {t u : TokenValue} (s : TokenValue) (named : x ∷ y ∷ [] ≡ registers_in (names_of other))
+    (was : register rs x ≡ Some t) (tail : register rs y ≡ Some u) (apart : x ≢ y) (head : s.head ≡ t.head) (had : has w.arena s ≡ true)
+    (left : LeavesOthers (t.head ∷ u.head ∷ []) v.arena w.arena) (gone : t.head ≢ u.head → held_at w.arena u.head ≡ None) where
+  pub links : act v (table_of rs) other ≡ replying w (set (table_of rs) y None) Done → Applies v rs call w (set (set (set rs x None) y None) x (Some s)) Done
   links does =
-      subst (λ l. Applies v rs call w l Done) (sym (set-comm (set rs x None) y x None (Some s) (λ same. other (sym same)) ∙ ap (λ l. set l y None) (set-set rs x None (Some s))))
-      (applies_by v w rs call Done ((x, Some s) ∷ (y, None) ∷ []) ready.owned named (ap (λ b. b || false) (ne_eqb y x (λ same. other (sym same))), (refl, tt))
-      (within_list rs x t was, (within_list rs y u tail, tt)) (had, tt)
+      subst (λ l. Applies v rs call w l Done) (sym (set-comm (set rs x None) y x None (Some s) (λ same. apart (sym same)) ∙ ap (λ l. set l y None) (set-set rs x None (Some s))))
+      (applies_by ((x, Some s) ∷ (y, None) ∷ []) called ready named (ap (λ b. b || false) (ne_eqb y x (λ same. apart (sym same))), (refl, tt))
+      (within_list rs x t was, (within_list rs y u tail, tt)) (had, tt) left
       (λ distinct. subst (λ q. Moves v.arena w.arena (tokens_in q ++ (tokens_in (register rs y) ++ [])) (s ∷ [])) (sym was)
       (subst (λ q. Moves v.arena w.arena (t ∷ (tokens_in q ++ [])) (s ∷ [])) (sym tail) (moves distinct)))
-      (step_act v rs call ready ∙ does ∙ ap (λ table. replying w table Done) table))
+      (does ∙ ap (λ table. replying w table Done) table))
     where
       shown : (z : ℕ) (r : TokenValue) → register rs z ≡ Some r → register (table_of rs) z ≡ Some r.head
       shown z r is = table-at rs z ∙ ap (option_map (λ (a : TokenValue). a.head)) is
@@ -474,14 +476,13 @@ module _ (v w : PoolValue) (rs : List (Option TokenValue)) (call : Call) (ready 
 
       moves : AreDistinct (table_of rs) → Moves v.arena w.arena (t ∷ u ∷ []) (s ∷ [])
       moves distinct = record {
-        id = id;
-        others = λ h before after. others h before;
+        others = λ h before after. left.held h before;
         had = (owned_token v rs x t ready.owned was, (owned_token v rs y u ready.owned tail, tt));
         has_now = (had, tt);
         apart = (refl, tt);
         gone = λ h before after.
             let not : eqb t.head h ≡ false = ap (λ k. eqb k h) (sym head) ∙ (or_parts (eqb s.head h) false after).0 in
             let same : u.head ≡ h = lone h u.head (ap (λ b. b || rows.has h (u.head ∷ [])) (sym not) ∙ before) in
-            subst (λ k. held_at w.arena k ≡ None) same (gone (λ e. other (distinct x y u.head (shown x t was ∙ ap (λ k. Some k) e) (shown y u tail))));
+            subst (λ k. held_at w.arena k ≡ None) same (gone (λ e. apart (distinct x y u.head (shown x t was ∙ ap (λ k. Some k) e) (shown y u tail))));
         new = λ h before after. absurd (not_both (ap (λ k. rows.has h (k ∷ [])) (sym head) ∙ after) (ap (λ b. b || false) (or_parts (eqb t.head h) (rows.has h (u.head ∷ [])) before).0));
       }

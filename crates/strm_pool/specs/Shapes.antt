@@ -1,10 +1,25 @@
--- What becomes of registers when a call that was made for them answers. No public clause cites this module.
-use Rattle.std.specs.Prelude.{ℕ, List, Option, None, Some, Result, Ok, Err, slice_set}
+-- When a call on registers may be made, and what becomes of them when it answers. No public clause cites this module.
+use Rattle.std.specs.Prelude.{◌≡◌, ◌<◌, ℕ, false, IsTrue, List, length, Option, None, Some, Result, Ok, Err, slice_set}
+use Rattle.std.specs.Option.{ForSome}
 use Rattle.strm_data.specs.declared.refusal.Refusal.{Refusal}
 use Rattle.strm_mblk.specs.declared.rejected.Rejected.{Rejected}
 use Rattle.strm_mblk.specs.declared.token.TokenValue.{TokenValue}
+use Rattle.strm_pool.specs.declared.call.Call.{Call}
 use Rattle.strm_pool.specs.declared.reply.Reply.{Reply}
 use Rattle.strm_pool.specs.declared.reply.Reply.TheVariants.{Done, Nothing, Refused}
+use Rattle.strm_pool.specs.Names.{names_of}
+use Rattle.strm_pool.specs.PoolValue.{PoolValue, owns}
+use Rattle.strm_pool.specs.Registers.{table_of}
+use Rattle.strm_pool.specs.Step.{is_taken, misses_queue, misses_token}
+
+-- a call may be made: its queue is there, its sources hold tokens that the pool has, and its destination is there and
+-- holds none
+pub record IsReady (v : PoolValue) (rs : List (Option TokenValue)) (call : Call) : Type 0 where
+  pub owned : IsTrue (owns v rs)
+  pub queue : misses_queue v (names_of call) ≡ false
+  pub sources : misses_token (table_of rs) (names_of call) ≡ false
+  pub free : is_taken (table_of rs) (names_of call) ≡ false
+  pub there : ForSome (names_of call).destination (λ x. x < length rs)
 
 -- registers, and the reply
 abbrev pub Settled : Type 0

@@ -171,20 +171,22 @@ is_named call x = rows.has x (registers_in (names_of call))
 
 -- A call was applied: pool, registers and reply are those of a step. A register that the call names has the
 -- token of its message, if it holds one, and every other register what it had. Where no two registers held one
--- message, none do, the pool has the token of each, and it keeps its id. And where these registers were those of one of several
--- desks, and each held message stood in one register of one desk, each does so now: the other desks have what they had.
+-- message, none do, and the pool has the token of each. It keeps its id, and has as many message blocks. And where these
+-- registers were those of one of several desks, and each held message stood in one register of one desk, each does so
+-- now: the other desks have what they had.
 pub record Applies (v : PoolValue) (rs : List (Option TokenValue)) (call : Call) (w : PoolValue) (ss : List (Option TokenValue)) (reply : Reply) : Type 0 where
   pub step : step v (table_of rs) call ≡ record { pool = w; table = table_of ss; reply = reply }
   pub tokens : (x : ℕ) → register ss x ≡ (if is_named call x then option_map (token_of w.arena) (register (table_of ss) x) else register rs x)
   pub owned : AreDistinct (table_of rs) → IsTrue (owns w ss) × AreDistinct (table_of ss)
-  pub same : AreDistinct (table_of rs) → w.arena.id ≡ v.arena.id
+  pub same : w.arena.id ≡ v.arena.id
+  pub size : length w.arena.held ≡ length v.arena.held
   pub accounted : (desks : List Entries) (desk : ℕ) → desk < length desks → slice_index_or desks desk [] ≡ entries_of rs
       → AreAccounted v.arena desks → AreAccounted w.arena (slice_set desks desk (entries_of ss))
 
 -- ---- replay
 
 -- a call of one of several desks
-pub record Turn : Type 0 where
+pub record DeskCall : Type 0 where
   pub desk : ℕ
   pub call : Call
 
@@ -205,12 +207,12 @@ abbrev pub empty_tables : ℕ → List RegisterTable
 empty_tables desks = replicate desks (replicate most_registers None)
 
 -- the calls, one after another, each on its own desk's table
-abbrev pub replay_from : PoolValue → List RegisterTable → List Turn → Replay
+abbrev pub replay_from : PoolValue → List RegisterTable → List DeskCall → Replay
 replay_from v ts [] = record { pool = v; tables = ts; replies = [] }
-replay_from v ts (turn ∷ turns) =
-    let o = step v (table_at ts turn.desk) turn.call in
-    with_reply o.reply (replay_from o.pool (slice_set ts turn.desk o.table) turns)
+replay_from v ts (first ∷ calls) =
+    let o = step v (table_at ts first.desk) first.call in
+    with_reply o.reply (replay_from o.pool (slice_set ts first.desk o.table) calls)
 
 -- the calls of so many desks, of which each begins with empty registers
-abbrev pub replay : PoolValue → ℕ → List Turn → Replay
-replay v desks turns = replay_from v (empty_tables desks) turns
+abbrev pub replay : PoolValue → ℕ → List DeskCall → Replay
+replay v desks calls = replay_from v (empty_tables desks) calls

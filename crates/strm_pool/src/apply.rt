@@ -1,11 +1,10 @@
 //! Calls on registers.
-ghost use Rattle.std.specs.Prelude.{◌≡◌, ◌<◌, false, IsSome, IsTrue, None, Some, length, slice_set};
-ghost use Rattle.std.specs.Option.{ForSome};
+ghost use Rattle.std.specs.Prelude.{◌≡◌, IsSome, IsTrue, None, Some, slice_set};
 ghost use Rattle.strm_mblk.specs.Arena.{has};
-ghost use Rattle.strm_pool.specs.Names.{names_of};
 ghost use Rattle.strm_pool.specs.PoolValue.{owns};
-ghost use Rattle.strm_pool.specs.Registers.{register, table_of};
-ghost use Rattle.strm_pool.specs.Step.{Applies, is_taken, misses_queue, misses_token};
+ghost use Rattle.strm_pool.specs.Registers.{register};
+ghost use Rattle.strm_pool.specs.Shapes.{IsReady};
+ghost use Rattle.strm_pool.specs.Step.{Applies, misses_queue};
 
 use crate::call::Call;
 use crate::names::Names;
@@ -72,11 +71,7 @@ impl Pool {
 
     // Does a call whose queue is there, whose sources hold tokens, and whose destination holds none.
     fn act(&mut self, regs: &mut Regs, call: &Call) -> Reply
-        requires owned { IsTrue (owns self.old regs.old) }
-        requires queue { misses_queue self.old (names_of call.now) ≡ false }
-        requires sources { misses_token (table_of regs.old) (names_of call.now) ≡ false }
-        requires free { is_taken (table_of regs.old) (names_of call.now) ≡ false }
-        requires there { ForSome (names_of call.now).destination (λ reg. reg < length regs.old) }
+        requires { IsReady self.old regs.old call.now }
         ensures { Applies self.old regs.old call.now self.new regs.new result }
     {
         match call {

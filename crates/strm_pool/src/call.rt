@@ -3,8 +3,8 @@ ghost use Rattle.std.specs.Prelude.{◌≡◌};
 ghost use Rattle.strm_pool.specs.Names.{names_of};
 
 use crate::names::Names;
-use crate::octets::Octets;
 use crate::reg::Reg;
+use crate::short_list::Octets;
 use strm_data::MsgType;
 use strm_queue::Flush;
 

@@ -4,9 +4,8 @@ ghost use Rattle.strm_data.specs.Classes.{sizes_rise, each_has_blocks, total_of}
 ghost use Rattle.strm_data.specs.Limits.{most_classes};
 ghost use Rattle.strm_queue.specs.QueueSpecs.{marks_meet, times_next, nexts_fit};
 
-use crate::class_spec::ClassSpecs;
 use crate::limits::MOST_WISHES;
-use crate::queue_specs::QueueSpecs;
+use crate::short_list::{ClassSpecs, QueueSpecs};
 use strm_data::{ClassSpec, MOST_DATA_BLOCK_BYTES, MOST_DATA_BLOCKS};
 use strm_mblk::MOST_MESSAGE_BLOCKS;
 use strm_queue::QueueSpec;

@@ -6,6 +6,7 @@ ghost use Rattle.strm_mblk.specs.Arena.{census_of, has};
 ghost use Rattle.strm_pool.specs.Config.{fault_of};
 ghost use Rattle.strm_pool.specs.Lawful.{IsLawful};
 ghost use Rattle.strm_pool.specs.PoolValue.{Opens, has_queue, opening, owns};
+ghost use Rattle.strm_queue.specs.QueuedBlocks.{Agrees};
 
 mod blocks;
 mod queues;
@@ -46,7 +47,9 @@ impl Pool {
     ///
     /// `BadConfig` comes where the configuration is not lawful, with its first fault, before any want of memory.
     pub fn new(alloc: Global, config: Config) -> Result<Pool, NewFault>
-        ensures { Opens config result }
+        ensures opens { Opens config result }
+        // Nothing is held in it.
+        ensures idle { IfOk result (λ pool. (census_of pool.arena).held ≡ 0) }
     {
         if let Some(which) = config.fault() {
             return Err(NewFault::BadConfig(which));
@@ -83,6 +86,21 @@ impl Pool {
         self.blocks.lawful();
         self.queues.lawful(&self.blocks);
         self.wishes.lawful();
+    }
+
+    /// The queues, lent, which agree with the message blocks.
+    pub fn queues(&self) -> &Queues
+        ensures state { result.now.state ≡ self.now.queues }
+        ensures agrees { Agrees result.now self.now.arena }
+    {
+        &self.queues
+    }
+
+    /// The message blocks, lent.
+    pub fn blocks(&self) -> &Blocks
+        ensures { result.now ≡ self.now.arena }
+    {
+        &self.blocks
     }
 
     /// Whether the token carries this pool's id and a held message has its head and its number of blocks.

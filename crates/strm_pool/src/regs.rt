@@ -16,7 +16,7 @@ use strm_data::Refusal;
 use strm_mblk::{Rejected, Token};
 
 /// Twenty-six registers, a to z, each of which holds a token or none. Registers must be spent, as tokens must:
-/// they can be neither cloned nor dropped.
+/// they can be neither cloned nor dropped, so no message is lost but by `forget`.
 pub struct Regs {
     slots: [Slot; MOST_REGISTERS],
 }

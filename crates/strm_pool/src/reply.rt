@@ -4,7 +4,7 @@ ghost use Rattle.strm_pool.specs.declared.reply.Reply.TheVariants as replies;
 ghost use Rattle.strm_pool.specs.Shapes.{reply_done, reply_made};
 ghost use Rattle.strm_pool.specs.Step.{queue_or_nothing, ready_or_nothing, yes_or_no};
 
-use crate::octets::Octets;
+use crate::short_list::Octets;
 use strm_data::Refusal;
 use strm_mblk::{BlockInfo, Census};
 

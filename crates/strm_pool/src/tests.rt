@@ -66,7 +66,7 @@ fn opened(
     Pool::new(alloc, config).expect(rt, "a lawful configuration")
 }
 
-// These bytes, at most 64.
+// These bytes, at most `MOST_OCTETS`.
 fn octets(rt: &impl Abort, bytes: &[u8]) -> Octets {
     let mut list = ArrayVec::new();
     assert!(rt; list.try_extend_from_slice(bytes).is_ok());

@@ -5,7 +5,7 @@ ghost use Rattle.strm_mblk.specs.Given.{answer_of, value_after};
 ghost use Rattle.strm_pool.specs.Limits.{most_wishes};
 ghost use Rattle.strm_pool.specs.Wishes.{AreLawful, has_id, recorded, wishes_without};
 
-use crate::limits::MOST_WISHES;
+use crate::limits::{LAST_ID, MOST_WISHES};
 use arrayvec::ArrayVec;
 use std::marker::Model;
 use strm_data::Refusal;
@@ -72,7 +72,7 @@ impl Wishes {
             return Err(Refusal::IdsSpent);
         };
         self.pending.push((id, size));
-        self.next = id.checked_add(1);
+        self.next = if id < LAST_ID { Some(id + 1) } else { None };
         Ok(id)
     }
 

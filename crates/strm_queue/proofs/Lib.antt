@@ -1,25 +1,10 @@
-pub mod Constants
-pub mod Counts
-pub mod Order
-pub mod OnShelf
-pub mod Ends
-pub mod Places
-pub mod Across
-pub mod Ranks
-pub mod Fits
-pub mod Shelve
-pub mod Lawful
-pub mod Bits
-pub mod Bands
-pub mod Tallies
-pub mod Marks
-pub mod Agreeing
-pub mod Settling
-pub mod Wanting
-pub mod Puts
-pub mod Gets
-pub mod Targets
-pub mod Running
-pub mod Stored
-pub mod Flushing
-pub mod Rows
+mod Constants
+mod Rows
+mod bands
+mod shelf
+mod order
+mod counting
+mod layout
+pub mod agreeing
+mod flow
+mod moving

@@ -6,7 +6,7 @@ use Rattle.strm_mblk.specs.Block.{Block, head_of}
 use Rattle.strm_mblk.specs.Given.{answer_of, value_after}
 use Rattle.strm_queue.specs.declared.queue_spec.QueueSpec.{QueueSpec}
 use Rattle.strm_queue.specs.declared.flush.Flush.TheVariants.{All}
-use Rattle.strm_queue.specs.Flow.{every_band, is_wanted, marks_at, opening_queues, target, waker}
+use Rattle.strm_queue.specs.Flow.{every_band, has_band, flags_at, opening_queues, target, waker}
 use Rattle.strm_queue.specs.QueueCalls.{bcanput, flushband, insq, putbq, putq, rmvq}
 use Rattle.strm_queue.specs.QueuedBlocks.{QueuedBlocks}
 
@@ -65,7 +65,7 @@ bcanput-no_such_queue = refl
 abbrev waited_for : QueuedBlocks
 waited_for = value_after before (bcanput 1 3 before)
 
-pub wanted-at_the_target : is_wanted (marks_at waited_for.queues 3).wanted 3 ≡ true
+pub wanted-at_the_target : has_band (flags_at waited_for.queues 3).wanted 3 ≡ true
 unfolding every_band
 wanted-at_the_target = refl
 
@@ -73,7 +73,7 @@ abbrev with_room : QueuedBlocks
 with_room = value_after waited_for (rmvq 3 1 waited_for)
 
 -- the 4 bytes that stay are as many as the low water mark
-pub wanted-no_more : is_wanted (marks_at with_room.queues 3).wanted 3 ≡ false
+pub wanted-no_more : has_band (flags_at with_room.queues 3).wanted 3 ≡ false
 unfolding every_band
 wanted-no_more = refl
 

@@ -1,12 +1,12 @@
--- Flow control: how many bytes a band has, what marks stand, and which queues are enabled.
-use Rattle.std.specs.Prelude.{ℕ, zero, suc, Bool, true, false, not, ◌&&◌, ◌||◌, ◌==◌, nat_lt, List, [], ◌∷◌, ◌++◌, length, map, sum_by, slice_index_or, slice_set, Option, None, Some, if◌then◌else◌}
-use Rattle.std.specs.List.{position, range_with_len}
+-- Flow control: how many bytes a band has, its water marks, the flags of queues, and which queues are enabled.
+use Rattle.std.specs.Prelude.{ℕ, zero, suc, Bool, true, false, not, ◌&&◌, ◌||◌, ◌==◌, ◌<◌, nat_le, nat_lt, List, [], ◌∷◌, ◌++◌, length, map, sum_by, slice_index_or, slice_set, Option, None, Some, if◌then◌else◌}
+use Rattle.std.specs.List.{list_any, position, range_with_len}
 use Rattle.std.specs.Option.{option_map_or}
 use Rattle.strm_data.specs.DataStore.{DataStore}
 use Rattle.strm_links.specs.Rows as rows
 use Rattle.strm_mblk.specs.Block.{Message, size_of}
 use Rattle.strm_queue.specs.declared.queue_spec.QueueSpec.{QueueSpec}
-use Rattle.strm_queue.specs.Limits.{bands}
+use Rattle.strm_queue.specs.Limits.{bands, high_rank}
 use Rattle.strm_queue.specs.Rank.{rank_of}
 
 -- ---- bytes
@@ -29,22 +29,22 @@ band_count s band ms = sum_by (λ m. if is_of_band s band m then size_of m else 
 
 -- ---- the state of queues
 
--- the marks of a queue: whether somebody wants to read from it, since it was empty when it was last read; whether putting
+-- the flags of a queue: whether somebody wants to read from it, since it was empty when it was last read; whether putting
 -- on it is to enable it no more; and for each band whether somebody found it full and waits for room
-pub record Marks : Type 0 where
+pub record Flags : Type 0 where
   pub read : Bool
   pub noenable : Bool
   pub wanted : List Bool
 
--- what queues were made with, their marks, and the queues that wait to be served, the next one first
+-- what queues were made with, their flags, and the queues that wait to be served, the next one first
 pub record QueueState : Type 0 where
   pub specs : List QueueSpec
-  pub marks : List Marks
+  pub flags : List Flags
   pub run : List ℕ
 
--- whether somebody waits for room in a band
-abbrev pub is_wanted : List Bool → ℕ → Bool
-is_wanted wanted band = slice_index_or wanted band false
+-- whether a set of bands, which tells of each whether it is in, has a band
+abbrev pub has_band : List Bool → ℕ → Bool
+has_band set band = slice_index_or set band false
 
 -- the bands of a queue, from 0 on
 unfoldable pub every_band : List ℕ
@@ -54,13 +54,13 @@ every_band = range_with_len 0 bands
 abbrev pub bands_where : (ℕ → Bool) → List Bool
 bands_where true_of = map true_of every_band
 
--- the marks of a new queue
-abbrev pub opening_marks : Marks
-opening_marks = record { read = true; noenable = false; wanted = bands_where (λ band. false) }
+-- the flags of a new queue
+abbrev pub opening_flags : Flags
+opening_flags = record { read = true; noenable = false; wanted = bands_where (λ band. false) }
 
 -- new queues: nothing stands on them, and none waits to be served
 abbrev pub opening_queues : List QueueSpec → QueueState
-opening_queues specs = record { specs = specs; marks = map (λ s. opening_marks) specs; run = [] }
+opening_queues specs = record { specs = specs; flags = map (λ s. opening_flags) specs; run = [] }
 
 -- what a queue was made with that is not there
 abbrev pub no_spec : QueueSpec
@@ -69,24 +69,53 @@ no_spec = record { hiwat = 0; lowat = 0; service = false; next = None }
 abbrev pub spec_at : List QueueSpec → ℕ → QueueSpec
 spec_at specs q = slice_index_or specs q no_spec
 
-abbrev pub marks_at : QueueState → ℕ → Marks
-marks_at s q = slice_index_or s.marks q opening_marks
+abbrev pub flags_at : QueueState → ℕ → Flags
+flags_at s q = slice_index_or s.flags q opening_flags
 
--- queue q has these marks
-abbrev pub with_marks : ℕ → Marks → QueueState → QueueState
-with_marks q m s = record s { marks = slice_set s.marks q m }
+-- queue q has these flags
+abbrev pub with_flags : ℕ → Flags → QueueState → QueueState
+with_flags q f s = record s { flags = slice_set s.flags q f }
 
 -- whether somebody wants to read from q
 abbrev pub with_read : ℕ → Bool → QueueState → QueueState
-with_read q read s = with_marks q (record (marks_at s q) { read = read }) s
+with_read q read s = with_flags q (record (flags_at s q) { read = read }) s
 
 -- whether putting on q is to enable it no more
 abbrev pub with_noenable : ℕ → Bool → QueueState → QueueState
-with_noenable q noenable s = with_marks q (record (marks_at s q) { noenable = noenable }) s
+with_noenable q noenable s = with_flags q (record (flags_at s q) { noenable = noenable }) s
 
 -- somebody found band b of q full
 abbrev pub with_wanted : ℕ → ℕ → QueueState → QueueState
-with_wanted q b s = with_marks q (record (marks_at s q) { wanted = slice_set (marks_at s q).wanted b true }) s
+with_wanted q b s = with_flags q (record (flags_at s q) { wanted = slice_set (flags_at s q).wanted b true }) s
+
+-- ---- water marks
+
+-- the high and the low water mark of a band of queue q: those that the queue was made with, whatever the band
+abbrev pub hiwat_of : QueueState → ℕ → ℕ → ℕ
+hiwat_of s q band = (spec_at s.specs q).hiwat
+
+abbrev pub lowat_of : QueueState → ℕ → ℕ → ℕ
+lowat_of s q band = (spec_at s.specs q).lowat
+
+-- the low water mark of each band is below its high one
+abbrev pub AreMarksApart : QueueState → Type 0
+AreMarksApart s = (q band : ℕ) → q < length s.specs → band < bands → lowat_of s q band < hiwat_of s q band
+
+-- whether a band with this high water mark is full with so many bytes: with at least as many
+abbrev pub fills : ℕ → ℕ → Bool
+fills hiwat count = nat_le hiwat count
+
+-- whether a wanted band has room again, by the bytes and the low water mark of each band: at most as many
+abbrev pub is_relieved : List Bool → (ℕ → ℕ) → (ℕ → ℕ) → ℕ → Bool
+is_relieved wanted counts lowat band = has_band wanted band && nat_le (counts band) (lowat band)
+
+-- whether some band has
+abbrev pub some_relieved : List Bool → (ℕ → ℕ) → (ℕ → ℕ) → Bool
+some_relieved wanted counts lowat = list_any (is_relieved wanted counts lowat) every_band
+
+-- the wanted bands that have not
+abbrev pub still_wanted : List Bool → (ℕ → ℕ) → (ℕ → ℕ) → List Bool
+still_wanted wanted counts lowat = bands_where (λ band. has_band wanted band && not (is_relieved wanted counts lowat band))
 
 -- ---- queues in front and behind
 
@@ -131,15 +160,15 @@ enabled q s = if (spec_at s.specs q).service && not (rows.has q s.run) then reco
 abbrev pub enabled_where : Bool → ℕ → QueueState → QueueState
 enabled_where so q s = if so then enabled q s else s
 
--- whether a message of this rank that is put on a queue with these marks enables it: one of high priority does always, any
+-- whether a message of this rank that is put on a queue with these flags enables it: one of high priority does always, any
 -- other where that is not switched off, and either somebody wants to read or its band is above 0
-abbrev pub enables_put : Marks → ℕ → Bool
-enables_put marks rank = rank == 256 || (not marks.noenable && (marks.read || nat_lt 0 rank))
+abbrev pub enables_put : Flags → ℕ → Bool
+enables_put flags rank = rank == high_rank || (not flags.noenable && (flags.read || nat_lt 0 rank))
 
 -- so for one that is put back: its band does not count
-abbrev pub enables_put_back : Marks → ℕ → Bool
-enables_put_back marks rank = rank == 256 || (not marks.noenable && marks.read)
+abbrev pub enables_put_back : Flags → ℕ → Bool
+enables_put_back flags rank = rank == high_rank || (not flags.noenable && flags.read)
 
 -- so for one that is inserted: not even high priority counts
-abbrev pub enables_inserted : Marks → Bool
-enables_inserted marks = not marks.noenable && marks.read
+abbrev pub enables_inserted : Flags → Bool
+enables_inserted flags = not flags.noenable && flags.read

@@ -9,6 +9,10 @@ most_queues = 16
 abbrev pub bands : ℕ
 bands = 256
 
--- the ranks of messages, counted from 0: one for each band, and that of high priority above them
+-- the rank of high priority messages: each band is a rank, and this one is above them
+abbrev pub high_rank : ℕ
+high_rank = bands
+
+-- the ranks of messages, counted from 0
 abbrev pub ranks : ℕ
-ranks = bands + 1
+ranks = high_rank + 1

@@ -1,6 +1,5 @@
 -- What each call on queues does. A message that is put is held before, at the head that is given.
-use Rattle.std.specs.Prelude.{ℕ, Bool, true, false, not, ◌&&◌, nat_le, nat_lt, filter, List, [], ◌∷◌, drop, length, Option, None, Some, Ok, Err, slice_get, if◌then◌else◌}
-use Rattle.std.specs.List.{list_any}
+use Rattle.std.specs.Prelude.{ℕ, Bool, true, false, not, nat_lt, filter, List, [], ◌∷◌, drop, length, Option, None, Some, Ok, Err, slice_get, if◌then◌else◌}
 use Rattle.std.specs.Option.{option_map_or}
 use Rattle.strm_data.specs.declared.refusal.Refusal.TheVariants.{BadOrder, NoSuchPlace, NoSuchQueue}
 use Rattle.strm_links.specs.Rows as rows
@@ -10,8 +9,7 @@ use Rattle.strm_mblk.specs.Given.{Given}
 use Rattle.strm_queue.specs.declared.band_info.BandInfo.{BandInfo}
 use Rattle.strm_queue.specs.declared.flush.Flush.{Flush}
 use Rattle.strm_queue.specs.declared.queue_info.QueueInfo.{QueueInfo}
-use Rattle.strm_queue.specs.declared.queue_spec.QueueSpec.{QueueSpec}
-use Rattle.strm_queue.specs.Flow.{Marks, QueueState, band_count, bands_where, bytes_on, enabled, enabled_where, enables_inserted, enables_put, enables_put_back, every_band, is_wanted, marks_at, spec_at, target, waker, with_marks, with_noenable, with_read, with_wanted}
+use Rattle.strm_queue.specs.Flow.{Flags, QueueState, band_count, bytes_on, enabled, enabled_where, enables_inserted, enables_put, enables_put_back, fills, flags_at, has_band, hiwat_of, lowat_of, some_relieved, still_wanted, target, waker, with_flags, with_noenable, with_read, with_wanted}
 use Rattle.strm_queue.specs.Flush.{is_picked, with_freed}
 use Rattle.strm_queue.specs.QueuedBlocks.{QueuedBlocks}
 use Rattle.strm_queue.specs.Rank.{as_queued, is_ordered, put_ahead, put_at, put_behind, rank_of, without_place}
@@ -44,12 +42,9 @@ with_got q m ms v = record v { arena = with_held m (with_shelf q ms v.arena) }
 abbrev pub with_state : (QueueState → QueueState) → QueuedBlocks → QueuedBlocks
 with_state change v = record v { queues = change v.queues }
 
--- what queue q was made with, and its marks
-abbrev pub spec_of : QueuedBlocks → ℕ → QueueSpec
-spec_of v q = spec_at v.queues.specs q
-
-abbrev pub marks_of : QueuedBlocks → ℕ → Marks
-marks_of v q = marks_at v.queues q
+-- the flags of queue q
+abbrev pub flags_of : QueuedBlocks → ℕ → Flags
+flags_of v q = flags_at v.queues q
 
 -- ---- bands
 
@@ -57,21 +52,17 @@ marks_of v q = marks_at v.queues q
 abbrev pub count_on : QueuedBlocks → ℕ → ℕ → ℕ
 count_on v q band = band_count v.arena.store band (messages_on v q)
 
--- a band is full that has as many bytes as the high water mark
+-- a band is full that has at least as many bytes as its high water mark
 abbrev pub is_full : QueuedBlocks → ℕ → ℕ → Bool
-is_full v q band = nat_le (spec_of v q).hiwat (count_on v q band)
+is_full v q band = fills (hiwat_of v.queues q band) (count_on v q band)
 
--- a band has room again that was found full and has no more bytes than the low water mark
-abbrev pub is_relieved : QueuedBlocks → ℕ → ℕ → Bool
-is_relieved v q band = is_wanted (marks_of v q).wanted band && nat_le (count_on v q band) (spec_of v q).lowat
+-- whether some wanted band of queue q has room again
+abbrev pub has_relieved : QueuedBlocks → ℕ → Bool
+has_relieved v q = some_relieved (flags_of v q).wanted (count_on v q) (lowat_of v.queues q)
 
--- whether some band of queue q has room again
-abbrev pub some_relieved : QueuedBlocks → ℕ → Bool
-some_relieved v q = list_any (is_relieved v q) every_band
-
--- the marks of q without the wanted marks of the bands that have room again
-abbrev pub marks_left : QueuedBlocks → ℕ → Marks
-marks_left v q = record (marks_of v q) { wanted = bands_where (λ band. is_wanted (marks_of v q).wanted band && not (is_relieved v q band)) }
+-- the flags of q without the wanted marks of the bands that have room again
+abbrev pub flags_left : QueuedBlocks → ℕ → Flags
+flags_left v q = record (flags_of v q) { wanted = still_wanted (flags_of v q).wanted (count_on v q) (lowat_of v.queues q) }
 
 -- the nearest queue behind q with a service procedure, if there is one, is enabled
 abbrev pub waker_enabled : ℕ → QueueState → QueueState
@@ -83,7 +74,7 @@ waker_enabled_where so q s = if so then waker_enabled q s else s
 
 -- each band of q that has room again loses its wanted mark, and where one did, the queue behind is enabled
 abbrev pub settled : ℕ → QueuedBlocks → QueuedBlocks
-settled q v = with_state (λ s. waker_enabled_where (some_relieved v q) q (with_marks q (marks_left v q) s)) v
+settled q v = with_state (λ s. waker_enabled_where (has_relieved v q) q (with_flags q (flags_left v q) s)) v
 
 -- ---- onto a queue
 
@@ -91,14 +82,14 @@ settled q v = with_state (λ s. waker_enabled_where (some_relieved v q) q (with_
 abbrev pub putq : ℕ → ℕ → QueuedBlocks → Given QueuedBlocks (Unit {0})
 putq q h v =
     if has_queue v q
-    then Ok (tt, with_state (enabled_where (enables_put (marks_of v q) (rank_put h v)) q) (with_put q h (put_behind (rank_of v.arena.store) (message_put h v) (messages_on v q)) v))
+    then Ok (tt, with_state (enabled_where (enables_put (flags_of v q) (rank_put h v)) q) (with_put q h (put_behind (rank_of v.arena.store) (message_put h v) (messages_on v q)) v))
     else Err NoSuchQueue
 
 -- before its equals
 abbrev pub putbq : ℕ → ℕ → QueuedBlocks → Given QueuedBlocks (Unit {0})
 putbq q h v =
     if has_queue v q
-    then Ok (tt, with_state (enabled_where (enables_put_back (marks_of v q) (rank_put h v)) q) (with_put q h (put_ahead (rank_of v.arena.store) (message_put h v) (messages_on v q)) v))
+    then Ok (tt, with_state (enabled_where (enables_put_back (flags_of v q) (rank_put h v)) q) (with_put q h (put_ahead (rank_of v.arena.store) (message_put h v) (messages_on v q)) v))
     else Err NoSuchQueue
 
 -- at place k, where ranks do not rise then
@@ -107,7 +98,7 @@ insq q k h v =
     if not (has_queue v q) then Err NoSuchQueue
     else (if nat_lt (length (messages_on v q)) k then Err NoSuchPlace
     else (if is_ordered (rank_of v.arena.store) (put_at k (message_put h v) (messages_on v q))
-    then Ok (tt, with_state (enabled_where (enables_inserted (marks_of v q)) q) (with_put q h (put_at k (message_put h v) (messages_on v q)) v))
+    then Ok (tt, with_state (enabled_where (enables_inserted (flags_of v q)) q) (with_put q h (put_at k (message_put h v) (messages_on v q)) v))
     else Err BadOrder))
 
 -- ---- off a queue
@@ -184,8 +175,8 @@ abbrev pub info_of : QueuedBlocks → ℕ → QueueInfo
 info_of v q = record {
   msgs = length (messages_on v q);
   bytes = bytes_on (messages_on v q);
-  read = (marks_of v q).read;
-  noenable = (marks_of v q).noenable;
+  read = (flags_of v q).read;
+  noenable = (flags_of v q).noenable;
   enabled = rows.has q v.queues.run;
 }
 
@@ -194,7 +185,7 @@ queue_info q v = if has_queue v q then Ok (info_of v q, v) else Err NoSuchQueue
 
 -- what there is to say of a band of it
 abbrev pub band_info_of : QueuedBlocks → ℕ → ℕ → BandInfo
-band_info_of v q band = record { bytes = count_on v q band; full = is_full v q band; wanted = is_wanted (marks_of v q).wanted band }
+band_info_of v q band = record { bytes = count_on v q band; full = is_full v q band; wanted = has_band (flags_of v q).wanted band }
 
 abbrev pub band_info : ℕ → ℕ → QueuedBlocks → Given QueuedBlocks BandInfo
 band_info q band v = if has_queue v q then Ok (band_info_of v q band, v) else Err NoSuchQueue

@@ -1,6 +1,7 @@
 -- What queues are made with, and when they are lawful.
-use Rattle.std.specs.Prelude.{ℕ, Bool, true, false, not, ◌&&◌, ◌==◌, nat_lt, nat_le, List, length, count_by, Option, None, Some}
+use Rattle.std.specs.Prelude.{ℕ, Bool, true, not, ◌&&◌, nat_lt, nat_le, List, length, count_by, Option, None, Some}
 use Rattle.std.specs.List.{list_all, list_any, enumerate_from}
+use Rattle.strm_links.specs.Rows as rows
 use Rattle.strm_queue.specs.Limits.{most_queues}
 use Rattle.strm_queue.specs.declared.queue_spec.QueueSpec.{QueueSpec}
 
@@ -8,14 +9,9 @@ use Rattle.strm_queue.specs.declared.queue_spec.QueueSpec.{QueueSpec}
 abbrev pub marks_meet : List QueueSpec → Bool
 marks_meet qs = list_any (λ q. nat_le q.hiwat q.lowat) qs
 
--- whether this is the number
-abbrev pub is_number : ℕ → Option ℕ → Bool
-is_number n None = false
-is_number n (Some m) = m == n
-
 -- how many queues name this one as their next
 abbrev pub times_next : List QueueSpec → ℕ → ℕ
-times_next qs n = count_by (λ q. is_number n q.next) qs
+times_next qs n = count_by (λ q. rows.is_some_of n q.next) qs
 
 -- a next queue has a greater number than its queue, is there, and is named once
 abbrev pub next_fits : List QueueSpec → ℕ → Option ℕ → Bool

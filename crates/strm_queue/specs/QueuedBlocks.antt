@@ -2,9 +2,10 @@
 use Rattle.std.specs.Prelude.{◌≡◌, ℕ, ◌<◌, List, length, map, slice_index_or, slice_set, IsTrue}
 use Rattle.strm_queue.specs.declared.queue_spec.QueueSpec.{QueueSpec}
 use Rattle.strm_mblk.specs.Arena.{Arena, shelf_at}
-use Rattle.strm_queue.specs.Flow.{QueueState, band_count, is_wanted, marks_at, opening_queues, spec_at}
+use Rattle.strm_queue.specs.Flow.{QueueState, band_count, fills, flags_at, has_band, hiwat_of, lowat_of, opening_queues}
+use Rattle.strm_queue.specs.Limits.{bands}
 use Rattle.strm_queue.specs.Rank.{is_ordered, rank_of}
-use Rattle.strm_queue.specs.Tallies.{IsTallyOf, Tally, no_tally}
+use Rattle.strm_queue.specs.Tallies.{IsTallyOf, Tally, count_of, no_tally}
 
 -- queues, and the message blocks whose messages stand on them: shelf q has those of queue q, front to back
 pub record QueuedBlocks : Type 0 where
@@ -30,16 +31,24 @@ pub record AreInOrder (v : QueuesValue) (a : Arena) : Type 0 where
   pub shelves : length a.shelves ≡ length v.state.specs
   pub stored : length v.tallies ≡ length v.state.specs
   pub ordered : (q : ℕ) → IsTrue (is_ordered (rank_of a.store) (shelf_at a q))
-  pub true_of : (q : ℕ) → q < length v.state.specs → IsTallyOf a.store (spec_at v.state.specs q).hiwat (shelf_at a q) (tally_at v q)
+  pub true_of : (q : ℕ) → q < length v.state.specs → IsTallyOf a.store (hiwat_of v.state q) (shelf_at a q) (tally_at v q)
+
+-- what is stored as the bytes of each band of this queue is what its messages have
+abbrev pub AreCountsTrue : QueuesValue → Arena → ℕ → Type 0
+AreCountsTrue v a q = (band : ℕ) → band < bands → count_of (tally_at v q) band ≡ band_count a.store band (shelf_at a q)
+
+-- what is stored as the full mark of each band is whether these fill it
+abbrev pub AreFullMarksTrue : QueuesValue → Arena → ℕ → Type 0
+AreFullMarksTrue v a q = (band : ℕ) → band < bands → has_band (tally_at v q).full band ≡ fills (hiwat_of v.state q band) (band_count a.store band (shelf_at a q))
 
 -- a wanted mark of this queue stands only where the band has more bytes than the low water mark
-abbrev pub AreMarksLawful : QueueState → Arena → ℕ → Type 0
-AreMarksLawful s a q = (band : ℕ) → IsTrue (is_wanted (marks_at s q).wanted band) → (spec_at s.specs q).lowat < band_count a.store band (shelf_at a q)
+abbrev pub AreFlagsLawful : QueueState → Arena → ℕ → Type 0
+AreFlagsLawful s a q = (band : ℕ) → IsTrue (has_band (flags_at s q).wanted band) → lowat_of s q band < band_count a.store band (shelf_at a q)
 
--- `Queues` and message blocks belong together: messages are in order, what is stored is true, and so are the marks
+-- `Queues` and message blocks belong together: messages are in order, what is stored is true, and so are wanted marks
 pub record Agrees (v : QueuesValue) (a : Arena) : Type 0 where
   pub in_order : AreInOrder v a
-  pub marks : (q : ℕ) → AreMarksLawful v.state a q
+  pub flags : (q : ℕ) → AreFlagsLawful v.state a q
 
 abbrev pub opening_value : List QueueSpec → QueuesValue
 opening_value specs = record { state = opening_queues specs; tallies = map (λ q. no_tally) specs }

@@ -5,7 +5,7 @@ use Rattle.strm_links.specs.Rows.{list_at}
 use Rattle.strm_queue.specs.declared.queue_spec.QueueSpec.{QueueSpec}
 use Rattle.strm_queue.specs.declared.queues.Queue.{Queue}
 use Rattle.strm_queue.specs.declared.queues.Queues.TheInside.{Inside}
-use Rattle.strm_queue.specs.Flow.{Marks, bands_where, spec_at}
+use Rattle.strm_queue.specs.Flow.{Flags, bands_where, spec_at}
 use Rattle.strm_queue.specs.QueueSpecs.{are_lawful}
 use Rattle.strm_queue.specs.QueuedBlocks.{QueuesValue}
 use Rattle.strm_queue.specs.Tallies.{Tally, no_tally}
@@ -21,12 +21,12 @@ spec_in q = q.spec
 abbrev pub tally_in : Queue → Tally
 tally_in q = q.tally
 
-abbrev pub marks_in : Queue → Marks
-marks_in q = record { read = q.read; noenable = q.noenable; wanted = q.wanted }
+abbrev pub flags_in : Queue → Flags
+flags_in q = record { read = q.read; noenable = q.noenable; wanted = q.wanted }
 
 abbrev pub value_of : Inside → QueuesValue
 value_of a = record {
-  state = record { specs = map spec_in a.queues.items; marks = map marks_in a.queues.items; run = list_at 0 a.run };
+  state = record { specs = map spec_in a.queues.items; flags = map flags_in a.queues.items; run = list_at 0 a.run };
   tallies = map tally_in a.queues.items;
 }
 

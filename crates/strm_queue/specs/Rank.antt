@@ -4,11 +4,12 @@ use Rattle.std.specs.List.{list_any, list_all}
 use Rattle.strm_data.specs.MsgType.{is_high_priority}
 use Rattle.strm_data.specs.DataStore.{DataStore}
 use Rattle.strm_mblk.specs.Block.{Message, kind_of}
+use Rattle.strm_queue.specs.Limits.{high_rank}
 
--- 256 for a high priority message, else the band of the first block: a queue serves greater ranks first
+-- that of high priority, or else the band of the first block: a queue serves greater ranks first
 abbrev pub rank_of : DataStore → Message → ℕ
 rank_of s [] = 0
-rank_of s (b ∷ bs) = if is_high_priority (kind_of s b) then 256 else b.band
+rank_of s (b ∷ bs) = if is_high_priority (kind_of s b) then high_rank else b.band
 
 -- whether ranks never rise from front to back
 abbrev pub is_ordered : (Message → ℕ) → List Message → Bool

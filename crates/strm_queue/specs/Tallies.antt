@@ -1,11 +1,11 @@
 -- What is stored of a queue's messages, and when it is true of them.
-use Rattle.std.specs.Prelude.{◌≡◌, ℕ, ◌+◌, ◌-◌, ◌<◌, ◌≤◌, Bool, true, false, nat_le, nat_lt, List, length, replicate, slice_index_or, slice_set, Option, None, Some, is_some, if◌then◌else◌}
+use Rattle.std.specs.Prelude.{◌≡◌, ℕ, ◌+◌, ◌-◌, ◌<◌, ◌≤◌, Bool, true, false, nat_lt, List, length, replicate, slice_index_or, slice_set, Option, None, Some, is_some, if◌then◌else◌}
 use Rattle.strm_data.specs.DataStore.{DataStore}
 use Rattle.strm_links.specs.Rows as rows
 use Rattle.strm_mblk.specs.Block.{Message}
 use Rattle.strm_queue.specs.declared.tally.Placed.{Placed}
 use Rattle.strm_queue.specs.Ends.{first_of_rank, last_of_rank}
-use Rattle.strm_queue.specs.Flow.{band_count, band_of_rank, bands_where, bytes_on, is_wanted}
+use Rattle.strm_queue.specs.Flow.{band_count, band_of_rank, bands_where, bytes_on, fills, has_band}
 use Rattle.strm_queue.specs.Limits.{bands, ranks}
 use Rattle.strm_queue.specs.Rank.{rank_of}
 
@@ -51,23 +51,23 @@ pub record AreEndsOf (rank : Message → ℕ) (ms : List Message) (t : Tally) : 
   pub each_used : length t.used ≡ bands
   pub firsts : (r : ℕ) → first_in t r ≡ first_of_rank rank r ms
   pub lasts : (r : ℕ) → last_in t r ≡ last_of_rank rank r ms
-  pub used : (r : ℕ) → r < bands → is_wanted t.used r ≡ is_some (first_of_rank rank r ms)
+  pub used : (r : ℕ) → r < bands → has_band t.used r ≡ is_some (first_of_rank rank r ms)
 
--- what is stored is true of these messages, on a queue with this high water mark
-pub record IsTallyOf (s : DataStore) (hiwat : ℕ) (ms : List Message) (t : Tally) : Type 0 where
+-- what is stored is true of these messages, on a queue whose bands have these high water marks
+pub record IsTallyOf (s : DataStore) (hiwat : ℕ → ℕ) (ms : List Message) (t : Tally) : Type 0 where
   pub len : t.len ≡ length ms
   pub bytes : t.bytes ≡ bytes_on ms
   pub each_band : length t.counts ≡ bands
   pub each_mark : length t.full ≡ bands
   pub counts : (band : ℕ) → band < bands → count_of t band ≡ band_count s band ms
-  pub full : (band : ℕ) → band < bands → is_wanted t.full band ≡ nat_le hiwat (band_count s band ms)
+  pub full : (band : ℕ) → band < bands → has_band t.full band ≡ fills (hiwat band) (band_count s band ms)
   pub ends : AreEndsOf (rank_of s) ms t
 
 -- ---- one joins, one leaves
 
--- so many bytes are stored of a band, which is full where these are as many as the high water mark
+-- so many bytes are stored of a band, and whether it is full with them, by its high water mark
 abbrev pub with_count : ℕ → ℕ → ℕ → Tally → Tally
-with_count hiwat band n t = record t { counts = slice_set t.counts band n; full = slice_set t.full band (nat_le hiwat n) }
+with_count hiwat band n t = record t { counts = slice_set t.counts band n; full = slice_set t.full band (fills hiwat n) }
 
 -- these are stored as the first and the last message of a rank
 abbrev pub with_ends : ℕ → Option ℕ → Option ℕ → Tally → Tally
@@ -82,13 +82,13 @@ end_joined (Some at) beside head = if rows.is_some_of at beside then Some head e
 abbrev pub end_left : Option ℕ → Option ℕ → Option ℕ → ℕ → Option ℕ
 end_left end other beside head = if rows.is_some_of head end then (if rows.is_some_of head other then None else beside) else end
 
--- a message has joined
+-- a message has joined, whose band has this high water mark
 abbrev pub one_more : ℕ → Placed → Tally → Tally
 one_more hiwat p t =
     with_ends p.rank (end_joined (first_in t p.rank) p.behind p.head) (end_joined (last_in t p.rank) p.ahead p.head)
     (with_count hiwat (band_of_rank p.rank) (count_of t (band_of_rank p.rank) + p.size) (record t { len = t.len + 1; bytes = t.bytes + p.size }))
 
--- a message has left
+-- a message has left, whose band has this high water mark
 abbrev pub one_less : ℕ → Placed → Tally → Tally
 one_less hiwat p t =
     with_ends p.rank (end_left (first_in t p.rank) (last_in t p.rank) p.behind p.head) (end_left (last_in t p.rank) (first_in t p.rank) p.ahead p.head)
@@ -98,7 +98,7 @@ one_less hiwat p t =
 
 -- whether a rank has messages, by what is stored
 abbrev pub has_rank : Tally → ℕ → Bool
-has_rank t r = if nat_lt r bands then is_wanted t.used r else is_some (first_in t r)
+has_rank t r = if nat_lt r bands then has_band t.used r else is_some (first_in t r)
 
 -- found is the smallest rank from this one on that has messages
 abbrev pub IsRankFrom : Tally → ℕ → ℕ → Type 0

@@ -1,10 +1,9 @@
 //! Sets of bands.
-ghost use Rattle.std.specs.Prelude.{◌≡◌, ◌+◌, ◌<◌, ◌≤◌, ℕ, Bool, ◌&&◌, true, false, List, length, not, nat_le, slice_index_or, slice_set};
+ghost use Rattle.std.specs.Prelude.{◌≡◌, ◌+◌, ◌<◌, ◌≤◌, ℕ, Bool, true, false, List, length, slice_index_or, slice_set};
 ghost use Rattle.std.specs.Int.{bit_at};
-ghost use Rattle.std.specs.List.{list_any};
 ghost use Rattle.std.specs.Option.{IfNone, IfSome};
 ghost use Rattle.strm_queue.specs.BandSets.{IsFirstFrom, IsHighestTo, IsLastTo, IsLowestFrom};
-ghost use Rattle.strm_queue.specs.Flow.{bands_where, every_band, is_wanted};
+ghost use Rattle.strm_queue.specs.Flow.{bands_where, every_band, has_band, some_relieved, still_wanted};
 
 use crate::limits::BANDS;
 use std::marker::Model;
@@ -22,11 +21,11 @@ pub(crate) struct BandSet {
 
 impl Model for BandSet {
     ghost use Rattle.std.specs.Prelude.{Bool, List};
-    ghost use Rattle.strm_queue.specs.BandSets.{marks_in};
+    ghost use Rattle.strm_queue.specs.BandSets.{bands_in};
 
     ghost Value = { List Bool };
 
-    ghost view = { marks_in };
+    ghost view = { bands_in };
 }
 
 impl BandSet {
@@ -41,7 +40,7 @@ impl BandSet {
 
     // Whether it has a band.
     pub(crate) fn has(&self, band: u8) -> bool
-        ensures { result ≡ is_wanted self.now band }
+        ensures { result ≡ has_band self.now band }
     {
         self.words[usize::from(band / WORD_BITS)] >> (band % WORD_BITS) & 1 == 1
     }
@@ -74,7 +73,7 @@ impl BandSet {
     // The smallest band of the set from this one on, if there is one.
     pub(crate) fn at_least(&self, band: u8) -> Option<u8>
         ensures some { IfSome result (λ found. IsFirstFrom self.now band found) }
-        ensures none { IfNone result ((x : ℕ) → band ≤ x → is_wanted self.now x ≡ false) }
+        ensures none { IfNone result ((x : ℕ) → band ≤ x → has_band self.now x ≡ false) }
     {
         let mut from = band % WORD_BITS;
         for word in band / WORD_BITS..WORDS {
@@ -89,7 +88,7 @@ impl BandSet {
     // The greatest band of the set up to this one, if there is one.
     pub(crate) fn at_most(&self, band: u8) -> Option<u8>
         ensures some { IfSome result (λ found. IsLastTo self.now band found) }
-        ensures none { IfNone result ((x : ℕ) → x ≤ band → is_wanted self.now x ≡ false) }
+        ensures none { IfNone result ((x : ℕ) → x ≤ band → has_band self.now x ≡ false) }
     {
         let mut to = band % WORD_BITS;
         for word in (0..=band / WORD_BITS).rev() {
@@ -104,16 +103,16 @@ impl BandSet {
     // The smallest band of the set above this one, if there is one.
     fn above(&self, band: u8) -> Option<u8>
         ensures some { IfSome result (λ found. IsFirstFrom self.now (band + 1) found) }
-        ensures none { IfNone result ((x : ℕ) → band + 1 ≤ x → is_wanted self.now x ≡ false) }
+        ensures none { IfNone result ((x : ℕ) → band + 1 ≤ x → has_band self.now x ≡ false) }
     {
         self.lawful();
         self.at_least(band.checked_add(1)?)
     }
 
-    // Takes out each band with so few bytes. Whether there was one.
+    // Takes out each band with at most so many bytes. Whether there was one.
     pub(crate) fn remove_at_most(&mut self, counts: &[u32; BANDS], most: u32) -> bool
-        ensures left { self.new ≡ bands_where (λ band. is_wanted self.old band && not (is_wanted self.old band && nat_le (slice_index_or counts.now band 0) most)) }
-        ensures some { result ≡ list_any (λ band. is_wanted self.old band && nat_le (slice_index_or counts.now band 0) most) every_band }
+        ensures left { self.new ≡ still_wanted self.old (λ band. slice_index_or counts.now band 0) (λ band. most) }
+        ensures some { result ≡ some_relieved self.old (λ band. slice_index_or counts.now band 0) (λ band. most) }
     {
         self.lawful();
         let mut some = false;

@@ -4,10 +4,10 @@ ghost use Rattle.std.specs.List.{All};
 ghost use Rattle.strm_links.specs.Rows as rows;
 ghost use Rattle.strm_mblk.specs.Arena.{shelf_at};
 ghost use Rattle.strm_mblk.specs.Shelves.{heads_at};
-ghost use Rattle.strm_queue.specs.Flow.{band_count, band_of_rank, bytes_on, every_band, spec_at};
+ghost use Rattle.strm_queue.specs.Flow.{AreMarksApart, band_count, band_of_rank, bytes_on, every_band, hiwat_of, spec_at};
 ghost use Rattle.strm_queue.specs.Limits.{most_queues, ranks};
 ghost use Rattle.strm_queue.specs.QueueSpecs.{are_lawful};
-ghost use Rattle.strm_queue.specs.QueuedBlocks.{Agrees, AreMarksLawful, opening_value, tally_at, with_tally};
+ghost use Rattle.strm_queue.specs.QueuedBlocks.{Agrees, AreCountsTrue, AreFlagsLawful, AreFullMarksTrue, opening_value, tally_at, with_tally};
 ghost use Rattle.strm_queue.specs.QueuesLayout.{new_queue};
 ghost use Rattle.strm_queue.specs.Rank.{is_ordered, rank_of};
 ghost use Rattle.strm_queue.specs.Tallies.{count_of, one_less, one_more};
@@ -15,9 +15,9 @@ ghost use Rattle.strm_queue.specs.Tallies.{count_of, one_less, one_more};
 mod asking;
 mod counts;
 mod enabling;
+mod flags;
 mod flushing;
 mod getting;
-mod marks;
 mod places;
 mod putting;
 mod settling;
@@ -25,7 +25,7 @@ mod shelving;
 
 use crate::band_set::BandSet;
 use crate::queue_spec::QueueSpec;
-use crate::tally::{Placed, Tally};
+use crate::tally::{Placed, Tally, band_of};
 use std::alloc::{AllocError, Global};
 use std::marker::Model;
 use strm_links::Links;
@@ -34,7 +34,7 @@ use strm_mblk::Blocks;
 /// Queues of messages, numbered from 0, over message blocks: shelf q of the `Blocks` has the messages of queue q.
 ///
 /// High priority messages come first, then those of greater bands, and of equal ones that which came first. Beside its
-/// messages a queue has marks: that somebody wants to read from it (at first, and after `getq` found it empty), that
+/// messages a queue has flags: that somebody wants to read from it (at first, and after `getq` found it empty), that
 /// enabling is switched off, and for each band that it is wanted, since `bcanput` found it full. A queue that is
 /// enabled stands on the run list until `next_service` takes it off.
 ///
@@ -58,7 +58,7 @@ struct Queue {
     spec: QueueSpec,
     // What is stored of its messages.
     tally: Tally,
-    // Its marks.
+    // Its flags.
     read: bool,
     noenable: bool,
     wanted: BandSet,
@@ -131,10 +131,10 @@ impl Queues {
         requires len { (tally_at self.old queue).len + 1 < 2 ^ 32 }
         requires bytes { (tally_at self.old queue).bytes + placed.size < 2 ^ 32 }
         requires count { count_of (tally_at self.old queue) (band_of_rank placed.rank) + placed.size < 2 ^ 32 }
-        ensures { self.new ≡ with_tally queue (one_more (spec_at self.old.state.specs queue).hiwat placed (tally_at self.old queue)) self.old }
+        ensures { self.new ≡ with_tally queue (one_more (hiwat_of self.old.state queue (band_of_rank placed.rank)) placed (tally_at self.old queue)) self.old }
     {
-        let Queue { spec, tally, .. } = &mut self.queues[usize::from(queue)];
-        tally.join(spec.hiwat, placed);
+        let hiwat = self.hiwat(queue, band_of(placed.rank));
+        self.queues[usize::from(queue)].tally.join(hiwat, placed);
     }
 
     // Notes that a message has left a queue.
@@ -144,10 +144,10 @@ impl Queues {
         requires len { 1 ≤ (tally_at self.old queue).len }
         requires bytes { placed.size ≤ (tally_at self.old queue).bytes }
         requires count { placed.size ≤ count_of (tally_at self.old queue) (band_of_rank placed.rank) }
-        ensures { self.new ≡ with_tally queue (one_less (spec_at self.old.state.specs queue).hiwat placed (tally_at self.old queue)) self.old }
+        ensures { self.new ≡ with_tally queue (one_less (hiwat_of self.old.state queue (band_of_rank placed.rank)) placed (tally_at self.old queue)) self.old }
     {
-        let Queue { spec, tally, .. } = &mut self.queues[usize::from(queue)];
-        tally.leave(spec.hiwat, placed);
+        let hiwat = self.hiwat(queue, band_of(placed.rank));
+        self.queues[usize::from(queue)].tally.leave(hiwat, placed);
     }
 
     // What a queue was made with.
@@ -158,9 +158,18 @@ impl Queues {
         self.queues[usize::from(queue)].spec
     }
 
-    // The law that the queues were lawful when they were made. Does nothing.
+    // The high water mark of a band of a queue.
+    fn hiwat(&self, queue: u8, _band: u8) -> u32
+        requires { queue < length self.now.state.specs }
+        ensures { result ≡ hiwat_of self.now.state queue _band }
+    {
+        self.spec(queue).hiwat
+    }
+
+    // The law that the queues were lawful when they were made, and that no low water mark meets a high one. Does nothing.
     fn made_lawful(&self)
-        ensures { IsTrue (are_lawful self.now.state.specs) }
+        ensures specs { IsTrue (are_lawful self.now.state.specs) }
+        ensures apart { AreMarksApart self.now.state }
     {
         let _ = &self.queues;
     }
@@ -168,25 +177,32 @@ impl Queues {
     /// The law of queues and the message blocks that they agree with, whatever calls made them so. Does nothing.
     pub fn lawful(&self, blocks: &Blocks)
         requires { Agrees self.now blocks.now }
-        // The queues are lawful, of which there are `MOST_QUEUES` at most; each has marks, and no more of them are on the
+        // The queues are lawful, of which there are `MOST_QUEUES` at most; each has flags, and no more of them are on the
         // run list than there are.
         ensures specs { IsTrue (are_lawful self.now.state.specs) }
         ensures few { length self.now.state.specs ≤ most_queues }
-        ensures marked { length self.now.state.marks ≡ length self.now.state.specs }
+        ensures flagged { length self.now.state.flags ≡ length self.now.state.specs }
         ensures short { length self.now.state.run ≤ length self.now.state.specs }
         // Each queue is in priority order, and reads alike both ways: following `after` from the first head on its shelf
         // gives the heads of its messages, and following `before` from the last gives their reverse.
         ensures ordered { (queue : ℕ) → IsTrue (is_ordered (rank_of blocks.now.store) (shelf_at blocks.now queue)) }
         ensures forward { (queue : ℕ) → let heads = heads_at blocks.now queue in rows.Reads (λ head. rows.after head heads) (rows.first heads) heads }
         ensures backward { (queue : ℕ) → let heads = heads_at blocks.now queue in rows.Reads (λ head. rows.before head heads) (rows.last heads) (reverse heads) }
-        // A wanted mark stands only where the band has more bytes than the low water mark.
-        ensures marks { (queue : ℕ) → AreMarksLawful self.now.state blocks.now queue }
+        // What is stored of each queue is true of its messages: as the count of a band the sum of their bytes, and as its full
+        // mark whether that is at least the high water mark.
+        ensures counts { (queue : ℕ) → queue < length self.now.state.specs → AreCountsTrue self.now blocks.now queue }
+        ensures full { (queue : ℕ) → queue < length self.now.state.specs → AreFullMarksTrue self.now blocks.now queue }
+        // The low water mark of each band is below its high one, and a wanted mark stands only where the band has more bytes
+        // than the low one.
+        ensures apart { AreMarksApart self.now.state }
+        ensures flags { (queue : ℕ) → AreFlagsLawful self.now.state blocks.now queue }
         // The bytes of a queue's bands add up to those of its messages.
         ensures whole { (queue : ℕ) → sum_by (λ band. band_count blocks.now.store band (shelf_at blocks.now queue)) every_band ≡ bytes_on (shelf_at blocks.now queue) }
         // No queue is on the run list twice, and each that is has a service procedure.
         ensures once { rows.IsApart self.now.state.run }
         ensures served { All (λ queue. IsTrue (spec_at self.now.state.specs queue).service) self.now.state.run }
     {
+        self.made_lawful();
         blocks.reads_alike();
         self.run.parts_nodes();
     }

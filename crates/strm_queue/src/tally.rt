@@ -1,7 +1,7 @@
 //! What is stored of a queue's messages.
 ghost use Rattle.std.specs.Prelude.{◌≡◌, ◌+◌, ◌<◌, ◌≤◌, ◌^◌, ℕ, false, slice_set};
 ghost use Rattle.std.specs.Option.{IfNone, IfSome};
-ghost use Rattle.strm_queue.specs.Flow.{band_of_rank, is_wanted};
+ghost use Rattle.strm_queue.specs.Flow.{band_of_rank, has_band};
 ghost use Rattle.strm_queue.specs.Limits.{ranks};
 ghost use Rattle.strm_queue.specs.Tallies.{IsRankFrom, IsRankTo, count_of, end_joined, end_left, first_in, has_rank, last_in, no_tally, one_less, one_more, with_count, with_ends};
 
@@ -88,7 +88,7 @@ impl Tally {
 
     // Whether a band is full.
     pub(crate) fn is_full(&self, band: u8) -> bool
-        ensures { result ≡ is_wanted self.now.full band }
+        ensures { result ≡ has_band self.now.full band }
     {
         self.full.has(band)
     }

@@ -20,7 +20,7 @@ use Rattle.strm_queue.specs.QueueCalls.{band_info_of, info_of}
 use Rattle.strm_queue.specs.QueuedBlocks.{QueuedBlocks}
 use Rattle.strm_data.specs.Refusal.{number_of, name_of}
 use Rattle.strm_pool.specs.Registers.{RegisterTable}
-use Rattle.strm_pool.specs.Step.{Turn, Replay, empty_tables, replay_from}
+use Rattle.strm_pool.specs.Step.{DeskCall, Replay, empty_tables, replay_from}
 use Rattle.strm_script.specs.Merge.{Served}
 use Rattle.strm_script.specs.declared.script.Script.{Script}
 
@@ -135,8 +135,8 @@ wishes_text wishes = list_text (codes "wishes") wish_text wishes
 abbrev pub report_text : PoolValue → List ℕ
 report_text v = blocks_text (census_of v.arena) ++ (classes_text (class_infos v.arena.store) ++ (queues_text (queued v) ++ (run_text v.queues.run ++ wishes_text v.wishes.pending)))
 
-abbrev pub turns_of : List Served → List Turn
-turns_of served = map (λ s. record { desk = s.worker; call = s.line.call }) served
+abbrev pub desk_calls : List Served → List DeskCall
+desk_calls served = map (λ s. record { desk = s.worker; call = s.line.call }) served
 
 -- what is written once the lines have been served in this order
 abbrev pub text_after : List Served → Replay → List ℕ
@@ -144,7 +144,7 @@ text_after served end = transcript served end.replies ++ report_text end.pool
 
 -- what is written for lines that are served in this order, from this pool and these registers on
 abbrev pub text_from : PoolValue → List RegisterTable → List Served → List ℕ
-text_from v tables served = text_after served (replay_from v tables (turns_of served))
+text_from v tables served = text_after served (replay_from v tables (desk_calls served))
 
 -- what is written for a script whose lines are served in this order
 abbrev pub text_of : Script → List Served → List ℕ

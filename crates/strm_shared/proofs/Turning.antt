@@ -8,9 +8,8 @@ use Rattle.strm_pool.specs.declared.call.Call.{Call}
 use Rattle.strm_pool.specs.declared.reply.Reply.{Reply}
 use Rattle.strm_pool.specs.PoolValue.{PoolValue, owns}
 use Rattle.strm_pool.specs.Registers.{AreAccounted, AreDistinct, CarryId, Entries, entries_of, register, table_of}
-use Rattle.strm_pool.specs.Step.{Applies, Stepped, is_named}
+use Rattle.strm_pool.specs.Step.{Applies, is_named}
 use Rattle.strm_pool.proofs.Accounts.{accounted_distinct, accounted_owned, owned_carry}
-use Rattle.strm_pool.proofs.Totals.{step_keeps_total}
 use Rattle.strm_shared.specs.Books.{BookValue, IsBookOf, IsServed, book_value, table_at}
 use Rattle.strm_shared.specs.Desks.{DeskValue, IsDeskOf, desk_value}
 use Rattle.strm_shared.specs.Ledger.{blocks_held}
@@ -71,7 +70,7 @@ module _ {id desks first : ℕ} {b : BookValue} {d : DeskValue} (known : IsKnown
         let tables : set b.tables n t ≡ set b.tables d.number (entries_of ss) = ap (λ k. set b.tables k t) same ∙ ap (set b.tables d.number) noted in
         record {
           book = record {
-            same = applies.same distinct ∙ known.book.same;
+            same = applies.same ∙ known.book.same;
             begun = omega (arith, known.book.begun);
             unspent = omega (arith, unspent);
             tables = length-set b.tables n t ∙ known.book.tables;
@@ -79,7 +78,7 @@ module _ {id desks first : ℕ} {b : BookValue} {d : DeskValue} (known : IsKnown
           };
           desk = record {
             below = known.desk.below;
-            carry = subst (λ k. CarryId k ss) (applies.same distinct ∙ known.book.same) (owned_carry w ss (applies.owned distinct).0);
+            carry = subst (λ k. CarryId k ss) (applies.same ∙ known.book.same) (owned_carry w ss (applies.owned distinct).0);
           };
           served = record {
             unspent = unspent;
@@ -91,5 +90,5 @@ module _ {id desks first : ℕ} {b : BookValue} {d : DeskValue} (known : IsKnown
             others = others;
           };
           moved = held_moved;
-          sized = ap (λ (s : Stepped). length s.pool.arena.held) (sym applies.step) ∙ step_keeps_total b.pool (table_of d.regs) call;
+          sized = applies.size;
         }

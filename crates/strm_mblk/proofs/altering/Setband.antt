@@ -1,6 +1,5 @@
 -- `setband`: the first block of a held message is of another band.
-use Rattle.std.proofs.Common.{◌≡◌, ℕ, ◌<◌, true, List, [], ◌∷◌, length, set, Some, None, refl, sym, ap, ◌∙◌, subst, get_or-set_same, length-set}
-use Rattle.std.specs.Prelude.{slice_get}
+use Rattle.std.proofs.Common.{◌≡◌, ℕ, ◌^◌, ◌<◌, true, List, [], ◌∷◌, length, set, Some, None, refl, sym, ap, ◌∙◌, subst, get_or-set_same, length-set}
 use Rattle.std.proofs.lemmas.Option.{same_Some, none-some}
 use Rattle.strm_links.specs.Rows.{first}
 use Rattle.strm_data.specs.CountedStore.{CountedStore}
@@ -13,13 +12,10 @@ use Rattle.strm_mblk.specs.BlocksLayout.{IsFilled, IsPlaced, arena_of, block_at,
 use Rattle.strm_mblk.specs.Messages.{blocks_of}
 use Rattle.strm_mblk.specs.NodeLists.{NodeLists}
 use Rattle.strm_mblk.proofs.arena.Moves.{held_within}
-use Rattle.strm_mblk.proofs.layout.Rewriting.{AreHeld, begins_with, held_nodes, node_room, rewrite_filled, rewrite_shows}
+use Rattle.strm_mblk.proofs.chaining.Standing.{begins_with}
+use Rattle.strm_mblk.proofs.layout.Rewriting.{AreHeld, held_nodes, node_room, rewrite_filled, rewrite_shows}
 use Rattle.strm_mblk.proofs.arena.Tokens.{IsHad, had_again, had_message}
-
--- a list that begins with h has it at place 0
-pub at_first : (ns : List ℕ) (h : ℕ) → first ns ≡ Some h → slice_get ns 0 ≡ Some h
-at_first [] h is = absurd (none-some h is)
-at_first (n ∷ ns) h is = is
+use Rattle.strm_mblk.proofs.lists.Numbers.{at_first}
 
 pub record IsBanded (a : Arena) (s : CountedStore) (fields : List Fields) (v : NodeLists) (id band : ℕ) (t : TokenValue) : Type 0 where
   pub filled : IsFilled s fields v (arena_of id s.store fields v)
@@ -44,7 +40,7 @@ module _ (id : ℕ) (s : CountedStore) (fields : List Fields) (v : NodeLists) (f
   pub head_there : t.head < length fields
   head_there = node_room id s fields v filled t.head 0 t.head nodes.0 nodes.1.held (at_first nodes.0 t.head begins)
 
-  module _ (band : ℕ) (x : Fields) (x_is : x ≡ record (fields_at fields t.head) { band = band }) where
+  module _ (band : ℕ) (is_band : band < 2 ^ 8) (x : Fields) (x_is : x ≡ record (fields_at fields t.head) { band = band }) where
     abbrev now : List Fields
     now = set fields t.head x
 
@@ -60,7 +56,7 @@ module _ (id : ℕ) (s : CountedStore) (fields : List Fields) (v : NodeLists) (f
         λ i. (block_is ∙ ap (λ k. record (block_at fields k) { band = band }) (sym (same_Some n t.head is))) i ∷ message_of fields ns
 
     placed : IsPlaced s.store x
-    placed = subst (IsPlaced s.store) (sym x_is) (record { there = (filled.placed t.head head_there).there; within = (filled.placed t.head head_there).within })
+    placed = subst (IsPlaced s.store) (sym x_is) (record { there = (filled.placed t.head head_there).there; within = (filled.placed t.head head_there).within; banded = is_band })
 
     shows : arena_of id s.store now v ≡ record old { held = set old.held t.head (Some (set (message_of fields nodes.0) 0 (block_at now t.head))) }
     shows =

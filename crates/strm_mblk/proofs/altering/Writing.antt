@@ -45,7 +45,7 @@ module _ (id : ℕ) (s : CountedStore) (fields : List Fields) (v : NodeLists) (f
     rooms = subst (HasRooms s.store) (sym (ap (λ (c : CountedStore). c.store) new_is)) (rooms-written s.store was.data_number (was.offset + was.len) bytes room)
 
     placed : IsPlaced new.store x
-    placed = subst (IsPlaced new.store) (sym x_is) (record { there = omega (arith, at.placed.there, rooms.many); within = omega (arith, room, rooms.room was.data_number) })
+    placed = subst (IsPlaced new.store) (sym x_is) (record { there = omega (arith, at.placed.there, rooms.many); within = omega (arith, room, rooms.room was.data_number); banded = at.placed.banded })
 
     named : x.data_number ≡ was.data_number
     named = ap (λ (f : Fields). f.data_number) x_is

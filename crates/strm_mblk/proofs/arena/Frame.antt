@@ -21,12 +21,13 @@ use Rattle.strm_mblk.specs.Arena.{has as has_token}
 use Rattle.strm_mblk.specs.Arena.{Arena, IsParted, held_at, message_at, names_of, shelved_blocks, token_of, with_held, without_held}
 use Rattle.strm_mblk.specs.Block.{Block, Message, bytes_of, bytes_of_block, is_naming, kind_of, new_block, size_of}
 use Rattle.strm_mblk.specs.BlockCalls.{allocb, allocb_from, banded, copied, copied_into, copies, duplicated, exceeds_names, freeb, freeb_from, head_in, held_new, held_under, linkb, rmvb, rmvb_of, setband, settype, settype_of, unlinkb, with_rest, write, write_block}
-use Rattle.strm_mblk.specs.Frame.{IsSameData, LeavesOthers, head_given, heads_parted}
+use Rattle.strm_mblk.specs.Frame.{IsSameData, LeavesOthers, LeavesShelves, head_given, heads_parted}
 use Rattle.strm_mblk.specs.Freeing.{freemsg, spent, with_block_freed, with_blocks_freed, with_name_dropped}
 use Rattle.strm_mblk.specs.Given.{Given, value_after, and_then, answer_map, answer_of, or_rejected}
 use Rattle.strm_mblk.specs.Messages.{blocks_of, divided, held_in, joined}
 use Rattle.strm_mblk.specs.Trimming.{adjmsg, bytes_asked, cut, left_over, pull, pull_asked, pulled, pulled_into, pullupmsg, run_of, used_up}
-use Rattle.strm_mblk.proofs.arena.Counts.{blocks_in_adds, count_adds}
+use Rattle.strm_mblk.proofs.lists.Additive.{count_adds}
+use Rattle.strm_mblk.proofs.arena.Counts.{blocks_in_adds}
 use Rattle.strm_mblk.proofs.arena.Moves.{held_among, out_of_held}
 
 -- ---- heads that are not among some
@@ -42,6 +43,15 @@ later false c is = is
 -- and so are the others
 other_heads : (h g : ℕ) (gs : List ℕ) → has h (g ∷ gs) ≡ false → has h gs ≡ false
 other_heads h g gs absent = later (g == h) (has h gs) absent
+
+-- nor among all but the second
+without_second : (k h g : ℕ) (gs : List ℕ) → has k (h ∷ g ∷ gs) ≡ false → has k (h ∷ gs) ≡ false
+without_second k h g gs = outer (h == k) (g == k) (has k gs)
+  where
+    outer : (b c d : Bool) → (b || (c || d)) ≡ false → (b || d) ≡ false
+    outer true c d is = is
+    outer false true d is = cc
+    outer false false d is = is
 
 -- ---- data blocks that stay
 
@@ -64,19 +74,42 @@ held_named a h d =
       | inr past ↦ omega (arith, ap (λ o. count_by (is_naming d) (blocks_of o)) (get_or_past a.held h None past), (count_adds (is_naming d)).none)
     ]
 
--- nothing changes
-pub leaves_same : (a : Arena) (heads : List ℕ) → LeavesOthers heads a a
-leaves_same a heads = record { id = refl; shelves = refl; shelved_data = λ k e within. refl; held = λ h other. refl; held_data = λ h other k e within. refl }
+-- ---- what stays
 
-module _ (a b : Arena) (heads : List ℕ) (id : b.id ≡ a.id) (shelves : b.shelves ≡ a.shelves) (held : (h : ℕ) → has h heads ≡ false → held_at b h ≡ held_at a h) where
+-- all stays, save for the messages held at these heads
+pub record Leaves (heads : List ℕ) (old new : Arena) : Type 0 where
+  pub others : LeavesOthers heads old new
+  pub shelves : LeavesShelves heads old new
+
+-- nothing changes
+pub leaves_same : (a : Arena) (heads : List ℕ) → Leaves heads a a
+leaves_same a heads = record {
+  others = record { id = refl; size = refl; held = λ h other. refl };
+  shelves = record { shelves = refl; shelved_data = λ k e within. refl; held_data = λ h other k e within. refl };
+}
+
+-- what is held changes at one head more
+others_set : (a b c : Arena) (heads : List ℕ) → LeavesOthers heads a b → (g : ℕ) (o : Option Message) → ((h : ℕ) → has h heads ≡ false → h ≢ g) → c.id ≡ b.id → c.held ≡ set b.held g o → LeavesOthers heads a c
+others_set a b c heads left g o is_head id held = record {
+  id = id ∙ left.id;
+  size = ap length held ∙ length-set b.held g o ∙ left.size;
+  held = λ h other. ap (λ hs. held_in hs h) held ∙ get_or-set_other b.held g h o None (is_head h other) ∙ left.held h other;
+}
+
+-- and at one alone
+pub others_one : (a b : Arena) (h : ℕ) (o : Option Message) → b.id ≡ a.id → b.held ≡ set a.held h o → LeavesOthers (h ∷ []) a b
+others_one a b h o = others_set a a b (h ∷ []) (leaves_same a (h ∷ [])).others h o (λ g other. other_head g h [] other)
+
+module _ (a b : Arena) (heads : List ℕ) (others : LeavesOthers heads a b) (shelves : b.shelves ≡ a.shelves) where
   -- each data block that some message names stays
-  pub leaves_named : ((d : ℕ) → 0 < names_of a d → data_block_at b.store d ≡ data_block_at a.store d) → LeavesOthers heads a b
+  pub leaves_named : ((d : ℕ) → 0 < names_of a d → data_block_at b.store d ≡ data_block_at a.store d) → Leaves heads a b
   leaves_named same = record {
-    id = id;
-    shelves = shelves;
-    shelved_data = same_data a.store b.store (shelved_blocks a) (λ d some. same d (omega (arith, some, shelved_named a d)));
-    held = held;
-    held_data = λ h other. same_data a.store b.store (message_at a h) (λ d some. same d (omega (arith, some, held_named a h d)));
+    others = others;
+    shelves = record {
+      shelves = shelves;
+      shelved_data = same_data a.store b.store (shelved_blocks a) (λ d some. same d (omega (arith, some, shelved_named a d)));
+      held_data = λ h other. same_data a.store b.store (message_at a h) (λ d some. same d (omega (arith, some, held_named a h d)));
+    };
   }
 
   -- each but one stays, which a message alone names that is held at one of the heads
@@ -90,24 +123,25 @@ module _ (a b : Arena) (heads : List ℕ) (id : b.id ≡ a.id) (shelves : b.shel
           ap (λ o. count_by (is_naming d) (blocks_of o)) (get_or-set_other a.held g h None None other),
         )
 
-    pub leaves_own : ((e : ℕ) → e ≢ d → data_block_at b.store e ≡ data_block_at a.store e) → LeavesOthers heads a b
+    pub leaves_own : ((e : ℕ) → e ≢ d → data_block_at b.store e ≡ data_block_at a.store e) → Leaves heads a b
     leaves_own same = record {
-      id = id;
-      shelves = shelves;
-      shelved_data = same_data a.store b.store (shelved_blocks a) (λ e named. same e (λ one. absurd (omega (
-        arith,
-        named,
-        ap (λ i. count_by (is_naming i) (shelved_blocks a)) one,
-        out_of_held a g m (is_naming d) is,
-        shelved_named (without_held g a) d,
-      ))));
-      held = held;
-      held_data = λ h other. same_data a.store b.store (message_at a h) (λ e named. same e (λ one. absurd (omega (
-        arith,
-        named,
-        ap (λ i. count_by (is_naming i) (message_at a h)) one,
-        beside h (is_head h other),
-      ))));
+      others = others;
+      shelves = record {
+        shelves = shelves;
+        shelved_data = same_data a.store b.store (shelved_blocks a) (λ e named. same e (λ one. absurd (omega (
+          arith,
+          named,
+          ap (λ i. count_by (is_naming i) (shelved_blocks a)) one,
+          out_of_held a g m (is_naming d) is,
+          shelved_named (without_held g a) d,
+        ))));
+        held_data = λ h other. same_data a.store b.store (message_at a h) (λ e named. same e (λ one. absurd (omega (
+          arith,
+          named,
+          ap (λ i. count_by (is_naming i) (message_at a h)) one,
+          beside h (is_head h other),
+        ))));
+      };
     }
 
 -- ---- data blocks that are taken, and altered
@@ -209,10 +243,15 @@ name_drops d loose a = record {
     either true = refl
     either false = refl
 
+block_frees : (b : Block) (loose : List Block) (a : Arena) → AreFreed a (with_block_freed b loose a)
+block_frees b loose a =
+    let dropped = name_drops b.data_number loose (record a { free = b.number ∷ a.free }) in
+    record { id = dropped.id; shelves = dropped.shelves; held = dropped.held; blocks = dropped.blocks }
+
 blocks_free : (bs : List Block) (a : Arena) → AreFreed a (with_blocks_freed bs a)
 blocks_free [] a = record { id = refl; shelves = refl; held = refl; blocks = refl }
 blocks_free (b ∷ loose) a =
-    let one = name_drops b.data_number loose (record a { free = b.number ∷ a.free }) in
+    let one = block_frees b loose a in
     let others = blocks_free loose (with_block_freed b loose a) in
     record { id = others.id ∙ one.id; shelves = others.shelves ∙ one.shelves; held = others.held ∙ one.held; blocks = others.blocks ∙ one.blocks }
 
@@ -220,32 +259,38 @@ blocks_free (b ∷ loose) a =
 
 -- where it is not refused, it leaves all but the messages at these heads
 abbrev pub Leaving : {X : Type 0} → List ℕ → Arena → Given Arena X → Type 0
-Leaving heads a r = IfOk r (λ g. LeavesOthers heads a g.1)
+Leaving heads a r = IfOk r (λ g. Leaves heads a g.1)
 
 -- nothing changes where it is refused
-pub leaves_after : {X : Type 0} (a : Arena) (heads : List ℕ) (r : Given Arena X) → Leaving heads a r → LeavesOthers heads a (value_after a r)
+pub leaves_after : {X : Type 0} (a : Arena) (heads : List ℕ) (r : Given Arena X) → Leaving heads a r → Leaves heads a (value_after a r)
 leaves_after a heads (Ok g) left = left
 leaves_after a heads (Err why) left = leaves_same a heads
 
 -- a call that gives a message leaves all others
 abbrev pub Gives : Arena → Given Arena ℕ → Type 0
-Gives a r = IfOk r (λ g. LeavesOthers (g.0 ∷ []) a g.1)
+Gives a r = IfOk r (λ g. Leaves (g.0 ∷ []) a g.1)
 
-pub leaves_given : (a b : Arena) (t : TokenValue) (n : ℕ) (r : Given Arena ℕ) → Gives a r → r ≡ Ok (n, b) → t ≡ token_of b n → LeavesOthers (t.head ∷ []) a b
-leaves_given a b t n r gives is token = subst (λ h. LeavesOthers (h ∷ []) a b) (ap (λ (x : TokenValue). x.head) (sym token)) (subst (Gives a) is gives)
+pub leaves_given : (a b : Arena) (t : TokenValue) (n : ℕ) (r : Given Arena ℕ) → Gives a r → r ≡ Ok (n, b) → t ≡ token_of b n → Leaves (t.head ∷ []) a b
+leaves_given a b t n r gives is token = subst (λ h. Leaves (h ∷ []) a b) (ap (λ (x : TokenValue). x.head) (sym token)) (subst (Gives a) is gives)
 
 module _ (a : Arena) where
   -- only what is held at some heads changes
-  leaves_held : (heads : List ℕ) (held : List (Option Message)) → ((h : ℕ) → has h heads ≡ false → held_in held h ≡ held_at a h) → LeavesOthers heads a (record a { held = held })
-  leaves_held heads held same = leaves_named a (record a { held = held }) heads refl refl same (λ d some. refl)
+  leaves_held : (heads : List ℕ) (held : List (Option Message)) → LeavesOthers heads a (record a { held = held }) → Leaves heads a (record a { held = held })
+  leaves_held heads held others = leaves_named a (record a { held = held }) heads others refl (λ d some. refl)
 
-  leaves_one : (h : ℕ) (o : Option Message) → LeavesOthers (h ∷ []) a (record a { held = set a.held h o })
-  leaves_one h o = leaves_held (h ∷ []) (set a.held h o) (λ g other. get_or-set_other a.held h g o None (other_head g h [] other))
+  leaves_one : (h : ℕ) (o : Option Message) → Leaves (h ∷ []) a (record a { held = set a.held h o })
+  leaves_one h o = leaves_held (h ∷ []) (set a.held h o) (others_one a _ h o refl refl)
 
-  pub leaves_setband : (h band : ℕ) → LeavesOthers (h ∷ []) a (setband h band a)
+  -- at two, first to last
+  others_two : (b : Arena) (h g : ℕ) (o p : Option Message) (heads : List ℕ) → ((k : ℕ) → has k heads ≡ false → k ≢ h) → ((k : ℕ) → has k heads ≡ false → k ≢ g) → b.id ≡ a.id → b.held ≡ set (set a.held h o) g p
+      → LeavesOthers heads a b
+  others_two b h g o p heads first second =
+      others_set a (record a { held = set a.held h o }) b heads (others_set a a (record a { held = set a.held h o }) heads (leaves_same a heads).others h o first refl refl) g p second
+
+  pub leaves_setband : (h band : ℕ) → Leaves (h ∷ []) a (setband h band a)
   leaves_setband h band = leaves_one h (Some (banded band (message_at a h)))
 
-  pub leaves_adjmsg : (h : ℕ) (n : ℤ) → LeavesOthers (h ∷ []) a (value_after a (adjmsg h n a))
+  pub leaves_adjmsg : (h : ℕ) (n : ℤ) → Leaves (h ∷ []) a (value_after a (adjmsg h n a))
   leaves_adjmsg h n =
       leaves_after a (h ∷ []) (adjmsg h n a)
       (elim (cut n a.store (message_at a h)) as (λ r. Leaving {X = Unit {0}} (h ∷ []) a (answer_map (λ m. (tt, record a { held = set a.held h (Some m) })) r)) [
@@ -253,104 +298,96 @@ module _ (a : Arena) where
         | Err why ↦ tt
       ])
 
-  pub leaves_linkb : (h g : ℕ) → LeavesOthers (h ∷ g ∷ []) a (linkb h g a)
+  pub leaves_linkb : (h g : ℕ) → Leaves (h ∷ g ∷ []) a (linkb h g a)
   leaves_linkb h g =
-      elim (h == g) as (λ b. LeavesOthers (h ∷ g ∷ []) a (if b then a else record a { held = joined h g a.held })) [
+      elim (h == g) as (λ b. Leaves (h ∷ g ∷ []) a (if b then a else record a { held = joined h g a.held })) [
         | true ↦ leaves_same a (h ∷ g ∷ [])
         | false ↦
             leaves_held (h ∷ g ∷ []) (joined h g a.held)
-            (λ k other.
-            get_or-set_other (set a.held g None) h k _ None (other_head k h (g ∷ []) other)
-            ∙ get_or-set_other a.held g k None None (other_head k g [] (other_heads k h (g ∷ []) other)))
+            (others_two (record a { held = joined h g a.held }) g h None _ (h ∷ g ∷ []) (λ k other. other_head k g [] (other_heads k h (g ∷ []) other)) (λ k other. other_head k h (g ∷ []) other) refl refl)
       ]
 
   -- the blocks behind the first become a message
-  parts : (x : Arena) (h : ℕ) (m : Message) → LeavesOthers (h ∷ head_given (option_map (token_of x) (head_in (drop 1 m)))) a (record a { held = divided (λ (b : Block). b.number) h m a.held })
+  parts : (x : Arena) (h : ℕ) (m : Message) → Leaves (h ∷ head_given (option_map (token_of x) (head_in (drop 1 m)))) a (record a { held = divided (λ (b : Block). b.number) h m a.held })
   parts x h [] = leaves_same a (h ∷ [])
   parts x h (b ∷ []) = leaves_same a (h ∷ [])
   parts x h (b ∷ c ∷ bs) =
       leaves_held (h ∷ c.number ∷ []) (divided (λ (b : Block). b.number) h (b ∷ c ∷ bs) a.held)
-      (λ k other.
-      get_or-set_other (set a.held h (Some (b ∷ []))) c.number k (Some (c ∷ bs)) None (other_head k c.number [] (other_heads k h (c.number ∷ []) other))
-      ∙ get_or-set_other a.held h k (Some (b ∷ [])) None (other_head k h (c.number ∷ []) other))
+      (others_two (record a { held = divided (λ (b : Block). b.number) h (b ∷ c ∷ bs) a.held }) h c.number _ _ (h ∷ c.number ∷ []) (λ k other. other_head k h (c.number ∷ []) other)
+      (λ k other. other_head k c.number [] (other_heads k h (c.number ∷ []) other)) refl refl)
 
-  pub leaves_unlinkb : (x : Arena) (h : ℕ) → LeavesOthers (h ∷ head_given (option_map (token_of x) (unlinkb h a).0)) a (unlinkb h a).1
+  pub leaves_unlinkb : (x : Arena) (h : ℕ) → Leaves (h ∷ head_given (option_map (token_of x) (unlinkb h a).0)) a (unlinkb h a).1
   leaves_unlinkb x h = parts x h (message_at a h)
 
-  -- a block becomes a message, and the others
-  rest_leaves : (h n : ℕ) (x : Arena) (rest : Message) (k : ℕ) → has k (h ∷ n ∷ head_given (option_map (token_of x) (head_in rest))) ≡ false → held_at (with_rest rest (without_held h a)) k ≡ held_at a k
-  rest_leaves h n x [] k other = get_or-set_other a.held h k None None (other_head k h (n ∷ []) other)
-  rest_leaves h n x (c ∷ cs) k other =
-      get_or-set_other (set a.held h None) c.number k (Some (c ∷ cs)) None (other_head k c.number [] (other_heads k n (c.number ∷ []) (other_heads k h (n ∷ c.number ∷ []) other)))
-      ∙ get_or-set_other a.held h k None None (other_head k h (n ∷ c.number ∷ []) other)
+  -- the message at h leaves, and these blocks are a message, if there are any
+  rest_others : (heads : List ℕ) (h : ℕ) (x : Arena) (rest : Message) → ((k : ℕ) → has k heads ≡ false → has k (h ∷ head_given (option_map (token_of x) (head_in rest))) ≡ false)
+      → LeavesOthers heads a (with_rest rest (without_held h a))
+  rest_others heads h x [] among = others_set a a (without_held h a) heads (leaves_same a heads).others h None (λ k other. other_head k h [] (among k other)) refl refl
+  rest_others heads h x (c ∷ cs) among =
+      others_two (with_rest (c ∷ cs) (without_held h a)) h c.number None (Some (c ∷ cs)) heads (λ k other. other_head k h (c.number ∷ []) (among k other))
+      (λ k other. other_head k c.number [] (other_heads k h (c.number ∷ []) (among k other))) refl refl
 
   rest_shelves : (h : ℕ) (rest : Message) → (with_rest rest (without_held h a)).shelves ≡ a.shelves
   rest_shelves h [] = refl
   rest_shelves h (c ∷ cs) = refl
-
-  rest_id : (h : ℕ) (rest : Message) → (with_rest rest (without_held h a)).id ≡ a.id
-  rest_id h [] = refl
-  rest_id h (c ∷ cs) = refl
 
   rest_store : (h : ℕ) (rest : Message) → (with_rest rest (without_held h a)).store ≡ a.store
   rest_store h [] = refl
   rest_store h (c ∷ cs) = refl
 
   pub leaves_rmvb : (x : Arena) (t : TokenValue) (h k : ℕ)
-      → LeavesOthers (h ∷ heads_parted (or_rejected t (answer_map (λ heads. (token_of x heads.0, option_map (token_of x) heads.1)) (answer_of (rmvb h k a))))) a (value_after a (rmvb h k a))
+      → Leaves (h ∷ heads_parted (or_rejected t (answer_map (λ heads. (token_of x heads.0, option_map (token_of x) heads.1)) (answer_of (rmvb h k a))))) a (value_after a (rmvb h k a))
   leaves_rmvb x t h k =
-      elim (slice_get (message_at a h) k) as (λ o. LeavesOthers (h ∷ heads_parted (or_rejected t (answer_map (λ heads. (token_of x heads.0, option_map (token_of x) heads.1)) (answer_of (rmvb_of h a rest o))))) a (value_after a (rmvb_of h a rest o))) [
+      elim (slice_get (message_at a h) k) as (λ o. Leaves (h ∷ heads_parted (or_rejected t (answer_map (λ heads. (token_of x heads.0, option_map (token_of x) heads.1)) (answer_of (rmvb_of h a rest o))))) a (value_after a (rmvb_of h a rest o))) [
         | None ↦ leaves_same a (h ∷ [])
         | Some b ↦
-            leaves_named a (with_held (b ∷ []) (with_rest rest (without_held h a))) (h ∷ b.number ∷ head_given (option_map (token_of x) (head_in rest)))
-            (rest_id h rest) (rest_shelves h rest)
-            (λ g other.
-            get_or-set_other (with_rest rest (without_held h a)).held b.number g (Some (b ∷ [])) None
-            (other_head g b.number (head_given (option_map (token_of x) (head_in rest))) (other_heads g h (b.number ∷ head_given (option_map (token_of x) (head_in rest))) other))
-            ∙ rest_leaves h b.number x rest g other)
-            (λ d some. ap (λ s. data_block_at s d) (rest_store h rest))
+            let others = head_given (option_map (token_of x) (head_in rest)) in
+            let heads = h ∷ b.number ∷ others in
+            let left = with_rest rest (without_held h a) in
+            leaves_named a (with_held (b ∷ []) left) heads
+            (others_set a left (with_held (b ∷ []) left) heads (rest_others heads h x rest (λ g other. without_second g h b.number others other)) b.number (Some (b ∷ []))
+            (λ g other. other_head g b.number others (other_heads g h (b.number ∷ others) other)) refl refl)
+            (rest_shelves h rest) (λ d some. ap (λ s. data_block_at s d) (rest_store h rest))
       ]
     where
       rest : Message
       rest = take k (message_at a h) ++ drop (k + 1) (message_at a h)
 
   -- blocks are freed, and only what is held at some heads changes beside them
-  leaves_freed : (heads : List ℕ) (old new : Arena) → AreFreed old new → LeavesOthers heads a old → LeavesOthers heads a new
+  leaves_freed : (heads : List ℕ) (old new : Arena) → AreFreed old new → Leaves heads a old → Leaves heads a new
   leaves_freed heads old new freed left = record {
-    id = freed.id ∙ left.id;
-    shelves = freed.shelves ∙ left.shelves;
-    shelved_data = λ k e within. ap (λ xs. get_or xs (get_or (shelved_blocks a) k e).data_number no_data_block) freed.blocks ∙ left.shelved_data k e within;
-    held = λ h other. ap (λ xs. get_or xs h None) freed.held ∙ left.held h other;
-    held_data = λ h other k e within. ap (λ xs. get_or xs (get_or (message_at a h) k e).data_number no_data_block) freed.blocks ∙ left.held_data h other k e within;
+    others = record {
+      id = freed.id ∙ left.others.id;
+      size = ap length freed.held ∙ left.others.size;
+      held = λ h other. ap (λ xs. held_in xs h) freed.held ∙ left.others.held h other;
+    };
+    shelves = record {
+      shelves = freed.shelves ∙ left.shelves.shelves;
+      shelved_data = λ k e within. ap (λ xs. get_or xs (get_or (shelved_blocks a) k e).data_number no_data_block) freed.blocks ∙ left.shelves.shelved_data k e within;
+      held_data = λ h other k e within. ap (λ xs. get_or xs (get_or (message_at a h) k e).data_number no_data_block) freed.blocks ∙ left.shelves.held_data h other k e within;
+    };
   }
 
-  pub leaves_freeb : (x : Arena) (h : ℕ) → LeavesOthers (h ∷ head_given (option_map (token_of x) (freeb h a).0)) a (freeb h a).1
+  pub leaves_freeb : (x : Arena) (h : ℕ) → Leaves (h ∷ head_given (option_map (token_of x) (freeb h a).0)) a (freeb h a).1
   leaves_freeb x h = of_blocks (message_at a h)
     where
-      of_blocks : (m : Message) → LeavesOthers (h ∷ head_given (option_map (token_of x) (freeb_from h a m).0)) a (freeb_from h a m).1
+      of_blocks : (m : Message) → Leaves (h ∷ head_given (option_map (token_of x) (freeb_from h a m).0)) a (freeb_from h a m).1
       of_blocks [] = leaves_same a (h ∷ [])
       of_blocks (b ∷ rest) =
           let heads = h ∷ head_given (option_map (token_of x) (head_in rest)) in
           let out = with_rest rest (without_held h a) in
-          leaves_freed heads (record out { free = b.number ∷ out.free }) (with_block_freed b [] out) (name_drops b.data_number [] (record out { free = b.number ∷ out.free }))
-          (leaves_named a (record out { free = b.number ∷ out.free }) heads (rest_id h rest) (rest_shelves h rest)
-          (λ g other. rest_leaves_first rest g other) (λ d some. ap (λ s. data_block_at s d) (rest_store h rest)))
-        where
-          rest_leaves_first : (rest : Message) (k : ℕ) → has k (h ∷ head_given (option_map (token_of x) (head_in rest))) ≡ false → held_at (with_rest rest (without_held h a)) k ≡ held_at a k
-          rest_leaves_first [] k other = get_or-set_other a.held h k None None (other_head k h [] other)
-          rest_leaves_first (c ∷ cs) k other =
-              get_or-set_other (set a.held h None) c.number k (Some (c ∷ cs)) None (other_head k c.number [] (other_heads k h (c.number ∷ []) other))
-              ∙ get_or-set_other a.held h k None None (other_head k h (c.number ∷ []) other)
+          leaves_freed heads out (with_block_freed b [] out) (block_frees b [] out)
+          (leaves_named a out heads (rest_others heads h x rest (λ k other. other)) (rest_shelves h rest) (λ d some. ap (λ s. data_block_at s d) (rest_store h rest)))
 
-  pub leaves_spent : (t : TokenValue) → LeavesOthers (t.head ∷ []) a (spent a t)
+  pub leaves_spent : (t : TokenValue) → Leaves (t.head ∷ []) a (spent a t)
   leaves_spent t =
-      elim (has_token a t) as (λ b. LeavesOthers (t.head ∷ []) a (if b then freemsg t.head a else a)) [
+      elim (has_token a t) as (λ b. Leaves (t.head ∷ []) a (if b then freemsg t.head a else a)) [
         | true ↦ leaves_freed (t.head ∷ []) (without_held t.head a) (freemsg t.head a) (blocks_free (message_at a t.head) (without_held t.head a)) (leaves_one t.head None)
         | false ↦ leaves_same a (t.head ∷ [])
       ]
 
 -- nothing is held where a message was taken out
-none_at : {X : Type 0} (xs : List (Option X)) (i : ℕ) → get_or (set xs i None) i None ≡ None
+pub none_at : {X : Type 0} (xs : List (Option X)) (i : ℕ) → get_or (set xs i None) i None ≡ None
 none_at [] i = refl
 none_at (x ∷ xs) zero = refl
 none_at (x ∷ xs) (suc i) = none_at xs i
@@ -414,15 +451,14 @@ module _ (a : Arena) (parted : IsParted a) where
           elim (take_data size a.store) as (λ r. take_data size a.store ≡ r → Gives a (held_new n ns a r)) [
             | Err why ↦ λ is. tt
             | Ok d ↦ λ is.
-                leaves_named a (with_held (new_block n d ∷ []) (record a { free = ns; store = with_data_taken d a.store })) (n ∷ []) refl refl
-                (λ h other. get_or-set_other a.held n h _ None (other_head h n [] other))
-                (λ e some. get_or-set_other a.store.blocks d e _ no_data_block (take_other size d e a.store (named_taken e some) is))
+                let b = with_held (new_block n d ∷ []) (record a { free = ns; store = with_data_taken d a.store }) in
+                leaves_named a b (n ∷ []) (others_one a b n _ refl refl) refl (λ e some. get_or-set_other a.store.blocks d e _ no_data_block (take_other size d e a.store (named_taken e some) is))
           ] refl
 
   -- a message of new blocks over a store in which all data blocks in use are the same
-  under_leaves : (bs : List Block) (s : DataStore) → ((d : ℕ) → 0 < names_of a d → data_block_at s d ≡ data_block_at a.store d) → LeavesOthers ((held_under bs s a).0 ∷ []) a (held_under bs s a).1
+  under_leaves : (bs : List Block) (s : DataStore) → ((d : ℕ) → 0 < names_of a d → data_block_at s d ≡ data_block_at a.store d) → Leaves ((held_under bs s a).0 ∷ []) a (held_under bs s a).1
   under_leaves bs s same =
-      leaves_named a (held_under bs s a).1 ((held_under bs s a).0 ∷ []) refl refl (λ h other. get_or-set_other a.held (held_under bs s a).0 h _ None (other_head h (held_under bs s a).0 [] other)) same
+      leaves_named a (held_under bs s a).1 ((held_under bs s a).0 ∷ []) (others_one a (held_under bs s a).1 (held_under bs s a).0 _ refl refl) refl same
 
   pub leaves_duplicated : (bs : List Block) → Gives a (duplicated bs a)
   leaves_duplicated bs =
@@ -447,7 +483,7 @@ module _ (a : Arena) (parted : IsParted a) where
       of_copies (Ok g) same = under_leaves g.0 g.1 same
       of_copies (Err why) same = tt
 
-  pub leaves_pullupmsg : (h : ℕ) (n : ℤ) → LeavesOthers (h ∷ []) a (value_after a (pullupmsg h n a))
+  pub leaves_pullupmsg : (h : ℕ) (n : ℤ) → Leaves (h ∷ []) a (value_after a (pullupmsg h n a))
   leaves_pullupmsg h n = leaves_after a (h ∷ []) (pullupmsg h n a) (asked (bytes_asked n (run_of a.store (message_at a h))) (message_at a h))
     where
       taken : (n : ℕ) (b : Block) (bs : Message) (r : Result ℕ Refusal) → take_data n a.store ≡ r → Leaving {X = Unit {0}} (h ∷ []) a (answer_map (λ d. (tt, pulled h n (b ∷ bs) a d)) r)
@@ -460,7 +496,7 @@ module _ (a : Arena) (parted : IsParted a) where
           } in
           leaves_freed a (h ∷ []) (with_name_dropped b.data_number out new) (pulled h n (b ∷ bs) a d) (blocks_free out (with_name_dropped b.data_number out new))
           (leaves_freed a (h ∷ []) new (with_name_dropped b.data_number out new) (name_drops b.data_number out new)
-          (leaves_named a new (h ∷ []) refl refl (λ g other. get_or-set_other a.held h g _ None (other_head g h [] other))
+          (leaves_named a new (h ∷ []) (others_one a new h _ refl refl) refl
           (λ e some. filled_other d e 0 (kind_of a.store b) (take n (bytes_of a.store (b ∷ bs))) a.store (take_other n d e a.store (named_taken e some) is))))
 
       pulls : (n : ℕ) (m : Message) → Leaving {X = Unit {0}} (h ∷ []) a (pull h n m a)
@@ -488,10 +524,10 @@ naming_at (c ∷ m) (suc k) b is = omega (arith, naming_at m k b is, (count_adds
 
 module _ (a : Arena) (h : ℕ) (m : Message) (is : held_at a h ≡ Some m) where
   -- a data block that no other block names is altered
-  altered : (k : ℕ) (b : Block) (new : Arena) → slice_get (message_at a h) k ≡ Some b → nat_lt 1 (names_of a b.data_number) ≡ false → new.id ≡ a.id → new.shelves ≡ a.shelves
-      → ((g : ℕ) → has g (h ∷ []) ≡ false → held_at new g ≡ held_at a g) → ((d : ℕ) → d ≢ b.data_number → data_block_at new.store d ≡ data_block_at a.store d) → LeavesOthers (h ∷ []) a new
-  altered k b new at lone id shelves held same =
-      leaves_own a new (h ∷ []) id shelves held h b.data_number (λ g other. other_head g h [] other) m is (most (names_of a b.data_number) lone)
+  altered : (k : ℕ) (b : Block) (new : Arena) → slice_get (message_at a h) k ≡ Some b → nat_lt 1 (names_of a b.data_number) ≡ false → LeavesOthers (h ∷ []) a new → new.shelves ≡ a.shelves
+      → ((d : ℕ) → d ≢ b.data_number → data_block_at new.store d ≡ data_block_at a.store d) → Leaves (h ∷ []) a new
+  altered k b new at lone others shelves same =
+      leaves_own a new (h ∷ []) others shelves h b.data_number (λ g other. other_head g h [] other) m is (most (names_of a b.data_number) lone)
       (subst (λ x. 0 < count_by (is_naming b.data_number) x) (ap blocks_of is) (naming_at (message_at a h) k b at)) same
     where
       most : (n : ℕ) → nat_lt 1 n ≡ false → n ≤ 1
@@ -504,7 +540,7 @@ module _ (a : Arena) (h : ℕ) (m : Message) (is : held_at a h ≡ Some m) where
     held = set a.held h (Some (set (message_at a h) k (record b { len = b.len + length bytes })));
   }
 
-  pub leaves_write : (k : ℕ) (bytes : List ℕ) → LeavesOthers (h ∷ []) a (value_after a (write h k bytes a))
+  pub leaves_write : (k : ℕ) (bytes : List ℕ) → Leaves (h ∷ []) a (value_after a (write h k bytes a))
   leaves_write k bytes = leaves_after a (h ∷ []) (write h k bytes a) (at (slice_get (message_at a h) k) refl)
     where
       room : (b : Block) → slice_get (message_at a h) k ≡ Some b → nat_lt 1 (names_of a b.data_number) ≡ false
@@ -513,7 +549,7 @@ module _ (a : Arena) (h : ℕ) (m : Message) (is : held_at a h ≡ Some m) where
           elim (nat_lt (capacity_of a.store b.data_number) (b.offset + b.len + length bytes)) as (λ c. Leaving {X = Unit {0}} (h ∷ []) a (if c then Err NoRoom else Ok (tt, written k bytes b))) [
             | true ↦ tt
             | false ↦
-                altered k b (written k bytes b) there lone refl refl (λ g other. get_or-set_other a.held h g _ None (other_head g h [] other))
+                altered k b (written k bytes b) there lone (others_one a (written k bytes b) h _ refl refl) refl
                 (λ d other. get_or-set_other a.store.blocks b.data_number d _ no_data_block other)
           ]
 
@@ -526,7 +562,7 @@ module _ (a : Arena) (h : ℕ) (m : Message) (is : held_at a h ≡ Some m) where
             | false ↦ λ lone. room b there lone
           ] refl
 
-  pub leaves_settype : (k : ℕ) (kind : MsgType) → LeavesOthers (h ∷ []) a (value_after a (settype h k kind a))
+  pub leaves_settype : (k : ℕ) (kind : MsgType) → Leaves (h ∷ []) a (value_after a (settype h k kind a))
   leaves_settype k kind = leaves_after a (h ∷ []) (settype h k kind a) (at (slice_get (message_at a h) k) refl)
     where
       at : (o : Option Block) → slice_get (message_at a h) k ≡ o → Leaving {X = Unit {0}} (h ∷ []) a (settype_of kind a o)
@@ -536,6 +572,7 @@ module _ (a : Arena) (h : ℕ) (m : Message) (is : held_at a h ≡ Some m) where
           → Leaving {X = Unit {0}} (h ∷ []) a (if c then Err Shared else Ok (tt, record a { store = with_kind b.data_number kind a.store }))) [
             | true ↦ λ many. tt
             | false ↦ λ lone.
-                altered k b (record a { store = with_kind b.data_number kind a.store }) there lone refl refl (λ g other. refl)
+                altered k b (record a { store = with_kind b.data_number kind a.store }) there lone
+                (record { id = refl; size = refl; held = λ g other. refl }) refl
                 (λ d other. get_or-set_other a.store.blocks b.data_number d _ no_data_block other)
           ] refl

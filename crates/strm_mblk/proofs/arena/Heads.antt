@@ -12,10 +12,11 @@ use Rattle.strm_mblk.specs.BlockCalls.{freeb_from, head_in, rmvb, rmvb_of, unlin
 use Rattle.strm_mblk.specs.Freeing.{spent, with_block_freed, with_blocks_freed}
 use Rattle.strm_mblk.specs.Given.{Given}
 use Rattle.strm_mblk.specs.Messages.{blocks_of, divided}
-use Rattle.strm_mblk.proofs.arena.Counts.{blocks_in_adds, count_adds, times-all}
-use Rattle.strm_mblk.proofs.freeing.Freemsg.{spent_had}
-use Rattle.strm_mblk.proofs.arena.Moves.{count_one, held_among, held_within, in_range, number_is, one_most, blocks_numbered}
-use Rattle.strm_mblk.proofs.arena.Tokens.{had_message, token_had}
+use Rattle.strm_mblk.proofs.lists.Additive.{count_adds, count_one}
+use Rattle.strm_mblk.proofs.arena.Counts.{blocks_in_adds, times-all}
+use Rattle.strm_mblk.proofs.arena.Tokens.{had_message, spent_had, token_had}
+use Rattle.strm_mblk.proofs.lists.Numbers.{in_range, one_most}
+use Rattle.strm_mblk.proofs.arena.Moves.{blocks_numbered, held_among, held_within, number_is}
 use Rattle.strm_data.proofs.Times.{one_if}
 
 -- two places that are written in either order

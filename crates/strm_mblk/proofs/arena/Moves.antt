@@ -1,5 +1,5 @@
 -- Each block stays counted once, and each name, when a call moves a message.
-use Rattle.std.proofs.Common.{◌≡◌, ◌≢◌, ℕ, ◌+◌, ◌<◌, ◌≤◌, Bool, true, false, eqb, ltb, List, [], ◌∷◌, ◌++◌, length, get_or, set, Option, Some, None, refl, sym, ap, ◌∙◌, subst, inl, inr, arith, if◌then◌else◌, get_or-set_same, get_or-set_other, length-set, length-append}
+use Rattle.std.proofs.Common.{◌≡◌, ◌≢◌, ℕ, ◌+◌, ◌<◌, ◌≤◌, Bool, eqb, ltb, List, [], ◌∷◌, ◌++◌, length, get_or, set, Option, Some, None, refl, sym, ap, ◌∙◌, subst, inl, inr, arith, if◌then◌else◌, get_or-set_same, get_or-set_other, length-set, length-append}
 use Rattle.std.specs.Prelude.{count_by}
 use Rattle.std.specs.List.{flat_map}
 use Rattle.std.specs.Option.{IfSome}
@@ -11,7 +11,10 @@ use Rattle.strm_mblk.specs.Messages.{blocks_of}
 use Rattle.strm_data.specs.DataStore.{times}
 use Rattle.strm_data.specs.CountedStore.{CountedStore, count_of}
 use Rattle.strm_data.proofs.Times.{as_many, one_if, times-cons}
-use Rattle.strm_mblk.proofs.arena.Counts.{count_adds, held_moves, shelf_moves, blocks_in_adds, flat_map-set_adds, times-all}
+use Rattle.strm_mblk.proofs.lists.Additive.{count_adds, count_one, flat_map-set_adds}
+use Rattle.strm_mblk.proofs.arena.Counts.{blocks_in_adds, held_moves, shelf_moves, times-all}
+pub use Rattle.strm_mblk.proofs.lists.Numbers.{one_most}
+use Rattle.strm_mblk.proofs.lists.Numbers.{in_range}
 
 abbrev pub number_is : ℕ → Block → Bool
 number_is n b = eqb b.number n
@@ -25,22 +28,6 @@ pub record IsCounted (a : Arena) (s : CountedStore) : Type 0 where
   pub numbers : (n : ℕ) → times n (a.free ++ numbers_of (blocks_in a)) ≡ (if ltb n (length a.held) then 1 else 0)
   pub heads : (h : ℕ) → IfSome (held_at a h) (λ m. (0 < length m) × (head_of m ≡ h))
   pub counts : (d : ℕ) → count_of s d ≡ names_of a d
-
--- at most one
-pub one_most : (b : Bool) → (if b then 1 else 0) ≤ 1
-one_most true = omega arith
-one_most false = omega arith
-
--- what is counted is in range
-pub in_range : (n k : ℕ) → 0 < (if ltb n k then 1 else 0) → n < k
-in_range n k some = elim (cases_lt n k) [ inl below ↦ below | inr past ↦ absurd (none (ltb n k) (not_below n k past) some) ]
-  where
-    none : (b : Bool) → b ≡ false → 0 < (if b then 1 else 0) → ⊥
-    none true is some = cc
-    none false is some = omega arith
-
-    not_below : (n k : ℕ) → k ≤ n → ltb n k ≡ false
-    not_below n k past = grind arith
 
 module _ (a : Arena) (s : CountedStore) (counted : IsCounted a s) where
   pub numbers_sum : (n : ℕ) → times n a.free + blocks_numbered a n ≡ (if ltb n (length a.held) then 1 else 0)
@@ -81,10 +68,6 @@ module _ (a : Arena) (s : CountedStore) (counted : IsCounted a s) where
         | None ↦ λ _. refl
         | Some m ↦ λ is. absurd (omega (arith, held_there n m is, once a s counted n, blocks_in_adds (count_adds (number_is n)) a))
       ] refl
-
--- a test counts a lone item once or not at all
-pub count_one : {X : Type 0} (p : X → Bool) (x : X) → count_by p (x ∷ []) ≡ one_if (p x)
-count_one p x = omega arith
 
 -- what stands at one place of the held messages
 pub held_at-set_same : (a : Arena) (h : ℕ) (o : Option Message) → h < length a.held → held_at (record a { held = set a.held h o }) h ≡ o

@@ -1,5 +1,5 @@
 -- Tokens of held messages, and what a call leaves and answers.
-use Rattle.std.proofs.Common.{◌≡◌, ℕ, ◌==◌, true, List, length, Option, Some, None, Ok, Err, refl, sym, ap, ◌∙◌, subst}
+use Rattle.std.proofs.Common.{◌≡◌, ℕ, ◌==◌, true, List, length, Option, Some, None, Ok, Err, refl, sym, ap, ◌∙◌, subst, Bool, if◌then◌else◌}
 use Rattle.std.specs.Option.{IsSome}
 use Rattle.std.proofs.lemmas.Bool.{and_from, eq-eqb, eqb-true, and_parts, false≢true}
 use Rattle.strm_data.specs.declared.refusal.Refusal.{Refusal}
@@ -8,6 +8,7 @@ use Rattle.strm_mblk.specs.Arena.{Arena, has, held_at, is_of_length, token_of}
 use Rattle.strm_mblk.specs.Block.{Message}
 use Rattle.strm_mblk.specs.Given.{Given, value_after, answer_of}
 use Rattle.strm_mblk.specs.Messages.{blocks_of}
+use Rattle.strm_mblk.specs.Freeing.{freemsg, spent}
 
 -- the token of a held message is had
 pub token_had : (a : Arena) (h : ℕ) (m : Message) → held_at a h ≡ Some m → has a (token_of a h) ≡ true
@@ -49,3 +50,7 @@ module _ {V X : Type 0} (call : V → Given V X) {v w : V} (same : v ≡ w) wher
 pub had_again : (a b : Arena) (t : TokenValue) (m n : Message) → IsHad a t m → held_at b t.head ≡ Some n → length n ≡ length m → b.id ≡ a.id → has b t ≡ true
 had_again a b t m n had held same id =
     and_from _ _ (eq-eqb t.pool b.id (had.pool ∙ sym id)) (ap (is_of_length t.blocks) held ∙ eq-eqb (length n) t.blocks (same ∙ had.blocks))
+
+-- a token that is had is spent on its message
+pub spent_had : (a : Arena) (t u : TokenValue) → u ≡ t → has a t ≡ true → freemsg u.head a ≡ spent a t
+spent_had a t u same had = ap (λ (x : TokenValue). freemsg x.head a) same ∙ ap (λ (b : Bool). if b then freemsg t.head a else a) (sym had)

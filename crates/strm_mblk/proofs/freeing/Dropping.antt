@@ -1,6 +1,6 @@
 -- Names that blocks taken out of all messages had are dropped, one after the other.
-use Rattle.std.proofs.Common.{◌≡◌, ℕ, zero, suc, ◌+◌, ◌-◌, ◌<◌, ◌≤◌, ◌==◌, Bool, true, false, eqb, List, [], ◌∷◌, ◌++◌, length, Option, Some, refl, sym, ap, ◌∙◌, inl, inr, arith, if◌then◌else◌}
-use Rattle.std.specs.Prelude.{count_by, drop, reverse, slice_get, option_map, take}
+use Rattle.std.proofs.Common.{◌≡◌, ℕ, suc, ◌+◌, ◌-◌, ◌<◌, ◌≤◌, ◌==◌, Bool, true, false, eqb, List, [], ◌∷◌, ◌++◌, length, Option, Some, refl, sym, ap, ◌∙◌, inl, inr, arith, if◌then◌else◌}
+use Rattle.std.specs.Prelude.{count_by, drop, reverse, slice_get, option_map}
 use Rattle.std.proofs.lemmas.Bool.{cases_eq, cases_lt, eq-eqb, ne_eqb}
 use Rattle.std.proofs.lemmas.Bool.Decides.{eqb_tells}
 use Rattle.std.proofs.lemmas.List.{append_assoc, get_or_past, reverse-append}
@@ -13,7 +13,7 @@ use Rattle.strm_mblk.specs.Block.{Message, is_naming}
 use Rattle.strm_mblk.specs.BlocksLayout.{block_at, fields_at, message_of, named_by, with_names_dropped}
 use Rattle.strm_mblk.specs.Freeing.{with_block_freed, with_blocks_freed}
 use Rattle.strm_mblk.specs.Messages.{blocks_held, blocks_on}
-use Rattle.strm_mblk.proofs.arena.Counts.{count_by-map}
+use Rattle.strm_mblk.proofs.lists.Additive.{count_by-map}
 use Rattle.strm_mblk.proofs.lists.ListParts.{drop_from}
 use Rattle.strm_mblk.proofs.layout.Rooms.{HasRooms, count_of-set}
 use Rattle.strm_mblk.proofs.layout.Shown.{slice_get-mapped}
@@ -21,13 +21,6 @@ use Rattle.strm_mblk.proofs.layout.Shown.{slice_get-mapped}
 -- the data block that a block of a list names
 pub named-get : (fields : List Fields) (ns : List ℕ) (i n : ℕ) → slice_get ns i ≡ Some n → slice_get (named_by fields ns) i ≡ Some (fields_at fields n).data_number
 named-get fields ns i n is = slice_get-mapped (λ k. (fields_at fields k).data_number) ns i ∙ ap (option_map (λ k. (fields_at fields k).data_number)) is
-
--- the first of them, beside others
-pub slice_get-take : {X : Type 0} (n i : ℕ) (xs : List X) → i < n → slice_get (take n xs) i ≡ slice_get xs i
-slice_get-take zero i xs inside = absurd (omega (arith, inside))
-slice_get-take (suc n) i [] inside = refl
-slice_get-take (suc n) zero (x ∷ xs) inside = refl
-slice_get-take (suc n) (suc i) (x ∷ xs) inside = slice_get-take n i xs (omega (arith, inside))
 
 -- a data block that has a name has a count
 pub counted_there : (s : CountedStore) (d : ℕ) → 0 < count_of s d → d < length s.counts

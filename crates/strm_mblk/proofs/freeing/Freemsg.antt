@@ -1,56 +1,22 @@
 -- `freemsg`: the blocks of a held message are free, and their names are dropped.
-use Rattle.std.proofs.Common.{◌≡◌, ℕ, ◌+◌, ◌≤◌, Bool, true, if◌then◌else◌, List, ◌++◌, map, length, set, Some, None, sym, ap, ◌∙◌, subst, arith, length-set}
+use Rattle.std.proofs.Common.{◌≡◌, ℕ, ◌+◌, ◌≤◌, List, ◌++◌, map, length, set, Some, None, sym, ap, ◌∙◌, subst, arith, length-set}
 use Rattle.std.specs.Prelude.{option_map, reverse, slice_get}
-use Rattle.std.proofs.Math.Seq.{take-length}
-use Rattle.std.specs.Prelude.{take}
-use Rattle.std.proofs.lemmas.List.{length-map, map-set}
+use Rattle.std.proofs.lemmas.List.{map-set}
 use Rattle.strm_data.specs.CountedStore.{CountedStore, IsKept, count_of}
 use Rattle.strm_data.specs.DataStore.{times}
 use Rattle.strm_mblk.specs.declared.blocks.Fields.{Fields}
-use Rattle.strm_mblk.specs.declared.token.TokenValue.{TokenValue}
-use Rattle.strm_mblk.specs.Arena.{Arena, has, names_of, shelved_blocks, without_held}
+use Rattle.strm_mblk.specs.Arena.{Arena, names_of, shelved_blocks, without_held}
 use Rattle.strm_mblk.specs.Block.{is_naming}
 use Rattle.strm_mblk.specs.BlocksLayout.{IsFilled, arena_of, fields_at, message_of, named_by, with_names_dropped}
-use Rattle.strm_mblk.specs.Freeing.{freemsg, spent, with_blocks_freed}
-use Rattle.strm_mblk.specs.Messages.{blocks_of, held_in}
+use Rattle.strm_mblk.specs.Freeing.{freemsg, with_blocks_freed}
+use Rattle.strm_mblk.specs.Messages.{held_in}
 use Rattle.strm_mblk.specs.NodeLists.{IsNodesParted, NodeLists, nodes_at}
 use Rattle.strm_mblk.proofs.freeing.Dropping.{all_freed, counts_left, naming-named, rooms-dropped}
 use Rattle.strm_mblk.proofs.arena.Moves.{out_of_held}
-use Rattle.strm_mblk.proofs.layout.Rewriting.{begins_with, held_nodes}
+use Rattle.strm_mblk.proofs.chaining.Standing.{begins_with}
 use Rattle.strm_mblk.proofs.layout.Rooms.{HasRooms, placed-over}
-use Rattle.strm_mblk.proofs.altering.Setband.{at_first}
+use Rattle.strm_mblk.proofs.lists.Numbers.{at_first}
 use Rattle.strm_mblk.proofs.layout.Shown.{held_at-seen, message_at-seen}
-use Rattle.strm_mblk.proofs.arena.Tokens.{had_message}
-
--- the numbers of the message that a token names
-pub token_nodes : (id : ℕ) (s : CountedStore) (fields : List Fields) (v : NodeLists) (t : TokenValue) → has (arena_of id s.store fields v) t ≡ true
-    → (held_in v.held t.head ≡ Some (nodes_at v t.head)) × (t.blocks ≡ length (nodes_at v t.head))
-token_nodes id s fields v t is =
-    let message = had_message (arena_of id s.store fields v) t is in
-    let nodes = held_nodes id s.store fields v t.head message.0 message.1.held in
-    let same : nodes.0 ≡ nodes_at v t.head = sym (ap blocks_of nodes.1.held) in (
-      nodes.1.held ∙ ap Some same,
-      sym message.1.blocks ∙ ap length nodes.1.message ∙ length-map nodes.0 _ ∙ ap length same,
-    )
-
--- the same where the token is known under another name
-pub token_held : (id : ℕ) (s : CountedStore) (fields : List Fields) (v : NodeLists) (a : Arena) → arena_of id s.store fields v ≡ a → (t u : TokenValue) → u ≡ t → has a t ≡ true
-    → held_in v.held u.head ≡ Some (nodes_at v u.head)
-token_held id s fields v a is t u same had =
-    (token_nodes id s fields v u (subst (λ x. has x u ≡ true) (sym is) (ap (has a) same ∙ had))).0
-
--- and its names are those of as many blocks as it tells
-pub token_named : (id : ℕ) (s : CountedStore) (fields : List Fields) (v : NodeLists) (a : Arena) → arena_of id s.store fields v ≡ a → (t u : TokenValue) → u ≡ t → has a t ≡ true
-    → take u.blocks (named_by fields (nodes_at v u.head)) ≡ named_by fields (nodes_at v u.head)
-token_named id s fields v a is t u same had =
-    let ns = nodes_at v u.head in
-    ap (λ k. take k (named_by fields ns))
-    ((token_nodes id s fields v u (subst (λ x. has x u ≡ true) (sym is) (ap (has a) same ∙ had))).1 ∙ sym (length-map ns (λ k. (fields_at fields k).data_number)))
-    ∙ take-length (named_by fields ns)
-
--- a token that is had is spent on its message
-pub spent_had : (a : Arena) (t u : TokenValue) → u ≡ t → has a t ≡ true → freemsg u.head a ≡ spent a t
-spent_had a t u same had = ap (λ (x : TokenValue). freemsg x.head a) same ∙ ap (λ (b : Bool). if b then freemsg t.head a else a) (sym had)
 
 -- a is what was there, and the other lists what is there once the message at h was freed
 pub record IsFreed (a : Arena) (t : CountedStore) (fields : List Fields) (w : NodeLists) (id h : ℕ) : Type 0 where

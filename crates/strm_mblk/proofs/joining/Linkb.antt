@@ -10,7 +10,7 @@ use Rattle.strm_mblk.specs.BlockCalls.{linkb}
 use Rattle.strm_mblk.specs.BlocksLayout.{IsFilled, arena_of, block_at, message_of}
 use Rattle.strm_mblk.specs.Messages.{joined}
 use Rattle.strm_mblk.specs.NodeLists.{IsNodesParted, NodeLists, nodes_at}
-use Rattle.strm_mblk.proofs.layout.Linked.{moved_filled}
+use Rattle.strm_mblk.proofs.joining.Regrouped.{moved_filled}
 use Rattle.strm_mblk.proofs.layout.Shown.{message_at-seen}
 
 -- a is what was there, and the other lists what is there once the message at g stands behind the one at h

@@ -1,5 +1,5 @@
 -- What holds of all message blocks, whatever calls made them so.
-use Rattle.std.proofs.Common.{◌≡◌, ℕ, ◌+◌, ◌<◌, ◌≤◌, ◌&&◌, ◌==◌, List, [], ◌∷◌, ◌++◌, length, map, get_or, Option, Some, None, sym, ap, ◌∙◌, subst, inl, inr, arith, if◌then◌else◌}
+use Rattle.std.proofs.Common.{◌≡◌, ℕ, ◌+◌, ◌^◌, ◌<◌, ◌≤◌, ◌&&◌, ◌==◌, List, [], ◌∷◌, ◌++◌, length, map, get_or, Option, Some, None, sym, ap, ◌∙◌, subst, inl, inr, arith, if◌then◌else◌, ◌*◌}
 use Rattle.std.specs.Prelude.{nat_lt, option_map}
 use Rattle.std.specs.List.{All, range_with_len}
 use Rattle.std.proofs.lemmas.List.FromFn.{get_or-map-range_with_len, length-map-range_with_len}
@@ -14,13 +14,16 @@ use Rattle.strm_data.specs.DataStore.{class_of, times}
 use Rattle.strm_mblk.specs.declared.blocks.Blocks.TheInside.{Inside}
 use Rattle.strm_mblk.specs.declared.blocks.Fields.{Fields}
 use Rattle.strm_mblk.specs.Arena.{Arena, IsParted, IsWithin, blocks_in, counted_in, held_blocks, names_of, shelved_blocks}
-use Rattle.strm_mblk.specs.Block.{head_of}
-use Rattle.strm_mblk.specs.BlocksLayout.{IsFilled, IsWhole, arena_in, arena_of, block_at, message_of, no_fields}
+use Rattle.strm_mblk.specs.Block.{Block, head_of, size_of}
+use Rattle.strm_mblk.specs.BlocksLayout.{IsFilled, IsWhole, arena_in, arena_of, block_at, block_of, message_of, no_fields, fields_at}
 use Rattle.strm_mblk.specs.Messages.{held_in, shelf_in}
 use Rattle.strm_mblk.specs.NodeLists.{NodeLists}
 use Rattle.strm_mblk.proofs.arena.Moves.{IsCounted, makes_arena}
 use Rattle.strm_mblk.proofs.layout.Shown.{blocks_in-seen, held_at-seen, nodes_in, numbers-seen, shelf_at-seen}
 use Rattle.strm_mblk.specs.Limits.{most_message_blocks}
+use Rattle.std.proofs.lemmas.List.Sums.{sum_by-append}
+use Rattle.strm_data.proofs.Kept.{capacity_range}
+use Rattle.strm_data.specs.Limits.{most_data_block_bytes}
 
 -- a message that begins with h
 head-seen : (fields : List Fields) (o : Option (List ℕ)) (h : ℕ) → IfSome o (λ m. first m ≡ Some h)
@@ -71,30 +74,54 @@ module _ (id : ℕ) (s : CountedStore) (fields : List Fields) (v : NodeLists) (f
   all_there = omega (arith, law_whole, length-map v.held (option_map (message_of fields)), filled.listed)
 
   -- the stored counts are the names
-  pub law_kept : IsKept (counted_in (arena_of id s.store fields v))
-  law_kept =
+  pub counted_is : counted_in (arena_of id s.store fields v) ≡ s
+  counted_is =
       let a = arena_of id s.store fields v in
       let many = length-map-range_with_len (names_of a) 0 (length s.store.blocks) in
-      let same : s.counts ≡ map (names_of a) (range_with_len 0 (length s.store.blocks)) =
-      ext_get_or 0 s.counts (map (names_of a) (range_with_len 0 (length s.store.blocks))) (filled.kept.counted ∙ sym many)
-      (λ d within. filled.counts d ∙ sym (get_or-map-range_with_len (names_of a) 0 (length s.store.blocks) d d 0 (omega (arith, within, filled.kept.counted)) (omega arith))) in
-      subst (λ (ns : List ℕ). IsKept (record { store = s.store; counts = ns })) same filled.kept
+      λ i. record {
+        store = s.store;
+        counts =
+            ext_get_or 0 (map (names_of a) (range_with_len 0 (length s.store.blocks))) s.counts (many ∙ sym filled.kept.counted)
+            (λ d within. get_or-map-range_with_len (names_of a) 0 (length s.store.blocks) d d 0 (omega (arith, within, many)) (omega arith) ∙ sym (filled.counts d)) i;
+      }
 
-  -- each block lies in its data block, and a number that is none says nothing
-  fields_within : (n : ℕ) → IsWithin s.store (block_at fields n)
-  fields_within n =
-      elim (cases_lt n (length fields)) [
-        | inl there ↦ (filled.placed n there).within
-        | inr past ↦ omega (arith, ap (λ (f : Fields). f.offset + f.len) (get_or_past fields n no_fields past))
-      ]
+  pub law_kept : IsKept (counted_in (arena_of id s.store fields v))
+  law_kept = subst IsKept (sym counted_is) filled.kept
+
+  -- what holds of each message block, and where there is none, holds of each block of a message
+  law_all : (P : Block → Type 0) → ((n : ℕ) → P (block_of n no_fields)) → ((n : ℕ) → n < length fields → P (block_at fields n)) → All P (blocks_in (arena_of id s.store fields v))
+  law_all P none each = subst (All P) (sym (blocks_in-seen id s.store fields v)) (All-map P (block_at fields) (nodes_in v) (λ k d within. at (get_or (nodes_in v) k d)))
+    where
+      at : (n : ℕ) → P (block_at fields n)
+      at n =
+          elim (cases_lt n (length fields)) [
+            | inl there ↦ each n there
+            | inr past ↦ subst (λ f. P (block_of n f)) (sym (get_or_past fields n no_fields past)) (none n)
+          ]
 
   pub law_within : All (IsWithin s.store) (blocks_in (arena_of id s.store fields v))
-  law_within =
-      subst (All (IsWithin s.store)) (sym (blocks_in-seen id s.store fields v))
-      (All-map (IsWithin s.store) (block_at fields) (nodes_in v) (λ k d within. fields_within (get_or (nodes_in v) k d)))
+  law_within = law_all (IsWithin s.store) (λ n. omega arith) (λ n there. (filled.placed n there).within)
+
+  pub law_bands : All (λ b. b.band < 2 ^ 8) (blocks_in (arena_of id s.store fields v))
+  law_bands = law_all (λ b. b.band < 2 ^ 8) (λ n. omega arith) (λ n there. (filled.placed n there).banded)
 
   pub law_few : length (arena_of id s.store fields v).held ≤ most_message_blocks
   law_few = omega (arith, filled.few, length-map v.held (option_map (message_of fields)))
+
+-- a message block has no more bytes than the largest data block has room for
+pub len_most : (id : ℕ) (s : CountedStore) (fields : List Fields) (v : NodeLists) → IsFilled s fields v (arena_of id s.store fields v) → (n : ℕ) → (fields_at fields n).len ≤ most_data_block_bytes
+len_most id s fields v filled n =
+    elim (cases_lt n (length fields)) [
+      | inl within ↦
+          let placed = filled.placed n within in
+          omega (arith, placed.within, (capacity_range s (fields_at fields n).data_number filled.kept placed.there).1)
+      | inr past ↦ omega (arith, ap (λ (f : Fields). f.len) (get_or_past fields n no_fields past))
+    ]
+
+-- so a message has no more than so many for each of its blocks
+pub size_most : (fields : List Fields) (ns : List ℕ) → ((n : ℕ) → (fields_at fields n).len ≤ most_data_block_bytes) → size_of (message_of fields ns) ≤ length ns * most_data_block_bytes
+size_most fields [] few = omega arith
+size_most fields (n ∷ ns) few = omega (arith, sum_by-append (λ (c : Block). c.len) (block_at fields n ∷ []) (message_of fields ns), few n, size_most fields ns few)
 
 -- message blocks as they lie in memory are parted
 pub parted_inside : (i : Inside) → IsWhole i → (a : Arena) → arena_in i ≡ a → IsParted a

@@ -57,6 +57,7 @@ module _ (id mblks shelves : ℕ) (classes : List ClassSpec) (s : CountedStore) 
     placed = λ n within. subst (IsPlaced s.store) (sym (ap (λ fs. fields_at fs n) fields_are ∙ copies-at mblks n no_fields)) (record {
       there = omega (arith, ap (λ (t : CountedStore). length t.store.blocks) s_is, length-blocks_from 0 classes, some_total classes lawful);
       within = omega arith;
+      banded = omega arith;
     });
     counts = λ d. ap (λ t. count_of t d) s_is ∙ copies-at (length (opening_store classes).blocks) d 0 ∙ sym (ap (λ a. names_of a d) opening_shows ∙ ap (count_by _) no_blocks);
   }

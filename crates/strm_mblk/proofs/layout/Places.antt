@@ -1,20 +1,46 @@
 -- The blocks of a held message by their place, as the code finds them.
-use Rattle.std.proofs.Common.{◌≡◌, ℕ, ◌<◌, true, List, length, Some, None, sym, ap, ◌∙◌, inl, inr, arith}
-use Rattle.std.specs.Prelude.{option_map, slice_get}
+use Rattle.std.proofs.Common.{◌≡◌, ℕ, ◌<◌, true, List, length, Some, None, sym, ap, ◌∙◌, inl, inr, arith, subst}
+use Rattle.std.specs.Prelude.{option_map, slice_get, take}
 use Rattle.std.proofs.lemmas.Bool.{cases_lt}
-use Rattle.std.proofs.lemmas.List.{get_or_past}
+use Rattle.std.proofs.lemmas.List.{get_or_past, length-map}
 use Rattle.std.proofs.lemmas.Option.{none-some}
 use Rattle.strm_data.specs.CountedStore.{CountedStore, count_of}
 use Rattle.strm_mblk.specs.declared.blocks.Fields.{Fields}
 use Rattle.strm_mblk.specs.declared.token.TokenValue.{TokenValue}
 use Rattle.strm_mblk.specs.Arena.{Arena, has, message_at, names_of}
-use Rattle.strm_mblk.specs.BlocksLayout.{IsFilled, IsPlaced, arena_of, block_at, fields_at, message_of}
+use Rattle.strm_mblk.specs.BlocksLayout.{IsFilled, IsPlaced, arena_of, block_at, fields_at, message_of, named_by}
 use Rattle.strm_mblk.specs.Messages.{blocks_of, held_in}
 use Rattle.strm_mblk.specs.NodeLists.{IsReached, NodeLists, nodes_at}
-use Rattle.strm_mblk.proofs.freeing.Freemsg.{token_nodes}
 use Rattle.strm_mblk.proofs.layout.Rewriting.{held_nodes, node_room}
 use Rattle.strm_mblk.proofs.layout.Shown.{message_at-seen, slice_get-mapped}
 use Rattle.strm_mblk.proofs.arena.Tokens.{had_message}
+use Rattle.std.proofs.Math.Seq.{take-length}
+
+-- the numbers of the message that a token names
+pub token_nodes : (id : ℕ) (s : CountedStore) (fields : List Fields) (v : NodeLists) (t : TokenValue) → has (arena_of id s.store fields v) t ≡ true
+    → (held_in v.held t.head ≡ Some (nodes_at v t.head)) × (t.blocks ≡ length (nodes_at v t.head))
+token_nodes id s fields v t is =
+    let message = had_message (arena_of id s.store fields v) t is in
+    let nodes = held_nodes id s.store fields v t.head message.0 message.1.held in
+    let same : nodes.0 ≡ nodes_at v t.head = sym (ap blocks_of nodes.1.held) in (
+      nodes.1.held ∙ ap Some same,
+      sym message.1.blocks ∙ ap length nodes.1.message ∙ length-map nodes.0 _ ∙ ap length same,
+    )
+
+-- the same where the token is known under another name
+pub token_held : (id : ℕ) (s : CountedStore) (fields : List Fields) (v : NodeLists) (a : Arena) → arena_of id s.store fields v ≡ a → (t u : TokenValue) → u ≡ t → has a t ≡ true
+    → held_in v.held u.head ≡ Some (nodes_at v u.head)
+token_held id s fields v a is t u same had =
+    (token_nodes id s fields v u (subst (λ x. has x u ≡ true) (sym is) (ap (has a) same ∙ had))).0
+
+-- and its names are those of as many blocks as it tells
+pub token_named : (id : ℕ) (s : CountedStore) (fields : List Fields) (v : NodeLists) (a : Arena) → arena_of id s.store fields v ≡ a → (t u : TokenValue) → u ≡ t → has a t ≡ true
+    → take u.blocks (named_by fields (nodes_at v u.head)) ≡ named_by fields (nodes_at v u.head)
+token_named id s fields v a is t u same had =
+    let ns = nodes_at v u.head in
+    ap (λ k. take k (named_by fields ns))
+    ((token_nodes id s fields v u (subst (λ x. has x u ≡ true) (sym is) (ap (has a) same ∙ had))).1 ∙ sym (length-map ns (λ k. (fields_at fields k).data_number)))
+    ∙ take-length (named_by fields ns)
 
 -- where a message stands there is a place for it
 pub nodes_room : (v : NodeLists) (h n : ℕ) → slice_get (nodes_at v h) 0 ≡ Some n → h < length v.held

@@ -1,7 +1,6 @@
 -- Blocks of a held message say something else.
-use Rattle.std.proofs.Common.{◌≡◌, ℕ, zero, suc, ◌+◌, ◌<◌, ◌≤◌, Bool, ◌==◌, ltb, List, [], ◌∷◌, map, length, set, Option, Some, None, refl, sym, ap, ◌∙◌, subst, inl, inr, arith, get_or-set_same, get_or-set_other, length-set}
+use Rattle.std.proofs.Common.{◌≡◌, ℕ, zero, suc, ◌+◌, ◌<◌, ◌≤◌, Bool, ◌==◌, ltb, List, [], ◌∷◌, map, length, set, Option, Some, None, refl, sym, ap, ◌∙◌, inl, inr, arith, get_or-set_same, get_or-set_other, length-set}
 use Rattle.std.specs.Prelude.{count_by, option_map, slice_get}
-use Rattle.std.specs.Option.{IfSome}
 use Rattle.std.proofs.lemmas.Bool.{cases_eq}
 use Rattle.std.proofs.lemmas.List.{length-map}
 use Rattle.std.proofs.lemmas.Option.{same_Some, none-some}
@@ -14,13 +13,14 @@ use Rattle.strm_mblk.specs.Arena.{held_at, names_of}
 use Rattle.strm_mblk.specs.Block.{Block, Message, head_of}
 use Rattle.strm_mblk.specs.BlocksLayout.{IsFilled, IsPlaced, arena_of, block_at, fields_at, message_of, no_fields}
 use Rattle.strm_mblk.specs.Messages.{blocks_of, blocks_held, blocks_on, held_in}
-use Rattle.strm_mblk.specs.NodeLists.{IsNodesParted, NodeLists}
-use Rattle.strm_mblk.proofs.making.Begun.{alike_off}
-use Rattle.strm_mblk.proofs.arena.Counts.{count_adds, flat_map-set_adds}
+use Rattle.strm_mblk.specs.NodeLists.{NodeLists}
+use Rattle.strm_mblk.proofs.layout.Shown.{AreAlike, alike_off, alike_parts, held-alike, held_at-seen, message-alike, nodes_in, option-alike, shelves-alike}
+use Rattle.strm_mblk.proofs.lists.Additive.{count_adds, count_one, flat_map-set_adds}
 use Rattle.strm_mblk.proofs.layout.Lawful.{counted}
-use Rattle.strm_mblk.proofs.arena.Moves.{count_one, held_within, in_range, one_most, rewritten}
+use Rattle.strm_mblk.proofs.lists.Numbers.{in_range, nonempty, one_most, times_at}
+use Rattle.strm_mblk.proofs.arena.Moves.{held_within, rewritten}
 use Rattle.strm_mblk.proofs.layout.Rooms.{HasRooms, placed-set}
-use Rattle.strm_mblk.proofs.layout.Shown.{AreAlike, alike_parts, held-alike, held_at-seen, message-alike, nodes_in, option-alike, shelves-alike}
+use Rattle.strm_mblk.proofs.chaining.Standing.{begins_with}
 
 -- the blocks of one held message alone say something else
 held-one : (old new : List Fields) (held : List (Option (List ℕ))) (h : ℕ) (ns : List ℕ) → held_in held h ≡ Some ns → AreAlike old new (blocks_held (set held h None))
@@ -31,12 +31,6 @@ held-one old new (o ∷ held) zero ns is alike =
 held-one old new (o ∷ held) (suc h) ns is alike =
     let parts = alike_parts old new (blocks_of o) (blocks_held (set held h None)) alike in
     λ i. option-alike old new o parts.0 i ∷ held-one old new held h ns is parts.1 i
-
--- what stands at a place is there
-pub times_at : (n : ℕ) (ns : List ℕ) (k : ℕ) → slice_get ns k ≡ Some n → 0 < times n ns
-times_at n [] k is = absurd (none-some n is)
-times_at n (x ∷ ns) zero is = omega (arith, times_here n x ns (same_Some x n is))
-times_at n (x ∷ ns) (suc k) is = omega (arith, times-cons n x ns, times_at n ns k is)
 
 -- one block of a message says something else
 message-one : (fields : List Fields) (n : ℕ) (x : Fields) (ns : List ℕ) (k : ℕ) → slice_get ns k ≡ Some n → times n ns ≤ 1
@@ -80,15 +74,6 @@ module _ (old new : List Fields) (ns : List ℕ) (change : AreRewritten old new 
         count_one p (block_at old m),
         count_by-rewritten p blind ms,
       )
-
--- a held message begins with its head
-pub begins_with : (v : NodeLists) → IsNodesParted v → (h : ℕ) (ns : List ℕ) → held_in v.held h ≡ Some ns → first ns ≡ Some h
-begins_with v parted h ns held = subst (λ o. IfSome o (λ m. first m ≡ Some h)) held (parted.heads h)
-
--- so it has a block
-pub nonempty : {h : ℕ} (xs : List ℕ) → first xs ≡ Some h → 0 < length xs
-nonempty {h} [] is = absurd (none-some h is)
-nonempty (x ∷ xs) is = omega arith
 
 module _ (id : ℕ) (s : CountedStore) (fields : List Fields) (v : NodeLists) (filled : IsFilled s fields v (arena_of id s.store fields v)) (h : ℕ) (ns : List ℕ) (held : held_in v.held h ≡ Some ns) where
   -- the message has a place among the held ones

@@ -47,6 +47,7 @@ pub placed-over : (s t : DataStore) (f : Fields) → HasRooms s t → IsPlaced s
 placed-over s t f rooms placed = record {
   there = omega (arith, placed.there, rooms.many);
   within = omega (arith, placed.within, rooms.room f.data_number);
+  banded = placed.banded;
 }
 
 -- the places of all message blocks, of which one says something else

@@ -1,15 +1,16 @@
 -- What a contract sees of message blocks that are listed by number.
-use Rattle.std.proofs.Common.{◌≡◌, ℕ, zero, suc, List, [], ◌∷◌, ◌++◌, map, get_or, Option, Some, None, refl, sym, ap, ◌∙◌}
+use Rattle.std.proofs.Common.{◌≡◌, ℕ, zero, suc, List, [], ◌∷◌, ◌++◌, map, get_or, Option, Some, None, refl, sym, ap, ◌∙◌, ◌<◌, set, arith, get_or-set_other}
 use Rattle.std.specs.Prelude.{option_map, slice_get}
 use Rattle.std.specs.List.{flat_map}
 use Rattle.std.proofs.lemmas.List.{map-append}
-use Rattle.strm_data.specs.DataStore.{DataStore}
+use Rattle.strm_data.specs.DataStore.{DataStore, times}
 use Rattle.strm_mblk.specs.declared.blocks.Fields.{Fields}
 use Rattle.strm_mblk.specs.Arena.{blocks_in, held_at, message_at, shelf_at}
 use Rattle.strm_mblk.specs.Block.{Block, Message, numbers_of}
-use Rattle.strm_mblk.specs.BlocksLayout.{arena_of, block_at, fields_at, message_of}
+use Rattle.strm_mblk.specs.BlocksLayout.{arena_of, block_at, fields_at, message_of, no_fields}
 use Rattle.strm_mblk.specs.Messages.{blocks_of, held_in, shelf_in, blocks_on, blocks_held}
 use Rattle.strm_mblk.specs.NodeLists.{NodeLists, nodes_at}
+use Rattle.strm_data.proofs.Times.{times-cons, times_here}
 
 -- ---- by place
 
@@ -96,6 +97,17 @@ pub alike_parts : (old new : List Fields) (xs ys : List ℕ) → AreAlike old ne
 alike_parts old new [] ys alike = (tt, alike)
 alike_parts old new (x ∷ xs) ys alike = let parts = alike_parts old new xs ys alike.1 in ((alike.0, parts.0), parts.1)
 
+-- two tables say the same of a list where they do of each number of it
+pub alike_each : (old new : List Fields) (ms : List ℕ) → ((k : ℕ) → 0 < times k ms → fields_at new k ≡ fields_at old k) → AreAlike old new ms
+alike_each old new [] each = tt
+alike_each old new (m ∷ ms) each =
+    (each m (omega (arith, times_here m m ms refl)), alike_each old new ms (λ k some. each k (omega (arith, some, times-cons k m ms))))
+
+-- a number that isn't in a list may say something else
+pub alike_off : (fields : List Fields) (n : ℕ) (x : Fields) (ns : List ℕ) → times n ns ≡ 0 → AreAlike fields (set fields n x) ns
+alike_off fields n x ns none =
+    alike_each fields (set fields n x) ns (λ k some. get_or-set_other fields n k x no_fields (λ same. absurd (omega (arith, none, some, ap (λ j. times j ns) same))))
+
 module _ (old new : List Fields) where
   pub message-alike : (ns : List ℕ) → AreAlike old new ns → message_of new ns ≡ message_of old ns
   message-alike [] alike = refl
@@ -123,3 +135,9 @@ module _ (old new : List Fields) where
   held-alike (o ∷ held) alike =
       let parts = alike_parts old new (blocks_of o) (blocks_held held) alike in
       λ i. option-alike o parts.0 i ∷ held-alike held parts.1 i
+
+-- the number of the block at a place of a message
+pub numbers-get : (fields : List Fields) (ns : List ℕ) (k : ℕ) → option_map (λ (b : Block). b.number) (slice_get (message_of fields ns) k) ≡ slice_get ns k
+numbers-get fields [] k = refl
+numbers-get fields (n ∷ ns) zero = refl
+numbers-get fields (n ∷ ns) (suc k) = numbers-get fields ns k

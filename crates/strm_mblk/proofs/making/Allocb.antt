@@ -15,11 +15,11 @@ use Rattle.strm_mblk.specs.Block.{head_of, is_naming, new_block}
 use Rattle.strm_mblk.specs.BlockCalls.{allocb, allocb_from, held_new, renumbered}
 use Rattle.strm_mblk.specs.BlocksLayout.{IsFilled, IsPlaced, arena_of, fields_of, with_fields}
 use Rattle.strm_mblk.specs.NodeLists.{IsNodesParted, NodeLists, after_begin}
-use Rattle.strm_mblk.proofs.making.Begun.{first_rest}
+use Rattle.strm_mblk.proofs.lists.Numbers.{first_rest}
 use Rattle.strm_mblk.proofs.making.BegunAll.{IsBegunAll, begins_all}
 use Rattle.strm_mblk.proofs.making.BegunLists.{begun_first}
-use Rattle.strm_mblk.proofs.arena.Moves.{count_one}
 use Rattle.strm_mblk.proofs.layout.Rooms.{HasRooms, count_of-set, rooms-taken}
+use Rattle.strm_mblk.proofs.lists.Additive.{count_one}
 
 -- what the model gives where there is a block of each kind
 allocb_done : (a : Arena) (size n d : ℕ) (ns : List ℕ) → fits_a_class size a.store.classes ≡ true → a.free ≡ n ∷ ns → take_data size a.store ≡ Ok d
@@ -51,7 +51,7 @@ module _ (id : ℕ) (s : CountedStore) (fields : List Fields) (v : NodeLists) (f
       ∙ ap (λ c. count_of s k + c) (sym (count_one (is_naming k) (new_block n d)))
 
   placed : All (λ b. IsPlaced t.store (fields_of b)) (new_block n d ∷ [])
-  placed zero other within = record { there = omega (arith, fresh.there, rooms.many); within = omega arith }
+  placed zero other within = record { there = omega (arith, fresh.there, rooms.many); within = omega arith; banded = omega arith }
   placed (suc i) other within = absurd (omega (arith, within))
 
   free_is : v.free ≡ n ∷ drop 1 v.free

@@ -16,12 +16,13 @@ use Rattle.strm_mblk.specs.BlockCalls.{held_under, renumbered}
 use Rattle.strm_mblk.specs.BlocksLayout.{IsFilled, IsPlaced, arena_of, block_of, fields_at, fields_of, message_of, no_fields, with_fields}
 use Rattle.strm_mblk.specs.Messages.{blocks_held, blocks_on, blocks_of}
 use Rattle.strm_mblk.specs.NodeLists.{IsNodesParted, NodeLists}
-use Rattle.strm_mblk.proofs.making.Begun.{alike_each, first_rest}
-use Rattle.strm_mblk.proofs.making.BegunLists.{after_begin_all, free_room, free_unheld}
-use Rattle.strm_mblk.proofs.arena.Counts.{count_adds, held_moves}
-use Rattle.strm_mblk.proofs.arena.Moves.{count_one, one_most}
+use Rattle.strm_mblk.proofs.layout.Shown.{AreAlike, alike_each, held-alike, held_at-seen, nodes_in, shelves-alike}
+use Rattle.strm_mblk.proofs.lists.Numbers.{first_rest, one_most}
+use Rattle.strm_mblk.proofs.chaining.Standing.{free_room, free_unheld}
+use Rattle.strm_mblk.proofs.making.BegunLists.{after_begin_all}
+use Rattle.strm_mblk.proofs.lists.Additive.{count_adds, count_one}
+use Rattle.strm_mblk.proofs.arena.Counts.{held_moves}
 use Rattle.strm_mblk.proofs.layout.Rooms.{HasRooms, placed-over, placed-set}
-use Rattle.strm_mblk.proofs.layout.Shown.{AreAlike, held-alike, held_at-seen, nodes_in, shelves-alike}
 
 -- ---- several message blocks say something else
 

@@ -13,16 +13,12 @@ use Rattle.strm_mblk.specs.Arena.{has}
 use Rattle.strm_mblk.specs.BlocksLayout.{IsFilled, arena_of}
 use Rattle.strm_mblk.specs.Messages.{blocks_held, blocks_of, blocks_on, held_in}
 use Rattle.strm_mblk.specs.NodeLists.{NodeLists, nodes_at}
-use Rattle.strm_mblk.proofs.making.Begun.{first_rest}
-use Rattle.strm_mblk.proofs.making.BegunLists.{after_begin_all, free_room, free_unheld}
-use Rattle.strm_mblk.proofs.freeing.Dropping.{slice_get-take}
-use Rattle.strm_mblk.proofs.arena.Counts.{count_adds, flat_map-set_adds}
-use Rattle.strm_mblk.proofs.layout.Places.{nodes_room}
-use Rattle.strm_mblk.proofs.freeing.Freemsg.{token_nodes}
+use Rattle.strm_mblk.proofs.lists.Numbers.{at_first, first_rest, one_most, slice_get-take}
+use Rattle.strm_mblk.proofs.chaining.Standing.{begins_with, free_room, free_unheld}
+use Rattle.strm_mblk.proofs.making.BegunLists.{after_begin_all}
+use Rattle.strm_mblk.proofs.lists.Additive.{count_adds, flat_map-set_adds}
+use Rattle.strm_mblk.proofs.layout.Places.{nodes_room, token_nodes}
 use Rattle.strm_mblk.proofs.making.Giving.{times_part}
-use Rattle.strm_mblk.proofs.arena.Moves.{one_most}
-use Rattle.strm_mblk.proofs.layout.Rewriting.{begins_with}
-use Rattle.strm_mblk.proofs.altering.Setband.{at_first}
 use Rattle.strm_mblk.proofs.layout.Shown.{nodes_in}
 
 -- v was there before; in w the first `count` free numbers are a message, held at h, beside the one held at g

@@ -18,9 +18,8 @@ use Rattle.strm_mblk.specs.Copying.{AreCopied, with_copy}
 use Rattle.strm_mblk.specs.Given.{answer_map}
 use Rattle.strm_mblk.proofs.making.BegunAll.{length-with_fields, with_fields_other}
 use Rattle.strm_mblk.proofs.making.CopiesCounted.{answer_more, can_take, in_front, in_front_none, rooms-copied}
-use Rattle.strm_mblk.proofs.arena.Counts.{count_adds}
+use Rattle.strm_mblk.proofs.lists.Additive.{count_adds, count_one}
 use Rattle.strm_mblk.proofs.making.Giving.{times_part}
-use Rattle.strm_mblk.proofs.arena.Moves.{count_one}
 use Rattle.strm_mblk.proofs.layout.Rooms.{HasRooms, count_of-set, placed-over}
 
 -- ---- lists
@@ -94,12 +93,12 @@ module _ (bs : List Block) (ns : List ℕ) (i : ℕ) (old new : List Fields) (s 
 
     -- the next block is copied
     module _ (d n : ℕ) (taken : take_data (capacity_of t.store b.data_number) t.store ≡ Ok d) (unused : IsUnused t d) (room : capacity_of t.store b.data_number ≤ capacity_of t.store d)
-        (inside : b.offset + b.len ≤ capacity_of t.store b.data_number) (at : slice_get ns i ≡ Some n) where
+        (was : IsPlaced t.store (fields_of b)) (at : slice_get ns i ≡ Some n) where
       abbrev copy : Block
       copy = record b { data_number = d }
 
       rooms_more : HasRooms t.store (copied_into b t.store d)
-      rooms_more = rooms-copied b t.store d (omega (arith, room, inside))
+      rooms_more = rooms-copied b t.store d (omega (arith, room, was.within))
 
       numbers_more : take (i + 1) ns ≡ take i ns ++ n ∷ []
       numbers_more = take_more ns i n (slice_get_within ns i n at) ∙ ap (λ k. take i ns ++ k ∷ []) (get_or_from_slice_get ns i n n at)
@@ -116,7 +115,7 @@ module _ (bs : List Block) (ns : List ℕ) (i : ℕ) (old new : List Fields) (s 
           ]
 
       placed_copy : IsPlaced (copied_into b t.store d) (fields_of copy)
-      placed_copy = record { there = omega (arith, unused.there, rooms_more.many); within = omega (arith, inside, room, rooms_more.room d) }
+      placed_copy = record { there = omega (arith, unused.there, rooms_more.many); within = omega (arith, was.within, room, rooms_more.room d); banded = was.banded }
 
       pub next_copied : IsCopying bs ns (i + 1) old (set new n (fields_of copy)) s (with_copy b t d)
       next_copied = record {

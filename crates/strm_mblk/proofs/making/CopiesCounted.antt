@@ -15,14 +15,14 @@ use Rattle.strm_mblk.specs.Block.{Block, bytes_of_block, kind_of}
 use Rattle.strm_mblk.specs.BlockCalls.{copied_into, copies}
 use Rattle.strm_mblk.specs.declared.blocks.Fields.{Fields}
 use Rattle.strm_mblk.specs.BlocksLayout.{block_at, message_of}
-use Rattle.strm_mblk.proofs.freeing.Dropping.{slice_get-take}
+use Rattle.strm_mblk.proofs.lists.Numbers.{slice_get-take}
 use Rattle.strm_mblk.proofs.lists.ListParts.{drop_from}
 use Rattle.strm_mblk.proofs.layout.Shown.{slice_get-mapped}
+use Rattle.strm_mblk.proofs.making.ClassesLeft.{takes_left, takes_none}
+use Rattle.strm_mblk.proofs.layout.Rooms.{HasRooms, rooms-kind, rooms-set, rooms-taken}
 use Rattle.std.specs.Prelude.{nat_le, option_map, slice_get}
 use Rattle.strm_mblk.specs.Copying.{AreLeft, IsLeft, with_copy}
 use Rattle.strm_mblk.specs.Given.{and_then, answer_map}
-use Rattle.strm_mblk.proofs.making.ClassesLeft.{takes_left, takes_none}
-use Rattle.strm_mblk.proofs.layout.Rooms.{HasRooms, rooms-kind, rooms-set, rooms-taken}
 
 -- ---- answers
 

@@ -24,8 +24,10 @@ use Rattle.strm_mblk.specs.NodeLists.{IsNodesParted, NodeLists, nodes_at}
 use Rattle.strm_mblk.proofs.making.BegunAll.{IsBegunAll, begins_all}
 use Rattle.strm_mblk.proofs.making.BegunBeside.{IsBeside, beside}
 use Rattle.strm_mblk.proofs.making.BegunLists.{after_begin_all}
-use Rattle.strm_mblk.proofs.freeing.Dropping.{naming-named, slice_get-take}
-use Rattle.strm_mblk.proofs.freeing.Freemsg.{enough, token_nodes}
+use Rattle.strm_mblk.proofs.lists.Numbers.{slice_get-take}
+use Rattle.strm_mblk.proofs.freeing.Dropping.{naming-named}
+use Rattle.strm_mblk.proofs.layout.Places.{token_nodes}
+use Rattle.strm_mblk.proofs.freeing.Freemsg.{enough}
 use Rattle.strm_mblk.proofs.making.Giving.{AreUsed, counts_given, store_given, used_part}
 use Rattle.strm_mblk.proofs.layout.Rewriting.{node_room}
 use Rattle.strm_mblk.proofs.layout.Rooms.{HasRooms}

@@ -6,7 +6,7 @@ use Rattle.strm_data.specs.DataStore.{times}
 use Rattle.strm_mblk.specs.declared.blocks.Fields.{Fields}
 use Rattle.strm_mblk.specs.BlocksLayout.{fields_at, no_fields, with_fields}
 use Rattle.strm_mblk.proofs.lists.ListParts.{drop_from}
-use Rattle.strm_mblk.proofs.layout.Rewriting.{times_at}
+use Rattle.strm_mblk.proofs.lists.Numbers.{times_at}
 
 -- what the loop keeps while the blocks `to` come to say what the blocks `from` say, from place i on
 pub record IsCopying (from to : List ℕ) (i : ℕ) (old now : List Fields) : Type 0 where

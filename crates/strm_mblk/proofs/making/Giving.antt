@@ -12,9 +12,9 @@ use Rattle.strm_data.specs.DataStore.{times, with_data_freed}
 use Rattle.strm_data.proofs.Times.{one_if, times-append, times-cons, times_here}
 use Rattle.strm_data.specs.Limits.{most_data_block_names}
 use Rattle.strm_mblk.specs.BlocksLayout.{exceeds_counts, with_names_dropped, with_names_given}
-use Rattle.strm_mblk.proofs.freeing.Dropping.{counted_there, slice_get-take}
+use Rattle.strm_mblk.proofs.lists.Numbers.{slice_get-take, times_at}
+use Rattle.strm_mblk.proofs.freeing.Dropping.{counted_there}
 use Rattle.strm_mblk.proofs.arena.Heads.{set_apart}
-use Rattle.strm_mblk.proofs.layout.Rewriting.{times_at}
 use Rattle.strm_mblk.proofs.layout.Rooms.{count_of-set}
 
 -- the store that is counted stays

@@ -10,7 +10,8 @@ use Rattle.strm_mblk.specs.Freeing.{with_block_freed, with_blocks_freed, with_na
 use Rattle.strm_mblk.specs.Messages.{blocks_of}
 use Rattle.strm_mblk.specs.Pulling.{drained, second_taken, with_message, with_second_cut, with_second_freed, without_front}
 use Rattle.strm_mblk.specs.Trimming.{is_used_up, left_over, used_up}
-use Rattle.strm_mblk.proofs.arena.Counts.{count_adds, held_moves}
+use Rattle.strm_mblk.proofs.lists.Additive.{count_adds}
+use Rattle.strm_mblk.proofs.arena.Counts.{held_moves}
 use Rattle.strm_mblk.proofs.arena.Moves.{held_within}
 
 -- ---- one block

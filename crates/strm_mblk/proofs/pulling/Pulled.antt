@@ -12,7 +12,7 @@ use Rattle.strm_mblk.specs.Block.{Block, Message, kind_of, size_of}
 use Rattle.strm_mblk.specs.Freeing.{with_blocks_freed}
 use Rattle.strm_mblk.specs.Given.{Given, value_after, answer_map, answer_of}
 use Rattle.strm_mblk.specs.Messages.{blocks_of, held_in}
-use Rattle.strm_mblk.specs.Pulling.{drained, gather, gathered, over_data}
+use Rattle.strm_mblk.specs.Pulling.{drained, pull_front, front_pulled, over_data}
 use Rattle.strm_mblk.specs.Trimming.{bytes_asked, left_over, pull, pull_asked, pulled, pulled_into, pullupmsg, run_of, used_up}
 use Rattle.strm_mblk.proofs.pulling.Drained.{dropped_later, freed_held, freed_id}
 use Rattle.strm_mblk.proofs.arena.Moves.{held_within}
@@ -53,7 +53,7 @@ module _ (h n : ℕ) (b : Block) (bs : List Block) (a : Arena) (held : held_at a
 
   module _ (d : ℕ) where
     abbrev first : Arena
-    first = gathered h n (b ∷ bs) a d
+    first = front_pulled h n (b ∷ bs) a d
 
     -- the message once its first block has the bytes
     pub first_held : held_at first h ≡ Some (over_data d n b ∷ bs)
@@ -104,32 +104,32 @@ pub record IsPulled (h n : ℕ) (a : Arena) (call : Given Arena (Unit {0})) (new
 module _ (h n : ℕ) (b : Block) (bs : List Block) (a : Arena) (held : held_at a h ≡ Some (b ∷ bs)) (count : ℤ) (asked : bytes_asked count (run_of a.store (message_at a h)) ≡ Some n)
     (enough : n ≤ size_of (run_of a.store (message_at a h))) (many : b.len < n) where
   -- the first block's answer is the call's
-  pub gather_answer : answer_of (gather h n a) ≡ answer_of (pullupmsg h count a)
-  gather_answer =
-      same_answer (gathered h n (message_at a h) a) (pulled h n (b ∷ bs) a) (take_data n a.store)
+  pub pull_front_answer : answer_of (pull_front h n a) ≡ answer_of (pullupmsg h count a)
+  pull_front_answer =
+      same_answer (front_pulled h n (message_at a h) a) (pulled h n (b ∷ bs) a) (take_data n a.store)
       ∙ ap answer_of (sym (pull_takes h n b bs a held count asked enough many))
 
-  pub gather_refused : (why : Refusal) → answer_of (gather h n a) ≡ Err why → value_after a (gather h n a) ≡ value_after a (pullupmsg h count a)
-  gather_refused why is =
-      refused_alike a (gathered h n (message_at a h) a) (pulled h n (b ∷ bs) a) (take_data n a.store) why is
+  pub pull_front_refused : (why : Refusal) → answer_of (pull_front h n a) ≡ Err why → value_after a (pull_front h n a) ≡ value_after a (pullupmsg h count a)
+  pull_front_refused why is =
+      refused_alike a (front_pulled h n (message_at a h) a) (pulled h n (b ∷ bs) a) (take_data n a.store) why is
       ∙ ap (value_after a) (sym (pull_takes h n b bs a held count asked enough many))
 
-  module _ (first : Arena) (first_is : first ≡ value_after a (gather h n a)) (u : Unit {0}) (given : answer_of (gather h n a) ≡ Ok u) where
+  module _ (first : Arena) (first_is : first ≡ value_after a (pull_front h n a)) (u : Unit {0}) (given : answer_of (pull_front h n a) ≡ Ok u) where
     pub taken : (d : ℕ) × (take_data n a.store ≡ Ok d)
-    taken = taken_where (gathered h n (message_at a h) a) (take_data n a.store) u given
+    taken = taken_where (front_pulled h n (message_at a h) a) (take_data n a.store) u given
 
-    gathered_now : first ≡ gathered h n (b ∷ bs) a taken.0
-    gathered_now =
-        first_is ∙ ap (λ r. value_after a (answer_map (λ d. (tt {0}, gathered h n (message_at a h) a d)) r)) taken.1
-        ∙ ap (λ m. gathered h n m a taken.0) (ap blocks_of held)
+    front_pulled_now : first ≡ front_pulled h n (b ∷ bs) a taken.0
+    front_pulled_now =
+        first_is ∙ ap (λ r. value_after a (answer_map (λ d. (tt {0}, front_pulled h n (message_at a h) a d)) r)) taken.1
+        ∙ ap (λ m. front_pulled h n m a taken.0) (ap blocks_of held)
 
     -- the message is held, with as many blocks
-    pub gathered_held : held_at first h ≡ Some (over_data taken.0 n b ∷ bs)
-    gathered_held = ap (λ x. held_at x h) gathered_now ∙ first_held h n b bs a held taken.0
+    pub front_pulled_held : held_at first h ≡ Some (over_data taken.0 n b ∷ bs)
+    front_pulled_held = ap (λ x. held_at x h) front_pulled_now ∙ first_held h n b bs a held taken.0
 
     pub pulls : (new : Arena) → new ≡ drained h (n - b.len) (message_at first h) first → IsPulled h n a (pullupmsg h count a) new
     pulls new new_is =
-        let is : new ≡ pulled h n (b ∷ bs) a taken.0 = new_is ∙ ap (λ x. drained h (n - b.len) (message_at x h) x) gathered_now ∙ pulled_is h n b bs a held taken.0 in
+        let is : new ≡ pulled h n (b ∷ bs) a taken.0 = new_is ∙ ap (λ x. drained h (n - b.len) (message_at x h) x) front_pulled_now ∙ pulled_is h n b bs a held taken.0 in
         let now : held_at new h ≡ Some (over_data taken.0 n b ∷ left_over (n - b.len) bs) = ap (λ x. held_at x h) is ∙ pulled_held h n b bs a held taken.0 in
         record {
           done =

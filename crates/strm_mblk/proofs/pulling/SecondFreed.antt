@@ -21,10 +21,10 @@ use Rattle.strm_mblk.specs.Messages.{blocks_held, blocks_of, blocks_on, held_in}
 use Rattle.strm_mblk.specs.NodeLists.{IsNodesParted, NodeLists, after_second_freed, all_nodes, nodes_at}
 use Rattle.strm_mblk.specs.Pulling.{with_message, with_second_freed}
 use Rattle.strm_mblk.proofs.freeing.Freemsg.{IsFreed, enough, frees}
-use Rattle.strm_mblk.proofs.shelving.HeadSize.{numbers-get}
-use Rattle.strm_mblk.proofs.layout.Linked.{block_room, not_begun, not_head}
-use Rattle.strm_mblk.proofs.layout.Rewriting.{begins_with, node_room, times_at}
-use Rattle.strm_mblk.proofs.layout.Shown.{message_at-seen, nodes_in, slice_get-mapped}
+use Rattle.strm_mblk.proofs.layout.Shown.{message_at-seen, nodes_in, numbers-get, slice_get-mapped}
+use Rattle.strm_mblk.proofs.chaining.Standing.{begins_with, block_room, not_begun, not_head}
+use Rattle.strm_mblk.proofs.lists.Numbers.{times_at}
+use Rattle.strm_mblk.proofs.layout.Rewriting.{node_room}
 use Rattle.strm_mblk.proofs.joining.TakenOut.{IsTakenOut, takes_out}
 use Rattle.strm_mblk.proofs.joining.Unlinkb.{two_rest}
 

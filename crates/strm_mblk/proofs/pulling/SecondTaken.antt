@@ -14,10 +14,11 @@ use Rattle.strm_mblk.specs.BlocksLayout.{IsFilled, IsPlaced, arena_of, block_at,
 use Rattle.strm_mblk.specs.Messages.{blocks_of, held_in}
 use Rattle.strm_mblk.specs.NodeLists.{NodeLists, nodes_at}
 use Rattle.strm_mblk.specs.Pulling.{second_taken, with_second_cut, with_second_freed, without_front}
-use Rattle.strm_mblk.proofs.layout.Rewriting.{begins_with, held_nodes, node_room, rewrite_filled, rewrite_shows}
+use Rattle.strm_mblk.proofs.chaining.Standing.{begins_with}
+use Rattle.strm_mblk.proofs.layout.Rewriting.{held_nodes, node_room, rewrite_filled, rewrite_shows}
 use Rattle.strm_mblk.proofs.layout.Rooms.{HasRooms}
 use Rattle.strm_mblk.proofs.pulling.SecondFreed.{IsSecond}
-use Rattle.strm_mblk.proofs.altering.Setband.{at_first}
+use Rattle.strm_mblk.proofs.lists.Numbers.{at_first}
 use Rattle.strm_mblk.proofs.layout.Shown.{message_at-seen}
 use Rattle.strm_mblk.proofs.arena.Tokens.{held_is}
 use Rattle.strm_mblk.proofs.joining.Unlinkb.{two_rest}
@@ -92,7 +93,7 @@ module _ (id : ℕ) (s : CountedStore) (fields : List Fields) (v : NodeLists) (f
       rooms = record { many = refl; room = λ k. refl }
 
       placed : IsPlaced s.store x
-      placed = subst (IsPlaced s.store) (sym x_is) (record { there = placed_was.there; within = omega (arith, few, placed_was.within) })
+      placed = subst (IsPlaced s.store) (sym x_is) (record { there = placed_was.there; within = omega (arith, few, placed_was.within); banded = placed_was.banded })
 
       named : x.data_number ≡ was.data_number
       named = ap (λ (f : Fields). f.data_number) x_is

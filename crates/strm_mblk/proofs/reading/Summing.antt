@@ -14,10 +14,9 @@ use Rattle.strm_mblk.specs.Arena.{Arena, has, message_at}
 use Rattle.strm_mblk.specs.BlocksLayout.{IsFilled, arena_of, block_at, message_of}
 use Rattle.strm_mblk.specs.Messages.{blocks_of}
 use Rattle.strm_mblk.specs.NodeLists.{NodeLists, nodes_at}
-use Rattle.strm_mblk.proofs.arena.Counts.{flat_map-set_adds, length_adds}
-use Rattle.strm_mblk.proofs.shelving.HeadSize.{len_most, size_most}
+use Rattle.strm_mblk.proofs.lists.Additive.{flat_map-set_adds, length_adds}
 use Rattle.strm_mblk.proofs.lists.ListParts.{drop_from, drop_past}
-use Rattle.strm_mblk.proofs.layout.Lawful.{all_there}
+use Rattle.strm_mblk.proofs.layout.Lawful.{all_there, len_most, size_most}
 use Rattle.strm_mblk.proofs.arena.Moves.{held_within}
 use Rattle.strm_mblk.proofs.layout.Rewriting.{held_nodes}
 use Rattle.strm_mblk.proofs.layout.Shown.{message_at-seen}

@@ -1,31 +1,22 @@
 -- The bytes of a message on a shelf, summed block by block.
-use Rattle.std.proofs.Common.{◌≡◌, ℕ, zero, suc, ◌*◌, ◌≤◌, true, List, [], ◌∷◌, length, get_or, Option, Some, None, refl, sym, ap, ◌∙◌, inl, inr, arith, length-append}
+use Rattle.std.proofs.Common.{◌≡◌, ℕ, zero, suc, ◌*◌, ◌≤◌, true, List, [], ◌∷◌, length, get_or, Option, Some, None, refl, sym, ap, ◌∙◌, arith, length-append}
 use Rattle.std.specs.Prelude.{is_some, option_map, slice_get}
 use Rattle.std.specs.List.{flat_map}
-use Rattle.std.proofs.lemmas.Bool.{cases_lt}
-use Rattle.std.proofs.lemmas.List.{get_or_past, length-map}
-use Rattle.std.proofs.lemmas.List.Sums.{sum_by-append}
+use Rattle.std.proofs.lemmas.List.{length-map}
 use Rattle.std.proofs.lemmas.Option.{none-some}
 use Rattle.strm_data.specs.CountedStore.{CountedStore}
 use Rattle.strm_mblk.specs.declared.blocks.Fields.{Fields}
 use Rattle.strm_mblk.specs.Arena.{Arena, shelved_blocks}
 use Rattle.strm_mblk.specs.Block.{Block, size_of}
-use Rattle.strm_mblk.specs.BlocksLayout.{IsFilled, arena_of, block_at, fields_at, message_of, no_fields}
+use Rattle.strm_mblk.specs.BlocksLayout.{IsFilled, arena_of, block_at}
 use Rattle.strm_mblk.specs.Messages.{blocks_on, shelf_in}
 use Rattle.strm_mblk.specs.NodeLists.{NodeLists, shelved_nodes}
 use Rattle.strm_mblk.specs.Shelves.{shelf_of, shelved_message}
-use Rattle.strm_data.proofs.Kept.{capacity_range}
 use Rattle.strm_data.specs.Limits.{most_data_block_bytes}
-use Rattle.strm_mblk.proofs.layout.Lawful.{all_there}
+use Rattle.strm_mblk.proofs.layout.Lawful.{all_there, len_most, size_most}
 use Rattle.strm_mblk.proofs.shelving.Shelving.{IsHead, is_head}
-use Rattle.strm_mblk.proofs.layout.Shown.{shelved-seen, slice_get-mapped}
+use Rattle.strm_mblk.proofs.layout.Shown.{numbers-get, shelved-seen, slice_get-mapped}
 use Rattle.strm_mblk.specs.Limits.{most_message_blocks}
-
--- the number of the block at a place of a message
-pub numbers-get : (fields : List Fields) (ns : List ℕ) (k : ℕ) → option_map (λ (b : Block). b.number) (slice_get (message_of fields ns) k) ≡ slice_get ns k
-numbers-get fields [] k = refl
-numbers-get fields (n ∷ ns) zero = refl
-numbers-get fields (n ∷ ns) (suc k) = numbers-get fields ns k
 
 -- where no number stands, no block does
 pub none_there : (o : Option Block) → option_map (λ (b : Block). b.number) o ≡ None → o ≡ None
@@ -43,21 +34,6 @@ among_rows : (shelves : List (List (List ℕ))) (q k : ℕ) → length (get_or (
 among_rows [] q k = omega arith
 among_rows (ms ∷ shelves) zero k = omega (arith, among_row ms k, length-append (flat_map (λ m. m) ms) (blocks_on shelves))
 among_rows (ms ∷ shelves) (suc q) k = omega (arith, among_rows shelves q k, length-append (flat_map (λ m. m) ms) (blocks_on shelves))
-
--- a message block has no more bytes than the largest data block has room for
-pub len_most : (id : ℕ) (s : CountedStore) (fields : List Fields) (v : NodeLists) → IsFilled s fields v (arena_of id s.store fields v) → (n : ℕ) → (fields_at fields n).len ≤ most_data_block_bytes
-len_most id s fields v filled n =
-    elim (cases_lt n (length fields)) [
-      | inl within ↦
-          let placed = filled.placed n within in
-          omega (arith, placed.within, (capacity_range s (fields_at fields n).data_number filled.kept placed.there).1)
-      | inr past ↦ omega (arith, ap (λ (f : Fields). f.len) (get_or_past fields n no_fields past))
-    ]
-
--- so a message has so many for each of its blocks
-pub size_most : (fields : List Fields) (ns : List ℕ) → ((n : ℕ) → (fields_at fields n).len ≤ most_data_block_bytes) → size_of (message_of fields ns) ≤ length ns * most_data_block_bytes
-size_most fields [] few = omega arith
-size_most fields (n ∷ ns) few = omega (arith, sum_by-append (λ (c : Block). c.len) (block_at fields n ∷ []) (message_of fields ns), few n, size_most fields ns few)
 
 module _ (id : ℕ) (s : CountedStore) (fields : List Fields) (v : NodeLists) (filled : IsFilled s fields v (arena_of id s.store fields v)) (a : Arena) (is : arena_of id s.store fields v ≡ a) (h : ℕ) (some : is_some (shelf_of a h) ≡ true) where
   pub head : IsHead s fields v a h

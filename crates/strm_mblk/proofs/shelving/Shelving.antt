@@ -17,7 +17,8 @@ use Rattle.strm_mblk.specs.BlocksLayout.{IsFilled, IsPlaced, arena_of, block_at,
 use Rattle.strm_mblk.specs.Messages.{blocks_of, put_before_head, shelf_in, with_head, without_head}
 use Rattle.strm_mblk.specs.NodeLists.{IsNodesParted, NodeLists, head_node, heads_on, nodes_at, shelved_nodes}
 use Rattle.strm_mblk.specs.Shelves.{head_block, heads_at, shelf_of, shelve, shelved_message, unshelve}
-use Rattle.strm_mblk.proofs.arena.Counts.{IsAdditive, blocks_in_adds, count_adds, flat_map-set_adds, held_moves, length_adds, shelf_moves}
+use Rattle.strm_mblk.proofs.lists.Additive.{IsAdditive, count_adds, flat_map-set_adds, length_adds}
+use Rattle.strm_mblk.proofs.arena.Counts.{blocks_in_adds, held_moves, shelf_moves}
 use Rattle.strm_mblk.proofs.layout.Lawful.{all_there, counted, law_parted}
 use Rattle.strm_mblk.proofs.arena.Moves.{head_counts, held_within, not_held, number_is, once, out_of_held, within}
 use Rattle.strm_mblk.proofs.layout.Shown.{message_at-seen, shelf_at-seen, slice_get-mapped}

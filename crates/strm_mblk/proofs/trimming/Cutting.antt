@@ -11,9 +11,8 @@ use Rattle.strm_mblk.specs.Block.{Block, size_of}
 use Rattle.strm_mblk.specs.BlocksLayout.{IsPlaced, block_at, block_of, fields_at, message_of, no_fields}
 use Rattle.strm_mblk.specs.Cutting.{fields_cut, with_bytes_cut}
 use Rattle.strm_mblk.specs.Trimming.{cut_back, cut_front}
-use Rattle.strm_mblk.proofs.making.Begun.{alike_off}
+use Rattle.strm_mblk.proofs.layout.Shown.{alike_off, message-alike}
 use Rattle.strm_mblk.proofs.lists.ListParts.{drop_from}
-use Rattle.strm_mblk.proofs.layout.Shown.{message-alike}
 use Rattle.strm_mblk.proofs.trimming.Runs.{size_front}
 
 -- ---- one block
@@ -126,7 +125,7 @@ module _ (from_tail : Bool) where
       → IsPlaced s (fields_at (with_bytes_cut from_tail n ks fields) j)
   cut_placed s ks n fields placed j within =
       cut_all (λ k f. k < length fields → IsPlaced s f) from_tail
-      (λ m k f is inside. record { there = (is inside).there; within = omega (arith, (is inside).within, cut_least from_tail m f) }) ks n fields placed j
+      (λ m k f is inside. record { there = (is inside).there; within = omega (arith, (is inside).within, cut_least from_tail m f); banded = (is inside).banded }) ks n fields placed j
       (omega (arith, within, length-cut ks n fields))
 
   -- blocks of other messages say what they said

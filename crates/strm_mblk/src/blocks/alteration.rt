@@ -2,7 +2,7 @@
 ghost use Rattle.std.specs.Prelude.{◌≡◌, [], ◌∷◌, IsTrue};
 ghost use Rattle.strm_mblk.specs.Arena.{has};
 ghost use Rattle.strm_mblk.specs.BlockCalls as model;
-ghost use Rattle.strm_mblk.specs.Frame.{LeavesOthers};
+ghost use Rattle.strm_mblk.specs.Frame.{LeavesOthers, LeavesShelves};
 ghost use Rattle.strm_mblk.specs.Given.{value_after, answer_of};
 
 use super::{Blocks, node_at};
@@ -21,6 +21,7 @@ impl Blocks {
         ensures answer { result ≡ answer_of (model.write token.now.head place bytes.now self.old) }
         ensures had { IsTrue (has self.new token.now) }
         ensures others { LeavesOthers (token.now.head ∷ []) self.old self.new }
+        ensures shelves { LeavesShelves (token.now.head ∷ []) self.old self.new }
     {
         let Some(node) = node_at(&self.chains, token.head(), place) else {
             return Err(Refusal::NoSuchBlock);
@@ -49,6 +50,7 @@ impl Blocks {
         ensures answer { result ≡ answer_of (model.settype token.now.head place kind self.old) }
         ensures had { IsTrue (has self.new token.now) }
         ensures others { LeavesOthers (token.now.head ∷ []) self.old self.new }
+        ensures shelves { LeavesShelves (token.now.head ∷ []) self.old self.new }
     {
         let Some(node) = node_at(&self.chains, token.head(), place) else {
             return Err(Refusal::NoSuchBlock);
@@ -67,6 +69,7 @@ impl Blocks {
         ensures after { self.new ≡ model.setband token.now.head band self.old }
         ensures had { IsTrue (has self.new token.now) }
         ensures others { LeavesOthers (token.now.head ∷ []) self.old self.new }
+        ensures shelves { LeavesShelves (token.now.head ∷ []) self.old self.new }
     {
         self.blocks[token.head() as usize].band = band;
     }

@@ -186,8 +186,9 @@ impl Blocks {
 
     // So many of these blocks name a data block.
     fn assert_names(&self, rt: &impl Abort, number: u32, blocks: &[Block]) {
-        assert!(rt; (number as usize) < self.data.len());
-        let names = usize::from(self.data.count(number));
+        let data = self.data();
+        assert!(rt; (number as usize) < data.len());
+        let names = usize::from(data.count(number));
         assert_eq!(rt; names, count_naming(number, blocks));
     }
 

@@ -8,7 +8,7 @@ ghost use Rattle.strm_mblk.specs.Arena.{has, held_at, message_at, token_of};
 ghost use Rattle.strm_mblk.specs.BlockCalls as model;
 ghost use Rattle.strm_mblk.specs.BlocksLayout.{IsPlaced, block_of, fields_at, message_of};
 ghost use Rattle.strm_mblk.specs.Copying.{AreCopied, AreLeft, IsLeft, with_copy};
-ghost use Rattle.strm_mblk.specs.Frame.{LeavesOthers, head_answered};
+ghost use Rattle.strm_mblk.specs.Frame.{LeavesOthers, LeavesShelves, head_answered};
 ghost use Rattle.strm_mblk.specs.Given.{value_after, answer_map, answer_of};
 ghost use Rattle.strm_mblk.specs.NodeLists.{nodes_at};
 
@@ -138,6 +138,7 @@ impl Blocks {
         ensures unheld { IfOk result (λ copy. held_at self.old copy.head ≡ None) }
         ensures source { IsTrue (has self.new token.now) }
         ensures others { LeavesOthers (head_answered result) self.old self.new }
+        ensures shelves { LeavesShelves (head_answered result) self.old self.new }
     {
         if self.chains.free_len() < count {
             return Err(Refusal::NoMblk);
@@ -173,6 +174,7 @@ impl Blocks {
         ensures unheld { IfOk result (λ copy. held_at self.old copy.head ≡ None) }
         ensures source { IsTrue (has self.new token.now) }
         ensures others { LeavesOthers (head_answered result) self.old self.new }
+        ensures shelves { LeavesShelves (head_answered result) self.old self.new }
     {
         self.copy(token, 1)
     }
@@ -193,6 +195,7 @@ impl Blocks {
         ensures unheld { IfOk result (λ copy. held_at self.old copy.head ≡ None) }
         ensures source { IsTrue (has self.new token.now) }
         ensures others { LeavesOthers (head_answered result) self.old self.new }
+        ensures shelves { LeavesShelves (head_answered result) self.old self.new }
     {
         self.copy(token, token.blocks())
     }

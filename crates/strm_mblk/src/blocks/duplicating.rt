@@ -5,7 +5,7 @@ ghost use Rattle.strm_data.specs.DataStore.{times};
 ghost use Rattle.strm_mblk.specs.Arena.{has, held_at, message_at, token_of};
 ghost use Rattle.strm_mblk.specs.BlockCalls as model;
 ghost use Rattle.strm_mblk.specs.BlocksLayout.{exceeds_counts, fields_at, named_by, with_fields, with_names_given};
-ghost use Rattle.strm_mblk.specs.Frame.{LeavesOthers, head_answered};
+ghost use Rattle.strm_mblk.specs.Frame.{LeavesOthers, LeavesShelves, head_answered};
 ghost use Rattle.strm_mblk.specs.Given.{value_after, answer_map, answer_of};
 ghost use Rattle.strm_mblk.specs.NodeLists.{nodes_at};
 
@@ -76,6 +76,7 @@ impl Blocks {
         ensures unheld { IfOk result (λ copy. held_at self.old copy.head ≡ None) }
         ensures source { IsTrue (has self.new token.now) }
         ensures others { LeavesOthers (head_answered result) self.old self.new }
+        ensures shelves { LeavesShelves (head_answered result) self.old self.new }
     {
         if self.chains.free_len() < count {
             return Err(Refusal::NoMblk);
@@ -103,6 +104,7 @@ impl Blocks {
         ensures unheld { IfOk result (λ copy. held_at self.old copy.head ≡ None) }
         ensures source { IsTrue (has self.new token.now) }
         ensures others { LeavesOthers (head_answered result) self.old self.new }
+        ensures shelves { LeavesShelves (head_answered result) self.old self.new }
     {
         self.duplicate(token, 1)
     }
@@ -121,6 +123,7 @@ impl Blocks {
         ensures unheld { IfOk result (λ copy. held_at self.old copy.head ≡ None) }
         ensures source { IsTrue (has self.new token.now) }
         ensures others { LeavesOthers (head_answered result) self.old self.new }
+        ensures shelves { LeavesShelves (head_answered result) self.old self.new }
     {
         self.duplicate(token, token.blocks())
     }

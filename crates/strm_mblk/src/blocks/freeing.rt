@@ -5,7 +5,7 @@ ghost use Rattle.strm_data.specs.DataStore.{times};
 ghost use Rattle.strm_mblk.specs.Arena.{has, held_at, token_of};
 ghost use Rattle.strm_mblk.specs.BlockCalls as model;
 ghost use Rattle.strm_mblk.specs.BlocksLayout.{fields_at, named_by, with_names_dropped};
-ghost use Rattle.strm_mblk.specs.Frame.{LeavesOthers, head_given};
+ghost use Rattle.strm_mblk.specs.Frame.{LeavesOthers, LeavesShelves, head_given};
 ghost use Rattle.strm_mblk.specs.Freeing.{spent};
 ghost use Rattle.strm_mblk.specs.NodeLists.{nodes_at};
 
@@ -45,6 +45,7 @@ impl Blocks {
     pub fn freemsg(&mut self, token: Token)
         ensures after { self.new ≡ spent self.old token }
         ensures others { LeavesOthers (token.head ∷ []) self.old self.new }
+        ensures shelves { LeavesShelves (token.head ∷ []) self.old self.new }
     {
         let has = self.has(&token);
         let token = token.spend();
@@ -72,6 +73,7 @@ impl Blocks {
         // No message is held at the old head.
         ensures gone { held_at self.new token.head ≡ None }
         ensures others { LeavesOthers (token.head ∷ head_given result) self.old self.new }
+        ensures shelves { LeavesShelves (token.head ∷ head_given result) self.old self.new }
     {
         self.lawful();
         let mut first = token;

@@ -2,7 +2,7 @@
 ghost use Rattle.std.specs.Prelude.{◌≡◌, [], ◌∷◌, ◌≢◌, IfOk, IfSome, IsTrue, None, option_map};
 ghost use Rattle.strm_mblk.specs.Arena.{has, held_at, token_of};
 ghost use Rattle.strm_mblk.specs.BlockCalls as model;
-ghost use Rattle.strm_mblk.specs.Frame.{LeavesOthers, head_given, heads_parted};
+ghost use Rattle.strm_mblk.specs.Frame.{LeavesOthers, LeavesShelves, head_given, heads_parted};
 ghost use Rattle.strm_mblk.specs.Given.{value_after, answer_map, answer_of, or_rejected};
 
 use super::Blocks;
@@ -22,6 +22,7 @@ impl Blocks {
         ensures token { token.new ≡ token_of self.new token.old.head }
         ensures had { IsTrue (has self.new token.new) }
         ensures others { LeavesOthers (token.old.head ∷ tail.head ∷ []) self.old self.new }
+        ensures shelves { LeavesShelves (token.old.head ∷ tail.head ∷ []) self.old self.new }
     {
         let tail = tail.spend().head;
         if token.head() != tail {
@@ -41,6 +42,7 @@ impl Blocks {
         ensures rest_had { IfSome result (λ rest. IsTrue (has self.new rest)) }
         ensures unheld { IfSome result (λ rest. held_at self.old rest.head ≡ None) }
         ensures others { LeavesOthers (token.old.head ∷ head_given result) self.old self.new }
+        ensures shelves { LeavesShelves (token.old.head ∷ head_given result) self.old self.new }
     {
         let rest = self.chains.divide(token.head())?;
         token.set_blocks(1);
@@ -63,6 +65,7 @@ impl Blocks {
         // They are of two messages.
         ensures apart { IfOk result (λ tokens. IfSome tokens.1 (λ rest. rest.head ≢ tokens.0.head)) }
         ensures others { LeavesOthers (token.head ∷ heads_parted result) self.old self.new }
+        ensures shelves { LeavesShelves (token.head ∷ heads_parted result) self.old self.new }
     {
         if place == 0 {
             self.lawful();

@@ -5,7 +5,7 @@ ghost use Rattle.strm_data.specs.DataStore.{capacity_of, times};
 ghost use Rattle.strm_mblk.specs.Arena.{has, held_at, message_at, token_of};
 ghost use Rattle.strm_mblk.specs.Block.{Block, bytes_of, size_of};
 ghost use Rattle.strm_mblk.specs.BlocksLayout.{IsPlaced, fields_at, message_of, named_by};
-ghost use Rattle.strm_mblk.specs.Frame.{LeavesOthers};
+ghost use Rattle.strm_mblk.specs.Frame.{LeavesOthers, LeavesShelves};
 ghost use Rattle.strm_mblk.specs.Given.{value_after, answer_of};
 ghost use Rattle.strm_mblk.specs.Messages.{held_in};
 ghost use Rattle.strm_mblk.specs.NodeLists.{nodes_at};
@@ -72,11 +72,11 @@ impl Blocks {
     // former one, which loses its name once the bytes stand in the other. The other blocks keep their bytes.
     //
     // Refused as `take` of the data blocks is; nothing changes then.
-    fn gather(&mut self, token: &Token, count: u32) -> Result<(), Refusal>
+    fn pull_front(&mut self, token: &Token, count: u32) -> Result<(), Refusal>
         requires had { IsTrue (has self.old token.now) }
         requires enough { count ≤ size_of (message_at self.old token.now.head) }
-        ensures after { self.new ≡ value_after self.old (pulling.gather token.now.head count self.old) }
-        ensures answer { result ≡ answer_of (pulling.gather token.now.head count self.old) }
+        ensures after { self.new ≡ value_after self.old (pulling.pull_front token.now.head count self.old) }
+        ensures answer { result ≡ answer_of (pulling.pull_front token.now.head count self.old) }
     {
         let head = token.head();
         let fields = self.blocks[head as usize];
@@ -168,6 +168,7 @@ impl Blocks {
         ensures token { token.new ≡ token_of self.new token.old.head }
         ensures had { IsTrue (has self.new token.new) }
         ensures others { LeavesOthers (token.old.head ∷ []) self.old self.new }
+        ensures shelves { LeavesShelves (token.old.head ∷ []) self.old self.new }
     {
         let head = token.head();
         let run = self.run_size(token);
@@ -181,7 +182,7 @@ impl Blocks {
         if wanted <= len {
             return Ok(());
         }
-        self.gather(token, wanted)?;
+        self.pull_front(token, wanted)?;
         self.drain(head, wanted - len, token.blocks());
         token.set_blocks(self.chains.len(head));
         Ok(())

@@ -4,7 +4,7 @@ ghost use Rattle.strm_mblk.specs.Arena.{has, message_at};
 ghost use Rattle.strm_mblk.specs.Block.{size_of};
 ghost use Rattle.strm_mblk.specs.BlocksLayout.{fields_at, message_of};
 ghost use Rattle.strm_mblk.specs.Cutting.{IsRun, fields_cut, run_with, with_bytes_cut};
-ghost use Rattle.strm_mblk.specs.Frame.{LeavesOthers};
+ghost use Rattle.strm_mblk.specs.Frame.{LeavesOthers, LeavesShelves};
 ghost use Rattle.strm_mblk.specs.Given.{value_after, answer_of};
 ghost use Rattle.strm_mblk.specs.NodeLists.{nodes_at};
 ghost use Rattle.strm_mblk.specs.Trimming as model;
@@ -160,6 +160,7 @@ impl Blocks {
         ensures answer { result ≡ answer_of (model.adjmsg token.now.head count self.old) }
         ensures had { IsTrue (has self.new token.now) }
         ensures others { LeavesOthers (token.now.head ∷ []) self.old self.new }
+        ensures shelves { LeavesShelves (token.now.head ∷ []) self.old self.new }
     {
         let from_tail = count.is_negative();
         let bytes = count.unsigned_abs();

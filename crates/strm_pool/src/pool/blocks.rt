@@ -4,7 +4,7 @@ ghost use Rattle.std.specs.Option.{option_map_or};
 ghost use Rattle.strm_mblk.specs.Arena.{has, held_at, message_at, token_of};
 ghost use Rattle.strm_mblk.specs.Block.{bytes_of, data_size_of, size_of};
 ghost use Rattle.strm_mblk.specs.BlockCalls as blocks;
-ghost use Rattle.strm_mblk.specs.Frame.{LeavesOthers, head_answered, head_given, heads_parted};
+ghost use Rattle.strm_mblk.specs.Frame.{LeavesOthers, LeavesShelves, head_answered, head_given, heads_parted};
 ghost use Rattle.strm_mblk.specs.Given.{answer_map, answer_of, or_rejected, value_after};
 ghost use Rattle.strm_mblk.specs.Trimming as trimming;
 ghost use Rattle.strm_pool.specs.Limits.{most_octets};
@@ -12,8 +12,8 @@ ghost use Rattle.strm_pool.specs.PoolValue.{drained, on_arena, spent, with_arena
 
 use super::Pool;
 use crate::limits::MOST_OCTETS;
-use crate::octets::Octets;
 use crate::regs::Regs;
+use crate::short_list::Octets;
 use arrayvec::ArrayVec;
 use strm_data::{MsgType, Refusal};
 use strm_mblk::{BlockInfo, Rejected, Token};
@@ -31,6 +31,7 @@ impl Pool {
         ensures had { IfOk result (λ token. IsTrue (has self.new.arena token)) }
         ensures unheld { IfOk result (λ token. held_at self.old.arena token.head ≡ None) }
         ensures others { LeavesOthers (head_answered result) self.old.arena self.new.arena }
+        ensures shelves { LeavesShelves (head_answered result) self.old.arena self.new.arena }
     {
         self.blocks.allocb(size)
     }
@@ -56,6 +57,7 @@ impl Pool {
         ensures source { IsTrue (has self.new.arena token.now) }
         ensures unheld { IfOk result (λ copy. held_at self.old.arena copy.head ≡ None) }
         ensures others { LeavesOthers (head_answered result) self.old.arena self.new.arena }
+        ensures shelves { LeavesShelves (head_answered result) self.old.arena self.new.arena }
     {
         self.blocks.dupb(token)
     }
@@ -74,6 +76,7 @@ impl Pool {
         ensures source { IsTrue (has self.new.arena token.now) }
         ensures unheld { IfOk result (λ copy. held_at self.old.arena copy.head ≡ None) }
         ensures others { LeavesOthers (head_answered result) self.old.arena self.new.arena }
+        ensures shelves { LeavesShelves (head_answered result) self.old.arena self.new.arena }
     {
         self.blocks.dupmsg(token)
     }
@@ -93,6 +96,7 @@ impl Pool {
         ensures source { IsTrue (has self.new.arena token.now) }
         ensures unheld { IfOk result (λ copy. held_at self.old.arena copy.head ≡ None) }
         ensures others { LeavesOthers (head_answered result) self.old.arena self.new.arena }
+        ensures shelves { LeavesShelves (head_answered result) self.old.arena self.new.arena }
     {
         self.blocks.copyb(token)
     }
@@ -111,6 +115,7 @@ impl Pool {
         ensures source { IsTrue (has self.new.arena token.now) }
         ensures unheld { IfOk result (λ copy. held_at self.old.arena copy.head ≡ None) }
         ensures others { LeavesOthers (head_answered result) self.old.arena self.new.arena }
+        ensures shelves { LeavesShelves (head_answered result) self.old.arena self.new.arena }
     {
         self.blocks.copymsg(token)
     }
@@ -125,6 +130,7 @@ impl Pool {
         ensures answer { result ≡ answer_of (blocks.write token.now.head place bytes.now self.old.arena) }
         ensures had { IsTrue (has self.new.arena token.now) }
         ensures others { LeavesOthers (token.now.head ∷ []) self.old.arena self.new.arena }
+        ensures shelves { LeavesShelves (token.now.head ∷ []) self.old.arena self.new.arena }
     {
         self.blocks.write(token, place, bytes)
     }
@@ -139,6 +145,7 @@ impl Pool {
         ensures answer { result ≡ answer_of (blocks.settype token.now.head place kind self.old.arena) }
         ensures had { IsTrue (has self.new.arena token.now) }
         ensures others { LeavesOthers (token.now.head ∷ []) self.old.arena self.new.arena }
+        ensures shelves { LeavesShelves (token.now.head ∷ []) self.old.arena self.new.arena }
     {
         self.blocks.settype(token, place, kind)
     }
@@ -149,6 +156,7 @@ impl Pool {
         ensures pool { self.new ≡ with_arena self.old (blocks.setband token.now.head band self.old.arena) }
         ensures had { IsTrue (has self.new.arena token.now) }
         ensures others { LeavesOthers (token.now.head ∷ []) self.old.arena self.new.arena }
+        ensures shelves { LeavesShelves (token.now.head ∷ []) self.old.arena self.new.arena }
     {
         self.blocks.setband(token, band);
     }
@@ -164,6 +172,7 @@ impl Pool {
         ensures token { token.new ≡ token_of self.new.arena token.old.head }
         ensures had { IsTrue (has self.new.arena token.new) }
         ensures others { LeavesOthers (token.old.head ∷ tail.head ∷ []) self.old.arena self.new.arena }
+        ensures shelves { LeavesShelves (token.old.head ∷ tail.head ∷ []) self.old.arena self.new.arena }
     {
         self.blocks.linkb(token, tail);
     }
@@ -179,6 +188,7 @@ impl Pool {
         ensures rest_had { IfSome result (λ rest. IsTrue (has self.new.arena rest)) }
         ensures unheld { IfSome result (λ rest. held_at self.old.arena rest.head ≡ None) }
         ensures others { LeavesOthers (token.old.head ∷ head_given result) self.old.arena self.new.arena }
+        ensures shelves { LeavesShelves (token.old.head ∷ head_given result) self.old.arena self.new.arena }
     {
         self.blocks.unlinkb(token)
     }
@@ -199,6 +209,7 @@ impl Pool {
         // They are of two messages.
         ensures apart { IfOk result (λ tokens. IfSome tokens.1 (λ rest. rest.head ≢ tokens.0.head)) }
         ensures others { LeavesOthers (token.head ∷ heads_parted result) self.old.arena self.new.arena }
+        ensures shelves { LeavesShelves (token.head ∷ heads_parted result) self.old.arena self.new.arena }
     {
         self.blocks.rmvb(token, place)
     }
@@ -214,6 +225,7 @@ impl Pool {
         ensures answer { result ≡ answer_of (trimming.adjmsg token.now.head count self.old.arena) }
         ensures had { IsTrue (has self.new.arena token.now) }
         ensures others { LeavesOthers (token.now.head ∷ []) self.old.arena self.new.arena }
+        ensures shelves { LeavesShelves (token.now.head ∷ []) self.old.arena self.new.arena }
     {
         self.blocks.adjmsg(token, count)
     }
@@ -231,6 +243,7 @@ impl Pool {
         ensures token { token.new ≡ token_of self.new.arena token.old.head }
         ensures had { IsTrue (has self.new.arena token.new) }
         ensures others { LeavesOthers (token.old.head ∷ []) self.old.arena self.new.arena }
+        ensures shelves { LeavesShelves (token.old.head ∷ []) self.old.arena self.new.arena }
     {
         self.blocks.pullupmsg(token, count)
     }
@@ -285,6 +298,7 @@ impl Pool {
         // No message is held at the old head.
         ensures gone { held_at self.new.arena token.head ≡ None }
         ensures others { LeavesOthers (token.head ∷ head_given result) self.old.arena self.new.arena }
+        ensures shelves { LeavesShelves (token.head ∷ head_given result) self.old.arena self.new.arena }
     {
         self.blocks.freeb(token)
     }
@@ -294,6 +308,7 @@ impl Pool {
     pub fn freemsg(&mut self, token: Token)
         ensures pool { self.new ≡ spent self.old token }
         ensures others { LeavesOthers (token.head ∷ []) self.old.arena self.new.arena }
+        ensures shelves { LeavesShelves (token.head ∷ []) self.old.arena self.new.arena }
     {
         self.blocks.freemsg(token);
     }

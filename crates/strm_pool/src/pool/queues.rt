@@ -1,6 +1,7 @@
 //! The calls on queues.
-ghost use Rattle.std.specs.Prelude.{◌≡◌, None, IfOk, IfSome, IsTrue, option_map};
+ghost use Rattle.std.specs.Prelude.{◌≡◌, [], ◌∷◌, None, IfOk, IfSome, IsTrue, MatchResult, option_map};
 ghost use Rattle.strm_mblk.specs.Arena.{has, held_at, token_of};
+ghost use Rattle.strm_mblk.specs.Frame.{LeavesOthers, head_answered, heads_answered};
 ghost use Rattle.strm_mblk.specs.Given.{answer_map, answer_of, or_rejected, value_after};
 ghost use Rattle.strm_pool.specs.PoolValue.{on_queues, queued, with_queued};
 ghost use Rattle.strm_queue.specs.QueueCalls as queues;
@@ -15,11 +16,17 @@ impl Pool {
     /// Puts a message on a queue, behind the last one of rank at least its own. A high priority message ranks above all
     /// bands, and its first block gets band 0.
     ///
+    /// The queue is enabled, as by `qenable`, where the message is of high priority; or else where enabling is not switched
+    /// off and somebody wants to read from the queue or the message's band is above 0.
+    ///
     /// Rejected as `NoSuchQueue` where there is no such queue; nothing changes then, and the token comes back.
     pub fn putq(&mut self, queue: u8, token: Token) -> Result<(), Rejected>
         requires { IsTrue (has self.old.arena token) }
         ensures pool { self.new ≡ value_after self.old (on_queues self.old (queues.putq queue token.head (queued self.old))) }
         ensures answer { result ≡ or_rejected token (answer_of (queues.putq queue token.head (queued self.old))) }
+        // A message that was put is held no more, one that is refused still is, and all others are as they were.
+        ensures gone { MatchResult result (λ done. held_at self.new.arena token.head ≡ None) (λ rejected. IsTrue (has self.new.arena token)) }
+        ensures others { LeavesOthers (token.head ∷ []) self.old.arena self.new.arena }
     {
         self.queues.putq(&mut self.blocks, queue, token)
     }
@@ -27,11 +34,17 @@ impl Pool {
     /// Puts a message back on a queue, before the first one of rank at most its own. A high priority message ranks above
     /// all bands, and its first block gets band 0.
     ///
+    /// The queue is enabled, as by `qenable`, where the message is of high priority; or else where enabling is not switched
+    /// off and somebody wants to read from the queue.
+    ///
     /// Rejected as `NoSuchQueue` where there is no such queue; nothing changes then, and the token comes back.
     pub fn putbq(&mut self, queue: u8, token: Token) -> Result<(), Rejected>
         requires { IsTrue (has self.old.arena token) }
         ensures pool { self.new ≡ value_after self.old (on_queues self.old (queues.putbq queue token.head (queued self.old))) }
         ensures answer { result ≡ or_rejected token (answer_of (queues.putbq queue token.head (queued self.old))) }
+        // A message that was put is held no more, one that is refused still is, and all others are as they were.
+        ensures gone { MatchResult result (λ done. held_at self.new.arena token.head ≡ None) (λ rejected. IsTrue (has self.new.arena token)) }
+        ensures others { LeavesOthers (token.head ∷ []) self.old.arena self.new.arena }
     {
         self.queues.putbq(&mut self.blocks, queue, token)
     }
@@ -39,17 +52,24 @@ impl Pool {
     /// Puts a message on a queue before the one at `place`, counted from 0, or last where `place` is the number of
     /// messages. The first block of a high priority message gets band 0.
     ///
+    /// The queue is enabled, as by `qenable`, where enabling is not switched off and somebody wants to read from it.
+    ///
     /// Rejected as `NoSuchQueue` where there is no such queue, then as `NoSuchPlace` where it has fewer messages, then as
     /// `BadOrder` where ranks would rise from front to back; nothing changes then, and the token comes back.
     pub fn insq(&mut self, queue: u8, place: u32, token: Token) -> Result<(), Rejected>
         requires { IsTrue (has self.old.arena token) }
         ensures pool { self.new ≡ value_after self.old (on_queues self.old (queues.insq queue place token.head (queued self.old))) }
         ensures answer { result ≡ or_rejected token (answer_of (queues.insq queue place token.head (queued self.old))) }
+        // A message that was put is held no more, one that is refused still is, and all others are as they were.
+        ensures gone { MatchResult result (λ done. held_at self.new.arena token.head ≡ None) (λ rejected. IsTrue (has self.new.arena token)) }
+        ensures others { LeavesOthers (token.head ∷ []) self.old.arena self.new.arena }
     {
         self.queues.insq(&mut self.blocks, queue, place, token)
     }
 
-    /// Takes the first message off a queue, or nothing where the queue is empty.
+    /// Takes the first message off a queue, or nothing where the queue is empty: then somebody wants to read from it, else
+    /// nobody does any more. Where a message came, the queue settles: each wanted band with at most the low water mark loses
+    /// its wanted mark, and where one did, the nearest queue behind with a service procedure is enabled.
     ///
     /// Refused as `NoSuchQueue` where there is no such queue; nothing changes then.
     pub fn getq(&mut self, queue: u8) -> Result<Option<Token>, Refusal>
@@ -58,11 +78,14 @@ impl Pool {
         // The pool has the token, and no held message had its head.
         ensures had { IfOk result (λ given. IfSome given (λ token. IsTrue (has self.new.arena token))) }
         ensures unheld { IfOk result (λ given. IfSome given (λ token. held_at self.old.arena token.head ≡ None)) }
+        // All other held messages are as they were.
+        ensures others { LeavesOthers (heads_answered result) self.old.arena self.new.arena }
     {
         self.queues.getq(&mut self.blocks, queue)
     }
 
-    /// Takes the message at `place`, counted from 0, off a queue.
+    /// Takes the message at `place`, counted from 0, off a queue, which settles: each wanted band with at most the low water
+    /// mark loses its wanted mark, and where one did, the nearest queue behind with a service procedure is enabled.
     ///
     /// Refused as `NoSuchQueue` where there is no such queue, then as `NoSuchPlace` where it has no such message; nothing
     /// changes then.
@@ -72,6 +95,8 @@ impl Pool {
         // The pool has the token, and no held message had its head.
         ensures had { IfOk result (λ token. IsTrue (has self.new.arena token)) }
         ensures unheld { IfOk result (λ token. held_at self.old.arena token.head ≡ None) }
+        // All other held messages are as they were.
+        ensures others { LeavesOthers (head_answered result) self.old.arena self.new.arena }
     {
         self.queues.rmvq(&mut self.blocks, queue, place)
     }
@@ -85,35 +110,42 @@ impl Pool {
         self.queues.qsize(&self.blocks, queue)
     }
 
-    /// Frees the messages of a queue front to back: all, or those that carry data. What stays keeps its place.
+    /// Frees the messages of a queue front to back: all, or those that carry data. What stays keeps its place. The queue
+    /// settles: each wanted band with at most the low water mark loses its wanted mark, and where one did, the nearest queue
+    /// behind with a service procedure is enabled.
     ///
     /// Refused as `NoSuchQueue` where there is no such queue; nothing changes then.
     pub fn flushq(&mut self, queue: u8, flush: Flush) -> Result<(), Refusal>
         ensures pool { self.new ≡ value_after self.old (on_queues self.old (queues.flushq queue flush (queued self.old))) }
         ensures answer { result ≡ answer_of (queues.flushq queue flush (queued self.old)) }
+        ensures others { LeavesOthers [] self.old.arena self.new.arena }
     {
         self.queues.flushq(&mut self.blocks, queue, flush)
     }
 
     /// Frees the messages of one band of a queue, front to back: all of them, or those that carry data. High priority
-    /// messages are of band 0. What stays keeps its place.
+    /// messages are of band 0. What stays keeps its place. The queue settles: each wanted band, of whatever number, with at
+    /// most the low water mark loses its wanted mark, and where one did, the nearest queue behind with a service procedure is
+    /// enabled.
     ///
     /// Refused as `NoSuchQueue` where there is no such queue; nothing changes then.
     pub fn flushband(&mut self, queue: u8, band: u8, flush: Flush) -> Result<(), Refusal>
         ensures pool { self.new ≡ value_after self.old (on_queues self.old (queues.flushband queue band flush (queued self.old))) }
         ensures answer { result ≡ answer_of (queues.flushband queue band flush (queued self.old)) }
+        ensures others { LeavesOthers [] self.old.arena self.new.arena }
     {
         self.queues.flushband(&mut self.blocks, queue, band, flush)
     }
 
     /// Whether a message of a band may be put: asked of the first queue with a service procedure from this one on, or of
-    /// the last one there. Where the band has as many bytes as the high water mark there, its wanted mark is set, and the
-    /// answer is false.
+    /// the last one there. Where the band has as many bytes as the high water mark there, or more, its wanted mark is set,
+    /// and the answer is false.
     ///
     /// Refused as `NoSuchQueue` where there is no such queue; nothing changes then.
     pub fn bcanput(&mut self, queue: u8, band: u8) -> Result<bool, Refusal>
         ensures pool { self.new ≡ value_after self.old (on_queues self.old (queues.bcanput queue band (queued self.old))) }
         ensures answer { result ≡ answer_of (queues.bcanput queue band (queued self.old)) }
+        ensures arena { self.new.arena ≡ self.old.arena }
     {
         self.queues.bcanput(&self.blocks, queue, band)
     }
@@ -124,17 +156,19 @@ impl Pool {
     pub fn qenable(&mut self, queue: u8) -> Result<(), Refusal>
         ensures pool { self.new ≡ value_after self.old (on_queues self.old (queues.qenable queue (queued self.old))) }
         ensures answer { result ≡ answer_of (queues.qenable queue (queued self.old)) }
+        ensures arena { self.new.arena ≡ self.old.arena }
     {
         self.queues.qenable(queue)
     }
 
-    /// Switches enabling off: nothing but a high priority message put on the queue, `qenable`, and back-enabling enables
-    /// it any more.
+    /// Switches enabling off: nothing but a high priority message that is put on the queue or put back, `qenable`, and
+    /// back-enabling enables it any more.
     ///
     /// Refused as `NoSuchQueue` where there is no such queue; nothing changes then.
     pub fn noenable(&mut self, queue: u8) -> Result<(), Refusal>
         ensures pool { self.new ≡ value_after self.old (on_queues self.old (queues.noenable queue (queued self.old))) }
         ensures answer { result ≡ answer_of (queues.noenable queue (queued self.old)) }
+        ensures arena { self.new.arena ≡ self.old.arena }
     {
         self.queues.noenable(queue)
     }
@@ -145,6 +179,7 @@ impl Pool {
     pub fn enableok(&mut self, queue: u8) -> Result<(), Refusal>
         ensures pool { self.new ≡ value_after self.old (on_queues self.old (queues.enableok queue (queued self.old))) }
         ensures answer { result ≡ answer_of (queues.enableok queue (queued self.old)) }
+        ensures arena { self.new.arena ≡ self.old.arena }
     {
         self.queues.enableok(queue)
     }
@@ -153,6 +188,7 @@ impl Pool {
     pub fn next_service(&mut self) -> Option<u8>
         ensures pool { self.new ≡ with_queued self.old (queues.next_service (queued self.old)).1 }
         ensures answer { result ≡ (queues.next_service (queued self.old)).0 }
+        ensures arena { self.new.arena ≡ self.old.arena }
     {
         self.queues.next_service()
     }

@@ -9,13 +9,14 @@ use strm_data::Refusal;
 
 impl Pool {
     /// Records a wish for a message block over a data block of `size` bytes or more, behind all others, and answers its id.
-    /// Ids rise by 1 from the configuration's first one; 4,294,967,295 is the last. Takes constant time.
+    /// Ids rise by 1 from the configuration's first one; `LAST_ID` is the last. Takes constant time.
     ///
     /// Refused as `TooLarge` where the size is above the largest class, then as `Full` where as many wishes are recorded as
     /// the configuration allows, then as `IdsSpent` where the last id has been given; nothing changes then.
     pub fn bufcall(&mut self, size: u32) -> Result<u32, Refusal>
         ensures pool { self.new ≡ value_after self.old (wishes.bufcall size self.old) }
         ensures answer { result ≡ answer_of (wishes.bufcall size self.old) }
+        ensures arena { self.new.arena ≡ self.old.arena }
     {
         if !self.blocks.has_class_for(size) {
             return Err(Refusal::TooLarge);
@@ -29,6 +30,7 @@ impl Pool {
     pub fn unbufcall(&mut self, id: u32) -> Result<(), Refusal>
         ensures pool { self.new ≡ value_after self.old (wishes.unbufcall id self.old) }
         ensures answer { result ≡ answer_of (wishes.unbufcall id self.old) }
+        ensures arena { self.new.arena ≡ self.old.arena }
     {
         match self.wishes.place_of(id) {
             Some(place) => {
@@ -55,6 +57,7 @@ impl Pool {
     pub fn take_ready(&mut self) -> Option<(u32, u32)>
         ensures pool { self.new ≡ (wishes.take_ready self.old).1 }
         ensures answer { result ≡ (wishes.take_ready self.old).0 }
+        ensures arena { self.new.arena ≡ self.old.arena }
     {
         let place = self.ready_place()?;
         self.wishes.remove(place)

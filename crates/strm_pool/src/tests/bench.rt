@@ -86,6 +86,17 @@ impl Bench {
         assert_eq!(rt; (census.free, census.queued, census.held), (free, 0, held));
     }
 
+    // The pool lends its parts, under their laws: queue 0 has so many messages, and data block 0 so many names.
+    pub(super) fn assert_lent(&self, rt: &impl Abort, size: u32, names: u8) {
+        let (queues, blocks) = (self.pool.queues(), self.pool.blocks());
+        queues.lawful(blocks);
+        blocks.lawful();
+        assert_eq!(rt; queues.qsize(blocks, 0), Ok(size));
+        let data = blocks.data();
+        assert!(rt; data.len() > 0);
+        assert_eq!(rt; data.count(0), names);
+    }
+
     // Takes the token of a register, which then holds nothing.
     pub(super) fn taken(&mut self, rt: &impl Abort, reg: Reg) -> Token {
         match self.regs.take(reg) {

@@ -1,7 +1,7 @@
 //! A pool beside its calls done a second time: both answer alike, and have the same afterwards.
 use super::assert_reply;
 use super::second::{QUEUES, REGISTERS, Second};
-use crate::{Call, Pool, Refusal, Regs, Reply, Token};
+use crate::{Call, MOST_OCTETS, Pool, Refusal, Regs, Reply, Token};
 use std::process::Abort;
 use strm_mblk::Blocks;
 
@@ -13,7 +13,7 @@ fn assert_blocks(rt: &impl Abort, pool: &Pool, blocks: &Blocks, token: &Token, o
     }
 }
 
-// A message has the same blocks, and the same bytes, as far as they are 64.
+// A message has the same blocks, and the same bytes, as far as a reply carries them.
 fn assert_message(rt: &impl Abort, pool: &Pool, blocks: &Blocks, token: &Token, other: &Token) {
     assert_eq!(rt;
         (token.pool(), token.head(), token.blocks()),
@@ -21,7 +21,7 @@ fn assert_message(rt: &impl Abort, pool: &Pool, blocks: &Blocks, token: &Token, 
     );
     assert_blocks(rt, pool, blocks, token, other);
     assert!(rt; pool.has(token) && blocks.has(other));
-    let (mut bytes, mut others) = ([0; 64], [0; 64]);
+    let (mut bytes, mut others) = ([0; MOST_OCTETS], [0; MOST_OCTETS]);
     let count = pool.read(token, 0, &mut bytes);
     assert_eq!(rt; count, blocks.read(other, 0, &mut others));
     assert_eq!(rt; bytes, others);

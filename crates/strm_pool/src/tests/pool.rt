@@ -70,3 +70,12 @@ fn drains_a_message_held_twice_once(rt: HostRuntime) {
     one.end();
     two.end();
 }
+
+#[test]
+fn lends_its_parts(rt: HostRuntime) {
+    let (a, b) = (reg(&rt, b'a'), reg(&rt, b'b'));
+    let mut one = holding(&rt, rt.alloc(), 7);
+    one.done(&rt, &[Call::Dupb(a, b), Call::Putq(0, b)], &[Some(0), None]);
+    one.assert_lent(&rt, 1, 2);
+    one.end();
+}

@@ -1,9 +1,9 @@
 //! How many messages a queue has, and the bytes of these, by band.
-ghost use Rattle.std.specs.Prelude.{◌≡◌, ◌<◌, ◌∷◌, ◌++◌, ◌^◌, ℕ, IsSome, List, length, nat_le, sum};
+ghost use Rattle.std.specs.Prelude.{◌≡◌, ◌<◌, ◌∷◌, ◌++◌, ◌^◌, ℕ, IsSome, List, length, sum};
 ghost use Rattle.strm_mblk.specs.Arena.{Arena, shelf_at};
 ghost use Rattle.strm_mblk.specs.Block.{Message, head_of};
 ghost use Rattle.strm_mblk.specs.Shelves.{shelf_of};
-ghost use Rattle.strm_queue.specs.Flow.{band_count, band_of_rank, bytes_on, spec_at};
+ghost use Rattle.strm_queue.specs.Flow.{band_count, band_of_rank, bytes_on, fills, hiwat_of};
 ghost use Rattle.strm_queue.specs.QueuedBlocks.{AreInOrder};
 ghost use Rattle.strm_queue.specs.Rank.{rank_of};
 
@@ -30,7 +30,7 @@ impl Queues {
     pub(super) fn is_full(&self, queue: u8, band: u8) -> bool
         requires { queue < length self.now.state.specs }
         ensures { (arena : Arena) → AreInOrder self.now arena
-            → result ≡ nat_le (spec_at self.now.state.specs queue).hiwat (band_count arena.store band (shelf_at arena queue)) }
+            → result ≡ fills (hiwat_of self.now.state queue band) (band_count arena.store band (shelf_at arena queue)) }
     {
         self.tally(queue).is_full(band)
     }

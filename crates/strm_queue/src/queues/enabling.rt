@@ -3,7 +3,7 @@ ghost use Rattle.std.specs.Prelude.{◌≡◌, ◌<◌, drop, length};
 ghost use Rattle.std.specs.Option.{ForSome};
 ghost use Rattle.strm_links.specs.Rows as rows;
 ghost use Rattle.strm_queue.specs.Flow as flow;
-ghost use Rattle.strm_queue.specs.Flow.{enabled, enabled_where, marks_at, spec_at};
+ghost use Rattle.strm_queue.specs.Flow.{enabled, enabled_where, flags_at, spec_at};
 
 use super::Queues;
 use crate::limits::HIGH_RANK;
@@ -92,7 +92,7 @@ impl Queues {
     // Whether a message of this rank that is put on a queue enables it.
     pub(super) fn enables_put(&self, queue: u8, rank: u16) -> bool
         requires { queue < length self.now.state.specs }
-        ensures { result ≡ flow.enables_put (marks_at self.now.state queue) rank }
+        ensures { result ≡ flow.enables_put (flags_at self.now.state queue) rank }
     {
         rank == HIGH_RANK || !self.is_off(queue) && (self.is_read(queue) || rank > 0)
     }
@@ -100,7 +100,7 @@ impl Queues {
     // Whether one that is put back does.
     pub(super) fn enables_put_back(&self, queue: u8, rank: u16) -> bool
         requires { queue < length self.now.state.specs }
-        ensures { result ≡ flow.enables_put_back (marks_at self.now.state queue) rank }
+        ensures { result ≡ flow.enables_put_back (flags_at self.now.state queue) rank }
     {
         rank == HIGH_RANK || !self.is_off(queue) && self.is_read(queue)
     }
@@ -108,7 +108,7 @@ impl Queues {
     // Whether one that is inserted does.
     pub(super) fn enables_inserted(&self, queue: u8) -> bool
         requires { queue < length self.now.state.specs }
-        ensures { result ≡ flow.enables_inserted (marks_at self.now.state queue) }
+        ensures { result ≡ flow.enables_inserted (flags_at self.now.state queue) }
     {
         !self.is_off(queue) && self.is_read(queue)
     }

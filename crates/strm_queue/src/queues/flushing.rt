@@ -1,9 +1,10 @@
 //! Messages are flushed.
-ghost use Rattle.std.specs.Prelude.{◌≡◌, ◌<◌, ◌∷◌, ◌++◌, ℕ, IsSome, IsTrue, List, filter, length, map, not};
+ghost use Rattle.std.specs.Prelude.{◌≡◌, ◌<◌, [], ◌∷◌, ◌++◌, ℕ, IsSome, IsTrue, List, filter, length, map, not};
 ghost use Rattle.std.specs.Option.{ForSome};
 ghost use Rattle.strm_links.specs.Rows as rows;
 ghost use Rattle.strm_mblk.specs.Arena.{shelf_at, with_shelf};
 ghost use Rattle.strm_mblk.specs.Block.{Message, head_of};
+ghost use Rattle.strm_mblk.specs.Frame.{LeavesOthers};
 ghost use Rattle.strm_mblk.specs.Given.{answer_of, value_after};
 ghost use Rattle.strm_mblk.specs.Shelves.{shelf_of, stands_on};
 ghost use Rattle.strm_queue.specs.Flush.{carries_data, is_flushed, is_picked, with_freed};
@@ -51,6 +52,7 @@ impl Queues {
         requires { Agrees self.old blocks.old }
         ensures after { together self.new blocks.new ≡ value_after (together self.old blocks.old) (model.flushq queue flush (together self.old blocks.old)) }
         ensures answer { result ≡ answer_of (model.flushq queue flush (together self.old blocks.old)) }
+        ensures others { LeavesOthers [] blocks.old blocks.new }
         ensures agrees { Agrees self.new blocks.new }
     {
         self.flush_band(blocks, queue, None, flush)
@@ -72,12 +74,14 @@ impl Queues {
         requires { Agrees self.old blocks.old }
         ensures after { together self.new blocks.new ≡ value_after (together self.old blocks.old) (model.flushband queue band flush (together self.old blocks.old)) }
         ensures answer { result ≡ answer_of (model.flushband queue band flush (together self.old blocks.old)) }
+        ensures others { LeavesOthers [] blocks.old blocks.new }
         ensures agrees { Agrees self.new blocks.new }
     {
         self.flush_band(blocks, queue, Some(band), flush)
     }
 
     // Frees the messages of a queue, or of one band of it, that a flush takes.
+    #[tactic(auto, using(crate::proofs::moving::Others::others_same))]
     fn flush_band(
         &mut self,
         blocks: &mut Blocks,
@@ -88,6 +92,7 @@ impl Queues {
         requires { Agrees self.old blocks.old }
         ensures after { together self.new blocks.new ≡ value_after (together self.old blocks.old) (model.flushed queue band flush (together self.old blocks.old)) }
         ensures answer { result ≡ answer_of (model.flushed queue band flush (together self.old blocks.old)) }
+        ensures others { LeavesOthers [] blocks.old blocks.new }
         ensures agrees { Agrees self.new blocks.new }
     {
         if !self.has_queue(queue) {

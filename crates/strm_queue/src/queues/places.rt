@@ -8,7 +8,7 @@ ghost use Rattle.strm_mblk.specs.Block.{Message, head_of};
 ghost use Rattle.strm_mblk.specs.BlockCalls.{banded};
 ghost use Rattle.strm_mblk.specs.Messages.{put_before_head};
 ghost use Rattle.strm_mblk.specs.Shelves.{heads_at, shelf_of, stands_on};
-ghost use Rattle.strm_queue.specs.Limits.{ranks};
+ghost use Rattle.strm_queue.specs.Limits.{high_rank, ranks};
 ghost use Rattle.strm_queue.specs.QueuedBlocks.{AreInOrder};
 ghost use Rattle.strm_queue.specs.Rank.{as_queued, is_ordered, put_ahead, put_behind, rank_of};
 
@@ -19,9 +19,9 @@ use strm_mblk::{BlockNo, Blocks, Token};
 
 // The rank of a message whose first block is of this type and band.
 fn rank(kind: MsgType, band: u8) -> u16
-    ensures value { result ≡ (if is_high_priority kind then 256 else band) }
+    ensures value { result ≡ (if is_high_priority kind then high_rank else band) }
     ensures few { result < ranks }
-    ensures high { result ≡ 256 → IsTrue (is_high_priority kind) }
+    ensures high { result ≡ high_rank → IsTrue (is_high_priority kind) }
 {
     if kind.is_high_priority() {
         HIGH_RANK
@@ -30,12 +30,12 @@ fn rank(kind: MsgType, band: u8) -> u16
     }
 }
 
-// The rank of a held message. A rank of 256 means that the message has high priority.
+// The rank of a held message. That of high priority means that the message has it.
 pub(super) fn held_rank(blocks: &Blocks, token: &Token) -> u16
     requires { IsTrue (has blocks.now token.now) }
     ensures value { result ≡ rank_of blocks.now.store (message_at blocks.now token.now.head) }
     ensures few { result < ranks }
-    ensures high { let m = message_at blocks.now token.now.head in result ≡ 256 → as_queued blocks.now.store m ≡ banded 0 m }
+    ensures high { let m = message_at blocks.now token.now.head in result ≡ high_rank → as_queued blocks.now.store m ≡ banded 0 m }
 {
     match blocks.block(token, 0) {
         Ok(first) => rank(first.kind, first.band),

@@ -1,6 +1,7 @@
 //! Messages are put on queues.
-ghost use Rattle.std.specs.Prelude.{◌≡◌, IsTrue};
-ghost use Rattle.strm_mblk.specs.Arena.{has};
+ghost use Rattle.std.specs.Prelude.{◌≡◌, [], ◌∷◌, IsTrue, MatchResult, None};
+ghost use Rattle.strm_mblk.specs.Arena.{has, held_at};
+ghost use Rattle.strm_mblk.specs.Frame.{LeavesOthers};
 ghost use Rattle.strm_mblk.specs.Given.{value_after, answer_of, or_rejected};
 ghost use Rattle.strm_queue.specs.QueueCalls as model;
 ghost use Rattle.strm_queue.specs.QueuedBlocks.{Agrees, together};
@@ -15,11 +16,15 @@ impl Queues {
     /// bands, and its first block gets band 0. Takes a step for each block of the message.
     ///
     /// Rejected as `NoSuchQueue` where there is no such queue; nothing changes then, and the token comes back.
+    #[tactic(auto, using(crate::proofs::moving::Others::others_same))]
     pub fn putq(&mut self, blocks: &mut Blocks, queue: u8, token: Token) -> Result<(), Rejected>
         requires agrees { Agrees self.old blocks.old }
         requires had { IsTrue (has blocks.old token) }
         ensures after { together self.new blocks.new ≡ value_after (together self.old blocks.old) (model.putq queue token.head (together self.old blocks.old)) }
         ensures answer { result ≡ or_rejected token (answer_of (model.putq queue token.head (together self.old blocks.old))) }
+        // A message that was put is held no more, one that is refused still is, and all others are as they were.
+        ensures gone { MatchResult result (λ done. held_at blocks.new token.head ≡ None) (λ rejected. IsTrue (has blocks.new token)) }
+        ensures others { LeavesOthers (token.head ∷ []) blocks.old blocks.new }
         ensures agrees { Agrees self.new blocks.new }
     {
         if !self.has_queue(queue) {
@@ -37,11 +42,15 @@ impl Queues {
     /// all bands, and its first block gets band 0. Takes a step for each block of the message.
     ///
     /// Rejected as `NoSuchQueue` where there is no such queue; nothing changes then, and the token comes back.
+    #[tactic(auto, using(crate::proofs::moving::Others::others_same))]
     pub fn putbq(&mut self, blocks: &mut Blocks, queue: u8, token: Token) -> Result<(), Rejected>
         requires agrees { Agrees self.old blocks.old }
         requires had { IsTrue (has blocks.old token) }
         ensures after { together self.new blocks.new ≡ value_after (together self.old blocks.old) (model.putbq queue token.head (together self.old blocks.old)) }
         ensures answer { result ≡ or_rejected token (answer_of (model.putbq queue token.head (together self.old blocks.old))) }
+        // A message that was put is held no more, one that is refused still is, and all others are as they were.
+        ensures gone { MatchResult result (λ done. held_at blocks.new token.head ≡ None) (λ rejected. IsTrue (has blocks.new token)) }
+        ensures others { LeavesOthers (token.head ∷ []) blocks.old blocks.new }
         ensures agrees { Agrees self.new blocks.new }
     {
         if !self.has_queue(queue) {
@@ -61,6 +70,7 @@ impl Queues {
     ///
     /// Rejected as `NoSuchQueue` where there is no such queue, then as `NoSuchPlace` where it has fewer messages, then as
     /// `BadOrder` where ranks would rise from front to back; nothing changes then, and the token comes back.
+    #[tactic(auto, using(crate::proofs::moving::Others::others_same))]
     pub fn insq(
         &mut self,
         blocks: &mut Blocks,
@@ -72,6 +82,9 @@ impl Queues {
         requires had { IsTrue (has blocks.old token) }
         ensures after { together self.new blocks.new ≡ value_after (together self.old blocks.old) (model.insq queue place token.head (together self.old blocks.old)) }
         ensures answer { result ≡ or_rejected token (answer_of (model.insq queue place token.head (together self.old blocks.old))) }
+        // A message that was put is held no more, one that is refused still is, and all others are as they were.
+        ensures gone { MatchResult result (λ done. held_at blocks.new token.head ≡ None) (λ rejected. IsTrue (has blocks.new token)) }
+        ensures others { LeavesOthers (token.head ∷ []) blocks.old blocks.new }
         ensures agrees { Agrees self.new blocks.new }
     {
         blocks.lawful();

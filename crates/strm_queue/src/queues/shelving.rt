@@ -1,13 +1,14 @@
 //! Messages join a queue and leave it, and what is stored of the queue stays true.
-ghost use Rattle.std.specs.Prelude.{◌≡◌, ◌<◌, IsTrue, None, length};
+ghost use Rattle.std.specs.Prelude.{◌≡◌, ◌<◌, [], ◌∷◌, IsTrue, None, length};
 ghost use Rattle.std.specs.Option.{ForSome};
 ghost use Rattle.strm_mblk.specs.Arena.{has, held_at, message_at, shelf_at, token_of, with_shelf, without_held};
 ghost use Rattle.strm_mblk.specs.Block.{head_of};
 ghost use Rattle.strm_mblk.specs.BlockCalls.{banded};
+ghost use Rattle.strm_mblk.specs.Frame.{LeavesOthers};
 ghost use Rattle.strm_mblk.specs.Messages.{put_before_head};
 ghost use Rattle.strm_mblk.specs.Shelves as model;
 ghost use Rattle.strm_mblk.specs.Shelves.{stands_on};
-ghost use Rattle.strm_queue.specs.Limits.{ranks};
+ghost use Rattle.strm_queue.specs.Limits.{high_rank, ranks};
 ghost use Rattle.strm_queue.specs.QueuedBlocks.{AreInOrder};
 ghost use Rattle.strm_queue.specs.Rank.{as_queued, is_ordered, rank_of};
 
@@ -33,11 +34,13 @@ impl Queues {
         requires had { IsTrue (has blocks.old token) }
         requires rank { rank ≡ rank_of blocks.old.store (message_at blocks.old token.head) }
         requires few { rank < ranks }
-        requires high { let m = message_at blocks.old token.head in rank ≡ 256 → as_queued blocks.old.store m ≡ banded 0 m }
+        requires high { let m = message_at blocks.old token.head in rank ≡ high_rank → as_queued blocks.old.store m ≡ banded 0 m }
         requires before { ForSome before (λ head. IsTrue (stands_on blocks.old queue head)) }
         requires ordered { let m = as_queued blocks.old.store (message_at blocks.old token.head) in
             IsTrue (is_ordered (rank_of blocks.old.store) (put_before_head head_of before m (shelf_at blocks.old queue))) }
         ensures after { blocks.new ≡ with_shelf queue (put_before_head head_of before (as_queued blocks.old.store (message_at blocks.old token.head)) (shelf_at blocks.old queue)) (without_held token.head blocks.old) }
+        ensures gone { held_at blocks.new token.head ≡ None }
+        ensures others { LeavesOthers (token.head ∷ []) blocks.old blocks.new }
         ensures state { self.new.state ≡ self.old.state }
         ensures in_order { AreInOrder self.new blocks.new }
     {
@@ -66,6 +69,7 @@ impl Queues {
         ensures token { result ≡ token_of blocks.new head }
         ensures had { IsTrue (has blocks.new result) }
         ensures unheld { held_at blocks.old head ≡ None }
+        ensures others { LeavesOthers (result.head ∷ []) blocks.old blocks.new }
         ensures state { self.new.state ≡ self.old.state }
         ensures in_order { AreInOrder self.new blocks.new }
     {

@@ -96,8 +96,8 @@ fn reads_commands(rt: HostRuntime) -> Result<(), Fail> {
     let commands =
         "allocb a 10\nwrite b 0 68656aff\n# more\n\nputq 0 a\ngetq 255 z\nfreemsg c\ncensus\n\
         write d 4294967295 -\n";
-    let write = "Write(Reg { place: 1 }, 0, Octets { bytes: [104, 101, 106, 255] })";
-    let write_nothing = "Write(Reg { place: 3 }, 4294967295, Octets { bytes: [] })";
+    let write = "Write(Reg { place: 1 }, 0, ShortList { array: [104, 101, 106, 255] })";
+    let write_nothing = "Write(Reg { place: 3 }, 4294967295, ShortList { array: [] })";
     let calls = [
         (6, "Allocb(Reg { place: 0 }, 10)"),
         (7, write),

@@ -1,5 +1,5 @@
 use Rattle.std.proofs.Common.{refl, rules}
-use Rattle.strm_queue.proofs.Bits.{highest_of, none_up_to, zeros_up_to}
+use Rattle.strm_queue.proofs.bands.Bits.{highest_of, none_up_to, zeros_up_to}
 use Rattle.strm_queue.proofs.band_set.highest_to.Goals as goal
 
 pub returns-then-rest-eq0-clause-none : goal.returns-then-rest-eq0-clause-none

@@ -1,5 +1,5 @@
 use Rattle.std.proofs.Common.{refl, rules}
-use Rattle.strm_queue.proofs.Bits.{lowest_of, none_from}
+use Rattle.strm_queue.proofs.bands.Bits.{lowest_of, none_from}
 use Rattle.strm_queue.proofs.band_set.lowest_from.Goals as goal
 
 pub returns-then-rest-eq0-clause-none : goal.returns-then-rest-eq0-clause-none

@@ -7,17 +7,16 @@ use Rattle.std.proofs.lemmas.List.{with_items_is}
 use Rattle.strm_mblk.specs.declared.blocks.Fields.{Fields}
 use Rattle.strm_mblk.specs.Arena.{Arena, has, shelved_blocks}
 use Rattle.strm_mblk.specs.Block.{size_of}
-use Rattle.strm_mblk.specs.BlocksLayout.{fields_at, message_of}
+use Rattle.strm_mblk.specs.BlocksLayout.{arena_of, fields_at, message_of}
 use Rattle.strm_mblk.specs.Cutting.{IsRun, with_bytes_cut}
 use Rattle.strm_mblk.specs.Given.{value_after}
 use Rattle.strm_mblk.specs.NodeLists.{nodes_at}
 use Rattle.strm_mblk.proofs.layout.Places.{block_some}
 use Rattle.strm_mblk.proofs.trimming.Adjmsg.{IsAdjusted, ahead, ends_small, run_adjusts}
 use Rattle.strm_mblk.proofs.reading.Summing.{nodes_small}
-use Rattle.strm_mblk.proofs.arena.Frame.{leaves_adjmsg}
-use Rattle.strm_mblk.specs.Frame.{LeavesOthers}
+use Rattle.strm_mblk.proofs.arena.Frame.{Leaves, leaves_adjmsg}
+use Rattle.strm_mblk.proofs.blocks.Blocks.adjmsg.Goals.{After-cut, After-self-1}
 use Rattle.strm_mblk.proofs.blocks.Blocks.adjmsg.Goals as goal
-use Rattle.strm_mblk.proofs.blocks.Blocks.adjmsg.Goals.{After-cut}
 
 pub run_in-run-requires-clause-small : goal.run_in-run-requires-clause-small
 run_in-run-requires-clause-small c =
@@ -87,6 +86,12 @@ returns-clause-after c = sym (ap (value_after c.args.self.now) (is_adjusted (goa
 pub returns-clause-had : goal.returns-clause-had
 returns-clause-had c = (is_adjusted (goal.at.returns-clause-had c).After-cut).had
 
+left : (c : After-self-1) → Leaves (c.args.token.now.head ∷ []) c.args.self.now (arena_of c.self.inside.id c.self.inside.data.store (with_items c.self.inside.blocks c.cut.new.blocks).items c.self.inside.chains)
+left c =
+    subst (Leaves (c.args.token.now.head ∷ []) c.args.self.now) (ap (value_after c.args.self.now) (is_adjusted (goal.at.returns-clause-others c).After-cut).done) (leaves_adjmsg c.args.self.now c.args.token.now.head c.args.count)
+
 pub returns-clause-others : goal.returns-clause-others
-returns-clause-others c =
-    subst (LeavesOthers (c.args.token.now.head ∷ []) c.args.self.now) (ap (value_after c.args.self.now) (is_adjusted (goal.at.returns-clause-others c).After-cut).done) (leaves_adjmsg c.args.self.now c.args.token.now.head c.args.count)
+returns-clause-others c = (left c).others
+
+pub returns-clause-shelves : goal.returns-clause-shelves
+returns-clause-shelves c = (left c).shelves

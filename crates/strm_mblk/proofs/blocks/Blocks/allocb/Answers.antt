@@ -1,4 +1,4 @@
-use Rattle.std.proofs.Common.{ap, ◌∙◌, arith, length, subst, sym, Ok, set}
+use Rattle.std.proofs.Common.{[], ◌∷◌, ap, ◌∙◌, arith, length, subst, sym, Ok, set}
 use Rattle.std.specs.Prelude.{is_some}
 use Rattle.strm_data.specs.CountedStore.{after_take}
 use Rattle.strm_mblk.specs.declared.token.TokenValue.{TokenValue}
@@ -8,10 +8,10 @@ use Rattle.strm_mblk.specs.Given.{value_after, answer_map, answer_of}
 use Rattle.strm_mblk.proofs.making.Allocb.{IsAllocated, allocates}
 use Rattle.strm_mblk.proofs.making.BegunAll.{begin_room}
 use Rattle.strm_mblk.proofs.arena.Tokens.{token_had}
-use Rattle.strm_mblk.proofs.arena.Frame.{leaves_allocb, leaves_given}
+use Rattle.strm_mblk.proofs.arena.Frame.{Leaves, leaves_allocb, leaves_given}
 use Rattle.strm_mblk.proofs.layout.Lawful.{parted_inside}
+use Rattle.strm_mblk.proofs.blocks.Blocks.allocb.Goals.{After-self-1, After-token}
 use Rattle.strm_mblk.proofs.blocks.Blocks.allocb.Goals as goal
-use Rattle.strm_mblk.proofs.blocks.Blocks.allocb.Goals.{After-self-1}
 
 pub index_mut-requires : goal.index_mut-requires
 index_mut-requires c =
@@ -50,8 +50,14 @@ pub returns-clause-unheld : goal.returns-clause-unheld
 returns-clause-unheld c =
     ap (λ (t : TokenValue). held_at c.args.self.now t.head) c.token.ensures ∙ (is_allocated (goal.at.returns-clause-unheld c).After-self-1).begun.absent
 
-pub returns-clause-others : goal.returns-clause-others
-returns-clause-others c =
+left : (c : After-token) → Leaves (c.token.result.head ∷ []) c.args.self.now (new_arena (goal.at.returns-clause-others c).After-self-1)
+left c =
     let at = (goal.at.returns-clause-others c).After-self-1 in
     let parted = parted_inside c.self.inside c.self.invariant c.args.self.now c.self.view_is in
     leaves_given c.args.self.now (new_arena at) c.token.result c.unwrap-head.result _ (leaves_allocb c.args.self.now parted c.args.size) (is_allocated at).done c.token.ensures
+
+pub returns-clause-others : goal.returns-clause-others
+returns-clause-others c = (left c).others
+
+pub returns-clause-shelves : goal.returns-clause-shelves
+returns-clause-shelves c = (left c).shelves

@@ -11,8 +11,8 @@ use Rattle.strm_mblk.specs.BlocksLayout.{fields_at, no_fields}
 use Rattle.strm_mblk.specs.Given.{answer_of}
 use Rattle.strm_mblk.specs.NodeLists.{nodes_at}
 use Rattle.strm_mblk.proofs.layout.Places.{IsAt, block_none, block_some}
-use Rattle.strm_mblk.proofs.blocks.Blocks.block.Goals as goal
 use Rattle.strm_mblk.proofs.blocks.Blocks.block.Goals.{After-index-fields}
+use Rattle.strm_mblk.proofs.blocks.Blocks.block.Goals as goal
 
 pub returns-in_default : goal.returns-in_default
 returns-in_default c =

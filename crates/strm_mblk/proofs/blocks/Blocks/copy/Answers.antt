@@ -1,4 +1,4 @@
-use Rattle.std.proofs.Common.{◌≡◌, ℕ, ◌+◌, ◌≤◌, List, true, length, ap, subst, sym, ◌∙◌, Ok, arith, Err, ◌<◌}
+use Rattle.std.proofs.Common.{[], ◌∷◌, ◌≡◌, ℕ, ◌+◌, ◌≤◌, List, true, length, ap, subst, sym, ◌∙◌, Ok, arith, Err, ◌<◌}
 use Rattle.std.specs.Prelude.{is_some, take}
 use Rattle.std.specs.Result.{is_ok}
 use Rattle.std.specs.Vec.{with_items}
@@ -15,12 +15,12 @@ use Rattle.strm_mblk.specs.Given.{value_after, answer_map, answer_of}
 use Rattle.strm_mblk.specs.NodeLists.{nodes_at}
 use Rattle.strm_mblk.proofs.making.BegunBeside.{IsBeside, beside}
 use Rattle.strm_mblk.proofs.making.CopiedMessage.{IsCopied, copied_all}
-use Rattle.strm_mblk.proofs.arena.Heads.{of_blocks, few_free_copied, taken_many}
+use Rattle.strm_mblk.proofs.arena.Heads.{few_free_copied, of_blocks, taken_many}
 use Rattle.strm_mblk.proofs.arena.Tokens.{token_had}
-use Rattle.strm_mblk.proofs.arena.Frame.{leaves_copied, leaves_given}
+use Rattle.strm_mblk.proofs.arena.Frame.{Leaves, leaves_copied, leaves_given}
 use Rattle.strm_mblk.proofs.layout.Lawful.{parted_inside}
+use Rattle.strm_mblk.proofs.blocks.Blocks.copy.Goals.{After-begin_all-head, After-copy_blocks, After-free_len, After-token}
 use Rattle.strm_mblk.proofs.blocks.Blocks.copy.Goals as goal
-use Rattle.strm_mblk.proofs.blocks.Blocks.copy.Goals.{After-begin_all-head, After-copy_blocks, After-free_len}
 
 module _ (c : After-begin_all-head) where
   had : has (arena_in c.self.inside) c.args.token.now ≡ true
@@ -100,11 +100,17 @@ returns-clause-unheld c =
 pub returns-clause-source : goal.returns-clause-source
 returns-clause-source c = (is_copied (goal.at.returns-clause-source c).After-copy_blocks).source
 
-pub returns-clause-others : goal.returns-clause-others
-returns-clause-others c =
+left : (c : After-token) → Leaves (c.token.result.head ∷ []) c.args.self.now (now (goal.at.returns-clause-others c).After-copy_blocks)
+left c =
     let at = (goal.at.returns-clause-others c).After-copy_blocks in
     let parted = parted_inside c.self.inside c.self.invariant c.args.self.now c.self.view_is in
     leaves_given c.args.self.now (now at) c.token.result c.begin_all-head.result _ (leaves_copied c.args.self.now parted _) (is_copied at).done c.token.ensures
+
+pub returns-clause-others : goal.returns-clause-others
+returns-clause-others c = (left c).others
+
+pub returns-clause-shelves : goal.returns-clause-shelves
+returns-clause-shelves c = (left c).shelves
 
 -- ---- too few message blocks are free
 

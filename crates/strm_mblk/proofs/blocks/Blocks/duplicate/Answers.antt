@@ -1,4 +1,4 @@
-use Rattle.std.proofs.Common.{◌≡◌, ℕ, ◌+◌, ◌<◌, ◌≤◌, true, false, not, Bool, List, length, ap, refl, subst, sym, ◌∙◌, Ok, Err, map, take, arith}
+use Rattle.std.proofs.Common.{[], ◌∷◌, ◌≡◌, ℕ, ◌+◌, ◌<◌, ◌≤◌, true, false, not, Bool, List, length, ap, refl, subst, sym, ◌∙◌, Ok, Err, map, take, arith}
 use Rattle.std.specs.Prelude.{is_some, take}
 use Rattle.strm_data.specs.CountedStore.{CountedStore, count_of}
 use Rattle.strm_data.specs.DataStore.{times}
@@ -14,12 +14,12 @@ use Rattle.strm_mblk.specs.Given.{value_after, answer_map, answer_of}
 use Rattle.strm_mblk.specs.NodeLists.{nodes_at}
 use Rattle.strm_mblk.proofs.making.BegunBeside.{IsBeside, beside}
 use Rattle.strm_mblk.proofs.making.Duplicated.{IsDuplicated, duplicates, refused, used}
-use Rattle.strm_mblk.proofs.arena.Heads.{of_blocks, few_free_duplicated, taken_many}
+use Rattle.strm_mblk.proofs.arena.Heads.{few_free_duplicated, of_blocks, taken_many}
 use Rattle.strm_mblk.proofs.arena.Tokens.{token_had}
-use Rattle.strm_mblk.proofs.arena.Frame.{leaves_duplicated, leaves_given}
+use Rattle.strm_mblk.proofs.arena.Frame.{Leaves, leaves_duplicated, leaves_given}
 use Rattle.strm_mblk.proofs.layout.Lawful.{parted_inside}
+use Rattle.strm_mblk.proofs.blocks.Blocks.duplicate.Goals.{After-copy_fields, After-deref, After-deref_mut, After-free_len, After-token, Then-not-give_names}
 use Rattle.strm_mblk.proofs.blocks.Blocks.duplicate.Goals as goal
-use Rattle.strm_mblk.proofs.blocks.Blocks.duplicate.Goals.{After-copy_fields, After-deref, After-deref_mut, Then-not-give_names, After-free_len}
 
 module _ (c : After-deref) where
   had : has (arena_in c.self.inside) c.args.token.now ≡ true
@@ -133,11 +133,17 @@ returns-clause-unheld c =
 pub returns-clause-source : goal.returns-clause-source
 returns-clause-source c = (is_duplicated (goal.at.returns-clause-source c).After-copy_fields).source
 
-pub returns-clause-others : goal.returns-clause-others
-returns-clause-others c =
+left : (c : After-token) → Leaves (c.token.result.head ∷ []) c.args.self.now (now (goal.at.returns-clause-others c).After-copy_fields)
+left c =
     let at = (goal.at.returns-clause-others c).After-copy_fields in
     let parted = parted_inside c.self.inside c.self.invariant c.args.self.now c.self.view_is in
     leaves_given c.args.self.now (now at) c.token.result c.begin_all-head.result _ (leaves_duplicated c.args.self.now parted _) (is_duplicated at).done c.token.ensures
+
+pub returns-clause-others : goal.returns-clause-others
+returns-clause-others c = (left c).others
+
+pub returns-clause-shelves : goal.returns-clause-shelves
+returns-clause-shelves c = (left c).shelves
 
 -- ---- too few message blocks are free
 

@@ -6,8 +6,8 @@ use Rattle.strm_mblk.specs.declared.blocks.Fields.{Fields}
 use Rattle.strm_mblk.specs.Arena.{shelved_blocks}
 use Rattle.strm_mblk.specs.BlocksLayout.{fields_at, no_fields}
 use Rattle.strm_mblk.proofs.pulling.SecondFreed.{IsSecond, IsSecondFreed, frees_second, second_used, seen_second}
+use Rattle.strm_mblk.proofs.blocks.Blocks.free_second.Goals.{After-drop_name, After-index}
 use Rattle.strm_mblk.proofs.blocks.Blocks.free_second.Goals as goal
-use Rattle.strm_mblk.proofs.blocks.Blocks.free_second.Goals.{After-index, After-drop_name}
 
 pub index-requires : goal.index-requires
 index-requires c =

@@ -7,10 +7,10 @@ use Rattle.strm_mblk.specs.BlockCalls.{freeb, unlinkb}
 use Rattle.strm_mblk.specs.Freeing.{spent}
 use Rattle.strm_mblk.proofs.arena.Heads.{IsOneFreed, frees_one}
 use Rattle.strm_mblk.proofs.arena.Tokens.{had_message}
-use Rattle.strm_mblk.proofs.arena.Frame.{leaves_freeb, spent_gone}
-use Rattle.strm_mblk.specs.Frame.{LeavesOthers, head_given}
-use Rattle.strm_mblk.proofs.blocks.Blocks.freeb.Goals as goal
+use Rattle.strm_mblk.proofs.arena.Frame.{Leaves, leaves_freeb, spent_gone}
 use Rattle.strm_mblk.proofs.blocks.Blocks.freeb.Goals.{After-freemsg}
+use Rattle.strm_mblk.specs.Frame.{head_given}
+use Rattle.strm_mblk.proofs.blocks.Blocks.freeb.Goals as goal
 
 is_freed : (c : After-freemsg) → IsOneFreed c.args.self.now c.lawful.ensures.parted c.args.token.head c.unlinkb-rest.new.token (message_at c.args.self.now c.args.token.head)
 is_freed c =
@@ -37,12 +37,18 @@ returns-clause-had c =
     subst (λ o. IfSome o (λ r. has c.freemsg.new.self r ≡ true)) (sym (rest_is c))
     (subst (λ a. IfSome (option_map (token_of (freeb c.args.token.head c.args.self.now).1) (freeb c.args.token.head c.args.self.now).0) (λ r. has a r ≡ true)) (sym (after_is c)) (is_freed c).had)
 
-pub returns-clause-others : goal.returns-clause-others
-returns-clause-others c =
+left : (c : After-freemsg) → Leaves (c.args.token.head ∷ head_given c.unlinkb-rest.result) c.args.self.now c.freemsg.new.self
+left c =
     let h = c.args.token.head in
     let made = freeb h c.args.self.now in
-    subst (λ o. LeavesOthers (h ∷ head_given o) c.args.self.now c.freemsg.new.self) (sym (rest_is c))
-    (subst (LeavesOthers (h ∷ head_given (option_map (token_of made.1) made.0)) c.args.self.now) (sym (after_is c)) (leaves_freeb c.args.self.now made.1 h))
+    subst (λ o. Leaves (h ∷ head_given o) c.args.self.now c.freemsg.new.self) (sym (rest_is c))
+    (subst (Leaves (h ∷ head_given (option_map (token_of made.1) made.0)) c.args.self.now) (sym (after_is c)) (leaves_freeb c.args.self.now made.1 h))
+
+pub returns-clause-others : goal.returns-clause-others
+returns-clause-others c = (left c).others
+
+pub returns-clause-shelves : goal.returns-clause-shelves
+returns-clause-shelves c = (left c).shelves
 
 pub returns-clause-gone : goal.returns-clause-gone
 returns-clause-gone c =

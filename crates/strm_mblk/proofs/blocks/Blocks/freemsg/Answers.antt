@@ -8,11 +8,12 @@ use Rattle.strm_mblk.specs.BlocksLayout.{arena_of, named_by, with_names_dropped}
 use Rattle.strm_mblk.specs.Freeing.{spent}
 use Rattle.strm_mblk.specs.Messages.{held_in}
 use Rattle.strm_mblk.specs.NodeLists.{nodes_at}
-use Rattle.strm_mblk.proofs.freeing.Freemsg.{IsFreed, enough, frees, spent_had, token_held, token_named}
-use Rattle.strm_mblk.proofs.arena.Frame.{leaves_spent}
-use Rattle.strm_mblk.specs.Frame.{LeavesOthers}
-use Rattle.strm_mblk.proofs.blocks.Blocks.freemsg.Goals as goal
+use Rattle.strm_mblk.proofs.arena.Tokens.{spent_had}
+use Rattle.strm_mblk.proofs.layout.Places.{token_held, token_named}
+use Rattle.strm_mblk.proofs.freeing.Freemsg.{IsFreed, enough, frees}
+use Rattle.strm_mblk.proofs.arena.Frame.{Leaves, leaves_spent}
 use Rattle.strm_mblk.proofs.blocks.Blocks.freemsg.Goals.{After-free, After-spend-token}
+use Rattle.strm_mblk.proofs.blocks.Blocks.freemsg.Goals as goal
 
 module _ (c : After-spend-token) (had : c.has-has.result ≡ true) where
   held : held_in c.self.inside.chains.held c.spend-token.result.head ≡ Some (nodes_at c.self.inside.chains c.spend-token.result.head)
@@ -55,5 +56,11 @@ freed_is c = (is_freed c).after ∙ spent_had c.args.self.now c.args.token c.spe
 pub returns-then-has-clause-after : goal.returns-then-has-clause-after
 returns-then-has-clause-after c = freed_is c
 
+left : (c : After-free) → Leaves (c.args.token.head ∷ []) c.args.self.now (arena_of c.self.inside.id c.drop_names.new.stored.store c.self.inside.blocks.items c.free.new.self)
+left c = subst (Leaves (c.args.token.head ∷ []) c.args.self.now) (sym (freed_is c)) (leaves_spent c.args.self.now c.args.token)
+
 pub returns-then-has-clause-others : goal.returns-then-has-clause-others
-returns-then-has-clause-others c = subst (LeavesOthers (c.args.token.head ∷ []) c.args.self.now) (sym (freed_is c)) (leaves_spent c.args.self.now c.args.token)
+returns-then-has-clause-others c = (left c).others
+
+pub returns-then-has-clause-shelves : goal.returns-then-has-clause-shelves
+returns-then-has-clause-shelves c = (left c).shelves

@@ -7,8 +7,8 @@ use Rattle.strm_mblk.specs.Arena.{Arena}
 use Rattle.strm_mblk.specs.Block.{kind_of}
 use Rattle.strm_mblk.specs.BlocksLayout.{fields_at, no_fields}
 use Rattle.strm_mblk.proofs.shelving.Shelving.{IsHead, is_head}
-use Rattle.strm_mblk.proofs.blocks.Blocks.head_kind.Goals as goal
 use Rattle.strm_mblk.proofs.blocks.Blocks.head_kind.Goals.{After-index}
+use Rattle.strm_mblk.proofs.blocks.Blocks.head_kind.Goals as goal
 
 is : (c : After-index) → IsHead c.self.inside.data c.self.inside.blocks.items c.self.inside.chains c.args.self.now c.args.head
 is c = is_head c.self.inside.id c.self.inside.data c.self.inside.blocks.items c.self.inside.chains c.self.invariant.filled c.args.self.now c.self.view_is c.args.head c.requires

@@ -11,8 +11,8 @@ use Rattle.strm_mblk.specs.Shelves.{shelved_message}
 use Rattle.strm_mblk.proofs.shelving.HeadSize.{block_here, few_blocks, head, none_there, seen_at, small}
 use Rattle.strm_mblk.proofs.reading.Summing.{sum_from, sum_past}
 use Rattle.strm_mblk.proofs.shelving.Shelving.{IsHead, is_head}
-use Rattle.strm_mblk.proofs.blocks.Blocks.head_size.Goals as goal
 use Rattle.strm_mblk.proofs.blocks.Blocks.head_size.Goals.{After-index, In-Some}
+use Rattle.strm_mblk.proofs.blocks.Blocks.head_size.Goals as goal
 
 pub loop-block-init : goal.loop-block-init
 loop-block-init c =

@@ -1,8 +1,8 @@
-use Rattle.std.proofs.Common.{◌≡◌, ◌≤◌, subst, ◌+◌, length}
+use Rattle.std.proofs.Common.{◌≡◌, ◌<◌, ◌≤◌, ◌^◌, subst, ◌+◌, length}
 use Rattle.std.specs.List.{All}
 use Rattle.strm_data.specs.CountedStore.{IsKept}
 use Rattle.strm_mblk.specs.Arena.{Arena, IsParted, IsWithin, blocks_in, counted_in, shelved_blocks, held_blocks}
-use Rattle.strm_mblk.proofs.layout.Lawful.{law_few, law_kept, law_parted, law_whole, law_within}
+use Rattle.strm_mblk.proofs.layout.Lawful.{law_bands, law_few, law_kept, law_parted, law_whole, law_within}
 use Rattle.strm_mblk.proofs.blocks.Blocks.lawful.Goals as goal
 use Rattle.strm_mblk.specs.Limits.{most_message_blocks}
 
@@ -20,3 +20,6 @@ returns-clause-within c = subst (λ (a : Arena). All (IsWithin a.store) (blocks_
 
 pub returns-clause-few : goal.returns-clause-few
 returns-clause-few c = subst (λ (a : Arena). length a.held ≤ most_message_blocks) c.self.view_is (law_few c.self.inside.id c.self.inside.data c.self.inside.blocks.items c.self.inside.chains c.self.invariant.filled)
+
+pub returns-clause-bands : goal.returns-clause-bands
+returns-clause-bands c = subst (λ a. All (λ b. b.band < 2 ^ 8) (blocks_in a)) c.self.view_is (law_bands c.self.inside.id c.self.inside.data c.self.inside.blocks.items c.self.inside.chains c.self.invariant.filled)

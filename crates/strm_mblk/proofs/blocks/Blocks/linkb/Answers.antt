@@ -1,13 +1,13 @@
 use Rattle.std.proofs.Common.{◌≡◌, ◌≢◌, ℕ, length, ap, subst, sym, ◌∙◌, [], ◌∷◌}
 use Rattle.strm_mblk.specs.declared.token.TokenValue.{TokenValue}
 use Rattle.strm_mblk.specs.Arena.{shelved_blocks}
+use Rattle.strm_mblk.specs.BlocksLayout.{arena_of}
 use Rattle.strm_mblk.specs.Messages.{joined}
 use Rattle.strm_mblk.specs.NodeLists.{NodeLists}
 use Rattle.strm_mblk.proofs.joining.Linkb.{IsJoined, joins}
-use Rattle.strm_mblk.proofs.arena.Frame.{leaves_linkb}
-use Rattle.strm_mblk.specs.Frame.{LeavesOthers}
-use Rattle.strm_mblk.proofs.blocks.Blocks.linkb.Goals as goal
+use Rattle.strm_mblk.proofs.arena.Frame.{Leaves, leaves_linkb}
 use Rattle.strm_mblk.proofs.blocks.Blocks.linkb.Goals.{After-set_blocks}
+use Rattle.strm_mblk.proofs.blocks.Blocks.linkb.Goals as goal
 
 is_joined : (c : After-set_blocks) → IsJoined c.args.self.now c.self.inside.data c.self.inside.blocks.items c.join.new.self c.self.inside.id c.args.token.now.head c.args.tail.head
 is_joined c =
@@ -27,6 +27,12 @@ invariant_of-self c =
 pub returns-then-head-tail-clause-after : goal.returns-then-head-tail-clause-after
 returns-then-head-tail-clause-after c = (is_joined c).after
 
+left : (c : After-set_blocks) → Leaves (c.args.token.now.head ∷ c.args.tail.head ∷ []) c.args.self.now (arena_of c.self.inside.id c.self.inside.data.store c.self.inside.blocks.items c.join.new.self)
+left c =
+    subst (Leaves (c.args.token.now.head ∷ c.args.tail.head ∷ []) c.args.self.now) (sym (is_joined c).after) (leaves_linkb c.args.self.now c.args.token.now.head c.args.tail.head)
+
 pub returns-then-head-tail-clause-others : goal.returns-then-head-tail-clause-others
-returns-then-head-tail-clause-others c =
-    subst (LeavesOthers (c.args.token.now.head ∷ c.args.tail.head ∷ []) c.args.self.now) (sym (is_joined c).after) (leaves_linkb c.args.self.now c.args.token.now.head c.args.tail.head)
+returns-then-head-tail-clause-others c = (left c).others
+
+pub returns-then-head-tail-clause-shelves : goal.returns-then-head-tail-clause-shelves
+returns-then-head-tail-clause-shelves c = (left c).shelves

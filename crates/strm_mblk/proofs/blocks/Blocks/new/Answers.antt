@@ -2,9 +2,9 @@ use Rattle.std.proofs.Common.{◌≡◌, ap, ◌∙◌, replicate}
 use Rattle.strm_mblk.specs.declared.blocks.Fields.{Fields}
 use Rattle.strm_mblk.specs.BlocksLayout.{no_fields}
 use Rattle.strm_mblk.specs.NodeLists.{opening_nodes}
-use Rattle.strm_mblk.proofs.layout.Opened.{opening_shows, opening_filled, opening_queued}
-use Rattle.strm_mblk.proofs.blocks.Blocks.new.Goals as goal
+use Rattle.strm_mblk.proofs.layout.Opened.{opening_filled, opening_queued, opening_shows}
 use Rattle.strm_mblk.proofs.blocks.Blocks.new.Goals.{In_ok-new-2}
+use Rattle.strm_mblk.proofs.blocks.Blocks.new.Goals as goal
 
 -- each message block is over data block 0, with no bytes
 fields_are : (c : In_ok-new-2) → c.in_ok-vec.field-0.items ≡ replicate c.args.mblks no_fields

@@ -9,20 +9,19 @@ use Rattle.strm_mblk.specs.BlocksLayout.{block_at, fields_at, message_of, no_fie
 use Rattle.strm_mblk.specs.Given.{value_after, answer_of}
 use Rattle.strm_mblk.specs.Messages.{held_in}
 use Rattle.strm_mblk.specs.NodeLists.{nodes_at}
-use Rattle.strm_mblk.specs.Pulling.{drained, gather}
+use Rattle.strm_mblk.specs.Pulling.{drained, pull_front}
 use Rattle.strm_mblk.specs.Trimming.{bytes_asked, pullupmsg, run_of}
-use Rattle.strm_mblk.proofs.pulling.Pulled.{IsPulled, gather_answer, gather_refused, gathered_held, pull_had, pulls, run_most}
-use Rattle.strm_mblk.proofs.pulling.Gathered.{head_held}
+use Rattle.strm_mblk.proofs.pulling.Pulled.{IsPulled, pull_front_answer, pull_front_refused, front_pulled_held, pull_had, pulls, run_most}
+use Rattle.strm_mblk.proofs.pulling.FrontPulled.{head_held}
 use Rattle.strm_mblk.proofs.layout.Rewriting.{held_nodes}
 use Rattle.strm_mblk.proofs.pulling.SecondTaken.{IsHeldHead, seen_head}
 use Rattle.strm_mblk.proofs.layout.Shown.{message_at-seen}
 use Rattle.strm_mblk.proofs.arena.Tokens.{had_message, token_had}
 use Rattle.strm_mblk.proofs.joining.Unlinkb.{token_is}
-use Rattle.strm_mblk.proofs.arena.Frame.{leaves_pullupmsg}
-use Rattle.strm_mblk.specs.Frame.{LeavesOthers}
+use Rattle.strm_mblk.proofs.arena.Frame.{Leaves, leaves_pullupmsg}
 use Rattle.strm_mblk.proofs.layout.Lawful.{parted_inside}
+use Rattle.strm_mblk.proofs.blocks.Blocks.pullupmsg.Goals.{After-from_residual, After-index, After-set_blocks}
 use Rattle.strm_mblk.proofs.blocks.Blocks.pullupmsg.Goals as goal
-use Rattle.strm_mblk.proofs.blocks.Blocks.pullupmsg.Goals.{After-index, After-set_blocks, After-from_residual}
 
 -- ---- the message
 
@@ -83,41 +82,47 @@ returns-then-wanted-len-clause-answer c =
 more : (c : After-index) → c.index.result.now.len < c.in-Some.wanted → (b c).len < c.in-Some.wanted
 more c many = omega (arith, many, len_is c)
 
-pub gather-requires-clause-enough : goal.gather-requires-clause-enough
-gather-requires-clause-enough c =
-    let d = (goal.at.gather-requires-clause-enough c).After-index in
+pub pull_front-requires-clause-enough : goal.pull_front-requires-clause-enough
+pull_front-requires-clause-enough c =
+    let d = (goal.at.pull_front-requires-clause-enough c).After-index in
     omega (arith, enough d, run_most c.args.self.now.store (message_at c.args.self.now c.args.token.now.head))
 
-refused : (c : After-from_residual) → c.from_residual.result ≡ Err c.in_err-gather.field-0.0
+refused : (c : After-from_residual) → c.from_residual.result ≡ Err c.in_err-pull_front.field-0.0
 refused c = search rules
 
-pub returns-in_err-gather-clause-answer : goal.returns-in_err-gather-clause-answer
-returns-in_err-gather-clause-answer c =
-    let d = (goal.at.returns-in_err-gather-clause-answer c).After-index in
-    refused (goal.at.returns-in_err-gather-clause-answer c).After-from_residual
-    ∙ sym c.in_err-gather.was ∙ c.gather.ensures.answer
-    ∙ gather_answer (h d) c.in-Some.wanted (b d) (bs d) c.args.self.now (held d) c.args.count (asked d) (enough d) (more d c.if-wanted-len.false)
+pub returns-in_err-pull_front-clause-answer : goal.returns-in_err-pull_front-clause-answer
+returns-in_err-pull_front-clause-answer c =
+    let d = (goal.at.returns-in_err-pull_front-clause-answer c).After-index in
+    refused (goal.at.returns-in_err-pull_front-clause-answer c).After-from_residual
+    ∙ sym c.in_err-pull_front.was ∙ c.pull_front.ensures.answer
+    ∙ pull_front_answer (h d) c.in-Some.wanted (b d) (bs d) c.args.self.now (held d) c.args.count (asked d) (enough d) (more d c.if-wanted-len.false)
 
-pub returns-in_err-gather-clause-after : goal.returns-in_err-gather-clause-after
-returns-in_err-gather-clause-after c =
-    let d = (goal.at.returns-in_err-gather-clause-after c).After-index in
-    c.gather.ensures.after
-    ∙ gather_refused (h d) c.in-Some.wanted (b d) (bs d) c.args.self.now (held d) c.args.count (asked d) (enough d) (more d c.if-wanted-len.false) c.in_err-gather.field-0.0
-    (sym c.gather.ensures.answer ∙ c.in_err-gather.was)
+pub returns-in_err-pull_front-clause-after : goal.returns-in_err-pull_front-clause-after
+returns-in_err-pull_front-clause-after c =
+    let d = (goal.at.returns-in_err-pull_front-clause-after c).After-index in
+    c.pull_front.ensures.after
+    ∙ pull_front_refused (h d) c.in-Some.wanted (b d) (bs d) c.args.self.now (held d) c.args.count (asked d) (enough d) (more d c.if-wanted-len.false) c.in_err-pull_front.field-0.0
+    (sym c.pull_front.ensures.answer ∙ c.in_err-pull_front.was)
 
-pub returns-in_err-gather-clause-others : goal.returns-in_err-gather-clause-others
-returns-in_err-gather-clause-others c =
-    subst (LeavesOthers (c.args.token.now.head ∷ []) c.args.self.now) (sym (returns-in_err-gather-clause-after c))
+left_refused : (c : After-from_residual) → Leaves (c.args.token.now.head ∷ []) c.args.self.now c.pull_front.new.self
+left_refused c =
+    subst (Leaves (c.args.token.now.head ∷ []) c.args.self.now) (sym (returns-in_err-pull_front-clause-after c))
     (leaves_pullupmsg c.args.self.now (parted_inside c.self.inside c.self.invariant c.args.self.now c.self.view_is) c.args.token.now.head c.args.count)
+
+pub returns-in_err-pull_front-clause-others : goal.returns-in_err-pull_front-clause-others
+returns-in_err-pull_front-clause-others c = (left_refused c).others
+
+pub returns-in_err-pull_front-clause-shelves : goal.returns-in_err-pull_front-clause-shelves
+returns-in_err-pull_front-clause-shelves c = (left_refused c).shelves
 
 -- ---- the first block takes a data block, and the others lose the bytes
 
-module _ (c : After-index) (many : c.index.result.now.len < c.in-Some.wanted) (first : Arena) (first_is : first ≡ value_after c.args.self.now (gather (h c) c.in-Some.wanted c.args.self.now))
-    (u : Unit {0}) (given : answer_of (gather (h c) c.in-Some.wanted c.args.self.now) ≡ Ok u) where
+module _ (c : After-index) (many : c.index.result.now.len < c.in-Some.wanted) (first : Arena) (first_is : first ≡ value_after c.args.self.now (pull_front (h c) c.in-Some.wanted c.args.self.now))
+    (u : Unit {0}) (given : answer_of (pull_front (h c) c.in-Some.wanted c.args.self.now) ≡ Ok u) where
   still_held : is_some (held_at first c.head-head.result) ≡ true
   still_held =
       ap (λ k. is_some (held_at first k)) c.head-head.ensures
-      ∙ ap is_some (gathered_held (h c) c.in-Some.wanted (b c) (bs c) c.args.self.now (held c) c.args.count (asked c) (enough c) (more c many) first first_is u given)
+      ∙ ap is_some (front_pulled_held (h c) c.in-Some.wanted (b c) (bs c) c.args.self.now (held c) c.args.count (asked c) (enough c) (more c many) first first_is u given)
 
   is_pulled : (new : Arena) → new ≡ drained c.head-head.result (c.in-Some.wanted - c.index.result.now.len) (message_at first c.head-head.result) first
       → IsPulled (h c) c.in-Some.wanted c.args.self.now (pullupmsg (h c) c.args.count c.args.self.now) new
@@ -127,22 +132,22 @@ module _ (c : After-index) (many : c.index.result.now.len < c.in-Some.wanted) (f
 
 pub drain-requires-clause-held : goal.drain-requires-clause-held
 drain-requires-clause-held c =
-    still_held (goal.at.drain-requires-clause-held c).After-index c.if-wanted-len.false c.gather.new.self c.gather.ensures.after c.in_ok-gather.field-0
-    (sym c.gather.ensures.answer ∙ c.in_ok-gather.was)
+    still_held (goal.at.drain-requires-clause-held c).After-index c.if-wanted-len.false c.pull_front.new.self c.pull_front.ensures.after c.in_ok-pull_front.field-0
+    (sym c.pull_front.ensures.answer ∙ c.in_ok-pull_front.was)
 
 pub len-requires : goal.len-requires
 len-requires c =
     let is =
-    is_pulled (goal.at.len-requires c).After-index c.if-wanted-len.false c.gather.new.self c.gather.ensures.after c.in_ok-gather.field-0
-    (sym c.gather.ensures.answer ∙ c.in_ok-gather.was) c.drain.new.self c.drain.ensures in
+    is_pulled (goal.at.len-requires c).After-index c.if-wanted-len.false c.pull_front.new.self c.pull_front.ensures.after c.in_ok-pull_front.field-0
+    (sym c.pull_front.ensures.answer ∙ c.in_ok-pull_front.was) c.drain.new.self c.drain.ensures in
     ap (λ k. is_some (held_in c.self-2.inside.chains.held k)) c.head-head.ensures
     ∙ ap is_some (held_nodes c.self-2.inside.id c.self-2.inside.data.store c.self-2.inside.blocks.items c.self-2.inside.chains c.args.token.now.head _ (ap (λ a. held_at a c.args.token.now.head) c.self-2.view_is ∙ is.held)).1.held
 
 module _ (c : After-set_blocks) where
   done : IsPulled c.args.token.now.head c.in-Some.wanted c.args.self.now (pullupmsg c.args.token.now.head c.args.count c.args.self.now) c.drain.new.self
   done =
-      is_pulled (goal.at.returns-clause-token c).After-index c.if-wanted-len.false c.gather.new.self c.gather.ensures.after c.in_ok-gather.field-0
-      (sym c.gather.ensures.answer ∙ c.in_ok-gather.was) c.drain.new.self c.drain.ensures
+      is_pulled (goal.at.returns-clause-token c).After-index c.if-wanted-len.false c.pull_front.new.self c.pull_front.ensures.after c.in_ok-pull_front.field-0
+      (sym c.pull_front.ensures.answer ∙ c.in_ok-pull_front.was) c.drain.new.self c.drain.ensures
 
   -- the token says how many blocks the message has
   token_now : c.set_blocks.new.self ≡ token_of c.drain.new.self c.args.token.now.head
@@ -167,7 +172,13 @@ returns-clause-had c =
     let d = (goal.at.returns-clause-had c).After-set_blocks in
     ap (has c.drain.new.self) (token_now d) ∙ token_had c.drain.new.self c.args.token.now.head _ (done d).held
 
-pub returns-clause-others : goal.returns-clause-others
-returns-clause-others c =
-    subst (LeavesOthers (c.args.token.now.head ∷ []) c.args.self.now) (ap (value_after c.args.self.now) (done (goal.at.returns-clause-others c).After-set_blocks).done)
+left : (c : After-set_blocks) → Leaves (c.args.token.now.head ∷ []) c.args.self.now c.drain.new.self
+left c =
+    subst (Leaves (c.args.token.now.head ∷ []) c.args.self.now) (ap (value_after c.args.self.now) (done (goal.at.returns-clause-others c).After-set_blocks).done)
     (leaves_pullupmsg c.args.self.now (parted_inside c.self.inside c.self.invariant c.args.self.now c.self.view_is) c.args.token.now.head c.args.count)
+
+pub returns-clause-others : goal.returns-clause-others
+returns-clause-others c = (left c).others
+
+pub returns-clause-shelves : goal.returns-clause-shelves
+returns-clause-shelves c = (left c).shelves

@@ -9,9 +9,9 @@ use Rattle.strm_mblk.proofs.reading.Bytes.{IsRead, all_read, bytes_from, length-
 use Rattle.strm_mblk.proofs.lists.ListParts.{put_rest}
 use Rattle.strm_mblk.proofs.lists.Overlaid.{IsLaid, laid_on}
 use Rattle.strm_mblk.proofs.layout.Places.{IsAt, block_reached}
+use Rattle.strm_mblk.proofs.blocks.Blocks.read.Goals.{After-index-fields, After-loop-block}
 use borrow.Rule.Slice.PartMut.{put_mid}
 use Rattle.strm_mblk.proofs.blocks.Blocks.read.Goals as goal
-use Rattle.strm_mblk.proofs.blocks.Blocks.read.Goals.{After-index-fields, After-loop-block}
 
 module _ (c : After-index-fields) where
   -- the block at this step

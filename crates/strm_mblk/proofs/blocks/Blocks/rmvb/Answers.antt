@@ -11,13 +11,13 @@ use Rattle.strm_mblk.specs.Given.{Given, value_after, answer_map, answer_of, or_
 use Rattle.strm_mblk.specs.Messages.{blocks_of}
 use Rattle.strm_mblk.specs.NodeLists.{nodes_at}
 use Rattle.strm_mblk.proofs.arena.Heads.{rmvb_first}
-use Rattle.strm_mblk.proofs.freeing.Freemsg.{token_nodes}
+use Rattle.strm_mblk.proofs.layout.Places.{token_nodes}
 use Rattle.strm_mblk.proofs.joining.TakenOut.{IsTakenOut, is_taken_out, refused_answer}
 use Rattle.strm_mblk.proofs.arena.Tokens.{had_message, token_had}
-use Rattle.strm_mblk.proofs.arena.Frame.{leaves_rmvb}
-use Rattle.strm_mblk.specs.Frame.{LeavesOthers, heads_parted}
+use Rattle.strm_mblk.proofs.arena.Frame.{Leaves, leaves_rmvb}
+use Rattle.strm_mblk.proofs.blocks.Blocks.rmvb.Goals.{After-take_out-node, After-token-2, After-unlinkb-rest, Then-place-blocks}
+use Rattle.strm_mblk.specs.Frame.{heads_parted}
 use Rattle.strm_mblk.proofs.blocks.Blocks.rmvb.Goals as goal
-use Rattle.strm_mblk.proofs.blocks.Blocks.rmvb.Goals.{After-take_out-node, After-unlinkb-rest, Then-place-blocks}
 
 -- ---- block 0
 
@@ -106,12 +106,18 @@ pub returns-clause-unheld : goal.returns-clause-unheld
 returns-clause-unheld c other =
     ap (λ (t : TokenValue). held_at c.args.self.now t.head) c.token.ensures ∙ (is_taken (goal.at.returns-clause-unheld c).After-take_out-node).absent
 
-pub returns-clause-others : goal.returns-clause-others
-returns-clause-others c =
+left : (c : After-token-2) → Leaves (c.args.token.head ∷ c.token.result.head ∷ c.token-2.result.head ∷ []) c.args.self.now (new_arena (goal.at.returns-clause-others c).After-take_out-node)
+left c =
     let d = (goal.at.returns-clause-others c).After-take_out-node in
-    subst (LeavesOthers (c.args.token.head ∷ c.token.result.head ∷ c.token-2.result.head ∷ []) c.args.self.now) (ap (value_after c.args.self.now) (is_taken d).value)
-    (subst (λ r. LeavesOthers (c.args.token.head ∷ heads_parted r) c.args.self.now (value_after c.args.self.now (rmvb c.args.token.head c.args.place c.args.self.now))) (sym (returns-clause-answer c))
+    subst (Leaves (c.args.token.head ∷ c.token.result.head ∷ c.token-2.result.head ∷ []) c.args.self.now) (ap (value_after c.args.self.now) (is_taken d).value)
+    (subst (λ r. Leaves (c.args.token.head ∷ heads_parted r) c.args.self.now (value_after c.args.self.now (rmvb c.args.token.head c.args.place c.args.self.now))) (sym (returns-clause-answer c))
     (leaves_rmvb c.args.self.now (new_arena d) c.args.token c.args.token.head c.args.place))
+
+pub returns-clause-others : goal.returns-clause-others
+returns-clause-others c = (left c).others
+
+pub returns-clause-shelves : goal.returns-clause-shelves
+returns-clause-shelves c = (left c).shelves
 
 pub returns-then-place-eq0-clause-apart : goal.returns-then-place-eq0-clause-apart
 returns-then-place-eq0-clause-apart c =

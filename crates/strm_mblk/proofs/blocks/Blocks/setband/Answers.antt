@@ -2,12 +2,11 @@ use Rattle.std.proofs.Common.{◌≡◌, length, ap, subst, sym, ◌∙◌, set,
 use Rattle.std.proofs.lemmas.List.{get_or_read}
 use Rattle.strm_mblk.specs.Arena.{has, shelved_blocks}
 use Rattle.strm_mblk.specs.declared.blocks.Fields.{Fields}
-use Rattle.strm_mblk.specs.BlocksLayout.{arena_in, fields_at, no_fields}
+use Rattle.strm_mblk.specs.BlocksLayout.{arena_of, arena_in, fields_at, no_fields}
 use Rattle.strm_mblk.proofs.altering.Setband.{IsBanded, bands, head_there}
-use Rattle.strm_mblk.proofs.arena.Frame.{leaves_setband}
-use Rattle.strm_mblk.specs.Frame.{LeavesOthers}
-use Rattle.strm_mblk.proofs.blocks.Blocks.setband.Goals as goal
+use Rattle.strm_mblk.proofs.arena.Frame.{Leaves, leaves_setband}
 use Rattle.strm_mblk.proofs.blocks.Blocks.setband.Goals.{After-self-1}
+use Rattle.strm_mblk.proofs.blocks.Blocks.setband.Goals as goal
 
 is_banded : (c : After-self-1) → IsBanded c.args.self.now c.self.inside.data (set c.self.inside.blocks.items c.head.result (record c.index_mut.result.now { band = c.args.band })) c.self.inside.chains c.self.inside.id c.args.band c.args.token.now
 is_banded c =
@@ -17,7 +16,7 @@ is_banded c =
     let x_is = ap (λ (f : Fields). record f { band = c.args.band }) (read ∙ ap (fields_at c.self.inside.blocks.items) c.head.ensures) in
     subst (λ a. IsBanded a c.self.inside.data (set c.self.inside.blocks.items c.head.result (record c.index_mut.result.now { band = c.args.band })) c.self.inside.chains c.self.inside.id c.args.band c.args.token.now) c.self.view_is
     (subst (λ h. IsBanded (arena_in c.self.inside) c.self.inside.data (set c.self.inside.blocks.items h (record c.index_mut.result.now { band = c.args.band })) c.self.inside.chains c.self.inside.id c.args.band c.args.token.now) (sym c.head.ensures)
-    (bands c.self.inside.id c.self.inside.data c.self.inside.blocks.items c.self.inside.chains c.self.invariant.filled c.args.token.now had c.args.band (record c.index_mut.result.now { band = c.args.band }) x_is))
+    (bands c.self.inside.id c.self.inside.data c.self.inside.blocks.items c.self.inside.chains c.self.invariant.filled c.args.token.now had c.args.band (omega (arith, c.ranges.band)) (record c.index_mut.result.now { band = c.args.band }) x_is))
 
 pub invariant_of-self : goal.invariant_of-self
 invariant_of-self c =
@@ -30,5 +29,11 @@ returns-clause-after c = (is_banded c).after
 pub returns-clause-had : goal.returns-clause-had
 returns-clause-had c = (is_banded c).had
 
+left : (c : After-self-1) → Leaves (c.args.token.now.head ∷ []) c.args.self.now (arena_of c.self.inside.id c.self.inside.data.store (set c.self.inside.blocks.items c.head.result (record c.index_mut.result.now { band = c.args.band })) c.self.inside.chains)
+left c = subst (Leaves (c.args.token.now.head ∷ []) c.args.self.now) (sym (is_banded c).after) (leaves_setband c.args.self.now c.args.token.now.head c.args.band)
+
 pub returns-clause-others : goal.returns-clause-others
-returns-clause-others c = subst (LeavesOthers (c.args.token.now.head ∷ []) c.args.self.now) (sym (is_banded c).after) (leaves_setband c.args.self.now c.args.token.now.head c.args.band)
+returns-clause-others c = (left c).others
+
+pub returns-clause-shelves : goal.returns-clause-shelves
+returns-clause-shelves c = (left c).shelves

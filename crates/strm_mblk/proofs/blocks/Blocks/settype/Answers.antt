@@ -10,14 +10,13 @@ use Rattle.strm_mblk.specs.BlockCalls.{settype}
 use Rattle.strm_mblk.specs.BlocksLayout.{arena_of, block_at, fields_at, no_fields}
 use Rattle.strm_mblk.specs.Given.{value_after, answer_of}
 use Rattle.strm_mblk.specs.NodeLists.{nodes_at}
-use Rattle.strm_mblk.proofs.altering.Alteration.{settype_none, settype_shared, settype_done}
+use Rattle.strm_mblk.proofs.altering.Alteration.{settype_done, settype_none, settype_shared}
 use Rattle.strm_mblk.proofs.layout.Places.{IsAt, block_none, block_some}
 use Rattle.strm_mblk.proofs.layout.Rooms.{HasRooms, filled-over, rooms-kind}
-use Rattle.strm_mblk.proofs.arena.Frame.{leaves_settype}
-use Rattle.strm_mblk.specs.Frame.{LeavesOthers}
+use Rattle.strm_mblk.proofs.arena.Frame.{Leaves, leaves_settype}
 use Rattle.strm_mblk.proofs.arena.Tokens.{had_message}
-use Rattle.strm_mblk.proofs.blocks.Blocks.settype.Goals as goal
 use Rattle.strm_mblk.proofs.blocks.Blocks.settype.Goals.{After-count, After-set_kind, In_default}
+use Rattle.strm_mblk.proofs.blocks.Blocks.settype.Goals as goal
 
 none : (c : In_default) → slice_get (message_at c.args.self.now c.args.token.now.head) c.args.place ≡ None
 none c =
@@ -79,8 +78,14 @@ returns-clause-after c = sym (ap (value_after c.args.self.now) (done c))
 pub returns-clause-answer : goal.returns-clause-answer
 returns-clause-answer c = sym (ap answer_of (done c))
 
-pub returns-clause-others : goal.returns-clause-others
-returns-clause-others c =
+left : (c : After-set_kind) → Leaves (c.args.token.now.head ∷ []) c.args.self.now (arena_of c.self.inside.id c.set_kind.new.self.store c.self.inside.blocks.items c.self.inside.chains)
+left c =
     let message = had_message c.args.self.now c.args.token.now c.requires in
-    subst (LeavesOthers (c.args.token.now.head ∷ []) c.args.self.now) (ap (value_after c.args.self.now) (done c))
+    subst (Leaves (c.args.token.now.head ∷ []) c.args.self.now) (ap (value_after c.args.self.now) (done c))
     (leaves_settype c.args.self.now c.args.token.now.head message.0 message.1.held c.args.place c.args.kind)
+
+pub returns-clause-others : goal.returns-clause-others
+returns-clause-others c = (left c).others
+
+pub returns-clause-shelves : goal.returns-clause-shelves
+returns-clause-shelves c = (left c).shelves

@@ -1,15 +1,17 @@
-use Rattle.std.proofs.Common.{◌<◌, ap, sym, ◌∙◌, arith, length}
+use Rattle.std.proofs.Common.{[], ◌∷◌, ◌≡◌, ◌<◌, ap, refl, subst, sym, ◌∙◌, arith, length}
 use Rattle.strm_links.specs.Rows.{has}
 use Rattle.strm_mblk.specs.declared.token.TokenValue.{TokenValue}
 use Rattle.strm_mblk.specs.Arena as arena
-use Rattle.strm_mblk.specs.Arena.{Arena, held_at, shelved_blocks}
+use Rattle.strm_mblk.specs.Arena.{Arena, held_at}
 use Rattle.strm_mblk.specs.Block.{Message}
-use Rattle.strm_mblk.specs.BlocksLayout.{arena_in}
+use Rattle.strm_mblk.specs.BlocksLayout.{arena_in, arena_of}
+use Rattle.strm_mblk.specs.Frame.{LeavesOthers}
 use Rattle.strm_mblk.specs.Shelves.{heads_at, shelve}
 use Rattle.strm_mblk.proofs.shelving.Shelving.{heads_at-seen, shelve_filled, shelve_queued, shelve_shows, shelving_room}
 use Rattle.strm_mblk.proofs.arena.Tokens.{IsHad, had_message}
-use Rattle.strm_mblk.proofs.blocks.Blocks.shelve.Goals as goal
+use Rattle.strm_mblk.proofs.arena.Frame.{none_at, others_one}
 use Rattle.strm_mblk.proofs.blocks.Blocks.shelve.Goals.{After-len, After-shelve}
+use Rattle.strm_mblk.proofs.blocks.Blocks.shelve.Goals as goal
 
 had : (c : After-len) → (m : Message) × IsHad (arena_in c.self.inside) c.spend-head.result m
 had c = had_message (arena_in c.self.inside) c.spend-head.result (ap (λ (t : TokenValue). arena.has (arena_in c.self.inside) t) c.spend-head.ensures ∙ ap (λ a. arena.has a c.args.token) c.self.view_is ∙ c.requires.had)
@@ -45,12 +47,20 @@ invariant_of-self c =
           );
     }
 
-pub returns : goal.returns
-returns c =
-    let message = had (goal.at.returns c).After-len in
-    record {
-      after =
-          shelve_shows c.self.inside.id c.self.inside.data c.self.inside.blocks.items c.self.inside.chains c.self.invariant.filled c.spend-head.result.head message.0 message.1.held
-          c.from.result c.args.before c.shelve.new.self (within c) c.shelve.ensures.after c.shelve.ensures.parted
-          ∙ (λ i. shelve (c.from.ensures i) c.args.before (c.spend-head.ensures i).head (c.self.view_is i));
-    }
+after_is : (c : After-shelve) → arena_of c.self.inside.id c.self.inside.data.store c.self.inside.blocks.items c.shelve.new.self ≡ shelve c.args.shelf c.args.before c.args.token.head c.args.self.now
+after_is c =
+    let message = had (goal.at.returns-clause-after c).After-len in
+    shelve_shows c.self.inside.id c.self.inside.data c.self.inside.blocks.items c.self.inside.chains c.self.invariant.filled c.spend-head.result.head message.0 message.1.held
+    c.from.result c.args.before c.shelve.new.self (within c) c.shelve.ensures.after c.shelve.ensures.parted
+    ∙ (λ i. shelve (c.from.ensures i) c.args.before (c.spend-head.ensures i).head (c.self.view_is i))
+
+pub returns-clause-after : goal.returns-clause-after
+returns-clause-after c = after_is c
+
+pub returns-clause-gone : goal.returns-clause-gone
+returns-clause-gone c = ap (λ a. held_at a c.args.token.head) (after_is c) ∙ none_at c.args.self.now.held c.args.token.head
+
+pub returns-clause-others : goal.returns-clause-others
+returns-clause-others c =
+    subst (LeavesOthers (c.args.token.head ∷ []) c.args.self.now) (sym (after_is c))
+    (others_one c.args.self.now (shelve c.args.shelf c.args.before c.args.token.head c.args.self.now) c.args.token.head _ refl refl)

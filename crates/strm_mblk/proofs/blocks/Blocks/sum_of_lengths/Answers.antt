@@ -8,9 +8,9 @@ use Rattle.strm_mblk.specs.Block.{len_counted, size_of}
 use Rattle.strm_mblk.specs.BlocksLayout.{block_at, block_of, no_fields}
 use Rattle.strm_mblk.specs.NodeLists.{nodes_at}
 use Rattle.strm_mblk.proofs.layout.Places.{IsAt, block_reached}
-use Rattle.strm_mblk.proofs.reading.Summing.{sum_from, counted_most, message_small}
-use Rattle.strm_mblk.proofs.blocks.Blocks.sum_of_lengths.Goals as goal
+use Rattle.strm_mblk.proofs.reading.Summing.{counted_most, message_small, sum_from}
 use Rattle.strm_mblk.proofs.blocks.Blocks.sum_of_lengths.Goals.{After-length_of-sum}
+use Rattle.strm_mblk.proofs.blocks.Blocks.sum_of_lengths.Goals as goal
 use Rattle.strm_mblk.specs.Limits.{most_message_blocks}
 
 module _ (c : After-length_of-sum) where

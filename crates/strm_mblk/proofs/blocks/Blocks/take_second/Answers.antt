@@ -9,8 +9,8 @@ use Rattle.strm_mblk.specs.Pulling.{second_taken, with_second_cut, with_second_f
 use Rattle.strm_mblk.proofs.layout.Places.{block-get, block_none}
 use Rattle.strm_mblk.proofs.pulling.SecondFreed.{IsSecond, is_second}
 use Rattle.strm_mblk.proofs.pulling.SecondTaken.{IsSecondCut, cuts_second, end_small, seen_head, taken_none, taken_part, taken_whole}
+use Rattle.strm_mblk.proofs.blocks.Blocks.take_second.Goals.{After-index-fields, In_default}
 use Rattle.strm_mblk.proofs.blocks.Blocks.take_second.Goals as goal
-use Rattle.strm_mblk.proofs.blocks.Blocks.take_second.Goals.{In_default, After-index-fields}
 
 module _ (c : In_default) where
   none : second_taken c.args.head c.args.count (message_at c.args.self.now c.args.head) c.args.self.now ≡ (0, c.args.self.now)

@@ -6,13 +6,13 @@ use Rattle.strm_mblk.specs.BlockCalls.{unlinkb}
 use Rattle.strm_mblk.specs.BlocksLayout.{arena_of}
 use Rattle.strm_mblk.specs.Messages.{blocks_of, divided}
 use Rattle.strm_mblk.specs.NodeLists.{NodeLists, nodes_at}
-use Rattle.strm_mblk.proofs.freeing.Freemsg.{token_held}
+use Rattle.strm_mblk.proofs.layout.Places.{token_held}
 use Rattle.strm_mblk.proofs.arena.Tokens.{had_message, token_had}
 use Rattle.strm_mblk.proofs.joining.Unlinkb.{IsDivided, divides, token_is}
-use Rattle.strm_mblk.proofs.arena.Frame.{leaves_unlinkb}
-use Rattle.strm_mblk.specs.Frame.{LeavesOthers, head_given}
-use Rattle.strm_mblk.proofs.blocks.Blocks.unlinkb.Goals as goal
+use Rattle.strm_mblk.proofs.arena.Frame.{Leaves, leaves_unlinkb}
 use Rattle.strm_mblk.proofs.blocks.Blocks.unlinkb.Goals.{After-set_blocks, After-token}
+use Rattle.strm_mblk.specs.Frame.{head_given}
+use Rattle.strm_mblk.proofs.blocks.Blocks.unlinkb.Goals as goal
 
 is_divided : (c : After-set_blocks) → IsDivided c.args.self.now c.self.inside.data c.self.inside.blocks.items c.divide.new.self c.self.inside.id c.args.token.now.head c.in_ok-rest.rest
 is_divided c =
@@ -60,10 +60,16 @@ pub returns-clause-unheld : goal.returns-clause-unheld
 returns-clause-unheld c =
     ap (λ (t : TokenValue). held_at c.args.self.now t.head) c.token.ensures ∙ (is_divided (goal.at.returns-clause-unheld c).After-set_blocks).absent
 
-pub returns-clause-others : goal.returns-clause-others
-returns-clause-others c =
+left : (c : After-token) → Leaves (c.args.token.now.head ∷ c.token.result.head ∷ []) c.args.self.now (new_arena (goal.at.returns-clause-others c).After-set_blocks)
+left c =
     let d = (goal.at.returns-clause-others c).After-set_blocks in
     let h = c.args.token.now.head in
-    subst (λ g. LeavesOthers (h ∷ g ∷ []) c.args.self.now (new_arena d)) (ap (λ (t : TokenValue). t.head) (sym c.token.ensures))
-    (subst (LeavesOthers (h ∷ c.in_ok-rest.rest ∷ []) c.args.self.now) (sym (is_divided d).after)
-    (subst (λ o. LeavesOthers (h ∷ head_given (option_map (token_of (new_arena d)) o)) c.args.self.now (unlinkb h c.args.self.now).1) (is_divided d).given (leaves_unlinkb c.args.self.now (new_arena d) h)))
+    subst (λ g. Leaves (h ∷ g ∷ []) c.args.self.now (new_arena d)) (ap (λ (t : TokenValue). t.head) (sym c.token.ensures))
+    (subst (Leaves (h ∷ c.in_ok-rest.rest ∷ []) c.args.self.now) (sym (is_divided d).after)
+    (subst (λ o. Leaves (h ∷ head_given (option_map (token_of (new_arena d)) o)) c.args.self.now (unlinkb h c.args.self.now).1) (is_divided d).given (leaves_unlinkb c.args.self.now (new_arena d) h)))
+
+pub returns-clause-others : goal.returns-clause-others
+returns-clause-others c = (left c).others
+
+pub returns-clause-shelves : goal.returns-clause-shelves
+returns-clause-shelves c = (left c).shelves

@@ -1,15 +1,17 @@
-use Rattle.std.proofs.Common.{◌≡◌, ap, subst, sym, true, ◌∙◌, arith, length}
+use Rattle.std.proofs.Common.{[], ◌∷◌, ◌≡◌, ap, refl, subst, sym, true, ◌∙◌, arith, length}
 use Rattle.std.specs.Prelude.{is_some}
 use Rattle.strm_links.specs.Rows.{has}
 use Rattle.strm_mblk.specs.Arena as arena
-use Rattle.strm_mblk.specs.Arena.{Arena, held_at, shelved_blocks}
+use Rattle.strm_mblk.specs.Arena.{Arena, shelved_blocks}
 use Rattle.strm_mblk.specs.BlocksLayout.{arena_in, arena_of}
-use Rattle.strm_mblk.specs.Shelves.{heads_at}
+use Rattle.strm_mblk.specs.Frame.{LeavesOthers}
+use Rattle.strm_mblk.specs.Shelves.{heads_at, unshelve}
 use Rattle.strm_mblk.proofs.layout.Rewriting.{held_nodes}
 use Rattle.strm_mblk.proofs.shelving.Shelving.{IsUnshelved, heads_at-seen, unshelves}
 use Rattle.strm_mblk.proofs.arena.Tokens.{token_had}
-use Rattle.strm_mblk.proofs.blocks.Blocks.unshelve.Goals as goal
+use Rattle.strm_mblk.proofs.arena.Frame.{others_one}
 use Rattle.strm_mblk.proofs.blocks.Blocks.unshelve.Goals.{After-from, After-unshelve}
+use Rattle.strm_mblk.proofs.blocks.Blocks.unshelve.Goals as goal
 
 -- the message stands on the shelf
 there : (c : After-from) → has c.args.head (heads_at (arena_in c.self.inside) c.from.result) ≡ true
@@ -60,3 +62,6 @@ returns-clause-had c =
 
 pub returns-clause-unheld : goal.returns-clause-unheld
 returns-clause-unheld c = (is_unshelved (goal.at.returns-clause-unheld c).After-unshelve).unheld
+
+pub returns-clause-others : goal.returns-clause-others
+returns-clause-others c = subst (LeavesOthers (c.args.head ∷ []) c.args.self.now) (sym (is_unshelved (goal.at.returns-clause-others c).After-unshelve).after) (others_one c.args.self.now (unshelve c.args.shelf c.args.head c.args.self.now) c.args.head _ refl refl)

@@ -7,17 +7,16 @@ use Rattle.strm_data.specs.declared.refusal.Refusal.TheVariants.{NoRoom, Shared}
 use Rattle.strm_mblk.specs.declared.blocks.Fields.{Fields}
 use Rattle.strm_mblk.specs.Arena.{Arena, has, names_of, message_at, shelved_blocks}
 use Rattle.strm_mblk.specs.BlockCalls.{write}
-use Rattle.strm_mblk.specs.BlocksLayout.{arena_in, block_at, fields_at, no_fields}
+use Rattle.strm_mblk.specs.BlocksLayout.{arena_of, arena_in, block_at, fields_at, no_fields}
 use Rattle.strm_mblk.specs.Given.{value_after, answer_of}
 use Rattle.strm_mblk.specs.NodeLists.{nodes_at}
-use Rattle.strm_mblk.proofs.altering.Alteration.{write_none, write_shared, write_full}
+use Rattle.strm_mblk.proofs.altering.Alteration.{write_full, write_none, write_shared}
 use Rattle.strm_mblk.proofs.layout.Places.{IsAt, block_none, block_some}
 use Rattle.strm_mblk.proofs.altering.Writing.{IsWritten, writes}
-use Rattle.strm_mblk.proofs.arena.Frame.{leaves_write}
-use Rattle.strm_mblk.specs.Frame.{LeavesOthers}
+use Rattle.strm_mblk.proofs.arena.Frame.{Leaves, leaves_write}
 use Rattle.strm_mblk.proofs.arena.Tokens.{had_message}
-use Rattle.strm_mblk.proofs.blocks.Blocks.write.Goals as goal
 use Rattle.strm_mblk.proofs.blocks.Blocks.write.Goals.{After-count, After-self-1, In_default}
+use Rattle.strm_mblk.proofs.blocks.Blocks.write.Goals as goal
 
 none : (c : In_default) → slice_get (message_at c.args.self.now c.args.token.now.head) c.args.place ≡ None
 none c =
@@ -124,8 +123,14 @@ returns-clause-answer c = sym (ap answer_of (is_written c).done)
 pub returns-clause-had : goal.returns-clause-had
 returns-clause-had c = (is_written c).had
 
-pub returns-clause-others : goal.returns-clause-others
-returns-clause-others c =
+left : (c : After-self-1) → Leaves (c.args.token.now.head ∷ []) c.args.self.now (arena_of c.self.inside.id c.write.new.self.store (set c.self.inside.blocks.items c.in-Some.node (record c.index_mut.result.now { len = c.index-fields.result.now.len + length c.args.bytes.now })) c.self.inside.chains)
+left c =
     let message = had_message c.args.self.now c.args.token.now c.requires in
-    subst (LeavesOthers (c.args.token.now.head ∷ []) c.args.self.now) (ap (value_after c.args.self.now) (is_written c).done)
+    subst (Leaves (c.args.token.now.head ∷ []) c.args.self.now) (ap (value_after c.args.self.now) (is_written c).done)
     (leaves_write c.args.self.now c.args.token.now.head message.0 message.1.held c.args.place c.args.bytes.now)
+
+pub returns-clause-others : goal.returns-clause-others
+returns-clause-others c = (left c).others
+
+pub returns-clause-shelves : goal.returns-clause-shelves
+returns-clause-shelves c = (left c).shelves

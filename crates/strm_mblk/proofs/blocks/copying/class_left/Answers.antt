@@ -2,8 +2,8 @@ use Rattle.std.proofs.Common.{ap, sym, ◌∙◌, arith, inl, inr, get_or}
 use Rattle.std.proofs.lemmas.Bool.{cases_eq, cases_lt}
 use Rattle.strm_data.specs.DataStore.{no_class_spec}
 use Rattle.strm_mblk.proofs.making.ClassesLeft.{IsTold, told, untold}
+use Rattle.strm_mblk.proofs.blocks.copying.class_left.Goals.{In-Some, else-info-size-via-else-info-size, else-info-size-via-then-info-size+else-left-from-gt0}
 use Rattle.strm_mblk.proofs.blocks.copying.class_left.Goals as goal
-use Rattle.strm_mblk.proofs.blocks.copying.class_left.Goals.{In-Some, else-info-size-via-then-info-size+else-left-from-gt0, else-info-size-via-else-info-size}
 
 -- what is told of the class at this step
 tells : (c : In-Some) → IsTold c.args.stored.now.store c.loop-class.class c.in-Some.info

@@ -10,8 +10,8 @@ use Rattle.strm_mblk.specs.BlocksLayout.{block_at, fields_at, message_of}
 use Rattle.strm_mblk.specs.Copying.{IsLeft}
 use Rattle.strm_mblk.specs.NodeLists.{nodes_at}
 use Rattle.strm_mblk.proofs.making.CopiesCounted.{IsAhead, IsInside, next_ahead, next_block, none_ahead}
-use Rattle.strm_mblk.proofs.blocks.copying.copies_fit.Goals as goal
 use Rattle.strm_mblk.proofs.blocks.copying.copies_fit.Goals.{After-class_left}
+use Rattle.strm_mblk.proofs.blocks.copying.copies_fit.Goals as goal
 
 module _ (c : After-class_left) where
   abbrev bs : List Block

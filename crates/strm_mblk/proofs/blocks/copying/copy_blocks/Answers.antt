@@ -11,10 +11,10 @@ use Rattle.strm_mblk.specs.NodeLists.{nodes_at}
 use Rattle.strm_mblk.proofs.making.CopiesCounted.{next_block}
 use Rattle.strm_mblk.proofs.making.CopiedBlocks.{IsCopying, next_copied, next_fits, none_copied, source_stays}
 use Rattle.strm_mblk.proofs.layout.Places.{nodes_room}
-use Rattle.strm_mblk.proofs.layout.Rewriting.{times_at}
+use Rattle.strm_mblk.proofs.lists.Numbers.{times_at}
 use Rattle.strm_mblk.proofs.layout.Rooms.{placed-over}
-use Rattle.strm_mblk.proofs.blocks.copying.copy_blocks.Goals as goal
 use Rattle.strm_mblk.proofs.blocks.copying.copy_blocks.Goals.{In-loop-block}
+use Rattle.strm_mblk.proofs.blocks.copying.copy_blocks.Goals as goal
 
 pub loop-block-init : goal.loop-block-init
 loop-block-init c = record {
@@ -82,7 +82,7 @@ loop-block-preserved c =
     (ap (λ (f : Fields). take_data (capacity_of c.loop-block.stored.store f.data_number) c.loop-block.stored.store) (sym (said before)) ∙ c.copy_data.ensures.taken)
     c.copy_data.ensures.unused
     (omega (arith, ap (λ (f : Fields). capacity_of c.loop-block.stored.store f.data_number) (said before), c.copy_data.ensures.room))
-    (placed before).within (written_at before) in
+    (placed before) (written_at before) in
     record {
       read = c.onward-read.ensures.held c.args.from c.loop-block._block c.loop-block.invariant.read;
       written = c.onward-written.ensures.held c.args.into c.loop-block._block c.loop-block.invariant.written;

@@ -5,8 +5,8 @@ use Rattle.strm_mblk.specs.BlocksLayout.{fields_at, named_by, with_names_given}
 use Rattle.strm_mblk.specs.NodeLists.{nodes_at}
 use Rattle.strm_mblk.proofs.freeing.Dropping.{named-get}
 use Rattle.strm_mblk.proofs.making.Giving.{back_now, few_now, named_now, next_full, next_given, next_used, store_now}
-use Rattle.strm_mblk.proofs.blocks.duplicating.give_names.Goals as goal
 use Rattle.strm_mblk.proofs.blocks.duplicating.give_names.Goals.{After-loop-given, In-loop-given}
+use Rattle.strm_mblk.proofs.blocks.duplicating.give_names.Goals as goal
 
 module _ (c : In-loop-given) where
   abbrev d : ℕ

@@ -2,9 +2,10 @@ use Rattle.std.proofs.Common.{◌≡◌, ℕ, ◌+◌, List, Some, arith, ◌∙
 use Rattle.std.specs.Prelude.{slice_get, take}
 use Rattle.strm_mblk.specs.BlocksLayout.{fields_at, named_by}
 use Rattle.strm_mblk.specs.NodeLists.{nodes_at}
-use Rattle.strm_mblk.proofs.freeing.Dropping.{IsDropping, named-get, next_dropping, next_used, slice_get-take}
-use Rattle.strm_mblk.proofs.blocks.freeing.drop_names.Goals as goal
+use Rattle.strm_mblk.proofs.lists.Numbers.{slice_get-take}
+use Rattle.strm_mblk.proofs.freeing.Dropping.{IsDropping, named-get, next_dropping, next_used}
 use Rattle.strm_mblk.proofs.blocks.freeing.drop_names.Goals.{In-loop-block}
+use Rattle.strm_mblk.proofs.blocks.freeing.drop_names.Goals as goal
 
 module _ (c : In-loop-block) where
   -- the data blocks whose names are dropped

@@ -1,8 +1,8 @@
 use Rattle.std.proofs.Common.{arith}
 use Rattle.std.proofs.lemmas.Option.{IfSome_then}
-use Rattle.strm_mblk.proofs.links.Parted.{IsNodesParted-chained}
-use Rattle.strm_mblk.proofs.links.Replaced.{begun}
-use Rattle.strm_mblk.proofs.links.Readings.{within}
+use Rattle.strm_mblk.proofs.chaining.Parted.{IsNodesParted-chained}
+use Rattle.strm_mblk.proofs.chaining.Replaced.{begun}
+use Rattle.strm_mblk.proofs.chaining.Readings.{within}
 use Rattle.strm_mblk.proofs.chains.Chains.begin.Goals as goal
 
 pub invariant_of-self : goal.invariant_of-self

@@ -1,5 +1,5 @@
-use Rattle.strm_mblk.proofs.links.Parted.{IsNodesParted-chained}
-use Rattle.strm_mblk.proofs.links.Replaced.{begun_all}
+use Rattle.strm_mblk.proofs.chaining.Parted.{IsNodesParted-chained}
+use Rattle.strm_mblk.proofs.chaining.Replaced.{begun_all}
 use Rattle.strm_mblk.proofs.chains.Chains.begin_all.Goals as goal
 
 pub invariant_of-self : goal.invariant_of-self

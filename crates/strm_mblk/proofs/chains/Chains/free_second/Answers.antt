@@ -1,6 +1,6 @@
-use Rattle.strm_mblk.proofs.links.Parted.{IsNodesParted-chained}
-use Rattle.strm_mblk.proofs.links.Replaced.{frees_second}
-use Rattle.strm_mblk.proofs.links.Readings.{off, strand_there}
+use Rattle.strm_mblk.proofs.chaining.Parted.{IsNodesParted-chained}
+use Rattle.strm_mblk.proofs.chaining.Replaced.{frees_second}
+use Rattle.strm_mblk.proofs.chaining.Readings.{off, strand_there}
 use Rattle.strm_mblk.proofs.chains.Chains.free_second.Goals as goal
 
 pub free_second-requires : goal.free_second-requires

@@ -1,5 +1,5 @@
-use Rattle.strm_mblk.proofs.links.Opened.{IsChained-opened, opened_is}
-use Rattle.strm_mblk.proofs.links.Parted.{IsNodesParted-chained}
+use Rattle.strm_mblk.proofs.chaining.Opened.{IsChained-opened, opened_is}
+use Rattle.strm_mblk.proofs.chaining.Parted.{IsNodesParted-chained}
 use Rattle.strm_mblk.proofs.chains.Chains.new.Goals as goal
 
 pub invariant_of-result : goal.invariant_of-result

@@ -2,7 +2,7 @@ use Rattle.std.proofs.Common.{ℕ, ◌+◌, ◌<◌, Option, None, Some, length,
 use Rattle.std.specs.Option.{IfSome, unwrap_or}
 use Rattle.std.proofs.lemmas.Option.{slice_get-get_or, unwrap_or-slice_get}
 use Rattle.strm_mblk.specs.NodeLists.{nodes_at}
-use Rattle.strm_mblk.proofs.links.Readings.{next_held, within}
+use Rattle.strm_mblk.proofs.chaining.Readings.{next_held, within}
 use Rattle.strm_mblk.proofs.chains.Chains.onward.Goals as goal
 
 pub next-requires : goal.next-requires

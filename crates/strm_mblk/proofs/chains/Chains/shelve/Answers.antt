@@ -4,11 +4,11 @@ use Rattle.strm_links.specs.Rows.{holder, list_at}
 use Rattle.strm_links.proofs.AllLists.{holder_has}
 use Rattle.strm_mblk.specs.Messages.{shelf_in, put_before_head}
 use Rattle.strm_mblk.specs.NodeLists.{head_node, nodes_at}
-use Rattle.strm_mblk.proofs.links.OnShelves.{placed_in, reheaded_is, reheaded_laid, room_of}
-use Rattle.strm_mblk.proofs.links.Parted.{IsNodesParted-chained}
-use Rattle.strm_mblk.proofs.links.Readings.{head_node-strand, nodes_is, off, shelf_is, shelved_at, shelves_within, strand_there}
-use Rattle.strm_mblk.proofs.chains.Chains.shelve.Goals as goal
+use Rattle.strm_mblk.proofs.chaining.OnShelves.{placed_in, reheaded_is, reheaded_laid, room_of}
+use Rattle.strm_mblk.proofs.chaining.Parted.{IsNodesParted-chained}
+use Rattle.strm_mblk.proofs.chaining.Readings.{head_node-strand, nodes_is, off, shelf_is, shelved_at, shelves_within, strand_there}
 use Rattle.strm_mblk.proofs.chains.Chains.shelve.Goals.{After-self}
+use Rattle.strm_mblk.proofs.chains.Chains.shelve.Goals as goal
 
 -- the one that it comes before stands on the shelf
 there : (c : After-self) (at : ℕ) → c.args.before ≡ Some at → holder at c.self.inside.heads ≡ Some c.args.shelf

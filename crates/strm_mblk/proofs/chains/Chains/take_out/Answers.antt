@@ -3,11 +3,11 @@ use Rattle.std.specs.Prelude.{slice_get}
 use Rattle.std.proofs.lemmas.Option.{slice_get-get_or}
 use Rattle.strm_links.specs.StrandLists.{strand_at}
 use Rattle.strm_mblk.specs.NodeLists.{nodes_at}
-use Rattle.strm_mblk.proofs.links.Parted.{IsNodesParted-chained}
-use Rattle.strm_mblk.proofs.links.Replaced.{there, takes_out}
-use Rattle.strm_mblk.proofs.links.Readings.{nodes_is, off, strand_there}
-use Rattle.strm_mblk.proofs.chains.Chains.take_out.Goals as goal
+use Rattle.strm_mblk.proofs.chaining.Parted.{IsNodesParted-chained}
+use Rattle.strm_mblk.proofs.chaining.Replaced.{takes_out, there}
+use Rattle.strm_mblk.proofs.chaining.Readings.{nodes_is, off, strand_there}
 use Rattle.strm_mblk.proofs.chains.Chains.take_out.Goals.{After-self}
+use Rattle.strm_mblk.proofs.chains.Chains.take_out.Goals as goal
 
 nodes : (c : After-self) → nodes_at c.args.self.now c.args.head ≡ strand_at c.self.inside.strands c.args.head
 nodes c = nodes_is _ _ c.self.invariant _ c.self.view_is c.args.head c.requires.held

@@ -5,12 +5,12 @@ use Rattle.strm_links.specs.Held.{held_in}
 use Rattle.strm_links.proofs.AllLists.{holder_has, map-without}
 use Rattle.strm_mblk.specs.Messages.{shelf_in, with_head, without_head}
 use Rattle.strm_mblk.specs.NodeLists.{head_node}
-use Rattle.strm_mblk.proofs.links.OnShelves.{reheaded_is, reheaded_laid, with-map, without-map}
-use Rattle.strm_mblk.proofs.links.Parted.{IsNodesParted-chained}
-use Rattle.strm_mblk.proofs.links.Replaced.{there}
-use Rattle.strm_mblk.proofs.links.Readings.{head_node-strand, shelf_is, shelved_at}
+use Rattle.strm_mblk.proofs.chaining.OnShelves.{reheaded_is, reheaded_laid, with-map, without-map}
+use Rattle.strm_mblk.proofs.chaining.Parted.{IsNodesParted-chained}
+use Rattle.strm_mblk.proofs.chaining.Replaced.{there}
+use Rattle.strm_mblk.proofs.chaining.Readings.{head_node-strand, shelf_is, shelved_at}
+use Rattle.strm_mblk.proofs.chains.Chains.unshelve.Goals.{After-remove, After-self}
 use Rattle.strm_mblk.proofs.chains.Chains.unshelve.Goals as goal
-use Rattle.strm_mblk.proofs.chains.Chains.unshelve.Goals.{After-self, After-remove}
 
 -- the message stands on the shelf
 on : (c : After-self) → holder c.args.head c.self.inside.heads ≡ Some c.args.shelf

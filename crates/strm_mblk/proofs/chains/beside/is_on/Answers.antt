@@ -2,7 +2,7 @@ use Rattle.std.proofs.Common.{◌≡◌, ℕ, eqb, Option, Some, None, refl, ap,
 use Rattle.std.specs.Option.{option_eq}
 use Rattle.strm_links.specs.Rows.{has, is_some_of}
 use Rattle.strm_links.proofs.AllLists.{has-holder}
-use Rattle.strm_mblk.proofs.links.Readings.{heads_at, within}
+use Rattle.strm_mblk.proofs.chaining.Readings.{heads_at, within}
 use Rattle.strm_mblk.proofs.chains.beside.is_on.Goals as goal
 
 -- the two tests of an option are one

@@ -2,4 +2,4 @@ use Rattle.strm_pool.proofs.Kept.{agrees_still}
 use Rattle.strm_pool.proofs.pool.Pool.freemsg.Goals as goal
 
 pub invariant_of-self : goal.invariant_of-self
-invariant_of-self c = agrees_still c.freemsg.ensures.others c.self.invariant
+invariant_of-self c = agrees_still c.freemsg.ensures.shelves c.self.invariant

@@ -1,6 +1,6 @@
 use Rattle.std.proofs.Common.{◌+◌, ◌≤◌, arith, rules}
 use Rattle.strm_queue.specs.Limits.{bands}
-use Rattle.strm_queue.proofs.Bands.{unmarked_past}
+use Rattle.strm_queue.proofs.bands.Bands.{unmarked_past}
 use Rattle.strm_queue.proofs.band_set.BandSet.above.Goals as goal
 
 pub returns-in_err-checked_add-clause-none : goal.returns-in_err-checked_add-clause-none

@@ -1,7 +1,7 @@
 use Rattle.std.proofs.Common.{◌+◌, ◌*◌, ◌∙◌, sym, ap, arith, rules, subst}
 use Rattle.strm_queue.specs.BandSets.{IsFirstFrom}
-use Rattle.strm_queue.specs.Flow.{is_wanted}
-use Rattle.strm_queue.proofs.Bands.{first_in, next_word, none_marked}
+use Rattle.strm_queue.specs.Flow.{has_band}
+use Rattle.strm_queue.proofs.bands.Bands.{first_in, next_word, none_marked}
 use Rattle.strm_queue.proofs.band_set.BandSet.at_least.Goals as goal
 
 pub loop-word-preserved : goal.loop-word-preserved
@@ -17,5 +17,5 @@ returns-in-Some-clause-some c =
 
 pub returns-clause-none : goal.returns-clause-none
 returns-clause-none c x above =
-    ap (λ ms. is_wanted ms x) (sym c.self.view_is)
+    ap (λ ms. has_band ms x) (sym c.self.view_is)
     ∙ none_marked c.self.inside.words c.args.band (c.loop-word.word * 64 + c.loop-word.from) c.loop-word.invariant.2 x above (λ in_range. omega (arith, in_range, c.loop-word-test.false))

@@ -1,5 +1,5 @@
 use Rattle.std.proofs.Common.{◌+◌, ◌*◌, ◌<◌, ◌≤◌}
-use Rattle.strm_queue.proofs.Bands.{AreNone}
+use Rattle.strm_queue.proofs.bands.Bands.{AreNone}
 use Rattle.strm_queue.proofs.band_set.BandSet.at_most.Given as goal
 
 -- the words so far have no band up to the last one

@@ -1,10 +1,10 @@
 use Rattle.std.proofs.Common.{◌*◌, ◌%◌, ◌^◌, ◌∙◌, bit_or, true, ap, arith}
 use Rattle.std.specs.Prelude.{slice_index_or, slice_set}
-use Rattle.strm_queue.specs.BandSets.{marks_in}
-use Rattle.strm_queue.proofs.Bands.{marks-insert}
+use Rattle.strm_queue.specs.BandSets.{bands_in}
+use Rattle.strm_queue.proofs.bands.Bands.{bands-insert}
 use Rattle.strm_queue.proofs.band_set.BandSet.insert.Goals as goal
 
 pub returns : goal.returns
 returns c =
-    ap (λ w. marks_in (record { words = slice_set c.self.inside.words w (bit_or (slice_index_or c.self.inside.words w 0) (1 * 2 ^ (c.args.band % 64) % 2 ^ 64)) })) c.from.ensures
-    ∙ marks-insert c.self.inside.words c.args.band c.self.told (omega (arith, c.ranges.band)) ∙ ap (λ ms. slice_set ms c.args.band true) c.self.view_is
+    ap (λ w. bands_in (record { words = slice_set c.self.inside.words w (bit_or (slice_index_or c.self.inside.words w 0) (1 * 2 ^ (c.args.band % 64) % 2 ^ 64)) })) c.from.ensures
+    ∙ bands-insert c.self.inside.words c.args.band c.self.told (omega (arith, c.ranges.band)) ∙ ap (λ ms. slice_set ms c.args.band true) c.self.view_is

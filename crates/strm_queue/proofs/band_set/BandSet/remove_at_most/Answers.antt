@@ -1,6 +1,6 @@
 use Rattle.std.proofs.Common.{◌+◌, ◌<◌, false, arith, rules}
 use Rattle.strm_queue.specs.Limits.{bands}
-use Rattle.strm_queue.proofs.Bands.{AreLookedAt, first_from, looked_at_first, looked_at_last, looked_leaves, looked_stays, looked_to}
+use Rattle.strm_queue.proofs.bands.Bands.{AreLookedAt, first_from, looked_at_first, looked_at_last, looked_leaves, looked_stays, looked_to}
 use Rattle.strm_queue.proofs.band_set.BandSet.remove_at_most.Invariants.{is_at_most}
 use Rattle.strm_queue.proofs.band_set.BandSet.remove_at_most.Goals.{then-counts-from, else-counts-from}
 use Rattle.strm_queue.proofs.band_set.BandSet.remove_at_most.Goals as goal

@@ -1,7 +1,7 @@
 use Rattle.std.proofs.Common.{◌∙◌, sym, ap, arith}
 use Rattle.strm_links.specs.Rows.{is_some_of}
 use Rattle.strm_queue.specs.declared.queue_spec.QueueSpec.{QueueSpec}
-use Rattle.strm_queue.proofs.Targets.{behind_found, behind_none, names_is, none_more}
+use Rattle.strm_queue.proofs.flow.Targets.{behind_found, behind_none, names_is, none_more}
 use Rattle.strm_queue.proofs.queues.Queues.behind.Goals as goal
 
 pub loop-other-init : goal.loop-other-init
@@ -19,4 +19,4 @@ loop-other-preserved c =
 
 pub returns-clause-value : goal.returns-clause-value
 returns-clause-value c =
-    sym (behind_none c.args.self.now.state.specs c.args.queue c.made_lawful.ensures (λ j within. c.loop-other.invariant j (omega (arith, within, c.loop-other-test.false))) (omega (arith, c.requires)))
+    sym (behind_none c.args.self.now.state.specs c.args.queue c.made_lawful.ensures.specs (λ j within. c.loop-other.invariant j (omega (arith, within, c.loop-other-test.false))) (omega (arith, c.requires)))

@@ -1,4 +1,4 @@
-use Rattle.strm_queue.proofs.Targets.{NoneBehind}
+use Rattle.strm_queue.proofs.flow.Targets.{NoneBehind}
 use Rattle.strm_queue.proofs.queues.Queues.behind.Given as goal
 
 -- none of the queues that were looked at names this one

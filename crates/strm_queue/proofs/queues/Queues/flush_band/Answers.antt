@@ -1,10 +1,15 @@
-use Rattle.std.proofs.Common.{ap, subst, sym, ◌∙◌}
+use Rattle.std.proofs.Common.{[], ap, refl, subst, sym, ◌∙◌}
+use Rattle.std.specs.Prelude.{filter, not}
+use Rattle.std.specs.List.{flat_map}
 use Rattle.std.proofs.lemmas.Bool.{cond-true}
+use Rattle.strm_mblk.specs.Arena.{shelf_at, with_shelf}
+use Rattle.strm_mblk.specs.Frame.{LeavesOthers}
 use Rattle.strm_mblk.specs.Given.{value_after}
 use Rattle.strm_queue.specs.Flush.{is_picked}
 use Rattle.strm_queue.specs.QueueCalls.{settled}
-use Rattle.strm_queue.specs.QueuedBlocks.{AreMarksLawful, QueuedBlocks, together}
-use Rattle.strm_queue.proofs.Flushing.{flushed_marks}
+use Rattle.strm_queue.specs.QueuedBlocks.{AreFlagsLawful, QueuedBlocks, together}
+use Rattle.strm_queue.proofs.moving.Flushing.{flushed_flags}
+use Rattle.strm_queue.proofs.moving.Others.{others_freed}
 use Rattle.strm_queue.proofs.queues.Queues.flush_band.Goals as goal
 
 pub returns-clause-after : goal.returns-clause-after
@@ -18,5 +23,12 @@ pub returns-clause-agrees : goal.returns-clause-agrees
 returns-clause-agrees c =
     c.settle.ensures.agrees c.flush_shelf.new.blocks c.flush_shelf.ensures.in_order
     (λ other away.
-    subst (λ s. AreMarksLawful s c.flush_shelf.new.blocks other) (sym c.flush_shelf.ensures.state)
-    (flushed_marks c.args.self.now c.args.blocks.now c.requires c.args.queue (is_picked c.args.blocks.now.store c.args.band c.args.flush) c.flush_shelf.new.blocks c.flush_shelf.ensures.after other away))
+    subst (λ s. AreFlagsLawful s c.flush_shelf.new.blocks other) (sym c.flush_shelf.ensures.state)
+    (flushed_flags c.args.self.now c.args.blocks.now c.requires c.args.queue (is_picked c.args.blocks.now.store c.args.band c.args.flush) c.flush_shelf.new.blocks c.flush_shelf.ensures.after other away))
+
+pub returns-clause-others : goal.returns-clause-others
+returns-clause-others c =
+    let ms = shelf_at c.args.blocks.now c.args.queue in
+    let picked = is_picked c.args.blocks.now.store c.args.band c.args.flush in
+    subst (LeavesOthers [] c.args.blocks.now) (sym c.flush_shelf.ensures.after)
+    (others_freed c.args.blocks.now (with_shelf c.args.queue (filter (λ m. not (picked m)) ms) c.args.blocks.now) (flat_map (λ m. m) (filter picked ms)) refl refl)

@@ -8,9 +8,9 @@ use Rattle.strm_mblk.proofs.arena.Stands.{shelf_of-there}
 use Rattle.strm_queue.specs.Flush.{is_flushed, is_picked}
 use Rattle.strm_queue.specs.Flushing.{from_band}
 use Rattle.strm_queue.specs.QueuedBlocks.{AreInOrder, QueuesValue}
-use Rattle.strm_queue.proofs.Agreeing.{in_order_left}
-use Rattle.strm_queue.proofs.Flushing.{IsFlushing, IsPassed, behind_next, flushing_data, flushing_freed, flushing_kept, flushed_same, flushing_none, from_band_passed, from_band_same, next, next_is, next_taken, next_there}
-use Rattle.strm_queue.proofs.OnShelf.{FirstParts, first_there, heads}
+use Rattle.strm_queue.proofs.agreeing.Agreeing.{in_order_left}
+use Rattle.strm_queue.proofs.moving.Flushing.{IsFlushing, IsPassed, behind_next, flushing_data, flushing_freed, flushing_kept, flushed_same, flushing_none, from_band_passed, from_band_same, next, next_is, next_taken, next_there}
+use Rattle.strm_queue.proofs.shelf.OnShelf.{FirstParts, first_there, heads}
 use Rattle.strm_queue.proofs.queues.Queues.flush_shelf.Goals as goal
 use Rattle.strm_queue.proofs.queues.Queues.flush_shelf.Goals.{After-reads_alike, After-takes, then-takes, else-takes}
 
@@ -117,7 +117,7 @@ loop-message-preserved c =
         ap (λ (v : QueuesValue). v.state) w.self-is ∙ w.unshelve-token.ensures.state ∙ c.loop-message.invariant.1,
         subst (λ v. AreInOrder v c.if-takes.blocks) (sym w.self-is)
             (subst (AreInOrder w.unshelve-token.new.self) (sym w.blocks-is)
-            (in_order_left w.unshelve-token.new.self w.unshelve-token.new.blocks w.freemsg.new.self w.freemsg.ensures.others.shelves w.freemsg.ensures.others.shelved_data w.unshelve-token.ensures.in_order)),
+            (in_order_left w.unshelve-token.new.self w.unshelve-token.new.blocks w.freemsg.new.self w.freemsg.ensures.shelves.shelves w.freemsg.ensures.shelves.shelved_data w.unshelve-token.ensures.in_order)),
       )
       | else-takes w ↦ (
         subst (λ b. IsFlushing (picked at) (taken at) c.args.blocks.now c.args.queue (c.loop-message._message + 1) c.onward-at-in-loop-message.result b) (sym w.blocks-is)

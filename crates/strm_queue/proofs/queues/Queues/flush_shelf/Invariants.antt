@@ -1,7 +1,7 @@
 use Rattle.std.proofs.Common.{◌≡◌}
 use Rattle.strm_queue.specs.Flush.{is_flushed, is_picked}
 use Rattle.strm_queue.specs.QueuedBlocks.{AreInOrder}
-use Rattle.strm_queue.proofs.Flushing.{IsFlushing}
+use Rattle.strm_queue.proofs.moving.Flushing.{IsFlushing}
 use Rattle.strm_queue.proofs.queues.Queues.flush_shelf.Given as goal
 
 -- so many messages were passed

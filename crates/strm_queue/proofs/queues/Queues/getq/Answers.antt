@@ -5,8 +5,8 @@ use Rattle.strm_mblk.specs.Shelves.{heads_at}
 use Rattle.strm_queue.specs.Flow.{with_read}
 use Rattle.strm_queue.specs.QueueCalls.{with_state}
 use Rattle.strm_queue.specs.QueuedBlocks.{Agrees, QueuesValue, together}
-use Rattle.strm_queue.proofs.Agreeing.{agrees_read}
-use Rattle.strm_queue.proofs.Gets.{IsGot, getq_after, got_others}
+use Rattle.strm_queue.proofs.agreeing.Agreeing.{agrees_read}
+use Rattle.strm_queue.proofs.moving.Gets.{IsGot, getq_after, got_others}
 use Rattle.strm_queue.proofs.queues.Queues.getq.Goals as goal
 use Rattle.strm_queue.proofs.queues.Queues.getq.Goals.{After-unshelve-token}
 
@@ -35,3 +35,7 @@ returns-clause-agrees c =
     (agrees_read c.settle.new.self c.unshelve-token.new.blocks c.args.queue false
     (c.settle.ensures.agrees c.unshelve-token.new.blocks c.unshelve-token.ensures.in_order
     (got_others c.args.self.now c.args.blocks.now c.requires c.lawful.ensures.parted c.args.queue (there here) c.in-Some.head c.unshelve-token.new.self c.unshelve-token.new.blocks (got here))))
+
+pub returns-in_default-clause-agrees : goal.returns-in_default-clause-agrees
+returns-in_default-clause-agrees c =
+    subst (λ w. Agrees w c.args.blocks.now) (sym c.set_read.ensures) (agrees_read c.args.self.now c.args.blocks.now c.args.queue true c.requires)

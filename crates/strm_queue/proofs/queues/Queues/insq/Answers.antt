@@ -4,11 +4,11 @@ use Rattle.strm_mblk.specs.Arena.{message_at, shelf_at}
 use Rattle.strm_mblk.specs.Block.{head_of}
 use Rattle.strm_mblk.specs.Given.{value_after, answer_of, or_rejected}
 use Rattle.strm_mblk.specs.Messages.{put_before_head}
-use Rattle.strm_queue.specs.Flow.{QueueState, enabled_where, enables_inserted, marks_at}
+use Rattle.strm_queue.specs.Flow.{QueueState, enabled_where, enables_inserted, flags_at}
 use Rattle.strm_queue.specs.QueuedBlocks.{together}
 use Rattle.strm_queue.specs.Rank.{as_queued, is_ordered, rank_of}
-use Rattle.strm_queue.proofs.Puts.{IsPut, insq_after, insq_given, insq_refused, put_agrees}
-use Rattle.strm_queue.proofs.Ranks.{rank_of-queued}
+use Rattle.strm_queue.proofs.moving.Puts.{IsPut, insq_after, insq_given, insq_refused, put_agrees}
+use Rattle.strm_queue.proofs.order.Ranks.{rank_of-queued}
 use Rattle.strm_queue.proofs.queues.Queues.insq.Goals as goal
 use Rattle.strm_queue.proofs.queues.Queues.insq.Goals.{After-enable_where, After-fits_before}
 
@@ -41,7 +41,7 @@ returns-then-not-fits_before-clause-answer c =
     (insq_refused c.args.self.now c.args.blocks.now c.requires.agrees c.args.queue c.args.token.head (there here) c.args.place (few here) c.lawful.ensures.parted c.head_at-before.result
     c.head_at-before.ensures.value (sym (fits here) ∙ c.if-not-fits_before.true)))
 
-put : (c : After-enable_where) → IsPut c.args.self.now c.args.blocks.now c.requires.agrees c.args.queue c.args.token.head (sym c.has_queue.ensures ∙ c.if-not-has_queue.false) (enables_inserted (marks_at c.args.self.now.state c.args.queue)) c.head_at-before.result c.enable_where.new.self c.shelve.new.blocks
+put : (c : After-enable_where) → IsPut c.args.self.now c.args.blocks.now c.requires.agrees c.args.queue c.args.token.head (sym c.has_queue.ensures ∙ c.if-not-has_queue.false) (enables_inserted (flags_at c.args.self.now.state c.args.queue)) c.head_at-before.result c.enable_where.new.self c.shelve.new.blocks
 put c = record {
   put = c.shelve.new.self;
   state = c.shelve.ensures.state;
@@ -49,7 +49,7 @@ put c = record {
   queues =
       c.enable_where.ensures
       ∙ ap (λ so. record c.shelve.new.self { state = enabled_where so c.args.queue c.shelve.new.self.state })
-      (c.enables_inserted.ensures ∙ ap (λ (s : QueueState). enables_inserted (marks_at s c.args.queue)) c.shelve.ensures.state);
+      (c.enables_inserted.ensures ∙ ap (λ (s : QueueState). enables_inserted (flags_at s c.args.queue)) c.shelve.ensures.state);
   arena = c.shelve.ensures.after;
 }
 
@@ -73,4 +73,4 @@ returns-clause-answer c =
 pub returns-clause-agrees : goal.returns-clause-agrees
 returns-clause-agrees c =
     let end = (goal.at.returns-clause-agrees c).After-enable_where in
-    put_agrees c.args.self.now c.args.blocks.now c.requires.agrees c.args.queue c.args.token.head (sym c.has_queue.ensures ∙ c.if-not-has_queue.false) (enables_inserted (marks_at c.args.self.now.state c.args.queue)) c.head_at-before.result c.enable_where.new.self c.shelve.new.blocks (put end)
+    put_agrees c.args.self.now c.args.blocks.now c.requires.agrees c.args.queue c.args.token.head (sym c.has_queue.ensures ∙ c.if-not-has_queue.false) (enables_inserted (flags_at c.args.self.now.state c.args.queue)) c.head_at-before.result c.enable_where.new.self c.shelve.new.blocks (put end)

@@ -1,8 +1,8 @@
-use Rattle.std.proofs.Common.{refl, ◌∙◌}
-use Rattle.strm_queue.specs.Flow.{spec_at}
+use Rattle.std.proofs.Common.{ap, refl, ◌∙◌}
+use Rattle.strm_queue.specs.Flow.{band_of_rank, hiwat_of}
 use Rattle.strm_queue.specs.QueuedBlocks.{tally_at}
 use Rattle.strm_queue.specs.Tallies.{one_more}
-use Rattle.strm_queue.proofs.Stored.{lawful_changed, spec_seen, tally_changed, tally_seen}
+use Rattle.strm_queue.proofs.layout.Stored.{lawful_changed, tally_changed, tally_seen}
 use Rattle.strm_queue.proofs.queues.Queues.join.Goals as goal
 
 pub invariant_of-self : goal.invariant_of-self
@@ -11,8 +11,8 @@ invariant_of-self c = lawful_changed c.self.inside c.from.result c.index_mut.res
 pub returns : goal.returns
 returns c =
     let y = record c.index_mut.result.now { tally = c.join.new.self } in
-    let spec = spec_seen c.self.inside c.from.result c.index_mut.result.now y c.index_mut.ensures.value refl c.args.self.now c.self.view_is c.args.queue c.from.ensures c.requires.queue in
     let tally = tally_seen c.self.inside c.from.result c.index_mut.result.now y c.index_mut.ensures.value refl c.args.self.now c.self.view_is c.args.queue c.from.ensures c.requires.queue in
+    let hiwat = c.hiwat-hiwat.ensures ∙ ap (hiwat_of c.args.self.now.state c.args.queue) c.band_of.ensures in
     tally_changed c.self.inside c.from.result c.index_mut.result.now y c.index_mut.ensures.value refl c.args.self.now c.self.view_is c.args.queue c.from.ensures
-    (one_more (spec_at c.args.self.now.state.specs c.args.queue).hiwat c.args.placed (tally_at c.args.self.now c.args.queue))
-    (c.join.ensures ∙ (λ i. one_more (spec i).hiwat c.args.placed (tally i))) refl
+    (one_more (hiwat_of c.args.self.now.state c.args.queue (band_of_rank c.args.placed.rank)) c.args.placed (tally_at c.args.self.now c.args.queue))
+    (c.join.ensures ∙ (λ i. one_more (hiwat i) c.args.placed (tally i))) refl

@@ -2,7 +2,7 @@ use Rattle.std.proofs.Common.{◌≡◌, arith, map, ap, ◌∙◌, length}
 use Rattle.std.proofs.lemmas.List.{take_all}
 use Rattle.strm_links.specs.Rows as rows
 use Rattle.strm_queue.specs.QueuesLayout.{new_queue}
-use Rattle.strm_queue.proofs.Stored.{lawful_made, value_made}
+use Rattle.strm_queue.proofs.layout.Stored.{lawful_made, value_made}
 use Rattle.strm_queue.proofs.queues.Queues.new.Goals as goal
 use Rattle.strm_queue.proofs.queues.Queues.new.Goals.{In_ok-run}
 

@@ -5,8 +5,8 @@ use Rattle.strm_mblk.specs.Messages.{put_before_head}
 use Rattle.strm_mblk.proofs.arena.Stands.{heads_apart}
 use Rattle.strm_queue.specs.Rank.{rank_of}
 use Rattle.strm_queue.specs.Tallies.{AreEndsOf}
-use Rattle.strm_queue.proofs.Ends.{first_of_rank-has}
-use Rattle.strm_queue.proofs.Places.{none_told, placed_ahead-none, placed_ahead-some, some_told}
+use Rattle.strm_queue.proofs.order.Ends.{first_of_rank-has}
+use Rattle.strm_queue.proofs.order.Places.{none_told, placed_ahead-none, placed_ahead-some, some_told}
 use Rattle.strm_queue.proofs.queues.Queues.place_ahead.Goals as goal
 use Rattle.strm_queue.proofs.queues.Queues.place_ahead.Goals.{After-rank_at_most}
 

@@ -10,8 +10,8 @@ use Rattle.strm_queue.specs.Ends.{last_of_rank}
 use Rattle.strm_queue.specs.Limits.{ranks}
 use Rattle.strm_queue.specs.Rank.{rank_of}
 use Rattle.strm_queue.specs.Tallies.{AreEndsOf}
-use Rattle.strm_queue.proofs.Ends.{first_of_rank-none, last_of_rank-has}
-use Rattle.strm_queue.proofs.Places.{after_there, none_beyond, none_told, placed_behind-none, placed_behind-some, some_told}
+use Rattle.strm_queue.proofs.order.Ends.{first_of_rank-none, last_of_rank-has}
+use Rattle.strm_queue.proofs.order.Places.{after_there, none_beyond, none_told, placed_behind-none, placed_behind-some, some_told}
 use Rattle.strm_queue.proofs.queues.Queues.place_behind.Goals as goal
 use Rattle.strm_queue.proofs.queues.Queues.place_behind.Goals.{After-last, After-rank_at_least, In-Some-last}
 

@@ -3,11 +3,11 @@ use Rattle.std.specs.Prelude.{nat_lt}
 use Rattle.strm_mblk.specs.Arena.{message_at, shelf_at}
 use Rattle.strm_mblk.specs.Block.{Message, head_of}
 use Rattle.strm_mblk.specs.Messages.{put_before_head}
-use Rattle.strm_queue.specs.Flow.{QueueState, enables_put, marks_at}
+use Rattle.strm_queue.specs.Flow.{QueueState, enables_put, flags_at}
 use Rattle.strm_queue.specs.Rank.{as_queued, is_ordered, put_behind, rank_of}
-use Rattle.strm_queue.proofs.Order.{ordered_put_behind}
-use Rattle.strm_queue.proofs.Puts.{IsPut, put_agrees, putq_after}
-use Rattle.strm_queue.proofs.Ranks.{rank_of-queued}
+use Rattle.strm_queue.proofs.order.Order.{ordered_put_behind}
+use Rattle.strm_queue.proofs.moving.Puts.{IsPut, put_agrees, putq_after}
+use Rattle.strm_queue.proofs.order.Ranks.{rank_of-queued}
 use Rattle.strm_queue.proofs.queues.Queues.putq.Goals as goal
 use Rattle.strm_queue.proofs.queues.Queues.putq.Goals.{After-enable_where, After-place_behind-before}
 
@@ -32,10 +32,10 @@ put : (c : After-enable_where) → IsPut c.args.self.now c.args.blocks.now c.req
 put c = record { put = c.shelve.new.self; state = c.shelve.ensures.state; in_order = c.shelve.ensures.in_order; queues = c.enable_where.ensures; arena = c.shelve.ensures.after }
 
 -- the marks are what they were before the message was put
-enables : (c : After-enable_where) → c.enables_put.result ≡ enables_put (marks_at c.args.self.now.state c.args.queue) (rank_of c.args.blocks.now.store (message_at c.args.blocks.now c.args.token.head))
+enables : (c : After-enable_where) → c.enables_put.result ≡ enables_put (flags_at c.args.self.now.state c.args.queue) (rank_of c.args.blocks.now.store (message_at c.args.blocks.now c.args.token.head))
 enables c =
-    c.enables_put.ensures ∙ ap (λ (s : QueueState). enables_put (marks_at s c.args.queue) c.held_rank-rank.result) c.shelve.ensures.state
-    ∙ ap (enables_put (marks_at c.args.self.now.state c.args.queue)) c.held_rank-rank.ensures.value
+    c.enables_put.ensures ∙ ap (λ (s : QueueState). enables_put (flags_at s c.args.queue) c.held_rank-rank.result) c.shelve.ensures.state
+    ∙ ap (enables_put (flags_at c.args.self.now.state c.args.queue)) c.held_rank-rank.ensures.value
 
 pub returns-clause-after : goal.returns-clause-after
 returns-clause-after c =

@@ -3,7 +3,7 @@ use Rattle.std.specs.Prelude.{nat_lt, slice_get}
 use Rattle.strm_mblk.specs.Arena.{token_of}
 use Rattle.strm_mblk.specs.Given.{answer_map, answer_of}
 use Rattle.strm_mblk.specs.Shelves.{heads_at}
-use Rattle.strm_queue.proofs.Gets.{IsGot, got_others, rmvq_after, rmvq_given}
+use Rattle.strm_queue.proofs.moving.Gets.{IsGot, got_others, rmvq_after, rmvq_given}
 use Rattle.strm_queue.proofs.queues.Queues.rmvq.Goals as goal
 use Rattle.strm_queue.proofs.queues.Queues.rmvq.Goals.{After-unshelve-token}
 

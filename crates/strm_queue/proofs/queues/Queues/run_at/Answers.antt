@@ -1,7 +1,7 @@
-use Rattle.std.proofs.Common.{rules, ◌<◌, ◌≡◌, ◌∙◌, Some, sym}
+use Rattle.std.proofs.Common.{rules, ◌<◌, ◌^◌, ◌≡◌, ◌∙◌, Some, sym}
 use Rattle.std.specs.Prelude.{slice_get}
 use Rattle.strm_links.specs.Rows.{list_at}
-use Rattle.strm_queue.proofs.Running.{run_fits, run_step, run_within}
+use Rattle.strm_queue.proofs.layout.Running.{run_fits, run_step, run_within}
 use Rattle.strm_queue.proofs.queues.Queues.run_at.Goals as goal
 use Rattle.strm_queue.proofs.queues.Queues.run_at.Goals.{In_ok-at}
 
@@ -21,7 +21,7 @@ loop-queue-preserved c =
 
 pub overflow_cast-result : goal.overflow_cast-result
 overflow_cast-result c =
-    let few : c.in_ok-node.node < 256 =
+    let few : c.in_ok-node.node < 2 ^ 8 =
     run_fits c.self.inside c.self.invariant c.in_ok-node.node
     (run_within c.self.inside.run c.parts_nodes.ensures.parting c.loop-queue._queue c.in_ok-node.node (sym c.loop-queue.invariant ∙ c.in_ok-node.was)) in
     search rules

@@ -1,6 +1,6 @@
 use Rattle.std.proofs.Common.{refl}
-use Rattle.strm_queue.specs.Flow.{Marks}
-use Rattle.strm_queue.proofs.Stored.{lawful_changed, marks_changed}
+use Rattle.strm_queue.specs.Flow.{Flags}
+use Rattle.strm_queue.proofs.layout.Stored.{lawful_changed, flags_changed}
 use Rattle.strm_queue.proofs.queues.Queues.set_read.Goals as goal
 
 pub invariant_of-self : goal.invariant_of-self
@@ -8,5 +8,5 @@ invariant_of-self c = lawful_changed c.self.inside c.from.result c.index_mut.res
 
 pub returns : goal.returns
 returns c =
-    marks_changed c.self.inside c.from.result c.index_mut.result.now (record c.index_mut.result.now { read = c.args.read }) c.index_mut.ensures.value refl c.args.self.now c.self.view_is c.args.queue c.from.ensures
-    c.requires (λ (m : Marks). record m { read = c.args.read }) refl refl
+    flags_changed c.self.inside c.from.result c.index_mut.result.now (record c.index_mut.result.now { read = c.args.read }) c.index_mut.ensures.value refl c.args.self.now c.self.view_is c.args.queue c.from.ensures
+    c.requires (λ (m : Flags). record m { read = c.args.read }) refl refl

@@ -1,23 +1,26 @@
-use Rattle.std.proofs.Common.{◌≡◌, ◌<◌, ◌^◌, ap, arith, length, subst, sym, ◌∙◌, get_or-set_same, length-set, [], ◌++◌, ◌∷◌, set, length-append}
+use Rattle.std.proofs.Common.{None, refl, ◌≡◌, ◌<◌, ◌^◌, ap, arith, length, subst, sym, ◌∙◌, get_or-set_same, length-set, [], ◌++◌, ◌∷◌, set, length-append}
 use Rattle.strm_mblk.specs.Arena.{Arena, message_at, shelf_at, with_shelf, without_held}
 use Rattle.strm_mblk.specs.Block.{Message, head_of}
+use Rattle.strm_mblk.specs.Frame.{LeavesOthers}
+use Rattle.strm_mblk.specs.Limits.{most_message_blocks}
 use Rattle.strm_mblk.specs.Messages.{put_before_head, blocks_of}
 use Rattle.strm_mblk.specs.Shelves.{shelve}
 use Rattle.strm_mblk.proofs.arena.Tokens.{had_message}
-use Rattle.strm_queue.specs.Flow.{bytes_on, spec_at}
+use Rattle.strm_queue.specs.Flow.{bytes_on, hiwat_of}
 use Rattle.strm_queue.specs.QueuedBlocks.{AreInOrder, tally_at}
 use Rattle.strm_queue.specs.Tallies.{IsTallyOf}
 use Rattle.strm_queue.specs.Rank.{as_queued, rank_of, is_ordered}
-use Rattle.strm_queue.proofs.Agreeing.{in_order_put}
-use Rattle.strm_queue.proofs.Counts.{bytes_fit}
-use Rattle.strm_queue.proofs.Ranks.{rank_of-queued, size_of-queued, head_of-queued}
-use Rattle.strm_queue.proofs.Shelve.{few_on_shelf, shelve_high, shelve_low}
-use Rattle.strm_queue.proofs.Tallies.{joins_all, joins_few, IsPlaced}
+use Rattle.strm_queue.proofs.agreeing.Agreeing.{in_order_put}
+use Rattle.strm_queue.proofs.counting.Counts.{bytes_fit}
+use Rattle.strm_queue.proofs.order.Ranks.{rank_of-queued, size_of-queued, head_of-queued}
+use Rattle.strm_queue.proofs.moving.Shelve.{few_on_shelf, shelve_high, shelve_low}
+use Rattle.strm_queue.proofs.counting.Tallies.{joins_all, joins_few, IsPlaced}
 use Rattle.strm_queue.proofs.queues.Queues.shelve.Goals as goal
 use Rattle.strm_queue.proofs.queues.Queues.shelve.Goals.{After-lawful-2, then-rank-eq-HIGH_RANK, else-rank-eq-HIGH_RANK}
 use Rattle.strm_links.specs.Rows.{IsApart}
-use Rattle.strm_queue.proofs.OnShelf.{heads}
-use Rattle.strm_queue.proofs.Fits.{IsParting, parting, placed_here}
+use Rattle.strm_queue.proofs.shelf.OnShelf.{heads}
+use Rattle.strm_queue.proofs.order.Fits.{IsParting, parting, placed_here}
+use Rattle.strm_mblk.proofs.arena.Frame.{others_one}
 use Rattle.strm_mblk.proofs.arena.Stands.{heads_apart}
 use Rattle.strm_queue.specs.declared.tally.Placed.{Placed}
 use Rattle.std.specs.Prelude.{IfSome}
@@ -74,9 +77,9 @@ placed c = record {
 }
 
 -- what is stored is true of the queue without it
-true_of : (c : After-lawful-2) → IsTallyOf c.args.blocks.now.store (spec_at c.args.self.now.state.specs c.args.queue).hiwat ((sides c).pre ++ (sides c).post) (tally_at c.args.self.now c.args.queue)
+true_of : (c : After-lawful-2) → IsTallyOf c.args.blocks.now.store (hiwat_of c.args.self.now.state c.args.queue) ((sides c).pre ++ (sides c).post) (tally_at c.args.self.now c.args.queue)
 true_of c =
-    subst (λ ms. IsTallyOf c.args.blocks.now.store (spec_at c.args.self.now.state.specs c.args.queue).hiwat ms (tally_at c.args.self.now c.args.queue)) (sides c).is
+    subst (λ ms. IsTallyOf c.args.blocks.now.store (hiwat_of c.args.self.now.state c.args.queue) ms (tally_at c.args.self.now c.args.queue)) (sides c).is
     (c.requires.in_order.true_of c.args.queue c.requires.queue)
 
 pub join-requires-clause-len : goal.join-requires-clause-len
@@ -84,7 +87,7 @@ join-requires-clause-len c =
     let at = (goal.at.join-requires-clause-len c).After-lawful-2 in
     omega (
       arith,
-      few_on_shelf c.shelve.new.self c.lawful-2.ensures.parted c.args.queue 4095
+      few_on_shelf c.shelve.new.self c.lawful-2.ensures.parted c.args.queue most_message_blocks
           (omega (arith, c.requires.queue, c.requires.in_order.shelves, ap (λ (b : Arena). length b.shelves) (after at), length-set c.args.blocks.now.shelves c.args.queue (put_before_head head_of c.args.before (m at) (shelf_at c.args.blocks.now c.args.queue))))
           (omega (arith, c.lawful-2.ensures.few, c.lawful-2.ensures.whole)),
       ap length (here at),
@@ -101,12 +104,12 @@ few_bytes c =
 pub join-requires-clause-bytes : goal.join-requires-clause-bytes
 join-requires-clause-bytes c =
     let at = (goal.at.join-requires-clause-bytes c).After-lawful-2 in
-    joins_all c.args.blocks.now.store (m at) (spec_at c.args.self.now.state.specs c.args.queue).hiwat (tally_at c.args.self.now c.args.queue) (sides at).pre (sides at).post (own at) (placed at) (true_of at) (few_bytes at)
+    joins_all c.args.blocks.now.store (m at) (hiwat_of c.args.self.now.state c.args.queue) (tally_at c.args.self.now c.args.queue) (sides at).pre (sides at).post (own at) (placed at) (true_of at) (few_bytes at)
 
 pub join-requires-clause-count : goal.join-requires-clause-count
 join-requires-clause-count c =
     let at = (goal.at.join-requires-clause-count c).After-lawful-2 in
-    joins_few c.args.blocks.now.store (m at) (spec_at c.args.self.now.state.specs c.args.queue).hiwat (tally_at c.args.self.now c.args.queue) (sides at).pre (sides at).post (own at) (placed at) (true_of at) (few_bytes at)
+    joins_few c.args.blocks.now.store (m at) (hiwat_of c.args.self.now.state c.args.queue) (tally_at c.args.self.now c.args.queue) (sides at).pre (sides at).post (own at) (placed at) (true_of at) (few_bytes at)
 
 pub returns-clause-after : goal.returns-clause-after
 returns-clause-after c = after (goal.at.returns-clause-after c).After-lawful-2
@@ -119,3 +122,8 @@ returns-clause-in_order c =
     (subst (λ ms. IsApart (heads ms)) (here at) (heads_apart c.shelve.new.self c.lawful-2.ensures.parted c.args.queue)) (sides at).is
     (ap (λ (b : Arena). b.shelves) (after at) ∙ ap (set c.args.blocks.now.shelves c.args.queue) (between at))
     (sym (ap (is_ordered (rank_of c.args.blocks.now.store)) (between at)) ∙ c.requires.ordered))
+
+pub returns-clause-others : goal.returns-clause-others
+returns-clause-others c =
+    let at = (goal.at.returns-clause-others c).After-lawful-2 in
+    subst (LeavesOthers (c.args.token.head ∷ []) c.args.blocks.now) (sym (after at)) (others_one c.args.blocks.now (with_shelf c.args.queue (put_before_head head_of c.args.before (m at) (shelf_at c.args.blocks.now c.args.queue)) (without_held c.args.token.head c.args.blocks.now)) c.args.token.head None refl refl)

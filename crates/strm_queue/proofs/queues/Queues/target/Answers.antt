@@ -3,7 +3,7 @@ use Rattle.std.proofs.lemmas.List.{length-map}
 use Rattle.strm_queue.specs.declared.queue_spec.QueueSpec.{QueueSpec}
 use Rattle.strm_queue.specs.QueuedBlocks.{QueuesValue}
 use Rattle.strm_queue.specs.QueuesLayout.{spec_in}
-use Rattle.strm_queue.proofs.Targets.{target_next, target_none}
+use Rattle.strm_queue.proofs.flow.Targets.{target_next, target_none}
 use Rattle.strm_queue.proofs.queues.Queues.target.Goals as goal
 
 pub loop-queue-init : goal.loop-queue-init
@@ -14,4 +14,4 @@ loop-queue-init c =
 pub loop-queue-preserved : goal.loop-queue-preserved
 loop-queue-preserved c =
     target_next c.args.self.now.state.specs c.args.queue c.len-queue-end.result c.loop-queue._queue c.loop-queue.at c.loop-queue.invariant c.loop-queue-test.true
-    (sym (ap (λ (s : QueueSpec). s.service) c.spec-spec.ensures) ∙ c.if-spec.false) c.made_lawful.ensures c.in-Some.next (sym (ap (λ (s : QueueSpec). s.next) c.spec-spec.ensures) ∙ c.in-Some.is)
+    (sym (ap (λ (s : QueueSpec). s.service) c.spec-spec.ensures) ∙ c.if-spec.false) c.made_lawful.ensures.specs c.in-Some.next (sym (ap (λ (s : QueueSpec). s.next) c.spec-spec.ensures) ∙ c.in-Some.is)

@@ -1,15 +1,17 @@
-use Rattle.std.proofs.Common.{◌≡◌, ◌++◌, ◌∷◌, ap, subst, sym, ◌∙◌}
+use Rattle.std.proofs.Common.{◌≡◌, ◌++◌, [], ◌∷◌, ap, subst, sym, ◌∙◌}
 use Rattle.strm_mblk.specs.Arena.{Arena, shelf_at, with_held, with_shelf}
 use Rattle.strm_mblk.specs.Block.{size_of}
+use Rattle.strm_mblk.specs.declared.token.TokenValue.{TokenValue}
+use Rattle.strm_mblk.specs.Frame.{LeavesOthers}
 use Rattle.strm_mblk.specs.Shelves.{unshelve, shelved_message}
 use Rattle.strm_mblk.proofs.arena.Stands.{heads_apart, shelf_of-there}
-use Rattle.strm_queue.specs.Flow.{spec_at}
+use Rattle.strm_queue.specs.Flow.{hiwat_of}
 use Rattle.strm_queue.specs.QueuedBlocks.{AreInOrder, tally_at}
 use Rattle.strm_queue.specs.Tallies.{IsTallyOf}
-use Rattle.strm_queue.proofs.Across.{shelved_message-at}
-use Rattle.strm_queue.proofs.Agreeing.{in_order_got}
-use Rattle.strm_queue.proofs.OnShelf.{Parts, parts_of, unshelved, heads, after-head, before-head}
-use Rattle.strm_queue.proofs.Tallies.{leaves_all, leaves_enough, leaves_some, IsPlaced}
+use Rattle.strm_queue.proofs.shelf.Across.{shelved_message-at}
+use Rattle.strm_queue.proofs.agreeing.Agreeing.{in_order_got}
+use Rattle.strm_queue.proofs.shelf.OnShelf.{Parts, parts_of, unshelved, heads, after-head, before-head}
+use Rattle.strm_queue.proofs.counting.Tallies.{leaves_all, leaves_enough, leaves_some, IsPlaced}
 use Rattle.strm_queue.proofs.queues.Queues.unshelve.Goals as goal
 use Rattle.strm_queue.proofs.queues.Queues.unshelve.Goals.{After-after}
 use Rattle.strm_links.specs.Rows.{IsApart, after, before}
@@ -19,9 +21,9 @@ use Rattle.strm_queue.specs.declared.tally.Placed.{Placed}
 abbrev parts : (c : After-after) → Parts c.args.head (shelf_at c.args.blocks.now c.args.queue)
 parts c = parts_of c.args.head (shelf_at c.args.blocks.now c.args.queue) c.requires.there
 
-abbrev true_of : (c : After-after) → IsTallyOf c.args.blocks.now.store (spec_at c.args.self.now.state.specs c.args.queue).hiwat ((parts c).pre ++ (parts c).at ∷ (parts c).post) (tally_at c.args.self.now c.args.queue)
+abbrev true_of : (c : After-after) → IsTallyOf c.args.blocks.now.store (hiwat_of c.args.self.now.state c.args.queue) ((parts c).pre ++ (parts c).at ∷ (parts c).post) (tally_at c.args.self.now c.args.queue)
 true_of c =
-    subst (λ ms. IsTallyOf c.args.blocks.now.store (spec_at c.args.self.now.state.specs c.args.queue).hiwat ms (tally_at c.args.self.now c.args.queue)) (parts c).is
+    subst (λ ms. IsTallyOf c.args.blocks.now.store (hiwat_of c.args.self.now.state c.args.queue) ms (tally_at c.args.self.now c.args.queue)) (parts c).is
     (c.requires.in_order.true_of c.args.queue c.requires.queue)
 
 -- no two messages of the queue have one head
@@ -63,17 +65,17 @@ after-requires c = shelf_of-there c.args.blocks.now c.args.queue c.args.head c.r
 pub leave-requires-clause-len : goal.leave-requires-clause-len
 leave-requires-clause-len c =
     let at = (goal.at.leave-requires-clause-len c).After-after in
-    leaves_some c.args.blocks.now.store (parts at).at (spec_at c.args.self.now.state.specs c.args.queue).hiwat (tally_at c.args.self.now c.args.queue) (parts at).pre (parts at).post (own at) (placed at) (true_of at)
+    leaves_some c.args.blocks.now.store (parts at).at (hiwat_of c.args.self.now.state c.args.queue) (tally_at c.args.self.now c.args.queue) (parts at).pre (parts at).post (own at) (placed at) (true_of at)
 
 pub leave-requires-clause-bytes : goal.leave-requires-clause-bytes
 leave-requires-clause-bytes c =
     let at = (goal.at.leave-requires-clause-bytes c).After-after in
-    leaves_all c.args.blocks.now.store (parts at).at (spec_at c.args.self.now.state.specs c.args.queue).hiwat (tally_at c.args.self.now c.args.queue) (parts at).pre (parts at).post (own at) (placed at) (true_of at)
+    leaves_all c.args.blocks.now.store (parts at).at (hiwat_of c.args.self.now.state c.args.queue) (tally_at c.args.self.now c.args.queue) (parts at).pre (parts at).post (own at) (placed at) (true_of at)
 
 pub leave-requires-clause-count : goal.leave-requires-clause-count
 leave-requires-clause-count c =
     let at = (goal.at.leave-requires-clause-count c).After-after in
-    leaves_enough c.args.blocks.now.store (parts at).at (spec_at c.args.self.now.state.specs c.args.queue).hiwat (tally_at c.args.self.now c.args.queue) (parts at).pre (parts at).post (own at) (placed at) (true_of at)
+    leaves_enough c.args.blocks.now.store (parts at).at (hiwat_of c.args.self.now.state c.args.queue) (tally_at c.args.self.now c.args.queue) (parts at).pre (parts at).post (own at) (placed at) (true_of at)
 
 pub returns-clause-in_order : goal.returns-clause-in_order
 returns-clause-in_order c =
@@ -84,3 +86,7 @@ returns-clause-in_order c =
     subst (λ v. AreInOrder v c.unshelve.new.self) (sym c.leave.ensures)
     (in_order_got c.args.self.now c.args.blocks.now c.requires.in_order c.args.queue c.requires.queue (parts at).at c.unshelve.new.self (ap (λ (b : Arena). b.store) left) (parts at).pre (parts at).post (own at) (placed at) (apart at) (parts at).is
     (ap (λ (b : Arena). b.shelves) left))
+
+pub returns-clause-others : goal.returns-clause-others
+returns-clause-others c =
+    subst (λ (t : TokenValue). LeavesOthers (t.head ∷ []) c.args.blocks.now c.unshelve.new.self) (sym c.unshelve.ensures.token) c.unshelve.ensures.others

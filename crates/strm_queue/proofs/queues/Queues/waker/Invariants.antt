@@ -1,5 +1,5 @@
 use Rattle.std.proofs.Common.{length}
-use Rattle.strm_queue.proofs.Targets.{IsOnWay, waker_found}
+use Rattle.strm_queue.proofs.flow.Targets.{IsOnWay, waker_found}
 use Rattle.strm_queue.proofs.queues.Queues.waker.Given as goal
 
 -- the walk is on its way back

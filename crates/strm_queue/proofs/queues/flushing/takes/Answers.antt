@@ -1,7 +1,7 @@
 use Rattle.std.proofs.Common.{sym, ◌∙◌}
 use Rattle.strm_mblk.specs.Block.{kind_of}
 use Rattle.strm_queue.specs.Flush.{is_flushed}
-use Rattle.strm_queue.proofs.Flushing.{data_told, head_told}
+use Rattle.strm_queue.proofs.moving.Flushing.{data_told, head_told}
 use Rattle.strm_queue.proofs.queues.flushing.takes.Goals as goal
 
 pub returns-in-Data : goal.returns-in-Data

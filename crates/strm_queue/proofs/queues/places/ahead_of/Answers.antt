@@ -1,6 +1,6 @@
 use Rattle.std.proofs.Common.{◌∙◌}
 use Rattle.strm_mblk.proofs.arena.Stands.{shelf_of-there}
-use Rattle.strm_queue.proofs.Fits.{ahead_none, ahead_some}
+use Rattle.strm_queue.proofs.order.Fits.{ahead_none, ahead_some}
 use Rattle.strm_queue.proofs.queues.places.ahead_of.Goals as goal
 
 pub before-requires : goal.before-requires

@@ -1,6 +1,6 @@
 use Rattle.std.proofs.Common.{sym, ◌∙◌}
 use Rattle.strm_mblk.specs.Arena.{message_at}
-use Rattle.strm_queue.proofs.Ranks.{IsFirst, first_told, high_queued, rank_told}
+use Rattle.strm_queue.proofs.order.Ranks.{IsFirst, first_told, high_queued, rank_told}
 use Rattle.strm_queue.proofs.queues.places.held_rank.Goals as goal
 use Rattle.strm_queue.proofs.queues.places.held_rank.Goals.{After-rank}
 

@@ -1,8 +1,8 @@
 use Rattle.std.proofs.Common.{ap, sym, ◌∙◌}
 use Rattle.strm_mblk.specs.Shelves.{shelved_message}
 use Rattle.strm_queue.specs.Rank.{rank_of}
-use Rattle.strm_queue.proofs.Across.{shelved_message-at}
-use Rattle.strm_queue.proofs.Ranks.{first_asked, rank_told}
+use Rattle.strm_queue.proofs.shelf.Across.{shelved_message-at}
+use Rattle.strm_queue.proofs.order.Ranks.{first_asked, rank_told}
 use Rattle.strm_queue.proofs.queues.places.queued_rank.Goals as goal
 
 pub returns-clause-value : goal.returns-clause-value

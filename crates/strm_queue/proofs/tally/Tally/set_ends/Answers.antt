@@ -2,7 +2,7 @@ use Rattle.std.proofs.Common.{ap, arith, sym, ◌∙◌}
 use Rattle.std.specs.Prelude.{is_some, slice_set}
 use Rattle.std.proofs.lemmas.List.{set_past}
 use Rattle.strm_queue.specs.Tallies.{Tally, with_ends}
-use Rattle.strm_queue.proofs.Bands.{length-every_band}
+use Rattle.strm_queue.proofs.bands.Bands.{length-every_band}
 use Rattle.strm_queue.proofs.tally.Tally.set_ends.Goals as goal
 
 pub returns-else-rank-lt-HIGH_RANK : goal.returns-else-rank-lt-HIGH_RANK

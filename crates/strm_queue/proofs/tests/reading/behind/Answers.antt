@@ -1,6 +1,6 @@
 use Rattle.std.proofs.Common.{sym, ◌∙◌}
 use Rattle.strm_mblk.proofs.arena.Stands.{shelf_of-there}
-use Rattle.strm_queue.proofs.Fits.{behind_there}
+use Rattle.strm_queue.proofs.order.Fits.{behind_there}
 use Rattle.strm_queue.proofs.tests.reading.behind.Goals as goal
 
 pub after-requires : goal.after-requires

@@ -1,0 +1,7 @@
+use Rattle.std.proofs.Common.{ap, sym, ◌∙◌}
+use Rattle.strm_mblk.specs.Arena.{counted_in}
+use Rattle.strm_mblk.proofs.layout.Lawful.{counted_is}
+use Rattle.strm_mblk.proofs.blocks.Blocks.data.Goals as goal
+
+pub returns : goal.returns
+returns c = sym (counted_is c.self.inside.id c.self.inside.data c.self.inside.blocks.items c.self.inside.chains c.self.invariant.filled) ∙ ap counted_in c.self.view_is

@@ -1,0 +1,159 @@
+use Rattle.std.proofs.Common.{◌≡◌, ◌<◌, ◌∷◌, length, set, Ok, Some, ap, subst, sym, ◌∙◌, arith}
+use Rattle.std.specs.Prelude.{drop, is_some, slice_get}
+use Rattle.std.proofs.lemmas.List.{get_or_read}
+use Rattle.strm_data.specs.CountedStore.{CountedStore, after_take, count_of, without_name}
+use Rattle.strm_data.specs.DataStore.{data_block_at, take_data, times, with_data_taken, with_kind}
+use Rattle.strm_mblk.specs.declared.blocks.Fields.{Fields}
+use Rattle.strm_mblk.specs.Arena.{Arena, message_at, shelved_blocks}
+use Rattle.strm_mblk.specs.Block.{bytes_of, kind_of}
+use Rattle.strm_mblk.specs.BlocksLayout.{arena_in, block_at, fields_at, message_of, named_by, no_fields}
+use Rattle.strm_mblk.specs.Given.{value_after, answer_map}
+use Rattle.strm_mblk.specs.NodeLists.{nodes_at}
+use Rattle.strm_mblk.specs.Pulling.{pull_front, front_pulled, with_front_copied}
+use Rattle.strm_mblk.specs.Trimming.{pulled_into}
+use Rattle.strm_mblk.proofs.reading.Bytes.{length-message}
+use Rattle.strm_mblk.proofs.freeing.Freemsg.{enough}
+use Rattle.strm_mblk.proofs.pulling.FrontPulled.{IsFrontPulled, pulls_front, pulled_is, still_there, still_used}
+use Rattle.strm_mblk.proofs.pulling.SecondTaken.{IsHeldHead, seen_head}
+use Rattle.strm_mblk.proofs.layout.Shown.{message_at-seen}
+use Rattle.strm_mblk.proofs.arena.Tokens.{had_message}
+use Rattle.strm_mblk.proofs.layout.Unaltered.{bytes-message, bytes-typed}
+use Rattle.strm_mblk.proofs.blocks.Blocks.pull_front.Goals.{After-copy_front, After-drop_name, After-index-fields, After-set_kind}
+use Rattle.strm_mblk.proofs.blocks.Blocks.pull_front.Goals as goal
+
+module _ (c : After-index-fields) where
+  head : IsHeldHead c.self.inside.blocks.items c.self.inside.chains c.args.token.now.head
+  head =
+      seen_head c.self.inside.id c.self.inside.data c.self.inside.blocks.items c.self.inside.chains c.self.invariant.filled c.args.token.now.head c.args.self.now c.self.view_is
+      (ap is_some (had_message c.args.self.now c.args.token.now c.requires.had).1.held)
+
+  -- what was read is what the block says
+  read : c.index-fields.result.now ≡ fields_at c.self.inside.blocks.items c.args.token.now.head
+  read =
+      get_or_read c.self.inside.blocks.items c.head-head.result c.index-fields.result.now (omega (arith, head.there, c.head-head.ensures)) c.index-fields.ensures no_fields
+      ∙ ap (fields_at c.self.inside.blocks.items) c.head-head.ensures
+
+pub kind-kind-requires : goal.kind-kind-requires
+kind-kind-requires c =
+    let before = (goal.at.kind-kind-requires c).After-index-fields in
+    omega (arith, (c.self.invariant.filled.placed c.args.token.now.head (head before).there).there, ap (λ (f : Fields). f.data_number) (read before))
+
+-- the data blocks once the taken one has its type
+typed : (c : After-set_kind) → c.set_kind.new.self
+    ≡ record { store = with_kind c.in_ok-data_number.data_number c.kind-kind.result (with_data_taken c.in_ok-data_number.data_number c.self.inside.data.store); counts = set c.self.inside.data.counts c.in_ok-data_number.data_number 1 }
+typed c =
+    let d = c.in_ok-data_number.data_number in
+    let taken : c.take.new.self ≡ after_take c.self.inside.data (Ok d) = c.take.ensures.after ∙ ap (after_take c.self.inside.data) (sym c.take.ensures.answer ∙ c.in_ok-data_number.was) in
+    c.set_kind.ensures.after ∙ ap (λ (s : CountedStore). record s { store = with_kind d c.kind-kind.result s.store }) taken
+
+pub copy_front-requires-clause-begun : goal.copy_front-requires-clause-begun
+copy_front-requires-clause-begun c =
+    let before = (goal.at.copy_front-requires-clause-begun c).After-index-fields in
+    (λ i. slice_get (nodes_at c.self.inside.chains (c.head-head.ensures i)) 0) ∙ (head before).first ∙ ap Some (sym c.head-head.ensures)
+
+pub copy_front-requires-clause-unnamed : goal.copy_front-requires-clause-unnamed
+copy_front-requires-clause-unnamed c =
+    let before = (goal.at.copy_front-requires-clause-unnamed c).After-index-fields in
+    let d = c.in_ok-data_number.data_number in
+    let same : times d (named_by c.deref.result.now (nodes_at c.self.inside.chains c.head-head.result)) ≡ times d (named_by c.self.inside.blocks.items (nodes_at c.self.inside.chains c.args.token.now.head)) =
+    λ i. times d (named_by (c.deref.ensures.value i) (nodes_at c.self.inside.chains (c.head-head.ensures i))) in
+    omega (
+      arith,
+      same,
+      enough c.self.inside.id c.self.inside.data c.self.inside.blocks.items c.self.inside.chains c.self.invariant.filled c.args.token.now.head (head before).held d,
+      c.in_ok-data_number.ensures.unused.unnamed,
+    )
+
+pub copy_front-requires-clause-enough : goal.copy_front-requires-clause-enough
+copy_front-requires-clause-enough c =
+    let set = (goal.at.copy_front-requires-clause-enough c).After-set_kind in
+    let d = c.in_ok-data_number.data_number in
+    let h = c.args.token.now.head in
+    let items = c.self.inside.blocks.items in
+    let stored = c.self.inside.data.store in
+    let same : bytes_of c.set_kind.new.self.store (message_of c.deref.result.now (nodes_at c.self.inside.chains c.head-head.result)) ≡ bytes_of c.args.self.now.store (message_at c.args.self.now h) =
+    (λ i. bytes_of (ap (λ (s : CountedStore). s.store) (typed set) i) (message_of (c.deref.ensures.value i) (nodes_at c.self.inside.chains (c.head-head.ensures i))))
+    ∙ bytes-message stored (with_kind d c.kind-kind.result (with_data_taken d stored)) (bytes-typed stored d c.kind-kind.result) (message_of items (nodes_at c.self.inside.chains h))
+    ∙ ap (bytes_of stored) (sym (message_at-seen c.self.inside.id stored items c.self.inside.chains h))
+    ∙ ap (λ (a : Arena). bytes_of a.store (message_at a h)) c.self.view_is in
+    omega (
+      arith,
+      c.requires.enough,
+      ap length same,
+      length-message c.self.inside.id c.self.inside.data items c.self.inside.chains c.self.invariant.filled c.args.self.now c.self.view_is c.args.token.now c.requires.had,
+    )
+
+-- the type of the first block's data block
+kind_is : (c : After-set_kind) → c.index-fields.result.now ≡ fields_at c.self.inside.blocks.items c.args.token.now.head
+    → c.kind-kind.result ≡ kind_of c.self.inside.data.store (block_at c.self.inside.blocks.items c.args.token.now.head)
+kind_is c read = c.kind-kind.ensures ∙ ap (λ (f : Fields). (data_block_at c.self.inside.data.store f.data_number).kind) read
+
+-- the data blocks once the taken one has the bytes too
+copied : (c : After-copy_front) → IsHeldHead c.self.inside.blocks.items c.self.inside.chains c.args.token.now.head
+    → c.kind-kind.result ≡ kind_of c.self.inside.data.store (block_at c.self.inside.blocks.items c.args.token.now.head)
+    → c.set_kind.new.self
+    ≡ record { store = with_kind c.in_ok-data_number.data_number c.kind-kind.result (with_data_taken c.in_ok-data_number.data_number c.self.inside.data.store); counts = set c.self.inside.data.counts c.in_ok-data_number.data_number 1 }
+    → c.copy_front.new.stored ≡ record {
+      store = pulled_into c.args.count (block_at c.self.inside.blocks.items c.args.token.now.head ∷ message_of c.self.inside.blocks.items (drop 1 (nodes_at c.self.inside.chains c.args.token.now.head))) c.self.inside.data.store c.in_ok-data_number.data_number;
+      counts = set c.self.inside.data.counts c.in_ok-data_number.data_number 1;
+    }
+copied c is kind typed =
+    pulled_is c.self.inside.id c.self.inside.data c.self.inside.blocks.items c.self.inside.chains c.self.invariant.filled c.args.token.now.head is c.args.count c.in_ok-data_number.data_number
+    c.kind-kind.result kind c.set_kind.new.self c.copy_front.new.stored typed
+    (c.copy_front.ensures.after
+    ∙ (λ i. with_front_copied c.in_ok-data_number.data_number c.args.count (message_of (c.deref.ensures.value i) (nodes_at c.self.inside.chains (c.head-head.ensures i))) c.set_kind.new.self))
+
+pub drop_name-requires-clause-there : goal.drop_name-requires-clause-there
+drop_name-requires-clause-there c =
+    let before = (goal.at.drop_name-requires-clause-there c).After-index-fields in
+    let set = (goal.at.drop_name-requires-clause-there c).After-set_kind in
+    subst (λ (f : Fields). f.data_number < length c.copy_front.new.stored.store.blocks) (sym (read before))
+    (still_there c.self.inside.id c.self.inside.data c.self.inside.blocks.items c.self.inside.chains c.self.invariant.filled c.args.token.now.head (head before)
+    c.args.count c.in_ok-data_number.data_number c.in_ok-data_number.ensures.unused c.in_ok-data_number.ensures.room c.copy_front.new.stored
+    (copied (goal.at.drop_name-requires-clause-there c).After-copy_front (head before) (kind_is set (read before)) (typed set)))
+
+pub drop_name-requires-clause-used : goal.drop_name-requires-clause-used
+drop_name-requires-clause-used c =
+    let before = (goal.at.drop_name-requires-clause-used c).After-index-fields in
+    let set = (goal.at.drop_name-requires-clause-used c).After-set_kind in
+    subst (λ (f : Fields). 0 < count_of c.copy_front.new.stored f.data_number) (sym (read before))
+    (still_used c.self.inside.id c.self.inside.data c.self.inside.blocks.items c.self.inside.chains c.self.invariant.filled c.args.token.now.head (head before)
+    c.args.count c.in_ok-data_number.data_number c.in_ok-data_number.ensures.unused c.in_ok-data_number.ensures.room c.copy_front.new.stored
+    (copied (goal.at.drop_name-requires-clause-used c).After-copy_front (head before) (kind_is set (read before)) (typed set)))
+
+-- the first block as it is written
+abbrev new_fields : After-drop_name → Fields
+new_fields c = record { data_number = c.in_ok-data_number.data_number; offset = 0; len = c.args.count; band = c.index-fields.result.now.band }
+
+is_front_pulled : (c : After-drop_name)
+    → IsFrontPulled c.args.self.now c.drop_name.new.self (set c.self.inside.blocks.items c.head-head.result (new_fields c)) c.self.inside.chains c.self.inside.id c.args.token.now.head c.in_ok-data_number.data_number c.args.count
+is_front_pulled c =
+    let before = (goal.at.invariant_of-self-2 c).After-index-fields in
+    let typed_now = (goal.at.invariant_of-self-2 c).After-set_kind in
+    let d = c.in_ok-data_number.data_number in
+    let h = c.args.token.now.head in
+    subst (λ a. IsFrontPulled a c.drop_name.new.self (set c.self.inside.blocks.items c.head-head.result (new_fields c)) c.self.inside.chains c.self.inside.id h d c.args.count) c.self.view_is
+    (subst (λ k. IsFrontPulled (arena_in c.self.inside) c.drop_name.new.self (set c.self.inside.blocks.items k (new_fields c)) c.self.inside.chains c.self.inside.id h d c.args.count) (sym c.head-head.ensures)
+    (pulls_front c.self.inside.id c.self.inside.data c.self.inside.blocks.items c.self.inside.chains c.self.invariant.filled h (head before)
+    c.args.count d c.in_ok-data_number.ensures.unused c.in_ok-data_number.ensures.room c.copy_front.new.stored
+    (copied (goal.at.invariant_of-self-2 c).After-copy_front (head before) (kind_is typed_now (read before)) (typed typed_now))
+    c.drop_name.new.self (new_fields c) c.drop_name.ensures.kept
+    (c.drop_name.ensures.after ∙ ap (λ (f : Fields). without_name f.data_number c.copy_front.new.stored) (read before))
+    (ap (λ (f : Fields). let x : Fields = record { data_number = d; offset = 0; len = c.args.count; band = f.band } in x) (read before))))
+
+pub invariant_of-self-2 : goal.invariant_of-self-2
+invariant_of-self-2 c =
+    let is = is_front_pulled c in
+    record { filled = is.filled; queued = c.self.invariant.queued ∙ ap (λ a. length (shelved_blocks a)) c.self.view_is ∙ ap length (sym is.shelved) }
+
+-- what the model gives
+value : (c : After-drop_name) → pull_front c.args.token.now.head c.args.count c.args.self.now
+    ≡ Ok (tt, front_pulled c.args.token.now.head c.args.count (message_at c.args.self.now c.args.token.now.head) c.args.self.now c.in_ok-data_number.data_number)
+value c =
+    ap (answer_map (λ d. (tt, front_pulled c.args.token.now.head c.args.count (message_at c.args.self.now c.args.token.now.head) c.args.self.now d)))
+    (ap (λ (a : Arena). take_data c.args.count a.store) (sym c.self.view_is) ∙ sym c.take.ensures.answer ∙ c.in_ok-data_number.was)
+
+pub returns-clause-after : goal.returns-clause-after
+returns-clause-after c =
+    let d = (goal.at.returns-clause-after c).After-drop_name in
+    (is_front_pulled d).after ∙ sym (ap (value_after c.args.self.now) (value d))

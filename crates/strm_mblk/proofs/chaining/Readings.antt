@@ -1,0 +1,127 @@
+-- What a caller reads off the value that it sees, in strands and on shelves.
+use Rattle.std.proofs.Common.{◌≡◌, ℕ, ◌+◌, true, ◌&&◌, List, [], ◌∷◌, map, length, get_or, Option, Some, None, IsSome, is_some, refl, sym, ap, ◌∙◌, subst, inl, inr, ◌⊎◌, arith}
+use Rattle.std.specs.Prelude.{not, slice_get, IfSome}
+use Rattle.std.proofs.lemmas.Bool.{cases_lt, false≢true}
+use Rattle.std.proofs.Math.Bool.{and-true, and-false}
+use Rattle.std.proofs.lemmas.List.{get_or_past, get_or-map, length-map}
+use Rattle.std.proofs.lemmas.Option.{none-some, same_Some}
+use Rattle.strm_links.specs.Rows.{Rows, has, first, after, before, list_at, holder, next_in, previous_in}
+use Rattle.std.specs.Option.{option_map_or}
+use Rattle.strm_links.specs.Held.{items_of, held_in}
+use Rattle.strm_links.specs.StrandLists.{StrandLists, strand_at}
+use Rattle.strm_links.proofs.OneList.{has_head, has_tail, some_of}
+use Rattle.strm_links.proofs.AllLists.{has-holder}
+use Rattle.strm_mblk.specs.ChainLayout.{IsChained, nodes_of}
+use Rattle.strm_mblk.specs.Messages.{shelf_in}
+use Rattle.strm_mblk.specs.NodeLists.{NodeLists, head_node, heads_on, nodes_at, shelved_nodes}
+use Rattle.strm_mblk.proofs.chaining.Seen.{held_off, held_on, length-held, length-shelves, off_shelf, shelf-get}
+
+-- a list in which something stands is there
+there_is : (o : Option (List ℕ)) (i x : ℕ) → slice_get (items_of o) i ≡ Some x → IsSome o
+there_is None i x at = absurd (none-some x at)
+there_is (Some ns) i x at = refl
+
+-- the number that a list begins with
+first_node : (xs : List ℕ) (x : ℕ) → first xs ≡ Some x → head_node xs ≡ x
+first_node [] x is = absurd (none-some x is)
+first_node (y ∷ ys) x is = same_Some y x is
+
+module _ (v : StrandLists) (heads : Rows) (laid : IsChained v heads) where
+  -- a strand that is there begins with its number
+  pub begins : (h : ℕ) → IsSome (held_in v.held h) → first (strand_at v h) ≡ Some h
+  begins h some = by_case (held_in v.held h) some (laid.strands_parted.heads h)
+    where
+      by_case : (o : Option (List ℕ)) → IsSome o → IfSome o (λ xs. first xs ≡ Some h) → first (items_of o) ≡ Some h
+      by_case None some is = absurd (false≢true some)
+      by_case (Some xs) some is = is
+
+  -- a head on a shelf stands on that list
+  pub on_list : (x k : ℕ) → has x (list_at k heads) ≡ true → holder x heads ≡ Some k
+  on_list x k there = some_of k (holder x heads) (sym (has-holder x k heads laid.heads_parting.apart) ∙ there)
+
+  -- the number that the message of a head on a shelf begins with
+  pub head_node-strand : (x k : ℕ) → has x (list_at k heads) ≡ true → head_node (strand_at v x) ≡ x
+  head_node-strand x k there = first_node (strand_at v x) x (begins x (laid.begun x (ap is_some (on_list x k there))))
+
+  module _ (w : NodeLists) (is : nodes_of v heads ≡ w) where
+    -- a number that the value has is one of all
+    pub within : length w.held ≡ length v.held
+    within = ap (λ (u : NodeLists). length u.held) (sym is) ∙ length-held v heads
+
+    -- a shelf of the value is one
+    pub shelves_within : length w.shelves ≡ length heads.lists
+    shelves_within = ap (λ (u : NodeLists). length u.shelves) (sym is) ∙ length-shelves v heads
+
+    -- a message that is held stands on no shelf
+    pub off : (h : ℕ) → IsSome (held_in w.held h) → holder h heads ≡ None
+    off h some = off_shelf v heads h (subst (λ (u : NodeLists). IsSome (held_in u.held h)) (sym is) some)
+
+    -- and is a strand
+    pub held_is : (h : ℕ) → IsSome (held_in w.held h) → held_in w.held h ≡ held_in v.held h
+    held_is h some = ap (λ (u : NodeLists). held_in u.held h) (sym is) ∙ held_off v heads h (off h some)
+
+    pub strand_there : (h : ℕ) → IsSome (held_in w.held h) → IsSome (held_in v.held h)
+    strand_there h some = subst IsSome (held_is h some) some
+
+    pub nodes_is : (h : ℕ) → IsSome (held_in w.held h) → nodes_at w h ≡ strand_at v h
+    nodes_is h some = ap items_of (held_is h some)
+
+    -- whether a number is seen as held
+    pub is_held_at : (h : ℕ) → is_some (held_in w.held h) ≡ (is_some (held_in v.held h) && not (is_some (holder h heads)))
+    is_held_at h =
+        ap (λ (u : NodeLists). is_some (held_in u.held h)) (sym is)
+        ∙ elim (holder h heads) as (λ o. holder h heads ≡ o → is_some (held_in (nodes_of v heads).held h) ≡ (is_some (held_in v.held h) && not (is_some o))) [
+          | None ↦ λ none. ap is_some (held_off v heads h none) ∙ sym (and-true (is_some (held_in v.held h)))
+          | Some k ↦ λ some. ap is_some (held_on v heads h (ap is_some some)) ∙ sym (and-false (is_some (held_in v.held h)))
+        ] refl
+
+    -- ---- what stands behind
+
+    -- in a held message
+    pub next_held : (h i x : ℕ) → slice_get (nodes_at w h) i ≡ Some x → (o : Option ℕ) → ((g j : ℕ) → slice_get (strand_at v g) j ≡ Some x → o ≡ slice_get (strand_at v g) (j + 1)) → o ≡ slice_get (nodes_at w h) (i + 1)
+    next_held h i x at o next =
+        let same = nodes_is h (there_is (held_in w.held h) i x at) in
+        next h i (ap (λ ns. slice_get ns i) (sym same) ∙ at) ∙ ap (λ ns. slice_get ns (i + 1)) (sym same)
+
+    -- the messages on a shelf
+    pub shelf_is : (k : ℕ) → shelf_in w.shelves k ≡ map (strand_at v) (list_at k heads)
+    shelf_is k = ap (λ (u : NodeLists). shelf_in u.shelves k) (sym is) ∙ shelf-get v heads k
+
+    -- in a message on a shelf
+    shelved_along : (k j : ℕ) → (shelved_nodes w k j ≡ strand_at v (get_or (list_at k heads) j 0)) ⊎ (shelved_nodes w k j ≡ [])
+    shelved_along k j =
+        let seen : shelved_nodes w k j ≡ get_or (map (strand_at v) (list_at k heads)) j [] = ap (λ (ms : List (List ℕ)). get_or ms j []) (shelf_is k) in
+        elim (cases_lt j (length (list_at k heads))) [
+          | inl inside ↦ inl (seen ∙ get_or-map (strand_at v) (list_at k heads) j 0 [] inside)
+          | inr past ↦ inr (seen ∙ get_or_past (map (strand_at v) (list_at k heads)) j [] (omega (arith, past, length-map (list_at k heads) (strand_at v))))
+        ]
+
+    pub next_shelved : (k j i x : ℕ) → slice_get (shelved_nodes w k j) i ≡ Some x → (o : Option ℕ) → ((g l : ℕ) → slice_get (strand_at v g) l ≡ Some x → o ≡ slice_get (strand_at v g) (l + 1))
+        → o ≡ slice_get (shelved_nodes w k j) (i + 1)
+    next_shelved k j i x at o next =
+        elim (shelved_along k j) [
+          | inl same ↦ next (get_or (list_at k heads) j 0) i (ap (λ ns. slice_get ns i) (sym same) ∙ at) ∙ ap (λ ns. slice_get ns (i + 1)) (sym same)
+          | inr none ↦ absurd (none-some x (ap (λ ns. slice_get ns i) (sym none) ∙ at))
+        ]
+
+    -- ---- the messages on a shelf
+
+    -- the heads on it
+    pub heads_at : (k : ℕ) → heads_on w k ≡ list_at k heads
+    heads_at k = ap (λ u. heads_on u k) (sym is) ∙ ap (map head_node) (shelf-get v heads k) ∙ heads_of (list_at k heads) (λ x there. head_node-strand x k there)
+      where
+        heads_of : (xs : List ℕ) → ((x : ℕ) → has x xs ≡ true → head_node (strand_at v x) ≡ x) → map head_node (map (strand_at v) xs) ≡ xs
+        heads_of [] each = refl
+        heads_of (x ∷ xs) each = λ i. each x (has_head x x xs refl) i ∷ heads_of xs (λ y there. each y (has_tail x y xs there)) i
+
+    -- a head on a shelf of the value is on that list
+    pub shelved_at : (x k : ℕ) → has x (heads_on w k) ≡ true → holder x heads ≡ Some k
+    shelved_at x k there = on_list x k (ap (has x) (sym (heads_at k)) ∙ there)
+
+    -- the head behind one
+    pub after_at : (x k : ℕ) → has x (heads_on w k) ≡ true → next_in heads x ≡ after x (heads_on w k)
+    after_at x k there = ap (λ o. after x (option_map_or (λ l. list_at l heads) o [])) (shelved_at x k there) ∙ ap (after x) (sym (heads_at k))
+
+    -- and the head before it
+    pub before_at : (x k : ℕ) → has x (heads_on w k) ≡ true → previous_in heads x ≡ before x (heads_on w k)
+    before_at x k there = ap (λ o. before x (option_map_or (λ l. list_at l heads) o [])) (shelved_at x k there) ∙ ap (before x) (sym (heads_at k))

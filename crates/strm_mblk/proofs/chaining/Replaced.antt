@@ -1,0 +1,185 @@
+-- Strands that stand on no shelf are replaced.
+use Rattle.std.proofs.Common.{◌≡◌, ◌≢◌, ℕ, ◌+◌, ◌-◌, ◌<◌, false, List, [], ◌∷◌, ◌++◌, map, length, set, take, Option, Some, None, IsSome, is_some, reverse, refl, sym, ap, ◌∙◌, subst, arith, get_or-set_other, length-set}
+use Rattle.std.specs.Prelude.{drop, slice_get}
+use Rattle.std.specs.List.{concat}
+use Rattle.std.proofs.lemmas.Bool.{false≢true}
+use Rattle.std.proofs.lemmas.List.{set-set}
+use Rattle.strm_links.specs.Rows.{Rows, first, has, holder, linked_nodes}
+use Rattle.strm_links.specs.Held.{items_of, held_in, joined, divided, set_apart, taken_out}
+use Rattle.strm_links.specs.StrandLists.{IsParted, StrandLists, strand_at, with_first_begun, with_second_freed}
+use Rattle.strm_links.proofs.OneList.{absent_both}
+use Rattle.strm_data.specs.DataStore.{times}
+use Rattle.strm_mblk.specs.ChainLayout.{nodes_of, IsChained}
+use Rattle.strm_mblk.specs.NodeLists.{NodeLists, after_begin, after_second_freed, nodes_at}
+use Rattle.strm_mblk.proofs.chaining.Standing.{free_unheld, not_begun, not_head}
+use Rattle.strm_mblk.proofs.lists.Numbers.{at_first, times_at}
+use Rattle.strm_mblk.proofs.chaining.Parted.{alone, alone_parted}
+use Rattle.strm_mblk.proofs.chaining.Seen.{but_set, held_off, map_members, unlinked}
+
+-- a list that is there
+pub there : (o : Option (List ℕ)) → IsSome o → o ≡ Some (items_of o)
+there None some = absurd (false≢true some)
+there (Some ns) some = refl
+
+-- messages on shelves are as they were
+shelves_alike : (h : ℕ) (f g : ℕ → List ℕ) (lists : List (List ℕ)) → has h (concat lists) ≡ false → ((k : ℕ) → k ≢ h → f k ≡ g k) → map (map f) lists ≡ map (map g) lists
+shelves_alike h f g [] off same = refl
+shelves_alike h f g (xs ∷ lists) off same =
+    let parts = absent_both h xs (concat lists) off in
+    λ i. map_members f g xs (λ k there. same k (λ is. false≢true (sym parts.0 ∙ ap (λ j. has j xs) (sym is) ∙ there))) i ∷ shelves_alike h f g lists parts.1 same i
+
+-- one strand is another
+replaced : (v : StrandLists) (heads : Rows) (h : ℕ) (o : Option (List ℕ)) → holder h heads ≡ None → nodes_of (record v { held = set v.held h o }) heads ≡ record (nodes_of v heads) { held = set (nodes_of v heads).held h o }
+replaced v heads h o off =
+    let w : StrandLists = record v { held = set v.held h o } in
+    λ i. record {
+      free = v.free;
+      held = but_set h o (linked_nodes heads) v.held (unlinked h heads off) i;
+      shelves = shelves_alike h (strand_at w) (strand_at v) heads.lists (unlinked h heads off) (λ k other. ap (λ m. items_of m) (get_or-set_other v.held h k o None other)) i;
+    }
+
+module _ (v : StrandLists) (heads : Rows) (laid : IsChained v heads) (w : NodeLists) (is : nodes_of v heads ≡ w) where
+  -- a number with which no strand begins stands on no shelf
+  unheld_off : (h : ℕ) → held_in v.held h ≡ None → holder h heads ≡ None
+  unheld_off h none =
+      elim (holder h heads) as (λ o. holder h heads ≡ o → holder h heads ≡ None) [
+        | None ↦ λ off. off
+        | Some l ↦ λ on. absurd (false≢true (sym (ap is_some none) ∙ laid.begun h (ap is_some on)))
+      ] refl
+
+  -- such are the free ones
+  pub free_off : (n : ℕ) → 0 < times n v.free → holder n heads ≡ None
+  free_off n free = unheld_off n (free_unheld (alone v) (alone_parted v laid.strands_parted) n free)
+
+  -- and those behind the first of a strand
+  pub behind_off : (h i n : ℕ) (ns : List ℕ) → held_in v.held h ≡ Some ns → slice_get ns i ≡ Some n → n ≢ h → holder n heads ≡ None
+  behind_off h i n ns held at other = unheld_off n (not_begun (alone v) (alone_parted v laid.strands_parted) h i n ns held at other)
+
+  -- ---- one strand, that begins with h, is another
+
+  module _ (new : StrandLists) (free : List ℕ) (h : ℕ) (o : Option (List ℕ)) (off : holder h heads ≡ None) where
+    kept : (g : ℕ) → IsSome (holder g heads) → held_in (set v.held h o) g ≡ held_in v.held g
+    kept g on = get_or-set_other v.held h g o None (λ same. false≢true (sym (ap (λ k. is_some (holder k heads)) same ∙ ap is_some off) ∙ on))
+
+    pub one_is : new ≡ record { free = free; held = set v.held h o } → nodes_of new heads ≡ record w { free = free; held = set w.held h o }
+    one_is now =
+        ap (λ u. nodes_of u heads) now ∙ ap (λ (u : NodeLists). record u { free = free }) (replaced v heads h o off) ∙ ap (λ (u : NodeLists). record u { free = free; held = set u.held h o }) is
+
+    -- ---- and so is another, that begins with g
+
+    module _ (g : ℕ) (p : Option (List ℕ)) (off_g : holder g heads ≡ None) where
+      pub two_is : new ≡ record { free = free; held = set (set v.held h o) g p } → nodes_of new heads ≡ record w { free = free; held = set (set w.held h o) g p }
+      two_is now =
+          ap (λ u. nodes_of u heads) now ∙ ap (λ (u : NodeLists). record u { free = free }) (replaced (record v { held = set v.held h o }) heads g p off_g)
+          ∙ ap (λ (u : NodeLists). record u { free = free; held = set u.held g p }) (replaced v heads h o off) ∙ ap (λ (u : NodeLists). record u { free = free; held = set (set u.held h o) g p }) is
+
+      -- the layout holds
+      pub two_laid : new ≡ record { free = free; held = set (set v.held h o) g p } → IsParted new → IsChained new heads
+      two_laid now parted = record {
+        head_nodes = laid.head_nodes ∙ sym (ap (λ (u : StrandLists). length u.held) now ∙ length-set (set v.held h o) g p ∙ length-set v.held h o);
+        begun = λ k on.
+            subst IsSome
+            (sym (ap (λ (u : StrandLists). held_in u.held k) now
+            ∙ get_or-set_other (set v.held h o) g k p None (λ same. false≢true (sym (ap (λ j. is_some (holder j heads)) same ∙ ap is_some off_g) ∙ on)) ∙ kept k on))
+            (laid.begun k on);
+        strands_parted = parted;
+        heads_parting = laid.heads_parting;
+      }
+
+    pub one_laid : new ≡ record { free = free; held = set v.held h o } → IsParted new → IsChained new heads
+    one_laid now parted = two_laid h o off (now ∙ ap (λ held. record { free = free; held = held }) (sym (set-set v.held h o o))) parted
+
+  -- ---- the calls that do so
+
+  nodes_are : (h : ℕ) → holder h heads ≡ None → nodes_at w h ≡ strand_at v h
+  nodes_are h off = ap (λ u. nodes_at u h) (sym is) ∙ ap items_of (held_off v heads h off)
+
+  free_is : v.free ≡ w.free
+  free_is = ap (λ (u : NodeLists). u.free) is
+
+  module _ (new : StrandLists) (parted : IsParted new) where
+    -- what is seen, where the layout holds
+    abbrev IsNow : NodeLists → Type 0
+    IsNow u = (nodes_of new heads ≡ u) × IsChained new heads
+
+    -- the first free one is a message
+    pub begun : new ≡ with_first_begun v.free v → IsNow (after_begin w w.free)
+    begun now = subst (λ ns. IsNow (after_begin w ns)) free_is (by_case v.free refl now)
+      where
+        by_case : (ns : List ℕ) → v.free ≡ ns → new ≡ with_first_begun ns v → IsNow (after_begin w ns)
+        by_case [] none same = (ap (λ u. nodes_of u heads) same ∙ is, subst (λ u. IsChained u heads) (sym same) laid)
+        by_case (n ∷ ns) free same =
+            let off = free_off n (subst (λ fs. 0 < times n fs) (sym free) (times_at n (n ∷ ns) 0 refl)) in
+            (one_is new ns n (Some (n ∷ [])) off same, one_laid new ns n (Some (n ∷ [])) off same parted)
+
+    -- the first of them are one
+    pub begun_all : (count h : ℕ) → first v.free ≡ Some h → new ≡ record v { free = drop count v.free; held = set v.held h (Some (take count v.free)) }
+        → IsNow (record w { free = drop count w.free; held = set w.held h (Some (take count w.free)) })
+    begun_all count h begins now =
+        let off = free_off h (times_at h v.free 0 (at_first v.free h begins)) in (
+          one_is new (drop count v.free) h (Some (take count v.free)) off now
+              ∙ ap (λ fs. record w { free = drop count fs; held = set w.held h (Some (take count fs)) }) free_is,
+          one_laid new (drop count v.free) h (Some (take count v.free)) off now parted,
+        )
+
+    -- a message is joined by another
+    pub joins : (h g : ℕ) → holder h heads ≡ None → holder g heads ≡ None → new ≡ record v { held = joined h g v.held } → IsNow (record w { held = joined h g w.held })
+    joins h g off off_g now =
+        let both = strand_at v h ++ strand_at v g in (
+          two_is new v.free g None off_g h (Some both) off now
+              ∙ (λ i. record w { free = free_is i; held = set (set w.held g None) h (Some (sym (nodes_are h off) i ++ sym (nodes_are g off_g) i)) }),
+          two_laid new v.free g None off_g h (Some both) off now parted,
+        )
+
+    -- the blocks of a message are free
+    pub freed : (h : ℕ) → holder h heads ≡ None → new ≡ record v { free = reverse (strand_at v h) ++ v.free; held = set v.held h None }
+        → IsNow (record w { free = reverse (nodes_at w h) ++ w.free; held = set w.held h None })
+    freed h off now = (
+      one_is new (reverse (strand_at v h) ++ v.free) h None off now
+          ∙ (λ i. record w { free = reverse (sym (nodes_are h off) i) ++ free_is i; held = set w.held h None }),
+      one_laid new (reverse (strand_at v h) ++ v.free) h None off now parted,
+    )
+
+    -- what stands behind the first of a message
+    set_off : (h : ℕ) (ns : List ℕ) → held_in v.held h ≡ Some ns → holder h heads ≡ None → (k n : ℕ) → slice_get ns k ≡ Some n → 0 < k → (ms ls : List ℕ)
+        → new ≡ record v { held = set (set v.held h (Some ms)) n (Some ls) } → IsNow (record w { held = set (set w.held h (Some ms)) n (Some ls) })
+    set_off h ns held off k n at behind ms ls now =
+        let other : n ≢ h = not_head (alone v) (alone_parted v laid.strands_parted) h k n ns held at (k - 1) (omega arith) in
+        let off_n = behind_off h k n ns held at other in (
+          two_is new v.free h (Some ms) off n (Some ls) off_n now ∙ ap (λ fs. record w { free = fs; held = set (set w.held h (Some ms)) n (Some ls) }) free_is,
+          two_laid new v.free h (Some ms) off n (Some ls) off_n now parted,
+        )
+
+    unchanged : new ≡ v → IsNow w
+    unchanged same = (ap (λ u. nodes_of u heads) same ∙ is, subst (λ u. IsChained u heads) (sym same) laid)
+
+    -- the second block of a message is free
+    pub frees_second : (h : ℕ) → holder h heads ≡ None → new ≡ with_second_freed h (strand_at v h) v → IsNow (after_second_freed h (nodes_at w h) w)
+    frees_second h off now = subst (λ ns. IsNow (after_second_freed h ns w)) (sym (nodes_are h off)) (by_case (strand_at v h) now)
+      where
+        by_case : (ns : List ℕ) → new ≡ with_second_freed h ns v → IsNow (after_second_freed h ns w)
+        by_case [] same = unchanged same
+        by_case (x ∷ []) same = unchanged same
+        by_case (x ∷ y ∷ rest) same = (
+          one_is new (y ∷ v.free) h (Some (x ∷ rest)) off same ∙ ap (λ fs. record w { free = y ∷ fs; held = set w.held h (Some (x ∷ rest)) }) free_is,
+          one_laid new (y ∷ v.free) h (Some (x ∷ rest)) off same parted,
+        )
+
+    -- the others are a message
+    pub divides : (h : ℕ) → IsSome (held_in v.held h) → holder h heads ≡ None → new ≡ record v { held = divided (λ n. n) h (strand_at v h) v.held }
+        → IsNow (record w { held = divided (λ n. n) h (nodes_at w h) w.held })
+    divides h some off now = subst (λ ns. IsNow (record w { held = divided (λ n. n) h ns w.held })) (sym (nodes_are h off)) (by_case (strand_at v h) (there (held_in v.held h) some) now)
+      where
+        by_case : (ns : List ℕ) → held_in v.held h ≡ Some ns → new ≡ record v { held = divided (λ n. n) h ns v.held } → IsNow (record w { held = divided (λ n. n) h ns w.held })
+        by_case [] held same = unchanged same
+        by_case (x ∷ []) held same = unchanged same
+        by_case (x ∷ y ∷ rest) held same = set_off h (x ∷ y ∷ rest) held off 1 y refl (omega arith) (x ∷ []) (y ∷ rest) same
+
+    -- a block behind the first is one
+    pub takes_out : (h k n : ℕ) → held_in v.held h ≡ Some (strand_at v h) → holder h heads ≡ None → slice_get (strand_at v h) k ≡ Some n → 0 < k
+        → new ≡ record v { held = taken_out (λ n. n) h k (strand_at v h) v.held }
+        → IsNow (record w { held = set (set w.held h (Some (take k (nodes_at w h) ++ drop (k + 1) (nodes_at w h)))) n (Some (n ∷ [])) })
+    takes_out h k n held off at behind now =
+        let rest = take k (strand_at v h) ++ drop (k + 1) (strand_at v h) in
+        subst (λ ns. IsNow (record w { held = set (set w.held h (Some (take k ns ++ drop (k + 1) ns))) n (Some (n ∷ [])) })) (sym (nodes_are h off))
+        (set_off h (strand_at v h) held off k n at behind rest (n ∷ []) (now ∙ ap (λ o. record v { held = set_apart (λ n. n) h rest o v.held }) at))

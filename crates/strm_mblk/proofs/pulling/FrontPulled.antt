@@ -1,0 +1,177 @@
+-- The first block of a held message takes a data block that has the first bytes of the message.
+use Rattle.std.proofs.Common.{◌≡◌, ℕ, suc, ◌+◌, ◌<◌, ◌≤◌, Bool, eqb, List, [], ◌∷◌, length, set, Some, refl, sym, ap, ◌∙◌, subst, inl, inr, arith, ◌==◌, if◌then◌else◌, get_or-set_same, length-set}
+use Rattle.std.specs.Prelude.{count_by, drop, option_map, take}
+use Rattle.std.proofs.lemmas.Bool.{eq-eqb}
+use Rattle.std.proofs.lemmas.List.{length-take}
+use Rattle.std.proofs.lemmas.Bool.Decides.{eqb_tells}
+use Rattle.strm_data.specs.declared.msg_type.MsgType.{MsgType}
+use Rattle.strm_data.specs.CountedStore.{CountedStore, IsKept, IsUnused, count_of, without_name}
+use Rattle.strm_data.specs.DataStore.{DataStore, capacity_of, times, with_bytes_written, with_data_freed, with_data_taken, with_kind}
+use Rattle.strm_data.proofs.Times.{one_if, times_here}
+use Rattle.strm_mblk.specs.declared.blocks.Fields.{Fields}
+use Rattle.strm_mblk.specs.Arena.{Arena, held_at, message_at, names_of, shelved_blocks}
+use Rattle.strm_mblk.specs.Block.{Block, bytes_of, is_naming, kind_of}
+use Rattle.strm_mblk.specs.BlocksLayout.{IsFilled, IsPlaced, arena_of, block_at, block_of, fields_at, message_of, named_by, no_fields}
+use Rattle.strm_mblk.specs.Freeing.{with_name_dropped}
+use Rattle.strm_mblk.specs.Messages.{blocks_of}
+use Rattle.strm_mblk.specs.NodeLists.{NodeLists, nodes_at}
+use Rattle.strm_mblk.specs.Pulling.{front_pulled, over_data, with_front_copied, with_message}
+use Rattle.strm_mblk.specs.Trimming.{pulled_into}
+use Rattle.strm_mblk.proofs.lists.Numbers.{first_rest}
+use Rattle.strm_mblk.proofs.lists.Additive.{count_adds}
+use Rattle.strm_mblk.proofs.arena.Counts.{held_moves}
+use Rattle.strm_mblk.proofs.freeing.Dropping.{last_one, named_less, rooms-less}
+use Rattle.strm_mblk.proofs.freeing.Freemsg.{enough}
+use Rattle.strm_mblk.proofs.arena.Moves.{held_within}
+use Rattle.strm_mblk.proofs.chaining.Standing.{begins_with}
+use Rattle.strm_mblk.proofs.layout.Rewriting.{written_shows}
+use Rattle.strm_mblk.proofs.layout.Rooms.{HasRooms, count_of-set, placed-set, rooms-both, rooms-kind, rooms-taken}
+use Rattle.strm_mblk.proofs.pulling.SecondTaken.{IsHeldHead}
+use Rattle.strm_mblk.proofs.layout.Shown.{held_at-seen, message_at-seen}
+use Rattle.strm_mblk.proofs.layout.Unaltered.{bytes-message, bytes-typed}
+use Rattle.strm_mblk.proofs.altering.Writing.{rooms-written}
+
+-- a data block that is taken, gets a type, and then the first bytes of some blocks, keeps its capacity
+rooms-pulled : (s : DataStore) (n : ℕ) (b : Block) (bs : List Block) (d : ℕ) → n ≤ capacity_of s d → HasRooms s (pulled_into n (b ∷ bs) s d)
+rooms-pulled s n b bs d room =
+    let typed = rooms-both (rooms-taken s d) (rooms-kind (with_data_taken d s) d (kind_of s b)) in
+    rooms-both typed (rooms-written (with_kind d (kind_of s b) (with_data_taken d s)) d 0 (take n (bytes_of s (b ∷ bs))) (omega (arith, room, typed.room d, length-take n (bytes_of s (b ∷ bs)))))
+
+-- what the first block names is another data block: `a` is what was there
+pub record IsFrontPulled (a : Arena) (t : CountedStore) (fields : List Fields) (v : NodeLists) (id h d n : ℕ) : Type 0 where
+  pub filled : IsFilled t fields v (arena_of id t.store fields v)
+  pub after : arena_of id t.store fields v ≡ front_pulled h n (message_at a h) a d
+  pub shelved : shelved_blocks (arena_of id t.store fields v) ≡ shelved_blocks a
+
+module _ (id : ℕ) (s : CountedStore) (fields : List Fields) (v : NodeLists) (filled : IsFilled s fields v (arena_of id s.store fields v)) (h : ℕ) (is : IsHeldHead fields v h) where
+  abbrev old : Arena
+  old = arena_of id s.store fields v
+
+  abbrev was : Fields
+  was = fields_at fields h
+
+  -- the blocks behind the first
+  abbrev rest : List Block
+  rest = message_of fields (drop 1 (nodes_at v h))
+
+  nodes_are : nodes_at v h ≡ h ∷ drop 1 (nodes_at v h)
+  nodes_are = first_rest (nodes_at v h) h (begins_with v filled.parted h (nodes_at v h) is.held)
+
+  message_is : message_at old h ≡ block_at fields h ∷ rest
+  message_is = message_at-seen id s.store fields v h ∙ ap (message_of fields) nodes_are
+
+  pub head_held : held_at old h ≡ Some (block_at fields h ∷ rest)
+  head_held = held_at-seen id s.store fields v h ∙ ap (option_map (message_of fields)) is.held ∙ ap (λ ns. Some (message_of fields ns)) nodes_are
+
+  -- its data block has a name
+  pub former_used : 0 < count_of s was.data_number
+  former_used =
+      omega (
+        arith,
+        enough id s fields v filled h is.held was.data_number,
+        ap (λ ns. times was.data_number (named_by fields ns)) nodes_are,
+        times_here was.data_number was.data_number (named_by fields (drop 1 (nodes_at v h))) refl,
+      )
+
+  -- d is taken, gets the type of the first block's, and then the first n bytes
+  pub pulled_is : (n d : ℕ) (kind : MsgType) → kind ≡ kind_of s.store (block_at fields h) → (w u : CountedStore)
+      → w ≡ record { store = with_kind d kind (with_data_taken d s.store); counts = set s.counts d 1 } → u ≡ with_front_copied d n (message_of fields (nodes_at v h)) w
+      → u ≡ record { store = pulled_into n (block_at fields h ∷ rest) s.store d; counts = set s.counts d 1 }
+  pulled_is n d kind kind_is w u w_is u_is =
+      let typed : CountedStore = record { store = with_kind d kind (with_data_taken d s.store); counts = set s.counts d 1 } in
+      let m = block_at fields h ∷ rest in
+      u_is ∙ (λ i. with_front_copied d n (message_of fields (nodes_are i)) (w_is i))
+      ∙ ap (λ bytes. record typed { store = with_bytes_written d 0 (take n bytes) typed.store }) (bytes-message s.store typed.store (bytes-typed s.store d kind) m)
+      ∙ ap (λ e. record typed { store = with_bytes_written d 0 (take n (bytes_of s.store m)) (with_kind d e (with_data_taken d s.store)) }) kind_is
+
+  -- which stand in it then
+  module _ (n d : ℕ) (fresh : IsUnused s d) (room : n ≤ capacity_of s.store d) (u : CountedStore) (u_is : u ≡ record { store = pulled_into n (block_at fields h ∷ rest) s.store d; counts = set s.counts d 1 }) where
+    abbrev stored : DataStore
+    stored = pulled_into n (block_at fields h ∷ rest) s.store d
+
+    -- one more block names the data block that was taken
+    named_more : (k : ℕ) → count_of u k ≡ count_of s k + one_if (eqb d k)
+    named_more k =
+        ap (λ (c : CountedStore). count_of c k) u_is
+        ∙ count_of-set s stored d 1 k fresh.counted
+        ∙ elim (eqb_tells d k) [
+          | inl same ↦ rw same.0 (omega (arith, fresh.unnamed, ap (count_of s) same.1))
+          | inr other ↦ rw other.0 (omega arith)
+        ]
+
+    pub still_used : 0 < count_of u was.data_number
+    still_used = omega (arith, former_used, named_more was.data_number)
+
+    rooms_u : HasRooms s.store u.store
+    rooms_u = subst (HasRooms s.store) (sym (ap (λ (c : CountedStore). c.store) u_is)) (rooms-pulled s.store n (block_at fields h) rest d room)
+
+    pub still_there : was.data_number < length u.store.blocks
+    still_there = omega (arith, rooms_u.many, (filled.placed h is.there).there)
+
+    module _ (t : CountedStore) (x : Fields) (kept : IsKept t) (t_is : t ≡ without_name was.data_number u) (x_is : x ≡ record { data_number = d; offset = 0; len = n; band = was.band }) where
+      abbrev now : List Fields
+      now = set fields h x
+
+      -- the first block as it is now
+      abbrev first : Block
+      first = over_data d n (block_at fields h)
+
+      -- and the arena, but that the former data block has not lost its name
+      abbrev named : Arena
+      named = with_message h (first ∷ rest) (record old { store = stored })
+
+      names_moved : (k : ℕ) → names_of named k + one_if (eqb was.data_number k) ≡ names_of old k + one_if (eqb d k)
+      names_moved k =
+          omega (
+            arith,
+            held_moves (count_adds (is_naming k)) old h (Some (first ∷ rest)) (held_within old h (block_at fields h ∷ rest) head_held),
+            ap (λ o. count_by (is_naming k) (blocks_of o)) head_held,
+            (count_adds (is_naming k)).both (first ∷ []) rest,
+            (count_adds (is_naming k)).both (block_at fields h ∷ []) rest,
+          )
+
+      less : (k : ℕ) → count_of t k + one_if (eqb was.data_number k) ≡ count_of u k
+      less k = ap (λ (c : CountedStore). count_of c k + one_if (eqb was.data_number k)) t_is ∙ named_less u was.data_number still_used k
+
+      counted_now : (k : ℕ) → count_of t k ≡ names_of named k
+      counted_now k = omega (arith, less k, named_more k, names_moved k, filled.counts k)
+
+      -- the former data block is free where that was its last name
+      one_less : count_of u was.data_number ≡ suc (names_of named was.data_number + 0)
+      one_less = omega (arith, named_more was.data_number, names_moved was.data_number, filled.counts was.data_number, ap one_if (eq-eqb was.data_number was.data_number refl))
+
+      block_is : block_at now h ≡ first
+      block_is = ap (block_of h) (get_or-set_same fields h x no_fields is.there ∙ x_is)
+
+      shows : arena_of id t.store now v ≡ record named { store = t.store }
+      shows =
+          written_shows id s fields v filled h 0 h (nodes_at v h) is.held is.first t.store x
+          ∙ ap (λ (ns : List ℕ). record old { store = t.store; held = set old.held h (Some (set (message_of fields ns) 0 (block_at now h))) }) nodes_are
+          ∙ ap (λ b. record old { store = t.store; held = set old.held h (Some (b ∷ rest)) }) block_is
+
+      store_is : t.store ≡ (with_name_dropped was.data_number [] named).store
+      store_is =
+          ap (λ (c : CountedStore). c.store) t_is
+          ∙ ap (λ (w : DataStore). if count_of u was.data_number == 1 then with_data_freed was.data_number w else w) (ap (λ (c : CountedStore). c.store) u_is)
+          ∙ ap (λ (last : Bool). if last then with_data_freed was.data_number stored else stored)
+          (sym (last_one (names_of named was.data_number + 0) (count_of u was.data_number) one_less))
+
+      rooms : HasRooms s.store t.store
+      rooms = subst (HasRooms s.store) (sym (ap (λ (c : CountedStore). c.store) t_is)) (rooms-both rooms_u (rooms-less u was.data_number))
+
+      placed : IsPlaced t.store x
+      placed = subst (IsPlaced t.store) (sym x_is) (record { there = omega (arith, fresh.there, rooms.many); within = omega (arith, room, rooms.room d); banded = (filled.placed h is.there).banded })
+
+      pub pulls_front : IsFrontPulled old t now v id h d n
+      pulls_front = record {
+        filled = record {
+          kept = kept;
+          parted = filled.parted;
+          few = filled.few;
+          listed = omega (arith, filled.listed, length-set fields h x);
+          placed = placed-set s.store t.store fields h x rooms placed filled.placed;
+          counts = λ k. counted_now k ∙ ap (λ a. names_of a k) (sym shows);
+        };
+        after = shows ∙ ap (λ w. record named { store = w }) store_is ∙ ap (λ m. front_pulled h n m old d) (sym message_is);
+        shelved = ap shelved_blocks shows;
+      }

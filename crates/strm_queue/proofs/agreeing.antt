@@ -1,0 +1,3 @@
+-- When queues and message blocks agree, and how calls keep it.
+pub mod Flagged
+pub mod Agreeing

@@ -1,0 +1,277 @@
+-- When queues and message blocks agree, and how calls keep it.
+use Rattle.std.proofs.Common.{◌≡◌, ℕ, zero, suc, Bool, ◌+◌, ◌<◌, ◌≤◌, ◌≢◌, true, false, ◌&&◌, ◌==◌, List, [], ◌∷◌, ◌++◌, length, map, get_or, set, replicate, Option, refl, sym, ap, ◌∙◌, subst, inl, inr, arith, if◌then◌else◌, length-set, length-append, get_or-set_same, get_or-set_other}
+use Rattle.std.specs.Prelude.{nat_le, not, is_some}
+use Rattle.std.specs.List.{All, flat_map, list_all}
+use Rattle.std.proofs.lemmas.Bool.{cases_eq, false≢true}
+use Rattle.std.proofs.lemmas.List.{get_or_append_left, get_or-append-add, length-map, length-replicate}
+use Rattle.strm_data.specs.declared.class_spec.ClassSpec.{ClassSpec}
+use Rattle.strm_data.specs.DataStore.{DataBlock, DataStore}
+use Rattle.strm_data.specs.MsgType.{is_high_priority}
+use Rattle.std.proofs.lemmas.List.Sums.{sum_by-cons}
+use Rattle.strm_mblk.specs.Arena.{Arena, opening_arena, shelf_at, shelved_blocks}
+use Rattle.strm_mblk.specs.Block.{Message, head_of, size_of}
+use Rattle.strm_mblk.specs.Frame.{IsSameData, LeavesShelves}
+use Rattle.strm_mblk.specs.Messages.{blocks_on, put_before_head}
+use Rattle.strm_links.specs.Rows as rows
+use Rattle.strm_queue.specs.declared.queue_spec.QueueSpec.{QueueSpec}
+use Rattle.strm_queue.specs.Ends.{of_rank}
+use Rattle.strm_queue.specs.Flow.{Flags, QueueState, band_count, band_of_rank, bands_where, enabled_where, every_band, fills, flags_at, has_band, hiwat_of, is_of_band, lowat_of, opening_flags, opening_queues, spec_at, with_read}
+use Rattle.strm_queue.specs.QueuedBlocks.{Agrees, AreInOrder, AreFlagsLawful, QueuesValue, opening_value, tally_at, with_tally}
+use Rattle.strm_queue.specs.Tallies.{IsTallyOf, Tally, no_tally, one_less, one_more}
+use Rattle.strm_queue.specs.Rank.{is_ordered, rank_of}
+use Rattle.strm_queue.proofs.counting.Counts.{band_count-placed}
+use Rattle.strm_queue.proofs.agreeing.Flagged.{agrees_state}
+use Rattle.strm_queue.proofs.order.Order.{ordered_without}
+use Rattle.strm_queue.specs.Limits.{high_rank}
+use Rattle.strm_queue.specs.QueueSpecs.{are_lawful}
+use Rattle.strm_queue.proofs.layout.Lawful.{marks_below}
+use Rattle.strm_queue.proofs.counting.Tallies.{tally_joined, tally_left, tally_none, IsPlaced}
+use Rattle.strm_queue.specs.declared.tally.Placed.{Placed}
+use Rattle.strm_queue.proofs.shelf.OnShelf.{heads}
+use Rattle.strm_links.specs.Rows.{IsApart}
+
+-- queue q has other messages, and what is stored of it is other
+module _ (v : QueuesValue) (a : Arena) (in_order : AreInOrder v a) (q : ℕ) (within : q < length v.state.specs) (ms : List Message) (t : Tally)
+    (b : Arena) (store : b.store ≡ a.store) (shelves : b.shelves ≡ set a.shelves q ms) where
+  -- what is true of these, and of all other queues as they were, is true of each
+  each_at : (P : DataStore → ℕ → List Message → Tally → Type 0) → P a.store q ms t → ((p : ℕ) → P a.store p (shelf_at a p) (tally_at v p))
+      → (p : ℕ) → P b.store p (shelf_at b p) (tally_at (with_tally q t v) p)
+  each_at P here others p =
+      subst (λ s. P s p (shelf_at b p) (tally_at (with_tally q t v) p)) (sym store)
+      (subst (λ x. P a.store p (get_or x p []) (tally_at (with_tally q t v) p)) (sym shelves)
+      (elim (cases_eq p q) [
+        | inl same ↦
+            subst (λ k. P a.store k (get_or (set a.shelves q ms) k []) (get_or (set v.tallies q t) k no_tally)) (sym same)
+            (subst (λ x. P a.store q x (get_or (set v.tallies q t) q no_tally)) (sym (get_or-set_same a.shelves q ms [] (omega (arith, within, in_order.shelves))))
+            (subst (P a.store q ms) (sym (get_or-set_same v.tallies q t no_tally (omega (arith, within, in_order.stored)))) here))
+        | inr other ↦
+            subst (λ x. P a.store p x (get_or (set v.tallies q t) p no_tally)) (sym (get_or-set_other a.shelves q p ms [] other))
+            (subst (P a.store p (shelf_at a p)) (sym (get_or-set_other v.tallies q p t no_tally other)) (others p))
+      ]))
+
+  pub in_order_set : is_ordered (rank_of a.store) ms ≡ true → IsTallyOf a.store (hiwat_of v.state q) ms t → AreInOrder (with_tally q t v) b
+  in_order_set ordered true_of = record {
+    shelves = ap length shelves ∙ length-set a.shelves q ms ∙ in_order.shelves;
+    stored = length-set v.tallies q t ∙ in_order.stored;
+    ordered = each_at (λ s p xs u. is_ordered (rank_of s) xs ≡ true) ordered in_order.ordered;
+    true_of = each_at (λ s p xs u. p < length v.state.specs → IsTallyOf s (hiwat_of v.state p) xs u) (λ below. true_of) in_order.true_of;
+  }
+
+-- ---- marks
+
+module _ (s : QueueState) (a : Arena) (q : ℕ) (ms : List Message) (b : Arena) (store : b.store ≡ a.store) (shelves : b.shelves ≡ set a.shelves q ms) where
+  -- marks of other queues are lawful as they were
+  pub flags_other : (p : ℕ) → p ≢ q → AreFlagsLawful s a p → AreFlagsLawful s b p
+  flags_other p other lawful band wanted =
+      subst (λ x. lowat_of s p band < band_count x band (shelf_at b p)) (sym store)
+      (subst (λ xs. lowat_of s p band < band_count a.store band xs) (sym (ap (λ x. get_or x p []) shelves ∙ get_or-set_other a.shelves q p ms [] other)) (lawful band wanted))
+
+  -- and so are those of q where no band lost bytes
+  flags_more : q < length a.shelves → ((band : ℕ) → band_count a.store band (shelf_at a q) ≤ band_count a.store band ms) → AreFlagsLawful s a q → AreFlagsLawful s b q
+  flags_more within more lawful band wanted =
+      subst (λ x. lowat_of s q band < band_count x band (shelf_at b q)) (sym store)
+      (subst (λ xs. lowat_of s q band < band_count a.store band xs) (sym (ap (λ x. get_or x q []) shelves ∙ get_or-set_same a.shelves q ms [] within)) (omega (arith, lawful band wanted, more band)))
+
+-- ---- one joins, one leaves
+
+module _ (v : QueuesValue) (a : Arena) (in_order : AreInOrder v a) (q : ℕ) (within : q < length v.state.specs) (m : Message) (b : Arena) (store : b.store ≡ a.store) where
+  abbrev hiwat : ℕ → ℕ
+  hiwat = hiwat_of v.state q
+
+  module _ (pre post : List Message) (p : Placed) (placed : IsPlaced a.store pre post m p) (apart : IsApart (heads (pre ++ m ∷ post))) where
+    -- a message joins where it keeps the order
+    pub in_order_put : shelf_at a q ≡ pre ++ post → b.shelves ≡ set a.shelves q (pre ++ m ∷ post) → is_ordered (rank_of a.store) (pre ++ m ∷ post) ≡ true → AreInOrder (with_tally q (one_more (hiwat (band_of_rank p.rank)) p (tally_at v q)) v) b
+    in_order_put is shelves ordered =
+        in_order_set v a in_order q within (pre ++ m ∷ post) (one_more (hiwat (band_of_rank p.rank)) p (tally_at v q)) b store shelves ordered
+        (tally_joined a.store m hiwat (tally_at v q) pre post p placed (subst (λ ms. IsTallyOf a.store hiwat ms (tally_at v q)) is (in_order.true_of q within)) ordered apart)
+
+    -- a message leaves
+    pub in_order_got : shelf_at a q ≡ pre ++ m ∷ post → b.shelves ≡ set a.shelves q (pre ++ post) → AreInOrder (with_tally q (one_less (hiwat (band_of_rank p.rank)) p (tally_at v q)) v) b
+    in_order_got is shelves =
+        let ordered = subst (λ ms. is_ordered (rank_of a.store) ms ≡ true) is (in_order.ordered q) in
+        in_order_set v a in_order q within (pre ++ post) (one_less (hiwat (band_of_rank p.rank)) p (tally_at v q)) b store shelves (ordered_without (rank_of a.store) pre post m ordered)
+        (tally_left a.store m hiwat (tally_at v q) pre post p placed (subst (λ ms. IsTallyOf a.store hiwat ms (tally_at v q)) is (in_order.true_of q within)) ordered apart)
+
+-- the marks of all queues stay lawful where a message joins one
+pub flags_put : (v : QueuesValue) (a : Arena) (agrees : Agrees v a) (q : ℕ) (within : q < length v.state.specs) (before : Option ℕ) (m : Message) (b : Arena) → b.store ≡ a.store
+    → b.shelves ≡ set a.shelves q (put_before_head head_of before m (shelf_at a q)) → (p : ℕ) → AreFlagsLawful v.state b p
+flags_put v a agrees q within before m b store shelves p =
+    elim (cases_eq p q) [
+      | inl same ↦
+          subst (AreFlagsLawful v.state b) (sym same)
+          (flags_more v.state a q (put_before_head head_of before m (shelf_at a q)) b store shelves (omega (arith, within, agrees.in_order.shelves))
+          (λ band. omega (arith, band_count-placed a.store band before m (shelf_at a q))) (agrees.flags q))
+      | inr other ↦ flags_other v.state a q (put_before_head head_of before m (shelf_at a q)) b store shelves p other (agrees.flags p)
+    ]
+
+-- ---- enabling
+
+-- enabling changes the run list alone
+module _ (so : Bool) (q : ℕ) (s : QueueState) where
+  pub enabled_specs : (enabled_where so q s).specs ≡ s.specs
+  enabled_specs = by_cases so ((spec_at s.specs q).service && not (rows.has q s.run))
+    where
+      by_cases : (so here : Bool) → (let t : QueueState = if so then (if here then record s { run = s.run ++ q ∷ [] } else s) else s in t).specs ≡ s.specs
+      by_cases true true = refl
+      by_cases true false = refl
+      by_cases false here = refl
+
+  pub enabled_flags : (enabled_where so q s).flags ≡ s.flags
+  enabled_flags = by_cases so ((spec_at s.specs q).service && not (rows.has q s.run))
+    where
+      by_cases : (so here : Bool) → (let t : QueueState = if so then (if here then record s { run = s.run ++ q ∷ [] } else s) else s in t).flags ≡ s.flags
+      by_cases true true = refl
+      by_cases true false = refl
+      by_cases false here = refl
+
+pub agrees_enabled : (v : QueuesValue) (a : Arena) (so : Bool) (q : ℕ) → Agrees v a → Agrees (record v { state = enabled_where so q v.state }) a
+agrees_enabled v a so q =
+    agrees_state v a (enabled_where so q v.state) (enabled_specs so q v.state)
+    (λ p. ap (λ ms. (get_or ms p opening_flags).wanted) (enabled_flags so q v.state))
+
+-- the want-to-read mark and the switched-off mark are other than wanted marks
+wanted_kept : (ms : List Flags) (q : ℕ) (m : Flags) → m.wanted ≡ (get_or ms q opening_flags).wanted → (p : ℕ) → (get_or (set ms q m) p opening_flags).wanted ≡ (get_or ms p opening_flags).wanted
+wanted_kept [] q m is p = refl
+wanted_kept (x ∷ xs) zero m is zero = is
+wanted_kept (x ∷ xs) zero m is (suc p) = refl
+wanted_kept (x ∷ xs) (suc q) m is zero = refl
+wanted_kept (x ∷ xs) (suc q) m is (suc p) = wanted_kept xs q m is p
+
+pub agrees_read : (v : QueuesValue) (a : Arena) (q : ℕ) (read : Bool) → Agrees v a → Agrees (record v { state = with_read q read v.state }) a
+agrees_read v a q read = agrees_state v a (with_read q read v.state) refl (wanted_kept v.state.flags q (record (flags_at v.state q) { read = read }) refl)
+
+-- ---- for callers
+
+-- a message whose data is the same has the same rank
+pub rank_of-same : (s t : DataStore) (m : Message) → All (IsSameData s t) m → rank_of t m ≡ rank_of s m
+rank_of-same s t [] same = refl
+rank_of-same s t (b ∷ bs) same = ap (λ (d : DataBlock). if is_high_priority d.kind then high_rank else b.band) (same 0 b (omega arith))
+
+-- what is true of each element of two lists together is true of each of either
+All-parts : {X : Type 0} (P : X → Type 0) (xs ys : List X) → All P (xs ++ ys) → All P xs × All P ys
+All-parts P xs ys all = (
+  λ k d within. subst P (get_or_append_left xs ys d k within) (all k d (omega (arith, within, length-append xs ys))),
+  λ k d within. subst P (get_or-append-add xs ys k d) (all (length xs + k) d (omega (arith, within, length-append xs ys))),
+)
+
+module _ (s t : DataStore) where
+  -- so do messages
+  below_same : (r : ℕ) (ms : List Message) → All (IsSameData s t) (flat_map (λ m. m) ms) → list_all (λ y. nat_le (rank_of t y) r) ms ≡ list_all (λ y. nat_le (rank_of s y) r) ms
+  below_same r [] same = refl
+  below_same r (m ∷ ms) same =
+      let parts = All-parts (IsSameData s t) m (flat_map (λ x. x) ms) same in
+      λ i. nat_le (rank_of-same s t m parts.0 i) r && below_same r ms parts.1 i
+
+  -- and stay in order
+  ordered_same : (ms : List Message) → All (IsSameData s t) (flat_map (λ m. m) ms) → is_ordered (rank_of t) ms ≡ is_ordered (rank_of s) ms
+  ordered_same [] same = refl
+  ordered_same (m ∷ ms) same =
+      let parts = All-parts (IsSameData s t) m (flat_map (λ x. x) ms) same in
+      (λ i. list_all (λ y. nat_le (rank_of t y) (rank_of-same s t m parts.0 i)) ms && ordered_same ms parts.1 i)
+      ∙ ap (λ b. b && is_ordered (rank_of s) ms) (below_same (rank_of s m) ms parts.1)
+
+  -- the blocks of one shelf are among those of all
+  shelf_same : (shelves : List (List Message)) (q : ℕ) → All (IsSameData s t) (blocks_on shelves) → All (IsSameData s t) (flat_map (λ m. m) (get_or shelves q []))
+  shelf_same [] q same = λ k d within. absurd (omega (arith, within))
+  shelf_same (ms ∷ shelves) zero same = (All-parts (IsSameData s t) (flat_map (λ m. m) ms) (blocks_on shelves) same).0
+  shelf_same (ms ∷ shelves) (suc q) same = shelf_same shelves q (All-parts (IsSameData s t) (flat_map (λ m. m) ms) (blocks_on shelves) same).1
+
+-- what stands on shelves is as it was, and so are the bytes of bands
+count_same : (s t : DataStore) (band : ℕ) (ms : List Message) → All (IsSameData s t) (flat_map (λ m. m) ms) → band_count t band ms ≡ band_count s band ms
+count_same s t band [] same = refl
+count_same s t band (m ∷ ms) same =
+    let parts = All-parts (IsSameData s t) m (flat_map (λ x. x) ms) same in
+    sum_by-cons (λ x. if is_of_band t band x then size_of x else 0) m ms
+    ∙ (λ i. (if band_of_rank (rank_of-same s t m parts.0 i) == band then size_of m else 0) + count_same s t band ms parts.1 i)
+    ∙ sym (sum_by-cons (λ x. if is_of_band s band x then size_of x else 0) m ms)
+
+-- and so are the messages of a rank
+of_rank-same : (s t : DataStore) (r : ℕ) (ms : List Message) → All (IsSameData s t) (flat_map (λ m. m) ms) → of_rank (rank_of t) r ms ≡ of_rank (rank_of s) r ms
+of_rank-same s t r [] same = refl
+of_rank-same s t r (m ∷ ms) same =
+    let parts = All-parts (IsSameData s t) m (flat_map (λ x. x) ms) same in
+    λ i. if rank_of-same s t m parts.0 i == r then m ∷ of_rank-same s t r ms parts.1 i else of_rank-same s t r ms parts.1 i
+
+-- so what is stored stays true
+tally_same : (s t : DataStore) (hiwat : ℕ → ℕ) (ms : List Message) (tally : Tally) → All (IsSameData s t) (flat_map (λ m. m) ms) → IsTallyOf s hiwat ms tally → IsTallyOf t hiwat ms tally
+tally_same s t hiwat ms tally same is = record {
+  len = is.len;
+  bytes = is.bytes;
+  each_band = is.each_band;
+  each_mark = is.each_mark;
+  counts = λ band below. is.counts band below ∙ sym (count_same s t band ms same);
+  full = λ band below. is.full band below ∙ ap (fills (hiwat band)) (sym (count_same s t band ms same));
+  ends = record {
+    each_first = is.ends.each_first;
+    each_last = is.ends.each_last;
+    each_used = is.ends.each_used;
+    firsts = λ r. is.ends.firsts r ∙ ap (λ xs. rows.first (heads xs)) (sym (of_rank-same s t r ms same));
+    lasts = λ r. is.ends.lasts r ∙ ap (λ xs. rows.last (heads xs)) (sym (of_rank-same s t r ms same));
+    used = λ r below. is.ends.used r below ∙ ap (λ xs. is_some (rows.first (heads xs))) (sym (of_rank-same s t r ms same));
+  };
+}
+
+-- a call that leaves the shelves and what stands there keeps the agreement
+module _ (v : QueuesValue) (a b : Arena) (shelves : b.shelves ≡ a.shelves) (same : All (IsSameData a.store b.store) (shelved_blocks a)) where
+  pub in_order_left : AreInOrder v a → AreInOrder v b
+  in_order_left in_order = record {
+    shelves = ap length shelves ∙ in_order.shelves;
+    stored = in_order.stored;
+    ordered = λ q.
+        ap (λ x. is_ordered (rank_of b.store) (get_or x q [])) shelves
+        ∙ ordered_same a.store b.store (shelf_at a q) (shelf_same a.store b.store a.shelves q same) ∙ in_order.ordered q;
+    true_of = λ q below.
+        subst (λ x. IsTallyOf b.store (hiwat_of v.state q) (get_or x q []) (tally_at v q)) (sym shelves)
+        (tally_same a.store b.store (hiwat_of v.state q) (shelf_at a q) (tally_at v q) (shelf_same a.store b.store a.shelves q same) (in_order.true_of q below));
+  }
+
+  pub flags_left_lawful : (q : ℕ) → AreFlagsLawful v.state a q → AreFlagsLawful v.state b q
+  flags_left_lawful q lawful band wanted =
+      omega (arith, lawful band wanted, ap (λ x. band_count b.store band (get_or x q [])) shelves, count_same a.store b.store band (shelf_at a q) (shelf_same a.store b.store a.shelves q same))
+
+pub agrees_left : (v : QueuesValue) (heads : List ℕ) (a b : Arena) → Agrees v a → LeavesShelves heads a b → Agrees v b
+agrees_left v heads a b agrees left = record {
+  in_order = in_order_left v a b left.shelves left.shelved_data agrees.in_order;
+  flags = λ q. flags_left_lawful v a b left.shelves left.shelved_data q (agrees.flags q);
+}
+
+-- new queues agree with new message blocks that have a shelf for each
+pub agrees_new : (specs : List QueueSpec) → are_lawful specs ≡ true → (id mblks : ℕ) (classes : List ClassSpec) → Agrees (opening_value specs) (opening_arena id mblks classes (length specs))
+agrees_new specs lawful id mblks classes = record {
+  in_order = record {
+    shelves = length-replicate (length specs) [];
+    stored = length-map specs (λ q. no_tally);
+    ordered = λ q. ap (is_ordered (rank_of (opening_arena id mblks classes (length specs)).store)) (empty (length specs) q);
+    true_of = λ q below.
+        subst (IsTallyOf (opening_arena id mblks classes (length specs)).store (hiwat_of (opening_queues specs) q) (shelf_at (opening_arena id mblks classes (length specs)) q)) (sym (none specs q))
+        (subst (λ ms. IsTallyOf (opening_arena id mblks classes (length specs)).store (hiwat_of (opening_queues specs) q) ms no_tally) (sym (empty (length specs) q))
+        (tally_none (opening_arena id mblks classes (length specs)).store (hiwat_of (opening_queues specs) q) (λ band within. omega (arith, marks_below (opening_queues specs) lawful q band below within))));
+  };
+  flags = λ q band wanted. absurd (false≢true (sym (ap (λ (m : Flags). has_band m.wanted band) (unmarked specs q) ∙ none_wanted_at band) ∙ wanted));
+}
+  where
+    no_messages : List Message
+    no_messages = []
+
+    empty : (n q : ℕ) → get_or (replicate n no_messages) q no_messages ≡ no_messages
+    empty zero q = refl
+    empty (suc n) zero = refl
+    empty (suc n) (suc q) = empty n q
+
+    none : (specs : List QueueSpec) (q : ℕ) → get_or (map (λ (s : QueueSpec). no_tally) specs) q no_tally ≡ no_tally
+    none [] q = refl
+    none (x ∷ xs) zero = refl
+    none (x ∷ xs) (suc q) = none xs q
+
+    unmarked : (specs : List QueueSpec) (q : ℕ) → get_or (map (λ (s : QueueSpec). opening_flags) specs) q opening_flags ≡ opening_flags
+    unmarked [] q = refl
+    unmarked (x ∷ xs) zero = refl
+    unmarked (x ∷ xs) (suc q) = unmarked xs q
+
+    none_at : (xs : List ℕ) (band : ℕ) → get_or (map (λ x. false) xs) band false ≡ false
+    none_at [] band = refl
+    none_at (x ∷ xs) zero = refl
+    none_at (x ∷ xs) (suc band) = none_at xs band
+
+    none_wanted_at : (band : ℕ) → has_band (bands_where (λ x. false)) band ≡ false
+    none_wanted_at band = none_at every_band band

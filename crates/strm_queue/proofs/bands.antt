@@ -1,0 +1,3 @@
+-- Sets of bands, as bits of words.
+pub mod Bits
+pub mod Bands

@@ -1,0 +1,189 @@
+-- What is stored of a queue's messages stays true where one of them joins or leaves.
+use Rattle.std.proofs.Common.{◌≡◌, ◌≢◌, ℕ, ◌+◌, ◌-◌, ◌<◌, ◌≤◌, ◌^◌, false, List, [], ◌∷◌, ◌++◌, length, get_or, set, Option, refl, sym, ap, ◌∙◌, inl, inr, arith, length-append, length-set, get_or-set_same, get_or-set_other, None, subst, replicate, zero, suc, true}
+use Rattle.std.specs.Prelude.{is_some}
+use Rattle.std.proofs.lemmas.Bool.{cases_eq, cond-false, cond-true, eq-eqb, lt-leb, ne_eqb}
+use Rattle.std.proofs.lemmas.List.{get_or-replicate, length-replicate}
+use Rattle.strm_data.specs.DataStore.{DataStore}
+use Rattle.strm_mblk.specs.Block.{Message, head_of, size_of}
+use Rattle.strm_queue.specs.Flow.{band_count, band_of_rank, bytes_on, fills}
+use Rattle.strm_queue.specs.Limits.{bands, ranks}
+use Rattle.strm_queue.specs.declared.tally.Placed.{Placed}
+use Rattle.strm_queue.specs.Ends.{first_of_rank, last_of_rank, of_rank}
+use Rattle.strm_queue.specs.Tallies.{IsTallyOf, Tally, count_of, end_joined, end_left, first_in, last_in, no_tally, one_less, one_more, with_count, with_ends}
+use Rattle.strm_queue.specs.Rank.{rank_of, is_ordered}
+use Rattle.strm_queue.proofs.bands.Bands.{has_band_where, length-bands_where, length-every_band}
+use Rattle.strm_queue.proofs.counting.Counts.{band_count-left, band_of_rank_range, count_in, counted, bytes_on-left}
+use Rattle.strm_links.specs.Rows.{IsApart, first, last}
+use Rattle.strm_queue.proofs.shelf.OnShelf.{heads}
+use Rattle.strm_queue.proofs.order.Ends.{first_joined, last_joined, first_left, last_left, of_rank-other}
+
+-- no message
+abbrev none_given : Option ℕ
+none_given = None
+
+-- of no messages, where no band is full without bytes
+pub tally_none : (s : DataStore) (hiwat : ℕ → ℕ) → ((band : ℕ) → band < bands → 0 < hiwat band) → IsTallyOf s hiwat [] no_tally
+tally_none s hiwat some = record {
+  len = refl;
+  bytes = refl;
+  each_band = length-replicate {A = ℕ} bands 0;
+  each_mark = length-bands_where (λ band. false) ∙ length-every_band;
+  counts = λ band below. get_or-replicate bands band 0 0 below;
+  full = λ band below. has_band_where (λ x. false) band below ∙ sym (lt-leb (hiwat band) 0 (some band below));
+  ends = record {
+    each_first = length-replicate {A = Option ℕ} ranks None;
+    each_last = length-replicate {A = Option ℕ} ranks None;
+    each_used = length-bands_where (λ band. false) ∙ length-every_band;
+    firsts = none_there ranks;
+    lasts = none_there ranks;
+    used = λ r below. has_band_where (λ x. false) r below;
+  };
+}
+  where
+    none_there : (n r : ℕ) → get_or (replicate n none_given) r none_given ≡ none_given
+    none_there zero r = refl
+    none_there (suc n) zero = refl
+    none_there (suc n) (suc r) = none_there n r
+
+-- a message stands between these, of this rank, with these bytes
+pub record IsPlaced (s : DataStore) (pre post : List Message) (m : Message) (p : Placed) : Type 0 where
+  pub head : p.head ≡ head_of m
+  pub rank : p.rank ≡ rank_of s m
+  pub size : p.size ≡ size_of m
+  pub ahead : p.ahead ≡ last (heads pre)
+  pub behind : p.behind ≡ first (heads post)
+  pub few : p.rank < ranks
+
+-- one band has another count, and one rank other ends
+module _ (s : DataStore) (hiwat : ℕ → ℕ) (ms ns : List Message) (t : Tally) (is : IsTallyOf s hiwat ms t) (len : ℕ) (long : len ≡ length ns) (bytes : ℕ) (heavy : bytes ≡ bytes_on ns)
+    (band n : ℕ) (within : band < bands) (here : n ≡ band_count s band ns) (others : (x : ℕ) → x ≢ band → band_count s x ns ≡ band_count s x ms)
+    (r : ℕ) (end beginning : Option ℕ) (below : r < ranks) (first_is : beginning ≡ first_of_rank (rank_of s) r ns) (last_is : end ≡ last_of_rank (rank_of s) r ns)
+    (other_ranks : (x : ℕ) → x ≢ r → of_rank (rank_of s) x ns ≡ of_rank (rank_of s) x ms) where
+  -- what stands in a list of numbers where one was set
+  at_set : {X : Type 0} (f : ℕ → X) (xs : List X) (k : ℕ) (v d : X) → k < length xs → v ≡ f k → (x : ℕ) → (x ≢ k → get_or xs x d ≡ f x) → get_or (set xs k v) x d ≡ f x
+  at_set f xs k v d inside new x old =
+      elim (cases_eq x k) [
+        | inl same ↦ ap (λ j. get_or (set xs k v) j d) same ∙ get_or-set_same xs k v d inside ∙ new ∙ ap f (sym same)
+        | inr other ↦ get_or-set_other xs k x v d other ∙ old other
+      ]
+
+  tally_set : IsTallyOf s hiwat ns (with_ends r beginning end (with_count (hiwat band) band n (record t { len = len; bytes = bytes })))
+  tally_set = record {
+    len = long;
+    bytes = heavy;
+    each_band = length-set t.counts band n ∙ is.each_band;
+    each_mark = length-set t.full band (fills (hiwat band) n) ∙ is.each_mark;
+    counts = λ x inside. at_set (λ j. band_count s j ns) t.counts band n 0 (omega (arith, within, is.each_band)) here x (λ other. is.counts x inside ∙ sym (others x other));
+    full = λ x inside.
+        at_set (λ j. fills (hiwat j) (band_count s j ns)) t.full band (fills (hiwat band) n) false (omega (arith, within, is.each_mark)) (ap (fills (hiwat band)) here) x
+        (λ other. is.full x inside ∙ ap (fills (hiwat x)) (sym (others x other)));
+    ends = record {
+      each_first = length-set t.firsts r beginning ∙ is.ends.each_first;
+      each_last = length-set t.lasts r end ∙ is.ends.each_last;
+      each_used = length-set t.used r (is_some beginning) ∙ is.ends.each_used;
+      firsts = λ x.
+          at_set (λ j. first_of_rank (rank_of s) j ns) t.firsts r beginning None (omega (arith, below, is.ends.each_first)) first_is x
+          (λ other. is.ends.firsts x ∙ ap (λ xs. first (heads xs)) (sym (other_ranks x other)));
+      lasts = λ x.
+          at_set (λ j. last_of_rank (rank_of s) j ns) t.lasts r end None (omega (arith, below, is.ends.each_last)) last_is x
+          (λ other. is.ends.lasts x ∙ ap (λ xs. last (heads xs)) (sym (other_ranks x other)));
+      used = used_at;
+    };
+  }
+    where
+      used_at : (x : ℕ) → x < bands → get_or (set t.used r (is_some beginning)) x false ≡ is_some (first_of_rank (rank_of s) x ns)
+      used_at x inside =
+          elim (cases_eq x r) [
+            | inl same ↦
+                ap (λ j. get_or (set t.used r (is_some beginning)) j false) same
+                ∙ get_or-set_same t.used r (is_some beginning) false (omega (arith, inside, same, is.ends.each_used))
+                ∙ ap is_some (first_is ∙ ap (λ j. first_of_rank (rank_of s) j ns) (sym same))
+            | inr other ↦
+                get_or-set_other t.used r x (is_some beginning) false other ∙ is.ends.used x inside
+                ∙ ap (λ xs. is_some (first (heads xs))) (sym (other_ranks x other))
+          ]
+
+module _ (s : DataStore) (m : Message) where
+  abbrev its : ℕ
+  its = band_of_rank (rank_of s m)
+
+  -- a message counts with its own band
+  own : counted s its m ≡ size_of m
+  own = cond-true _ (size_of m) 0 (eq-eqb its its refl)
+
+  -- and with no other
+  none : (x : ℕ) → x ≢ its → counted s x m ≡ 0
+  none x other = cond-false _ (size_of m) 0 (ne_eqb its x (λ same. other (sym same)))
+
+  module _ (hiwat : ℕ → ℕ) (t : Tally) (pre post : List Message) (p : Placed) (placed : IsPlaced s pre post m p) where
+    -- how the message stands
+    abbrev own_place : Placed
+    own_place = record { head = head_of m; rank = rank_of s m; size = size_of m; ahead = last (heads pre); behind = first (heads post) }
+
+    place_is : p ≡ own_place
+    place_is = λ i. record { head = placed.head i; rank = placed.rank i; size = placed.size i; ahead = placed.ahead i; behind = placed.behind i }
+
+    -- one joins
+    module _ (is : IsTallyOf s hiwat (pre ++ post) t) where
+      pub tally_joined : is_ordered (rank_of s) (pre ++ m ∷ post) ≡ true → IsApart (heads (pre ++ m ∷ post)) → IsTallyOf s hiwat (pre ++ m ∷ post) (one_more (hiwat (band_of_rank p.rank)) p t)
+      tally_joined ordered apart =
+          subst (λ k. IsTallyOf s hiwat (pre ++ m ∷ post) (one_more (hiwat (band_of_rank k.rank)) k t)) (sym place_is)
+          (tally_set s hiwat (pre ++ post) (pre ++ m ∷ post) t is (t.len + 1) (omega (arith, is.len, length-append pre (m ∷ post), length-append pre post))
+          (t.bytes + size_of m) (omega (arith, is.bytes, bytes_on-left pre post m))
+          its (count_of t its + size_of m) (band_of_rank_range (rank_of s m)) (omega (arith, is.counts its (band_of_rank_range (rank_of s m)), band_count-left s its pre post m, own))
+          (λ x other. omega (arith, band_count-left s x pre post m, none x other))
+          (rank_of s m) (end_joined (last_in t (rank_of s m)) (last (heads pre)) (head_of m)) (end_joined (first_in t (rank_of s m)) (first (heads post)) (head_of m)) (omega (arith, placed.few, placed.rank))
+          (ap (λ o. end_joined o (first (heads post)) (head_of m)) (is.ends.firsts (rank_of s m)) ∙ first_joined (rank_of s) pre post m ordered apart)
+          (ap (λ o. end_joined o (last (heads pre)) (head_of m)) (is.ends.lasts (rank_of s m)) ∙ last_joined (rank_of s) pre post m ordered apart)
+          (λ x other. of_rank-other (rank_of s) x pre post m other))
+
+      -- its bytes fit beside those of all
+      pub joins_all : bytes_on (pre ++ m ∷ post) < 2 ^ 32 → t.bytes + p.size < 2 ^ 32
+      joins_all few = omega (arith, few, bytes_on-left pre post m, is.bytes, placed.size)
+
+      -- and beside those of its band
+      pub joins_few : bytes_on (pre ++ m ∷ post) < 2 ^ 32 → count_of t (band_of_rank p.rank) + p.size < 2 ^ 32
+      joins_few few =
+          omega (
+            arith,
+            few,
+            bytes_on-left pre post m,
+            is.counts its (band_of_rank_range (rank_of s m)),
+            count_in s its (pre ++ post),
+            placed.size,
+            ap (λ r. count_of t (band_of_rank r)) placed.rank,
+          )
+
+    -- one leaves
+    module _ (is : IsTallyOf s hiwat (pre ++ m ∷ post) t) where
+      pub tally_left : is_ordered (rank_of s) (pre ++ m ∷ post) ≡ true → IsApart (heads (pre ++ m ∷ post)) → IsTallyOf s hiwat (pre ++ post) (one_less (hiwat (band_of_rank p.rank)) p t)
+      tally_left ordered apart =
+          subst (λ k. IsTallyOf s hiwat (pre ++ post) (one_less (hiwat (band_of_rank k.rank)) k t)) (sym place_is)
+          (tally_set s hiwat (pre ++ m ∷ post) (pre ++ post) t is (t.len - 1) (omega (arith, is.len, length-append pre (m ∷ post), length-append pre post))
+          (t.bytes - size_of m) (omega (arith, is.bytes, bytes_on-left pre post m))
+          its (count_of t its - size_of m) (band_of_rank_range (rank_of s m)) (omega (arith, is.counts its (band_of_rank_range (rank_of s m)), band_count-left s its pre post m, own))
+          (λ x other. omega (arith, band_count-left s x pre post m, none x other))
+          (rank_of s m) (end_left (last_in t (rank_of s m)) (first_in t (rank_of s m)) (last (heads pre)) (head_of m)) (end_left (first_in t (rank_of s m)) (last_in t (rank_of s m)) (first (heads post)) (head_of m)) (omega (arith, placed.few, placed.rank))
+          ((λ i. end_left (is.ends.firsts (rank_of s m) i) (is.ends.lasts (rank_of s m) i) (first (heads post)) (head_of m)) ∙ first_left (rank_of s) pre post m ordered apart)
+          ((λ i. end_left (is.ends.lasts (rank_of s m) i) (is.ends.firsts (rank_of s m) i) (last (heads pre)) (head_of m)) ∙ last_left (rank_of s) pre post m ordered apart)
+          (λ x other. sym (of_rank-other (rank_of s) x pre post m other)))
+
+      -- its bytes are among those of all
+      pub leaves_all : p.size ≤ t.bytes
+      leaves_all = omega (arith, is.bytes, bytes_on-left pre post m, placed.size)
+
+      -- and among those of its band
+      pub leaves_enough : p.size ≤ count_of t (band_of_rank p.rank)
+      leaves_enough =
+          omega (
+            arith,
+            is.counts its (band_of_rank_range (rank_of s m)),
+            band_count-left s its pre post m,
+            own,
+            placed.size,
+            ap (λ r. count_of t (band_of_rank r)) placed.rank,
+          )
+
+      -- and it is one of the messages
+      pub leaves_some : 1 ≤ t.len
+      leaves_some = omega (arith, is.len, length-append pre (m ∷ post))

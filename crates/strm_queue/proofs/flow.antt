@@ -1,0 +1,4 @@
+-- Queues in front and behind, and wanted marks.
+pub mod Targets
+pub mod Settling
+pub mod Wanting

@@ -1,0 +1,125 @@
+-- Walks along next queues, in search of one with a service procedure.
+use Rattle.std.proofs.Common.{◌≡◌, ℕ, zero, suc, ◌+◌, ◌<◌, ◌≤◌, Bool, true, false, ◌&&◌, List, [], ◌∷◌, length, get_or, Option, Some, None, refl, sym, ap, ◌∙◌, arith, inl, inr}
+use Rattle.std.specs.Prelude.{nat_eq, nat_le, nat_lt, if◌then◌else◌}
+use Rattle.std.specs.List.{enumerate_from, list_all}
+use Rattle.std.specs.Option.{option_eq, option_map_or}
+use Rattle.std.proofs.lemmas.Bool.{and_parts, cases_eq, cases_lt, cond-false, cond-true, le-ltb, lt-ltb, ltb-true, ne_eqb}
+use Rattle.std.proofs.lemmas.List.FromFn.{get_or-enumerate_from, length-enumerate_from}
+use Rattle.std.proofs.lemmas.List.Sums.{position_or_len_is}
+use Rattle.strm_links.specs.Rows.{is_some_of}
+use Rattle.strm_queue.specs.declared.queue_spec.QueueSpec.{QueueSpec}
+use Rattle.strm_queue.specs.Flow.{behind, no_spec, spec_at, target_within, waker_within}
+use Rattle.strm_queue.specs.QueueSpecs.{are_lawful, next_fits, times_next}
+use Rattle.strm_queue.proofs.layout.Lawful.{nexts_lawful}
+
+-- what is true of all is true of each
+all_at : {X : Type 0} (p : X → Bool) (xs : List X) → list_all p xs ≡ true → (i : ℕ) (d : X) → i < length xs → p (get_or xs i d) ≡ true
+all_at p [] all i d within = absurd (omega (arith, within))
+all_at p (x ∷ xs) all zero d within = (and_parts (p x) (list_all p xs) all).0
+all_at p (x ∷ xs) all (suc i) d within = all_at p xs (and_parts (p x) (list_all p xs) all).1 i d (omega (arith, within))
+
+-- a next queue has a greater number, and is there
+pub record IsAhead (specs : List QueueSpec) (q p : ℕ) : Type 0 where
+  pub greater : q < p
+  pub there : p < length specs
+
+pub next_ahead : (specs : List QueueSpec) → are_lawful specs ≡ true → (q : ℕ) → q < length specs → (p : ℕ) → (spec_at specs q).next ≡ Some p → IsAhead specs q p
+next_ahead specs lawful q within p is =
+    let number : 0 + q ≡ q = omega arith in
+    let here : next_fits specs q (spec_at specs q).next ≡ true =
+    ap (λ k. next_fits specs k (spec_at specs q).next) (sym number)
+    ∙ (λ i. next_fits specs (sym (get_or-enumerate_from 0 specs q (0, no_spec) within) i).0 (sym (get_or-enumerate_from 0 specs q (0, no_spec) within) i).1.next)
+    ∙ all_at (λ (x : ℕ × QueueSpec). next_fits specs x.0 x.1.next) (enumerate_from 0 specs) (nexts_lawful specs lawful) q (0, no_spec) (omega (arith, within, length-enumerate_from 0 specs)) in
+    let at : next_fits specs q (Some p) ≡ true = ap (next_fits specs q) (sym is) ∙ here in
+    record { greater = ltb-true q p (and_parts (nat_lt q p) (nat_lt p (length specs) && nat_le (times_next specs p) 1) at).0; there = ltb-true p (length specs) (and_parts (nat_lt p (length specs)) (nat_le (times_next specs p) 1) (and_parts (nat_lt q p) (nat_lt p (length specs) && nat_le (times_next specs p) 1) at).1).0 }
+
+-- ---- a walk of at most so many steps
+
+-- what is found from a queue, with at most so many steps; there are `count` queues, and so many steps to make
+module _ {X : Type 0} (found : ℕ → ℕ → X) (count q n : ℕ) where
+  -- after k of n steps, what is found from here is what is found from q
+  pub record IsOnWay (k at : ℕ) : Type 0 where
+    pub there : at < count
+    pub left : ℕ
+    pub many : left + k ≡ n
+    pub same : found left at ≡ found count q
+
+  pub on_way_none : q < count → n ≡ count → IsOnWay 0 q
+  on_way_none within is = record { there = within; left = count; many = omega (arith, is); same = refl }
+
+  module _ (k at : ℕ) (way : IsOnWay k at) where
+    -- there is one more step
+    pub step : k < n → (m : ℕ) × ((m + (k + 1) ≡ n) × (found (suc m) at ≡ found count q))
+    step more = one way.left way.many way.same
+      where
+        one : (left : ℕ) → left + k ≡ n → found left at ≡ found count q → (m : ℕ) × ((m + (k + 1) ≡ n) × (found (suc m) at ≡ found count q))
+        one zero many same = absurd (omega (arith, many, more))
+        one (suc m) many same = (m, (omega (arith, many), same))
+
+-- ---- ahead
+
+module _ (specs : List QueueSpec) (q n : ℕ) where
+  abbrev pub target_found : ℕ → ℕ → ℕ
+  target_found steps at = target_within steps specs at
+
+  pub target_none : q < length specs → n ≡ length specs → IsOnWay target_found (length specs) q n 0 q
+  target_none = on_way_none target_found (length specs) q n
+
+  module _ (k at : ℕ) (way : IsOnWay target_found (length specs) q n k at) where
+    module _ (more : k < n) (serves : (spec_at specs at).service ≡ false) where
+      pub target_next : are_lawful specs ≡ true → (p : ℕ) → (spec_at specs at).next ≡ Some p → IsOnWay target_found (length specs) q n (k + 1) p
+      target_next lawful p is =
+          let s = step target_found (length specs) q n k at way more in
+          record {
+            there = (next_ahead specs lawful at way.there p is).there;
+            left = s.0;
+            many = s.1.0;
+            same = sym (cond-false _ _ _ serves ∙ ap (λ o. option_map_or (target_within s.0 specs) o at) is) ∙ s.1.1;
+          }
+
+-- ---- behind
+
+module _ (specs : List QueueSpec) (q : ℕ) where
+  abbrev names : QueueSpec → Bool
+  names s = is_some_of q s.next
+
+  -- none of the first so many queues names q
+  abbrev pub NoneBehind : ℕ → Type 0
+  NoneBehind k = (j : ℕ) → j < k → is_some_of q (spec_at specs j).next ≡ false
+
+  -- as the code tests it
+  pub names_is : (o : Option ℕ) → option_eq nat_eq o (Some q) ≡ is_some_of q o
+  names_is None = refl
+  names_is (Some p) = refl
+
+  pub none_more : (k : ℕ) → NoneBehind k → is_some_of q (spec_at specs k).next ≡ false → NoneBehind (k + 1)
+  none_more k none here j within =
+      elim (cases_eq j k) [
+        | inl same ↦ ap (λ n. is_some_of q (spec_at specs n).next) same ∙ here
+        | inr other ↦ none j (omega (arith, within, other))
+      ]
+
+  pub behind_found : (k : ℕ) → k < length specs → NoneBehind k → is_some_of q (spec_at specs k).next ≡ true → behind specs q ≡ Some k
+  behind_found k within none here =
+      let at = position_or_len_is names specs k no_spec (omega (arith, within)) none (λ x. here) in
+      (λ i. if nat_lt (at i) (length specs) then Some (at i) else None) ∙ cond-true _ _ _ (lt-ltb k (length specs) within)
+
+  pub behind_none : are_lawful specs ≡ true → NoneBehind q → q ≤ length specs → behind specs q ≡ None
+  behind_none lawful none within =
+      let at = position_or_len_is names specs (length specs) no_spec (omega arith) each (λ past. absurd (omega (arith, past))) in
+      (λ i. if nat_lt (at i) (length specs) then Some (at i) else None) ∙ cond-false _ _ _ (le-ltb (length specs) (length specs) (omega arith))
+    where
+      past : (j : ℕ) → j < length specs → q ≤ j → (o : Option ℕ) → (spec_at specs j).next ≡ o → is_some_of q o ≡ false
+      past j there from None is = refl
+      past j there from (Some p) is = ne_eqb p q (λ same. absurd (omega (arith, same, from, (next_ahead specs lawful j there p is).greater)))
+
+      each : (j : ℕ) → j < length specs → is_some_of q (spec_at specs j).next ≡ false
+      each j there =
+          elim (cases_lt j q) [
+            | inl below ↦ none j below
+            | inr from ↦ past j there from (spec_at specs j).next refl
+          ]
+
+module _ (specs : List QueueSpec) (q n : ℕ) where
+  abbrev pub waker_found : ℕ → ℕ → Option ℕ
+  waker_found steps at = waker_within steps specs at

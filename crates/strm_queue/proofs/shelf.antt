@@ -1,0 +1,3 @@
+-- The messages of a shelf by their heads.
+pub mod OnShelf
+pub mod Across

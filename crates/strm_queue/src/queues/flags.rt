@@ -1,0 +1,91 @@
+//! The flags of queues.
+ghost use Rattle.std.specs.Prelude.{◌≡◌, ◌<◌, length};
+ghost use Rattle.strm_queue.specs.Flow.{flags_at, has_band, lowat_of, some_relieved, still_wanted, with_flags, with_noenable, with_read, with_wanted};
+ghost use Rattle.strm_mblk.specs.Arena.{Arena};
+ghost use Rattle.strm_mblk.specs.Given.{answer_of, value_after};
+ghost use Rattle.strm_queue.specs.QueueCalls.{switched};
+ghost use Rattle.strm_queue.specs.Tallies.{count_of};
+ghost use Rattle.strm_queue.specs.QueuedBlocks.{Agrees, tally_at, together};
+
+use super::{Queue, Queues};
+use strm_data::Refusal;
+
+impl Queues {
+    // Whether somebody wants to read from a queue.
+    pub(super) fn is_read(&self, queue: u8) -> bool
+        requires { queue < length self.now.state.specs }
+        ensures { result ≡ (flags_at self.now.state queue).read }
+    {
+        self.queues[usize::from(queue)].read
+    }
+
+    // Whether enabling is switched off.
+    pub(super) fn is_off(&self, queue: u8) -> bool
+        requires { queue < length self.now.state.specs }
+        ensures { result ≡ (flags_at self.now.state queue).noenable }
+    {
+        self.queues[usize::from(queue)].noenable
+    }
+
+    // Whether somebody waits for room in a band.
+    pub(super) fn is_wanted(&self, queue: u8, band: u8) -> bool
+        requires { queue < length self.now.state.specs }
+        ensures { result ≡ has_band (flags_at self.now.state queue).wanted band }
+    {
+        self.queues[usize::from(queue)].wanted.has(band)
+    }
+
+    // Sets or clears the want-to-read mark.
+    pub(super) fn set_read(&mut self, queue: u8, read: bool)
+        requires { queue < length self.old.state.specs }
+        ensures { self.new ≡ record self.old { state = with_read queue read self.old.state } }
+    {
+        self.queues[usize::from(queue)].read = read;
+    }
+
+    // Switches enabling off or on.
+    pub(super) fn set_off(&mut self, queue: u8, off: bool)
+        requires { queue < length self.old.state.specs }
+        ensures { self.new ≡ record self.old { state = with_noenable queue off self.old.state } }
+    {
+        self.queues[usize::from(queue)].noenable = off;
+    }
+
+    // Switches enabling off or on, where there is the queue.
+    pub(super) fn switch(&mut self, queue: u8, off: bool) -> Result<(), Refusal>
+        ensures after { (arena : Arena) → together self.new arena ≡ value_after (together self.old arena) (switched queue off (together self.old arena)) }
+        ensures answer { (arena : Arena) → result ≡ answer_of (switched queue off (together self.old arena)) }
+        ensures agrees { (arena : Arena) → Agrees self.old arena → Agrees self.new arena }
+    {
+        if !self.has_queue(queue) {
+            return Err(Refusal::NoSuchQueue);
+        }
+        self.set_off(queue, off);
+        Ok(())
+    }
+
+    // Sets the wanted mark of a band.
+    pub(super) fn set_wanted(&mut self, queue: u8, band: u8)
+        requires { queue < length self.old.state.specs }
+        ensures { self.new ≡ record self.old { state = with_wanted queue band self.old.state } }
+    {
+        self.queues[usize::from(queue)].wanted.insert(band);
+    }
+
+    // Takes away the wanted mark of each band that has room again: it has at most as many bytes as the low water mark.
+    // Whether there was one.
+    pub(super) fn relieve(&mut self, queue: u8) -> bool
+        requires { queue < length self.old.state.specs }
+        ensures flags { let flags = flags_at self.old.state queue in
+            self.new ≡ record self.old { state = with_flags queue (record flags { wanted = still_wanted flags.wanted (count_of (tally_at self.old queue)) (lowat_of self.old.state queue) }) self.old.state } }
+        ensures some { result ≡ some_relieved (flags_at self.old.state queue).wanted (count_of (tally_at self.old queue)) (lowat_of self.old.state queue) }
+    {
+        let Queue {
+            spec,
+            tally,
+            wanted,
+            ..
+        } = &mut self.queues[usize::from(queue)];
+        wanted.remove_at_most(tally.counts(), spec.lowat)
+    }
+}
