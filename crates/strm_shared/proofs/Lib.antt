@@ -1,7 +1,7 @@
-pub mod Constants
-pub mod Listing
-pub mod Noting
+mod Constants
+mod Listing
+mod Noting
 pub mod Opening
-pub mod Weighing
-pub mod Turning
-pub mod Crews
+mod Weighing
+mod Turning
+mod Crews

@@ -9,8 +9,8 @@ use std::marker::{Model, PhantomData};
 use std::sync::ledger::Share;
 use strm_pool::{MOST_REGISTERS, Reg, Regs};
 
-/// A worker's place at a shared pool: its number, and its own registers. It must be spent, or gathered: it can be neither
-/// cloned nor dropped.
+/// A worker's place at a shared pool: its number, and its own registers. It can be neither cloned nor dropped: it is gathered
+/// or spent, save by `Desks::forget`, which gives up the tokens in its registers.
 #[must_use]
 pub struct Desk<N: Name> {
     pub(crate) number: u8,

@@ -15,7 +15,7 @@ use std::marker::Model;
 use std::sync::ledger::{self, Share};
 
 /// At most `MOST_WORKERS` desks of one shared pool, in order. They lie in the value itself, and no call takes memory. As
-/// its desks, a list of them must be spent: it can be neither cloned nor dropped.
+/// its desks, a list of them can be neither cloned nor dropped, and `forget` gives it up with all that they hold.
 #[must_use]
 pub struct Desks<N: Name> {
     slots: ArrayVec<DeskSlot<N>, MOST_WORKERS>,
