@@ -8,18 +8,18 @@ use strm_pool::{Census, ClassInfo, Pool, Regs, Reply};
 #[test]
 fn writes_lines_of_wide_numbers(rt: HostRuntime) -> Result<(), Fail> {
     let census = Census {
-        free: 4095,
+        free: 5000,
         queued: 0,
         held: 12,
     };
     let mut text = Vec::new(rt.alloc());
     census.append(&mut text)?;
-    for (size, free, total) in [(16, 0, 4), (4096, 4095, 4095)] {
+    for (size, free, total) in [(16, 0, 4), (8000, 5000, 5000)] {
         ClassInfo { size, free, total }.append(&mut text)?;
     }
     assert_eq!(rt;
         text.as_slice(),
-        b"blocks free=4095 queued=0 held=12 total=4107\ndata size=16 free=0 total=4\ndata size=4096 free=4095 total=4095\n".as_slice()
+        b"blocks free=5000 queued=0 held=12 total=5012\ndata size=16 free=0 total=4\ndata size=8000 free=5000 total=5000\n".as_slice()
     );
     Ok(())
 }

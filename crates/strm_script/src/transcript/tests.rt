@@ -4,7 +4,7 @@ use std::test::Fail;
 use strm_pool::{BlockInfo, Census, MsgType, Octets, Refusal, Reply};
 
 const CENSUS: Census = Census {
-    free: 4095,
+    free: 5000,
     queued: 0,
     held: 12,
 };
@@ -20,7 +20,7 @@ fn writes_a_line_for_each_reply(rt: HostRuntime) -> Result<(), Fail> {
     reply_text(&mut text, 0, 11, &Reply::Refused(Refusal::BadShared))?;
     reply_text(&mut text, 0, 12, &Reply::Refused(Refusal::NoMblk))?;
     let wanted =
-        b"0:7 ok\n0:8 none\n15:1048599 empty\n255:4294967295 taken\n1:10 census 4095 0 12\n0:11 refused 21 BadShared\n0:12 refused 2 NoMblk\n";
+        b"0:7 ok\n0:8 none\n15:1048599 empty\n255:4294967295 taken\n1:10 census 5000 0 12\n0:11 refused 21 BadShared\n0:12 refused 2 NoMblk\n";
     assert_eq!(rt; text.as_slice(), wanted.as_slice());
     Ok(())
 }
@@ -35,7 +35,7 @@ fn writes_what_a_call_answers(rt: HostRuntime) -> Result<(), Fail> {
         .ok_or("eight bytes have room")?;
     let info = BlockInfo {
         kind: MsgType::MPcproto,
-        len: 4096,
+        len: 5000,
         band: 255,
         room: 0,
         names: 12,
@@ -52,7 +52,7 @@ fn writes_what_a_call_answers(rt: HostRuntime) -> Result<(), Fail> {
     reply_text(&mut text, 0, 16, &Reply::Id(u32::MAX))?;
     reply_text(&mut text, 0, 17, &Reply::Ready(1, 0))?;
     let wanted =
-        b"0:7 yes\n0:8 no\n0:9 size 4294967295\n0:10 size 0\n0:11 bytes 00090a0f109fa0ff\n0:12 bytes -\n0:13 block M_PCPROTO len=4096 band=255 room=0 names=12\n0:14 queue 0\n0:15 queue 255\n0:16 id 4294967295\n0:17 ready 1 0\n";
+        b"0:7 yes\n0:8 no\n0:9 size 4294967295\n0:10 size 0\n0:11 bytes 00090a0f109fa0ff\n0:12 bytes -\n0:13 block M_PCPROTO len=5000 band=255 room=0 names=12\n0:14 queue 0\n0:15 queue 255\n0:16 id 4294967295\n0:17 ready 1 0\n";
     assert_eq!(rt; text.as_slice(), wanted.as_slice());
     Ok(())
 }
