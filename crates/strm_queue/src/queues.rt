@@ -42,7 +42,7 @@ use strm_mblk::Blocks;
 /// for each queue, that each is in priority order, that what is stored of it is true, and that a wanted mark stands only
 /// where the band has more bytes than the low water mark. New `Queues` agree with new `Blocks` that have as many
 /// shelves, each call here keeps it, and so does every call of `Blocks` on tokens, since it leaves the shelves and what
-/// stands there (`LeavesOthers`).
+/// stands there (`LeavesShelves`).
 ///
 /// No call but `new` takes memory. Queues, their order, flow control and the calls are those of UNIX System V Release 4
 /// STREAMS.
