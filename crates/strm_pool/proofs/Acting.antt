@@ -5,7 +5,6 @@ use Rattle.std.proofs.lemmas.Bool.{and_from, and_parts}
 use Rattle.std.proofs.lemmas.List.{set-set}
 use Rattle.std.specs.Option.{option_map_or}
 use Rattle.strm_data.specs.declared.refusal.Refusal.{Refusal}
-use Rattle.strm_links.specs.Rows as rows
 use Rattle.strm_mblk.specs.declared.rejected.Rejected.{Rejected}
 use Rattle.strm_mblk.specs.declared.token.TokenValue.{TokenValue}
 use Rattle.strm_mblk.specs.Arena.{Arena, has, held_at, token_of}

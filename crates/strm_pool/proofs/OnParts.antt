@@ -5,11 +5,7 @@ use Rattle.strm_mblk.specs.Given.{Given, answer_of, value_after}
 use Rattle.strm_queue.specs.QueuedBlocks.{QueuedBlocks, QueuesValue, together}
 use Rattle.strm_pool.specs.declared.pool.Pool.TheInside.{Inside}
 use Rattle.strm_pool.specs.PoolLayout.{pool_value}
-use Rattle.strm_pool.specs.PoolValue.{PoolValue, on_arena, on_queues, queued, with_arena, with_queued}
-
-pub arena_after : {X : Type 0} (v : PoolValue) (g : Given Arena X) (a : Arena) → a ≡ value_after v.arena g → with_arena v a ≡ value_after v (on_arena v g)
-arena_after v (Ok given) a is = ap (with_arena v) is
-arena_after v (Err why) a is = ap (with_arena v) is
+use Rattle.strm_pool.specs.PoolValue.{PoolValue, on_arena, on_queues, queued, with_queued}
 
 pub queues_after : {X : Type 0} (v : PoolValue) (g : Given QueuedBlocks X) (w : QueuedBlocks) → w ≡ value_after (queued v) g → with_queued v w ≡ value_after v (on_queues v g)
 queues_after v (Ok given) w is = ap (with_queued v) is

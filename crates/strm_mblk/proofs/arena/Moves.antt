@@ -1,18 +1,17 @@
 -- Each block stays counted once, and each name, when a call moves a message.
-use Rattle.std.proofs.Common.{◌≡◌, ◌≢◌, ℕ, ◌+◌, ◌<◌, ◌≤◌, Bool, eqb, ltb, List, [], ◌∷◌, ◌++◌, length, get_or, set, Option, Some, None, refl, sym, ap, ◌∙◌, subst, inl, inr, arith, if◌then◌else◌, get_or-set_same, get_or-set_other, length-set, length-append}
+use Rattle.std.proofs.Common.{◌≡◌, ◌≢◌, ℕ, ◌+◌, ◌<◌, ◌≤◌, Bool, eqb, ltb, [], ◌∷◌, ◌++◌, length, get_or, set, Option, Some, None, refl, sym, ap, ◌∙◌, subst, inl, inr, arith, if◌then◌else◌, get_or-set_same, get_or-set_other, length-set, length-append}
 use Rattle.std.specs.Prelude.{count_by}
-use Rattle.std.specs.List.{flat_map}
 use Rattle.std.specs.Option.{IfSome}
 use Rattle.std.proofs.lemmas.Bool.{cases_eq, cases_lt, eq-eqb}
 use Rattle.std.proofs.lemmas.List.{get_or_past, length-map}
-use Rattle.strm_mblk.specs.Arena.{Arena, held_at, shelf_at, shelved_blocks, held_blocks, blocks_in, names_of, with_held, without_held, with_shelf}
-use Rattle.strm_mblk.specs.Block.{Block, Message, head_of, is_naming, numbers_of, new_block}
+use Rattle.strm_mblk.specs.Arena.{Arena, held_at, shelved_blocks, held_blocks, blocks_in, names_of, without_held}
+use Rattle.strm_mblk.specs.Block.{Block, Message, head_of, is_naming, numbers_of}
 use Rattle.strm_mblk.specs.Messages.{blocks_of}
 use Rattle.strm_data.specs.DataStore.{times}
 use Rattle.strm_data.specs.CountedStore.{CountedStore, count_of}
-use Rattle.strm_links.proofs.lists.Counting.{as_many, one_if, times-cons}
-use Rattle.strm_mblk.proofs.lists.Additive.{count_adds, count_one, flat_map-set_adds}
-use Rattle.strm_mblk.proofs.arena.Counts.{blocks_in_adds, held_moves, shelf_moves, times-all}
+use Rattle.strm_links.proofs.lists.Counting.{as_many, one_if}
+use Rattle.strm_mblk.proofs.lists.Additive.{count_adds, flat_map-set_adds}
+use Rattle.strm_mblk.proofs.arena.Counts.{blocks_in_adds, held_moves, times-all}
 pub use Rattle.strm_mblk.proofs.lists.Numbers.{one_most}
 use Rattle.strm_mblk.proofs.lists.Numbers.{in_range}
 
@@ -88,72 +87,10 @@ heads_kept a h o inside heads new k =
       | inr other ↦ subst (λ x. IfSome x (λ m. (0 < length m) × (head_of m ≡ k))) (sym (held_at-set_other a h k o other)) (heads k)
     ]
 
--- a free number becomes a message of one block over d, which nothing named
-pub allocated : (a : Arena) (s t : CountedStore) (n d : ℕ) (ns : List ℕ) → IsCounted a s → a.free ≡ n ∷ ns
-    → ((k : ℕ) → count_of t k ≡ count_of s k + one_if (eqb d k))
-    → IsCounted (with_held (new_block n d ∷ []) (record a { free = ns; store = t.store })) t
-allocated a s t n d ns counted is named =
-    let free_one : times n a.free ≡ 1 + times n ns = ap (times n) is ∙ times-cons n n ns ∙ ap (λ b. one_if b + times n ns) (eq-eqb n n refl) in
-    let absent : held_at a n ≡ None = not_held a s counted n (omega arith) in
-    let inside : n < length a.held = within a s counted n (omega arith) in
-    let rest : Arena = record a { free = ns; store = t.store } in
-    let moves : (p : Block → Bool) → count_by p (blocks_in (with_held (new_block n d ∷ []) rest)) ≡ count_by p (blocks_in a) + one_if (p (new_block n d)) =
-    λ p. omega (arith, held_moves (count_adds p) rest n (Some (new_block n d ∷ [])) inside, count_one p (new_block n d), (count_adds p).none, ap (λ o. count_by p (blocks_of o)) absent) in
-    record {
-      numbers = λ k.
-          times-all k (with_held (new_block n d ∷ []) rest)
-          ∙ (let sum : times k ns + count_by (number_is k) (blocks_in (with_held (new_block n d ∷ []) rest)) ≡ times k a.free + blocks_numbered a k =
-          omega (arith, moves (number_is k), times-cons k n ns, ap (times k) is) in
-          sum ∙ numbers_sum a s counted k ∙ ap (λ l. if ltb k l then 1 else 0) (sym (length-set a.held n (Some (new_block n d ∷ [])))));
-      heads = heads_kept rest n (Some (new_block n d ∷ [])) inside counted.heads (omega arith, refl);
-      counts = λ k. named k ∙ omega (arith, moves (is_naming k), counted.counts k);
-    }
-
 -- what leaves the held messages
 pub out_of_held : (a : Arena) (h : ℕ) (m : Message) (p : Block → Bool) → held_at a h ≡ Some m → count_by p (blocks_in (without_held h a)) + count_by p m ≡ count_by p (blocks_in a)
 out_of_held a h m p is =
     omega (arith, held_moves (count_adds p) a h None (held_within a h m is), (count_adds p).none, ap (λ o. count_by p (blocks_of o)) is)
-
--- the first message of a shelf is held
-module _ (a : Arena) (s : CountedStore) (q : ℕ) (m : Message) (ms : List Message) (counted : IsCounted a s) (is : shelf_at a q ≡ m ∷ ms) (some : 0 < length m) (inside : q < length a.shelves) where
-  out_of_shelf : (p : Block → Bool) → count_by p (blocks_in (with_shelf q ms a)) + count_by p m ≡ count_by p (blocks_in a)
-  out_of_shelf p =
-      omega (arith, shelf_moves (count_adds p) a q ms inside, ap (λ l. count_by p (flat_map (λ x. x) l)) is, (count_adds p).both m (flat_map (λ x. x) ms))
-
-  -- the blocks of a message on a shelf are among those of messages on shelves
-  among_shelved : (p : Block → Bool) → count_by p m ≤ count_by p (shelved_blocks a)
-  among_shelved p =
-      omega (
-        arith,
-        flat_map-set_adds (count_adds p) (flat_map (λ x. x)) a.shelves q [] [] inside,
-        (count_adds p).none,
-        ap (λ l. count_by p (flat_map (λ x. x) l)) is,
-        (count_adds p).both m (flat_map (λ x. x) ms),
-      )
-
-  pub head_shelved : 0 < count_by (number_is (head_of m)) (shelved_blocks a)
-  head_shelved = omega (arith, head_counts m (head_of m) some refl, among_shelved (number_is (head_of m)))
-
-  pub head_within : head_of m < length a.held
-  head_within = within a s counted (head_of m) (omega (arith, head_shelved, blocks_in_adds (count_adds (number_is (head_of m))) a))
-
-  pub head_absent : held_at a (head_of m) ≡ None
-  head_absent = not_held a s counted (head_of m) (omega (arith, head_shelved))
-
-  pub got_first : IsCounted (with_held m (with_shelf q ms a)) s
-  got_first =
-      let out = with_shelf q ms a in
-      let new = with_held m out in
-      let moves : (p : Block → Bool) → count_by p (blocks_in new) ≡ count_by p (blocks_in a) =
-      λ p. omega (arith, out_of_shelf p, held_moves (count_adds p) out (head_of m) (Some m) head_within, (count_adds p).none, ap (λ o. count_by p (blocks_of o)) head_absent) in
-      record {
-        numbers = λ k.
-            times-all k new
-            ∙ (let sum : times k a.free + count_by (number_is k) (blocks_in new) ≡ times k a.free + blocks_numbered a k = omega (arith, moves (number_is k)) in
-            sum ∙ numbers_sum a s counted k ∙ ap (λ l. if ltb k l then 1 else 0) (sym (length-set a.held (head_of m) (Some m))));
-        heads = heads_kept out (head_of m) (Some m) head_within counted.heads (some, refl);
-        counts = λ k. counted.counts k ∙ sym (moves (is_naming k));
-      }
 
 -- a held message is replaced by one with the same numbers and names
 pub rewritten : (a : Arena) (s t : CountedStore) (h : ℕ) (m n : Message) → IsCounted a s → held_at a h ≡ Some m

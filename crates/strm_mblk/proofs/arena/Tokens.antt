@@ -1,12 +1,10 @@
 -- Tokens of held messages, and what a call leaves and answers.
-use Rattle.std.proofs.Common.{◌≡◌, ℕ, ◌==◌, true, List, length, Option, Some, None, Ok, Err, refl, sym, ap, ◌∙◌, subst, Bool, if◌then◌else◌}
+use Rattle.std.proofs.Common.{◌≡◌, ℕ, ◌==◌, true, List, length, Option, Some, None, refl, sym, ap, ◌∙◌, Bool, if◌then◌else◌}
 use Rattle.std.specs.Option.{IsSome}
 use Rattle.std.proofs.lemmas.Bool.{and_from, eq-eqb, eqb-true, and_parts, false≢true}
-use Rattle.strm_data.specs.declared.refusal.Refusal.{Refusal}
 use Rattle.strm_mblk.specs.declared.token.TokenValue.{TokenValue}
 use Rattle.strm_mblk.specs.Arena.{Arena, has, held_at, is_of_length, token_of}
 use Rattle.strm_mblk.specs.Block.{Message}
-use Rattle.strm_mblk.specs.Given.{Given, value_after, answer_of}
 use Rattle.strm_mblk.specs.Messages.{blocks_of}
 use Rattle.strm_mblk.specs.Freeing.{freemsg, spent}
 
@@ -36,15 +34,6 @@ had_message a t is = of_held (held_at a t.head) refl
     of_held : (o : Option Message) → held_at a t.head ≡ o → (m : Message) × IsHad a t m
     of_held None none = absurd (cc (parts.1, none))
     of_held (Some m) some = (m, record { held = some; pool = parts.0; blocks = eqb-true (length m) t.blocks (sym (ap (is_of_length t.blocks) some) ∙ parts.1) })
-
-module _ {V X : Type 0} (call : V → Given V X) {v w : V} (same : v ≡ w) where
-  -- a call that is answered
-  pub settles : {new : V} {x : X} → call v ≡ Ok (x, new) → (new ≡ value_after w (call w)) × (answer_of (call w) ≡ Ok x)
-  settles {new} {x} given = subst (λ u. (new ≡ value_after u (call u)) × (answer_of (call u) ≡ Ok x)) same (sym (ap (value_after v) given), ap answer_of given)
-
-  -- and one that is refused
-  pub refuses : {why : Refusal} → call v ≡ Err why → (w ≡ value_after w (call w)) × (answer_of (call w) ≡ Err why)
-  refuses {why} given = subst (λ u. (u ≡ value_after u (call u)) × (answer_of (call u) ≡ Err why)) same (sym (ap (value_after v) given), ap answer_of given)
 
 -- a token is had again once its message is one of as many blocks
 pub had_again : (a b : Arena) (t : TokenValue) (m n : Message) → IsHad a t m → held_at b t.head ≡ Some n → length n ≡ length m → b.id ≡ a.id → has b t ≡ true

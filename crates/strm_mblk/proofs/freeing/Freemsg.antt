@@ -1,6 +1,6 @@
 -- `freemsg`: the blocks of a held message are free, and their names are dropped.
 use Rattle.std.proofs.Common.{◌≡◌, ℕ, ◌+◌, ◌≤◌, List, ◌++◌, map, length, set, Some, None, sym, ap, ◌∙◌, subst, arith, length-set}
-use Rattle.std.specs.Prelude.{option_map, reverse, slice_get}
+use Rattle.std.specs.Prelude.{option_map, reverse}
 use Rattle.std.proofs.lemmas.List.{map-set}
 use Rattle.strm_data.specs.CountedStore.{CountedStore, IsKept, count_of}
 use Rattle.strm_data.specs.DataStore.{times}
@@ -13,9 +13,7 @@ use Rattle.strm_mblk.specs.Messages.{held_in}
 use Rattle.strm_mblk.specs.NodeLists.{IsNodesParted, NodeLists, nodes_at}
 use Rattle.strm_mblk.proofs.freeing.Dropping.{all_freed, counts_left, naming-named, rooms-dropped}
 use Rattle.strm_mblk.proofs.arena.Moves.{out_of_held}
-use Rattle.strm_mblk.proofs.chaining.Standing.{begins_with}
 use Rattle.strm_mblk.proofs.layout.Rooms.{HasRooms, placed-over}
-use Rattle.strm_mblk.proofs.lists.Numbers.{at_first}
 use Rattle.strm_mblk.proofs.layout.Shown.{held_at-seen, message_at-seen}
 
 -- a is what was there, and the other lists what is there once the message at h was freed
@@ -27,10 +25,6 @@ pub record IsFreed (a : Arena) (t : CountedStore) (fields : List Fields) (w : No
 module _ (id : ℕ) (s : CountedStore) (fields : List Fields) (v : NodeLists) (filled : IsFilled s fields v (arena_of id s.store fields v)) (h : ℕ) (held : held_in v.held h ≡ Some (nodes_at v h)) where
   abbrev old : Arena
   old = arena_of id s.store fields v
-
-  -- the message begins with its head
-  pub begins : slice_get (nodes_at v h) 0 ≡ Some h
-  begins = at_first (nodes_at v h) h (begins_with v filled.parted h (nodes_at v h) held)
 
   -- its blocks name data blocks beside those that other messages name
   loose : (d : ℕ) → count_of s d ≡ names_of (without_held h old) d + times d (named_by fields (nodes_at v h))

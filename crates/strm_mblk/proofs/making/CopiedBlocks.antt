@@ -4,7 +4,7 @@ use Rattle.std.specs.Prelude.{count_by, slice_get}
 use Rattle.std.specs.List.{All}
 use Rattle.std.specs.Result.{is_ok}
 use Rattle.std.proofs.lemmas.Bool.Decides.{eqb_tells}
-use Rattle.std.proofs.lemmas.List.{append-nil, drop_all, length-map, length-take-le, map-append, take_all, take_more}
+use Rattle.std.proofs.lemmas.List.{length-map, length-take-le, map-append, take_more}
 use Rattle.std.proofs.lemmas.List.Elements.{All-append}
 use Rattle.std.proofs.lemmas.Option.{get_or_from_slice_get, slice_get_within}
 use Rattle.strm_data.specs.CountedStore.{CountedStore, IsUnused, count_of}
@@ -14,9 +14,9 @@ use Rattle.strm_mblk.specs.declared.blocks.Fields.{Fields}
 use Rattle.strm_mblk.specs.Block.{Block, is_naming}
 use Rattle.strm_mblk.specs.BlockCalls.{copied_into, copies}
 use Rattle.strm_mblk.specs.BlocksLayout.{IsPlaced, fields_at, fields_of, with_fields}
-use Rattle.strm_mblk.specs.Copying.{AreCopied, with_copy}
+use Rattle.strm_mblk.specs.Copying.{with_copy}
 use Rattle.strm_mblk.specs.Given.{answer_map}
-use Rattle.strm_mblk.proofs.making.BegunAll.{length-with_fields, with_fields_other}
+use Rattle.strm_mblk.proofs.making.BegunAll.{with_fields_other}
 use Rattle.strm_mblk.proofs.making.CopiesCounted.{answer_more, can_take, in_front, in_front_none, rooms-copied}
 use Rattle.strm_mblk.proofs.lists.Additive.{count_adds, count_one}
 use Rattle.strm_mblk.proofs.making.Giving.{times_part}
@@ -61,30 +61,12 @@ none_copied bs ns fields s = record {
 }
 
 module _ (bs : List Block) (ns : List ℕ) (i : ℕ) (old new : List Fields) (s t : CountedStore) (copying : IsCopying bs ns i old new s t) where
-  -- all are copied
-  pub all_copied : length bs ≡ i → length ns ≡ i → AreCopied bs ns old new s t
-  all_copied blocks numbers = record {
-    made = copying.made;
-    answer =
-        copying.answer ∙ ap (λ xs. answer_map (in_front copying.made) (copies xs t.store)) (drop_all i bs (omega (arith, blocks)))
-        ∙ (λ j. Ok (append-nil copying.made j, t.store));
-    fields = copying.fields ∙ ap (λ ks. with_fields ks (map fields_of copying.made) old) (take_all i ns (omega (arith, numbers)));
-    many = copying.many ∙ sym blocks;
-    named = copying.named;
-    placed = copying.placed;
-    blocks = copying.rooms.many;
-    rooms = copying.rooms.room;
-  }
-
   -- a number that is none of the copies' says what it said
   pub source_stays : (n : ℕ) → times n ns ≡ 0 → fields_at new n ≡ fields_at old n
   source_stays n none =
       ap (λ fs. fields_at fs n) copying.fields
       ∙ with_fields_other (take i ns) (map fields_of copying.made) old n
       (omega (arith, none, times_part n i ns))
-
-  pub as_many : length new ≡ length old
-  as_many = ap length copying.fields ∙ length-with_fields (take i ns) (map fields_of copying.made) old
 
   module _ (b : Block) (next : drop i bs ≡ b ∷ drop (i + 1) bs) where
     -- the next data block can be taken

@@ -9,7 +9,7 @@ use Rattle.std.proofs.lemmas.List.{ext_get_or, get_or-map, get_or-set_other, get
 use Rattle.std.proofs.lemmas.Grind.{get_or-set_at}
 use Rattle.std.proofs.lemmas.List.Folds.{list_any_at, list_any_none}
 use Rattle.std.proofs.lemmas.List.FromFn.{get_or-range_with_len, length-range_with_len}
-use Rattle.std.proofs.lemmas.Nat.Bits.{bit_at-zero, bit_at_clear_other, bit_at_clear_same, bit_at_set_other, bit_at_set_same}
+use Rattle.std.proofs.lemmas.Nat.Bits.{bit_at_clear_other, bit_at_clear_same, bit_at_set_other, bit_at_set_same}
 use Rattle.strm_queue.specs.BandSets.{IsFirstFrom, IsHighestTo, IsLastTo, IsLowestFrom, is_in}
 use Rattle.strm_queue.specs.Flow.{bands_where, every_band, has_band}
 use Rattle.strm_queue.specs.Limits.{bands}
@@ -173,14 +173,6 @@ module _ (words : List ℕ) (b : ℕ) (long : length words ≡ 4) (low : b < ban
                 bit_in-set_other words b word within (λ i below differs. bit_at_clear_other w64 (slice_index_or words (b / 64) 0) (b % 64) (omega arith) i below differs) band other
                 ∙ sym (ap (λ t. not t && bit_in words band) (ne_eqb band b other))
           ]
-
-module _ (words : List ℕ) where
-  -- no bit is set where each word is 0
-  pub none_in : ((k : ℕ) → k < 4 → slice_index_or words k 0 ≡ 0) → any_in (bands_where (bit_in words)) ≡ false
-  none_in zeros = some_where (bit_in words) ∙ some_same (bit_in words) (λ band. false) at ∙ list_any_none (λ band. false) every_band (λ k d l. refl)
-    where
-      at : (band : ℕ) → band < bands → bit_in words band ≡ false
-      at band below = ap (λ w. bit_at w (band % 64) == 1) (zeros (band / 64) (omega (arith, below))) ∙ ap (λ n. n == 1) (bit_at-zero (band % 64))
 
 -- ---- the nearest of a set
 

@@ -16,7 +16,7 @@ use Rattle.strm_queue.specs.QueueCalls.{getq, got_at, got_first, rmvq, settled, 
 use Rattle.strm_queue.specs.QueuedBlocks.{Agrees, AreMarksLawful, QueuedBlocks, QueuesValue, together}
 use Rattle.strm_queue.specs.Rank.{without_place}
 use Rattle.strm_queue.proofs.agreeing.Agreeing.{marks_other}
-use Rattle.strm_queue.proofs.shelf.OnShelf.{FirstParts, first_none, first_of, unshelved}
+use Rattle.strm_queue.proofs.shelf.OnShelf.{FirstParts, first_of, unshelved}
 use Rattle.strm_mblk.specs.Messages.{without_head}
 
 module _ (v : QueuesValue) (a : Arena) (agrees : Agrees v a) (parted : IsParted a) (q : ℕ) (there : nat_lt q (length v.state.specs) ≡ true) (h : ℕ) where
@@ -56,10 +56,6 @@ module _ (v : QueuesValue) (a : Arena) (agrees : Agrees v a) (parted : IsParted 
     module _ (w : QueuesValue) (b : Arena) (got : IsGot w b) where
       pub getq_after : with_state (with_read q false) (settled q (together w b)) ≡ value_after both (getq q both)
       getq_after = ap (λ x. with_state (with_read q false) (settled q x)) (got_together [] first_here.post first_here.at first_here.is first_here.head w b got) ∙ sym (ap (value_after both) getq_given)
-
-  -- there is none
-  pub getq_none : first (heads_at a q) ≡ None → getq q both ≡ Ok (None, with_state (with_read q true) both)
-  getq_none none = cond-true _ _ _ there ∙ ap (λ ms. got_first q ms both) (first_none (shelf_at a q) none)
 
   -- ---- one at a place
 
