@@ -1,11 +1,11 @@
 -- What the calls that put a message on a queue do, by the model.
 use Rattle.std.proofs.Common.{◌≡◌, ℕ, ◌≤◌, Bool, true, false, List, length, take, drop, Option, Ok, Err, sym, ap, ◌∙◌, subst, if◌then◌else◌}
 use Rattle.std.specs.Prelude.{nat_lt, slice_get}
-use Rattle.std.proofs.lemmas.Bool.{cond-true, cond-false, le-ltb, ltb-true, not_from_true}
+use Rattle.std.proofs.lemmas.Bool.{cond-true, cond-false, le-ltb, not_from_true}
 use Rattle.std.proofs.lemmas.List.{take-append-drop}
 use Rattle.strm_links.specs.Rows.{IsApart}
 use Rattle.strm_data.specs.declared.refusal.Refusal.TheVariants.{BadOrder}
-use Rattle.strm_mblk.specs.Arena.{Arena, IsParted, message_at, shelf_at, with_shelf, without_held}
+use Rattle.strm_mblk.specs.Arena.{Arena, IsParted, message_at, shelf_at}
 use Rattle.strm_mblk.specs.Block.{Message, head_of}
 use Rattle.strm_mblk.specs.Given.{value_after}
 use Rattle.strm_mblk.specs.Messages.{put_before_head}
@@ -13,12 +13,11 @@ use Rattle.strm_mblk.specs.Shelves.{heads_at}
 use Rattle.strm_mblk.proofs.arena.Stands.{heads_apart}
 use Rattle.strm_queue.specs.Flow.{enabled_where, enables_inserted, enables_put, enables_put_back}
 use Rattle.strm_queue.specs.QueueCalls.{insq, flags_of, putbq, putq, rank_put, with_put, with_state}
-use Rattle.strm_queue.specs.QueuedBlocks.{Agrees, QueuedBlocks, QueuesValue, together, AreInOrder, AreMarksLawful}
+use Rattle.strm_queue.specs.QueuedBlocks.{QueuedBlocks, QueuesValue, together}
 use Rattle.strm_queue.specs.Rank.{as_queued, is_ordered, put_ahead, put_at, put_behind, rank_of}
-use Rattle.strm_queue.proofs.agreeing.Agreeing.{agrees_enabled, marks_put}
 use Rattle.strm_queue.proofs.shelf.OnShelf.{first_at, heads, placed-between}
 
-module _ (v : QueuesValue) (a : Arena) (agrees : Agrees v a) (q h : ℕ) (there : nat_lt q (length v.state.specs) ≡ true) where
+module _ (v : QueuesValue) (a : Arena) (q h : ℕ) (there : nat_lt q (length v.state.specs) ≡ true) where
   -- the message, as it stands on a queue
   abbrev m : Message
   m = as_queued a.store (message_at a h)
@@ -26,45 +25,17 @@ module _ (v : QueuesValue) (a : Arena) (agrees : Agrees v a) (q h : ℕ) (there 
   abbrev both : QueuedBlocks
   both = together v a
 
-  -- the message was put there, what is stored is true, and the queue is enabled, where it is to be
-  pub record IsPut (so : Bool) (before : Option ℕ) (w : QueuesValue) (b : Arena) : Type 0 where
-    pub put : QueuesValue
-    pub state : put.state ≡ v.state
-    pub in_order : AreInOrder put b
-    pub queues : w ≡ record put { state = enabled_where so q put.state }
-    pub arena : b ≡ with_shelf q (put_before_head head_of before m (shelf_at a q)) (without_held h a)
+  -- these are the messages of the queue, which is enabled, where it is to be
+  abbrev put : Bool → List Message → QueuedBlocks
+  put so ms = with_state (enabled_where so q) (with_put q h ms both)
 
-  module _ (so : Bool) (before : Option ℕ) (w : QueuesValue) (b : Arena) (put : IsPut so before w b) where
-    put_together : (ms : List Message) → put_before_head head_of before m (shelf_at a q) ≡ ms → together w b ≡ with_state (enabled_where so q) (with_put q h ms both)
-    put_together ms is =
-        let state_is = ap (λ (x : QueuesValue). x.state) put.queues ∙ ap (enabled_where so q) put.state in
-        let arena_is = put.arena ∙ ap (λ xs. with_shelf q xs (without_held h a)) is in
-        λ i. record { queues = state_is i; arena = arena_is i }
+  -- behind its equals
+  pub putq_after : (so : Bool) (ms : List Message) → so ≡ enables_put (flags_of both q) (rank_put h both) → ms ≡ put_behind (rank_of a.store) m (shelf_at a q) → put so ms ≡ value_after both (putq q h both)
+  putq_after so ms enables is = (λ i. put (enables i) (is i)) ∙ sym (ap (value_after both) (cond-true _ _ _ there))
 
-    pub put_agrees : Agrees w b
-    put_agrees =
-        subst (λ x. Agrees x b) (sym put.queues)
-        (agrees_enabled put.put b so q
-        (record {
-          in_order = put.in_order;
-          marks = λ p.
-              subst (λ s. AreMarksLawful s b p) (sym put.state)
-              (marks_put v a agrees q (ltb-true _ _ there) before m b (ap (λ (x : Arena). x.store) put.arena) (ap (λ (x : Arena). x.shelves) put.arena) p);
-        }))
-
-    -- behind its equals
-    module _ (is : put_before_head head_of before m (shelf_at a q) ≡ put_behind (rank_of a.store) m (shelf_at a q)) where
-      pub putq_after : so ≡ enables_put (flags_of both q) (rank_put h both) → together w b ≡ value_after both (putq q h both)
-      putq_after enables =
-          put_together (put_behind (rank_of a.store) m (shelf_at a q)) is
-          ∙ ap (λ c. with_state (enabled_where c q) (with_put q h (put_behind (rank_of a.store) m (shelf_at a q)) both)) enables ∙ sym (ap (value_after both) (cond-true _ _ _ there))
-
-    -- before its equals
-    module _ (is : put_before_head head_of before m (shelf_at a q) ≡ put_ahead (rank_of a.store) m (shelf_at a q)) where
-      pub putbq_after : so ≡ enables_put_back (flags_of both q) (rank_put h both) → together w b ≡ value_after both (putbq q h both)
-      putbq_after enables =
-          put_together (put_ahead (rank_of a.store) m (shelf_at a q)) is
-          ∙ ap (λ c. with_state (enabled_where c q) (with_put q h (put_ahead (rank_of a.store) m (shelf_at a q)) both)) enables ∙ sym (ap (value_after both) (cond-true _ _ _ there))
+  -- before its equals
+  pub putbq_after : (so : Bool) (ms : List Message) → so ≡ enables_put_back (flags_of both q) (rank_put h both) → ms ≡ put_ahead (rank_of a.store) m (shelf_at a q) → put so ms ≡ value_after both (putbq q h both)
+  putbq_after so ms enables is = (λ i. put (enables i) (is i)) ∙ sym (ap (value_after both) (cond-true _ _ _ there))
 
   -- ---- at a place
 
@@ -77,7 +48,7 @@ module _ (v : QueuesValue) (a : Arena) (agrees : Agrees v a) (q h : ℕ) (there 
         ∙ placed-between m (take k ms) (drop k ms) (subst (λ xs. IsApart (heads xs)) (sym whole) (heads_apart a parted q))
 
     abbrev inserted : QueuedBlocks
-    inserted = with_state (enabled_where (enables_inserted (flags_of both q)) q) (with_put q h (put_at k m (shelf_at a q)) both)
+    inserted = put (enables_inserted (flags_of both q)) (put_at k m (shelf_at a q))
 
     -- there is a place, so the order decides
     insq_there : insq q k h both ≡ (if is_ordered (rank_of a.store) (put_at k m (shelf_at a q)) then Ok (tt, inserted) else Err BadOrder)
@@ -91,5 +62,5 @@ module _ (v : QueuesValue) (a : Arena) (agrees : Agrees v a) (q h : ℕ) (there 
       pub insq_given : insq q k h both ≡ Ok (tt, inserted)
       insq_given = insq_there ∙ cond-true _ _ _ (sym (ap (is_ordered (rank_of a.store)) placed_at) ∙ ordered)
 
-      pub insq_after : (w : QueuesValue) (b : Arena) → IsPut (enables_inserted (flags_of both q)) before w b → together w b ≡ value_after both (insq q k h both)
-      insq_after w b put = put_together (enables_inserted (flags_of both q)) before w b put (put_at k m (shelf_at a q)) placed_at ∙ sym (ap (value_after both) insq_given)
+      pub insq_after : (so : Bool) → so ≡ enables_inserted (flags_of both q) → put so (put_before_head head_of before m (shelf_at a q)) ≡ value_after both (insq q k h both)
+      insq_after so enables = (λ i. put (enables i) (placed_at i)) ∙ sym (ap (value_after both) insq_given)

@@ -1,17 +1,54 @@
 //! Messages are put on queues.
-ghost use Rattle.std.specs.Prelude.{◌≡◌, [], ◌∷◌, IsTrue, MatchResult, None};
-ghost use Rattle.strm_mblk.specs.Arena.{has, held_at};
+ghost use Rattle.std.specs.Prelude.{◌≡◌, ◌<◌, [], ◌∷◌, IsTrue, MatchResult, None, length};
+ghost use Rattle.std.specs.Option.{ForSome};
+ghost use Rattle.strm_mblk.specs.Arena.{has, held_at, message_at, shelf_at};
+ghost use Rattle.strm_mblk.specs.Block.{head_of};
+ghost use Rattle.strm_mblk.specs.BlockCalls.{banded};
 ghost use Rattle.strm_mblk.specs.Frame.{LeavesOthers};
 ghost use Rattle.strm_mblk.specs.Given.{value_after, answer_of, or_rejected};
+ghost use Rattle.strm_mblk.specs.Messages.{put_before_head};
+ghost use Rattle.strm_mblk.specs.Shelves.{stands_on};
+ghost use Rattle.strm_queue.specs.Flow.{enabled_where};
+ghost use Rattle.strm_queue.specs.Limits.{high_rank, ranks};
 ghost use Rattle.strm_queue.specs.QueueCalls as model;
 ghost use Rattle.strm_queue.specs.QueuedBlocks.{Agrees, together};
+ghost use Rattle.strm_queue.specs.Rank.{as_queued, is_ordered, rank_of};
 
 use super::Queues;
 use super::places::{fits_before, head_at, held_rank};
 use strm_data::Refusal;
-use strm_mblk::{Blocks, Rejected, Token};
+use strm_mblk::{BlockNo, Blocks, Rejected, Token};
 
 impl Queues {
+    // Puts a message of this rank on a queue, as `shelve` does, and enables the queue, where it is to be.
+    fn put(
+        &mut self,
+        blocks: &mut Blocks,
+        queue: u8,
+        before: Option<BlockNo>,
+        rank: u16,
+        token: Token,
+        enables: bool,
+    )
+        requires queue { queue < length self.old.state.specs }
+        requires agrees { Agrees self.old blocks.old }
+        requires had { IsTrue (has blocks.old token) }
+        requires rank { rank ≡ rank_of blocks.old.store (message_at blocks.old token.head) }
+        requires few { rank < ranks }
+        requires high { let m = message_at blocks.old token.head in rank ≡ high_rank → as_queued blocks.old.store m ≡ banded 0 m }
+        requires before { ForSome before (λ head. IsTrue (stands_on blocks.old queue head)) }
+        requires ordered { let m = as_queued blocks.old.store (message_at blocks.old token.head) in
+            IsTrue (is_ordered (rank_of blocks.old.store) (put_before_head head_of before m (shelf_at blocks.old queue))) }
+        ensures after { let m = as_queued blocks.old.store (message_at blocks.old token.head) in
+            together self.new blocks.new ≡ model.with_state (enabled_where enables queue) (model.with_put queue token.head (put_before_head head_of before m (shelf_at blocks.old queue)) (together self.old blocks.old)) }
+        ensures gone { held_at blocks.new token.head ≡ None }
+        ensures others { LeavesOthers (token.head ∷ []) blocks.old blocks.new }
+        ensures agrees { Agrees self.new blocks.new }
+    {
+        self.shelve(blocks, queue, before, rank, token);
+        self.enable_where(enables, queue);
+    }
+
     /// Puts a message on a queue, behind the last one of rank at least its own. A high priority message ranks above all
     /// bands, and its first block gets band 0. Takes a step for each block of the message.
     ///
@@ -36,8 +73,8 @@ impl Queues {
         }
         let rank = held_rank(blocks, &token);
         let before = self.place_behind(blocks, queue, rank);
-        self.shelve(blocks, queue, before, rank, token);
-        self.enable_where(self.enables_put(queue, rank), queue);
+        let enables = self.enables_put(queue, rank);
+        self.put(blocks, queue, before, rank, token, enables);
         Ok(())
     }
 
@@ -65,8 +102,8 @@ impl Queues {
         }
         let rank = held_rank(blocks, &token);
         let before = self.place_ahead(blocks, queue, rank);
-        self.shelve(blocks, queue, before, rank, token);
-        self.enable_where(self.enables_put_back(queue, rank), queue);
+        let enables = self.enables_put_back(queue, rank);
+        self.put(blocks, queue, before, rank, token, enables);
         Ok(())
     }
 
@@ -111,8 +148,8 @@ impl Queues {
             let why = Refusal::BadOrder;
             return Err(Rejected { why, token });
         }
-        self.shelve(blocks, queue, before, rank, token);
-        self.enable_where(self.enables_inserted(queue), queue);
+        let enables = self.enables_inserted(queue);
+        self.put(blocks, queue, before, rank, token, enables);
         Ok(())
     }
 }

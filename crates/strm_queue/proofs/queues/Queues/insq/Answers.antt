@@ -4,13 +4,12 @@ use Rattle.strm_mblk.specs.Arena.{message_at, shelf_at}
 use Rattle.strm_mblk.specs.Block.{head_of}
 use Rattle.strm_mblk.specs.Given.{value_after, answer_of, or_rejected}
 use Rattle.strm_mblk.specs.Messages.{put_before_head}
-use Rattle.strm_queue.specs.Flow.{QueueState, enabled_where, enables_inserted, flags_at}
 use Rattle.strm_queue.specs.QueuedBlocks.{together}
 use Rattle.strm_queue.specs.Rank.{as_queued, is_ordered, rank_of}
-use Rattle.strm_queue.proofs.moving.Puts.{IsPut, insq_after, insq_given, insq_refused, put_agrees}
+use Rattle.strm_queue.proofs.moving.Puts.{insq_after, insq_given, insq_refused}
 use Rattle.strm_queue.proofs.order.Ranks.{rank_of-queued}
 use Rattle.strm_queue.proofs.queues.Queues.insq.Goals as goal
-use Rattle.strm_queue.proofs.queues.Queues.insq.Goals.{After-enable_where, After-fits_before}
+use Rattle.strm_queue.proofs.queues.Queues.insq.Goals.{After-fits_before}
 
 -- there is such a queue
 abbrev there : (c : After-fits_before) → nat_lt c.args.queue (length c.args.self.now.state.specs) ≡ true
@@ -31,46 +30,29 @@ pub returns-then-not-fits_before-clause-after : goal.returns-then-not-fits_befor
 returns-then-not-fits_before-clause-after c =
     let here = (goal.at.returns-then-not-fits_before-clause-after c).After-fits_before in
     sym (ap (value_after (together c.args.self.now c.args.blocks.now))
-    (insq_refused c.args.self.now c.args.blocks.now c.requires.agrees c.args.queue c.args.token.head (there here) c.args.place (few here) c.lawful.ensures.parted c.head_at-before.result
+    (insq_refused c.args.self.now c.args.blocks.now c.args.queue c.args.token.head (there here) c.args.place (few here) c.lawful.ensures.parted c.head_at-before.result
     c.head_at-before.ensures.value (sym (fits here) ∙ c.if-not-fits_before.true)))
 
 pub returns-then-not-fits_before-clause-answer : goal.returns-then-not-fits_before-clause-answer
 returns-then-not-fits_before-clause-answer c =
     let here = (goal.at.returns-then-not-fits_before-clause-answer c).After-fits_before in
     sym (ap (λ g. or_rejected c.args.token (answer_of g))
-    (insq_refused c.args.self.now c.args.blocks.now c.requires.agrees c.args.queue c.args.token.head (there here) c.args.place (few here) c.lawful.ensures.parted c.head_at-before.result
+    (insq_refused c.args.self.now c.args.blocks.now c.args.queue c.args.token.head (there here) c.args.place (few here) c.lawful.ensures.parted c.head_at-before.result
     c.head_at-before.ensures.value (sym (fits here) ∙ c.if-not-fits_before.true)))
 
-put : (c : After-enable_where) → IsPut c.args.self.now c.args.blocks.now c.requires.agrees c.args.queue c.args.token.head (sym c.has_queue.ensures ∙ c.if-not-has_queue.false) (enables_inserted (flags_at c.args.self.now.state c.args.queue)) c.head_at-before.result c.enable_where.new.self c.shelve.new.blocks
-put c = record {
-  put = c.shelve.new.self;
-  state = c.shelve.ensures.state;
-  in_order = c.shelve.ensures.in_order;
-  queues =
-      c.enable_where.ensures
-      ∙ ap (λ so. record c.shelve.new.self { state = enabled_where so c.args.queue c.shelve.new.self.state })
-      (c.enables_inserted.ensures ∙ ap (λ (s : QueueState). enables_inserted (flags_at s c.args.queue)) c.shelve.ensures.state);
-  arena = c.shelve.ensures.after;
-}
-
-pub shelve-requires-clause-ordered : goal.shelve-requires-clause-ordered
-shelve-requires-clause-ordered c = sym (fits (goal.at.shelve-requires-clause-ordered c).After-fits_before) ∙ c.if-not-fits_before.false
+pub put-requires-clause-ordered : goal.put-requires-clause-ordered
+put-requires-clause-ordered c = sym (fits (goal.at.put-requires-clause-ordered c).After-fits_before) ∙ c.if-not-fits_before.false
 
 pub returns-clause-after : goal.returns-clause-after
 returns-clause-after c =
-    let end = (goal.at.returns-clause-after c).After-enable_where in
     let here = (goal.at.returns-clause-after c).After-fits_before in
-    insq_after c.args.self.now c.args.blocks.now c.requires.agrees c.args.queue c.args.token.head (there here) c.args.place (few here) c.lawful.ensures.parted c.head_at-before.result
-    c.head_at-before.ensures.value (sym (fits here) ∙ c.if-not-fits_before.false) c.enable_where.new.self c.shelve.new.blocks (put end)
+    c.put.ensures.after
+    ∙ insq_after c.args.self.now c.args.blocks.now c.args.queue c.args.token.head (there here) c.args.place (few here) c.lawful.ensures.parted c.head_at-before.result
+    c.head_at-before.ensures.value (sym (fits here) ∙ c.if-not-fits_before.false) c.enables_inserted-enables.result c.enables_inserted-enables.ensures
 
 pub returns-clause-answer : goal.returns-clause-answer
 returns-clause-answer c =
     let here = (goal.at.returns-clause-answer c).After-fits_before in
     sym (ap (λ g. or_rejected c.args.token (answer_of g))
-    (insq_given c.args.self.now c.args.blocks.now c.requires.agrees c.args.queue c.args.token.head (there here) c.args.place (few here) c.lawful.ensures.parted c.head_at-before.result
+    (insq_given c.args.self.now c.args.blocks.now c.args.queue c.args.token.head (there here) c.args.place (few here) c.lawful.ensures.parted c.head_at-before.result
     c.head_at-before.ensures.value (sym (fits here) ∙ c.if-not-fits_before.false)))
-
-pub returns-clause-agrees : goal.returns-clause-agrees
-returns-clause-agrees c =
-    let end = (goal.at.returns-clause-agrees c).After-enable_where in
-    put_agrees c.args.self.now c.args.blocks.now c.requires.agrees c.args.queue c.args.token.head (sym c.has_queue.ensures ∙ c.if-not-has_queue.false) (enables_inserted (flags_at c.args.self.now.state c.args.queue)) c.head_at-before.result c.enable_where.new.self c.shelve.new.blocks (put end)

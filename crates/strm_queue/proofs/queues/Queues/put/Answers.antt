@@ -1,0 +1,25 @@
+use Rattle.std.proofs.Common.{ap, sym, ◌∙◌, subst}
+use Rattle.strm_mblk.specs.Arena.{Arena, message_at}
+use Rattle.strm_queue.specs.Flow.{enabled_where}
+use Rattle.strm_queue.specs.QueuedBlocks.{Agrees, AreMarksLawful, QueuesValue}
+use Rattle.strm_queue.specs.Rank.{as_queued}
+use Rattle.strm_queue.proofs.agreeing.Agreeing.{agrees_enabled, marks_put}
+use Rattle.strm_queue.proofs.queues.Queues.put.Goals as goal
+
+pub returns-clause-after : goal.returns-clause-after
+returns-clause-after c =
+    let state = ap (λ (v : QueuesValue). v.state) c.enable_where.ensures ∙ ap (enabled_where c.args.enables c.args.queue) c.shelve.ensures.state in
+    λ i. record { queues = state i; arena = c.shelve.ensures.after i }
+
+pub returns-clause-agrees : goal.returns-clause-agrees
+returns-clause-agrees c =
+    let b = c.shelve.new.blocks in
+    subst (λ v. Agrees v b) (sym c.enable_where.ensures)
+    (agrees_enabled c.shelve.new.self b c.args.enables c.args.queue
+    (record {
+      in_order = c.shelve.ensures.in_order;
+      marks = λ p.
+          subst (λ s. AreMarksLawful s b p) (sym c.shelve.ensures.state)
+          (marks_put c.args.self.now c.args.blocks.now c.requires.agrees c.args.queue c.requires.queue c.args.before (as_queued c.args.blocks.now.store (message_at c.args.blocks.now c.args.token.head)) b
+          (ap (λ (x : Arena). x.store) c.shelve.ensures.after) (ap (λ (x : Arena). x.shelves) c.shelve.ensures.after) p);
+    }))
