@@ -163,8 +163,8 @@ fn node_behind(nodes: &[Node], from: u32, steps: u32) -> u32
     at
 }
 
-// Turns the links of a chain round: it is left from last to first, and leads on to `beyond`.
-fn turn(nodes: &mut Vec<Node>, head: u32, len: u32, beyond: Slot)
+// Reverses the links of a chain: it is left from last to first, and leads on to `beyond`.
+fn reverse_links(nodes: &mut Vec<Node>, head: u32, len: u32, beyond: Slot)
     requires few { vec_len nodes.old < 2 ^ 32 }
     requires begins { first (path nodes.old.items len (Some head)) ≡ Some head }
     requires leads { LeadsOn (next_at nodes.old.items) (path nodes.old.items len (Some head)) None }
@@ -172,7 +172,7 @@ fn turn(nodes: &mut Vec<Node>, head: u32, len: u32, beyond: Slot)
     requires apart { IsApart (path nodes.old.items len (Some head)) }
     requires within { (k : ℕ) → IsTrue (has k (path nodes.old.items len (Some head)))
         → k < vec_len nodes.old }
-    ensures turned { LeadsOn (next_at nodes.new.items)
+    ensures reversed { LeadsOn (next_at nodes.new.items)
         (reverse (path nodes.old.items len (Some head))) beyond }
     ensures others { (k : ℕ) → has k (path nodes.old.items len (Some head)) ≡ false
         → next_at nodes.new.items k ≡ next_at nodes.old.items k }
@@ -181,7 +181,7 @@ fn turn(nodes: &mut Vec<Node>, head: u32, len: u32, beyond: Slot)
 {
     let mut at = Slot::some(head);
     let mut onto = beyond;
-    for _turned in 0..len {
+    for _reversed in 0..len {
         let number = at.number();
         let node = &mut nodes[number as usize];
         at = node.next;
@@ -402,7 +402,7 @@ impl Strands {
         ensures parted { IsParted self.new }
     {
         let span = self.nodes[head as usize].span;
-        turn(&mut self.nodes, head, span.len, self.first_free);
+        reverse_links(&mut self.nodes, head, span.len, self.first_free);
         keep(&mut self.nodes, head, Span::none());
         self.first_free = Slot::some(span.last);
         self.free_len += span.len;

@@ -19,7 +19,7 @@ use Rattle.strm_links.proofs.chaining.ChainLinks.{absent_take, first_front, link
 use Rattle.strm_links.proofs.chaining.Moves.{IsLaid-moved, Moves, unwritten, written}
 use Rattle.strm_links.proofs.chaining.Parts.{freed_few, not_in_other, not_in_strand}
 
--- the last comes first once a list is turned round
+-- the last comes first once a list is reversed
 first-reverse : (xs : List ℕ) (t : ℕ) → last xs ≡ Some t → first (reverse xs) ≡ Some t
 first-reverse [] t is = absurd (none-some t is)
 first-reverse (x ∷ []) t is = is
@@ -33,7 +33,7 @@ module _ (nodes : List Node) (first_free : Option ℕ) (free_len : ℕ) (v : Str
   pub freed_room : free_len + (span_at nodes h).len ≤ length v.chains
   freed_room = omega (arith, laid.free_count, was.len, length-append (strand_at v h) v.free, freed_few v laid.once h)
 
-  module _ (new : List Node) (long : length new ≡ length nodes) (turned : LeadsOn (next_at new) (reverse (strand_at v h)) first_free)
+  module _ (new : List Node) (long : length new ≡ length nodes) (reversed : LeadsOn (next_at new) (reverse (strand_at v h)) first_free)
       (links : (k : ℕ) → has k (strand_at v h) ≡ false → next_at new k ≡ next_at nodes k)
       (spans : (k : ℕ) → span_at new k ≡ (if h == k then no_span else span_at nodes k)) where
     free : List ℕ
@@ -51,7 +51,7 @@ module _ (nodes : List Node) (first_free : Option ℕ) (free_len : ℕ) (v : Str
           others = λ g k other _ there. not_in_other v laid.once g h k other there;
           here = none;
           there = none;
-          free_leads = LeadsOn-append (next_at new) (reverse (strand_at v h)) v.free None (subst (LeadsOn (next_at new) (reverse (strand_at v h))) laid.free_front turned)
+          free_leads = LeadsOn-append (next_at new) (reverse (strand_at v h)) v.free None (subst (LeadsOn (next_at new) (reverse (strand_at v h))) laid.free_front reversed)
               (LeadsOn-kept (next_at nodes) (next_at new) v.free None (λ k there. links k (not_in_strand v laid.once h k there)) laid.free_leads);
           same = λ k.
               omega (
@@ -69,71 +69,71 @@ module _ (nodes : List Node) (first_free : Option ℕ) (free_len : ℕ) (v : Str
         (sym (first_front _ (reverse (strand_at v h)) v.free (first-reverse (strand_at v h) _ was.last)))
         (omega (arith, laid.free_count, was.len, length-append (reverse (strand_at v h)) v.free, length-reverse (strand_at v h)))
 
--- ---- the walk that turns the links
+-- ---- the walk that reverses the links
 
 has-reverse : (k : ℕ) (xs : List ℕ) → has k (reverse xs) ≡ true → has k xs ≡ true
 has-reverse k xs there = has_times k xs (omega (arith, times-reverse k xs, times_has k (reverse xs) there))
 
--- the first `i` of `xs` are turned, and lead on to `beyond`; the walk is at the next one, and `onto` is the last turned
-pub record Turns (old now : List Node) (beyond : Option ℕ) (xs : List ℕ) (i : ℕ) (at onto : Option ℕ) : Type 0 where
+-- the first `i` of `xs` are reversed, and lead on to `beyond`; the walk is at the next one, and `onto` is the last reversed
+pub record Reverses (old now : List Node) (beyond : Option ℕ) (xs : List ℕ) (i : ℕ) (at onto : Option ℕ) : Type 0 where
   pub at_is : at ≡ first (drop i xs)
   pub onto_is : onto ≡ first_or beyond (reverse (take i xs))
-  pub turned : LeadsOn (next_at now) (reverse (take i xs)) beyond
+  pub reversed : LeadsOn (next_at now) (reverse (take i xs)) beyond
   pub others : (k : ℕ) → has k (take i xs) ≡ false → next_at now k ≡ next_at old k
   pub spans : (k : ℕ) → span_at now k ≡ span_at old k
   pub len : length now ≡ length old
 
-pub Turns-start : (nodes : List Node) (beyond at : Option ℕ) (xs : List ℕ) → at ≡ first xs → Turns nodes nodes beyond xs 0 at beyond
-Turns-start nodes beyond at xs begins = record {
+pub Reverses-start : (nodes : List Node) (beyond at : Option ℕ) (xs : List ℕ) → at ≡ first xs → Reverses nodes nodes beyond xs 0 at beyond
+Reverses-start nodes beyond at xs begins = record {
   at_is = begins;
   onto_is = refl;
-  turned = tt;
+  reversed = tt;
   others = λ k _. refl;
   spans = λ k. refl;
   len = refl;
 }
 
-module _ (old now : List Node) (beyond : Option ℕ) (xs : List ℕ) (i : ℕ) (at onto : Option ℕ) (turns : Turns old now beyond xs i at onto) where
-  -- at the end all are turned
-  pub turned_all : length xs ≤ i → (LeadsOn (next_at now) (reverse xs) beyond) × ((k : ℕ) → has k xs ≡ false → next_at now k ≡ next_at old k)
-  turned_all all =
+module _ (old now : List Node) (beyond : Option ℕ) (xs : List ℕ) (i : ℕ) (at onto : Option ℕ) (reverses : Reverses old now beyond xs i at onto) where
+  -- at the end all are reversed
+  pub reversed_all : length xs ≤ i → (LeadsOn (next_at now) (reverse xs) beyond) × ((k : ℕ) → has k xs ≡ false → next_at now k ≡ next_at old k)
+  reversed_all all =
       let whole : take i xs ≡ xs = take_all i xs all in
-      (subst (λ ys. LeadsOn (next_at now) (reverse ys) beyond) whole turns.turned, λ k absent. turns.others k (ap (has k) whole ∙ absent))
+      (subst (λ ys. LeadsOn (next_at now) (reverse ys) beyond) whole reverses.reversed, λ k absent. reverses.others k (ap (has k) whole ∙ absent))
 
   module _ (more : i < length xs) where
     -- before the end there is a next one
-    pub turn_at : at ≡ Some (get_or xs i 0)
-    turn_at = turns.at_is ∙ ap first (drop-cons xs i 0 more)
+    pub reverse_at : at ≡ Some (get_or xs i 0)
+    reverse_at = reverses.at_is ∙ ap first (drop-cons xs i 0 more)
 
     module _ (apart : IsApart xs) (leads : LeadsOn (next_at old) xs None) (n : ℕ) (is : n ≡ get_or xs i 0) (low : n < length now) where
       off : has n (take i xs) ≡ false
       off = ap (λ j. has j (take i xs)) is ∙ absent_take xs i apart more
 
-      -- and it leads on to what was turned before it
-      pub Turns-more : (y : Node) (later : List Node) (at' onto' : Option ℕ) → y ≡ get_or now n y → later ≡ set now n (record y { next = onto }) → at' ≡ y.next → onto' ≡ Some n → Turns old later beyond xs (i + 1) at' onto'
-      Turns-more y later at' onto' read write on last =
+      -- and it leads on to what was reversed before it
+      pub Reverses-more : (y : Node) (later : List Node) (at' onto' : Option ℕ) → y ≡ get_or now n y → later ≡ set now n (record y { next = onto }) → at' ≡ y.next → onto' ≡ Some n → Reverses old later beyond xs (i + 1) at' onto'
+      Reverses-more y later at' onto' read write on last =
           let known : y ≡ node_at now n = get_or_read now n y low read no_node in
           let same : (k : ℕ) → k ≢ n → node_at later k ≡ node_at now k = λ k other. ap (λ ys. node_at ys k) write ∙ get_or-set_other now n k (record y { next = onto }) no_node other in
           let new : node_at later n ≡ record y { next = onto } = ap (λ ys. node_at ys n) write ∙ get_or-set_same now n (record y { next = onto }) no_node low in
           let longer : take (i + 1) xs ≡ take i xs ++ n ∷ [] = take_more xs i 0 more ∙ ap (λ j. take i xs ++ j ∷ []) (sym is) in
-          let turn : reverse (take (i + 1) xs) ≡ n ∷ reverse (take i xs) = ap reverse longer ∙ reverse-append (take i xs) (n ∷ []) in
+          let behind : reverse (take (i + 1) xs) ≡ n ∷ reverse (take i xs) = ap reverse longer ∙ reverse-append (take i xs) (n ∷ []) in
           let one_more : suc i ≡ i + 1 = omega arith in
           record {
-            at_is = on ∙ ap (λ (x : Node). x.next) known ∙ turns.others n off ∙ ap (next_at old) is ∙ link_at (next_at old) xs None i leads more ∙ ap (λ j. first (drop j xs)) one_more;
-            onto_is = last ∙ sym (ap (first_or beyond) turn);
-            turned = subst (λ ys. LeadsOn (next_at later) ys beyond) (sym turn)
+            at_is = on ∙ ap (λ (x : Node). x.next) known ∙ reverses.others n off ∙ ap (next_at old) is ∙ link_at (next_at old) xs None i leads more ∙ ap (λ j. first (drop j xs)) one_more;
+            onto_is = last ∙ sym (ap (first_or beyond) behind);
+            reversed = subst (λ ys. LeadsOn (next_at later) ys beyond) (sym behind)
                 ((
-                  ap (λ (x : Node). x.next) new ∙ turns.onto_is,
+                  ap (λ (x : Node). x.next) new ∙ reverses.onto_is,
                   LeadsOn-kept (next_at now) (next_at later) (reverse (take i xs)) beyond
                       (λ k there. ap (λ (x : Node). x.next) (same k (λ equal. false≢true (sym off ∙ ap (λ j. has j (take i xs)) (sym equal) ∙ has-reverse k (take i xs) there))))
-                      turns.turned,
+                      reverses.reversed,
                 ));
             others = λ k absent.
                 let far = absent_both k (take i xs) (n ∷ []) (sym (ap (has k) longer) ∙ absent) in
-                ap (λ (x : Node). x.next) (same k (λ equal. (absent_parts n k [] far.1).0 (sym equal))) ∙ turns.others k far.0;
+                ap (λ (x : Node). x.next) (same k (λ equal. (absent_parts n k [] far.1).0 (sym equal))) ∙ reverses.others k far.0;
             spans = λ k. elim (cases_eq k n) [
-              | inl equal ↦ ap (span_at later) equal ∙ ap (λ (x : Node). x.span) new ∙ ap (λ (x : Node). x.span) known ∙ ap (span_at now) (sym equal) ∙ turns.spans k
-              | inr other ↦ ap (λ (x : Node). x.span) (same k other) ∙ turns.spans k
+              | inl equal ↦ ap (span_at later) equal ∙ ap (λ (x : Node). x.span) new ∙ ap (λ (x : Node). x.span) known ∙ ap (span_at now) (sym equal) ∙ reverses.spans k
+              | inr other ↦ ap (λ (x : Node). x.span) (same k other) ∙ reverses.spans k
             ];
-            len = ap length write ∙ length-set now n (record y { next = onto }) ∙ turns.len;
+            len = ap length write ∙ length-set now n (record y { next = onto }) ∙ reverses.len;
           }

@@ -18,34 +18,34 @@ at_head c =
     let laid = seen _ _ _ _ c.self.view_is c.self.invariant in
     ap (λ (x : Node). x.span) (node_read _ _ _ _ laid c.args.head _ (head_low _ _ _ _ laid c.args.head c.requires) c.index.ensures)
 
--- the chain that is turned
-turned : (c : After-index) → path c.self.inside.nodes.items c.index.result.now.span.len (Some c.args.head) ≡ strand_at c.args.self.now c.args.head
-turned c =
+-- the chain whose links are reversed
+reversed : (c : After-index) → path c.self.inside.nodes.items c.index.result.now.span.len (Some c.args.head) ≡ strand_at c.args.self.now c.args.head
+reversed c =
     ap (λ (s : Span). path c.self.inside.nodes.items s.len (Some c.args.head)) (at_head c)
     ∙ strand_path _ _ _ _ (seen _ _ _ _ c.self.view_is c.self.invariant) c.args.head c.requires
 
-pub turn-requires-clause-begins : goal.turn-requires-clause-begins
-turn-requires-clause-begins c =
-    ap first (turned (goal.at.turn-requires-clause-begins c).After-index) ∙ (strand_laid _ _ _ _ (seen _ _ _ _ c.self.view_is c.self.invariant) c.args.head c.requires).head
+pub reverse_links-requires-clause-begins : goal.reverse_links-requires-clause-begins
+reverse_links-requires-clause-begins c =
+    ap first (reversed (goal.at.reverse_links-requires-clause-begins c).After-index) ∙ (strand_laid _ _ _ _ (seen _ _ _ _ c.self.view_is c.self.invariant) c.args.head c.requires).head
 
-pub turn-requires-clause-leads : goal.turn-requires-clause-leads
-turn-requires-clause-leads c =
-    subst (λ (xs : List ℕ). LeadsOn (next_at c.self.inside.nodes.items) xs None) (sym (turned (goal.at.turn-requires-clause-leads c).After-index))
+pub reverse_links-requires-clause-leads : goal.reverse_links-requires-clause-leads
+reverse_links-requires-clause-leads c =
+    subst (λ (xs : List ℕ). LeadsOn (next_at c.self.inside.nodes.items) xs None) (sym (reversed (goal.at.reverse_links-requires-clause-leads c).After-index))
     (strand_laid _ _ _ _ (seen _ _ _ _ c.self.view_is c.self.invariant) c.args.head c.requires).leads
 
-pub turn-requires-clause-len : goal.turn-requires-clause-len
-turn-requires-clause-len c =
-    let at = (goal.at.turn-requires-clause-len c).After-index in
-    ap length (turned at) ∙ sym (ap (λ (s : Span). s.len) (at_head at) ∙ (strand_laid _ _ _ _ (seen _ _ _ _ c.self.view_is c.self.invariant) c.args.head c.requires).len)
+pub reverse_links-requires-clause-len : goal.reverse_links-requires-clause-len
+reverse_links-requires-clause-len c =
+    let at = (goal.at.reverse_links-requires-clause-len c).After-index in
+    ap length (reversed at) ∙ sym (ap (λ (s : Span). s.len) (at_head at) ∙ (strand_laid _ _ _ _ (seen _ _ _ _ c.self.view_is c.self.invariant) c.args.head c.requires).len)
 
-pub turn-requires-clause-apart : goal.turn-requires-clause-apart
-turn-requires-clause-apart c =
-    subst IsApart (sym (turned (goal.at.turn-requires-clause-apart c).After-index)) (strand_apart c.args.self.now (seen _ _ _ _ c.self.view_is c.self.invariant).once c.args.head)
+pub reverse_links-requires-clause-apart : goal.reverse_links-requires-clause-apart
+reverse_links-requires-clause-apart c =
+    subst IsApart (sym (reversed (goal.at.reverse_links-requires-clause-apart c).After-index)) (strand_apart c.args.self.now (seen _ _ _ _ c.self.view_is c.self.invariant).once c.args.head)
 
-pub turn-requires-clause-within : goal.turn-requires-clause-within
-turn-requires-clause-within c k there =
+pub reverse_links-requires-clause-within : goal.reverse_links-requires-clause-within
+reverse_links-requires-clause-within c k there =
     let laid = seen _ _ _ _ c.self.view_is c.self.invariant in
-    omega (arith, laid.node_count, strand_low c.args.self.now laid.once c.args.head k (sym (ap (has k) (turned (goal.at.turn-requires-clause-within c).After-index)) ∙ there))
+    omega (arith, laid.node_count, strand_low c.args.self.now laid.once c.args.head k (sym (ap (has k) (reversed (goal.at.reverse_links-requires-clause-within c).After-index)) ∙ there))
 
 pub some-self-inside-requires : goal.some-self-inside-requires
 some-self-inside-requires c =
@@ -61,24 +61,24 @@ laid : (c : After-some-self-inside) → c.index.result.now.span ≡ span_at c.se
     → path c.self.inside.nodes.items c.index.result.now.span.len (Some c.args.head) ≡ strand_at c.args.self.now c.args.head
     → IsLaid c.keep.new.nodes.items c.some-self-inside.result (c.self.inside.free_len + c.index.result.now.span.len)
     (record { free = reverse (strand_at c.args.self.now c.args.head) ++ c.args.self.now.free; chains = set c.args.self.now.chains c.args.head None })
-laid c first turned =
+laid c first reversed =
     let h = c.args.head in
     let new = c.keep.new.nodes.items in
     let v' : StrandLists = record { free = reverse (strand_at c.args.self.now h) ++ c.args.self.now.free; chains = set c.args.self.now.chains h None } in
     let was = seen _ _ _ _ c.self.view_is c.self.invariant in
     let leads : LeadsOn (next_at new) (reverse (strand_at c.args.self.now h)) c.self.inside.first_free =
-    subst (λ (xs : List ℕ). LeadsOn (next_at new) (reverse xs) c.self.inside.first_free) turned (LeadsOn-kept _ (next_at new) _ _ (λ k _. c.keep.ensures.nexts k) c.turn.ensures.turned) in
+    subst (λ (xs : List ℕ). LeadsOn (next_at new) (reverse xs) c.self.inside.first_free) reversed (LeadsOn-kept _ (next_at new) _ _ (λ k _. c.keep.ensures.nexts k) c.reverse_links.ensures.reversed) in
     subst (λ o. IsLaid new o (c.self.inside.free_len + c.index.result.now.span.len) v') (sym (c.some-self-inside.ensures ∙ ap (λ (s : Span). Some s.last) first))
     (subst (λ n. IsLaid new (Some (span_at c.self.inside.nodes.items h).last) (c.self.inside.free_len + n) v') (sym (ap (λ (s : Span). s.len) first))
-    (IsLaid-freed _ _ _ _ was h c.requires new (omega (arith, c.keep.ensures.len, c.turn.ensures.len)) leads
-    (λ k absent. c.keep.ensures.nexts k ∙ c.turn.ensures.others k (ap (has k) turned ∙ absent))
-    (λ k. c.keep.ensures.spans k ∙ (λ i. if h == k then c.none.ensures i else c.turn.ensures.spans k i))))
+    (IsLaid-freed _ _ _ _ was h c.requires new (omega (arith, c.keep.ensures.len, c.reverse_links.ensures.len)) leads
+    (λ k absent. c.keep.ensures.nexts k ∙ c.reverse_links.ensures.others k (ap (has k) reversed ∙ absent))
+    (λ k. c.keep.ensures.spans k ∙ (λ i. if h == k then c.none.ensures i else c.reverse_links.ensures.spans k i))))
 
 pub invariant_of-self : goal.invariant_of-self
-invariant_of-self c = let at = goal.at.invariant_of-self c in closed _ _ _ _ (laid at.After-some-self-inside (at_head at.After-index) (turned at.After-index))
+invariant_of-self c = let at = goal.at.invariant_of-self c in closed _ _ _ _ (laid at.After-some-self-inside (at_head at.After-index) (reversed at.After-index))
 
 pub returns-clause-after : goal.returns-clause-after
-returns-clause-after c = let at = goal.at.returns-clause-after c in strands_of_is _ _ _ _ (laid at.After-some-self-inside (at_head at.After-index) (turned at.After-index))
+returns-clause-after c = let at = goal.at.returns-clause-after c in strands_of_is _ _ _ _ (laid at.After-some-self-inside (at_head at.After-index) (reversed at.After-index))
 
 pub returns-clause-parted : goal.returns-clause-parted
 returns-clause-parted c = parted _ _ _ _ (invariant_of-self c)

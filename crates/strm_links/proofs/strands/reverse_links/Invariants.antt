@@ -1,0 +1,7 @@
+use Rattle.std.proofs.Common.{Some}
+use Rattle.strm_links.specs.StrandLayout.{path}
+use Rattle.strm_links.proofs.chaining.Freed.{Reverses}
+use Rattle.strm_links.proofs.strands.reverse_links.Given as goal
+
+abbrev pub invariant-loop-reversed : goal.invariant-loop-reversed
+invariant-loop-reversed l = Reverses l.initial.nodes.items l.nodes.items l.fn.beyond (path l.initial.nodes.items l.len (Some l.head)) l._reversed l.at l.onto
