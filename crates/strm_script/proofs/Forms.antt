@@ -33,7 +33,7 @@ number_of-above most word k above =
 abbrev pub with_front : List ℕ → Option (List ℕ) → Option (List ℕ)
 with_front front read = option_map (λ bytes. front ++ bytes) read
 
-pub with_front-before : (front : List ℕ) (b : ℕ) (read : Option (List ℕ)) → with_front front (before_bytes (Some b) read) ≡ with_front (front ++ b ∷ []) read
+with_front-before : (front : List ℕ) (b : ℕ) (read : Option (List ℕ)) → with_front front (before_bytes (Some b) read) ≡ with_front (front ++ b ∷ []) read
 with_front-before front b None = refl
 with_front-before front b (Some bytes) = ap (λ (bs : List ℕ). Some bs) (sym (append_assoc front (b ∷ []) bytes))
 

@@ -25,7 +25,7 @@ abbrev pub IsPartly : List ℕ → List ℕ → List ℕ → List ℕ → Type 0
 IsPartly start so_far rest all = Begins start so_far × (so_far ++ rest ≡ start ++ all)
 
 -- what stands in front of the text so far stands in front of what grows out of it
-pub begins_still : (start so_far more : List ℕ) → Begins start so_far → Begins so_far more → Begins start more
+begins_still : (start so_far more : List ℕ) → Begins start so_far → Begins so_far more → Begins start more
 begins_still start so_far more front grown = grind (arith, common_steps)
 
 -- so it is when the next part of the rest is written

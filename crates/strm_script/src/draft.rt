@@ -1,5 +1,5 @@
 //! A script that is being read.
-ghost use Rattle.std.specs.Prelude.{◌≡◌, ◌<◌, ◌≤◌, ◌++◌, ◌∷◌, [], List, ℕ, Bool, true, false, length, Ok, IfOk, OnOk};
+ghost use Rattle.std.specs.Prelude.{◌≡◌, ◌<◌, ◌≤◌, ◌++◌, ◌∷◌, [], List, ℕ, true, false, length, Ok, IfOk, OnOk};
 ghost use Rattle.strm_script.specs.Cut.{words_behind};
 ghost use Rattle.strm_shared.specs.Limits.{most_workers};
 ghost use Rattle.strm_script.specs.Entry.{Worker, Command, entry_of};
