@@ -8,3 +8,4 @@ mod Shaped
 mod Wishing
 mod Acting
 mod Kept
+pub mod Replays

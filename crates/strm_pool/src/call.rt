@@ -135,4 +135,49 @@ impl Call {
             | Call::Enableok(queue) => Names::of(Some(queue), None, None, None),
         }
     }
+
+    /// An equal call, with bytes of its own where the call carries bytes. It takes no memory, and nothing changes.
+    pub fn copy(&self) -> Call
+        ensures { result ≡ self.now }
+    {
+        match *self {
+            Call::Allocb(into, size) => Call::Allocb(into, size),
+            Call::Testb(size) => Call::Testb(size),
+            Call::Dupb(from, into) => Call::Dupb(from, into),
+            Call::Dupmsg(from, into) => Call::Dupmsg(from, into),
+            Call::Copyb(from, into) => Call::Copyb(from, into),
+            Call::Copymsg(from, into) => Call::Copymsg(from, into),
+            Call::Write(reg, place, ref bytes) => Call::Write(reg, place, bytes.copy()),
+            Call::Settype(reg, place, kind) => Call::Settype(reg, place, kind),
+            Call::Setband(reg, band) => Call::Setband(reg, band),
+            Call::Linkb(reg, behind) => Call::Linkb(reg, behind),
+            Call::Unlinkb(from, into) => Call::Unlinkb(from, into),
+            Call::Rmvb(from, place, into) => Call::Rmvb(from, place, into),
+            Call::Adjmsg(reg, count) => Call::Adjmsg(reg, count),
+            Call::Pullupmsg(reg, count) => Call::Pullupmsg(reg, count),
+            Call::Msgdsize(reg) => Call::Msgdsize(reg),
+            Call::Size(reg) => Call::Size(reg),
+            Call::Read(reg, at) => Call::Read(reg, at),
+            Call::Block(reg, place) => Call::Block(reg, place),
+            Call::Freeb(reg) => Call::Freeb(reg),
+            Call::Freemsg(reg) => Call::Freemsg(reg),
+            Call::Putq(queue, reg) => Call::Putq(queue, reg),
+            Call::Putbq(queue, reg) => Call::Putbq(queue, reg),
+            Call::Insq(queue, place, reg) => Call::Insq(queue, place, reg),
+            Call::Getq(queue, into) => Call::Getq(queue, into),
+            Call::Rmvq(queue, place, into) => Call::Rmvq(queue, place, into),
+            Call::Flushq(queue, flush) => Call::Flushq(queue, flush),
+            Call::Flushband(queue, band, flush) => Call::Flushband(queue, band, flush),
+            Call::Bcanput(queue, band) => Call::Bcanput(queue, band),
+            Call::Qsize(queue) => Call::Qsize(queue),
+            Call::Qenable(queue) => Call::Qenable(queue),
+            Call::Noenable(queue) => Call::Noenable(queue),
+            Call::Enableok(queue) => Call::Enableok(queue),
+            Call::Service => Call::Service,
+            Call::Bufcall(size) => Call::Bufcall(size),
+            Call::Unbufcall(id) => Call::Unbufcall(id),
+            Call::Ready => Call::Ready,
+            Call::Census => Call::Census,
+        }
+    }
 }

@@ -42,6 +42,28 @@ pub enum Reply {
 }
 
 impl Reply {
+    /// An equal reply, with bytes of its own where the reply carries bytes. It takes no memory, and nothing changes.
+    pub fn copy(&self) -> Reply
+        ensures { result ≡ self.now }
+    {
+        match *self {
+            Reply::Done => Reply::Done,
+            Reply::Yes => Reply::Yes,
+            Reply::No => Reply::No,
+            Reply::Nothing => Reply::Nothing,
+            Reply::Empty => Reply::Empty,
+            Reply::Taken => Reply::Taken,
+            Reply::Size(size) => Reply::Size(size),
+            Reply::Bytes(ref bytes) => Reply::Bytes(bytes.copy()),
+            Reply::Block(info) => Reply::Block(info),
+            Reply::Id(id) => Reply::Id(id),
+            Reply::Ready(id, size) => Reply::Ready(id, size),
+            Reply::Queue(queue) => Reply::Queue(queue),
+            Reply::Census(census) => Reply::Census(census),
+            Reply::Refused(why) => Reply::Refused(why),
+        }
+    }
+
     // `Yes` where it is true, else `No`.
     pub(crate) fn yes_or_no(answer: bool) -> Reply
         ensures { result ≡ yes_or_no answer }

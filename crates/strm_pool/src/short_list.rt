@@ -48,6 +48,18 @@ impl<T, const MOST: usize> ShortList<T, MOST> {
     }
 }
 
+impl<T: Copy + Default, const MOST: usize> ShortList<T, MOST> {
+    // The same items, in the same order.
+    pub(crate) fn copy(&self) -> ShortList<T, MOST>
+        ensures { result ≡ self.now }
+    {
+        match ArrayVec::try_from(self.items()) {
+            Ok(array) => ShortList::of(array),
+            Err(_) => unreachable!(),
+        }
+    }
+}
+
 impl<T: PartialEq, const MOST: usize> PartialEq for ShortList<T, MOST> {
     ghost eq = { λ l m. pointwise T.eq l m };
 

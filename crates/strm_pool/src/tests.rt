@@ -6,6 +6,7 @@ use std::process::Abort;
 mod bench;
 mod beside;
 mod config;
+mod copies;
 mod flow;
 mod long_run;
 mod names;

@@ -92,7 +92,7 @@ fn assert_queues(rt: &impl Abort, pool: &Pool, second: &Second) {
     }
 }
 
-// Does a call on both, and answers its reply.
+// Does a call on both, on the pool by a copy of it, and answers a copy of its reply.
 pub(super) fn serve(
     rt: &impl Abort,
     pool: &mut Pool,
@@ -101,12 +101,14 @@ pub(super) fn serve(
     call: &Call,
 ) -> Reply {
     assert!(rt; pool.owns(regs));
-    let reply = pool.apply(regs, call);
+    let reply = pool.apply(regs, &call.copy());
     assert_reply(rt, call, &reply, &second.serve(rt, call));
     let census = Reply::Census(pool.census());
     assert_reply(rt, &Call::Census, &census, &second.serve(rt, &Call::Census));
     assert_places(rt, pool, regs, second);
     assert_counts(rt, pool, second);
     assert_queues(rt, pool, second);
-    reply
+    let copy = reply.copy();
+    assert_reply(rt, call, &copy, &reply);
+    copy
 }
