@@ -136,7 +136,7 @@ impl Call {
         }
     }
 
-    /// An equal call, with bytes of its own where the call carries bytes. It takes no memory, and nothing changes.
+    /// An equal call, with bytes of its own where this one carries bytes. It takes no memory, and nothing changes.
     pub fn copy(&self) -> Call
         ensures { result ≡ self.now }
     {

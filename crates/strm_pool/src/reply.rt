@@ -42,7 +42,7 @@ pub enum Reply {
 }
 
 impl Reply {
-    /// An equal reply, with bytes of its own where the reply carries bytes. It takes no memory, and nothing changes.
+    /// An equal reply, with bytes of its own where this one carries bytes. It takes no memory, and nothing changes.
     pub fn copy(&self) -> Reply
         ensures { result ≡ self.now }
     {
