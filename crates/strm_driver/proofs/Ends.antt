@@ -10,10 +10,11 @@ use Rattle.strm_shared.specs.declared.outcome.End.TheVariants as ends
 use Rattle.strm_shared.specs.Books.{MayRefuse}
 use Rattle.strm_shared.specs.Desks.{DeskValue}
 use Rattle.strm_shared.specs.Runs.{AllWorked, Worked}
+use Rattle.strm_shared.proofs.Refusing.{may_refuse}
 use Rattle.strm_driver.specs.Told.{first_refused}
 
 worked-refused : {N : Type 0} (n : Ghosts N) (lines : List Line) (d e : DeskValue) (replies : List Reply) (end : End) (why : Refusal) → end ≡ ends.Refused why → Worked n lines d end replies e → MayRefuse why
-worked-refused n lines d e replies end why is worked = (rw is at worked).1
+worked-refused n lines d e replies end why is worked = let refused = rw is at worked in may_refuse n refused.1 refused.3 e why refused.4
 
 first_refused-each : (es : List End) → ((k : ℕ) (why : Refusal) → k < length es → slice_index_or es k ends.NotStarted ≡ ends.Refused why → MayRefuse why) → IfSome (first_refused es) (λ why. MayRefuse why)
 first_refused-each [] each = tt

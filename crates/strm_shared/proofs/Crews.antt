@@ -10,7 +10,7 @@ use Rattle.strm_shared.specs.declared.name.Name.{Ghosts}
 use Rattle.strm_shared.specs.declared.outcome.End.{End}
 use Rattle.strm_shared.specs.declared.outcome.End.TheVariants.{NotStarted}
 use Rattle.strm_shared.specs.Books.{IsAfter}
-use Rattle.strm_shared.specs.Desks.{DeskValue, empty_desk}
+use Rattle.strm_shared.specs.Desks.{DeskValue, no_desk}
 use Rattle.strm_shared.specs.Runs.{AllWorked, AreServed, Worked}
 use Rattle.strm_shared.specs.RunsLayout.{AreReady, IsReady}
 
@@ -75,16 +75,16 @@ module _ {N : Type 0} (n : Ghosts N) (parts earlier : List (List Line)) (lines :
     kept = longer kept after e a-is ∙ omega (arith, worked.kept, longer earlier parts lines p-is);
     each = λ k within. elim (cases_eq k (length earlier)) [
       | inl same ↦
-          subst (λ i. Worked n (get_or parts i []) (get_or before i (empty_desk 0)) (get_or ends i NotStarted) (get_or all i []) (get_or after i (empty_desk 0))) (sym same)
+          subst (λ i. Worked n (get_or parts i []) (get_or before i no_desk) (get_or ends i NotStarted) (get_or all i []) (get_or after i no_desk)) (sym same)
           (worked_as n lines _ d _ end _ replies _ e _
-          (at_end earlier parts lines p-is [] (length earlier) refl) (at_end past before d b-is (empty_desk 0) (length earlier) as-many)
+          (at_end earlier parts lines p-is [] (length earlier) refl) (at_end past before d b-is no_desk (length earlier) as-many)
           (at_end ended ends end e-is NotStarted (length earlier) worked.ended) (at_end replied all replies r-is [] (length earlier) worked.replied)
-          (at_end kept after e a-is (empty_desk 0) (length earlier) worked.kept) last)
+          (at_end kept after e a-is no_desk (length earlier) worked.kept) last)
       | inr other ↦
           let below : k < length earlier = omega (arith, within, other, longer earlier parts lines p-is) in
           worked_as n _ _ _ _ _ _ _ _ _ _
-          (before_end earlier parts lines p-is [] k below) (before_end past before d b-is (empty_desk 0) k (omega (arith, below, as-many)))
+          (before_end earlier parts lines p-is [] k below) (before_end past before d b-is no_desk k (omega (arith, below, as-many)))
           (before_end ended ends end e-is NotStarted k (omega (arith, below, worked.ended))) (before_end replied all replies r-is [] k (omega (arith, below, worked.replied)))
-          (before_end kept after e a-is (empty_desk 0) k (omega (arith, below, worked.kept))) (worked.each k below)
+          (before_end kept after e a-is no_desk k (omega (arith, below, worked.kept))) (worked.each k below)
     ];
   }

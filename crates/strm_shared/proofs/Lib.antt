@@ -2,6 +2,8 @@ mod Constants
 mod Listing
 mod Noting
 pub mod Opening
+pub mod Refusing
 mod Weighing
 mod Turning
 mod Crews
+mod seats

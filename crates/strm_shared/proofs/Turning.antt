@@ -1,20 +1,24 @@
 -- A call on a desk that the book knows: it may be applied, and what it leaves is lawful again.
-use Rattle.std.proofs.Common.{◌≡◌, ℕ, ◌+◌, ◌<◌, Bool, true, false, List, [], length, set, get_or, Option, refl, sym, ap, ◌∙◌, subst, arith, if◌then◌else◌, length-set}
-use Rattle.std.specs.Prelude.{option_map}
+use Rattle.std.proofs.Common.{◌≡◌, ℕ, ◌+◌, ◌<◌, Bool, true, false, List, [], ◌∷◌, ◌++◌, length, set, get_or, Option, Ok, refl, sym, ap, ◌∙◌, subst, arith, if◌then◌else◌, length-set}
+use Rattle.std.specs.Prelude.{All, Contains, option_map}
 use Rattle.std.proofs.lemmas.List.{get_or_default}
 use Rattle.strm_mblk.specs.declared.token.TokenValue.{TokenValue}
 use Rattle.strm_mblk.specs.Arena.{census_of, token_of}
 use Rattle.strm_pool.specs.declared.call.Call.{Call}
+use Rattle.strm_pool.specs.declared.call.Call.TheVariants as calls
 use Rattle.strm_pool.specs.declared.reply.Reply.{Reply}
+use Rattle.strm_pool.specs.declared.reply.Reply.TheVariants as replies
 use Rattle.strm_pool.specs.PoolValue.{PoolValue, owns}
 use Rattle.strm_pool.specs.Registers.{AreAccounted, AreDistinct, CarryId, Entries, entries_of, register, table_of}
-use Rattle.strm_pool.specs.Step.{Applies, is_named}
+use Rattle.strm_pool.specs.Step.{Applies, Stepped, is_named}
 use Rattle.strm_pool.proofs.Accounts.{accounted_distinct, accounted_owned, owned_carry}
-use Rattle.strm_shared.specs.Books.{BookValue, IsBookOf, IsServed, book_value, table_at}
-use Rattle.strm_shared.specs.Desks.{DeskValue, IsDeskOf, desk_value}
+use Rattle.strm_shared.specs.Books.{BookValue, IsBookOf, IsServed, TellsNewest, book_value, pair_in, table_at}
+use Rattle.strm_shared.specs.Desks.{DeskValue, IsDeskOf, desk_value, newest}
 use Rattle.strm_shared.specs.Ledger.{blocks_held}
 use Rattle.strm_shared.specs.Limits.{most_stamp}
+use Rattle.strm_shared.specs.Pairs.{Pair, last_pair, pair_at}
 use Rattle.strm_shared.proofs.Weighing.{held_moves}
+use Rattle.strm_shared.proofs.seats.Histories.{last_pair-push}
 
 -- the table that is looked at is that of the desk
 pub table_is : (b : BookValue) (n : ℕ) (t : Entries) → n < length b.tables → t ≡ get_or b.tables n t → table_at b n ≡ t
@@ -64,9 +68,10 @@ module _ {id desks first : ℕ} {b : BookValue} {d : DeskValue} (known : IsKnown
         (applies.accounted b.tables d.number inside known.table known.book.accounted)
 
     -- once the book has noted what the registers tell now
-    pub turns : (n : ℕ) (t : Entries) → n ≡ d.number → t ≡ entries_of ss → b.stamp < most_stamp
-        → Turns id desks first b d call (book_value w (b.stamp + 1) (set b.tables n t)) (desk_value d.number ss) reply
-    turns n t same noted unspent =
+    pub turns : (n : ℕ) (t : Entries) (ps qs : List Pair) → n ≡ d.number → t ≡ entries_of ss → b.stamp < most_stamp
+        → ps ≡ b.pairs ++ pair_at (b.stamp + 1) w ∷ [] → qs ≡ d.pairs ++ pair_at (b.stamp + 1) w ∷ [] → All (Contains b.pairs) d.pairs → All (λ p. p.0 < b.stamp + 1) d.pairs
+        → Turns id desks first b d call (book_value w (b.stamp + 1) (set b.tables n t) ps) (desk_value d.number ss qs) reply
+    turns n t ps qs same noted unspent listed seen had later =
         let tables : set b.tables n t ≡ set b.tables d.number (entries_of ss) = ap (λ k. set b.tables k t) same ∙ ap (set b.tables d.number) noted in
         record {
           book = record {
@@ -88,7 +93,20 @@ module _ {id desks first : ℕ} {b : BookValue} {d : DeskValue} (known : IsKnown
             tables = tables;
             number = refl;
             others = others;
+            listed = listed;
+            seen = seen;
+            had = had;
+            later = later;
           };
           moved = held_moved;
           sized = applies.size;
         }
+
+-- an answer to `census` is the census of the pair that the desk saw last
+pub tells_newest : (b : BookValue) (d : DeskValue) (call : Call) (c : BookValue) (e : DeskValue) (reply : Reply) → IsServed b d call c e reply → TellsNewest e (Ok reply) call
+tells_newest b d calls.Census c e reply served =
+    let pool : b.pool ≡ c.pool = ap (λ (s : Stepped). s.pool) served.step in
+    let told : replies.Census (census_of b.pool.arena) ≡ reply = ap (λ (s : Stepped). s.reply) served.step in
+    let last : newest e ≡ pair_in c = ap last_pair served.seen ∙ last_pair-push d.pairs (pair_in c) in
+    sym told ∙ ap (λ (v : PoolValue). replies.Census (census_of v.arena)) pool ∙ ap (λ (p : Pair). replies.Census p.1) (sym last)
+tells_newest b d call c e reply served = tt

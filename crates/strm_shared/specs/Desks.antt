@@ -1,26 +1,48 @@
--- What a desk is: its number, and what its registers hold.
+-- What a desk is: its number, what its registers hold, and what it has seen.
 use Rattle.std.specs.Prelude.{ℕ, zero, suc, ◌<◌, List, [], ◌∷◌, ◌++◌, Option, None, replicate}
 use Rattle.strm_mblk.specs.declared.token.TokenValue.{TokenValue}
 use Rattle.strm_pool.specs.Limits.{most_registers}
 use Rattle.strm_pool.specs.Registers.{CarryId}
+use Rattle.strm_shared.specs.Pairs.{Pair, last_pair}
 
+-- a desk: its number, its registers, and the pairs that it has seen, in the order in which it saw them
 pub record DeskValue : Type 0 where
   pub number : ℕ
   pub regs : List (Option TokenValue)
+  pub pairs : List Pair
 
-abbrev pub desk_value : ℕ → List (Option TokenValue) → DeskValue
-desk_value n rs = record { number = n; regs = rs }
+abbrev pub desk_value : ℕ → List (Option TokenValue) → List Pair → DeskValue
+desk_value n rs ps = record { number = n; regs = rs; pairs = ps }
+
+-- the desk with these registers
+abbrev pub with_regs : List (Option TokenValue) → DeskValue → DeskValue
+with_regs rs d = record d { regs = rs }
+
+-- the desk, once it has seen one pair more
+abbrev pub shown : Pair → DeskValue → DeskValue
+shown p d = record d { pairs = d.pairs ++ p ∷ [] }
+
+-- the pair that it saw last, and the stamp of that
+abbrev pub newest : DeskValue → Pair
+newest d = last_pair d.pairs
+
+abbrev pub stamp_seen : DeskValue → ℕ
+stamp_seen d = (newest d).0
 
 -- a desk of a pool with this id, of so many desks: its number is below that, and its tokens carry the id
 pub record IsDeskOf (id desks : ℕ) (d : DeskValue) : Type 0 where
   pub below : d.number < desks
   pub carry : CarryId id d.regs
 
--- a desk that has not been used
-abbrev pub empty_desk : ℕ → DeskValue
-empty_desk n = desk_value n (replicate most_registers None)
+-- a desk that has not been used, and has seen these pairs
+abbrev pub empty_desk : ℕ → List Pair → DeskValue
+empty_desk n ps = desk_value n (replicate most_registers None) ps
 
 -- so many of these, numbered from 0
-abbrev pub fresh : ℕ → List DeskValue
-fresh zero = []
-fresh (suc n) = fresh n ++ empty_desk n ∷ []
+abbrev pub fresh : ℕ → List Pair → List DeskValue
+fresh zero ps = []
+fresh (suc n) ps = fresh n ps ++ empty_desk n ps ∷ []
+
+-- the desk that stands where there is none
+abbrev pub no_desk : DeskValue
+no_desk = empty_desk 0 []

@@ -2,7 +2,7 @@
 use Rattle.std.specs.Prelude.{◌≤◌, List, map, length, Option, Some, None, IsSome}
 use Rattle.std.specs.List.{All}
 use Rattle.strm_shared.specs.declared.desk_slot.DeskSlot.{DeskSlot}
-use Rattle.strm_shared.specs.Desks.{DeskValue, empty_desk}
+use Rattle.strm_shared.specs.Desks.{DeskValue, no_desk}
 use Rattle.strm_shared.specs.Limits.{most_workers}
 
 -- a slot has a desk
@@ -15,7 +15,7 @@ filled d = record { desk = Some d }
 
 abbrev pub desk_or : Option DeskValue → DeskValue
 desk_or (Some d) = d
-desk_or None = empty_desk 0
+desk_or None = no_desk
 
 abbrev pub desk_in : {N : Type 0} → DeskSlot N → DeskValue
 desk_in s = desk_or s.desk

@@ -1,4 +1,8 @@
 pub mod Limits
+pub mod Pairs
+pub mod Words
+pub mod Seats
+pub mod SeatsLayout
 pub mod Desks
 pub mod DesksLayout
 pub mod Ledger

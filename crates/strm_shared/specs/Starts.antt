@@ -1,15 +1,18 @@
 -- A pool that is to be shared.
-use Rattle.std.specs.Prelude.{◌≡◌, ℕ, Bool, true, false, not, ◌&&◌, ◌||◌, length, nat_le, nat_lt, Result, Ok, Err}
+use Rattle.std.specs.Prelude.{◌≡◌, ℕ, Bool, true, false, not, ◌&&◌, ◌||◌, [], nat_le, nat_lt, Result, Ok, Err}
+use Rattle.atomic_table.specs.Seated.{TableId}
 use Rattle.strm_pool.specs.declared.config.NewFault.{NewFault}
 use Rattle.strm_pool.specs.declared.config.NewFault.TheVariants.{BadConfig, BadShared, Memory}
-use Rattle.strm_pool.specs.PoolValue.{PoolValue}
+use Rattle.strm_pool.specs.PoolValue.{PoolValue, opening}
 use Rattle.strm_shared.specs.declared.name.Name.{Ghosts}
 use Rattle.strm_shared.specs.declared.setup.Setup.{Setup}
 use Rattle.strm_shared.specs.Limits.{most_stamp, most_workers}
 
--- the pool, how many desks it is to have, the stamp before the first call, and the ledger of its held blocks
+-- the pool, the board with its word, how many desks it is to have, the stamp before the first call, and the ledger of its held
+-- blocks
 pub record StartValue : Type 0 where
   pub pool : PoolValue
+  pub board : TableId
   pub desks : ℕ
   pub first : ℕ
   pub ledger : ℕ
@@ -18,25 +21,32 @@ pub record StartValue : Type 0 where
 abbrev pub is_bad_shared : Setup → Bool
 is_bad_shared s = not (nat_le 1 s.desks && nat_le s.desks most_workers) || nat_lt most_stamp s.first_stamp
 
-abbrev pub start_of : PoolValue → Setup → ℕ → StartValue
-start_of v s ledger = record { pool = v; desks = s.desks; first = s.first_stamp; ledger = ledger }
+abbrev pub start_of : PoolValue → TableId → Setup → ℕ → StartValue
+start_of v board s ledger = record { pool = v; board = board; desks = s.desks; first = s.first_stamp; ledger = ledger }
 
 -- a pool is to be shared so, or is handed back as it was: for a bad setup, which is told before any want of memory
 abbrev pub Starts : PoolValue → Setup → Result StartValue (NewFault × PoolValue) → Type 0
-Starts v s (Ok start) = (is_bad_shared s ≡ false) × (start ≡ start_of v s start.ledger)
+Starts v s (Ok start) = (is_bad_shared s ≡ false) × (start ≡ start_of v start.board s start.ledger)
 Starts v s (Err (BadShared, w)) = (is_bad_shared s ≡ true) × (w ≡ v)
 Starts v s (Err (Memory, w)) = (is_bad_shared s ≡ false) × (w ≡ v)
 Starts v s (Err (BadConfig which, w)) = ⊥
 
--- the name of a start: the pool's id and how many message blocks it has, for each of which `held` has a place, the number of
--- desks, the first stamp, the ledger
-abbrev pub name_of : {N : Type 0} → StartValue → Ghosts N
-name_of s = record { id = s.pool.arena.id; blocks = length s.pool.arena.held; desks = s.desks; first = s.first; ledger = s.ledger }
+-- a board with no word, which the name of no shared pool has
+abbrev pub no_board : TableId
+no_board = record { words = 0; slots = 0; views_name = 0; atom = 0; block = 0; offset = 0; slot_names = [] }
 
--- these are the numbers of a name
+-- a pool of nothing, which the name of no shared pool has
+abbrev pub no_pool : PoolValue
+no_pool = opening (record { id = 0; mblks = 0; classes = []; queues = []; bufcalls = 0; first_id = 0 })
+
+-- the name of a start: the pool, the board, the number of desks, the first stamp, the ledger
+abbrev pub name_of : {N : Type 0} → StartValue → Ghosts N
+name_of s = record { opened = s.pool; board = s.board; desks = s.desks; first = s.first; ledger = s.ledger }
+
+-- this is what a name names
 pub record IsNameOf {N : Type 0} (n : Ghosts N) (s : StartValue) : Type 0 where
-  pub same : n.id ≡ s.pool.arena.id
-  pub sized : n.blocks ≡ length s.pool.arena.held
+  pub opened : n.opened ≡ s.pool
+  pub board : n.board ≡ s.board
   pub counted : n.desks ≡ s.desks
   pub begun : n.first ≡ s.first
   pub named : n.ledger ≡ s.ledger

@@ -1,16 +1,28 @@
 -- How a pool that is to be shared lies in memory. No public clause cites this module.
-use Rattle.std.specs.Prelude.{◌≡◌, ℕ, ◌≤◌, List, length}
+use Rattle.std.specs.Prelude.{◌≡◌, ℕ, ◌≤◌, List, [], replicate}
+use Rattle.atomic_table.specs.declared.shared.Seat.{Seat}
+use Rattle.atomic_table.specs.Seated.{TableId}
 use Rattle.strm_mblk.specs.Arena.{census_of}
 use Rattle.strm_pool.specs.PoolValue.{PoolValue}
 use Rattle.strm_pool.specs.Registers.{AreAccounted, Entries}
+use Rattle.strm_shared.specs.declared.views.View.{View}
 use Rattle.strm_shared.specs.Limits.{most_stamp, most_workers}
+use Rattle.strm_shared.specs.Seats.{no_entries, opening_history}
+use Rattle.strm_shared.specs.SeatsLayout.{IsLock}
+use Rattle.strm_shared.specs.Pairs.{Pair}
 
 -- there is a table for each desk, and they tell of nothing, since nothing is held; the ledger is in as many parts
 pub record IsReady (v : PoolValue) (desks first : ℕ) (tables : List Entries) (parts : ℕ) : Type 0 where
   pub some : 1 ≤ desks
   pub few : desks ≤ most_workers
   pub unspent : first ≤ most_stamp
-  pub counted : length tables ≡ desks
+  pub told : tables ≡ replicate desks no_entries
   pub accounted : AreAccounted v.arena tables
   pub idle : (census_of v.arena).held ≡ 0
   pub shared : parts ≡ desks
+
+-- the table of the word: it was opened with this pair, and the lock's seat has taken no step
+pub record IsLaid (o : Pair) (z : TableId) (key : Pair) (s : Seat (Unit {0}) View) : Type 0 where
+  pub one_word : z.words ≡ 1
+  pub opened : key ≡ o
+  pub here : IsLock z (opening_history o 0) [] s

@@ -1,46 +1,54 @@
 //! What the lock of a shared pool guards.
 ghost use Rattle.std.specs.Prelude.{◌≡◌, ◌+◌, ◌<◌, ◌≤◌, length};
-ghost use Rattle.strm_shared.specs.Books.{Answers, IsLawfulBook};
+ghost use Rattle.strm_shared.specs.Books.{Answers, IsLawfulBook, pair_in};
+ghost use Rattle.strm_shared.specs.Desks.{shown};
 
+use crate::board::Board;
 use crate::desk::Desk;
 use crate::desk_table::DeskTable;
 use crate::held::Held;
 use crate::limits::MOST_STAMP;
 use crate::name::Name;
 use crate::shared::Shared;
-use std::marker::{Model, PhantomData};
+use crate::views::View;
+use atomic_table::Seat;
+use std::marker::{Brand, Model, PhantomData};
 use std::sync::ledger::{self, Ledger, Share};
 use strm_pool::{Call, Pool, Refusal, Reply};
 
 /// What the lock of a shared pool guards: the pool, the stamp, which each served call raises by 1, and for each desk what
-/// its registers tell.
+/// its registers tell; and its seat at the word, which each served call stores.
 #[derive(Drop)]
 pub struct Book<N: Name> {
     pub(crate) pool: Pool,
     pub(crate) stamp: u64,
     pub(crate) tables: Vec<DeskTable>,
+    pub(crate) seat: Seat<(), View>,
     pub(crate) held: ledger::Book<Held<N>>,
     pub(crate) of: PhantomData<N>,
 }
 
 impl<N: Name> Model for Book<N> {
+    ghost use Rattle.std.specs.Prelude.{length};
     ghost use Rattle.strm_shared.specs.Books.{BookValue, IsBookOf, book_value};
     ghost use Rattle.strm_shared.specs.LedgerLayout.{IsCounted};
+    ghost use Rattle.strm_shared.specs.Pairs.{pair_at};
+    ghost use Rattle.strm_shared.specs.SeatsLayout.{IsKeptBy, history_at};
 
     ghost Value = { BookValue };
 
-    ghost view = { λ b. book_value b.pool b.stamp b.tables.items };
+    ghost view = { λ b. book_value b.pool b.stamp b.tables.items (history_at b.seat).pairs };
 
-    ghost invariant = { λ b. IsBookOf N.id N.desks N.first (book_value b.pool b.stamp b.tables.items) × IsCounted N.blocks N.desks b.held.total b.pool };
+    ghost invariant = { λ b. IsBookOf N.opened.arena.id N.desks N.first (book_value b.pool b.stamp b.tables.items (history_at b.seat).pairs) × IsCounted (length N.opened.arena.held) N.desks b.held.total b.pool × IsKeptBy N.board (pair_at N.first N.opened) N.desks b.stamp b.pool b.tables.items (history_at b.seat) b.seat };
 }
 
 impl<N: Name> Book<N> {
     /// The laws of every book, whatever calls of whatever threads made it so. They hold each time the lock is got. Does
     /// nothing.
     pub fn lawful(&self)
-        ensures law { IsLawfulBook N.id N.desks N.first self.now }
+        ensures law { IsLawfulBook N.Name self.now }
         // The pool has as many message blocks as when it was shared.
-        ensures sized { length self.now.pool.arena.held ≡ N.blocks }
+        ensures sized { length self.now.pool.arena.held ≡ length N.opened.arena.held }
     {
         self.pool.lawful();
     }
@@ -52,34 +60,66 @@ impl<N: Name> Book<N> {
         &self.pool
     }
 
-    /// Serves a call on the desk's registers, and answers its reply. Takes the steps of the call, and a few for each
-    /// register; no memory is taken.
+    // Lets a desk see the last pair.
+    fn show(&mut self, board: &Board<N>, desk: &mut Desk<N>)
+        ensures book { self.new ≡ self.old }
+        ensures desk { desk.new ≡ shown (pair_in self.old) desk.old }
+    {
+        let Some(seat) = desk.seat.take() else {
+            unreachable!()
+        };
+        let (pair, seat) = board.look(&mut self.seat, seat);
+        desk.seat = Some(seat);
+        desk.seen = pair.0;
+    }
+
+    /// Serves a call on the desk's registers, and answers its reply. The stamp rises by 1, the word is stored once, and the
+    /// desk has seen its pair. The shared pool has that word; the line is the call's in its script, of which no clause speaks.
+    /// Takes the steps of the call, and a few for each register; no memory is taken.
     ///
-    /// Refused as `Worn` where the stamp is `MOST_STAMP`, then as `Stranger` where the desk's registers do not tell what
-    /// the book knows of them; book and desk stay as they were then. Every reply counts as served, `Refused`, `Empty` and
-    /// `Taken` too.
+    /// Refused as `Worn` where the stamp is `MOST_STAMP`: nothing changes but that the desk has seen the pair of that stamp.
+    /// Then refused as `Stranger` where the desk's registers do not tell what the book knows of them: nothing changes. Every
+    /// reply counts as served, `Refused`, `Empty` and `Taken` too.
     pub fn turn(
         &mut self,
-        _shared: &Shared<N>,
+        shared: &Shared<N>,
         desk: &mut Desk<N>,
-        _line: u32,
+        line: u32,
         call: &Call,
     ) -> Result<Reply, Refusal>
         ensures { Answers self.old desk.old call.now self.new desk.new result }
     {
         if self.stamp == MOST_STAMP {
+            self.show(&shared.board, desk);
             return Err(Refusal::Worn);
         }
         let number = usize::from(desk.number);
         if !self.tables[number].is_of(&desk.regs) {
             return Err(Refusal::Stranger);
         }
+        let Some(seat) = desk.seat.take() else {
+            unreachable!()
+        };
+        shared.board.admit(&mut self.seat, seat);
         let before = self.pool.census().held;
         let reply = self.pool.apply(&mut desk.regs, call);
-        let after = self.pool.census().held;
-        count_held(&mut self.held, &mut desk.share, before, after);
+        self.pool.lawful();
+        let census = self.pool.census();
+        count_held(&mut self.held, &mut desk.share, before, census.held);
         self.tables[number].note(&desk.regs, &call.names());
         self.stamp += 1;
+        let pair = (self.stamp, census);
+        let seat = shared.board.enter::<Brand>(
+            &mut self.seat,
+            pair,
+            desk.number,
+            line,
+            call,
+            &reply,
+            &desk.regs,
+        );
+        desk.seat = Some(seat);
+        desk.seen = self.stamp;
         Ok(reply)
     }
 }

@@ -1,33 +1,45 @@
 //! A worker's place at a shared pool.
-ghost use Rattle.std.specs.Prelude.{◌≡◌, ◌<◌, ◌^◌};
+ghost use Rattle.std.specs.Prelude.{◌≡◌, ◌<◌, ◌^◌, length};
 ghost use Rattle.strm_pool.specs.Registers.{CarryId};
+ghost use Rattle.strm_shared.specs.Desks.{stamp_seen};
 ghost use Rattle.strm_shared.specs.Ledger.{blocks_held, entry_blocks};
+ghost use Rattle.strm_shared.specs.Pairs.{AreSeen};
 
 use crate::held::Held;
 use crate::name::Name;
+use crate::views::View;
+use atomic_table::Seat;
 use std::marker::{Model, PhantomData};
 use std::sync::ledger::Share;
 use strm_pool::{MOST_REGISTERS, Reg, Regs};
 
-/// A worker's place at a shared pool: its number, and its own registers. It can be neither cloned nor dropped: it is gathered
-/// or spent, save by `Desks::forget`, which gives up the tokens in its registers.
+/// A worker's place at a shared pool: its number, its own registers, and what it has seen of the pool: stamps, and the census
+/// at each. It can be neither cloned nor dropped: it is gathered or spent, save by `Desks::forget`, which gives up the tokens in
+/// its registers.
 #[must_use]
 pub struct Desk<N: Name> {
     pub(crate) number: u8,
+    pub(crate) seen: u64,
     pub(crate) regs: Regs,
+    // Where it takes its steps at the word. It is there but while a call moves it.
+    pub(crate) seat: Option<Seat<(), View>>,
     pub(crate) share: Share<Held<N>>,
     pub(crate) of: PhantomData<N>,
 }
 
 impl<N: Name> Model for Desk<N> {
+    ghost use Rattle.std.specs.Prelude.{length};
+    ghost use Rattle.strm_pool.specs.Registers.{entries_of};
     ghost use Rattle.strm_shared.specs.Desks.{DeskValue, desk_value, IsDeskOf};
     ghost use Rattle.strm_shared.specs.LedgerLayout.{IsPart};
+    ghost use Rattle.strm_shared.specs.Pairs.{pair_at};
+    ghost use Rattle.strm_shared.specs.SeatsLayout.{IsSeated, known_in};
 
     ghost Value = { DeskValue };
 
-    ghost view = { λ d. desk_value d.number d.regs };
+    ghost view = { λ d. desk_value d.number d.regs (known_in d.seat).pairs };
 
-    ghost invariant = { λ d. IsDeskOf N.id N.desks (desk_value d.number d.regs) × IsPart d.share.parts d.share.amount d.regs };
+    ghost invariant = { λ d. IsDeskOf N.opened.arena.id N.desks (desk_value d.number d.regs (known_in d.seat).pairs) × IsPart d.share.parts d.share.amount d.regs × IsSeated N.board (pair_at N.first N.opened) (length N.opened.arena.held) d.number d.seen (entries_of d.regs) (known_in d.seat) d.seat };
 }
 
 impl<N: Name> Desk<N> {
@@ -40,9 +52,19 @@ impl<N: Name> Desk<N> {
         self.number
     }
 
-    /// The law of every desk: its number is below that of the desks, and its tokens carry the pool's id. Does nothing.
+    /// The greatest stamp that it has seen, which is that of the pair that it saw last. A new desk has seen the first stamp.
+    pub fn seen(&self) -> u64
+        ensures { result ≡ stamp_seen self.now }
+    {
+        self.seen
+    }
+
+    /// The laws of every desk: its number is below that of the desks, and its tokens carry the pool's id; what it saw last has
+    /// the greatest stamp of all that it has seen, one stamp has one census there, and each counts the pool's message blocks.
+    /// Does nothing.
     pub fn lawful(&self)
-        ensures { IsDeskOf N.id N.desks self.now }
+        ensures desk { IsDeskOf N.opened.arena.id N.desks self.now }
+        ensures seen { AreSeen (length N.opened.arena.held) self.now.pairs }
     {
         let _ = &self.regs;
     }
@@ -53,7 +75,9 @@ impl<N: Name> Desk<N> {
     {
         let Desk {
             number: _,
+            seen: _,
             regs,
+            seat: _,
             share: _,
             of: _,
         } = self;

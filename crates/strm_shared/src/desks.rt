@@ -1,18 +1,26 @@
 //! A list of desks that takes no memory.
-ghost use Rattle.std.specs.Prelude.{◌≡◌, ◌+◌, ◌≤◌, ◌<◌, ◌++◌, ◌∷◌, [], length, slice_index_or, IsPermutation, IsTrue, ◌↔◌};
+ghost use Rattle.std.specs.Prelude.{◌≡◌, ◌+◌, ◌≤◌, ◌<◌, ◌++◌, ◌∷◌, List, [], length, map, All, Contains, slice_index_or, IsPermutation, IsTrue, ◌↔◌};
 ghost use Rattle.std.specs.List.Sorted.{IsNonDecreasingBy};
-ghost use Rattle.strm_shared.specs.Desks.{DeskValue};
+ghost use Rattle.strm_shared.specs.Desks.{DeskValue, shown};
 ghost use Rattle.strm_shared.specs.Ledger.{blocks_at};
 ghost use Rattle.strm_shared.specs.Limits.{most_workers};
+ghost use Rattle.strm_shared.specs.Pairs.{pair_at};
+ghost use Rattle.strm_shared.specs.SeatsLayout.{AreGuestsShown, IsLock};
+ghost use Rattle.strm_shared.specs.declared.views.History.{History};
+ghost use Rattle.strm_shared.specs.declared.views.Known.{Known};
 
+use crate::board::Board;
 use crate::desk::Desk;
 use crate::desk_slot::DeskSlot;
 use crate::held::Held;
 use crate::limits::MOST_WORKERS;
 use crate::name::Name;
+use crate::views::View;
 use arrayvec::ArrayVec;
+use atomic_table::Seat;
 use std::marker::Model;
 use std::sync::ledger::{self, Share};
+use strm_pool::Census;
 
 /// At most `MOST_WORKERS` desks of one shared pool, in order. They lie in the value itself, and no call takes memory. As
 /// its desks, a list of them can be neither cloned nor dropped, and `forget` gives it up with all that they hold.
@@ -104,24 +112,29 @@ impl<N: Name> Desks<N> {
             .sort_unstable_by_key(|slot| slot.number());
     }
 
-    // Tells of the ledger's book that it counts what these desks hold, where all parts of the ledger are here. Nothing
-    // changes.
+    // Tells of the ledger's book that it counts what these desks hold, where all parts of the ledger are here, and of these desks
+    // that there are no more than parts. Nothing changes.
     pub(crate) fn audit(&mut self, held: &mut ledger::Book<Held<N>>)
         requires some { 0 < length self.old }
         requires few { length self.old ≤ most_workers }
         ensures same { self.new ≡ self.old }
+        ensures within { length self.old ≤ N.desks }
         ensures all { N.desks ≤ length self.old → held.old.total ≡ blocks_at self.old }
     {
         let Desk {
             number,
+            seen,
             regs,
+            seat,
             mut share,
             of,
         } = self.take_last();
         self.audit_beside(held, &mut share);
         self.push(Desk {
             number,
+            seen,
             regs,
+            seat,
             share,
             of,
         });
@@ -135,6 +148,7 @@ impl<N: Name> Desks<N> {
         ensures same { self.new ≡ self.old }
         ensures parts { share.new.parts ≡ share.old.parts }
         ensures amount { share.new.amount ≡ share.old.amount }
+        ensures within { share.old.parts + length self.old ≤ N.desks }
         ensures all { N.desks ≤ share.old.parts + length self.old → held.old.total ≡ share.old.amount + blocks_at self.old }
     {
         if self.is_empty() {
@@ -145,7 +159,9 @@ impl<N: Name> Desks<N> {
         let blocks = desk.blocks_held();
         let Desk {
             number,
+            seen,
             regs,
+            seat,
             share: part,
             of,
         } = desk;
@@ -153,10 +169,46 @@ impl<N: Name> Desks<N> {
         self.audit_beside(held, share);
         self.push(Desk {
             number,
+            seen,
             regs,
+            seat,
             share: share.split_off(1, blocks),
             of,
         });
+    }
+
+    // All these desks' seats join the lock's, which loads the word once, and then each leaves with the pair.
+    pub(crate) fn meet(&mut self, board: &Board<N>, lock: &mut Seat<(), View>) -> (u64, Census)
+        requires lock { (h : History) × (gs : List Known) × IsLock N.board h gs lock.old }
+        requires few { length self.old ≤ most_workers }
+        ensures guests { (h : History) (gs : List Known) → IsLock N.board h gs lock.old → AreGuestsShown N.board (pair_at N.first N.opened) h gs result lock.new }
+        ensures shown { self.new ≡ map (shown result) self.old }
+        ensures seen { (h : History) (gs : List Known) → IsLock N.board h gs lock.old → All (λ d. All (Contains h.pairs) d.pairs) self.new }
+    {
+        if self.is_empty() {
+            return board.show_guests(lock);
+        }
+        let Desk {
+            number,
+            seen: _,
+            regs,
+            seat,
+            share,
+            of,
+        } = self.take_last();
+        let Some(seat) = seat else { unreachable!() };
+        board.join(lock, seat);
+        let pair = self.meet(board, lock);
+        let seat = board.leave(lock);
+        self.push(Desk {
+            number,
+            seen: pair.0,
+            regs,
+            seat: Some(seat),
+            share,
+            of,
+        });
+        pair
     }
 
     /// Ends an empty list.

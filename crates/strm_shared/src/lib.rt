@@ -1,12 +1,14 @@
 //! A pool that threads share: a book under a lock, a desk for each worker, and what workers are given to serve.
 #![tactic(auto)]
 
+mod board;
 mod book;
 mod desk;
 mod desk_count;
 mod desk_slot;
 mod desk_table;
 mod desks;
+mod entry;
 mod gate;
 mod held;
 mod limits;
@@ -14,9 +16,12 @@ mod line;
 mod listed;
 mod name;
 mod outcome;
+mod rule;
 mod setup;
 mod shared;
 mod start;
+mod views;
+mod word;
 mod workers;
 
 pub use book::Book;

@@ -5,12 +5,14 @@ pub use std::marker::Brand;
 /// the name, which it calls with `Brand`: so a desk goes with its own `Shared` alone, and one of another does not compile.
 pub trait Name {
     ghost use Rattle.std.specs.Prelude.{ℕ};
+    ghost use Rattle.atomic_table.specs.Seated.{TableId};
+    ghost use Rattle.strm_pool.specs.PoolValue.{PoolValue};
 
-    // The id of the pool, which its tokens carry.
-    ghost id: { ℕ };
+    // The pool as it was when it was shared. Its tokens carry its id, and it has as many message blocks as then.
+    ghost opened: { PoolValue };
 
-    // How many message blocks the pool has.
-    ghost blocks: { ℕ };
+    // The table of its word.
+    ghost board: { TableId };
 
     // How many desks there are.
     ghost desks: { ℕ };
@@ -23,9 +25,11 @@ pub trait Name {
 }
 
 impl Name for Brand {
-    ghost id = { 0 };
+    ghost use Rattle.strm_shared.specs.Starts.{no_board, no_pool};
 
-    ghost blocks = { 0 };
+    ghost opened = { no_pool };
+
+    ghost board = { no_board };
 
     ghost desks = { 0 };
 

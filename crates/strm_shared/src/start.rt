@@ -1,11 +1,16 @@
 //! How a pool is shared out.
-ghost use Rattle.std.specs.Prelude.{◌≡◌, ◌≤◌, IfOk, None, replicate, vec_capacity};
+ghost use Rattle.std.specs.Prelude.{◌≡◌, ◌≤◌, [], ◌∷◌, length, IfOk, None, replicate, vec_capacity};
 ghost use Rattle.strm_mblk.specs.Arena.{census_of};
+ghost use Rattle.strm_mblk.specs.Limits.{most_message_blocks};
 ghost use Rattle.strm_pool.specs.Limits.{most_registers};
 ghost use Rattle.strm_shared.specs.Desks.{fresh};
 ghost use Rattle.strm_shared.specs.Limits.{most_workers};
+ghost use Rattle.strm_shared.specs.Pairs.{count_in, pair_at};
+ghost use Rattle.strm_shared.specs.Seats.{opening_history};
+ghost use Rattle.strm_shared.specs.SeatsLayout.{IsLock};
 ghost use Rattle.strm_shared.specs.Starts.{IsNameOf, Starts};
 
+use crate::board::Board;
 use crate::book::Book;
 use crate::desk::Desk;
 use crate::desk_count::DeskCount;
@@ -13,13 +18,17 @@ use crate::desk_table::DeskTable;
 use crate::desks::Desks;
 use crate::held::Held;
 use crate::name::Name;
+use crate::rule::WordRule;
 use crate::setup::Setup;
 use crate::shared::Shared;
+use crate::views::View;
+use crate::word::pack;
+use atomic_table::{Seat, Table};
 use std::alloc::{AllocError, Global};
 use std::marker::{Model, PhantomData};
 use std::sync::Mutex;
 use std::sync::ledger::{Blank, Share};
-use strm_pool::{NewFault, Pool, Regs};
+use strm_pool::{Census, NewFault, Pool, Regs};
 
 /// A pool that is to be shared, with all memory that its sharing takes. It has no name yet.
 #[derive(Drop)]
@@ -29,24 +38,28 @@ pub struct Start {
     first_stamp: u64,
     tables: Vec<DeskTable>,
     blank: Blank,
+    table: Table<(), View, (u64, Census), WordRule, Global>,
+    seat: Seat<(), View>,
 }
 
 impl Model for Start {
     ghost use Rattle.strm_shared.specs.Starts.{StartValue};
-    ghost use Rattle.strm_shared.specs.StartsLayout.{IsReady};
+    ghost use Rattle.strm_shared.specs.StartsLayout.{IsLaid, IsReady};
+    ghost use Rattle.strm_shared.specs.Pairs.{pair_at};
 
     ghost Value = { StartValue };
 
-    ghost view = { λ s. record { pool = s.pool; desks = s.desks; first = s.first_stamp; ledger = s.blank.name } };
+    ghost view = { λ s. record { pool = s.pool; board = s.table.shared.table_id; desks = s.desks; first = s.first_stamp; ledger = s.blank.name } };
 
-    ghost invariant = { λ s. IsReady s.pool s.desks s.first_stamp s.tables.items s.blank.parts };
+    ghost invariant = { λ s. IsReady s.pool s.desks s.first_stamp s.tables.items s.blank.parts × IsLaid (pair_at s.first_stamp s.pool) s.table.shared.table_id s.table.shared.key s.seat };
 }
 
 impl Start {
     /// Takes all memory that sharing the pool so takes. No message of the pool may be held.
     ///
     /// `BadShared` comes where there are no desks or more than `MOST_WORKERS`, or where the first stamp is above
-    /// `MOST_STAMP`, before any want of memory. Where it fails, the pool comes back as it was.
+    /// `MOST_STAMP`, before any want of memory; `Memory` where a growth was refused. Where it fails, the pool comes back as it
+    /// was.
     pub fn new(alloc: Global, pool: Pool, setup: Setup) -> Result<Start, (NewFault, Pool)>
         requires { (census_of pool.arena).held ≡ 0 }
         ensures { Starts pool setup result }
@@ -58,44 +71,62 @@ impl Start {
             return Err((NewFault::Memory, pool));
         };
         pool.lawful();
+        let opening = (setup.first_stamp, pool.census());
+        let Ok((table, seat)) = Table::of_words(alloc, &[pack(opening)], &opening) else {
+            return Err((NewFault::Memory, pool));
+        };
         Ok(Start {
             pool,
             desks: setup.desks,
             first_stamp: setup.first_stamp,
             tables,
             blank: Blank::new(u64::from(setup.desks)),
+            table,
+            seat,
         })
     }
 
-    /// Shares the pool under a name: the pool under its lock, and its desks 0, 1 and so on, with empty registers. It takes
-    /// no memory, and can't fail.
+    /// Shares the pool under a name: the pool under its lock, and its desks 0, 1 and so on, with empty registers, each of which
+    /// has seen the first stamp and the pool's census at it. It takes no memory, and can't fail.
     pub fn open<N: Name>(self) -> (Shared<N>, Desks<N>)
         requires { IsNameOf N.Name self }
-        ensures { result.1 ≡ fresh N.desks }
+        ensures { result.1 ≡ fresh N.desks (pair_at N.first N.opened ∷ []) }
     {
         let Start {
             pool,
-            desks,
+            desks: count,
             first_stamp,
             tables,
             blank,
+            table,
+            mut seat,
         } = self;
+        pool.lawful();
+        let census = pool.census();
+        let board = Board {
+            table,
+            blocks: census.free + census.queued + census.held,
+            of: PhantomData,
+        };
         let (held, share) = blank.open::<Held<N>>();
+        let desks = hand_out(&board, &mut seat, count, first_stamp, share);
         let book = Book {
             pool,
             stamp: first_stamp,
             tables,
+            seat,
             held,
             of: PhantomData,
         };
         let shared = Shared {
+            board,
             book: Mutex::new(book),
             count: DeskCount {
-                number: desks,
+                number: count,
                 of: PhantomData,
             },
         };
-        (shared, hand_out(desks, share))
+        (shared, desks)
     }
 }
 
@@ -110,20 +141,34 @@ fn tables_of(alloc: Global, desks: u8) -> Result<Vec<DeskTable>, AllocError>
     Ok(tables)
 }
 
-// Desks 0, 1 and so on, so many, each with one of as many parts of a ledger that counts nothing yet.
-fn hand_out<N: Name>(count: u8, share: Share<Held<N>>) -> Desks<N>
+// Desks 0, 1 and so on, so many, each with one of as many parts of a ledger that counts nothing yet, and with a seat that leaves
+// the lock's.
+fn hand_out<N: Name>(
+    board: &Board<N>,
+    lock: &mut Seat<(), View>,
+    count: u8,
+    first_stamp: u64,
+    share: Share<Held<N>>,
+) -> Desks<N>
+    requires lock { IsLock N.board (opening_history (pair_at N.first N.opened) 0) [] lock.old }
+    requires blocks { count_in (census_of N.opened.arena) ≡ length N.opened.arena.held }
+    requires few_blocks { length N.opened.arena.held ≤ most_message_blocks }
+    requires first { first_stamp ≡ N.first }
     requires few { count ≤ most_workers }
     requires below { count ≤ N.desks }
     requires parts { share.parts ≡ count }
     requires amount { share.amount ≡ 0 }
-    ensures { result ≡ fresh count }
+    ensures lock { IsLock N.board (opening_history (pair_at N.first N.opened) count) [] lock.new }
+    ensures desks { result ≡ fresh count (pair_at N.first N.opened ∷ []) }
 {
     let mut share = share;
     let mut desks = Desks::new();
     for number in 0..count {
         desks.push(Desk {
             number,
+            seen: first_stamp,
             regs: Regs::new(),
+            seat: Some(board.seat_desk(lock)),
             share: share.split_off(1, 0),
             of: PhantomData,
         });

@@ -29,8 +29,8 @@ use std::thread::Threads;
 /// takes when it starts.
 ///
 /// There are as many desks as parts; none at all is lawful. A worker stops at its first refusal. One for which there is no
-/// thread has no replies and its desk as it was, and the others run on. Where memory is refused the desks come back as they
-/// were; that nothing was served then is read off the code.
+/// thread has no replies and its desk as it was, and the others run on; one that was refused as `Worn` has seen the last stamp.
+/// Where memory is refused the desks come back as they were: no call was served on them, and they have seen no more.
 pub fn run_workers<N: Name + Send + Sync, R: Threads + Wait + Sync, G: Gate>(
     rt: &R,
     alloc: Global,

@@ -6,7 +6,7 @@ use Rattle.strm_driver.proofs.by_workers.shared_text.Goals as goal
 pub run_workers-requires-after_bounds : goal.run_workers-requires-after_bounds
 run_workers-requires-after_bounds g c κs within = (
   omega arith,
-  (omega arith, sym c.requires.desks ∙ sym c.requires.name.counted ∙ sym (length-fresh g.N.Name.desks) ∙ sym (ap length c.open-shared.ensures)),
+  (omega arith, sym c.requires.desks ∙ sym c.requires.name.counted ∙ sym (length-fresh g.N.Name.desks _) ∙ sym (ap length c.open-shared.ensures)),
 )
 
 pub text_of_outcome-requires : goal.text_of_outcome-requires

@@ -1,0 +1,6 @@
+use Rattle.strm_pool.specs.Registers.{entries_of}
+use Rattle.strm_shared.specs.SeatsLayout.{entry_of}
+use Rattle.strm_shared.proofs.book.Book.turn.Given as goal
+
+abbrev pub ghosts-enter : goal.ghosts-enter
+ghosts-enter g a = record { entry = entry_of a.desk a.line a.call.now a.reply.now; table = entries_of a.regs.now }

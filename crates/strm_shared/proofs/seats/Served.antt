@@ -1,0 +1,67 @@
+-- A served call: what the lock's seat and the desk's know after it.
+use Rattle.std.proofs.Common.{◌≡◌, ℕ, ◌+◌, ◌<◌, List, [], ◌∷◌, ◌++◌, set, Some, refl, sym, ap, ◌∙◌, subst, arith}
+use Rattle.std.specs.Prelude.{All}
+use Rattle.std.proofs.lemmas.List.Elements.{Contains-get_or}
+use Rattle.atomic_table.specs.declared.shared.Seat.{Seat}
+use Rattle.atomic_table.specs.Seated.{TableId}
+use Rattle.strm_mblk.specs.declared.census.Census.{Census}
+use Rattle.strm_mblk.specs.Arena.{census_of}
+use Rattle.strm_pool.specs.PoolValue.{PoolValue}
+use Rattle.strm_pool.specs.Registers.{Entries}
+use Rattle.strm_shared.specs.declared.entry.Entry.{Entry}
+use Rattle.strm_shared.specs.declared.views.History.{History}
+use Rattle.strm_shared.specs.declared.views.Known.{Known}
+use Rattle.strm_shared.specs.declared.views.View.{View}
+use Rattle.strm_shared.specs.Pairs.{Pair, count_in, pair_at}
+use Rattle.strm_shared.specs.Seats.{IsOf, history_after, known_after}
+use Rattle.strm_shared.specs.SeatsLayout.{IsAt, IsKeptBy, IsLock, IsNextOf, IsSeated, history_at, known_at}
+use Rattle.strm_shared.proofs.seats.Books.{history_is, kept_more, next_pair}
+use Rattle.strm_shared.proofs.seats.Desks.{known_is, seated, served_later, served_shown}
+
+-- A call was served on a desk of this number, and left the pool and the desk's table so, at this stamp: the lock's seat r has the pair
+-- behind the history that it had, and keeps the book's invariant; the desk's seat s has seen the pair, and sits as a desk's does.
+pub record Entered (z : TableId) (o : Pair) (blocks n stamp number : ℕ) (w : PoolValue) (ts : List Entries) (u : Entries) (h : History) (d : Known) (r s : Seat (Unit {0}) View) : Type 0 where
+  pub listed : (history_at r).pairs ≡ h.pairs ++ pair_at stamp w ∷ []
+  pub saw : (known_at s).pairs ≡ d.pairs ++ pair_at stamp w ∷ []
+  pub kept : (us : List Entries) → us ≡ set ts number u → IsKeptBy z o n stamp w us (history_at r) r
+  pub seated : IsSeated z o blocks number stamp u (known_at s) (Some s)
+
+-- A desk's seat has joined the lock's, and the call has left the pool so, with this census.
+module _ {z : TableId} {o : Pair} {blocks n stamp number seen : ℕ} {v : PoolValue} {ts : List Entries} {t : Entries} {h : History} {lock seat : Seat (Unit {0}) View} {d : Known}
+    (kept : IsKeptBy z o n stamp v ts h lock) (before : IsSeated z o blocks number seen t d (Some seat)) (is_of : IsOf o.0 h d)
+    (w : PoolValue) (whole : count_in (census_of w.arena) ≡ blocks) where
+  follows : IsNextOf o h (pair_at (stamp + 1) w)
+  follows = next_pair kept w (whole ∙ sym before.sized)
+
+  -- its pair is later than all that the desk had seen
+  pub later : All (λ q. q.0 < stamp + 1) d.pairs
+  later = λ k x within. served_later o h d kept.lawful is_of (pair_at (stamp + 1) w) follows _ (Contains-get_or d.pairs k x within)
+
+  module _ (census : Census) (told : census ≡ census_of w.arena) where
+    pair_is : (let p : Pair = (stamp + 1, census) in p) ≡ pair_at (stamp + 1) w
+    pair_is = ap (λ x. let q : Pair = (stamp + 1, x) in q) told
+
+    -- it may be stored
+    pub next : IsNextOf o h (stamp + 1, census)
+    next = subst (IsNextOf o h) (sym pair_is) follows
+
+    -- it was stored, and the desk's seat has left
+    module _ (e : Entry) (u : Entries) (r s : Seat (Unit {0}) View) (mine : e.desk ≡ number)
+        (stored : IsLock z (history_after (stamp + 1, census) e u h) [] r × IsAt z (known_after (stamp + 1, census) e u d) s) where
+      here : IsLock z (history_after (pair_at (stamp + 1) w) e u h) [] r
+      here = subst (λ q. IsLock z (history_after q e u h) [] r) pair_is stored.0
+
+      there : IsAt z (known_after (pair_at (stamp + 1) w) e u d) s
+      there = subst (λ q. IsAt z (known_after q e u d) s) pair_is stored.1
+
+      pub entered : Entered z o blocks n (stamp + 1) number w ts u h d r s
+      entered = record {
+        listed = ap (λ (i : History). i.pairs) (history_is z (history_after (pair_at (stamp + 1) w) e u h) [] r here);
+        saw = ap (λ (k : Known). k.pairs) (known_is z (known_after (pair_at (stamp + 1) w) e u d) s there);
+        kept = λ us tables.
+            kept_more kept w (whole ∙ sym before.sized) us e u r (omega (arith, mine, before.number, is_of.below, kept.desks))
+            (tables ∙ ap (λ k. set ts k u) (sym mine)) here;
+        seated =
+            seated z o blocks number u (known_after (pair_at (stamp + 1) w) e u d) d.pairs (pair_at (stamp + 1) w) s before.sized there before.number refl refl
+            (served_shown o h d kept.lawful is_of (pair_at (stamp + 1) w) follows e u (mine ∙ sym before.number));
+      }

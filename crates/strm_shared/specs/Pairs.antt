@@ -1,0 +1,48 @@
+-- Pairs of a stamp and the census at it: those of a shared pool, and those that a desk has seen.
+use Rattle.std.specs.Prelude.{◌≡◌, ℕ, ◌+◌, ◌-◌, ◌<◌, ◌≤◌, List, length, All, Contains, slice_index_or}
+use Rattle.strm_mblk.specs.declared.census.Census.{Census}
+use Rattle.strm_mblk.specs.Arena.{census_of}
+use Rattle.strm_pool.specs.PoolValue.{PoolValue}
+
+-- a stamp, and the census once the call that raised it there was served
+abbrev pub Pair : Type 0
+Pair = ℕ × Census
+
+-- the pair of a pool at a stamp
+abbrev pub pair_at : ℕ → PoolValue → Pair
+pair_at stamp v = (stamp, census_of v.arena)
+
+-- the message blocks that a census counts
+abbrev pub count_in : Census → ℕ
+count_in c = c.free + c.queued + c.held
+
+abbrev pub no_pair : Pair
+no_pair = (0, record { free = 0; queued = 0; held = 0 })
+
+-- the last of these pairs, of which there is one
+abbrev pub last_pair : List Pair → Pair
+last_pair ps = slice_index_or ps (length ps - 1) no_pair
+
+-- this pair comes so many calls behind the opening pair: its stamp is so much greater, and its census counts as many blocks
+abbrev pub IsPairAfter : Pair → ℕ → Pair → Type 0
+IsPairAfter o k p = (p.0 ≡ o.0 + k) × (count_in p.1 ≡ count_in o.1)
+
+-- each of these pairs comes as many calls behind the opening pair as its place says
+abbrev pub AreRising : Pair → List Pair → Type 0
+AreRising o ps = (k : ℕ) → k < length ps → IsPairAfter o k (slice_index_or ps k no_pair)
+
+-- The pairs of a pool that was shared with this opening pair, and is at this stamp now: that pair is the first, stamps rise by 1
+-- from it, each census counts as many blocks, and the last pair is that of the pool.
+pub record ArePairs (o : Pair) (stamp : ℕ) (v : PoolValue) (ps : List Pair) : Type 0 where
+  pub some : 1 ≤ length ps
+  pub opened : slice_index_or ps 0 no_pair ≡ o
+  pub rising : AreRising o ps
+  pub last : last_pair ps ≡ pair_at stamp v
+
+-- What a desk has seen of a pool of so many message blocks: a pair at least, the last of which has the greatest stamp; one
+-- census for each stamp; and each counts the blocks of the pool.
+pub record AreSeen (blocks : ℕ) (ps : List Pair) : Type 0 where
+  pub some : 1 ≤ length ps
+  pub latest : All (λ p. p.0 ≤ (last_pair ps).0) ps
+  pub one : (p q : Pair) → Contains ps p → Contains ps q → p.0 ≡ q.0 → p.1 ≡ q.1
+  pub whole : All (λ p. count_in p.1 ≡ blocks) ps

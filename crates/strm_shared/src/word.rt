@@ -1,0 +1,37 @@
+//! A stamp and the census at it, in one word.
+ghost use Rattle.std.specs.Prelude.{◌≡◌, ◌+◌, ◌≤◌};
+ghost use Rattle.strm_mblk.specs.Limits.{most_message_blocks};
+ghost use Rattle.strm_shared.specs.Limits.{most_stamp};
+ghost use Rattle.strm_shared.specs.Pairs.{count_in};
+ghost use Rattle.strm_shared.specs.Words.{pair_of, word_of};
+
+use strm_pool::Census;
+
+// Each count of a word lies below this number: 2^12, which is `MOST_MESSAGE_BLOCKS` and 1.
+const COUNT_RANGE: u64 = 4096;
+
+// The word of a stamp and a census. It does not tell what is held: that is the rest of the pool.
+pub(crate) fn pack(pair: (u64, Census)) -> u64
+    requires unspent { pair.0 ≤ most_stamp }
+    requires few { count_in pair.1 ≤ most_message_blocks }
+    ensures { result ≡ word_of pair }
+{
+    let (stamp, census) = pair;
+    let counts = u64::from(census.free) * COUNT_RANGE + u64::from(census.queued);
+    stamp * (COUNT_RANGE * COUNT_RANGE) + counts
+}
+
+// The stamp and the census of a word, in a pool of so many message blocks.
+pub(crate) fn unpack(blocks: u32, word: u64) -> (u64, Census)
+    requires within { (pair_of blocks word).1.free + (pair_of blocks word).1.queued ≤ blocks }
+    ensures { result ≡ pair_of blocks word }
+{
+    let free = (word / COUNT_RANGE % COUNT_RANGE) as u32;
+    let queued = (word % COUNT_RANGE) as u32;
+    let census = Census {
+        free,
+        queued,
+        held: blocks - (free + queued),
+    };
+    (word / (COUNT_RANGE * COUNT_RANGE), census)
+}
