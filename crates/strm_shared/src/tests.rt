@@ -11,8 +11,8 @@ use std::alloc::Global;
 use std::process::Abort;
 use std::sync::Wait;
 use strm_pool::{
-    Call, ClassSpec, ClassSpecs, Config, Flush, NewFault, Pool, QueueSpec, QueueSpecs, Refusal,
-    Reg, Regs, Reply,
+    Call, Census, ClassSpec, ClassSpecs, Config, Flush, NewFault, Pool, QueueSpec, QueueSpecs,
+    Refusal, Reg, Regs, Reply,
 };
 
 // A queue of these marks, with a service procedure.
@@ -74,7 +74,7 @@ fn start(rt: &impl Abort, alloc: Global, id: u32, desks: u8, first_stamp: u64) -
 }
 
 // Such a pool that is to be shared by two desks, with a wish, a message of three bytes on queue 0, and both queues waiting,
-// queue 1 before the other, from the fifth last stamp on.
+// queue 1 before the other, from the sixth last stamp on.
 fn loaded(rt: &impl Abort, alloc: Global) -> Start {
     let mut pool = eight(rt, alloc, 7);
     assert!(rt; pool.bufcall(16).is_ok() && pool.qenable(1).is_ok());
@@ -89,7 +89,7 @@ fn loaded(rt: &impl Abort, alloc: Global) -> Start {
             panic!(rt; "not put")
         }
     }
-    start_of(rt, alloc, pool, 2, MOST_STAMP - 4)
+    start_of(rt, alloc, pool, 2, MOST_STAMP - 5)
 }
 
 // The register of a letter.
@@ -148,7 +148,7 @@ fn listed<N: Name>(zero: Desk<N>, one: Desk<N>) -> Desks<N>
 
 // The registers of a desk, whose tokens carry the pool's id, as the law of a desk says.
 fn regs_of<N: Name>(desk: Desk<N>) -> Regs
-    ensures { CarryId N.id result }
+    ensures { CarryId N.opened.arena.id result }
 {
     desk.lawful();
     desk.into_regs()
@@ -157,8 +157,8 @@ fn regs_of<N: Name>(desk: Desk<N>) -> Regs
 // What `gather` answers.
 type Gathering<N> = Result<Gathered<N>, (Refusal, Shared<N>, Desks<N>)>;
 
-// The pool once the desks came back, in order, and what they hold was freed.
-fn emptied<N: Name>(rt: &impl Abort, gathered: Gathering<N>) -> Pool {
+// The pool once the desks came back, in order, each of which has seen this stamp, and what they hold was freed.
+fn emptied<N: Name>(rt: &impl Abort, gathered: Gathering<N>, stamp: u64) -> Pool {
     let (mut pool, mut desks) = match gathered {
         Ok(Gathered { pool, desks }) => (pool, desks),
         Err((_, _, desks)) => {
@@ -170,6 +170,7 @@ fn emptied<N: Name>(rt: &impl Abort, gathered: Gathering<N>) -> Pool {
     for place in 0..count {
         let number = count - 1 - place;
         let desk = last(rt, &mut desks, number as u8);
+        assert_eq!(rt; desk.seen(), stamp);
         pool.drain(regs_of(desk));
     }
     desks.forget();
@@ -177,9 +178,26 @@ fn emptied<N: Name>(rt: &impl Abort, gathered: Gathering<N>) -> Pool {
 }
 
 // So many message blocks are free, queued and held.
-fn assert_census(rt: &impl Abort, pool: &Pool, counts: (u32, u32, u32)) {
-    let census = pool.census();
+fn assert_counts(rt: &impl Abort, census: Census, counts: (u32, u32, u32)) {
     assert_eq!(rt; (census.free, census.queued, census.held), counts);
+}
+
+// They are so of the pool.
+fn assert_census(rt: &impl Abort, pool: &Pool, counts: (u32, u32, u32)) {
+    assert_counts(rt, pool.census(), counts);
+}
+
+// The desk sees that they are so at this stamp, which it has seen then.
+fn assert_now<N: Name>(
+    rt: &impl Abort,
+    shared: &Shared<N>,
+    desk: &mut Desk<N>,
+    stamp: u64,
+    counts: (u32, u32, u32),
+) {
+    let (told, census) = shared.census_now(desk);
+    assert_eq!(rt; (told, desk.seen()), (stamp, stamp));
+    assert_counts(rt, census, counts);
 }
 
 #[test]
@@ -205,8 +223,37 @@ fn by_turns<N: Name, R: Wait + Abort>(rt: &R, start: Start)
     assert_served(rt, &shared, &mut zero, &Call::Freemsg(a), &Reply::Empty);
     assert_served(rt, &shared, &mut one, &Call::Linkb(a, b), &Reply::Done);
     // Handed in from the last to the first, they come back in order.
-    let pool = emptied(rt, shared.gather(listed(one, zero)));
+    let pool = emptied(rt, shared.gather(listed(one, zero)), 8);
     assert_census(rt, &pool, (8, 0, 0));
+}
+
+#[test]
+fn two_desks_one_word(rt: HostRuntime) {
+    one_word::<Brand, _>(&rt, start(&rt, rt.alloc(), 7, 2, 0));
+}
+
+// What one desk was served the other sees by a look, and not before. Who was served has seen it at once, and sees no less by a
+// look.
+fn one_word<N: Name, R: Wait + Abort>(rt: &R, start: Start)
+    requires { IsNameOf N.Name start }
+{
+    let a = reg(rt, b'a');
+    let (shared, mut desks) = start.open::<N>();
+    let mut one = last(rt, &mut desks, 1);
+    let mut zero = last(rt, &mut desks, 0);
+    desks.forget();
+    assert_now(rt, &shared, &mut zero, 0, (8, 0, 0));
+    assert_now(rt, &shared, &mut one, 0, (8, 0, 0));
+    assert_served(rt, &shared, &mut zero, &Call::Allocb(a, 1), &Reply::Done);
+    assert_served(rt, &shared, &mut zero, &Call::Putq(0, a), &Reply::Done);
+    assert_eq!(rt; (zero.seen(), one.seen()), (2, 0));
+    assert_now(rt, &shared, &mut zero, 2, (7, 1, 0));
+    assert_now(rt, &shared, &mut one, 2, (7, 1, 0));
+    assert_served(rt, &shared, &mut one, &Call::Allocb(a, 1), &Reply::Done);
+    assert_eq!(rt; (zero.seen(), one.seen()), (2, 3));
+    assert_now(rt, &shared, &mut one, 3, (6, 1, 1));
+    let pool = emptied(rt, shared.gather(listed(zero, one)), 3);
+    assert_census(rt, &pool, (7, 1, 0));
 }
 
 // Whether a pool can't be shared by so many desks from this stamp on. It comes back as it was then.
@@ -239,18 +286,21 @@ fn setups_out_of_bounds(rt: HostRuntime) {
 
 #[test]
 fn the_last_stamps(rt: HostRuntime) {
-    worn::<Brand, _>(&rt, start(&rt, rt.alloc(), 7, 1, MOST_STAMP - 11));
+    worn::<Brand, _>(&rt, start(&rt, rt.alloc(), 7, 2, MOST_STAMP - 11));
 }
 
 // Each call before the last stamp is served and counts, and what it does to the pool shows in later ones; none is served at
-// the last.
+// the last, which a desk sees that is refused so.
 fn worn<N: Name, R: Wait + Abort>(rt: &R, start: Start)
     requires { IsNameOf N.Name start }
 {
     let a = reg(rt, b'a');
     let (shared, mut desks) = start.open::<N>();
+    let mut other = last(rt, &mut desks, 1);
     let mut desk = last(rt, &mut desks, 0);
+    desks.forget();
     assert_served(rt, &shared, &mut desk, &Call::Bufcall(16), &Reply::Id(1));
+    assert_eq!(rt; desk.seen(), MOST_STAMP - 10);
     assert_served(rt, &shared, &mut desk, &Call::Ready, &Reply::Ready(1, 16));
     assert_served(rt, &shared, &mut desk, &Call::Allocb(a, 1), &Reply::Done);
     assert_served(rt, &shared, &mut desk, &Call::Msgdsize(a), &Reply::Size(0));
@@ -262,11 +312,13 @@ fn worn<N: Name, R: Wait + Abort>(rt: &R, start: Start)
     let flush = Call::Flushq(0, Flush::All);
     assert_served(rt, &shared, &mut desk, &flush, &Reply::Done);
     assert_served(rt, &shared, &mut desk, &Call::Qsize(0), &Reply::Size(0));
+    assert_eq!(rt; (desk.seen(), other.seen()), (MOST_STAMP, MOST_STAMP - 11));
     assert_refused(rt, &shared, &mut desk, &Call::Freemsg(a), Refusal::Worn);
     assert_refused(rt, &shared, &mut desk, &Call::Freemsg(a), Refusal::Worn);
-    assert!(rt; desks.len() == 0);
-    desks.push(desk);
-    let pool = emptied(rt, shared.gather(desks));
+    assert_refused(rt, &shared, &mut other, &Call::Census, Refusal::Worn);
+    assert_eq!(rt; (desk.seen(), other.seen()), (MOST_STAMP, MOST_STAMP));
+    assert_now(rt, &shared, &mut other, MOST_STAMP, (8, 0, 0));
+    let pool = emptied(rt, shared.gather(listed(desk, other)), MOST_STAMP);
     assert_census(rt, &pool, (8, 0, 0));
 }
 
@@ -293,24 +345,28 @@ fn ungathered<N: Name>(
     }
 }
 
-// Desk 1 is not there at first. Each time the others are gathered they come back, with the pool and the stamp as they were.
+// Desk 1 is not there at first. Each time the others are gathered they come back, with the pool and the stamp as they were, and
+// have seen no more.
 fn missing<N: Name, R: Wait + Abort>(rt: &R, start: Start)
     requires { IsNameOf N.Name start }
 {
     let a = reg(rt, b'a');
     let (shared, mut desks) = start.open::<N>();
-    let one = last(rt, &mut desks, 1);
+    let mut one = last(rt, &mut desks, 1);
+    assert_served(rt, &shared, &mut one, &Call::Testb(16), &Reply::Yes);
     let (shared, desks) = ungathered(rt, shared, desks);
     let (shared, mut desks) = ungathered(rt, shared, desks);
     assert!(rt; desks.len() == 1);
     let zero = desks.desk_mut(0);
+    assert_eq!(rt; zero.seen(), MOST_STAMP - 5);
     assert_served(rt, &shared, zero, &Call::Qsize(0), &Reply::Size(1));
     assert_served(rt, &shared, zero, &Call::Getq(0, a), &Reply::Done);
     assert_served(rt, &shared, zero, &Call::Msgdsize(a), &Reply::Size(3));
     assert_served(rt, &shared, zero, &Call::Putbq(0, a), &Reply::Done);
     assert_refused(rt, &shared, zero, &Call::Getq(0, a), Refusal::Worn);
+    assert_eq!(rt; one.seen(), MOST_STAMP - 4);
     desks.push(one);
-    let pool = emptied(rt, shared.gather(desks));
+    let pool = emptied(rt, shared.gather(desks), MOST_STAMP);
     assert_census(rt, &pool, (7, 1, 0));
     let told = pool.queue_info(0);
     assert!(rt; told.is_ok_and(|queue| queue.bytes == 3 && queue.enabled && !queue.noenable));
@@ -326,7 +382,7 @@ fn unserved<N: Name, R: Abort>(rt: &R, start: Start)
     requires { IsNameOf N.Name start }
 {
     let (shared, desks) = start.open::<N>();
-    let pool = emptied(rt, shared.gather(desks));
+    let pool = emptied(rt, shared.gather(desks), MOST_STAMP - 5);
     assert_eq!(rt; (pool.wish_at(0), pool.wish_at(1)), (Some((1, 16)), None));
     assert_eq!(rt; (pool.run_at(0), pool.run_at(1)), (Some(1), Some(0)));
     assert_census(rt, &pool, (7, 1, 0));
@@ -355,10 +411,14 @@ fn side_by_side<N: Name, M: Name, R: Wait + Abort>(rt: &R, one: Start, other: St
     assert!(rt; served.is_ok_and(|reply| reply == Reply::Empty));
     let served = first.serve(rt, desks.desk_mut(0), 2, &Call::Putq(0, a));
     assert!(rt; served.is_ok_and(|reply| reply == Reply::Done));
+    assert_now(rt, &first, desks.desk_mut(0), 2, (7, 1, 0));
+    let (stamp, census) = second.census_now(others.desk_mut(0));
+    assert_eq!(rt; stamp, 6);
+    assert_counts(rt, census, (8, 0, 0));
     let gathered = second.gather(others);
-    let pool = emptied(rt, gathered);
+    let pool = emptied(rt, gathered, 6);
     assert_census(rt, &pool, (8, 0, 0));
     let gathered = first.gather(desks);
-    let pool = emptied(rt, gathered);
+    let pool = emptied(rt, gathered, 2);
     assert_census(rt, &pool, (7, 1, 0));
 }

@@ -27,8 +27,9 @@ fn each_kind<N: Name, R: Wait + Abort>(rt: &R, start: Start)
     enabling(rt, &shared, &mut desk);
     wishing(rt, &shared, &mut desk);
     assert!(rt; desks.len() == 0);
+    let stamp = desk.seen();
     desks.push(desk);
-    let pool = emptied(rt, shared.gather(desks));
+    let pool = emptied(rt, shared.gather(desks), stamp);
     assert_census(rt, &pool, (8, 0, 0));
 }
 

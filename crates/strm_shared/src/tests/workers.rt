@@ -2,10 +2,13 @@
 ghost use Rattle.std.specs.Prelude.{◌≡◌, length};
 ghost use Rattle.strm_shared.specs.Starts.{IsNameOf};
 
-use super::{assert_census, assert_served, emptied, opened, reg, start, start_of, ungathered};
+use super::{
+    assert_census, assert_now, assert_served, emptied, last, opened, reg, start, start_of,
+    ungathered,
+};
 use crate::{
-    Brand, Desks, End, Gate, Line, Lines, MOST_STAMP, MOST_WORKERS, Name, OpenGate, Outcome, Parts,
-    Replies, Shared, Start, run_workers,
+    Brand, Desk, Desks, End, Gate, Line, Lines, MOST_STAMP, MOST_WORKERS, Name, OpenGate, Outcome,
+    Parts, Replies, Shared, Start, run_workers,
 };
 use std::alloc::{AllocError, Global};
 use std::process::Abort;
@@ -13,10 +16,21 @@ use std::sync::Wait;
 use std::sync::atomic::{AtomicU32, Ordering};
 use std::test::Fail;
 use std::thread::Threads;
+use std::{mem, thread};
 use strm_pool::{Call, Census, Refusal, Reg, Reply};
 
-// Each of two workers waits before its lines until the other has come, for so many turns at most.
+// So many turns at most a worker waits, and a monitor looks.
 const TURNS: u32 = 100_000_000;
+
+// Whether one of these bits comes in time.
+fn comes(flags: &AtomicU32, bits: u32) -> bool {
+    for _ in 0..TURNS {
+        if flags.load(Ordering::SeqCst) & bits != 0 {
+            return true;
+        }
+    }
+    false
+}
 
 // Where two workers of two lines each wait for each other: which lines have come, and were answered, each as a digit of four
 // bits, how many waited in vain, and how many were answered that had not come.
@@ -53,12 +67,7 @@ impl Meeting {
     // Whether the other worker comes in time, which has other digits.
     fn meets(&self, worker: u8) -> bool {
         let others = if worker == 0 { 0xFF00 } else { 0x00FF };
-        for _ in 0..TURNS {
-            if self.came.load(Ordering::SeqCst) & others != 0 {
-                return true;
-            }
-        }
-        false
+        comes(&self.came, others)
     }
 }
 
@@ -76,6 +85,52 @@ impl Gate for Meeting {
             self.early.fetch_add(1, Ordering::SeqCst);
         }
         self.answered.fetch_add(own, Ordering::SeqCst);
+    }
+}
+
+// Where two workers wait before their last lines until a monitor has seen two stamps: whether it has, how many workers waited
+// in vain, and how many have ended.
+#[derive(Drop)]
+struct Watch {
+    last: u32,
+    shown: AtomicU32,
+    missed: AtomicU32,
+    ended: AtomicU32,
+}
+
+impl Watch {
+    // With this number of the last line of each worker.
+    fn new(last: u32) -> Watch {
+        Watch {
+            last,
+            shown: AtomicU32::new(0),
+            missed: AtomicU32::new(0),
+            ended: AtomicU32::new(0),
+        }
+    }
+
+    // The monitor has seen two stamps.
+    fn show(&self) {
+        self.shown.store(1, Ordering::SeqCst);
+    }
+
+    // Whether both workers have ended.
+    fn is_over(&self) -> bool {
+        self.ended.load(Ordering::SeqCst) == 2
+    }
+}
+
+impl Gate for Watch {
+    fn before(&self, _worker: u8, line: u32) {
+        if line == self.last && !comes(&self.shown, 1) {
+            self.missed.fetch_add(1, Ordering::SeqCst);
+        }
+    }
+
+    fn after(&self, _worker: u8, line: u32) {
+        if line == self.last {
+            self.ended.fetch_add(1, Ordering::SeqCst);
+        }
     }
 }
 
@@ -151,24 +206,39 @@ fn work<N: Name + Send + Sync, R: Threads + Wait + Abort + Sync, G: Gate>(
 {
     let (shared, mut desks) = start.open::<N>();
     assert!(rt; desks.len() > 0);
-    let mut monitor = desks.take_last();
+    let monitor = desks.take_last();
     let parts = parts(alloc, reg(rt, b'a'), desks.len() as u8, rounds).expect(rt, "memory");
+    let outcome = ran(rt, alloc, &shared, desks, &parts, gate);
+    assert_worked(rt, shared, monitor, outcome, rounds);
+    Ok(())
+}
+
+// All workers had so many rounds served. The monitor sees it, and is the desk without which none are gathered.
+fn assert_worked<N: Name, R: Wait + Abort>(
+    rt: &R,
+    shared: Shared<N>,
+    monitor: Desk<N>,
+    outcome: Outcome<N>,
+    rounds: u32,
+) {
     let Outcome {
         desks,
         replies,
         ends,
-    } = ran(rt, alloc, &shared, desks, &parts, gate);
+    } = outcome;
+    let mut monitor = monitor;
     let count = (rounds as usize).wrapping_mul(2);
     assert_done(rt, replies.items(), ends.items(), count);
+    let stamp = (count as u64).wrapping_mul(desks.len() as u64);
+    assert_now(rt, &shared, &mut monitor, stamp, (4, 0, 0));
     let (free, queued, held) = (4, 0, 0);
     let census = Reply::Census(Census { free, queued, held });
     assert_served(rt, &shared, &mut monitor, &Call::Census, &census);
     let (shared, mut desks) = ungathered(rt, shared, desks);
     assert!(rt; desks.len() < MOST_WORKERS);
     desks.push(monitor);
-    let pool = emptied(rt, shared.gather(desks));
+    let pool = emptied(rt, shared.gather(desks), stamp.wrapping_add(1));
     assert_census(rt, &pool, (4, 0, 0));
-    Ok(())
 }
 
 #[test]
@@ -206,7 +276,7 @@ fn crowd<N: Name + Send + Sync, R: Threads + Wait + Abort + Sync>(
     } = ran(rt, alloc, &shared, desks, &parts, &OpenGate);
     assert!(rt; ends.items().iter().all(|end| *end == End::Done));
     let left = count_left(replies.items());
-    let pool = emptied(rt, shared.gather(desks));
+    let pool = emptied(rt, shared.gather(desks), 16_000);
     assert!(rt; left > 0);
     assert_eq!(rt; pool.census().queued, left);
     assert_eq!(rt; pool.census().held, 0);
@@ -252,9 +322,62 @@ fn count_left(replies: &[Replies]) -> u32 {
 }
 
 #[test]
-fn two_workers_and_a_monitor(rt: HostRuntime) -> Result<(), Fail> {
-    let two = small(&rt, rt.alloc(), 3);
-    work::<Brand, _, _>(&rt, rt.alloc(), two, &OpenGate, 500)
+fn two_workers_and_a_monitor(rt: HostRuntime) {
+    watched::<Brand, _>(&rt, rt.alloc(), small(&rt, rt.alloc(), 3));
+}
+
+// Two workers of 500 rounds each, while a monitor on a thread of its own reads what they leave, until they have ended. A
+// closure owns only what may be dropped, so the workers' desks are lent to it.
+fn watched<N: Name + Send + Sync, R: Threads + Wait + Abort + Sync>(
+    rt: &R,
+    alloc: Global,
+    start: Start,
+)
+    requires { IsNameOf N.Name start }
+{
+    let (shared, mut desks) = start.open::<N>();
+    let mut monitor = last(rt, &mut desks, 2);
+    let parts = parts(alloc, reg(rt, b'a'), 2, 500).expect(rt, "memory");
+    let gate = Watch::new(999);
+    let (in_time, outcome) = thread::join(
+        rt,
+        || monitored(rt, &shared, &mut monitor, &gate),
+        || {
+            let workers = mem::replace(&mut desks, Desks::new());
+            ran(rt, alloc, &shared, workers, &parts, &gate)
+        },
+    );
+    desks.forget();
+    assert!(rt; in_time);
+    assert_eq!(rt; gate.missed.load(Ordering::SeqCst), 0);
+    assert_worked(rt, shared, monitor, outcome, 500);
+}
+
+// Looks until the workers have ended, and whether they did in time. Each time four blocks are counted, at a stamp that is none
+// before the last. Two stamps are seen, at the first look that finds one above the first.
+fn monitored<N: Name>(
+    rt: &impl Abort,
+    shared: &Shared<N>,
+    desk: &mut Desk<N>,
+    gate: &Watch,
+) -> bool {
+    let first = desk.seen();
+    for _ in 0..TURNS {
+        let seen = desk.seen();
+        let (stamp, census) = shared.census_now(desk);
+        assert!(rt; seen <= stamp);
+        assert_eq!(rt;
+            u64::from(census.free) + u64::from(census.queued) + u64::from(census.held),
+            4
+        );
+        if first < stamp {
+            gate.show();
+        }
+        if gate.is_over() {
+            return true;
+        }
+    }
+    false
 }
 
 #[test]
@@ -270,19 +393,21 @@ fn replies_in_order(rt: HostRuntime) -> Result<(), Fail> {
         rt.alloc(),
         start(&rt, rt.alloc(), 7, 1, 0),
         4,
+        4,
         End::Done,
     )?;
     let end = End::Refused(Refusal::Worn);
     let late = start(&rt, rt.alloc(), 7, 1, MOST_STAMP - 3);
-    unlike::<Brand, _>(&rt, rt.alloc(), late, 3, end)
+    unlike::<Brand, _>(&rt, rt.alloc(), late, 3, MOST_STAMP, end)
 }
 
-// One worker has four lines with replies of four sorts, of which so many are served, and ends so.
+// One worker has four lines with replies of four sorts, of which so many are served, up to this stamp, and ends so.
 fn unlike<N: Name + Send + Sync, R: Threads + Wait + Abort + Sync>(
     rt: &R,
     alloc: Global,
     start: Start,
     count: usize,
+    stamp: u64,
     end: End,
 ) -> Result<(), Fail>
     requires { IsNameOf N.Name start }
@@ -311,7 +436,7 @@ fn unlike<N: Name + Send + Sync, R: Threads + Wait + Abort + Sync>(
     assert!(rt; ends.items() == [end].as_slice());
     assert_eq!(rt; replies.len(), 1);
     assert!(rt; count <= wanted.len() && replies[0].items() == &wanted[..count]);
-    let pool = emptied(rt, shared.gather(desks));
+    let pool = emptied(rt, shared.gather(desks), stamp);
     assert_census(rt, &pool, (8, 0, 0));
     Ok(())
 }
