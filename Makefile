@@ -12,7 +12,7 @@ LOG := build/proving.log
 # Ends with one line where there is no `rt`.
 NEEDS_RT = $(if $(shell command -v rt 2>/dev/null),,$(error Rattle's command rt is not on PATH, and README.md says which is wanted))
 
-.PHONY: run test bench strm install
+.PHONY: run test bench bench-census strm install
 
 # Runs the first run's script, once the program is proved.
 run: $(BUILT)
@@ -26,6 +26,11 @@ test:
 # Prints what a line and a call cost. OPTIONS are words of bench/run.py, as --instructions, or --write for docs/.
 bench: $(BUILT)
 	@python3 bench/run.py $(OPTIONS) $(BUILT)
+
+# Prints what a look at the census without the lock costs, and a served call. OPTIONS are words of bench/census.py.
+bench-census: $(BUILT)
+	$(NEEDS_RT)
+	@python3 bench/census.py $(OPTIONS)
 
 # Puts the proved program at build/strm.
 strm: build/strm

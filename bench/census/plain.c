@@ -1,0 +1,51 @@
+/* What `census_now` does, by hand: loads the word, unpacks it with the total, and keeps the stamp. For each line of standard
+ * input it does so as often as the line says, and then writes a line, which begins with the stamp. */
+#include <inttypes.h>
+#include <stdatomic.h>
+#include <stdint.h>
+#include <stdio.h>
+
+struct shared {
+    _Atomic uint64_t word;
+    uint32_t blocks;
+};
+
+struct desk {
+    uint64_t seen;
+};
+
+struct census {
+    uint64_t stamp;
+    uint32_t free, queued, held;
+};
+
+/* Neither inlined nor copied for one caller. */
+__attribute__((noinline, noipa)) static struct census census_now(const struct shared *shared, struct desk *desk)
+{
+    uint64_t word = atomic_load(&shared->word);
+    struct census now = {
+        .stamp = word >> 24,
+        .free = word >> 12 & 4095,
+        .queued = word & 4095,
+    };
+    now.held = shared->blocks - (now.free + now.queued);
+    desk->seen = now.stamp;
+    return now;
+}
+
+int main(void)
+{
+    static struct shared shared = {.word = UINT64_C(64) << 12, .blocks = 64};
+    static struct desk desk;
+    uint64_t looks;
+    while (scanf("%" SCNu64, &looks) == 1) {
+        uint64_t told = 0;
+        for (uint64_t i = 0; i < looks; i++) {
+            struct census now = census_now(&shared, &desk);
+            told += now.stamp ^ (now.free ^ now.queued ^ now.held);
+        }
+        printf("%" PRIu64 " %" PRIu64 "\n", desk.seen, told);
+        fflush(stdout);
+    }
+    return 0;
+}
