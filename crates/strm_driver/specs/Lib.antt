@@ -1,3 +1,4 @@
 pub mod Outcome
 pub mod Watched
 pub mod Told
+pub mod Working

@@ -38,18 +38,15 @@ IsTextUnder script served text = IsMerge script.parts served × (text ≡ text_o
 abbrev pub IsSerialText : ScriptValue → List ℕ → Type 0
 IsSerialText script text = IsTextUnder script (serial_merge script.parts) text
 
--- the mode in which a script is served: workers serve several sections, and one alone needs none
-abbrev pub mode_of : Mode → ScriptValue → Mode
-mode_of mode script = if nat_lt 1 (length script.parts) then mode else Serial
+-- and in some order
+abbrev pub IsMergedText : ScriptValue → List ℕ → Type 0
+IsMergedText script text = (served : List Served) × IsTextUnder script served text
 
--- the text of a script that is served so; of workers nothing is said until a trace is kept
-abbrev pub IsTextServed : Mode → ScriptValue → List ℕ → Type 0
-IsTextServed Serial script text = IsSerialText script text
-IsTextServed Workers script text = Unit {0}
-
--- the text of a script, where this mode was asked for
+-- the text of a script that is served in this mode: by workers it is that of some order, which the text tells, and of one section
+-- the serial one
 abbrev pub IsTextOf : Mode → ScriptValue → List ℕ → Type 0
-IsTextOf mode script text = IsTextServed (mode_of mode script) script text
+IsTextOf Serial script text = IsSerialText script text
+IsTextOf Workers script text = IsMergedText script text × (length script.parts ≡ 1 → IsSerialText script text)
 
 -- an input has no fault, and this is the text of its script
 abbrev pub IsTextOfInput : Mode → ℕ → List ℕ → List ℕ → Type 0

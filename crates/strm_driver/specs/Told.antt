@@ -1,29 +1,24 @@
 -- What a fault tells.
-use Rattle.std.specs.Prelude.{◌≡◌, Bool, true, false, List, [], ◌∷◌, Option, None, Some, Result, Ok, Err, if◌then◌else◌}
-use Rattle.std.specs.List.{list_any}
-use Rattle.strm_data.specs.declared.refusal.Refusal.{Refusal}
+use Rattle.std.specs.Prelude.{◌≡◌, Bool, true, false, Option, None, Some, Result, Ok, Err}
 use Rattle.strm_data.specs.declared.refusal.Refusal.TheVariants.{BadShared}
 use Rattle.strm_pool.specs.declared.config.NewFault.{NewFault}
 use Rattle.strm_pool.specs.declared.config.NewFault.TheVariants as new_faults
 use Rattle.strm_pool.specs.declared.config.Which.{Which}
 use Rattle.strm_script.specs.declared.fault.ParseFault.{ParseFault}
 use Rattle.strm_script.specs.declared.fault.ParseFault.TheVariants as parse_faults
-use Rattle.strm_shared.specs.Books.{MayRefuse}
 use Rattle.strm_shared.specs.declared.outcome.End.{End}
 use Rattle.strm_shared.specs.declared.outcome.End.TheVariants as ends
 use Rattle.strm_driver.specs.declared.fault.RunFault.{RunFault}
 use Rattle.strm_driver.specs.declared.fault.RunFault.TheVariants.{Read, TooLong, Write, Script, Config, Memory, Refused}
 use Rattle.strm_driver.specs.declared.fault.TextFault.{TextFault}
 use Rattle.strm_driver.specs.declared.fault.TextFault.TheVariants as text_faults
-use Rattle.strm_driver.specs.declared.run.Mode.{Mode}
-use Rattle.strm_driver.specs.declared.run.Mode.TheVariants.{Serial, Workers}
 use Rattle.strm_driver.specs.declared.input.ReadFault.{ReadFault}
 use Rattle.strm_driver.specs.declared.input.ReadFault.TheVariants as read_faults
 
 -- ---- what a fault tells of the first fault of its input
 
--- a read fault and want of memory come whatever the input is, a write fault and a refused worker only where it has no
--- fault, and each other one where it is the first
+-- a read fault and want of memory come whatever the input is, a write fault only where it has no fault, and each other one where
+-- it is the first; no worker is ever refused
 abbrev pub TellsFault : RunFault → Option RunFault → Type 0
 TellsFault Read first = Unit {0}
 TellsFault TooLong first = first ≡ Some TooLong
@@ -31,19 +26,18 @@ TellsFault Write first = first ≡ None
 TellsFault (Script found) first = first ≡ Some (Script found)
 TellsFault (Config which) first = first ≡ Some (Config which)
 TellsFault Memory first = Unit {0}
-TellsFault (Refused why) first = first ≡ None
+TellsFault (Refused why) first = ⊥
 
--- the same of a configuration, whose fault comes before any want of memory; nothing else is wrong with a pool of one thread
+-- the same of a configuration, whose fault comes before any want of memory; nothing else is wrong with a pool, nor with how it is shared
 abbrev pub TellsNewFault : NewFault → Option Which → Type 0
 TellsNewFault (new_faults.BadConfig which) first = first ≡ Some which
 TellsNewFault new_faults.BadShared first = ⊥
 TellsNewFault new_faults.Memory first = first ≡ None
 
--- a worker is told as refused where workers serve and nowhere else, as worn or as a stranger
-abbrev pub TellsWorker : RunFault → Mode → Type 0
-TellsWorker (Refused why) Workers = MayRefuse why
-TellsWorker (Refused why) Serial = ⊥
-TellsWorker other mode = Unit {0}
+-- the faults that are ever met: no worker is refused
+abbrev pub IsMet : RunFault → Type 0
+IsMet (Refused why) = ⊥
+IsMet other = Unit {0}
 
 -- ---- what a fault tells of the reader and of the writer
 
@@ -98,18 +92,3 @@ abbrev pub is_not_started : End → Bool
 is_not_started ends.Done = false
 is_not_started (ends.Refused why) = false
 is_not_started ends.NotStarted = true
-
--- the refusal of the lowest worker that has one
-abbrev pub first_refused : List End → Option Refusal
-first_refused [] = None
-first_refused (ends.Done ∷ others) = first_refused others
-first_refused (ends.Refused why ∷ others) = Some why
-first_refused (ends.NotStarted ∷ others) = first_refused others
-
-abbrev pub refused_as : Option Refusal → Result (Unit {0}) TextFault
-refused_as None = Ok tt
-refused_as (Some why) = Err (text_faults.Refused why)
-
--- want of memory where a worker has no thread, else the first refusal
-abbrev pub ended_as : List End → Result (Unit {0}) TextFault
-ended_as es = if list_any is_not_started es then Err text_faults.Memory else refused_as (first_refused es)

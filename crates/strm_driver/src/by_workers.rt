@@ -1,24 +1,30 @@
 //! The text of a script whose sections are served by workers.
-ghost use Rattle.std.specs.Prelude.{◌≡◌, ◌≤◌, IfErr, IfSome, None, OnOk, length};
-ghost use Rattle.std.specs.List.{list_any};
+ghost use Rattle.std.specs.Prelude.{◌≡◌, ◌≤◌, ◌++◌, ◌∷◌, [], false, IfErr, IfOk, None, OnOk, length, sum_by};
+ghost use Rattle.std.specs.List.{flat_map, list_any};
 ghost use Rattle.strm_pool.specs.Config.{fault_of};
-ghost use Rattle.strm_shared.specs.Books.{MayRefuse};
+ghost use Rattle.strm_pool.specs.PoolValue.{opening};
+ghost use Rattle.strm_shared.specs.Desks.{fresh};
 ghost use Rattle.strm_shared.specs.Limits.{most_workers};
+ghost use Rattle.strm_shared.specs.Pairs.{pair_at};
+ghost use Rattle.strm_shared.specs.Runs.{AllWorked};
 ghost use Rattle.strm_shared.specs.Starts.{IsNameOf};
-ghost use Rattle.strm_driver.specs.Outcome.{fault_of_config};
-ghost use Rattle.strm_driver.specs.Told.{TellsFault, TellsWorker, ended_as, first_refused, is_not_started, run_fault_of_text};
+ghost use Rattle.strm_script.specs.declared.script.Script.{Script as ScriptValue};
+ghost use Rattle.strm_script.specs.Limits.{most_command_lines};
+ghost use Rattle.strm_script.specs.Text.{entry_text, report_text};
+ghost use Rattle.strm_driver.specs.Outcome.{IsTextOf};
+ghost use Rattle.strm_driver.specs.Told.{TellsNewFault, is_not_started};
+ghost use Rattle.strm_driver.specs.Working.{IsServedUnder};
 ghost use Rattle.strm_driver.specs.declared.run.Mode.TheVariants.{Workers};
 
-use crate::fault::TextFault;
-use crate::output::room_for;
+use crate::output::{lines_in, room_for};
 use std::alloc::{AllocError, Global};
 use std::sync::Wait;
 use std::thread::Threads;
-use strm_pool::{Pool, Refusal};
+use strm_pool::{NewFault, Pool};
 use strm_script::{Script, reply_text, report_text};
 use strm_shared::{
-    Brand, Desks, End, Gate, Gathered, Lines, Name, Outcome, Parts, Replies, Setup, Shared, Start,
-    Trace, run_workers,
+    Brand, Desks, End, Entry, Gate, Gathered, Name, Outcome, Parts, Setup, Shared, Start, Trace,
+    run_workers,
 };
 
 // Whether there was no thread for one of the workers.
@@ -28,63 +34,39 @@ fn lacks_thread(ends: &[End]) -> bool
     ends.iter().any(|end| matches!(end, End::NotStarted))
 }
 
-// The refusal of the lowest worker that has one.
-fn first_refused(ends: &[End]) -> Option<Refusal>
-    ensures { result ≡ first_refused ends.now }
+// Appends a line for each entry of a trace, in its order.
+fn trace_text(text: &mut Vec<u8>, trace: &[Entry]) -> Result<(), AllocError>
+    ensures { OnOk result (text.new.items ≡ text.old.items ++ flat_map entry_text trace.now) }
 {
-    let [end, others @ ..] = ends else {
-        return None;
-    };
-    match end {
-        End::Refused(why) => Some(*why),
-        End::Done | End::NotStarted => first_refused(others),
-    }
-}
-
-// How a run ends whose workers ended so.
-fn ended(ends: &[End]) -> Result<(), TextFault>
-    requires { IfSome (first_refused ends.now) (λ why. MayRefuse why) }
-    ensures value { result ≡ ended_as ends.now }
-    ensures told { IfErr result (λ fault. TellsFault (run_fault_of_text fault) None) }
-    ensures worker { IfErr result (λ fault. TellsWorker (run_fault_of_text fault) Workers) }
-{
-    if lacks_thread(ends) {
-        return Err(TextFault::Memory);
-    }
-    match first_refused(ends) {
-        Some(why) => Err(TextFault::Refused(why)),
-        None => Ok(()),
-    }
-}
-
-// Appends what a worker was answered.
-fn worker_text(
-    text: &mut Vec<u8>,
-    worker: u8,
-    lines: &Lines,
-    replies: &Replies,
-) -> Result<(), AllocError> {
-    for (line, reply) in lines.items().iter().zip(replies.items()) {
-        reply_text(text, worker, line.number, reply)?;
+    for entry in trace {
+        reply_text(text, entry.desk, entry.line, &entry.reply)?;
     }
     Ok(())
 }
 
-// What the workers were answered, worker 0 first, and the report.
-fn whole_text(
-    alloc: Global,
-    pool: &Pool,
-    parts: &[Lines],
-    all: &[Replies],
-) -> Result<Vec<u8>, AllocError> {
-    let mut text = Vec::with_capacity(alloc, room_for(parts))?;
-    let mut worker: u8 = 0;
-    for (lines, replies) in parts.iter().zip(all) {
-        worker_text(&mut text, worker, lines, replies)?;
-        worker = worker.wrapping_add(1);
-    }
+// A line for each entry of a trace, and the report of the pool.
+fn whole_text(alloc: Global, pool: &Pool, trace: &[Entry]) -> Result<Vec<u8>, AllocError>
+    ensures { IfOk result (λ text. text.items ≡ flat_map entry_text trace.now ++ report_text pool.now) }
+{
+    let mut text = Vec::with_capacity(alloc, room_for(trace.len()))?;
+    trace_text(&mut text, trace)?;
     report_text(&mut text, pool)?;
     Ok(text)
+}
+
+// The same, where each worker had a thread. Want of one is want of memory.
+fn text_of_trace(
+    alloc: Global,
+    ends: &[End],
+    pool: &Pool,
+    trace: &[Entry],
+) -> Result<Vec<u8>, AllocError>
+    ensures { IfOk result (λ text. (list_any is_not_started ends.now ≡ false) × (text.items ≡ flat_map entry_text trace.now ++ report_text pool.now)) }
+{
+    if lacks_thread(ends) {
+        return Err(AllocError);
+    }
+    whole_text(alloc, pool, trace)
 }
 
 // Frees what desks hold.
@@ -96,32 +78,32 @@ fn drain<N: Name>(pool: &mut Pool, desks: Desks<N>) {
     desks.end();
 }
 
-// The text that workers leave, or why there is none.
+// The text of the script whose sections these workers have served.
 fn text_of_outcome<N: Name>(
     alloc: Global,
     shared: Shared<N>,
     parts: &Parts,
     outcome: Outcome<N>,
-) -> Result<Vec<u8>, TextFault>
-    requires whole { N.desks ≤ length outcome.desks }
-    requires refused { IfSome (first_refused outcome.ends) (λ why. MayRefuse why) }
-    ensures told { IfErr result (λ fault. TellsFault (run_fault_of_text fault) None) }
-    ensures worker { IfErr result (λ fault. TellsWorker (run_fault_of_text fault) Workers) }
+) -> Result<Vec<u8>, AllocError>
+    requires under { IsServedUnder N.Name parts.now }
+    requires worked { AllWorked N.Name parts.now (fresh N.desks (pair_at N.first N.opened ∷ [])) outcome.ends outcome.replies outcome.desks }
+    ensures { IfOk result (λ text. (script : ScriptValue) → script.parts ≡ parts.now → N.opened ≡ opening script.config → IsTextOf Workers script text.items) }
 {
+    let _ = parts;
     let Outcome {
         desks,
-        replies,
+        replies: _,
         ends,
     } = outcome;
     match shared.gather(desks) {
-        Ok(Gathered { mut pool, desks }) => {
-            let text = match ended(ends.items()) {
-                Ok(()) => match whole_text(alloc, &pool, parts.items(), replies.items()) {
-                    Ok(text) => Ok(text),
-                    Err(_) => Err(TextFault::Memory),
-                },
-                Err(fault) => Err(fault),
-            };
+        Ok(
+            Gathered {
+                mut pool,
+                trace,
+                desks,
+            },
+        ) => {
+            let text = text_of_trace(alloc, ends.items(), &pool, trace.items());
             drain(&mut pool, desks);
             text
         }
@@ -129,56 +111,55 @@ fn text_of_outcome<N: Name>(
     }
 }
 
-// The text of parts that desks serve, where the pool is shared under this name.
+// The text of the script that has these sections, where its pool is shared under this name.
 fn shared_text<N: Name + Send + Sync, R: Threads + Wait + Sync, G: Gate>(
     rt: &R,
     alloc: Global,
     gate: &G,
     start: Start,
     parts: &Parts,
-) -> Result<Vec<u8>, TextFault>
+) -> Result<Vec<u8>, AllocError>
     requires name { IsNameOf N.Name start }
-    requires desks { start.desks ≡ length parts.now }
-    ensures told { IfErr result (λ fault. TellsFault (run_fault_of_text fault) None) }
-    ensures worker { IfErr result (λ fault. TellsWorker (run_fault_of_text fault) Workers) }
+    requires under { IsServedUnder N.Name parts.now }
+    ensures { IfOk result (λ text. (script : ScriptValue) → script.parts ≡ parts.now → N.opened ≡ opening script.config → IsTextOf Workers script text.items) }
 {
     let (shared, desks) = start.open::<N>();
     match run_workers(rt, alloc, &shared, desks, parts, gate) {
         Ok(outcome) => text_of_outcome(alloc, shared, parts, outcome),
-        Err((_, desks)) => {
+        Err((error, desks)) => {
             desks.forget();
-            Err(TextFault::Memory)
+            Err(error)
         }
     }
 }
 
-/// The text of a script each of whose sections a worker serves on a thread of its own: what worker 0 was answered, then
-/// worker 1, and so on, and the report. It is the configuration's first fault where it has one, else `Memory` where a worker
-/// has no thread, else the refusal of the lowest worker that has one.
+/// The text of a script each of whose sections a worker serves on a thread of its own, in the order in which the lines were
+/// served, or its configuration's first fault. Want of a thread is told as `Memory`.
 pub fn workers_text<R: Threads + Wait + Sync, G: Gate>(
     rt: &R,
     alloc: Global,
     gate: &G,
     script: Script,
-) -> Result<Vec<u8>, TextFault>
+) -> Result<Vec<u8>, NewFault>
     requires some { 1 ≤ length script.parts }
     requires few { length script.parts ≤ most_workers }
+    requires within { sum_by length script.parts ≤ most_command_lines }
+    ensures text { IfOk result (λ text. IsTextOf Workers script text.items) }
     ensures lawful { OnOk result (fault_of script.config ≡ None) }
-    ensures refused { IfErr result (λ fault. TellsFault (run_fault_of_text fault) (fault_of_config script.config)) }
-    ensures worker { IfErr result (λ fault. TellsWorker (run_fault_of_text fault) Workers) }
+    ensures refused { IfErr result (λ fault. TellsNewFault fault (fault_of script.config)) }
 {
     let Script { config, parts } = script;
     let pool = Pool::new(alloc, config)?;
     let setup = Setup {
         desks: parts.items().len() as u8,
-        trace: Trace::Off,
+        trace: Trace::Keep(lines_in(parts.items()).max(1)),
         first_stamp: 0,
     };
     match Start::new(alloc, pool, setup) {
-        Ok(start) => shared_text::<Brand, R, G>(rt, alloc, gate, start, &parts),
-        Err((fault, _)) => Err(fault.into()),
+        Ok(start) => match shared_text::<Brand, R, G>(rt, alloc, gate, start, &parts) {
+            Ok(text) => Ok(text),
+            Err(_) => Err(NewFault::Memory),
+        },
+        Err((fault, _)) => Err(fault),
     }
 }
-
-#[cfg(test)]
-mod tests;

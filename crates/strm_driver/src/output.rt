@@ -1,6 +1,7 @@
 //! The output of a run.
-ghost use Rattle.std.specs.Prelude.{◌≡◌, ◌||◌, ℕ, take, OnOk, OnErr, is_err};
+ghost use Rattle.std.specs.Prelude.{◌≡◌, ◌≤◌, ◌||◌, ℕ, take, OnOk, OnErr, is_err, length, sum_by};
 ghost use Rattle.std.specs.Io.KnownBytes.{Appends};
+ghost use Rattle.strm_script.specs.Limits.{most_command_lines};
 
 use crate::watched::Watched;
 use std::io::Write;
@@ -10,12 +11,20 @@ use thiserror::Error;
 // How many bytes of text a command line has, or few lines have more.
 const BYTES_OF_LINE: usize = 16;
 
-/// For how many bytes of text there is room at first: most lines need no more than this for each.
-pub fn room_for(parts: &[Lines]) -> usize {
-    let mut lines: usize = 0;
-    for part in parts {
-        lines = lines.saturating_add(part.items().len());
+/// How many command lines sections have.
+pub fn lines_in(parts: &[Lines]) -> u32
+    requires { sum_by length parts.now ≤ most_command_lines }
+    ensures { result ≡ sum_by length parts.now }
+{
+    let mut lines: u32 = 0;
+    for i in 0..parts.len() {
+        lines += parts[i].items().len() as u32;
     }
+    lines
+}
+
+/// For how many bytes of text there is room at first, where so many lines are served: most need no more than this for each.
+pub fn room_for(lines: usize) -> usize {
     lines.saturating_mul(BYTES_OF_LINE)
 }
 

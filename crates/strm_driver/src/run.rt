@@ -3,8 +3,8 @@ ghost use Rattle.std.specs.Prelude.{◌≡◌, ◌≢◌, ◌≤◌, ◌+◌, �
 ghost use Rattle.std.specs.Io.KnownBytes.{Appends, Consumes, Keeps};
 ghost use Rattle.strm_script.specs.Limits.{most_script_bytes};
 ghost use Rattle.strm_script.specs.Script.{script_of};
-ghost use Rattle.strm_driver.specs.Outcome.{fault_of_script, fault_of_input, mode_of, IsTextOf, IsTextOfInput};
-ghost use Rattle.strm_driver.specs.Told.{TellsFault, TellsWorker, run_fault_of_text, errs, is_read, is_write};
+ghost use Rattle.strm_driver.specs.Outcome.{fault_of_script, fault_of_input, IsTextOf, IsTextOfInput};
+ghost use Rattle.strm_driver.specs.Told.{IsMet, TellsFault, run_fault_of_text, errs, is_read, is_write};
 
 use crate::by_workers::workers_text;
 use crate::fault::{RunFault, TextFault};
@@ -19,7 +19,7 @@ use std::thread::Threads;
 use strm_script::parse;
 use strm_shared::Gate;
 
-/// How the lines of several workers are served.
+/// How the lines of a script are served.
 #[derive(Clone, Copy, Debug, PartialEq, Eq)]
 pub enum Mode {
     /// On one thread, worker 0's lines first, then worker 1's, and so on.
@@ -29,7 +29,7 @@ pub enum Mode {
 }
 
 // The text of the script that bytes are, or the script's or its configuration's first fault. The bytes are let go
-// once they are read. One section needs no worker.
+// once they are read.
 fn text_of_script<E: Threads + Wait + Sync, G: Gate>(
     rt: &E,
     alloc: Global,
@@ -41,14 +41,13 @@ fn text_of_script<E: Threads + Wait + Sync, G: Gate>(
     ensures text { IfOk result (λ text. IsOkAnd (script_of bytes.items) (λ script. IsTextOf mode script text.items)) }
     ensures lawful { OnOk result (fault_of_script (script_of bytes.items) ≡ None) }
     ensures refused { IfErr result (λ fault. TellsFault (run_fault_of_text fault) (fault_of_script (script_of bytes.items))) }
-    ensures mode { IfErr result (λ fault. TellsWorker (run_fault_of_text fault) mode) }
-    ensures sections { IfErr result (λ fault. IfOk (script_of bytes.items) (λ script. TellsWorker (run_fault_of_text fault) (mode_of mode script))) }
+    ensures met { IfErr result (λ fault. IsMet (run_fault_of_text fault)) }
 {
     let script = parse(alloc, &bytes)?;
     drop(bytes);
     let text = match mode {
-        Mode::Workers if script.parts.items().len() > 1 => workers_text(rt, alloc, gate, script)?,
-        Mode::Serial | Mode::Workers => serial_text(alloc, script)?,
+        Mode::Serial => serial_text(alloc, script)?,
+        Mode::Workers => workers_text(rt, alloc, gate, script)?,
     };
     Ok(text)
 }
@@ -71,10 +70,8 @@ pub fn run<E: AllocGlobal + Threads + Wait + Sync, G: Gate, R: Read, W: Write>(
     // An input too long, a script or a configuration is refused where it is at fault, and for its first fault.
     ensures refused { IfErr result (λ fault. IfSome (R.remaining reader.old.inner) (λ input.
         TellsFault fault (fault_of_input max input))) }
-    // A worker is told as refused in workers' mode alone, and of a script of several sections alone.
-    ensures mode { IfErr result (λ fault. TellsWorker fault mode) }
-    ensures sections { IfErr result (λ fault. IfSome (R.remaining reader.old.inner) (λ input.
-        IfOk (script_of input) (λ script. TellsWorker fault (mode_of mode script)))) }
+    // No worker is ever told as refused.
+    ensures met { IfErr result IsMet }
     // After a write fault a prefix of the text was written.
     ensures cut { result ≡ Err RunFault.Write → IfSome (R.remaining reader.old.inner) (λ input.
         (text : List ℕ) × IsTextOfInput mode max input text
@@ -85,9 +82,9 @@ pub fn run<E: AllocGlobal + Threads + Wait + Sync, G: Gate, R: Read, W: Write>(
     // A read fault comes where the reader failed, and nowhere else, and a write fault where the writer did.
     ensures reader { reader.new.failed ≡ (reader.old.failed || errs is_read result) }
     ensures writer { writer.new.failed ≡ (writer.old.failed || errs is_write result) }
-    // At most one byte more than `max` is taken from the reader.
+    // At most one byte more than `max` is taken from the reader; where more than `max` were, no read fault is told.
     ensures taken { (bytes : List ℕ) × Consumes (R.remaining reader.old.inner) (R.remaining reader.new.inner) bytes
-        × (length bytes ≤ max + 1) }
+        × (length bytes ≤ max + 1) × (result ≡ Err RunFault.Read → length bytes ≤ max) }
 {
     let input = read_input(rt.alloc(), max, reader)?;
     let text = text_of_script(rt, rt.alloc(), mode, gate, input)?;

@@ -1,16 +1,17 @@
 //! The text of a script whose sections are served one after another on one thread.
-ghost use Rattle.std.specs.Prelude.{◌≡◌, ◌≤◌, ◌+◌, ◌++◌, ◌∷◌, List, length, OnOk, IfOk, IfErr, IsTrue, None};
+ghost use Rattle.std.specs.Prelude.{◌≡◌, ◌≤◌, ◌+◌, ◌++◌, ◌∷◌, List, length, sum_by, OnOk, IfOk, IfErr, IsTrue, None};
 ghost use Rattle.strm_pool.specs.Config.{fault_of};
 ghost use Rattle.strm_pool.specs.PoolValue.{owns};
 ghost use Rattle.strm_pool.specs.Registers.{RegisterTable, table_of, AreDistinct};
 ghost use Rattle.strm_pool.specs.Step.{empty_tables};
 ghost use Rattle.strm_shared.specs.Limits.{most_workers};
+ghost use Rattle.strm_script.specs.Limits.{most_command_lines};
 ghost use Rattle.strm_script.specs.Merge.{Served, by_worker, serial_from};
 ghost use Rattle.strm_script.specs.Text.{text_from};
 ghost use Rattle.strm_driver.specs.Outcome.{IsSerialText};
 ghost use Rattle.strm_driver.specs.Told.{TellsNewFault};
 
-use crate::output::room_for;
+use crate::output::{lines_in, room_for};
 use std::alloc::{AllocError, Global};
 use strm_pool::{NewFault, Pool, Regs};
 use strm_script::{Script, reply_text, report_text};
@@ -63,7 +64,8 @@ fn serve_parts(
 
 /// The text of a script, all of whose lines are served on one thread, worker 0's first, or its configuration's first fault.
 pub fn serial_text(alloc: Global, script: Script) -> Result<Vec<u8>, NewFault>
-    requires { length script.parts ≤ most_workers }
+    requires few { length script.parts ≤ most_workers }
+    requires within { sum_by length script.parts ≤ most_command_lines }
     ensures text { IfOk result (λ text. IsSerialText script text.items) }
     ensures lawful { OnOk result (fault_of script.config ≡ None) }
     ensures refused { IfErr result (λ fault. TellsNewFault fault (fault_of script.config)) }
@@ -71,7 +73,7 @@ pub fn serial_text(alloc: Global, script: Script) -> Result<Vec<u8>, NewFault>
     let Script { config, parts } = script;
     let sections = parts.items();
     let mut pool = Pool::new(alloc, config)?;
-    let Ok(mut text) = Vec::with_capacity(alloc, room_for(sections)) else {
+    let Ok(mut text) = Vec::with_capacity(alloc, room_for(lines_in(sections) as usize)) else {
         return Err(NewFault::Memory);
     };
     match serve_parts(&mut pool, 0, sections, &mut text) {

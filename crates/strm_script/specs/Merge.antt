@@ -1,6 +1,7 @@
 -- In which order the lines of several workers are served.
 use Rattle.std.specs.Prelude.{◌≡◌, ℕ, ◌==◌, List, [], filter, map, slice_index_or}
 use Rattle.std.specs.List.{flat_map, enumerate_from}
+use Rattle.strm_shared.specs.declared.entry.Entry.{Entry}
 use Rattle.strm_shared.specs.declared.line.Line.{Line}
 
 -- a line of a worker
@@ -27,3 +28,7 @@ serial_from k parts = flat_map (λ p. by_worker p.0 p.1) (enumerate_from k parts
 -- worker 0's lines, then worker 1's, and so on
 abbrev pub serial_merge : List (List Line) → List Served
 serial_merge parts = serial_from 0 parts
+
+-- the order in which the calls of a trace were served
+abbrev pub merge_of : List Entry → List Served
+merge_of es = map (λ e. record { worker = e.desk; line = record { number = e.line; call = e.call } }) es

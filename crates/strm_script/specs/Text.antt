@@ -21,6 +21,7 @@ use Rattle.strm_queue.specs.QueuedBlocks.{QueuedBlocks}
 use Rattle.strm_data.specs.Refusal.{number_of, name_of}
 use Rattle.strm_pool.specs.Registers.{RegisterTable}
 use Rattle.strm_pool.specs.Step.{DeskCall, Replay, empty_tables, replay_from}
+use Rattle.strm_shared.specs.declared.entry.Entry.{Entry}
 use Rattle.strm_script.specs.Merge.{Served}
 use Rattle.strm_script.specs.declared.script.Script.{Script}
 
@@ -57,6 +58,10 @@ reply_text (Refused why) = codes "refused " ++ (decimal (number_of why) ++ (code
 -- the line for the reply to line `number` of the script, which is a worker's
 abbrev pub reply_line : ℕ → ℕ → Reply → List ℕ
 reply_line worker number reply = decimal worker ++ (codes ":" ++ (decimal number ++ (codes " " ++ (reply_text reply ++ codes "\n"))))
+
+-- the line of an entry of a trace
+abbrev pub entry_text : Entry → List ℕ
+entry_text e = reply_line e.desk e.line e.reply
 
 -- the reply to a worker's line
 abbrev pub line_text : Served × Reply → List ℕ

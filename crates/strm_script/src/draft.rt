@@ -1,7 +1,8 @@
 //! A script that is being read.
-ghost use Rattle.std.specs.Prelude.{◌≡◌, ◌<◌, ◌≤◌, ◌++◌, ◌∷◌, [], List, ℕ, true, false, length, Ok, IfOk, OnOk};
+ghost use Rattle.std.specs.Prelude.{◌≡◌, ◌<◌, ◌≤◌, ◌++◌, ◌∷◌, [], List, ℕ, true, false, length, sum_by, Ok, IfOk, OnOk};
 ghost use Rattle.strm_script.specs.Cut.{words_behind};
 ghost use Rattle.strm_shared.specs.Limits.{most_workers};
+ghost use Rattle.strm_script.specs.Limits.{most_command_lines};
 ghost use Rattle.strm_script.specs.Entry.{Worker, Command, entry_of};
 ghost use Rattle.strm_script.specs.Script.{Numbered, is_full, may_stand, with_words, with_entry, is_skipped, with_line, closed};
 ghost use Rattle.strm_script.specs.Draft.{StandsFor, HasRoom, Reads, with_first};
@@ -183,7 +184,9 @@ impl Draft {
     /// The script that ends before line `number`. Where no worker section has begun, one is missing on that line.
     pub fn finish(self, number: u32) -> Result<Script, ParseFault>
         ensures parses { (es : List Numbered) → StandsFor self es → Parses result (closed number (Ok es)) }
+        ensures some { IfOk result (λ script. 1 ≤ length script.parts) }
         ensures few { (es : List Numbered) → StandsFor self es → IfOk result (λ script. length script.parts ≤ most_workers) }
+        ensures within { (es : List Numbered) → StandsFor self es → IfOk result (λ script. sum_by length script.parts ≤ most_command_lines) }
     {
         if self.stage != Stage::Body {
             let kind = Kind::Missing;

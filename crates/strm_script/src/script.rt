@@ -1,7 +1,7 @@
 //! A script: a pool's configuration, and what its workers do.
-ghost use Rattle.std.specs.Prelude.{◌≤◌, IfOk, length};
+ghost use Rattle.std.specs.Prelude.{◌≤◌, IfOk, length, sum_by};
 ghost use Rattle.strm_shared.specs.Limits.{most_workers};
-ghost use Rattle.strm_script.specs.Limits.{most_script_bytes};
+ghost use Rattle.strm_script.specs.Limits.{most_command_lines, most_script_bytes};
 ghost use Rattle.strm_script.specs.Parsed.{Parses};
 ghost use Rattle.strm_script.specs.Script.{script_of};
 
@@ -26,7 +26,9 @@ pub struct Script {
 pub fn parse(alloc: Global, bytes: &[u8]) -> Result<Script, ParseFault>
     requires { length bytes.now ≤ most_script_bytes }
     ensures parses { Parses result (script_of bytes.now) }
+    ensures some { IfOk result (λ script. 1 ≤ length script.parts) }
     ensures few { IfOk result (λ script. length script.parts ≤ most_workers) }
+    ensures within { IfOk result (λ script. sum_by length script.parts ≤ most_command_lines) }
 {
     let mut draft = Draft::new(alloc);
     let mut text = bytes;

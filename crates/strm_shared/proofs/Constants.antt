@@ -1,10 +1,13 @@
 -- The constants of the code are the numbers of the definitions.
 use Rattle.std.proofs.Common.{◌≡◌, refl}
-use Rattle.strm_shared.specs.declared.limits.TheConstants.{MOST_STAMP, MOST_WORKERS}
-use Rattle.strm_shared.specs.Limits.{most_stamp, most_workers}
+use Rattle.strm_shared.specs.declared.limits.TheConstants.{MOST_STAMP, MOST_TRACE, MOST_WORKERS}
+use Rattle.strm_shared.specs.Limits.{most_stamp, most_trace, most_workers}
 
 pub workers : MOST_WORKERS ≡ most_workers
 workers = refl
 
 pub stamp : MOST_STAMP ≡ most_stamp
 stamp = refl
+
+pub trace : MOST_TRACE ≡ most_trace
+trace = refl

@@ -16,9 +16,9 @@ use Rattle.strm_shared.specs.RunsLayout.{AreReady, IsReady}
 
 -- one line more was served
 pub served_more : {N : Type 0} (n : Ghosts N) (lines : List Line) (d : DeskValue) (replies : List Reply) (e : DeskValue) (line : Line) (reply : Reply) (f : DeskValue)
-    → AreServed n lines d replies e → length replies < length lines → IsAfter n e (get_or lines (length replies) line).call f (Ok reply) → AreServed n lines d (replies ++ reply ∷ []) f
+    → AreServed n lines d replies e → length replies < length lines → IsAfter n e (get_or lines (length replies) line).number (get_or lines (length replies) line).call f (Ok reply) → AreServed n lines d (replies ++ reply ∷ []) f
 served_more n [] d replies e line reply f served below after = absurd (omega (arith, below))
-served_more n (l ∷ ls) d [] e line reply f served below after = (f, subst (λ (x : DeskValue). IsAfter n x l.call f (Ok reply)) served after, refl)
+served_more n (l ∷ ls) d [] e line reply f served below after = (f, subst (λ (x : DeskValue). IsAfter n x l.number l.call f (Ok reply)) served after, refl)
 served_more n (l ∷ ls) d (r ∷ rs) e line reply f served below after =
     (served.0, served.1, served_more n ls served.0 rs e line reply f served.2 (omega (arith, below)) after)
 

@@ -5,5 +5,8 @@ pub mod Opening
 pub mod Refusing
 mod Weighing
 mod Turning
+mod Telling
+mod Tracing
 mod Crews
+mod Gathering
 mod seats

@@ -1,16 +1,68 @@
 -- Why a worker's call may be refused.
-use Rattle.std.proofs.Common.{Err}
+use Rattle.std.proofs.Common.{◌≡◌, ℕ, ◌+◌, ◌<◌, ◌≤◌, Bool, true, false, Option, Some, None, Err, inl, inr, refl, subst, sym, ap, ◌∙◌, true≢false, List, arith}
+use Rattle.std.specs.Prelude.{IfSome, IsSome, ◌==◌, ◌⊎◌, if◌then◌else◌, length}
+use Rattle.std.specs.Option.{option_map_or}
+use Rattle.std.proofs.lemmas.Bool.{eqb-true}
+use Rattle.std.proofs.lemmas.Option.{none-some}
 use Rattle.strm_data.specs.declared.refusal.Refusal.{Refusal}
-use Rattle.strm_data.specs.declared.refusal.Refusal.TheVariants.{Stranger, Worn}
+use Rattle.strm_data.specs.declared.refusal.Refusal.TheVariants.{TraceFull, Worn}
 use Rattle.strm_pool.specs.declared.call.Call.{Call}
-use Rattle.strm_shared.specs.Books.{BookValue, IsAfter, IsRefusal, MayRefuse}
+use Rattle.strm_shared.specs.declared.entry.Entry.{Entry}
+use Rattle.strm_shared.specs.Books.{BookValue, IsAfter, IsLawfulBook, MayRefuse, end_of, pair_in}
+use Rattle.strm_shared.specs.Desks.{DeskValue, shown}
+use Rattle.strm_shared.specs.Limits.{most_stamp}
+use Rattle.strm_shared.specs.Pairs.{Pair}
+use Rattle.strm_shared.specs.Traces.{entries_kept, is_full}
 use Rattle.strm_shared.specs.declared.name.Name.{Ghosts}
-use Rattle.strm_shared.specs.Desks.{DeskValue}
 
-may : (b : BookValue) (d : DeskValue) (why : Refusal) → IsRefusal b d why → MayRefuse why
-may b d Worn refused = tt
-may b d Stranger refused = tt
-may b d other refused = absurd refused
+-- a trace is full only where entries are kept
+kept_where_full : (most : Option ℕ) (es : List Entry) → option_map_or (λ n. length es == n) most false ≡ true → IsSome most
+kept_where_full None es full = absurd (true≢false (sym full))
+kept_where_full (Some n) es full = refl
 
-pub may_refuse : {N : Type 0} (n : Ghosts N) (d : DeskValue) (call : Call) (e : DeskValue) (why : Refusal) → IsAfter n d call e (Err why) → MayRefuse why
-may_refuse n d call e why after = may after.0 d why after.4.0
+some_same : (x y : Refusal) → Some x ≡ Some y → x ≡ y
+some_same x y same = cc (same)
+
+-- no call is served any more: the stamp is the last, or the trace is full
+ended : (worn full : Bool) (why : Refusal) → (if worn then Some Worn else (if full then Some TraceFull else None)) ≡ Some why → ((worn ≡ true) × (Worn ≡ why)) ⊎ ((full ≡ true) × (TraceFull ≡ why))
+ended true full why is = inl (refl, some_same Worn why is)
+ended false true why is = inr (refl, some_same TraceFull why is)
+ended false false why is = absurd (none-some why is)
+
+may : (b : BookValue) (why : Refusal) → end_of b ≡ Some why → MayRefuse b.trace.most why
+may b why is = elim (ended (b.stamp == most_stamp) (is_full b.trace) why is) [
+  | inl worn ↦ subst (MayRefuse b.trace.most) worn.1 tt
+  | inr full ↦ subst (MayRefuse b.trace.most) full.1 (kept_where_full b.trace.most b.trace.entries full.0)
+]
+
+pub may_refuse : {N : Type 0} (n : Ghosts N) (d : DeskValue) (line : ℕ) (call : Call) (e : DeskValue) (why : Refusal) → IsAfter n d line call e (Err why) → MayRefuse n.kept why
+may_refuse n d line call e why after = subst (λ most. MayRefuse most why) after.2.lawful.trace.most (may after.0 why after.4.0)
+
+-- ---- the stamp that a full trace shows
+
+module _ {N : Type 0} (n : Ghosts N) (most : ℕ) (kept : n.kept ≡ Some most) (b : BookValue) (lawful : IsLawfulBook n b) where
+  -- the stamp has counted no more calls than entries may be kept
+  within : b.stamp ≤ n.first + most
+  within =
+      let few : length b.entries ≤ most = subst (λ o. IfSome o (λ k. length b.entries ≤ k)) kept lawful.trace.few in
+      omega (arith, few, lawful.told.stamped)
+
+  -- and as many where the trace is full
+  full_long : is_full b.trace ≡ true → b.stamp ≡ n.first + most
+  full_long full =
+      let same : b.trace.entries ≡ b.entries = lawful.trace.entries ∙ ap (λ o. entries_kept o b.entries) kept in
+      let long = eqb-true (length b.trace.entries) most (subst (λ o. option_map_or (λ k. length b.trace.entries == k) o false ≡ true) (lawful.trace.most ∙ kept) full) in
+      omega (arith, long, ap length same, lawful.told.stamped)
+
+-- where an end by the trace comes before the last stamp, whoever is refused has seen the stamp of a full trace
+pub full_shown : {N : Type 0} (n : Ghosts N) (most : ℕ) → n.kept ≡ Some most → n.first + most < most_stamp
+    → (d : DeskValue) (line : ℕ) (call : Call) (e : DeskValue) (why : Refusal) → IsAfter n d line call e (Err why) → (p : Pair) × (e ≡ shown p d) × (p.0 ≡ n.first + most)
+full_shown n most kept few d line call e why after =
+    let b = after.0 in
+    let lawful = after.2.lawful in
+    let stamp : b.stamp ≡ n.first + most =
+    elim (ended (b.stamp == most_stamp) (is_full b.trace) why after.4.0) [
+      | inl worn ↦ absurd (omega (arith, few, within n most kept b lawful, eqb-true b.stamp most_stamp worn.0))
+      | inr full ↦ full_long n most kept b lawful full.0
+    ] in
+    (pair_in b, after.4.2, stamp)

@@ -1,7 +1,10 @@
 -- A call on a desk that the book knows: it may be applied, and what it leaves is lawful again.
-use Rattle.std.proofs.Common.{◌≡◌, ℕ, ◌+◌, ◌<◌, Bool, true, false, List, [], ◌∷◌, ◌++◌, length, set, get_or, Option, Ok, refl, sym, ap, ◌∙◌, subst, arith, if◌then◌else◌, length-set}
-use Rattle.std.specs.Prelude.{All, Contains, option_map}
+use Rattle.std.proofs.Common.{◌≡◌, ℕ, ◌+◌, ◌<◌, ◌≤◌, Bool, true, false, List, [], ◌∷◌, ◌++◌, length, set, get_or, Option, Some, None, Ok, refl, sym, ap, ◌∙◌, subst, arith, if◌then◌else◌, length-set}
+use Rattle.std.specs.Prelude.{All, Contains, option_map, ◌==◌}
+use Rattle.std.proofs.lemmas.Bool.{eqb-false}
 use Rattle.std.proofs.lemmas.List.{get_or_default}
+use Rattle.std.proofs.lemmas.Option.{none-some}
+use Rattle.strm_data.specs.declared.refusal.Refusal.TheVariants.{TraceFull, Worn}
 use Rattle.strm_mblk.specs.declared.token.TokenValue.{TokenValue}
 use Rattle.strm_mblk.specs.Arena.{census_of, token_of}
 use Rattle.strm_pool.specs.declared.call.Call.{Call}
@@ -12,13 +15,25 @@ use Rattle.strm_pool.specs.PoolValue.{PoolValue, owns}
 use Rattle.strm_pool.specs.Registers.{AreAccounted, AreDistinct, CarryId, Entries, entries_of, register, table_of}
 use Rattle.strm_pool.specs.Step.{Applies, Stepped, is_named}
 use Rattle.strm_pool.proofs.Accounts.{accounted_distinct, accounted_owned, owned_carry}
-use Rattle.strm_shared.specs.Books.{BookValue, IsBookOf, IsServed, TellsNewest, book_value, pair_in, table_at}
+use Rattle.strm_shared.specs.declared.entry.Entry.{Entry}
+use Rattle.strm_shared.specs.Chronicle.{entry_of}
+use Rattle.strm_shared.specs.Books.{BookValue, IsBookOf, IsServed, TellsNewest, book_value, end_of, pair_in, table_at}
 use Rattle.strm_shared.specs.Desks.{DeskValue, IsDeskOf, desk_value, newest}
 use Rattle.strm_shared.specs.Ledger.{blocks_held}
 use Rattle.strm_shared.specs.Limits.{most_stamp}
 use Rattle.strm_shared.specs.Pairs.{Pair, last_pair, pair_at}
+use Rattle.strm_shared.specs.Traces.{TraceValue, entries_kept, is_full}
 use Rattle.strm_shared.proofs.Weighing.{held_moves}
 use Rattle.strm_shared.proofs.seats.Histories.{last_pair-push}
+
+-- where calls are still served, the stamp is not the last, and the trace is not full
+end_none : (worn full : Bool) → (if worn then Some Worn else (if full then Some TraceFull else None)) ≡ None → (worn ≡ false) × (full ≡ false)
+end_none true full none = absurd (none-some Worn (sym none))
+end_none false true none = absurd (none-some TraceFull (sym none))
+end_none false false none = (refl, refl)
+
+pub unended_stamp : (b : BookValue) → end_of b ≡ None → b.stamp ≤ most_stamp → b.stamp < most_stamp
+unended_stamp b unended unspent = let other = eqb-false b.stamp most_stamp (end_none (b.stamp == most_stamp) (is_full b.trace) unended).0 in omega (arith, unspent, other)
 
 -- the table that is looked at is that of the desk
 pub table_is : (b : BookValue) (n : ℕ) (t : Entries) → n < length b.tables → t ≡ get_or b.tables n t → table_at b n ≡ t
@@ -32,10 +47,10 @@ pub record IsKnown (id desks first : ℕ) (b : BookValue) (d : DeskValue) : Type
 
 -- A call on such a desk was served: what became of book and desk, that what is held of the pool moved by what the desk's
 -- registers tell, and that the pool has as many message blocks.
-pub record Turns (id desks first : ℕ) (b : BookValue) (d : DeskValue) (call : Call) (c : BookValue) (e : DeskValue) (reply : Reply) : Type 0 where
+pub record Turns (id desks first : ℕ) (b : BookValue) (d : DeskValue) (line : ℕ) (call : Call) (c : BookValue) (e : DeskValue) (reply : Reply) : Type 0 where
   pub book : IsBookOf id desks first c
   pub desk : IsDeskOf id desks e
-  pub served : IsServed b d call c e reply
+  pub served : IsServed b d line call c e reply
   pub moved : (census_of c.pool.arena).held + blocks_held d.regs ≡ (census_of b.pool.arena).held + blocks_held e.regs
   pub sized : length c.pool.arena.held ≡ length b.pool.arena.held
 
@@ -54,39 +69,41 @@ module _ {id desks first : ℕ} {b : BookValue} {d : DeskValue} (known : IsKnown
   pub owned : owns b.pool d.regs ≡ true
   owned = accounted_owned b.pool d.regs b.tables d.number inside known.table known.book.accounted (subst (λ k. CarryId k d.regs) (sym known.book.same) known.desk.carry)
 
-  module _ {call : Call} {w : PoolValue} {ss : List (Option TokenValue)} {reply : Reply} (applies : Applies b.pool d.regs call w ss reply) where
+  module _ {call : Call} {w : PoolValue} {rs : List (Option TokenValue)} {reply : Reply} (applies : Applies b.pool d.regs call w rs reply) where
     -- registers that the call does not name
-    pub others : (x : ℕ) → is_named call x ≡ false → register ss x ≡ register d.regs x
+    pub others : (x : ℕ) → is_named call x ≡ false → register rs x ≡ register d.regs x
     others x unnamed =
         applies.tokens x
-        ∙ ap (λ (named : Bool). if named then option_map (token_of w.arena) (register (table_of ss) x) else register d.regs x) unnamed
+        ∙ ap (λ (named : Bool). if named then option_map (token_of w.arena) (register (table_of rs) x) else register d.regs x) unnamed
 
     -- what is held of the pool moves by what the desk's registers tell
-    pub held_moved : (census_of w.arena).held + blocks_held d.regs ≡ (census_of b.pool.arena).held + blocks_held ss
+    pub held_moved : (census_of w.arena).held + blocks_held d.regs ≡ (census_of b.pool.arena).held + blocks_held rs
     held_moved =
-        held_moves b.pool.arena w.arena b.tables d.number (entries_of d.regs) (entries_of ss) inside known.table known.book.accounted
+        held_moves b.pool.arena w.arena b.tables d.number (entries_of d.regs) (entries_of rs) inside known.table known.book.accounted
         (applies.accounted b.tables d.number inside known.table known.book.accounted)
 
     -- once the book has noted what the registers tell now
-    pub turns : (n : ℕ) (t : Entries) (ps qs : List Pair) → n ≡ d.number → t ≡ entries_of ss → b.stamp < most_stamp
+    pub turns : (line n : ℕ) (t : Entries) (ps qs : List Pair) (es : List Entry) (ss : List (ℕ × Entry)) (trace : TraceValue) → n ≡ d.number → t ≡ entries_of rs → end_of b ≡ None
         → ps ≡ b.pairs ++ pair_at (b.stamp + 1) w ∷ [] → qs ≡ d.pairs ++ pair_at (b.stamp + 1) w ∷ [] → All (Contains b.pairs) d.pairs → All (λ p. p.0 < b.stamp + 1) d.pairs
-        → Turns id desks first b d call (book_value w (b.stamp + 1) (set b.tables n t) ps) (desk_value d.number ss qs) reply
-    turns n t ps qs same noted unspent listed seen had later =
-        let tables : set b.tables n t ≡ set b.tables d.number (entries_of ss) = ap (λ k. set b.tables k t) same ∙ ap (set b.tables d.number) noted in
+        → es ≡ b.entries ++ entry_of d.number line call reply ∷ [] → ss ≡ d.served ++ (b.stamp + 1, entry_of d.number line call reply) ∷ []
+        → trace.entries ≡ b.trace.entries ++ entries_kept b.trace.most (entry_of d.number line call reply ∷ [])
+        → Turns id desks first b d line call (book_value w (b.stamp + 1) (set b.tables n t) ps es trace) (desk_value d.number rs qs ss) reply
+    turns line n t ps qs es ss trace same noted unended listed seen had later entered served traced =
+        let tables : set b.tables n t ≡ set b.tables d.number (entries_of rs) = ap (λ k. set b.tables k t) same ∙ ap (set b.tables d.number) noted in
         record {
           book = record {
             same = applies.same ∙ known.book.same;
             begun = omega (arith, known.book.begun);
-            unspent = omega (arith, unspent);
+            unspent = let below = unended_stamp b unended known.book.unspent in omega (arith, below);
             tables = length-set b.tables n t ∙ known.book.tables;
             accounted = subst (AreAccounted w.arena) (sym tables) (applies.accounted b.tables d.number inside known.table known.book.accounted);
           };
           desk = record {
             below = known.desk.below;
-            carry = subst (λ k. CarryId k ss) (applies.same ∙ known.book.same) (owned_carry w ss (applies.owned distinct).0);
+            carry = subst (λ k. CarryId k rs) (applies.same ∙ known.book.same) (owned_carry w rs (applies.owned distinct).0);
           };
           served = record {
-            unspent = unspent;
+            unended = unended;
             known = known.table;
             step = applies.step;
             stamp = refl;
@@ -97,16 +114,19 @@ module _ {id desks first : ℕ} {b : BookValue} {d : DeskValue} (known : IsKnown
             seen = seen;
             had = had;
             later = later;
+            entered = entered;
+            traced = traced;
+            served = served;
           };
           moved = held_moved;
           sized = applies.size;
         }
 
 -- an answer to `census` is the census of the pair that the desk saw last
-pub tells_newest : (b : BookValue) (d : DeskValue) (call : Call) (c : BookValue) (e : DeskValue) (reply : Reply) → IsServed b d call c e reply → TellsNewest e (Ok reply) call
-tells_newest b d calls.Census c e reply served =
+pub tells_newest : (b : BookValue) (d : DeskValue) (line : ℕ) (call : Call) (c : BookValue) (e : DeskValue) (reply : Reply) → IsServed b d line call c e reply → TellsNewest e (Ok reply) call
+tells_newest b d line calls.Census c e reply served =
     let pool : b.pool ≡ c.pool = ap (λ (s : Stepped). s.pool) served.step in
     let told : replies.Census (census_of b.pool.arena) ≡ reply = ap (λ (s : Stepped). s.reply) served.step in
     let last : newest e ≡ pair_in c = ap last_pair served.seen ∙ last_pair-push d.pairs (pair_in c) in
     sym told ∙ ap (λ (v : PoolValue). replies.Census (census_of v.arena)) pool ∙ ap (λ (p : Pair). replies.Census p.1) (sym last)
-tells_newest b d call c e reply served = tt
+tells_newest b d line call c e reply served = tt

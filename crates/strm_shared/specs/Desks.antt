@@ -3,16 +3,19 @@ use Rattle.std.specs.Prelude.{ℕ, zero, suc, ◌<◌, List, [], ◌∷◌, ◌+
 use Rattle.strm_mblk.specs.declared.token.TokenValue.{TokenValue}
 use Rattle.strm_pool.specs.Limits.{most_registers}
 use Rattle.strm_pool.specs.Registers.{CarryId}
+use Rattle.strm_shared.specs.declared.entry.Entry.{Entry}
 use Rattle.strm_shared.specs.Pairs.{Pair, last_pair}
 
--- a desk: its number, its registers, and the pairs that it has seen, in the order in which it saw them
+-- a desk: its number, its registers, the pairs that it has seen, in the order in which it saw them, and the calls that it was
+-- served, each with its stamp
 pub record DeskValue : Type 0 where
   pub number : ℕ
   pub regs : List (Option TokenValue)
   pub pairs : List Pair
+  pub served : List (ℕ × Entry)
 
-abbrev pub desk_value : ℕ → List (Option TokenValue) → List Pair → DeskValue
-desk_value n rs ps = record { number = n; regs = rs; pairs = ps }
+abbrev pub desk_value : ℕ → List (Option TokenValue) → List Pair → List (ℕ × Entry) → DeskValue
+desk_value n rs ps ss = record { number = n; regs = rs; pairs = ps; served = ss }
 
 -- the desk with these registers
 abbrev pub with_regs : List (Option TokenValue) → DeskValue → DeskValue
@@ -36,7 +39,7 @@ pub record IsDeskOf (id desks : ℕ) (d : DeskValue) : Type 0 where
 
 -- a desk that has not been used, and has seen these pairs
 abbrev pub empty_desk : ℕ → List Pair → DeskValue
-empty_desk n ps = desk_value n (replicate most_registers None) ps
+empty_desk n ps = desk_value n (replicate most_registers None) ps []
 
 -- so many of these, numbered from 0
 abbrev pub fresh : ℕ → List Pair → List DeskValue

@@ -1,5 +1,8 @@
 pub mod Limits
 pub mod Pairs
+pub mod Chronicle
+pub mod Traces
+pub mod TracesLayout
 pub mod Words
 pub mod Seats
 pub mod SeatsLayout

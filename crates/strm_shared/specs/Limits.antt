@@ -8,3 +8,7 @@ most_workers = 16
 -- the stamp at which no call is served any more
 abbrev pub most_stamp : ℕ
 most_stamp = 1099511627775
+
+-- the entries of a trace
+abbrev pub most_trace : ℕ
+most_trace = 1048576

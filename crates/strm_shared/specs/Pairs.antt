@@ -4,7 +4,7 @@ use Rattle.strm_mblk.specs.declared.census.Census.{Census}
 use Rattle.strm_mblk.specs.Arena.{census_of}
 use Rattle.strm_pool.specs.PoolValue.{PoolValue}
 
--- a stamp, and the census once the call that raised it there was served
+-- a stamp, and the census at it
 abbrev pub Pair : Type 0
 Pair = ℕ × Census
 
@@ -19,7 +19,7 @@ count_in c = c.free + c.queued + c.held
 abbrev pub no_pair : Pair
 no_pair = (0, record { free = 0; queued = 0; held = 0 })
 
--- the last of these pairs, of which there is one
+-- the last of these pairs, where there are any
 abbrev pub last_pair : List Pair → Pair
 last_pair ps = slice_index_or ps (length ps - 1) no_pair
 
@@ -38,6 +38,10 @@ pub record ArePairs (o : Pair) (stamp : ℕ) (v : PoolValue) (ps : List Pair) : 
   pub opened : slice_index_or ps 0 no_pair ≡ o
   pub rising : AreRising o ps
   pub last : last_pair ps ≡ pair_at stamp v
+
+-- one of these pairs has this stamp
+abbrev pub HasStamp : List Pair → ℕ → Type 0
+HasStamp ps k = (p : Pair) × Contains ps p × (p.0 ≡ k)
 
 -- What a desk has seen of a pool of so many message blocks: a pair at least, the last of which has the greatest stamp; one
 -- census for each stamp; and each counts the blocks of the pool.

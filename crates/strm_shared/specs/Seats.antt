@@ -1,5 +1,5 @@
 -- The rule of the word: what each seat knows, and what each kind of step changes and tells. No public clause cites this module.
-use Rattle.std.specs.Prelude.{◌≡◌, ℕ, ◌+◌, ◌<◌, ◌≤◌, List, [], ◌∷◌, ◌++◌, map, length, All, Contains, None, slice_index_or, slice_set, replicate, nat_lt, ◌==◌, if◌then◌else◌}
+use Rattle.std.specs.Prelude.{◌≡◌, ℕ, ◌+◌, ◌<◌, ◌≤◌, List, [], ◌∷◌, ◌++◌, map, length, All, Contains, None, slice_index_or, slice_set, replicate, nat_lt, if◌then◌else◌}
 use Rattle.std.specs.List.{flat_map}
 use lib.ListN.{get_elem?}
 use mathlib.Core.Option.{some}
@@ -15,7 +15,8 @@ use Rattle.strm_shared.specs.declared.views.History.{History}
 use Rattle.strm_shared.specs.declared.views.Known.{Known}
 use Rattle.strm_shared.specs.declared.views.View.{View}
 use Rattle.strm_shared.specs.declared.views.View.TheVariants.{Lock, At, Spent}
-use Rattle.strm_shared.specs.Pairs.{AreRising, Pair, count_in, last_pair, no_pair}
+use Rattle.strm_shared.specs.Chronicle.{served_from}
+use Rattle.strm_shared.specs.Pairs.{AreRising, HasStamp, Pair, count_in, last_pair, no_pair}
 use Rattle.strm_shared.specs.Words.{pair_of, word_of}
 
 -- ---- what names nothing
@@ -24,11 +25,6 @@ abbrev pub no_entry : Entry
 no_entry = record { desk = 0; line = 0; call = Census; reply = Done }
 
 -- ---- a history, and what desks know of it
-
--- the entries of desk n, each with its stamp, where the first of all has stamp k
-abbrev pub served_from : ℕ → ℕ → List Entry → List (ℕ × Entry)
-served_from k n [] = []
-served_from k n (e ∷ es) = if e.desk == n then (k, e) ∷ served_from (k + 1) n es else served_from (k + 1) n es
 
 -- A history from this opening pair on, which is its first: stamps rise by 1, each census counts the blocks of the pool, each pair
 -- but the first has its entry, of a desk that there is, and each desk has its table.
@@ -39,10 +35,6 @@ pub record IsHistory (o : Pair) (h : History) : Type 0 where
   pub entered : length h.pairs ≡ length h.entries + 1
   pub there : All (λ e. e.desk < h.desks) h.entries
   pub told : length h.tables ≡ h.desks
-
--- one of these pairs has this stamp
-abbrev pub HasStamp : List Pair → ℕ → Type 0
-HasStamp ps k = (p : Pair) × Contains ps p × (p.0 ≡ k)
 
 -- What a desk knows is of a history that begins with this stamp: there is a desk of its number, its pairs are pairs of the
 -- history, it was served the entries of its number and no others, it knows the pair of each of these, and its table is that of
@@ -99,7 +91,7 @@ pub record IsRuled (o : Pair) (s : State (Unit {0}) View) : Type 0 where
 abbrev pub no_entries : Entries
 no_entries = replicate most_registers None
 
--- open: the lock's seat has the opening pair, and no desk yet
+-- the history with so many desks before a call was served; open: the lock's seat has it with none
 abbrev pub opening_history : Pair → ℕ → History
 opening_history o n = record { pairs = o ∷ []; entries = []; desks = n; tables = replicate n no_entries }
 
@@ -114,12 +106,13 @@ history_after p e t h = record h { pairs = h.pairs ++ p ∷ []; entries = h.entr
 abbrev pub known_after : Pair → Entry → Entries → Known → Known
 known_after p e t d = record d { pairs = d.pairs ++ p ∷ []; served = d.served ++ (p.0, e) ∷ []; table = t }
 
--- so does the lock's view, and its guest's
+-- the lock's view then: its history has the pair, and so has its guest
 abbrev pub view_after : Pair → Entry → Entries → View → View
 view_after p e t (Lock h gs) = Lock (history_after p e t h) (map (known_after p e t) gs)
 view_after p e t (At d) = At d
 view_after p e t Spent = Spent
 
+-- the seat that stores has this view then
 abbrev pub Stored : Pair → Entry → Entries → Step (Unit {0}) → Me (Unit {0}) View → ℕ → Me (Unit {0}) View → Type 0
 Stored o e t s m w m' = m' ≡ (view_after (pair_of (count_in o.1) w) e t m.0, m.1)
 
@@ -140,6 +133,7 @@ pub record Shows (o p : Pair) (v : View) : Type 0 where
   pub view : IsViewOf o.0 history v
   pub apart : (n : ℕ) → times n (numbers_in v) ≤ 1
 
+-- the seat that loads has the pair, and learns what the load tells
 abbrev pub Loaded : Pair → Step (Unit {0}) → Me (Unit {0}) View → ℕ → Me (Unit {0}) View → Type 0
 Loaded o s m w m' = (m' ≡ (view_with_pair (pair_of (count_in o.1) w) m.0, m.1)) × Shows o (pair_of (count_in o.1) w) m'.0
 
@@ -152,7 +146,7 @@ abbrev pub with_guest : View → View → View
 with_guest (Lock h gs) (At d) = Lock h (d ∷ gs)
 with_guest v w = v
 
--- split: the last guest leaves
+-- split: the guest that joined last leaves
 abbrev pub without_guest : View → View
 without_guest (Lock h (g ∷ gs)) = Lock h gs
 without_guest v = v

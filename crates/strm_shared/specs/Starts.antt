@@ -1,5 +1,5 @@
 -- A pool that is to be shared.
-use Rattle.std.specs.Prelude.{◌≡◌, ℕ, Bool, true, false, not, ◌&&◌, ◌||◌, [], nat_le, nat_lt, Result, Ok, Err}
+use Rattle.std.specs.Prelude.{◌≡◌, ℕ, Bool, true, false, not, ◌&&◌, ◌||◌, [], nat_le, nat_lt, Option, Result, Ok, Err}
 use Rattle.atomic_table.specs.Seated.{TableId}
 use Rattle.strm_pool.specs.declared.config.NewFault.{NewFault}
 use Rattle.strm_pool.specs.declared.config.NewFault.TheVariants.{BadConfig, BadShared, Memory}
@@ -7,22 +7,24 @@ use Rattle.strm_pool.specs.PoolValue.{PoolValue, opening}
 use Rattle.strm_shared.specs.declared.name.Name.{Ghosts}
 use Rattle.strm_shared.specs.declared.setup.Setup.{Setup}
 use Rattle.strm_shared.specs.Limits.{most_stamp, most_workers}
+use Rattle.strm_shared.specs.Traces.{is_bad_trace, most_of}
 
--- the pool, the board with its word, how many desks it is to have, the stamp before the first call, and the ledger of its held
--- blocks
+-- the pool, the board with its word, how many desks it is to have, the stamp before the first call, how many entries its trace
+-- may have, if one is kept, and the ledger of its held blocks
 pub record StartValue : Type 0 where
   pub pool : PoolValue
   pub board : TableId
   pub desks : ℕ
   pub first : ℕ
+  pub kept : Option ℕ
   pub ledger : ℕ
 
--- the desks are too few or too many, or the first stamp is too great
+-- the desks are too few or too many, the first stamp is too great, or the trace is to have too few entries or too many
 abbrev pub is_bad_shared : Setup → Bool
-is_bad_shared s = not (nat_le 1 s.desks && nat_le s.desks most_workers) || nat_lt most_stamp s.first_stamp
+is_bad_shared s = not (nat_le 1 s.desks && nat_le s.desks most_workers) || nat_lt most_stamp s.first_stamp || is_bad_trace s.trace
 
 abbrev pub start_of : PoolValue → TableId → Setup → ℕ → StartValue
-start_of v board s ledger = record { pool = v; board = board; desks = s.desks; first = s.first_stamp; ledger = ledger }
+start_of v board s ledger = record { pool = v; board = board; desks = s.desks; first = s.first_stamp; kept = most_of s.trace; ledger = ledger }
 
 -- a pool is to be shared so, or is handed back as it was: for a bad setup, which is told before any want of memory
 abbrev pub Starts : PoolValue → Setup → Result StartValue (NewFault × PoolValue) → Type 0
@@ -39,9 +41,9 @@ no_board = record { words = 0; slots = 0; views_name = 0; atom = 0; block = 0; o
 abbrev pub no_pool : PoolValue
 no_pool = opening (record { id = 0; mblks = 0; classes = []; queues = []; bufcalls = 0; first_id = 0 })
 
--- the name of a start: the pool, the board, the number of desks, the first stamp, the ledger
+-- the name of a start: the pool, the board, the number of desks, the first stamp, the entries that are kept, the ledger
 abbrev pub name_of : {N : Type 0} → StartValue → Ghosts N
-name_of s = record { opened = s.pool; board = s.board; desks = s.desks; first = s.first; ledger = s.ledger }
+name_of s = record { opened = s.pool; board = s.board; desks = s.desks; first = s.first; kept = s.kept; ledger = s.ledger }
 
 -- this is what a name names
 pub record IsNameOf {N : Type 0} (n : Ghosts N) (s : StartValue) : Type 0 where
@@ -49,4 +51,5 @@ pub record IsNameOf {N : Type 0} (n : Ghosts N) (s : StartValue) : Type 0 where
   pub board : n.board ≡ s.board
   pub counted : n.desks ≡ s.desks
   pub begun : n.first ≡ s.first
+  pub kept : n.kept ≡ s.kept
   pub named : n.ledger ≡ s.ledger

@@ -10,15 +10,18 @@ use Rattle.strm_shared.specs.Limits.{most_stamp, most_workers}
 use Rattle.strm_shared.specs.Seats.{no_entries, opening_history}
 use Rattle.strm_shared.specs.SeatsLayout.{IsLock}
 use Rattle.strm_shared.specs.Pairs.{Pair}
+use Rattle.strm_shared.specs.Traces.{TraceValue}
 
--- there is a table for each desk, and they tell of nothing, since nothing is held; the ledger is in as many parts
-pub record IsReady (v : PoolValue) (desks first : ℕ) (tables : List Entries) (parts : ℕ) : Type 0 where
+-- there is a table for each desk, and they tell of nothing, since nothing is held; the trace has no entry; the ledger is in as many
+-- parts
+pub record IsReady (v : PoolValue) (desks first : ℕ) (tables : List Entries) (trace : TraceValue) (parts : ℕ) : Type 0 where
   pub some : 1 ≤ desks
   pub few : desks ≤ most_workers
   pub unspent : first ≤ most_stamp
   pub told : tables ≡ replicate desks no_entries
   pub accounted : AreAccounted v.arena tables
   pub idle : (census_of v.arena).held ≡ 0
+  pub blank : trace.entries ≡ []
   pub shared : parts ≡ desks
 
 -- the table of the word: it was opened with this pair, and the lock's seat has taken no step

@@ -4,7 +4,8 @@ ghost use Rattle.strm_pool.specs.Registers.{entries_of};
 ghost use Rattle.strm_shared.specs.Limits.{most_stamp};
 ghost use Rattle.strm_shared.specs.Pairs.{count_in, pair_at};
 ghost use Rattle.strm_shared.specs.Seats.{IsHistory, IsOf, Shows, history_after, history_with_desk, known_after, new_known, view_with_pair, with_pair};
-ghost use Rattle.strm_shared.specs.SeatsLayout.{AreGuestsShown, IsAt, IsLock, IsNextOf, IsShownBy, entry_of};
+ghost use Rattle.strm_shared.specs.Chronicle.{entry_of};
+ghost use Rattle.strm_shared.specs.SeatsLayout.{AreGuestsShown, IsAt, IsLock, IsNextOf, IsShownBy};
 ghost use Rattle.strm_shared.specs.declared.views.History.{History};
 ghost use Rattle.strm_shared.specs.declared.views.Known.{Known};
 ghost use Rattle.strm_shared.specs.declared.views.View.TheVariants.{At};
@@ -31,7 +32,7 @@ pub(crate) struct Board<N: Name> {
 }
 
 impl<N: Name> Board<N> {
-    // A seat loads the word, and has the pair, or each of its guests.
+    // A seat loads the word: the desk sees the pair, or each of the lock's guests does.
     fn load(&self, seat: &mut Seat<(), View>) -> (u64, Census)
         requires { seat.old.table_id ≡ N.board }
         ensures seat { (seat.new.table_id ≡ N.board) × (seat.new.me ≡ (view_with_pair result seat.old.me.0, seat.old.me.1)) }
@@ -106,7 +107,7 @@ impl<N: Name> Board<N> {
     }
 
     // A desk's seat joins the lock's, which loads the word, and leaves it with the pair.
-    pub(crate) fn look(
+    pub(crate) fn show_desk(
         &self,
         lock: &mut Seat<(), View>,
         desk: Seat<(), View>,

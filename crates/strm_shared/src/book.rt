@@ -1,12 +1,13 @@
 //! What the lock of a shared pool guards.
 ghost use Rattle.std.specs.Prelude.{◌≡◌, ◌+◌, ◌<◌, ◌≤◌, length};
-ghost use Rattle.strm_shared.specs.Books.{Answers, IsLawfulBook, pair_in};
+ghost use Rattle.strm_shared.specs.Books.{Answers, IsLawfulBook, end_of, pair_in};
 ghost use Rattle.strm_shared.specs.Desks.{shown};
 
 use crate::board::Board;
 use crate::desk::Desk;
 use crate::desk_table::DeskTable;
 use crate::held::Held;
+use crate::kept_trace::KeptTrace;
 use crate::limits::MOST_STAMP;
 use crate::name::Name;
 use crate::shared::Shared;
@@ -16,13 +17,14 @@ use std::marker::{Brand, Model, PhantomData};
 use std::sync::ledger::{self, Ledger, Share};
 use strm_pool::{Call, Pool, Refusal, Reply};
 
-/// What the lock of a shared pool guards: the pool, the stamp, which each served call raises by 1, and for each desk what
-/// its registers tell; and its seat at the word, which each served call stores.
+/// What the lock of a shared pool guards: the pool; the stamp, which each served call raises by 1; for each desk what its
+/// registers tell; the trace, if one is kept; and its seat at the word, which each served call stores.
 #[derive(Drop)]
 pub struct Book<N: Name> {
     pub(crate) pool: Pool,
     pub(crate) stamp: u64,
     pub(crate) tables: Vec<DeskTable>,
+    pub(crate) trace: KeptTrace,
     pub(crate) seat: Seat<(), View>,
     pub(crate) held: ledger::Book<Held<N>>,
     pub(crate) of: PhantomData<N>,
@@ -31,15 +33,17 @@ pub struct Book<N: Name> {
 impl<N: Name> Model for Book<N> {
     ghost use Rattle.std.specs.Prelude.{length};
     ghost use Rattle.strm_shared.specs.Books.{BookValue, IsBookOf, book_value};
+    ghost use Rattle.strm_shared.specs.Chronicle.{AreTold};
     ghost use Rattle.strm_shared.specs.LedgerLayout.{IsCounted};
     ghost use Rattle.strm_shared.specs.Pairs.{pair_at};
     ghost use Rattle.strm_shared.specs.SeatsLayout.{IsKeptBy, history_at};
+    ghost use Rattle.strm_shared.specs.Traces.{IsTraceOf};
 
     ghost Value = { BookValue };
 
-    ghost view = { λ b. book_value b.pool b.stamp b.tables.items (history_at b.seat).pairs };
+    ghost view = { λ b. book_value b.pool b.stamp b.tables.items (history_at b.seat).pairs (history_at b.seat).entries b.trace };
 
-    ghost invariant = { λ b. IsBookOf N.opened.arena.id N.desks N.first (book_value b.pool b.stamp b.tables.items (history_at b.seat).pairs) × IsCounted (length N.opened.arena.held) N.desks b.held.total b.pool × IsKeptBy N.board (pair_at N.first N.opened) N.desks b.stamp b.pool b.tables.items (history_at b.seat) b.seat };
+    ghost invariant = { λ b. IsBookOf N.opened.arena.id N.desks N.first (book_value b.pool b.stamp b.tables.items (history_at b.seat).pairs (history_at b.seat).entries b.trace) × IsCounted (length N.opened.arena.held) N.desks b.held.total b.pool × IsKeptBy N.board (pair_at N.first N.opened) N.desks b.stamp b.pool b.tables.items (history_at b.seat) b.seat × AreTold N.opened N.desks N.first b.stamp (history_at b.seat).entries b.pool b.tables.items (history_at b.seat).pairs × IsTraceOf N.kept (history_at b.seat).entries b.trace };
 }
 
 impl<N: Name> Book<N> {
@@ -60,6 +64,19 @@ impl<N: Name> Book<N> {
         &self.pool
     }
 
+    // Why no call is served any more, if none is.
+    fn end(&self) -> Option<Refusal>
+        ensures { result ≡ end_of self.now }
+    {
+        if self.stamp == MOST_STAMP {
+            Some(Refusal::Worn)
+        } else if self.trace.is_full() {
+            Some(Refusal::TraceFull)
+        } else {
+            None
+        }
+    }
+
     // Lets a desk see the last pair.
     fn show(&mut self, board: &Board<N>, desk: &mut Desk<N>)
         ensures book { self.new ≡ self.old }
@@ -68,18 +85,19 @@ impl<N: Name> Book<N> {
         let Some(seat) = desk.seat.take() else {
             unreachable!()
         };
-        let (pair, seat) = board.look(&mut self.seat, seat);
+        let (pair, seat) = board.show_desk(&mut self.seat, seat);
         desk.seat = Some(seat);
         desk.seen = pair.0;
     }
 
     /// Serves a call on the desk's registers, and answers its reply. The stamp rises by 1, the word is stored once, and the
-    /// desk has seen its pair. The shared pool has that word; the line is the call's in its script, of which no clause speaks.
+    /// desk has seen its pair. `shared` is the pool whose book this is, and has the word; the line is that of the call in its
+    /// script. Where a trace is kept, it gets the call's entry.
     /// Takes the steps of the call, and a few for each register; no memory is taken.
     ///
-    /// Refused as `Worn` where the stamp is `MOST_STAMP`: nothing changes but that the desk has seen the pair of that stamp.
-    /// Then refused as `Stranger` where the desk's registers do not tell what the book knows of them: nothing changes. Every
-    /// reply counts as served, `Refused`, `Empty` and `Taken` too.
+    /// Refused as `Worn` where the stamp is `MOST_STAMP`, and then as `TraceFull` where a trace is kept and has as many entries
+    /// as it may: nothing changes but that the desk has seen the last pair. Every reply counts as served, `Refused`, `Empty` and
+    /// `Taken` too.
     pub fn turn(
         &mut self,
         shared: &Shared<N>,
@@ -87,15 +105,11 @@ impl<N: Name> Book<N> {
         line: u32,
         call: &Call,
     ) -> Result<Reply, Refusal>
-        ensures { Answers self.old desk.old call.now self.new desk.new result }
+        ensures { Answers self.old desk.old line call.now self.new desk.new result }
     {
-        if self.stamp == MOST_STAMP {
+        if let Some(why) = self.end() {
             self.show(&shared.board, desk);
-            return Err(Refusal::Worn);
-        }
-        let number = usize::from(desk.number);
-        if !self.tables[number].is_of(&desk.regs) {
-            return Err(Refusal::Stranger);
+            return Err(why);
         }
         let Some(seat) = desk.seat.take() else {
             unreachable!()
@@ -106,7 +120,8 @@ impl<N: Name> Book<N> {
         self.pool.lawful();
         let census = self.pool.census();
         count_held(&mut self.held, &mut desk.share, before, census.held);
-        self.tables[number].note(&desk.regs, &call.names());
+        self.tables[usize::from(desk.number)].note(&desk.regs, &call.names());
+        self.trace.keep(desk.number, line, call, &reply);
         self.stamp += 1;
         let pair = (self.stamp, census);
         let seat = shared.board.enter::<Brand>(
@@ -120,6 +135,7 @@ impl<N: Name> Book<N> {
         );
         desk.seat = Some(seat);
         desk.seen = self.stamp;
+        desk.calls += 1;
         Ok(reply)
     }
 }

@@ -1,9 +1,9 @@
 //! A worker's place at a shared pool.
-ghost use Rattle.std.specs.Prelude.{◌≡◌, ◌<◌, ◌^◌, length};
+ghost use Rattle.std.specs.Prelude.{◌≡◌, ◌<◌, ◌^◌, All, length};
 ghost use Rattle.strm_pool.specs.Registers.{CarryId};
 ghost use Rattle.strm_shared.specs.Desks.{stamp_seen};
 ghost use Rattle.strm_shared.specs.Ledger.{blocks_held, entry_blocks};
-ghost use Rattle.strm_shared.specs.Pairs.{AreSeen};
+ghost use Rattle.strm_shared.specs.Pairs.{AreSeen, HasStamp};
 
 use crate::held::Held;
 use crate::name::Name;
@@ -20,8 +20,9 @@ use strm_pool::{MOST_REGISTERS, Reg, Regs};
 pub struct Desk<N: Name> {
     pub(crate) number: u8,
     pub(crate) seen: u64,
+    pub(crate) calls: u64,
     pub(crate) regs: Regs,
-    // Where it takes its steps at the word. It is there but while a call moves it.
+    // Where it takes its steps at the word. It is there save while a call moves it.
     pub(crate) seat: Option<Seat<(), View>>,
     pub(crate) share: Share<Held<N>>,
     pub(crate) of: PhantomData<N>,
@@ -37,9 +38,9 @@ impl<N: Name> Model for Desk<N> {
 
     ghost Value = { DeskValue };
 
-    ghost view = { λ d. desk_value d.number d.regs (known_in d.seat).pairs };
+    ghost view = { λ d. desk_value d.number d.regs (known_in d.seat).pairs (known_in d.seat).served };
 
-    ghost invariant = { λ d. IsDeskOf N.opened.arena.id N.desks (desk_value d.number d.regs (known_in d.seat).pairs) × IsPart d.share.parts d.share.amount d.regs × IsSeated N.board (pair_at N.first N.opened) (length N.opened.arena.held) d.number d.seen (entries_of d.regs) (known_in d.seat) d.seat };
+    ghost invariant = { λ d. IsDeskOf N.opened.arena.id N.desks (desk_value d.number d.regs (known_in d.seat).pairs (known_in d.seat).served) × IsPart d.share.parts d.share.amount d.regs × IsSeated N.board (pair_at N.first N.opened) (length N.opened.arena.held) d.number d.seen d.calls (entries_of d.regs) (known_in d.seat) d.seat };
 }
 
 impl<N: Name> Desk<N> {
@@ -59,12 +60,20 @@ impl<N: Name> Desk<N> {
         self.seen
     }
 
+    /// How many calls it was served, each answered by a reply.
+    pub fn calls(&self) -> u64
+        ensures { result ≡ length self.now.served }
+    {
+        self.calls
+    }
+
     /// The laws of every desk: its number is below that of the desks, and its tokens carry the pool's id; what it saw last has
-    /// the greatest stamp of all that it has seen, one stamp has one census there, and each counts the pool's message blocks.
-    /// Does nothing.
+    /// the greatest stamp of all that it has seen, one stamp has one census there, and each counts the pool's message blocks; of
+    /// each call that it was served it has seen the pair. Does nothing.
     pub fn lawful(&self)
         ensures desk { IsDeskOf N.opened.arena.id N.desks self.now }
         ensures seen { AreSeen (length N.opened.arena.held) self.now.pairs }
+        ensures carried { All (λ s. HasStamp self.now.pairs s.0) self.now.served }
     {
         let _ = &self.regs;
     }
@@ -76,6 +85,7 @@ impl<N: Name> Desk<N> {
         let Desk {
             number: _,
             seen: _,
+            calls: _,
             regs,
             seat: _,
             share: _,

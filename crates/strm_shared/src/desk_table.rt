@@ -1,6 +1,5 @@
 //! What the book knows of a desk's registers.
 ghost use Rattle.std.specs.Prelude.{◌≡◌, ℕ, false, List, Option, None, length, replicate};
-ghost use Rattle.std.specs.Bool.{Decides};
 ghost use Rattle.strm_links.specs.Rows as rows;
 ghost use Rattle.strm_mblk.specs.declared.token.TokenValue.{TokenValue};
 ghost use Rattle.strm_pool.specs.Limits.{most_registers};
@@ -40,23 +39,6 @@ impl DeskTable {
         ensures { length self.now ≡ most_registers }
     {
         let _ = self.entries[0].is_some();
-    }
-
-    // Whether this is what the registers tell.
-    pub(crate) fn is_of(&self, regs: &Regs) -> bool
-        ensures { Decides result (self.now ≡ entries_of regs.now) }
-    {
-        self.lawful();
-        regs.lawful();
-        for place in 0..MOST_REGISTERS as u8 {
-            let Some(reg) = Reg::new(place) else {
-                unreachable!()
-            };
-            if self.entries[reg.index()] != regs.entry(reg) {
-                return false;
-            }
-        }
-        true
     }
 
     // Notes what a register tells, if one is named.

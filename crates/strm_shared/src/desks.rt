@@ -1,11 +1,12 @@
 //! A list of desks that takes no memory.
-ghost use Rattle.std.specs.Prelude.{◌≡◌, ◌+◌, ◌≤◌, ◌<◌, ◌++◌, ◌∷◌, List, [], length, map, All, Contains, slice_index_or, IsPermutation, IsTrue, ◌↔◌};
+ghost use Rattle.std.specs.Prelude.{◌≡◌, ℕ, ◌+◌, ◌≤◌, ◌<◌, ◌++◌, ◌∷◌, List, [], length, map, All, slice_index_or, IsPermutation, IsTrue, ◌↔◌};
 ghost use Rattle.std.specs.List.Sorted.{IsNonDecreasingBy};
+ghost use Rattle.strm_links.specs.Counting.{times};
 ghost use Rattle.strm_shared.specs.Desks.{DeskValue, shown};
 ghost use Rattle.strm_shared.specs.Ledger.{blocks_at};
 ghost use Rattle.strm_shared.specs.Limits.{most_workers};
 ghost use Rattle.strm_shared.specs.Pairs.{pair_at};
-ghost use Rattle.strm_shared.specs.SeatsLayout.{AreGuestsShown, IsLock};
+ghost use Rattle.strm_shared.specs.SeatsLayout.{AreGuestsShown, IsLock, IsMet};
 ghost use Rattle.strm_shared.specs.declared.views.History.{History};
 ghost use Rattle.strm_shared.specs.declared.views.Known.{Known};
 
@@ -124,6 +125,7 @@ impl<N: Name> Desks<N> {
         let Desk {
             number,
             seen,
+            calls,
             regs,
             seat,
             mut share,
@@ -133,6 +135,7 @@ impl<N: Name> Desks<N> {
         self.push(Desk {
             number,
             seen,
+            calls,
             regs,
             seat,
             share,
@@ -160,6 +163,7 @@ impl<N: Name> Desks<N> {
         let Desk {
             number,
             seen,
+            calls,
             regs,
             seat,
             share: part,
@@ -170,6 +174,7 @@ impl<N: Name> Desks<N> {
         self.push(Desk {
             number,
             seen,
+            calls,
             regs,
             seat,
             share: share.split_off(1, blocks),
@@ -183,7 +188,8 @@ impl<N: Name> Desks<N> {
         requires few { length self.old ≤ most_workers }
         ensures guests { (h : History) (gs : List Known) → IsLock N.board h gs lock.old → AreGuestsShown N.board (pair_at N.first N.opened) h gs result lock.new }
         ensures shown { self.new ≡ map (shown result) self.old }
-        ensures seen { (h : History) (gs : List Known) → IsLock N.board h gs lock.old → All (λ d. All (Contains h.pairs) d.pairs) self.new }
+        ensures met { (h : History) (gs : List Known) → IsLock N.board h gs lock.old → All (IsMet N.opened.arena.id N.desks N.first h) self.new }
+        ensures apart { (h : History) (gs : List Known) → IsLock N.board h gs lock.old → (n : ℕ) → times n (map (λ (d : DeskValue). d.number) self.new ++ map (λ (d : Known). d.number) gs) ≤ 1 }
     {
         if self.is_empty() {
             return board.show_guests(lock);
@@ -191,6 +197,7 @@ impl<N: Name> Desks<N> {
         let Desk {
             number,
             seen: _,
+            calls,
             regs,
             seat,
             share,
@@ -203,6 +210,7 @@ impl<N: Name> Desks<N> {
         self.push(Desk {
             number,
             seen: pair.0,
+            calls,
             regs,
             seat: Some(seat),
             share,

@@ -1,4 +1,5 @@
-//! A pool that threads share: a book under a lock, a desk for each worker, and what workers are given to serve.
+//! A pool that threads share: a book under a lock, a word that tells the census without it, a desk for each worker, and what
+//! workers are given to serve.
 #![tactic(auto)]
 
 mod board;
@@ -11,6 +12,7 @@ mod desks;
 mod entry;
 mod gate;
 mod held;
+mod kept_trace;
 mod limits;
 mod line;
 mod listed;
@@ -27,10 +29,11 @@ mod workers;
 pub use book::Book;
 pub use desk::Desk;
 pub use desks::Desks;
+pub use entry::Entry;
 pub use gate::{Gate, OpenGate};
-pub use limits::{MOST_STAMP, MOST_WORKERS};
+pub use limits::{MOST_STAMP, MOST_TRACE, MOST_WORKERS};
 pub use line::Line;
-pub use listed::{AllReplies, Ends, Lines, Listed, Parts, Replies};
+pub use listed::{AllReplies, Ends, Lines, Listed, Parts, Replies, TraceEntries};
 pub use name::{Brand, Name};
 pub use outcome::{End, Outcome};
 pub use setup::{Setup, Trace};

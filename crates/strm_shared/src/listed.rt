@@ -1,6 +1,7 @@
 //! Lists over vectors.
 ghost use Rattle.std.specs.Prelude.{◌≡◌};
 
+use crate::entry::Entry;
 use crate::line::Line;
 use crate::outcome::End;
 use std::marker::Model;
@@ -23,6 +24,9 @@ pub type Replies = Listed<Reply>;
 
 /// The replies to each worker: worker 0's, then worker 1's, and so on.
 pub type AllReplies = Listed<Replies>;
+
+/// The entries of a trace, in the order in which their calls were served.
+pub type TraceEntries = Listed<Entry>;
 
 /// How each worker ended: worker 0, then worker 1, and so on.
 pub type Ends = Listed<End>;

@@ -9,7 +9,8 @@ use strm_pool::Refusal;
 pub enum End {
     /// All its lines were served.
     Done,
-    /// A line was refused, and so none behind it was served. As `Worn`, the desk has seen the last stamp.
+    /// A line was refused, and so none behind it was served. As `Worn` or `TraceFull`, the desk has seen the stamp that
+    /// shows it.
     Refused(Refusal),
     /// It was not started, since there was no thread for it.
     NotStarted,

@@ -17,6 +17,7 @@ use crate::desk_count::DeskCount;
 use crate::desk_table::DeskTable;
 use crate::desks::Desks;
 use crate::held::Held;
+use crate::kept_trace::KeptTrace;
 use crate::name::Name;
 use crate::rule::WordRule;
 use crate::setup::Setup;
@@ -37,6 +38,7 @@ pub struct Start {
     desks: u8,
     first_stamp: u64,
     tables: Vec<DeskTable>,
+    trace: KeptTrace,
     blank: Blank,
     table: Table<(), View, (u64, Census), WordRule, Global>,
     seat: Seat<(), View>,
@@ -49,17 +51,17 @@ impl Model for Start {
 
     ghost Value = { StartValue };
 
-    ghost view = { λ s. record { pool = s.pool; board = s.table.shared.table_id; desks = s.desks; first = s.first_stamp; ledger = s.blank.name } };
+    ghost view = { λ s. record { pool = s.pool; board = s.table.shared.table_id; desks = s.desks; first = s.first_stamp; kept = s.trace.most; ledger = s.blank.name } };
 
-    ghost invariant = { λ s. IsReady s.pool s.desks s.first_stamp s.tables.items s.blank.parts × IsLaid (pair_at s.first_stamp s.pool) s.table.shared.table_id s.table.shared.key s.seat };
+    ghost invariant = { λ s. IsReady s.pool s.desks s.first_stamp s.tables.items s.trace s.blank.parts × IsLaid (pair_at s.first_stamp s.pool) s.table.shared.table_id s.table.shared.key s.seat };
 }
 
 impl Start {
     /// Takes all memory that sharing the pool so takes. No message of the pool may be held.
     ///
-    /// `BadShared` comes where there are no desks or more than `MOST_WORKERS`, or where the first stamp is above
-    /// `MOST_STAMP`, before any want of memory; `Memory` where a growth was refused. Where it fails, the pool comes back as it
-    /// was.
+    /// `BadShared` comes where there are no desks or more than `MOST_WORKERS`, where the first stamp is above `MOST_STAMP`, or
+    /// where a trace is to have no entry or more than `MOST_TRACE`, before any want of memory; `Memory` where a growth was
+    /// refused. Where it fails, the pool comes back as it was.
     pub fn new(alloc: Global, pool: Pool, setup: Setup) -> Result<Start, (NewFault, Pool)>
         requires { (census_of pool.arena).held ≡ 0 }
         ensures { Starts pool setup result }
@@ -68,6 +70,9 @@ impl Start {
             return Err((NewFault::BadShared, pool));
         }
         let Ok(tables) = tables_of(alloc, setup.desks) else {
+            return Err((NewFault::Memory, pool));
+        };
+        let Ok(trace) = KeptTrace::new(alloc, setup.trace) else {
             return Err((NewFault::Memory, pool));
         };
         pool.lawful();
@@ -80,6 +85,7 @@ impl Start {
             desks: setup.desks,
             first_stamp: setup.first_stamp,
             tables,
+            trace,
             blank: Blank::new(u64::from(setup.desks)),
             table,
             seat,
@@ -87,7 +93,8 @@ impl Start {
     }
 
     /// Shares the pool under a name: the pool under its lock, and its desks 0, 1 and so on, with empty registers, each of which
-    /// has seen the first stamp and the pool's census at it. It takes no memory, and can't fail.
+    /// has seen the first stamp and the pool's census at it. It takes no memory, and can't fail. The name must be that of this
+    /// start.
     pub fn open<N: Name>(self) -> (Shared<N>, Desks<N>)
         requires { IsNameOf N.Name self }
         ensures { result.1 ≡ fresh N.desks (pair_at N.first N.opened ∷ []) }
@@ -97,6 +104,7 @@ impl Start {
             desks: count,
             first_stamp,
             tables,
+            trace,
             blank,
             table,
             mut seat,
@@ -114,6 +122,7 @@ impl Start {
             pool,
             stamp: first_stamp,
             tables,
+            trace,
             seat,
             held,
             of: PhantomData,
@@ -167,6 +176,7 @@ fn hand_out<N: Name>(
         desks.push(Desk {
             number,
             seen: first_stamp,
+            calls: 0,
             regs: Regs::new(),
             seat: Some(board.seat_desk(lock)),
             share: share.split_off(1, 0),

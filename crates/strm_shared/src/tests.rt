@@ -3,9 +3,13 @@ ghost use Rattle.strm_pool.specs.Registers.{CarryId};
 ghost use Rattle.strm_shared.specs.Starts.{IsNameOf};
 
 mod calls;
+mod traces;
 mod workers;
 
-use crate::{Brand, Desk, Desks, Gathered, MOST_STAMP, Name, Setup, Shared, Start, Trace};
+use crate::{
+    Brand, Desk, Desks, Gathered, MOST_STAMP, MOST_TRACE, Name, Setup, Shared, Start, Trace,
+    TraceEntries,
+};
 use arrayvec::ArrayVec;
 use std::alloc::Global;
 use std::process::Abort;
@@ -54,23 +58,28 @@ fn eight(rt: &impl Abort, alloc: Global, id: u32) -> Pool {
     opened(rt, alloc, id, 8, &[(16, 4), (64, 2)])
 }
 
-// A pool that is to be shared by so many desks, from this stamp on.
-fn start_of(rt: &impl Abort, alloc: Global, pool: Pool, desks: u8, first_stamp: u64) -> Start {
-    assert!(rt; pool.census().held == 0);
-    let setup = Setup {
+// So many desks, with this trace, from this stamp on.
+const fn setup(desks: u8, trace: Trace, first_stamp: u64) -> Setup {
+    Setup {
         desks,
-        trace: Trace::Off,
+        trace,
         first_stamp,
-    };
+    }
+}
+
+// A pool that is to be shared so.
+fn start_of(rt: &impl Abort, alloc: Global, pool: Pool, setup: Setup) -> Start {
+    assert!(rt; pool.census().held == 0);
     match Start::new(alloc, pool, setup) {
         Ok(start) => start,
         Err(_) => panic!(rt; "not started"),
     }
 }
 
-// A pool of eight message blocks that is to be shared.
+// A pool of eight message blocks that is to be shared, with no trace kept.
 fn start(rt: &impl Abort, alloc: Global, id: u32, desks: u8, first_stamp: u64) -> Start {
-    start_of(rt, alloc, eight(rt, alloc, id), desks, first_stamp)
+    let setup = setup(desks, Trace::Off, first_stamp);
+    start_of(rt, alloc, eight(rt, alloc, id), setup)
 }
 
 // Such a pool that is to be shared by two desks, with a wish, a message of three bytes on queue 0, and both queues waiting,
@@ -89,7 +98,7 @@ fn loaded(rt: &impl Abort, alloc: Global) -> Start {
             panic!(rt; "not put")
         }
     }
-    start_of(rt, alloc, pool, 2, MOST_STAMP - 5)
+    start_of(rt, alloc, pool, setup(2, Trace::Off, MOST_STAMP - 5))
 }
 
 // The register of a letter.
@@ -108,6 +117,21 @@ fn last<N: Name>(rt: &impl Abort, desks: &mut Desks<N>, number: u8) -> Desk<N> {
     desk
 }
 
+// The call of this line is served, with this reply.
+fn assert_line_served<N: Name>(
+    rt: &(impl Wait + Abort),
+    shared: &Shared<N>,
+    desk: &mut Desk<N>,
+    line: u32,
+    call: &Call,
+    reply: &Reply,
+) {
+    match shared.serve(rt, desk, line, call) {
+        Ok(given) => assert!(rt; given == *reply),
+        Err(_) => panic!(rt; "refused"),
+    }
+}
+
 // The call is served, with this reply.
 fn assert_served<N: Name>(
     rt: &(impl Wait + Abort),
@@ -116,10 +140,7 @@ fn assert_served<N: Name>(
     call: &Call,
     reply: &Reply,
 ) {
-    match shared.serve(rt, desk, 1, call) {
-        Ok(given) => assert!(rt; given == *reply),
-        Err(_) => panic!(rt; "refused"),
-    }
+    assert_line_served(rt, shared, desk, 1, call, reply);
 }
 
 // The call is refused for this reason.
@@ -157,15 +178,24 @@ fn regs_of<N: Name>(desk: Desk<N>) -> Regs
 // What `gather` answers.
 type Gathering<N> = Result<Gathered<N>, (Refusal, Shared<N>, Desks<N>)>;
 
-// The pool once the desks came back, in order, each of which has seen this stamp, and what they hold was freed.
-fn emptied<N: Name>(rt: &impl Abort, gathered: Gathering<N>, stamp: u64) -> Pool {
-    let (mut pool, mut desks) = match gathered {
-        Ok(Gathered { pool, desks }) => (pool, desks),
+// The pool, the trace and the desks, of which none is missing.
+fn gathered<N: Name>(rt: &impl Abort, gathering: Gathering<N>) -> Gathered<N> {
+    match gathering {
+        Ok(gathered) => gathered,
         Err((_, _, desks)) => {
             desks.forget();
             panic!(rt; "a desk is missing")
         }
-    };
+    }
+}
+
+// The pool and the trace once the desks came back, in order, each of which has seen this stamp, and what they hold was freed.
+fn drained<N: Name>(rt: &impl Abort, gathering: Gathering<N>, stamp: u64) -> (Pool, TraceEntries) {
+    let Gathered {
+        mut pool,
+        trace,
+        mut desks,
+    } = gathered(rt, gathering);
     let count = desks.len();
     for place in 0..count {
         let number = count - 1 - place;
@@ -174,6 +204,13 @@ fn emptied<N: Name>(rt: &impl Abort, gathered: Gathering<N>, stamp: u64) -> Pool
         pool.drain(regs_of(desk));
     }
     desks.forget();
+    (pool, trace)
+}
+
+// The pool then, where no trace was kept.
+fn emptied<N: Name>(rt: &impl Abort, gathering: Gathering<N>, stamp: u64) -> Pool {
+    let (pool, trace) = drained(rt, gathering, stamp);
+    assert!(rt; trace.items().is_empty());
     pool
 }
 
@@ -256,15 +293,10 @@ fn one_word<N: Name, R: Wait + Abort>(rt: &R, start: Start)
     assert_census(rt, &pool, (7, 1, 0));
 }
 
-// Whether a pool can't be shared by so many desks from this stamp on. It comes back as it was then.
-fn assert_bad(rt: &impl Abort, alloc: Global, desks: u8, first_stamp: u64, bad: bool) {
+// Whether a pool can't be shared so. It comes back as it was then.
+fn assert_bad(rt: &impl Abort, alloc: Global, setup: Setup, bad: bool) {
     let pool = eight(rt, alloc, 7);
     assert!(rt; pool.census().held == 0);
-    let setup = Setup {
-        desks,
-        trace: Trace::Off,
-        first_stamp,
-    };
     match Start::new(alloc, pool, setup) {
         Ok(_) => assert!(rt; !bad),
         Err((fault, pool)) => {
@@ -276,12 +308,22 @@ fn assert_bad(rt: &impl Abort, alloc: Global, desks: u8, first_stamp: u64, bad: 
 
 #[test]
 fn setups_out_of_bounds(rt: HostRuntime) {
-    assert_bad(&rt, rt.alloc(), 0, 0, true);
-    assert_bad(&rt, rt.alloc(), 1, 0, false);
-    assert_bad(&rt, rt.alloc(), 16, MOST_STAMP, false);
-    assert_bad(&rt, rt.alloc(), 17, 0, true);
-    assert_bad(&rt, rt.alloc(), 255, MOST_STAMP, true);
-    assert_bad(&rt, rt.alloc(), 1, MOST_STAMP + 1, true);
+    let rows = [
+        (setup(0, Trace::Off, 0), true),
+        (setup(1, Trace::Off, 0), false),
+        (setup(16, Trace::Off, MOST_STAMP), false),
+        (setup(17, Trace::Off, 0), true),
+        (setup(255, Trace::Off, MOST_STAMP), true),
+        (setup(1, Trace::Off, MOST_STAMP + 1), true),
+        (setup(1, Trace::Keep(0), 0), true),
+        (setup(1, Trace::Keep(1), 0), false),
+        (setup(16, Trace::Keep(MOST_TRACE), MOST_STAMP), false),
+        (setup(1, Trace::Keep(MOST_TRACE + 1), 0), true),
+        (setup(1, Trace::Keep(u32::MAX), 0), true),
+    ];
+    for (setup, bad) in rows {
+        assert_bad(&rt, rt.alloc(), setup, bad);
+    }
 }
 
 #[test]
@@ -334,7 +376,13 @@ fn ungathered<N: Name>(
     desks: Desks<N>,
 ) -> (Shared<N>, Desks<N>) {
     match shared.gather(desks) {
-        Ok(Gathered { pool: _, desks }) => {
+        Ok(
+            Gathered {
+                pool: _,
+                trace: _,
+                desks,
+            },
+        ) => {
             desks.forget();
             panic!(rt; "gathered")
         }

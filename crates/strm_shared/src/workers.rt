@@ -29,7 +29,8 @@ use std::thread::Threads;
 /// takes when it starts.
 ///
 /// There are as many desks as parts; none at all is lawful. A worker stops at its first refusal. One for which there is no
-/// thread has no replies and its desk as it was, and the others run on; one that was refused as `Worn` has seen the last stamp.
+/// thread has no replies and its desk as it was, and the others run on; one that was refused as `Worn` or `TraceFull` has seen the stamp
+/// that shows it.
 /// Where memory is refused the desks come back as they were: no call was served on them, and they have seen no more.
 pub fn run_workers<N: Name + Send + Sync, R: Threads + Wait + Sync, G: Gate>(
     rt: &R,

@@ -45,16 +45,6 @@ const SECTIONS_TEXT: &[u8] =
     b"0:6 ok\n0:7 ok\n0:8 ok\n1:10 empty\n1:11 ok\n1:12 census 6 0 2\nblocks free=6 queued=0 held=2 total=8\n\
       data size=16 free=2 total=4\nqueue 0 msgs=0 bytes=0 read=0 noenable=0 enabled=1\nrun 0\nwishes -\n";
 
-// Two sections whose replies, and whose report, are the same in any order of the two.
-const APART: &[u8] =
-    b"pool 1 8\nclass 16 4\nqueue 10 4 s -\nbufcalls 2 1\nworker\nallocb a 3\nallocb b 1\nputq 0 a\n\
-      worker\nfreemsg a\nallocb b 2\nwrite b 0 6162\nread b 0\n";
-
-// Each has a register b of its own, and both count as held.
-const APART_TEXT: &[u8] =
-    b"0:6 ok\n0:7 ok\n0:8 ok\n1:10 empty\n1:11 ok\n1:12 ok\n1:13 bytes 6162\nblocks free=5 queued=1 held=2 total=8\n\
-      data size=16 free=1 total=4\nqueue 0 msgs=1 bytes=0 read=1 noenable=0 enabled=1\nrun 0\nwishes -\n";
-
 // What is written for a script to a writer that takes one byte at a time.
 fn written(
     rt: &(impl AllocGlobal + Threads + Wait + Sync),
@@ -88,17 +78,6 @@ fn serves_one_section_after_the_other(rt: HostRuntime) -> Result<(), Fail> {
         written(&rt, Mode::Serial, &OpenGate, SECTIONS)?.as_slice(),
         SECTIONS_TEXT
     );
-    Ok(())
-}
-
-#[test]
-fn workers_have_registers_of_their_own(rt: HostRuntime) -> Result<(), Fail> {
-    for mode in [Mode::Serial, Mode::Workers] {
-        assert_eq!(rt;
-            written(&rt, mode, &OpenGate, APART)?.as_slice(),
-            APART_TEXT
-        );
-    }
     Ok(())
 }
 
@@ -186,11 +165,21 @@ fn written_at_a_gate(
     Ok(text)
 }
 
+// The bytes of a text, in the order of their values.
+fn sorted(rt: &impl AllocGlobal, text: &[u8]) -> Result<Vec<u8>, Fail> {
+    let mut bytes = Vec::new(rt.alloc());
+    bytes.extend_from_slice(text)?;
+    bytes.sort_unstable();
+    Ok(bytes)
+}
+
+// In which order they are served is not said.
 #[test]
 fn workers_run_at_once(rt: HostRuntime) -> Result<(), Fail> {
+    let text = written_at_a_gate(&rt, Mode::Workers, MEETING, EACH_LINE)?;
     assert_eq!(rt;
-        written_at_a_gate(&rt, Mode::Workers, MEETING, EACH_LINE)?.as_slice(),
-        MEETING_TEXT
+        sorted(&rt, &text)?.as_slice(),
+        sorted(&rt, MEETING_TEXT)?.as_slice()
     );
     Ok(())
 }
@@ -201,14 +190,129 @@ fn a_line_that_no_worker_serves_passes_no_gate(rt: HostRuntime) -> Result<(), Fa
         written_at_a_gate(&rt, Mode::Serial, MEETING, 0)?.as_slice(),
         MEETING_TEXT
     );
-    assert_eq!(rt;
-        written_at_a_gate(&rt, Mode::Workers, SCRIPT, 0)?.as_slice(),
-        TEXT
-    );
     Ok(())
 }
 
-// The fault of a run of the two sections whose replies are the same in any order, where reader and writer fail so.
+// A gate that counts the lines of worker 0 that come, those that were answered, and those of any other worker.
+#[derive(Drop)]
+struct Count {
+    came: AtomicU32,
+    answered: AtomicU32,
+    strange: AtomicU32,
+}
+
+impl Count {
+    fn new() -> Count {
+        Count {
+            came: AtomicU32::new(0),
+            answered: AtomicU32::new(0),
+            strange: AtomicU32::new(0),
+        }
+    }
+
+    fn count(&self, worker: u8, own: &AtomicU32) {
+        let count = if worker == 0 { own } else { &self.strange };
+        count.fetch_add(1, Ordering::SeqCst);
+    }
+}
+
+impl Gate for Count {
+    fn before(&self, worker: u8, _line: u32) {
+        self.count(worker, &self.came);
+    }
+
+    fn after(&self, worker: u8, _line: u32) {
+        self.count(worker, &self.answered);
+    }
+}
+
+#[test]
+fn a_worker_serves_one_section(rt: HostRuntime) -> Result<(), Fail> {
+    let gate = Count::new();
+    assert_eq!(rt;
+        written(&rt, Mode::Workers, &gate, SCRIPT)?.as_slice(),
+        TEXT
+    );
+    assert_eq!(rt; gate.came.load(Ordering::SeqCst), 6);
+    assert_eq!(rt; gate.answered.load(Ordering::SeqCst), 6);
+    assert_eq!(rt; gate.strange.load(Ordering::SeqCst), 0);
+    Ok(())
+}
+
+// Two sections at one queue, each with a register a of its own.
+const TURNS: &[u8] =
+    b"pool 1 8\nclass 16 4\nqueue 10 4 s -\nbufcalls 2 1\nworker\ncensus\nallocb a 3\nputq 0 a\n\
+      worker\ncensus\ngetq 0 a\nqsize 0\ngetq 0 a\n";
+
+// Both look at the pool before they do anything, and worker 1 looks for the message twice before it is put, and once after.
+const TURNS_TEXT: &[u8] =
+    b"1:10 census 8 0 0\n0:6 census 8 0 0\n1:11 none\n0:7 ok\n1:12 size 0\n0:8 ok\n1:13 ok\n\
+      blocks free=7 queued=0 held=1 total=8\ndata size=16 free=3 total=4\n\
+      queue 0 msgs=0 bytes=0 read=0 noenable=0 enabled=1\nrun 0\nwishes -\n";
+
+// Which turn a worker's line has.
+fn turn_of(worker: u8, line: u32) -> u32 {
+    match (worker, line) {
+        (1, 10) => 0,
+        (0, 6) => 1,
+        (1, 11) => 2,
+        (0, 7) => 3,
+        (1, 12) => 4,
+        (0, 8) => 5,
+        _ => 6,
+    }
+}
+
+// A gate that lets lines pass by turns: whose turn it is, and how many waited for theirs in vain.
+#[derive(Drop)]
+struct Turns {
+    turn: AtomicU32,
+    missed: AtomicU32,
+}
+
+impl Turns {
+    fn new() -> Turns {
+        Turns {
+            turn: AtomicU32::new(0),
+            missed: AtomicU32::new(0),
+        }
+    }
+
+    // Whether a turn comes in time.
+    fn comes(&self, turn: u32) -> bool {
+        for _ in 0..LOOKS {
+            if self.turn.load(Ordering::SeqCst) == turn {
+                return true;
+            }
+        }
+        false
+    }
+}
+
+impl Gate for Turns {
+    fn before(&self, worker: u8, line: u32) {
+        if !self.comes(turn_of(worker, line)) {
+            self.missed.fetch_add(1, Ordering::SeqCst);
+        }
+    }
+
+    fn after(&self, _worker: u8, _line: u32) {
+        self.turn.fetch_add(1, Ordering::SeqCst);
+    }
+}
+
+#[test]
+fn writes_the_order_in_which_workers_were_served(rt: HostRuntime) -> Result<(), Fail> {
+    let gate = Turns::new();
+    assert_eq!(rt;
+        written(&rt, Mode::Workers, &gate, TURNS)?.as_slice(),
+        TURNS_TEXT
+    );
+    assert_eq!(rt; gate.missed.load(Ordering::SeqCst), 0);
+    Ok(())
+}
+
+// The fault of a run whose reader and writer fail so.
 fn fault_at(
     rt: &(impl AllocGlobal + Threads + Wait + Sync),
     mode: Mode,
@@ -220,7 +324,7 @@ fn fault_at(
         mode,
         MAX,
         &OpenGate,
-        &mut Watched::new(slow_reader(APART, read)),
+        &mut Watched::new(slow_reader(SCRIPT, read)),
         &mut Watched::new(writer),
     )
     .err()
@@ -229,7 +333,7 @@ fn fault_at(
 #[test]
 fn a_failing_reader_leaves_nothing_written(rt: HostRuntime) {
     for mode in [Mode::Serial, Mode::Workers] {
-        for cut in [0, 9, APART.len()] {
+        for cut in [0, 9, SCRIPT.len()] {
             let mut writer = choppy_writer(rt.alloc(), 100, None, true);
             let fault = fault_at(&rt, mode, Some(cut), &mut writer);
             assert!(rt; fault == Some(RunFault::Read), "at {cut}");
@@ -245,7 +349,7 @@ fn a_failing_writer_has_the_beginning(rt: HostRuntime) {
             let mut writer = choppy_writer(rt.alloc(), 7, Some(cut), true);
             let fault = fault_at(&rt, mode, None, &mut writer);
             assert!(rt; fault == Some(RunFault::Write), "at {cut}");
-            assert_eq!(rt; writer.got.as_slice(), &APART_TEXT[..cut]);
+            assert_eq!(rt; writer.got.as_slice(), &TEXT[..cut]);
         }
     }
 }

@@ -78,16 +78,16 @@ module _ (o p : Pair) (d : Known) (shows : Shows o p (At d)) where
   known_at_stamp q r has_q has_r same = pair_at_stamp o shows.history shows.lawful q r (of_history q has_q) (of_history r has_r) same
 
 -- a load tells nothing older than what the desk had seen last
-pub seen_before : (z : TableId) (o : Pair) (blocks n stamp : ℕ) (t : Entries) (d : Known) (s : Option (Seat (Unit {0}) View)) (p : Pair)
-    → IsSeated z o blocks n stamp t d s → Shows o p (At (with_pair p d)) → (last_pair d.pairs).0 ≤ p.0
-seen_before z o blocks n stamp t d s p is shows =
+pub seen_before : (z : TableId) (o : Pair) (blocks n stamp calls : ℕ) (t : Entries) (d : Known) (s : Option (Seat (Unit {0}) View)) (p : Pair)
+    → IsSeated z o blocks n stamp calls t d s → Shows o p (At (with_pair p d)) → (last_pair d.pairs).0 ≤ p.0
+seen_before z o blocks n stamp calls t d s p is shows =
     let some = is.some in
     let last : Contains d.pairs (last_pair d.pairs) = Contains-get_or d.pairs (length d.pairs - 1) no_pair (omega (arith, some)) in
     (known_before o p (with_pair p d) shows (last_pair d.pairs) (Contains-append_left d.pairs (p ∷ []) (last_pair d.pairs) last)).0
 
 -- all that a desk has seen
-pub seen_lawful : (z : TableId) (o : Pair) (blocks n stamp : ℕ) (t : Entries) (d : Known) (s : Option (Seat (Unit {0}) View)) → IsSeated z o blocks n stamp t d s → AreSeen blocks d.pairs
-seen_lawful z o blocks n stamp t d s is =
+pub seen_lawful : (z : TableId) (o : Pair) (blocks n stamp calls : ℕ) (t : Entries) (d : Known) (s : Option (Seat (Unit {0}) View)) → IsSeated z o blocks n stamp calls t d s → AreSeen blocks d.pairs
+seen_lawful z o blocks n stamp calls t d s is =
     let before : (q : Pair) → Contains d.pairs q → (q.0 ≤ (last_pair d.pairs).0) × (count_in q.1 ≡ count_in o.1) = known_before o (last_pair d.pairs) d is.shows in
     record {
       some = is.some;
@@ -106,20 +106,22 @@ pub known_is : (z : TableId) (d : Known) (s : Seat (Unit {0}) View) → IsAt z d
 known_is z d s here = ap (λ (m : Mine). known_of m.0) here.1
 
 -- where a desk's seat is
-pub seat_is : {z : TableId} {o : Pair} {blocks n stamp : ℕ} {t : Entries} {d : Known} {s : Seat (Unit {0}) View} → IsSeated z o blocks n stamp t d (Some s) → IsAt z d s
-seat_is {z} {o} {blocks} {n} {stamp} {t} {d} {s} is = subst (IsAt z d) (some_same is.seat s (sym is.there)) is.here
+pub seat_is : {z : TableId} {o : Pair} {blocks n stamp calls : ℕ} {t : Entries} {d : Known} {s : Option (Seat (Unit {0}) View)} {seat : Seat (Unit {0}) View}
+    → s ≡ Some seat → IsSeated z o blocks n stamp calls t d s → IsAt z d seat
+seat_is {z} {o} {blocks} {n} {stamp} {calls} {t} {d} {s} {seat} there is = subst (IsAt z d) (some_same is.seat seat (sym is.there ∙ there)) is.here
 
 -- a desk's seat after a step, by which it has seen this pair
-pub seated : (z : TableId) (o : Pair) (blocks n : ℕ) (t : Entries) (d : Known) (ps : List Pair) (p : Pair) (s : Seat (Unit {0}) View)
-    → count_in o.1 ≡ blocks → IsAt z d s → d.number ≡ n → d.table ≡ t → d.pairs ≡ ps ++ p ∷ [] → Shows o p (At d) → IsSeated z o blocks n p.0 t (known_at s) (Some s)
-seated z o blocks n t d ps p s sized here number table pairs shows =
+pub seated : (z : TableId) (o : Pair) (blocks n calls : ℕ) (t : Entries) (d : Known) (ps : List Pair) (p : Pair) (s : Seat (Unit {0}) View)
+    → count_in o.1 ≡ blocks → IsAt z d s → d.number ≡ n → d.table ≡ t → length d.served ≡ calls → d.pairs ≡ ps ++ p ∷ [] → Shows o p (At d) → IsSeated z o blocks n p.0 calls t (known_at s) (Some s)
+seated z o blocks n calls t d ps p s sized here number table counted pairs shows =
     let last : last_pair d.pairs ≡ p = ap last_pair pairs ∙ last_pair-push ps p in
-    subst (λ k. IsSeated z o blocks n p.0 t k (Some s)) (sym (known_is z d s here)) (record {
+    subst (λ k. IsSeated z o blocks n p.0 calls t k (Some s)) (sym (known_is z d s here)) (record {
       seat = s;
       there = refl;
       here = here;
       number = number;
       table = table;
+      counted = counted;
       sized = sized;
       some = omega (arith, ap length pairs, length-append ps (p ∷ []));
       seen = ap (λ (q : Pair). q.0) last;
@@ -127,6 +129,6 @@ seated z o blocks n t d ps p s sized here number table pairs shows =
     })
 
 -- and after one that shows it a pair and changes nothing else
-pub seated_shown : {z : TableId} {o : Pair} {blocks n stamp : ℕ} {t : Entries} {d : Known} {before : Option (Seat (Unit {0}) View)} (p : Pair) (s : Seat (Unit {0}) View)
-    → IsSeated z o blocks n stamp t d before → IsAt z (with_pair p d) s → Shows o p (At (with_pair p d)) → IsSeated z o blocks n p.0 t (known_at s) (Some s)
-seated_shown {z} {o} {blocks} {n} {stamp} {t} {d} p s was here shows = seated z o blocks n t (with_pair p d) d.pairs p s was.sized here was.number was.table refl shows
+pub seated_shown : {z : TableId} {o : Pair} {blocks n stamp calls : ℕ} {t : Entries} {d : Known} {before : Option (Seat (Unit {0}) View)} (p : Pair) (s : Seat (Unit {0}) View)
+    → IsSeated z o blocks n stamp calls t d before → IsAt z (with_pair p d) s → Shows o p (At (with_pair p d)) → IsSeated z o blocks n p.0 calls t (known_at s) (Some s)
+seated_shown {z} {o} {blocks} {n} {stamp} {calls} {t} {d} p s was here shows = seated z o blocks n calls t (with_pair p d) d.pairs p s was.sized here was.number was.table was.counted refl shows

@@ -12,9 +12,10 @@ use Rattle.strm_pool.specs.Registers.{Entries}
 use Rattle.strm_shared.specs.declared.entry.Entry.{Entry}
 use Rattle.strm_shared.specs.declared.views.History.{History}
 use Rattle.strm_shared.specs.declared.views.Known.{Known}
-use Rattle.strm_shared.specs.Pairs.{IsPairAfter, Pair, count_in, last_pair, no_pair}
+use Rattle.strm_shared.specs.Pairs.{HasStamp, IsPairAfter, Pair, count_in, last_pair, no_pair}
 use Rattle.strm_shared.specs.Words.{count_range, pair_of, word_of}
-use Rattle.strm_shared.specs.Seats.{HasStamp, IsHistory, IsOf, history_after, history_with_desk, known_after, new_known, no_entries, opening_history, served_from, with_pair}
+use Rattle.strm_shared.specs.Chronicle.{served_from}
+use Rattle.strm_shared.specs.Seats.{IsHistory, IsOf, history_after, history_with_desk, known_after, new_known, no_entries, opening_history, with_pair}
 use Rattle.strm_shared.specs.SeatsLayout.{IsNextOf}
 
 -- ---- the word
@@ -94,6 +95,15 @@ served_other : (k n : ℕ) (es : List Entry) (e : Entry) → e.desk ≢ n → se
 served_other k n [] e other = ap (λ (b : Bool). if b then (k, e) ∷ [] else []) (ne_eqb e.desk n other)
 served_other k n (x ∷ es) e other =
     same_entries (x.desk == n) (k, x) (served_from (k + 1) n es) (served_from (k + 1) n (es ++ e ∷ [])) (served_other (k + 1) n es e other)
+
+-- a desk was served no more than all were
+more_at_most : (b : Bool) (x : ℕ × Entry) (xs : List (ℕ × Entry)) (n : ℕ) → length xs ≤ n → length (if b then x ∷ xs else xs) ≤ suc n
+more_at_most true x xs n few = omega (arith, few)
+more_at_most false x xs n few = omega (arith, few)
+
+pub length-served_from : (k n : ℕ) (es : List Entry) → length (served_from k n es) ≤ length es
+length-served_from k n [] = omega arith
+length-served_from k n (e ∷ es) = more_at_most (e.desk == n) (k, e) (served_from (k + 1) n es) (length es) (length-served_from (k + 1) n es)
 
 -- a desk that is not there yet was served none
 served_none : (k n : ℕ) (es : List Entry) → All (λ e. e.desk < n) es → served_from k n es ≡ []

@@ -1,7 +1,8 @@
 -- What a seat knows once it has taken a step.
-use Rattle.std.proofs.Common.{◌≡◌, List, [], ◌∷◌, map, sym, ap, ◌∙◌, subst}
+use Rattle.std.proofs.Common.{◌≡◌, ℕ, ◌≤◌, List, [], ◌∷◌, map, sym, ap, ◌∙◌, subst}
 use Rattle.std.specs.Prelude.{All}
 use Rattle.atomic_table.specs.Table.{Me}
+use Rattle.strm_links.specs.Counting.{times}
 use Rattle.strm_pool.specs.Registers.{Entries}
 use Rattle.strm_shared.specs.declared.entry.Entry.{Entry}
 use Rattle.strm_shared.specs.declared.views.History.{History}
@@ -37,10 +38,10 @@ module _ (m : Mine) (h : History) (gs : List Known) (is : m ≡ (Lock h gs, []))
   new_desk n step = step ∙ (λ i. (new_desk_of (is i).0, []))
 
   -- what is shown of the lock's view
-  pub lock_shown : (o p : Pair) → Shows o p m.0 → IsHistory o h × (last_pair h.pairs ≡ p) × All (IsOf o.0 h) gs
+  pub lock_shown : (o p : Pair) → Shows o p m.0 → IsHistory o h × (last_pair h.pairs ≡ p) × All (IsOf o.0 h) gs × ((n : ℕ) → times n (map (λ (d : Known). d.number) gs) ≤ 1)
   lock_shown o p shows =
       let s : Shows o p (Lock h gs) = subst (λ (x : Mine). Shows o p x.0) is shows in
-      (subst (IsHistory o) (sym s.view.history) s.lawful, ap (λ x. last_pair x.pairs) s.view.history ∙ s.last, subst (λ x. All (IsOf o.0 x) gs) (sym s.view.history) s.view.desks)
+      (subst (IsHistory o) (sym s.view.history) s.lawful, ap (λ x. last_pair x.pairs) s.view.history ∙ s.last, subst (λ x. All (IsOf o.0 x) gs) (sym s.view.history) s.view.desks, s.apart)
 
 module _ (m : Mine) (h : History) (g : Known) (gs : List Known) (is : m ≡ (Lock h (g ∷ gs), [])) where
   -- after a guest has left

@@ -1,6 +1,7 @@
 -- A served call: what the lock's seat and the desk's know after it.
-use Rattle.std.proofs.Common.{◌≡◌, ℕ, ◌+◌, ◌<◌, List, [], ◌∷◌, ◌++◌, set, Some, refl, sym, ap, ◌∙◌, subst, arith}
+use Rattle.std.proofs.Common.{◌≡◌, ℕ, ◌+◌, ◌<◌, ◌≤◌, List, [], ◌∷◌, ◌++◌, length, set, get_or, Option, Some, refl, sym, ap, ◌∙◌, subst, arith}
 use Rattle.std.specs.Prelude.{All}
+use Rattle.std.proofs.lemmas.List.{length_push}
 use Rattle.std.proofs.lemmas.List.Elements.{Contains-get_or}
 use Rattle.atomic_table.specs.declared.shared.Seat.{Seat}
 use Rattle.atomic_table.specs.Seated.{TableId}
@@ -17,18 +18,44 @@ use Rattle.strm_shared.specs.Seats.{IsOf, history_after, known_after}
 use Rattle.strm_shared.specs.SeatsLayout.{IsAt, IsKeptBy, IsLock, IsNextOf, IsSeated, history_at, known_at}
 use Rattle.strm_shared.proofs.seats.Books.{history_is, kept_more, next_pair}
 use Rattle.strm_shared.proofs.seats.Desks.{known_is, seated, served_later, served_shown}
+use Rattle.strm_shared.proofs.seats.Histories.{last_after, length-served_from}
 
--- A call was served on a desk of this number, and left the pool and the desk's table so, at this stamp: the lock's seat r has the pair
--- behind the history that it had, and keeps the book's invariant; the desk's seat s has seen the pair, and sits as a desk's does.
-pub record Entered (z : TableId) (o : Pair) (blocks n stamp number : ℕ) (w : PoolValue) (ts : List Entries) (u : Entries) (h : History) (d : Known) (r s : Seat (Unit {0}) View) : Type 0 where
+-- A call was served on a desk of this number, as its so-manieth, and left the pool and the desk's table so, at this stamp: the lock's seat r has the pair
+-- and this entry behind the history that it had, and keeps the book's invariant; the desk's seat s has seen the pair and has the entry,
+-- and sits as a desk's does.
+pub record Entered (z : TableId) (o : Pair) (blocks n stamp number calls : ℕ) (w : PoolValue) (ts : List Entries) (u : Entries) (x : Entry) (h : History) (d : Known) (r s : Seat (Unit {0}) View) : Type 0 where
   pub listed : (history_at r).pairs ≡ h.pairs ++ pair_at stamp w ∷ []
+  pub entered : (history_at r).entries ≡ h.entries ++ x ∷ []
   pub saw : (known_at s).pairs ≡ d.pairs ++ pair_at stamp w ∷ []
+  pub served : (known_at s).served ≡ d.served ++ (stamp, x) ∷ []
   pub kept : (us : List Entries) → us ≡ set ts number u → IsKeptBy z o n stamp w us (history_at r) r
-  pub seated : IsSeated z o blocks number stamp u (known_at s) (Some s)
+  pub seated : IsSeated z o blocks number stamp calls u (known_at s) (Some s)
+
+-- A desk's seat has joined the lock's: the desk was served no more calls than the stamp has counted.
+pub few_calls : {z : TableId} {o : Pair} {blocks n stamp number seen calls : ℕ} {v : PoolValue} {ts : List Entries} {t : Entries} {h : History} {lock : Seat (Unit {0}) View} {seat : Option (Seat (Unit {0}) View)} {d : Known}
+    → IsKeptBy z o n stamp v ts h lock → IsSeated z o blocks number seen calls t d seat → IsOf o.0 h d → calls ≤ stamp
+few_calls {z} {o} {blocks} {n} {stamp} {number} {seen} {calls} {v} {ts} {t} {h} {lock} {seat} {d} kept before is_of =
+    omega (
+      arith,
+      before.counted,
+      ap length is_of.served,
+      length-served_from (o.0 + 1) d.number h.entries,
+      (last_after o h kept.lawful).0,
+      ap (λ (p : Pair). p.0) kept.last,
+    )
+
+-- and the book knows what its registers tell
+pub table_known : {z : TableId} {o : Pair} {blocks n stamp number seen calls : ℕ} {v : PoolValue} {ts : List Entries} {t : Entries} {h : History} {lock : Seat (Unit {0}) View} {seat : Option (Seat (Unit {0}) View)} {d : Known}
+    → IsKeptBy z o n stamp v ts h lock → IsSeated z o blocks number seen calls t d seat → IsOf o.0 h d → get_or ts number [] ≡ t
+table_known {z} {o} {blocks} {n} {stamp} {number} {seen} {calls} {v} {ts} {t} {h} {lock} {seat} {d} kept before is_of =
+    ap (λ (us : List Entries). get_or us number []) (sym kept.tables)
+    ∙ ap (λ (k : ℕ). get_or h.tables k []) (sym before.number)
+    ∙ is_of.table
+    ∙ before.table
 
 -- A desk's seat has joined the lock's, and the call has left the pool so, with this census.
-module _ {z : TableId} {o : Pair} {blocks n stamp number seen : ℕ} {v : PoolValue} {ts : List Entries} {t : Entries} {h : History} {lock seat : Seat (Unit {0}) View} {d : Known}
-    (kept : IsKeptBy z o n stamp v ts h lock) (before : IsSeated z o blocks number seen t d (Some seat)) (is_of : IsOf o.0 h d)
+module _ {z : TableId} {o : Pair} {blocks n stamp number seen calls : ℕ} {v : PoolValue} {ts : List Entries} {t : Entries} {h : History} {lock : Seat (Unit {0}) View} {seat : Option (Seat (Unit {0}) View)} {d : Known}
+    (kept : IsKeptBy z o n stamp v ts h lock) (before : IsSeated z o blocks number seen calls t d seat) (is_of : IsOf o.0 h d)
     (w : PoolValue) (whole : count_in (census_of w.arena) ≡ blocks) where
   follows : IsNextOf o h (pair_at (stamp + 1) w)
   follows = next_pair kept w (whole ∙ sym before.sized)
@@ -54,14 +81,17 @@ module _ {z : TableId} {o : Pair} {blocks n stamp number seen : ℕ} {v : PoolVa
       there : IsAt z (known_after (pair_at (stamp + 1) w) e u d) s
       there = subst (λ q. IsAt z (known_after q e u d) s) pair_is stored.1
 
-      pub entered : Entered z o blocks n (stamp + 1) number w ts u h d r s
+      pub entered : Entered z o blocks n (stamp + 1) number (calls + 1) w ts u e h d r s
       entered = record {
+        entered = ap (λ (i : History). i.entries) (history_is z (history_after (pair_at (stamp + 1) w) e u h) [] r here);
+        served = ap (λ (k : Known). k.served) (known_is z (known_after (pair_at (stamp + 1) w) e u d) s there);
         listed = ap (λ (i : History). i.pairs) (history_is z (history_after (pair_at (stamp + 1) w) e u h) [] r here);
         saw = ap (λ (k : Known). k.pairs) (known_is z (known_after (pair_at (stamp + 1) w) e u d) s there);
         kept = λ us tables.
             kept_more kept w (whole ∙ sym before.sized) us e u r (omega (arith, mine, before.number, is_of.below, kept.desks))
             (tables ∙ ap (λ k. set ts k u) (sym mine)) here;
         seated =
-            seated z o blocks number u (known_after (pair_at (stamp + 1) w) e u d) d.pairs (pair_at (stamp + 1) w) s before.sized there before.number refl refl
+            seated z o blocks number (calls + 1) u (known_after (pair_at (stamp + 1) w) e u d) d.pairs (pair_at (stamp + 1) w) s before.sized there before.number refl
+            (length_push d.served (stamp + 1, e) ∙ ap (λ k. k + 1) before.counted) refl
             (served_shown o h d kept.lawful is_of (pair_at (stamp + 1) w) follows e u (mine ∙ sym before.number));
       }

@@ -2,21 +2,24 @@
 ghost use Rattle.std.specs.Prelude.{◌≡◌};
 ghost use Rattle.strm_shared.specs.Starts.{IsNameOf};
 
-use super::{assert_census, assert_served, emptied, last, reg, start};
+use super::traces::{kept, replayed};
+use super::{assert_census, assert_served, drained, eight, last, reg};
 use crate::{Brand, Desk, Name, Shared, Start};
 use arrayvec::ArrayVec;
+use std::alloc::Global;
 use std::process::Abort;
 use std::sync::Wait;
 use strm_pool::{BlockInfo, Call, Census, Flush, MsgType, Octets, Reply};
 
 #[test]
 fn each_kind_of_call(rt: HostRuntime) {
-    each_kind::<Brand, _>(&rt, start(&rt, rt.alloc(), 7, 1, 0));
+    each_kind::<Brand, _>(&rt, rt.alloc(), kept(&rt, rt.alloc(), 1, 100, 0));
 }
 
 // The calls of a part find what the part before left: the registers a, c, d, e behind the first two, and queue 1 with a
-// message, a and b behind the third. At the end nothing is held or queued.
-fn each_kind<N: Name, R: Wait + Abort>(rt: &R, start: Start)
+// message, a and b behind the third. At the end nothing is held or queued. Done again by a pool like this one, the calls in the
+// trace have the same replies.
+fn each_kind<N: Name, R: Wait + Abort>(rt: &R, alloc: Global, start: Start)
     requires { IsNameOf N.Name start }
 {
     let (shared, mut desks) = start.open::<N>();
@@ -29,7 +32,10 @@ fn each_kind<N: Name, R: Wait + Abort>(rt: &R, start: Start)
     assert!(rt; desks.len() == 0);
     let stamp = desk.seen();
     desks.push(desk);
-    let pool = emptied(rt, shared.gather(desks), stamp);
+    let (pool, trace) = drained(rt, shared.gather(desks), stamp);
+    assert_census(rt, &pool, (8, 0, 0));
+    assert_eq!(rt; trace.items().len() as u64, stamp);
+    let pool = replayed(rt, eight(rt, alloc, 7), trace.items());
     assert_census(rt, &pool, (8, 0, 0));
 }
 

@@ -2,13 +2,14 @@
 ghost use Rattle.std.specs.Prelude.{◌≡◌, length};
 ghost use Rattle.strm_shared.specs.Starts.{IsNameOf};
 
+use super::traces::{kept, replayed};
 use super::{
-    assert_census, assert_now, assert_served, emptied, last, opened, reg, start, start_of,
-    ungathered,
+    assert_census, assert_now, assert_served, drained, eight, emptied, gathered, last, opened, reg,
+    setup, start, start_of, ungathered,
 };
 use crate::{
-    Brand, Desk, Desks, End, Gate, Line, Lines, MOST_STAMP, MOST_WORKERS, Name, OpenGate, Outcome,
-    Parts, Replies, Shared, Start, run_workers,
+    Brand, Desk, Desks, End, Entry, Gate, Gathered, Line, Lines, MOST_STAMP, MOST_WORKERS, Name,
+    OpenGate, Outcome, Parts, Replies, Shared, Start, Trace, TraceEntries, run_workers,
 };
 use std::alloc::{AllocError, Global};
 use std::process::Abort;
@@ -17,7 +18,7 @@ use std::sync::atomic::{AtomicU32, Ordering};
 use std::test::Fail;
 use std::thread::Threads;
 use std::{mem, thread};
-use strm_pool::{Call, Census, Refusal, Reg, Reply};
+use strm_pool::{Call, Census, Pool, Refusal, Reg, Reply};
 
 // So many turns at most a worker waits, and a monitor looks.
 const TURNS: u32 = 100_000_000;
@@ -187,10 +188,14 @@ fn ran<N: Name + Send + Sync, R: Threads + Wait + Abort + Sync, G: Gate>(
     }
 }
 
-// A pool of four message blocks over two data blocks of 16 bytes, which so many desks share.
-fn small(rt: &impl Abort, alloc: Global, desks: u8) -> Start {
-    let pool = opened(rt, alloc, 1, 4, &[(16, 2)]);
-    start_of(rt, alloc, pool, desks, 0)
+// A pool of four message blocks over two data blocks of 16 bytes.
+fn four(rt: &impl Abort, alloc: Global) -> Pool {
+    opened(rt, alloc, 1, 4, &[(16, 2)])
+}
+
+// Such a pool, which so many desks share, with this trace.
+fn small(rt: &impl Abort, alloc: Global, desks: u8, trace: Trace) -> Start {
+    start_of(rt, alloc, four(rt, alloc), setup(desks, trace, 0))
 }
 
 // Two workers at most have so many rounds served at the small pool. One desk more is a monitor's, who looks once they have
@@ -209,18 +214,19 @@ fn work<N: Name + Send + Sync, R: Threads + Wait + Abort + Sync, G: Gate>(
     let monitor = desks.take_last();
     let parts = parts(alloc, reg(rt, b'a'), desks.len() as u8, rounds).expect(rt, "memory");
     let outcome = ran(rt, alloc, &shared, desks, &parts, gate);
-    assert_worked(rt, shared, monitor, outcome, rounds);
+    let trace = after_work(rt, shared, monitor, outcome, rounds);
+    assert!(rt; trace.items().is_empty());
     Ok(())
 }
 
-// All workers had so many rounds served. The monitor sees it, and is the desk without which none are gathered.
-fn assert_worked<N: Name, R: Wait + Abort>(
+// The trace once all workers had so many rounds served. The monitor sees it, and is the desk without which none are gathered.
+fn after_work<N: Name, R: Wait + Abort>(
     rt: &R,
     shared: Shared<N>,
     monitor: Desk<N>,
     outcome: Outcome<N>,
     rounds: u32,
-) {
+) -> TraceEntries {
     let Outcome {
         desks,
         replies,
@@ -237,14 +243,16 @@ fn assert_worked<N: Name, R: Wait + Abort>(
     let (shared, mut desks) = ungathered(rt, shared, desks);
     assert!(rt; desks.len() < MOST_WORKERS);
     desks.push(monitor);
-    let pool = emptied(rt, shared.gather(desks), stamp.wrapping_add(1));
+    let (pool, trace) = drained(rt, shared.gather(desks), stamp.wrapping_add(1));
     assert_census(rt, &pool, (4, 0, 0));
+    trace
 }
 
 #[test]
 fn two_threads_at_once(rt: HostRuntime) -> Result<(), Fail> {
     let gate = Meeting::new();
-    work::<Brand, _, _>(&rt, rt.alloc(), small(&rt, rt.alloc(), 3), &gate, 1)?;
+    let three = small(&rt, rt.alloc(), 3, Trace::Off);
+    work::<Brand, _, _>(&rt, rt.alloc(), three, &gate, 1)?;
     assert_eq!(rt; gate.missed.load(Ordering::SeqCst), 0);
     assert_eq!(rt; gate.early.load(Ordering::SeqCst), 0);
     assert_eq!(rt; gate.came.load(Ordering::SeqCst), ALL);
@@ -323,11 +331,26 @@ fn count_left(replies: &[Replies]) -> u32 {
 
 #[test]
 fn two_workers_and_a_monitor(rt: HostRuntime) {
-    watched::<Brand, _>(&rt, rt.alloc(), small(&rt, rt.alloc(), 3));
+    let three = small(&rt, rt.alloc(), 3, Trace::Keep(2001));
+    watched::<Brand, _>(&rt, rt.alloc(), three);
+}
+
+// The entries of a worker are those of so many lines, in order, each done.
+fn assert_lines(rt: &impl Abort, entries: &[Entry], worker: u8, count: u32) {
+    let mut next: u32 = 0;
+    for entry in entries {
+        if entry.desk == worker {
+            assert_eq!(rt; entry.line, next);
+            assert!(rt; entry.reply == Reply::Done);
+            next = next.wrapping_add(1);
+        }
+    }
+    assert_eq!(rt; next, count);
 }
 
 // Two workers of 500 rounds each, while a monitor on a thread of its own reads what they leave, until they have ended. A
-// closure owns only what may be dropped, so the workers' desks are lent to it.
+// closure owns only what may be dropped, so the workers' desks are lent to it. The trace has their lines and the monitor's one
+// call, and done again by a pool like this one its calls have the same replies.
 fn watched<N: Name + Send + Sync, R: Threads + Wait + Abort + Sync>(
     rt: &R,
     alloc: Global,
@@ -350,10 +373,16 @@ fn watched<N: Name + Send + Sync, R: Threads + Wait + Abort + Sync>(
     desks.forget();
     assert!(rt; in_time);
     assert_eq!(rt; gate.missed.load(Ordering::SeqCst), 0);
-    assert_worked(rt, shared, monitor, outcome, 500);
+    let trace = after_work(rt, shared, monitor, outcome, 500);
+    let entries = trace.items();
+    assert_eq!(rt; entries.len(), 2001);
+    assert_lines(rt, entries, 0, 1000);
+    assert_lines(rt, entries, 1, 1000);
+    let pool = replayed(rt, four(rt, alloc), entries);
+    assert_census(rt, &pool, (4, 0, 0));
 }
 
-// Looks until the workers have ended, and whether they did in time. Each time four blocks are counted, at a stamp that is none
+// Looks until the workers have ended, and tells whether they did in time. Each time four blocks are counted, at a stamp that is none
 // before the last. Two stamps are seen, at the first look that finds one above the first.
 fn monitored<N: Name>(
     rt: &impl Abort,
@@ -382,8 +411,39 @@ fn monitored<N: Name>(
 
 #[test]
 fn one_worker_of_many_lines(rt: HostRuntime) -> Result<(), Fail> {
-    let one = small(&rt, rt.alloc(), 2);
+    let one = small(&rt, rt.alloc(), 2, Trace::Off);
     work::<Brand, _, _>(&rt, rt.alloc(), one, &OpenGate, 1500)
+}
+
+#[test]
+fn a_full_trace(rt: HostRuntime) {
+    full::<Brand, _>(&rt, rt.alloc(), kept(&rt, rt.alloc(), 2, 3, 0));
+}
+
+// Of two workers of two lines each one is done. The other is refused at its second line, and holds a message then.
+fn full<N: Name + Send + Sync, R: Threads + Wait + Abort + Sync>(
+    rt: &R,
+    alloc: Global,
+    start: Start,
+)
+    requires { IsNameOf N.Name start }
+{
+    let (shared, desks) = start.open::<N>();
+    let parts = parts(alloc, reg(rt, b'a'), desks.len() as u8, 1).expect(rt, "memory");
+    let Outcome {
+        desks,
+        replies: _,
+        ends,
+    } = ran(rt, alloc, &shared, desks, &parts, &OpenGate);
+    let refused = End::Refused(Refusal::TraceFull);
+    let ends = ends.items();
+    assert!(rt; ends == [End::Done, refused].as_slice() || ends == [refused, End::Done].as_slice());
+    let Gathered { pool, trace, desks } = gathered(rt, shared.gather(desks));
+    desks.forget();
+    assert_census(rt, &pool, (7, 0, 1));
+    assert_eq!(rt; trace.items().len(), 3);
+    let pool = replayed(rt, eight(rt, alloc, 7), trace.items());
+    assert_census(rt, &pool, (8, 0, 0));
 }
 
 #[test]

@@ -1,4 +1,4 @@
-use Rattle.std.proofs.Common.{◌++◌, arith, take, length-append, length-take}
+use Rattle.std.proofs.Common.{rules, ◌++◌, arith, take, length-append, length-take}
 use Rattle.std.proofs.KnownBytes.{Consumes-trans}
 use Rattle.strm_driver.proofs.input.read_input.Goals as goal
 
@@ -8,4 +8,5 @@ returns-in_err-extend_from_slice-in-Ok-clause-taken g c =
       c.loop-chunk.input.items ++ read,
       Consumes-trans _ _ _ _ _ c.loop-chunk.invariant.read c.in-Ok.ensures.bytes.0,
       simp (length-append, length-take) (omega (arith, c.in-Ok.ensures.bound, c.min-room.ensures, c.read.auto.buf, length-take c.min-room.result c.loop-chunk.chunk)),
+      search rules,
     )

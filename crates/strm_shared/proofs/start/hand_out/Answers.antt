@@ -37,7 +37,7 @@ loop-number-preserved g c =
     let left = known_is g.N.Name.board (new_known (opening_history o n)) c.seat_desk.result seats.1 in
     record {
       lock = subst (λ (h : History). IsLock g.N.Name.board h [] c.seat_desk.new.lock) (opening_more o n) seats.0;
-      desks = c.push.ensures ∙ (λ i. c.loop-number.invariant.desks i ++ desk_value n (c.new.ensures i) (left i).pairs ∷ []) ∙ sym (fresh_more n (o ∷ []));
+      desks = c.push.ensures ∙ (λ i. c.loop-number.invariant.desks i ++ desk_value n (c.new.ensures i) (left i).pairs (left i).served ∷ []) ∙ sym (fresh_more n (o ∷ []));
       len = ap length c.push.ensures ∙ length_push _ _ ∙ ap (λ k. k + 1) c.loop-number.invariant.len;
       parts = omega (arith, c.split_off.ensures.parts_left, c.loop-number.invariant.parts);
       amount = search rules;

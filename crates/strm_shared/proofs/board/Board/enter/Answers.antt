@@ -5,7 +5,8 @@ use Rattle.strm_shared.specs.declared.views.History.{History}
 use Rattle.strm_shared.specs.declared.views.Known.{Known}
 use Rattle.strm_shared.specs.Pairs.{count_in, pair_at}
 use Rattle.strm_shared.specs.Seats.{history_after, known_after}
-use Rattle.strm_shared.specs.SeatsLayout.{IsLock, entry_of}
+use Rattle.strm_shared.specs.Chronicle.{entry_of}
+use Rattle.strm_shared.specs.SeatsLayout.{IsLock}
 use Rattle.strm_shared.specs.Words.{pair_of}
 use Rattle.strm_shared.proofs.seats.Histories.{pair_of-word_of}
 use Rattle.strm_shared.proofs.seats.Keeping.{stores_as}

@@ -1,48 +1,48 @@
-use Rattle.std.proofs.Common.{rules, ◌≡◌, ◌+◌, Option, Some, refl, sym, ap, ◌∙◌, subst, arith, length, set}
-use Rattle.atomic_table.specs.declared.shared.Seat.{Seat}
+use Rattle.std.proofs.Common.{rules, ◌≡◌, ◌+◌, false, List, None, refl, sym, ap, ◌∙◌, subst, arith, length, set}
 use Rattle.strm_links.specs.Rows as rows
 use Rattle.strm_mblk.specs.declared.census.Census.{Census}
 use Rattle.strm_pool.specs.declared.names.Names.{Names}
 use Rattle.strm_pool.specs.Names.{registers_in}
 use Rattle.strm_pool.specs.Registers.{entries_of}
-use Rattle.strm_shared.specs.declared.views.View.{View}
-use Rattle.strm_shared.specs.Books.{BookValue, IsServed, book_value}
+use Rattle.strm_shared.specs.Books.{BookValue, IsServed, book_value, end_of}
 use Rattle.strm_shared.specs.Desks.{DeskValue, desk_value}
 use Rattle.strm_shared.specs.Pairs.{pair_at}
-use Rattle.strm_shared.specs.SeatsLayout.{IsSeated, entry_of, history_at, known_at, known_in}
+use Rattle.strm_shared.specs.Chronicle.{entry_of}
+use Rattle.strm_shared.specs.Seats.{IsOf}
+use Rattle.strm_shared.specs.SeatsLayout.{IsAt, history_at, known_at, known_in}
+use Rattle.strm_shared.specs.Traces.{IsTraceOf, is_full}
+use Rattle.strm_shared.specs.declared.entry.Entry.{Entry}
 use Rattle.strm_shared.proofs.Turning.{IsKnown, Turns, held_moved, others, owned, table_is, turns, within}
+use Rattle.strm_shared.proofs.Telling.{told_next}
+use Rattle.strm_shared.proofs.Tracing.{trace_next}
 use Rattle.strm_shared.proofs.seats.Desks.{seat_is}
-use Rattle.strm_shared.proofs.seats.Served.{Entered, entered, later, next}
+use Rattle.strm_shared.proofs.seats.Served.{Entered, entered, few_calls, later, next, table_known}
 use Rattle.strm_shared.proofs.book.Book.turn.Given as given
 use Rattle.strm_shared.proofs.book.Book.turn.Goals as goal
-use Rattle.strm_shared.proofs.book.Book.turn.Goals.{After-census-before, After-enter-seat, In-Some}
+use Rattle.strm_shared.proofs.book.Book.turn.Goals.{After-census-before, After-enter-seat}
 
 -- ---- book and desk as they were
 
--- the book knows the desk that it did not refuse
-is_known : (g : given.Over) (c : After-census-before g)
-    → IsKnown g.N.Name.opened.arena.id g.N.Name.desks g.N.Name.first (book_value c.self.inside.pool c.self.inside.stamp c.self.inside.tables.items (history_at c.self.inside.seat).pairs)
-    (desk_value c.desk.inside.number c.desk.inside.regs (known_in c.desk.inside.seat).pairs)
-is_known g c =
-    let b : BookValue = book_value c.self.inside.pool c.self.inside.stamp c.self.inside.tables.items (history_at c.self.inside.seat).pairs in
-    let d : DeskValue = desk_value c.desk.inside.number c.desk.inside.regs (known_in c.desk.inside.seat).pairs in
-    let here = within g.N.Name.opened.arena.id g.N.Name.desks g.N.Name.first b d c.self.invariant.0 c.desk.invariant.0 in
-    record {
-      book = c.self.invariant.0;
-      desk = c.desk.invariant.0;
-      table = table_is b d.number c.index.result.now here (search rules) ∙ c.is_of.ensures.0 c.if-not-is_of.false;
-    }
-
 -- where the desk's seat is, which joins the lock's
-is_seated : (g : given.Over) (c : In-Some g)
-    → IsSeated g.N.Name.board (pair_at g.N.Name.first g.N.Name.opened) (length g.N.Name.opened.arena.held) c.desk.inside.number c.desk.inside.seen (entries_of c.desk.inside.regs) (known_in c.desk.inside.seat) (Some c.in-Some.seat)
-is_seated g c =
-    subst (λ (s : Option (Seat (Unit {0}) View)). IsSeated g.N.Name.board (pair_at g.N.Name.first g.N.Name.opened) (length g.N.Name.opened.arena.held) c.desk.inside.number c.desk.inside.seen (entries_of c.desk.inside.regs) (known_in c.desk.inside.seat) s)
-    (sym c.take.ensures.value ∙ c.in-Some.is) c.desk.invariant.2
+there : (g : given.Over) (c : After-census-before g) → IsAt g.N.Name.board (known_in c.desk.inside.seat) c.in-Some-take.seat
+there g c = seat_is (sym c.take.ensures.value ∙ c.in-Some-take.is) c.desk.invariant.2
 
-pub admit-requires : goal.admit-requires
-admit-requires g c =
-    record { lock = (history_at c.self.inside.seat, c.self.invariant.2.here); desk = (known_in c.desk.inside.seat, seat_is (is_seated g (goal.at.admit-requires g c).In-Some)) }
+-- what the desk knows is of the lock's history, which its seat has joined
+joined : (g : given.Over) (c : After-census-before g) → IsOf g.N.Name.first (history_at c.self.inside.seat) (known_in c.desk.inside.seat)
+joined g c = (c.admit.ensures (history_at c.self.inside.seat) (known_in c.desk.inside.seat) c.self.invariant.2.here (there g c)).1
+
+-- so the book knows the desk
+is_known : (g : given.Over) (c : After-census-before g)
+    → IsKnown g.N.Name.opened.arena.id g.N.Name.desks g.N.Name.first (book_value c.self.inside.pool c.self.inside.stamp c.self.inside.tables.items (history_at c.self.inside.seat).pairs (history_at c.self.inside.seat).entries c.self.inside.trace)
+    (desk_value c.desk.inside.number c.desk.inside.regs (known_in c.desk.inside.seat).pairs (known_in c.desk.inside.seat).served)
+is_known g c = record { book = c.self.invariant.0; desk = c.desk.invariant.0; table = table_known c.self.invariant.2 c.desk.invariant.2 (joined g c) }
+
+-- calls are still served
+unended : (g : given.Over) (c : After-census-before g) → end_of (book_value c.self.inside.pool c.self.inside.stamp c.self.inside.tables.items (history_at c.self.inside.seat).pairs (history_at c.self.inside.seat).entries c.self.inside.trace) ≡ None
+unended g c = search rules
+
+not_full : (g : given.Over) (c : After-census-before g) → is_full c.self.inside.trace ≡ false
+not_full g c = search rules
 
 pub apply-reply-requires : goal.apply-reply-requires
 apply-reply-requires g c = owned (is_known g (goal.at.apply-reply-requires g c).After-census-before)
@@ -61,57 +61,68 @@ enter-seat-requires-clause-lock g c =
     let h = history_at c.self.inside.seat in
     let d = known_in c.desk.inside.seat in
     let kept = c.self.invariant.2 in
-    let seated = is_seated g (goal.at.enter-seat-requires-clause-lock g c).In-Some in
-    let there = c.admit.ensures h d kept.here (seat_is seated) in
+    let joined = c.admit.ensures h d kept.here (there g (goal.at.enter-seat-requires-clause-lock g c).After-census-before) in
     let whole = c.lawful.ensures.whole ∙ c.apply-reply.ensures.size ∙ c.self.invariant.1.sized in
-    (h, d, there.0, kept.lawful, next kept seated there.1 c.apply-reply.new.self whole c.census-census.result c.census-census.ensures, sym seated.number)
+    (h, d, joined.0, kept.lawful, next kept c.desk.invariant.2 joined.1 c.apply-reply.new.self whole c.census-census.result c.census-census.ensures, sym c.desk.invariant.2.number)
+
+pub overflow_add-desk : goal.overflow_add-desk
+overflow_add-desk g c =
+    let h = history_at c.self.inside.seat in
+    let d = known_in c.desk.inside.seat in
+    let joined = c.admit.ensures h d c.self.invariant.2.here (there g (goal.at.overflow_add-desk g c).After-census-before) in
+    omega (arith, few_calls c.self.invariant.2 c.desk.invariant.2 joined.1, c.self.invariant.0.unspent)
 
 -- book, desk and their seats, once the call is entered
 left : (g : given.Over) (c : After-enter-seat g)
-    → IsKnown g.N.Name.opened.arena.id g.N.Name.desks g.N.Name.first (book_value c.self.inside.pool c.self.inside.stamp c.self.inside.tables.items (history_at c.self.inside.seat).pairs)
-    (desk_value c.desk.inside.number c.desk.inside.regs (known_in c.desk.inside.seat).pairs)
-    → IsSeated g.N.Name.board (pair_at g.N.Name.first g.N.Name.opened) (length g.N.Name.opened.arena.held) c.desk.inside.number c.desk.inside.seen (entries_of c.desk.inside.regs) (known_in c.desk.inside.seat) (Some c.in-Some.seat)
-    → Turns g.N.Name.opened.arena.id g.N.Name.desks g.N.Name.first (book_value c.self.inside.pool c.self.inside.stamp c.self.inside.tables.items (history_at c.self.inside.seat).pairs)
-    (desk_value c.desk.inside.number c.desk.inside.regs (known_in c.desk.inside.seat).pairs) c.args.call.now
-    (book_value c.apply-reply.new.self (c.self.inside.stamp + 1) (set c.self.inside.tables.items c.from-number.result c.note.new.self) (history_at c.enter-seat.new.lock).pairs)
-    (desk_value c.desk.inside.number c.apply-reply.new.regs (known_at c.enter-seat.result).pairs) c.apply-reply.result
-    × Entered g.N.Name.board (pair_at g.N.Name.first g.N.Name.opened) (length g.N.Name.opened.arena.held) g.N.Name.desks (c.self.inside.stamp + 1) c.desk.inside.number c.apply-reply.new.self
-    c.self.inside.tables.items (entries_of c.apply-reply.new.regs) (history_at c.self.inside.seat) (known_in c.desk.inside.seat) c.enter-seat.new.lock c.enter-seat.result
-left g c known seated =
+    → IsKnown g.N.Name.opened.arena.id g.N.Name.desks g.N.Name.first (book_value c.self.inside.pool c.self.inside.stamp c.self.inside.tables.items (history_at c.self.inside.seat).pairs (history_at c.self.inside.seat).entries c.self.inside.trace)
+    (desk_value c.desk.inside.number c.desk.inside.regs (known_in c.desk.inside.seat).pairs (known_in c.desk.inside.seat).served)
+    → IsAt g.N.Name.board (known_in c.desk.inside.seat) c.in-Some-take.seat
+    → end_of (book_value c.self.inside.pool c.self.inside.stamp c.self.inside.tables.items (history_at c.self.inside.seat).pairs (history_at c.self.inside.seat).entries c.self.inside.trace) ≡ None
+    → Turns g.N.Name.opened.arena.id g.N.Name.desks g.N.Name.first (book_value c.self.inside.pool c.self.inside.stamp c.self.inside.tables.items (history_at c.self.inside.seat).pairs (history_at c.self.inside.seat).entries c.self.inside.trace)
+    (desk_value c.desk.inside.number c.desk.inside.regs (known_in c.desk.inside.seat).pairs (known_in c.desk.inside.seat).served) c.args.line c.args.call.now
+    (book_value c.apply-reply.new.self (c.self.inside.stamp + 1) (set c.self.inside.tables.items c.from.result c.note.new.self) (history_at c.enter-seat.new.lock).pairs (history_at c.enter-seat.new.lock).entries c.keep.new.self)
+    (desk_value c.desk.inside.number c.apply-reply.new.regs (known_at c.enter-seat.result).pairs (known_at c.enter-seat.result).served) c.apply-reply.result
+    × Entered g.N.Name.board (pair_at g.N.Name.first g.N.Name.opened) (length g.N.Name.opened.arena.held) g.N.Name.desks (c.self.inside.stamp + 1) c.desk.inside.number (c.desk.inside.calls + 1) c.apply-reply.new.self
+    c.self.inside.tables.items (entries_of c.apply-reply.new.regs) (entry_of c.desk.inside.number c.args.line c.args.call.now c.apply-reply.result) (history_at c.self.inside.seat) (known_in c.desk.inside.seat) c.enter-seat.new.lock c.enter-seat.result
+left g c known at going =
     let h = history_at c.self.inside.seat in
     let d = known_in c.desk.inside.seat in
     let kept = c.self.invariant.2 in
-    let there = c.admit.ensures h d kept.here (seat_is seated) in
+    let joined = c.admit.ensures h d kept.here at in
     let whole = c.lawful.ensures.whole ∙ c.apply-reply.ensures.size ∙ c.self.invariant.1.sized in
-    let b : BookValue = book_value c.self.inside.pool c.self.inside.stamp c.self.inside.tables.items h.pairs in
-    let desk : DeskValue = desk_value c.desk.inside.number c.desk.inside.regs d.pairs in
+    let b : BookValue = book_value c.self.inside.pool c.self.inside.stamp c.self.inside.tables.items h.pairs h.entries c.self.inside.trace in
+    let desk : DeskValue = desk_value c.desk.inside.number c.desk.inside.regs d.pairs d.served in
     let here = within g.N.Name.opened.arena.id g.N.Name.desks g.N.Name.first b desk c.self.invariant.0 c.desk.invariant.0 in
     let noted : c.note.new.self ≡ entries_of c.apply-reply.new.regs =
     c.note.ensures desk.regs (sym (table_is b desk.number c.index_mut.result.now here (search rules)) ∙ known.table)
     (λ x past. others known c.apply-reply.ensures x (ap (λ (names : Names). rows.has x (registers_in names)) (sym c.names.ensures) ∙ past)) in
     let now =
-    entered kept seated there.1 c.apply-reply.new.self whole c.census-census.result c.census-census.ensures (entry_of c.desk.inside.number c.args.line c.args.call.now c.apply-reply.result)
-    (entries_of c.apply-reply.new.regs) c.enter-seat.new.lock c.enter-seat.result refl (c.enter-seat.ensures h d there.0) in (
-      turns known c.apply-reply.ensures c.from-number.result c.note.new.self (history_at c.enter-seat.new.lock).pairs (known_at c.enter-seat.result).pairs c.from-number.ensures noted
-          (omega (arith, c.if-self-eq-MOST_STAMP.false, c.self.invariant.0.unspent)) now.listed now.saw there.1.pairs (later kept seated there.1 c.apply-reply.new.self whole),
+    entered kept c.desk.invariant.2 joined.1 c.apply-reply.new.self whole c.census-census.result c.census-census.ensures (entry_of c.desk.inside.number c.args.line c.args.call.now c.apply-reply.result)
+    (entries_of c.apply-reply.new.regs) c.enter-seat.new.lock c.enter-seat.result refl (c.enter-seat.ensures h d joined.0) in (
+      turns known c.apply-reply.ensures c.args.line c.from.result c.note.new.self (history_at c.enter-seat.new.lock).pairs (known_at c.enter-seat.result).pairs (history_at c.enter-seat.new.lock).entries (known_at c.enter-seat.result).served c.keep.new.self c.from.ensures noted
+          going now.listed now.saw joined.1.pairs (later kept c.desk.invariant.2 joined.1 c.apply-reply.new.self whole) now.entered now.served c.keep.ensures.entries,
       now,
     )
 
 pub invariant_of-self : goal.invariant_of-self
 invariant_of-self g c =
     let at = goal.at.invariant_of-self g c in
-    let now = left g at.After-enter-seat (is_known g at.After-census-before) (is_seated g at.In-Some) in
+    let now = left g at.After-enter-seat (is_known g at.After-census-before) (there g at.After-census-before) (unended g at.After-census-before) in
     let before = ap (λ (census : Census). census.held) c.census-before.ensures in
     let after = ap (λ (census : Census). census.held) c.census-census.ensures in (
       now.0.book,
       record { some = c.self.invariant.1.some; counted = omega (arith, c.count_held.ensures.total, c.self.invariant.1.counted, before, after); sized = now.0.sized ∙ c.self.invariant.1.sized },
       now.1.kept _ now.0.served.tables,
+      told_next c.self.invariant.3 now.0.served c.desk.invariant.0.below,
+      subst (λ (es : List Entry). IsTraceOf g.N.Name.kept es c.keep.new.self) (sym now.1.entered)
+          (trace_next (history_at c.self.inside.seat).entries (entry_of c.desk.inside.number c.args.line c.args.call.now c.apply-reply.result) c.self.inside.trace c.keep.new.self g.N.Name.kept
+          c.self.invariant.4 (not_full g at.After-census-before) c.keep.ensures.most c.keep.ensures.entries),
     )
 
 pub invariant_of-desk : goal.invariant_of-desk
 invariant_of-desk g c =
     let at = goal.at.invariant_of-desk g c in
-    let now = left g at.After-enter-seat (is_known g at.After-census-before) (is_seated g at.In-Some) in
+    let now = left g at.After-enter-seat (is_known g at.After-census-before) (there g at.After-census-before) (unended g at.After-census-before) in
     let before = ap (λ (census : Census). census.held) c.census-before.ensures in
     let after = ap (λ (census : Census). census.held) c.census-census.ensures in (
       now.0.desk,
@@ -122,9 +133,9 @@ invariant_of-desk g c =
 pub returns : goal.returns
 returns g c =
     let at = goal.at.returns g c in
-    let now = left g at.After-enter-seat (is_known g at.After-census-before) (is_seated g at.In-Some) in
-    let d = desk_value c.desk.inside.number c.desk.inside.regs (known_in c.desk.inside.seat).pairs in
-    let b = book_value c.apply-reply.new.self (c.self.inside.stamp + 1) (set c.self.inside.tables.items c.from-number.result c.note.new.self) (history_at c.enter-seat.new.lock).pairs in
-    let e = desk_value c.desk.inside.number c.apply-reply.new.regs (known_at c.enter-seat.result).pairs in
-    subst (λ (x : DeskValue). IsServed c.args.self.now x c.args.call.now b e c.apply-reply.result) c.desk.view_is
-    (subst (λ (x : BookValue). IsServed x d c.args.call.now b e c.apply-reply.result) c.self.view_is now.0.served)
+    let now = left g at.After-enter-seat (is_known g at.After-census-before) (there g at.After-census-before) (unended g at.After-census-before) in
+    let d = desk_value c.desk.inside.number c.desk.inside.regs (known_in c.desk.inside.seat).pairs (known_in c.desk.inside.seat).served in
+    let b = book_value c.apply-reply.new.self (c.self.inside.stamp + 1) (set c.self.inside.tables.items c.from.result c.note.new.self) (history_at c.enter-seat.new.lock).pairs (history_at c.enter-seat.new.lock).entries c.keep.new.self in
+    let e = desk_value c.desk.inside.number c.apply-reply.new.regs (known_at c.enter-seat.result).pairs (known_at c.enter-seat.result).served in
+    subst (λ (x : DeskValue). IsServed c.args.self.now x c.args.line c.args.call.now b e c.apply-reply.result) c.desk.view_is
+    (subst (λ (x : BookValue). IsServed x d c.args.line c.args.call.now b e c.apply-reply.result) c.self.view_is now.0.served)

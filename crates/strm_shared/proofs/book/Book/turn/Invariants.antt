@@ -1,5 +1,5 @@
 use Rattle.strm_pool.specs.Registers.{entries_of}
-use Rattle.strm_shared.specs.SeatsLayout.{entry_of}
+use Rattle.strm_shared.specs.Chronicle.{entry_of}
 use Rattle.strm_shared.proofs.book.Book.turn.Given as goal
 
 abbrev pub ghosts-enter : goal.ghosts-enter

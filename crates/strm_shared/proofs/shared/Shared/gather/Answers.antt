@@ -1,13 +1,21 @@
-use Rattle.std.proofs.Common.{rules, ◌≡◌, ◌+◌, ◌≤◌, List, [], ◌∷◌, ◌∙◌, map, refl, sym, ap, subst, length}
-use Rattle.std.specs.Prelude.{All, Contains, IsPermutation}
-use Rattle.std.proofs.lemmas.List.Sorted.{All-permutation, sum_by-IsPermutation}
+use Rattle.std.proofs.Common.{rules, ◌≡◌, ℕ, ◌+◌, ◌≤◌, List, [], ◌∷◌, ◌∙◌, map, refl, sym, ap, subst, length, append-nil, arith, get_or}
+use Rattle.std.specs.Prelude.{All, IsPermutation}
+use Rattle.std.specs.List.Sorted.{IsNonDecreasingBy}
+use Rattle.std.proofs.lemmas.List.{length-map}
+use Rattle.std.proofs.lemmas.List.Sorted.{IsPermutation-map, length_permutation, sum_by-IsPermutation}
 use Rattle.std.proofs.lemmas.List.Sums.{sum_by-cons}
+use Rattle.strm_links.specs.Counting.{times}
+use Rattle.strm_pool.specs.Registers.{AreAccounted, Entries}
 use Rattle.strm_shared.specs.Desks.{DeskValue, shown}
 use Rattle.strm_shared.specs.Ledger.{blocks_at, blocks_held}
 use Rattle.strm_shared.specs.Pairs.{Pair, pair_at}
-use Rattle.strm_shared.specs.SeatsLayout.{history_at}
+use Rattle.strm_shared.specs.SeatsLayout.{IsMet, history_at}
+use Rattle.strm_shared.proofs.Gathering.{all_accounted, all_owned, number_at, sorted_shown}
+use Rattle.strm_shared.proofs.Telling.{told_at}
 use Rattle.strm_shared.proofs.seats.Books.{pairs_lawful}
+use Rattle.strm_shared.proofs.shared.Shared.gather.Given as given
 use Rattle.strm_shared.proofs.shared.Shared.gather.Goals as goal
+use Rattle.strm_shared.proofs.shared.Shared.gather.Goals.{After-meet}
 
 -- what desks have seen is no block that they hold
 blocks_at-shown : (p : Pair) (ds : List DeskValue) → blocks_at (map (shown p) ds) ≡ blocks_at ds
@@ -17,19 +25,51 @@ blocks_at-shown p (d ∷ ds) =
     ∙ ap (λ n. blocks_held d.regs + n) (blocks_at-shown p ds)
     ∙ sym (sum_by-cons (λ (x : DeskValue). blocks_held x.regs) d ds)
 
+-- each desk has met the lock's history, whose pool is that of the name
+met : (g : given.Over) (c : After-meet g) → All (IsMet c.pool.inside.pool.arena.id g.N.Name.desks g.N.Name.first (history_at c.pool.inside.seat)) c.meet.new.self
+met g c =
+    subst (λ id. All (IsMet id g.N.Name.desks g.N.Name.first (history_at c.pool.inside.seat)) c.meet.new.self) (sym c.pool.invariant.0.same)
+    (c.meet.ensures.met (history_at c.pool.inside.seat) [] c.pool.invariant.2.here)
+
+-- whose tables are the book's
+accounted : (g : given.Over) (c : After-meet g) → AreAccounted c.pool.inside.pool.arena (history_at c.pool.inside.seat).tables
+accounted g c = subst (AreAccounted c.pool.inside.pool.arena) (sym c.pool.invariant.2.tables) c.pool.invariant.0.accounted
+
+many : (g : given.Over) (c : After-meet g) → length (history_at c.pool.inside.seat).tables ≡ g.N.Name.desks
+many g c = ap length c.pool.invariant.2.tables ∙ c.pool.invariant.0.tables
+
+pub meet-requires : goal.meet-requires
+meet-requires g c = (
+  omega arith,
+  ((history_at c.pool.inside.seat, [], c.pool.invariant.2.here), omega (arith, length_permutation c.audit.new.self c.sort.new.self c.sort.ensures.same, ap length c.audit.ensures.same, c.len.ensures.few)),
+)
+
 pub returns-clause-shown : goal.returns-clause-shown
 returns-clause-shown g c =
     let b = c.pool.inside in
     let kept = c.pool.invariant.2 in
-    let ps = (history_at b.seat).pairs in
-    let last : c.meet.result ≡ pair_at b.stamp b.pool = sym (c.meet.ensures.guests (history_at b.seat) [] kept.here).last ∙ kept.last in
+    let h = history_at b.seat in
+    let there = c.meet.ensures.met h [] kept.here in
+    let last : c.meet.result ≡ pair_at b.stamp b.pool = sym (c.meet.ensures.guests h [] kept.here).last ∙ kept.last in
     record {
       stamp = b.stamp;
-      pairs = ps;
+      pairs = h.pairs;
+      entries = h.entries;
+      tables = b.tables.items;
+      told = c.pool.invariant.3;
+      counted = told_at c.pool.invariant.3;
+      kept = search rules;
       lawful = pairs_lawful kept;
-      same = subst (λ ds. IsPermutation ds c.sort.new.self) (c.meet.ensures.shown ∙ (λ i. map (shown (last i)) (c.audit.ensures.same i))) c.sort.ensures.same;
-      seen = All-permutation (λ (d : DeskValue). All (Contains ps) d.pairs) c.meet.new.self c.sort.new.self c.sort.ensures.same (c.meet.ensures.seen (history_at b.seat) [] kept.here);
+      same =
+          subst (IsPermutation (map (shown (pair_at b.stamp b.pool)) c.args.desks)) (sym (c.meet.ensures.shown ∙ ap (λ (p : Pair). map (shown p) c.sort.new.self) last))
+          (IsPermutation-map (shown (pair_at b.stamp b.pool)) c.args.desks c.sort.new.self (subst (λ (ds : List DeskValue). IsPermutation ds c.sort.new.self) c.audit.ensures.same c.sort.ensures.same));
+      seen = λ k d within. (there k d within).pairs;
+      served = λ k d within. (there k d within).served;
+      known = λ k d within. ap (λ (ts : List Entries). get_or ts (get_or c.meet.new.self k d).number []) (sym kept.tables) ∙ (there k d within).table;
     }
+
+pub returns-clause-sorted : goal.returns-clause-sorted
+returns-clause-sorted g c = subst (IsNonDecreasingBy (λ (d : DeskValue). d.number)) (sym c.meet.ensures.shown) (sorted_shown c.meet.result c.sort.new.self c.sort.ensures.sorted)
 
 pub returns-clause-all : goal.returns-clause-all
 returns-clause-all g c =
@@ -40,7 +80,42 @@ returns-clause-all g c =
           sym c.pool.invariant.1.counted
           ∙ c.audit.ensures.all enough
           ∙ ap blocks_at (sym c.audit.ensures.same)
-          ∙ sym (blocks_at-shown c.meet.result c.audit.new.self)
-          ∙ ap blocks_at (sym c.meet.ensures.shown)
-          ∙ sym (sum_by-IsPermutation (λ (d : DeskValue). blocks_held d.regs) c.meet.new.self c.sort.new.self c.sort.ensures.same);
+          ∙ sym (sum_by-IsPermutation (λ (d : DeskValue). blocks_held d.regs) c.audit.new.self c.sort.new.self c.sort.ensures.same)
+          ∙ sym (blocks_at-shown c.meet.result c.sort.new.self)
+          ∙ ap blocks_at (sym c.meet.ensures.shown);
     }
+
+pub returns-clause-owned : goal.returns-clause-owned
+returns-clause-owned g c =
+    let at = (goal.at.returns-clause-owned g c).After-meet in
+    all_owned g.N.Name.desks g.N.Name.first (history_at c.pool.inside.seat) c.pool.inside.pool c.meet.new.self (met g at) (accounted g at) (many g at)
+
+-- they are in the order of their numbers, of which none stands twice, and all came
+in_order : (g : given.Over) (c : After-meet g) → IsNonDecreasingBy (λ (d : DeskValue). d.number) c.meet.new.self
+in_order g c = subst (IsNonDecreasingBy (λ (d : DeskValue). d.number)) (sym c.meet.ensures.shown) (sorted_shown c.meet.result c.sort.new.self c.sort.ensures.sorted)
+
+once : (g : given.Over) (c : After-meet g) → (n : ℕ) → times n (map (λ (d : DeskValue). d.number) c.meet.new.self) ≤ 1
+once g c n =
+    subst (λ (ns : List ℕ). times n ns ≤ 1) (append-nil (map (λ (d : DeskValue). d.number) c.meet.new.self))
+    (c.meet.ensures.apart (history_at c.pool.inside.seat) [] c.pool.invariant.2.here n)
+
+all_came : (g : given.Over) (c : After-meet g) → length c.args.desks ≡ g.N.Name.desks → length c.meet.new.self ≡ g.N.Name.desks
+all_came g c enough =
+    ap length c.meet.ensures.shown
+    ∙ length-map c.sort.new.self (shown c.meet.result)
+    ∙ length_permutation c.audit.new.self c.sort.new.self c.sort.ensures.same
+    ∙ ap length c.audit.ensures.same
+    ∙ enough
+
+pub returns-clause-numbered : goal.returns-clause-numbered
+returns-clause-numbered g c =
+    let at = (goal.at.returns-clause-numbered g c).After-meet in
+    let enough : length c.args.desks ≡ g.N.Name.desks = search rules in
+    let all = all_came g at enough in
+    λ k within. number_at c.meet.new.self (in_order g at) (once g at) (λ j d inside. omega (arith, (met g at j d inside).desk.below, all)) k (omega (arith, within, all))
+
+pub returns-clause-accounted : goal.returns-clause-accounted
+returns-clause-accounted g c =
+    let at = (goal.at.returns-clause-accounted g c).After-meet in
+    let enough : length c.args.desks ≡ g.N.Name.desks = search rules in
+    all_accounted g.N.Name.desks g.N.Name.first (history_at c.pool.inside.seat) c.pool.inside.pool c.meet.new.self (met g at) (accounted g at) (many g at) (in_order g at) (once g at) (all_came g at enough)

@@ -1,19 +1,29 @@
-use Rattle.std.proofs.Common.{Result, Ok, Err}
+use Rattle.std.proofs.Common.{ℕ, Result, Ok, Err}
+use Rattle.std.specs.Prelude.{IfErr}
 use Rattle.strm_data.specs.declared.refusal.Refusal.{Refusal}
 use Rattle.strm_pool.specs.declared.call.Call.{Call}
 use Rattle.strm_pool.specs.declared.reply.Reply.{Reply}
-use Rattle.strm_shared.specs.Books.{Answers, BookValue, TellsNewest}
+use Rattle.strm_shared.specs.declared.name.Name.{Ghosts}
+use Rattle.strm_shared.specs.Books.{Answers, BookValue, IsAfter, MayRefuse, TellsNewest}
 use Rattle.strm_shared.specs.Desks.{DeskValue}
+use Rattle.strm_shared.proofs.Refusing.{may_refuse}
 use Rattle.strm_shared.proofs.Turning.{tells_newest}
 use Rattle.strm_shared.proofs.shared.Shared.serve.Goals as goal
 
-census : (b : BookValue) (d : DeskValue) (call : Call) (c : BookValue) (e : DeskValue) (r : Result Reply Refusal) → Answers b d call c e r → TellsNewest e r call
-census b d call c e (Ok reply) served = tells_newest b d call c e reply served
-census b d call c e (Err why) refused = tt
+census : (b : BookValue) (d : DeskValue) (line : ℕ) (call : Call) (c : BookValue) (e : DeskValue) (r : Result Reply Refusal) → Answers b d line call c e r → TellsNewest e r call
+census b d line call c e (Ok reply) served = tells_newest b d line call c e reply served
+census b d line call c e (Err why) refused = tt
+
+refusals : {N : Type 0} (n : Ghosts N) (d : DeskValue) (line : ℕ) (call : Call) (e : DeskValue) (r : Result Reply Refusal) → IsAfter n d line call e r → IfErr r (λ why. MayRefuse n.kept why)
+refusals n d line call e (Ok reply) after = tt
+refusals n d line call e (Err why) after = may_refuse n d line call e why after
 
 pub returns : goal.returns
 returns g c =
+    let after : IsAfter g.N.Name c.args.desk.now c.args.line c.args.call.now c.turn-answer.new.desk c.turn-answer.result =
+    (_, _, record { lawful = c.lawful.ensures.law; sized = c.lawful.ensures.sized }, record { lawful = c.lawful-2.ensures.law; sized = c.lawful-2.ensures.sized }, c.turn-answer.ensures) in
     record {
-      after = (_, _, record { lawful = c.lawful.ensures.law; sized = c.lawful.ensures.sized }, record { lawful = c.lawful-2.ensures.law; sized = c.lawful-2.ensures.sized }, c.turn-answer.ensures);
-      census = census _ _ _ _ _ _ c.turn-answer.ensures;
+      after = after;
+      census = census _ _ _ _ _ _ _ c.turn-answer.ensures;
+      refused = refusals g.N.Name c.args.desk.now c.args.line c.args.call.now c.turn-answer.new.desk c.turn-answer.result after;
     }

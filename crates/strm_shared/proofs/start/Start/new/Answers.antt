@@ -33,6 +33,7 @@ invariant_of-result c =
         told = c.in-Ok.ensures;
         accounted = subst (AreAccounted c.args.pool.arena) (sym c.in-Ok.ensures) (accounted_idle c.args.pool.arena c.args.setup.desks c.lawful.ensures.parted c.requires);
         idle = c.requires;
+        blank = search rules;
         shared = search rules;
       },
       record {

@@ -20,8 +20,8 @@ loop-i-preserved g c =
       room = search rules;
       served = subst (λ xs. AreServed g.N.Name lines c.args.self.desk xs left) (sym c.push_reserved.ensures.items)
           (served_more g.N.Name lines c.args.self.desk replies desk line reply left c.loop-i.invariant.served below
-          (subst (λ n. IsAfter g.N.Name desk (get_or lines n line).call left (Ok reply)) (sym c.loop-i.invariant.count) (subst (λ (x : Line). IsAfter g.N.Name desk x.call left (Ok reply)) (sym here) c.in-Ok.ensures.after)));
+          (subst (λ n. IsAfter g.N.Name desk (get_or lines n line).number (get_or lines n line).call left (Ok reply)) (sym c.loop-i.invariant.count) (subst (λ (x : Line). IsAfter g.N.Name desk x.number x.call left (Ok reply)) (sym here) c.in-Ok.ensures.after)));
     }
 
 pub returns-in-Err : goal.returns-in-Err
-returns-in-Err g c = (omega (arith, c.loop-i.invariant.count, c.loop-i-test.true), c.loop-i.desk, c.loop-i.invariant.served, c.index-lines-i.result.call, c.in-Err.ensures.after)
+returns-in-Err g c = (omega (arith, c.loop-i.invariant.count, c.loop-i-test.true), c.loop-i.desk, c.loop-i.invariant.served, c.index-lines-i.result, c.in-Err.ensures.after, c.in-Err.ensures.refused)

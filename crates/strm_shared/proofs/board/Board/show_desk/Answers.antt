@@ -1,7 +1,7 @@
 use Rattle.std.proofs.Common.{[], ◌∷◌}
 use Rattle.std.proofs.lemmas.List.Elements.{All-head}
 use Rattle.strm_shared.specs.Seats.{IsOf, with_pair}
-use Rattle.strm_shared.proofs.board.Board.look.Goals as goal
+use Rattle.strm_shared.proofs.board.Board.show_desk.Goals as goal
 
 pub join-requires-clause-lock : goal.join-requires-clause-lock
 join-requires-clause-lock g c = let l = c.requires.lock in (l.0, [], l.1)

@@ -1,0 +1,23 @@
+use Rattle.std.proofs.Common.{◌≡◌, false, List, ap, sym, ◌∙◌, ◌++◌}
+use Rattle.std.specs.List.{flat_map, list_any}
+use Rattle.std.proofs.lemmas.Result.{IfOk-weaker}
+use Rattle.strm_pool.specs.PoolValue.{opening}
+use Rattle.strm_shared.specs.declared.entry.Entry.{Entry}
+use Rattle.strm_script.specs.declared.script.Script.{Script}
+use Rattle.strm_script.specs.Text.{entry_text, report_text}
+use Rattle.strm_driver.specs.declared.run.Mode.TheVariants.{Workers}
+use Rattle.strm_driver.specs.Outcome.{IsTextOf}
+use Rattle.strm_driver.specs.Told.{is_not_started}
+use Rattle.strm_driver.proofs.Working.{text_of_workers}
+use Rattle.strm_driver.proofs.by_workers.text_of_outcome.Goals as goal
+
+pub returns : goal.returns
+returns g c =
+    IfOk-weaker c.text_of_trace-text.result
+    (λ text. (list_any is_not_started c.items.result.now ≡ false) × (text.items ≡ flat_map entry_text c.items-in-Ok.result.now ++ report_text c.in-Ok.field-0.pool))
+    (λ text. (script : Script) → script.parts ≡ c.args.parts.now → g.N.Name.opened ≡ opening script.config → IsTextOf Workers script text.items)
+    (λ text told script same opens.
+    text_of_workers g.N.Name c.args.parts.now _ c.args.outcome.ends c.args.outcome.replies c.args.outcome.desks c.in-Ok.field-0.pool c.in-Ok.field-0.trace c.in-Ok.field-0.desks c.requires.under c.requires.worked c.in-Ok.ensures.shown
+    (ap (list_any is_not_started) (sym c.items.ensures) ∙ told.0) script text.items same opens
+    (told.1 ∙ ap (λ (es : List Entry). flat_map entry_text es ++ report_text c.in-Ok.field-0.pool) c.items-in-Ok.ensures))
+    c.text_of_trace-text.ensures

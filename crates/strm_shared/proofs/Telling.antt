@@ -1,0 +1,116 @@
+-- What is told of served calls, from the first on: pool, tables and replies of a replay, and the chronicle.
+use Rattle.std.proofs.Common.{◌≡◌, ℕ, zero, suc, ◌+◌, ◌<◌, ◌≤◌, List, [], ◌∷◌, ◌++◌, Option, Some, None, length, map, replicate, get_or, take, refl, sym, ap, ◌∙◌, subst, arith}
+use Rattle.std.specs.Prelude.{All, slice_set}
+use Rattle.std.specs.List.{take-map}
+use Rattle.std.proofs.Math.ListN.{get_or-map}
+use Rattle.std.proofs.lemmas.List.{length-map, length_push, map_push, map-set}
+use Rattle.std.proofs.lemmas.List.Elements.{All-nil, All-push}
+use Rattle.strm_data.proofs.lists.Repeated.{map-replicate}
+use Rattle.strm_mblk.specs.declared.token.TokenValue.{TokenValue}
+use Rattle.strm_pool.specs.declared.call.Call.{Call}
+use Rattle.strm_pool.specs.declared.reply.Reply.{Reply}
+use Rattle.strm_pool.specs.Limits.{most_registers}
+use Rattle.strm_pool.specs.PoolValue.{PoolValue}
+use Rattle.strm_pool.specs.Registers.{Entries, RegisterTable, entries_of, table_of}
+use Rattle.strm_pool.specs.Step.{DeskCall, Replay, Stepped, empty_tables, replay, replay_from, step, table_at}
+use Rattle.strm_pool.proofs.Replays.{replay_more, replay_push}
+use Rattle.strm_shared.specs.declared.entry.Entry.{Entry}
+use Rattle.strm_shared.specs.Books.{BookValue, IsServed}
+use Rattle.strm_shared.specs.Chronicle.{AreTold, calls_of, chronicle_from, entry_of, heads_told}
+use Rattle.strm_shared.specs.Desks.{DeskValue}
+use Rattle.strm_shared.specs.Pairs.{Pair, no_pair, pair_at}
+
+-- the chronicle has one pair more, that of the pool once the last call is done
+chronicle_push : (v : PoolValue) (ts : List RegisterTable) (k : ℕ) (calls : List DeskCall) (last : DeskCall)
+    → chronicle_from v ts k (calls ++ last ∷ []) ≡ chronicle_from v ts k calls ++ pair_at (k + length calls + 1) (replay_more (replay_from v ts calls) last).pool ∷ []
+chronicle_push v ts k [] last =
+    let o : Stepped = step v (table_at ts last.desk) last.call in
+    let next : k + 1 ≡ k + 0 + 1 = omega arith in
+    ap (λ (n : ℕ). pair_at k v ∷ pair_at n o.pool ∷ []) next
+chronicle_push v ts k (first ∷ calls) last =
+    let o : Stepped = step v (table_at ts first.desk) first.call in
+    let us : List RegisterTable = slice_set ts first.desk o.table in
+    let next : k + 1 + length calls + 1 ≡ k + suc (length calls) + 1 = omega arith in
+    ap (λ (ps : List Pair). pair_at k v ∷ ps)
+    (chronicle_push o.pool us (k + 1) calls last
+    ∙ ap (λ (n : ℕ). chronicle_from o.pool us (k + 1) calls ++ pair_at n (replay_more (replay_from o.pool us calls) last).pool ∷ []) next)
+
+-- pair i is that of the pool after the first i calls
+chronicle_at : (v : PoolValue) (ts : List RegisterTable) (k : ℕ) (calls : List DeskCall) (i : ℕ) → i ≤ length calls → get_or (chronicle_from v ts k calls) i no_pair ≡ pair_at (k + i) (replay_from v ts (take i calls)).pool
+chronicle_at v ts k [] zero within = let here : k ≡ k + 0 = omega arith in ap (λ (n : ℕ). pair_at n v) here
+chronicle_at v ts k [] (suc i) within = absurd (omega (arith, within))
+chronicle_at v ts k (first ∷ calls) zero within = let here : k ≡ k + 0 = omega arith in ap (λ (n : ℕ). pair_at n v) here
+chronicle_at v ts k (first ∷ calls) (suc i) within =
+    let o : Stepped = step v (table_at ts first.desk) first.call in
+    let us : List RegisterTable = slice_set ts first.desk o.table in
+    let later : k + 1 + i ≡ k + suc i = omega arith in
+    chronicle_at o.pool us (k + 1) calls i (omega (arith, within)) ∙ ap (λ (n : ℕ). pair_at n (replay_from o.pool us (take i calls)).pool) later
+
+-- so the pair of a stamp is that of the pool after as many calls as the stamp is above the first
+pub told_at : {opened : PoolValue} {desks first stamp : ℕ} {es : List Entry} {v : PoolValue} {ts : List Entries} {ps : List Pair} → AreTold opened desks first stamp es v ts ps
+    → (k : ℕ) → k ≤ length es → get_or ps k no_pair ≡ pair_at (first + k) (replay opened desks (calls_of (take k es))).pool
+told_at {opened} {desks} {first} {stamp} {es} {v} {ts} {ps} told k within =
+    ap (λ (qs : List Pair). get_or qs k no_pair) told.listed
+    ∙ chronicle_at opened (empty_tables desks) first (calls_of es) k (omega (arith, within, length-map es (λ (x : Entry). let y : DeskCall = record { desk = x.desk; call = x.call } in y)))
+    ∙ ap (λ (cs : List DeskCall). pair_at (first + k) (replay opened desks cs).pool) (take-map (λ (x : Entry). let y : DeskCall = record { desk = x.desk; call = x.call } in y) k es)
+
+-- the heads that a desk's table tells of are those of its tokens
+heads_told-entries_of : (rs : List (Option TokenValue)) → heads_told (entries_of rs) ≡ table_of rs
+heads_told-entries_of [] = refl
+heads_told-entries_of (None ∷ rs) = ap (λ (t : RegisterTable). None ∷ t) (heads_told-entries_of rs)
+heads_told-entries_of (Some token ∷ rs) = ap (λ (t : RegisterTable). Some token.head ∷ t) (heads_told-entries_of rs)
+
+-- before the first call
+pub told_first : (v : PoolValue) (desks first : ℕ) → AreTold v desks first first [] v (replicate desks (replicate most_registers None)) (pair_at first v ∷ [])
+told_first v desks first = record {
+  replayed =
+      let new : map heads_told (replicate desks (replicate most_registers None)) ≡ empty_tables desks = map-replicate heads_told desks (replicate most_registers None) in
+      ap (λ (ts : List RegisterTable). let r : Replay = record { pool = v; tables = ts; replies = [] } in r) (sym new);
+  listed = refl;
+  stamped = omega arith;
+  below = All-nil (λ (x : Entry). x.desk < desks);
+}
+
+-- a call more
+module _ {opened : PoolValue} {desks first : ℕ} {b c : BookValue} {d e : DeskValue} {line : ℕ} {call : Call} {reply : Reply}
+    (told : AreTold opened desks first b.stamp b.entries b.pool b.tables b.pairs) (served : IsServed b d line call c e reply) (below : d.number < desks) where
+  known : table_at (map heads_told b.tables) d.number ≡ table_of d.regs
+  known = get_or-map heads_told b.tables d.number [] ∙ ap heads_told served.known ∙ heads_told-entries_of d.regs
+
+  tables : slice_set (map heads_told b.tables) d.number (table_of e.regs) ≡ map heads_told c.tables
+  tables =
+      ap (λ (t : RegisterTable). slice_set (map heads_told b.tables) d.number t) (sym (heads_told-entries_of e.regs))
+      ∙ sym (map-set heads_told b.tables d.number (entries_of e.regs))
+      ∙ ap (map heads_told) (sym served.tables)
+
+  -- the replay of all calls before, and of this one
+  more : replay_more (replay opened desks (calls_of b.entries)) (record { desk = d.number; call = call })
+      ≡ (let r : Replay = record { pool = c.pool; tables = map heads_told c.tables; replies = map (λ x. x.reply) c.entries } in r)
+  more =
+      ap (λ (r : Replay). replay_more r (record { desk = d.number; call = call })) told.replayed
+      ∙ ap
+      (λ (o : Stepped). let r : Replay = record { pool = o.pool; tables = slice_set (map heads_told b.tables) d.number o.table; replies = map (λ x. x.reply) b.entries ++ o.reply ∷ [] } in r)
+      (ap (λ (t : RegisterTable). step b.pool t call) known ∙ served.step)
+      ∙ (λ i. record {
+        pool = c.pool;
+        tables = tables i;
+        replies = (sym (map_push (λ (x : Entry). x.reply) b.entries (entry_of d.number line call reply)) ∙ ap (map (λ (x : Entry). x.reply)) (sym served.entered)) i;
+      })
+
+  calls : calls_of c.entries ≡ calls_of b.entries ++ record { desk = d.number; call = call } ∷ []
+  calls = ap calls_of served.entered ∙ map_push (λ (x : Entry). let y : DeskCall = record { desk = x.desk; call = x.call } in y) b.entries (entry_of d.number line call reply)
+
+  stamp : c.stamp ≡ first + length (calls_of b.entries) + 1
+  stamp = omega (arith, served.stamp, told.stamped, length-map b.entries (λ (x : Entry). let y : DeskCall = record { desk = x.desk; call = x.call } in y))
+
+  pub told_next : AreTold opened desks first c.stamp c.entries c.pool c.tables c.pairs
+  told_next = record {
+    replayed = ap (replay opened desks) calls ∙ replay_push opened (empty_tables desks) (calls_of b.entries) (record { desk = d.number; call = call }) ∙ more;
+    listed =
+        served.listed
+        ∙ (λ i. told.listed i ++ pair_at (stamp i) (sym more i).pool ∷ [])
+        ∙ sym (chronicle_push opened (empty_tables desks) first (calls_of b.entries) (record { desk = d.number; call = call }))
+        ∙ ap (chronicle_from opened (empty_tables desks) first) (sym calls);
+    stamped = omega (arith, served.stamp, told.stamped, ap length served.entered, length_push b.entries (entry_of d.number line call reply));
+    below = subst (All (λ (x : Entry). x.desk < desks)) (sym served.entered) (All-push (λ (x : Entry). x.desk < desks) b.entries (entry_of d.number line call reply) told.below below);
+  }
