@@ -12,6 +12,8 @@ import tempfile
 import time
 from contextlib import ExitStack
 
+from limits import MESSAGE_BLOCKS
+
 HERE = os.path.dirname(os.path.abspath(__file__))
 TOP = os.path.dirname(HERE)
 PAGE = os.path.join(TOP, "docs", "COST.md")
@@ -19,12 +21,14 @@ BEGIN, END = "<!-- census: begin -->\n", "<!-- census: end -->\n"
 # The programs' crates, with the libraries that they use. A tree that measures them gets them beside its own.
 CRATES = {
     "bench_start": ["arrayvec", "strm_pool", "strm_shared"],
-    "bench_serve": ["bench_start", "strm_pool", "strm_shared"],
+    "bench_serve": ["bench_start", "strm_shared"],
+    "bench_keep": ["bench_start", "strm_shared"],
     "bench_look": ["bench_start", "strm_pool", "strm_shared"],
 }
 # How many rounds of calls, and looks, one line asks for where instructions are counted, and where time is taken.
 COUNTED = 1_000
-ROUNDS, LOOKS = 50_000, 5_000_000
+# A trace has room for all rounds of 51 turns.
+ROUNDS, LOOKS = 10_000, 5_000_000
 CALLS_OF_ROUND = 2
 WORKERS = (4, 15)
 
@@ -103,7 +107,8 @@ def proved(tree, crate):
 def compiled(room):
     """Compiles the C program, and gives its path."""
     program = os.path.join(room, "plain")
-    subprocess.run([os.environ.get("CC", "cc"), "-O2", "-o", program, os.path.join(HERE, "census", "plain.c")], check=True)
+    words = [os.environ.get("CC", "cc"), "-O2", f"-DCOUNT_RANGE=UINT64_C({MESSAGE_BLOCKS + 1})", "-o", program]
+    subprocess.run([*words, os.path.join(HERE, "census", "plain.c")], check=True)
     return program
 
 
@@ -213,7 +218,7 @@ def main():
         sys.exit("valgrind is not there")
     now = tree_of_work(given.room)
     add_programs(now)
-    programs = {"now": proved(now, "bench_serve")}
+    programs = {"now": proved(now, "bench_serve"), "now, with a trace kept": proved(now, "bench_keep")}
     if given.before:
         then = tree_of_commit(given.room, given.before)
         add_programs(then)

@@ -1,5 +1,6 @@
 /* What `census_now` does, by hand: loads the word, unpacks it with the total, and keeps the stamp. For each line of standard
- * input it does so as often as the line says, and then writes a line, which begins with the stamp. */
+ * input it does so as often as the line says, and then writes a line, which begins with the stamp. Each count of a word lies below
+ * COUNT_RANGE, which the compiler's words give. */
 #include <inttypes.h>
 #include <stdatomic.h>
 #include <stdint.h>
@@ -24,9 +25,9 @@ __attribute__((noinline, noipa)) static struct census census_now(const struct sh
 {
     uint64_t word = atomic_load(&shared->word);
     struct census now = {
-        .stamp = word >> 24,
-        .free = word >> 12 & 4095,
-        .queued = word & 4095,
+        .stamp = word / COUNT_RANGE / COUNT_RANGE,
+        .free = word / COUNT_RANGE % COUNT_RANGE,
+        .queued = word % COUNT_RANGE,
     };
     now.held = shared->blocks - (now.free + now.queued);
     desk->seen = now.stamp;
@@ -35,7 +36,7 @@ __attribute__((noinline, noipa)) static struct census census_now(const struct sh
 
 int main(void)
 {
-    static struct shared shared = {.word = UINT64_C(64) << 12, .blocks = 64};
+    static struct shared shared = {.word = UINT64_C(64) * COUNT_RANGE, .blocks = 64};
     static struct desk desk;
     uint64_t looks;
     while (scanf("%" SCNu64, &looks) == 1) {

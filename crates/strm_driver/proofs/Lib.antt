@@ -1,6 +1,5 @@
 mod Faults
 mod Merges
-mod Merging
 mod Texts
 mod Totals
 mod Working

@@ -31,7 +31,7 @@ use Rattle.strm_driver.specs.declared.run.Mode.TheVariants.{Workers}
 use Rattle.strm_driver.specs.Outcome.{IsMergedText, IsTextOf}
 use Rattle.strm_driver.specs.Told.{is_not_started}
 use Rattle.strm_driver.specs.Working.{IsServedUnder}
-use Rattle.strm_driver.proofs.Merging.{IsMerge-merge_of, entries_for, length-entries_for, line_of, lines_of-entries_for, served_from-entries}
+use Rattle.strm_driver.proofs.Merges.{IsMerge-merge_of, entries_for, length-entries_for, line_of, lines_of-entries_for, served_from-entries}
 use Rattle.strm_driver.proofs.Texts.{one_text, text_from-merge_of}
 use Rattle.strm_driver.proofs.Totals.{fewer_entries}
 

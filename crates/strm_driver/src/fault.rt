@@ -19,7 +19,7 @@ pub enum TextFault {
     /// There is not enough memory.
     #[error("memory")]
     Memory,
-    /// A worker's call was refused.
+    /// Never told: a worker's call was refused.
     #[error("refused {number} {name}", number = .0.number(), name = .0.name())]
     Refused(Refusal),
 }
@@ -45,7 +45,7 @@ pub enum RunFault {
     /// There is not enough memory.
     #[error("memory")]
     Memory,
-    /// A worker's call was refused.
+    /// Never told: a worker's call was refused.
     #[error("refused {number} {name}", number = .0.number(), name = .0.name())]
     Refused(Refusal),
 }

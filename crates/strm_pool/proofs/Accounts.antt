@@ -15,7 +15,7 @@ use Rattle.strm_mblk.specs.Arena.{Arena, IsParted, census_of, has, held_at, is_o
 use Rattle.strm_mblk.proofs.arena.Counts.{count_adds, flat_map-set_adds, length_adds}
 use Rattle.strm_pool.specs.Limits.{most_registers}
 use Rattle.strm_pool.specs.PoolValue.{PoolValue, owns}
-use Rattle.strm_pool.specs.Registers.{Entries, entry_of, entries_of, tells, times_told, AreAccounted, AreDistinct, CarryId, table_of, register}
+use Rattle.strm_pool.specs.Registers.{Entries, entry_of, entries_of, tells, times_told, AreAccounted, AreDistinct, CarryId, TellOfHeld, table_of, register}
 
 -- 1 where a message of n blocks is held at h, else 0
 abbrev pub stands : Arena → ℕ → ℕ → ℕ
@@ -153,6 +153,16 @@ owns_from w (r ∷ rs) each = and_from _ _ (here r (λ t is. each 0 t is)) (owns
     here None each = refl
     here (Some t) each = each t refl
 
+-- where each carries its id, and each register that holds one tells of a held message
+pub owned_told : (v : PoolValue) (rs : List (Option TokenValue)) → CarryId v.arena.id rs → TellOfHeld v.arena (entries_of rs) → owns v rs ≡ true
+owned_told v rs carry told = owns_from v rs (λ x t there. and_from _ _ (eq-eqb t.pool v.arena.id (carried x t there)) (held x t there))
+  where
+    carried : (x : ℕ) (t : TokenValue) → register rs x ≡ Some t → t.pool ≡ v.arena.id
+    carried x t there = subst (λ (o : Option TokenValue). IfSome o (λ u. u.pool ≡ v.arena.id)) there (carry x)
+
+    held : (x : ℕ) (t : TokenValue) → register rs x ≡ Some t → is_of_length t.blocks (held_at v.arena t.head) ≡ true
+    held x t there = subst (λ (o : Option (ℕ × ℕ)). IfSome o (λ e. is_of_length e.1 (held_at v.arena e.0) ≡ true)) (entries-at rs x ∙ ap (option_map entry_of) there) (told x)
+
 -- each entry of these registers tells of a held message, and no two of the same
 abbrev AreHeld : Arena → List (Option TokenValue) → Type 0
 AreHeld a rs = (h n : ℕ) → count_by (tells h n) (entries_of rs) ≤ stands a h n
@@ -225,22 +235,22 @@ module _ (v : PoolValue) (rs : List (Option TokenValue)) (desks : List Entries) 
   pub accounted_distinct : AreDistinct (table_of rs)
   accounted_distinct = distinct_held v.arena rs (held_accounted v.arena rs desks desk within is accounted)
 
-  -- and the pool owns the desk's registers, where each token in them carries its id
-  pub accounted_owned : CarryId v.arena.id rs → owns v rs ≡ true
-  accounted_owned carry = owns_from v rs (λ x t there. and_from _ _ (eq-eqb t.pool v.arena.id (carried x t there)) (told x t there))
+  -- and each that holds a token tells of a held message
+  told_held : TellOfHeld v.arena (entries_of rs)
+  told_held x = each (register (entries_of rs) x) refl
     where
-      carried : (x : ℕ) (t : TokenValue) → register rs x ≡ Some t → t.pool ≡ v.arena.id
-      carried x t there = subst (λ (o : Option TokenValue). IfSome o (λ u. u.pool ≡ v.arena.id)) there (carry x)
-
-      told : (x : ℕ) (t : TokenValue) → register rs x ≡ Some t → is_of_length t.blocks (held_at v.arena t.head) ≡ true
-      told x t there =
-          let tells_it : tells t.head t.blocks (register (entries_of rs) x) ≡ true =
-          ap (tells t.head t.blocks) (entries-at rs x ∙ ap (option_map entry_of) there) ∙ and_from _ _ (eq-eqb t.head t.head refl) (eq-eqb t.blocks t.blocks refl) in
-          held_length v.arena t.head t.blocks (omega (
+      each : (o : Option (ℕ × ℕ)) → register (entries_of rs) x ≡ o → IfSome o (λ e. is_of_length e.1 (held_at v.arena e.0) ≡ true)
+      each None there = tt
+      each (Some e) there =
+          held_length v.arena e.0 e.1 (omega (
             arith,
-            held_accounted v.arena rs desks desk within is accounted t.head t.blocks,
-            one_passes (tells t.head t.blocks) None refl (entries_of rs) x tells_it,
+            held_accounted v.arena rs desks desk within is accounted e.0 e.1,
+            one_passes (tells e.0 e.1) None refl (entries_of rs) x (ap (tells e.0 e.1) there ∙ and_from _ _ (eq-eqb e.0 e.0 refl) (eq-eqb e.1 e.1 refl)),
           ))
+
+  -- so the pool owns the desk's registers, where each token in them carries its id
+  pub accounted_owned : CarryId v.arena.id rs → owns v rs ≡ true
+  accounted_owned carry = owned_told v rs carry told_held
 
 -- the tokens of registers that a pool owns carry its id
 pub owned_carry : (v : PoolValue) (rs : List (Option TokenValue)) → owns v rs ≡ true → CarryId v.arena.id rs

@@ -1,5 +1,5 @@
 -- Registers by their places in the alphabet, what they hold, and the tables that tell it.
-use Rattle.std.specs.Prelude.{◌≡◌, ℕ, Bool, false, ◌&&◌, ◌==◌, List, Option, None, Some, IfSome, map, count_by, slice_index_or, if◌then◌else◌}
+use Rattle.std.specs.Prelude.{◌≡◌, ℕ, Bool, true, false, ◌&&◌, ◌==◌, List, Option, None, Some, IfSome, map, count_by, slice_index_or, if◌then◌else◌}
 use Rattle.std.specs.List.{flat_map}
 use Rattle.std.specs.Option.{option_map}
 use Rattle.strm_mblk.specs.declared.token.TokenValue.{TokenValue}
@@ -41,6 +41,10 @@ entries_of rs = map (option_map entry_of) rs
 abbrev pub tells : ℕ → ℕ → Option (ℕ × ℕ) → Bool
 tells h n None = false
 tells h n (Some e) = e.0 == h && e.1 == n
+
+-- each of these registers that tells of a message tells of a held one, with its number of blocks
+abbrev pub TellOfHeld : Arena → Entries → Type 0
+TellOfHeld a es = (x : ℕ) → IfSome (register es x) (λ e. is_of_length e.1 (held_at a e.0) ≡ true)
 
 -- in how many registers of these desks that stands
 abbrev pub times_told : ℕ → ℕ → List Entries → ℕ

@@ -1,11 +1,12 @@
 //! The pool: messages held as tokens or put on queues.
-ghost use Rattle.std.specs.Prelude.{◌≡◌, ℕ, true, IfOk, None, slice_get};
+ghost use Rattle.std.specs.Prelude.{◌≡◌, ℕ, true, IfOk, IsTrue, None, slice_get};
 ghost use Rattle.std.specs.Option.{option_map_or};
 ghost use Rattle.strm_data.specs.DataStore.{class_infos};
 ghost use Rattle.strm_mblk.specs.Arena.{census_of, has};
 ghost use Rattle.strm_pool.specs.Config.{fault_of};
 ghost use Rattle.strm_pool.specs.Lawful.{IsLawful};
 ghost use Rattle.strm_pool.specs.PoolValue.{Opens, has_queue, opening, owns};
+ghost use Rattle.strm_pool.specs.Registers.{CarryId, TellOfHeld, entries_of};
 ghost use Rattle.strm_queue.specs.QueuedBlocks.{Agrees};
 
 mod blocks;
@@ -125,6 +126,14 @@ impl Pool {
         ensures { result ≡ owns self.now regs.now }
     {
         regs.slots().iter().all(|slot| self.has_any(slot.token()))
+    }
+
+    /// The law of registers that a pool owns: whose tokens carry its id, and of which each that holds one tells of a held message,
+    /// with its number of blocks. Does nothing.
+    pub fn lawful_regs(&self, regs: &Regs)
+        ensures { CarryId self.now.arena.id regs.now → TellOfHeld self.now.arena (entries_of regs.now) → IsTrue (owns self.now regs.now) }
+    {
+        let _ = regs;
     }
 
     /// Whether there is a queue of this number.

@@ -15,6 +15,7 @@ use Rattle.strm_mblk.specs.Given.{answer_of}
 use Rattle.strm_queue.specs.declared.band_info.BandInfo.{BandInfo}
 use Rattle.strm_queue.specs.declared.queue_info.QueueInfo.{QueueInfo}
 use Rattle.strm_queue.specs.Flow.{every_band}
+use Rattle.strm_queue.specs.Limits.{bands}
 use Rattle.strm_queue.specs.QueueCalls.{band_info, band_info_of, has_queue, info_of, queue_info}
 use Rattle.strm_queue.specs.QueuedBlocks.{QueuedBlocks}
 use Rattle.strm_script.specs.Piece.{Begins}
@@ -100,7 +101,7 @@ unfolding downwards
 downwards_more n = ap reverse (range_with_len_more 0 n n (zero-add n)) ∙ reverse-append (range_with_len 0 n) (n ∷ [])
 
 -- at first all bands are left
-pub bands-start : (line : ℕ → List ℕ) (start : List ℕ) → IsPartly start start (flat_map line (downwards 256)) (flat_map line (reverse every_band))
+pub bands-start : (line : ℕ → List ℕ) (start : List ℕ) → IsPartly start start (flat_map line (downwards bands)) (flat_map line (reverse every_band))
 unfolding downwards every_band
 bands-start line start = (take_all (length start) start (omega arith), refl)
 

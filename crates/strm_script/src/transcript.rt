@@ -8,30 +8,30 @@ use std::alloc::AllocError;
 use strm_pool::{BlockInfo, Census, Reply};
 
 // How many bytes a worker, a colon and a line have at most.
-const MOST_PLACE: usize = 14;
+const MOST_LABEL: usize = 14;
 
 // The digits of base 16.
 const DIGITS: [u8; 16] = *b"0123456789abcdef";
 
-// A worker, and a line of the script.
+// What a line of text begins with: a worker, and a line of the script.
 #[derive(Clone, Copy)]
-struct Place {
+struct Label {
     worker: u8,
     line: u32,
 }
 
-impl Piece for Place {
+impl Piece for Label {
     ghost use Rattle.std.specs.Prelude.{codes, decimal};
 
-    ghost bytes = { λ place. decimal place.worker ++ (codes ":" ++ decimal place.line) };
+    ghost bytes = { λ label. decimal label.worker ++ (codes ":" ++ decimal label.line) };
 
     #[inline(always)]
     fn append(self, text: &mut Vec<u8>) -> Result<(), AllocError> {
-        let mut place = [0; MOST_PLACE];
-        let colon = write_digits(u64::from(self.line), &mut place, MOST_PLACE) - 1;
-        place[colon] = b':';
-        let start = write_digits(u64::from(self.worker), &mut place, colon);
-        text.extend_from_slice(&place[start..])
+        let mut label = [0; MOST_LABEL];
+        let colon = write_digits(u64::from(self.line), &mut label, MOST_LABEL) - 1;
+        label[colon] = b':';
+        let start = write_digits(u64::from(self.worker), &mut label, colon);
+        text.extend_from_slice(&label[start..])
     }
 }
 
@@ -124,7 +124,7 @@ pub fn reply_text(
     ensures ok { OnOk result (text.new.items ≡ text.old.items ++ reply_line worker line reply.now) }
     ensures refused { OnErr result (text.new.items ≡ text.old.items) }
 {
-    append_whole(text, (Place { worker, line }, reply))
+    append_whole(text, (Label { worker, line }, reply))
 }
 
 #[cfg(test)]

@@ -1,6 +1,5 @@
 mod Constants
 mod Listing
-mod Noting
 pub mod Opening
 pub mod Refusing
 mod Weighing

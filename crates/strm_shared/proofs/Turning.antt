@@ -2,7 +2,6 @@
 use Rattle.std.proofs.Common.{◌≡◌, ℕ, ◌+◌, ◌<◌, ◌≤◌, Bool, true, false, List, [], ◌∷◌, ◌++◌, length, set, get_or, Option, Some, None, Ok, refl, sym, ap, ◌∙◌, subst, arith, if◌then◌else◌, length-set}
 use Rattle.std.specs.Prelude.{All, Contains, option_map, ◌==◌}
 use Rattle.std.proofs.lemmas.Bool.{eqb-false}
-use Rattle.std.proofs.lemmas.List.{get_or_default}
 use Rattle.std.proofs.lemmas.Option.{none-some}
 use Rattle.strm_data.specs.declared.refusal.Refusal.TheVariants.{TraceFull, Worn}
 use Rattle.strm_mblk.specs.declared.token.TokenValue.{TokenValue}
@@ -35,10 +34,6 @@ end_none false false none = (refl, refl)
 pub unended_stamp : (b : BookValue) → end_of b ≡ None → b.stamp ≤ most_stamp → b.stamp < most_stamp
 unended_stamp b unended unspent = let other = eqb-false b.stamp most_stamp (end_none (b.stamp == most_stamp) (is_full b.trace) unended).0 in omega (arith, unspent, other)
 
--- the table that is looked at is that of the desk
-pub table_is : (b : BookValue) (n : ℕ) (t : Entries) → n < length b.tables → t ≡ get_or b.tables n t → table_at b n ≡ t
-table_is b n t within is = get_or_default b.tables n [] t within ∙ sym is
-
 -- the book knows what the desk's registers tell
 pub record IsKnown (id desks first : ℕ) (b : BookValue) (d : DeskValue) : Type 0 where
   pub book : IsBookOf id desks first b
@@ -54,13 +49,9 @@ pub record Turns (id desks first : ℕ) (b : BookValue) (d : DeskValue) (line : 
   pub moved : (census_of c.pool.arena).held + blocks_held d.regs ≡ (census_of b.pool.arena).held + blocks_held e.regs
   pub sized : length c.pool.arena.held ≡ length b.pool.arena.held
 
-module _ (id desks first : ℕ) (b : BookValue) (d : DeskValue) where
-  pub within : IsBookOf id desks first b → IsDeskOf id desks d → d.number < length b.tables
-  within book desk = omega (arith, desk.below, book.tables)
-
 module _ {id desks first : ℕ} {b : BookValue} {d : DeskValue} (known : IsKnown id desks first b d) where
   inside : d.number < length b.tables
-  inside = within id desks first b d known.book known.desk
+  inside = omega (arith, known.desk.below, known.book.tables)
 
   -- no message is held by two of its registers, and the pool owns them
   distinct : AreDistinct (table_of d.regs)
@@ -82,20 +73,19 @@ module _ {id desks first : ℕ} {b : BookValue} {d : DeskValue} (known : IsKnown
         held_moves b.pool.arena w.arena b.tables d.number (entries_of d.regs) (entries_of rs) inside known.table known.book.accounted
         (applies.accounted b.tables d.number inside known.table known.book.accounted)
 
-    -- once the book has noted what the registers tell now
-    pub turns : (line n : ℕ) (t : Entries) (ps qs : List Pair) (es : List Entry) (ss : List (ℕ × Entry)) (trace : TraceValue) → n ≡ d.number → t ≡ entries_of rs → end_of b ≡ None
+    -- once the book knows what the registers tell now
+    pub turns : (line : ℕ) (ts : List Entries) (ps qs : List Pair) (es : List Entry) (ss : List (ℕ × Entry)) (trace : TraceValue) → ts ≡ set b.tables d.number (entries_of rs) → end_of b ≡ None
         → ps ≡ b.pairs ++ pair_at (b.stamp + 1) w ∷ [] → qs ≡ d.pairs ++ pair_at (b.stamp + 1) w ∷ [] → All (Contains b.pairs) d.pairs → All (λ p. p.0 < b.stamp + 1) d.pairs
         → es ≡ b.entries ++ entry_of d.number line call reply ∷ [] → ss ≡ d.served ++ (b.stamp + 1, entry_of d.number line call reply) ∷ []
         → trace.entries ≡ b.trace.entries ++ entries_kept b.trace.most (entry_of d.number line call reply ∷ [])
-        → Turns id desks first b d line call (book_value w (b.stamp + 1) (set b.tables n t) ps es trace) (desk_value d.number rs qs ss) reply
-    turns line n t ps qs es ss trace same noted unended listed seen had later entered served traced =
-        let tables : set b.tables n t ≡ set b.tables d.number (entries_of rs) = ap (λ k. set b.tables k t) same ∙ ap (set b.tables d.number) noted in
+        → Turns id desks first b d line call (book_value w (b.stamp + 1) ts ps es trace) (desk_value d.number rs qs ss) reply
+    turns line ts ps qs es ss trace tables unended listed seen had later entered served traced =
         record {
           book = record {
             same = applies.same ∙ known.book.same;
             begun = omega (arith, known.book.begun);
             unspent = let below = unended_stamp b unended known.book.unspent in omega (arith, below);
-            tables = length-set b.tables n t ∙ known.book.tables;
+            tables = ap length tables ∙ length-set b.tables d.number (entries_of rs) ∙ known.book.tables;
             accounted = subst (AreAccounted w.arena) (sym tables) (applies.accounted b.tables d.number inside known.table known.book.accounted);
           };
           desk = record {

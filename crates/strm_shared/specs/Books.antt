@@ -1,5 +1,5 @@
 -- The book behind the lock of a shared pool, and what a call does to it.
-use Rattle.std.specs.Prelude.{◌≡◌, ℕ, ◌+◌, ◌<◌, ◌≤◌, false, List, [], ◌∷◌, ◌++◌, length, All, Contains, IsPermutation, IsSome, map, Option, None, Some, Result, Ok, Err, slice_index_or, slice_set, take, ◌==◌, if◌then◌else◌}
+use Rattle.std.specs.Prelude.{◌≡◌, ℕ, ◌+◌, ◌<◌, ◌≤◌, false, List, [], ◌∷◌, ◌++◌, length, All, Contains, IsPermutation, map, Option, None, Some, Result, Ok, Err, slice_index_or, slice_set, take, ◌==◌, if◌then◌else◌}
 use Rattle.strm_data.specs.declared.refusal.Refusal.{Refusal}
 use Rattle.strm_data.specs.declared.refusal.Refusal.TheVariants.{TraceFull, Worn}
 use Rattle.strm_pool.specs.declared.call.Call.{Call}
@@ -108,11 +108,12 @@ IsWholeUnder n p = count_in p.1 ≡ length n.opened.arena.held
 abbrev pub IsAfter : {N : Type 0} → Ghosts N → DeskValue → ℕ → Call → DeskValue → Result Reply Refusal → Type 0
 IsAfter n d line call e r = (b : BookValue) × (c : BookValue) × IsBookUnder n b × IsBookUnder n c × Answers b d line call c e r
 
--- so a call may be refused, where a trace of at most so many entries is kept, or none
-abbrev pub MayRefuse : Option ℕ → Refusal → Type 0
-MayRefuse kept Worn = Unit {0}
-MayRefuse kept TraceFull = IsSome kept
-MayRefuse kept other = ⊥
+-- at this stamp no call is served any more, for this reason: it is the last, or as many calls were served as entries are kept, where
+-- any are; there is no other
+abbrev pub IsEnd : {N : Type 0} → Ghosts N → Refusal → ℕ → Type 0
+IsEnd n Worn stamp = stamp ≡ most_stamp
+IsEnd n TraceFull stamp = (most : ℕ) × (n.kept ≡ Some most) × (stamp ≡ n.first + most)
+IsEnd n other stamp = ⊥
 
 -- what a desk is told by `census` is the census of the pair that it saw last
 abbrev pub TellsNewest : DeskValue → Result Reply Refusal → Call → Type 0

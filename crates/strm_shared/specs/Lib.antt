@@ -5,13 +5,12 @@ pub mod Traces
 pub mod TracesLayout
 pub mod Words
 pub mod Seats
-pub mod SeatsLayout
 pub mod Desks
 pub mod DesksLayout
 pub mod Ledger
 pub mod LedgerLayout
 pub mod Books
-pub mod BooksLayout
+pub mod SeatsLayout
 pub mod Starts
 pub mod StartsLayout
 pub mod Runs

@@ -5,8 +5,8 @@ use Rattle.strm_shared.specs.declared.line.Line.{Line}
 use Rattle.strm_shared.specs.declared.name.Name.{Ghosts}
 use Rattle.strm_shared.specs.declared.outcome.End.{End}
 use Rattle.strm_shared.specs.declared.outcome.End.TheVariants.{Done, Refused, NotStarted}
-use Rattle.strm_shared.specs.Books.{IsAfter, MayRefuse}
-use Rattle.strm_shared.specs.Desks.{DeskValue, no_desk}
+use Rattle.strm_shared.specs.Books.{IsAfter, IsEnd}
+use Rattle.strm_shared.specs.Desks.{DeskValue, no_desk, stamp_seen}
 
 -- the replies are those to the first lines, one for each, in order, served on this desk one after another
 abbrev pub AreServed : {N : Type 0} → Ghosts N → List Line → DeskValue → List Reply → DeskValue → Type 0
@@ -14,10 +14,10 @@ AreServed n lines d [] e = e ≡ d
 AreServed n [] d (reply ∷ replies) e = ⊥
 AreServed n (line ∷ lines) d (reply ∷ replies) e = (m : DeskValue) × IsAfter n d line.number line.call m (Ok reply) × AreServed n lines m replies e
 
--- all lines were served, or those before one whose call was refused so, or the worker has not started
+-- all lines were served, or those before one whose call was refused so, as the desk has seen, or the worker has not started
 abbrev pub Worked : {N : Type 0} → Ghosts N → List Line → DeskValue → End → List Reply → DeskValue → Type 0
 Worked n lines d Done replies e = (length replies ≡ length lines) × AreServed n lines d replies e
-Worked n lines d (Refused why) replies e = (length replies < length lines) × (m : DeskValue) × AreServed n lines d replies m × (line : Line) × IsAfter n m line.number line.call e (Err why) × MayRefuse n.kept why
+Worked n lines d (Refused why) replies e = (length replies < length lines) × (m : DeskValue) × AreServed n lines d replies m × (line : Line) × IsAfter n m line.number line.call e (Err why) × IsEnd n why (stamp_seen e)
 Worked n lines d NotStarted replies e = (replies ≡ []) × (e ≡ d)
 
 -- So did each worker at the shared pool of this name, by its place: with its lines, its desk before, its end, its replies and

@@ -5,6 +5,7 @@ use Rattle.atomic_table.specs.Seated.{TableId}
 use Rattle.strm_pool.specs.PoolValue.{PoolValue}
 use Rattle.strm_links.specs.Counting.{times}
 use Rattle.strm_pool.specs.Registers.{Entries, entries_of}
+use Rattle.strm_shared.specs.Books.{BookValue, book_value}
 use Rattle.strm_shared.specs.Chronicle.{served_from}
 use Rattle.strm_shared.specs.Desks.{DeskValue, IsDeskOf}
 use Rattle.strm_shared.specs.declared.views.History.{History}
@@ -13,6 +14,7 @@ use Rattle.strm_shared.specs.declared.views.View.{View}
 use Rattle.strm_shared.specs.declared.views.View.TheVariants.{Lock, At}
 use Rattle.strm_shared.specs.Pairs.{Pair, count_in, last_pair, pair_at}
 use Rattle.strm_shared.specs.Seats.{IsHistory, IsOf, Shows, with_pair}
+use Rattle.strm_shared.specs.Traces.{TraceValue}
 
 -- ---- what a seat knows
 
@@ -89,14 +91,17 @@ pub record IsSeated (z : TableId) (o : Pair) (blocks n stamp calls : ℕ) (t : E
   pub seen : (last_pair d.pairs).0 ≡ stamp
   pub shows : Shows o (last_pair d.pairs) (At d)
 
+-- the book whose seat has this history, with this pool, stamp and trace
+abbrev pub book_with : History → PoolValue → ℕ → TraceValue → BookValue
+book_with h v n t = book_value v n h.tables h.pairs h.entries t
+
 -- The lock's seat of a table that was opened with this pair, as a book has it of so many desks: with no guest, and with a history
--- that ends with the pair of the book's pool and has the book's tables.
-pub record IsKeptBy (z : TableId) (o : Pair) (n stamp : ℕ) (v : PoolValue) (ts : List Entries) (h : History) (s : Seat (Unit {0}) View) : Type 0 where
+-- that ends with the pair of the book's pool.
+pub record IsKeptBy (z : TableId) (o : Pair) (n stamp : ℕ) (v : PoolValue) (h : History) (s : Seat (Unit {0}) View) : Type 0 where
   pub here : IsLock z h [] s
   pub lawful : IsHistory o h
   pub last : last_pair h.pairs ≡ pair_at stamp v
   pub desks : h.desks ≡ n
-  pub tables : h.tables ≡ ts
 
 -- ---- a served call
 

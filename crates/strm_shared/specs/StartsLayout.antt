@@ -1,25 +1,21 @@
 -- How a pool that is to be shared lies in memory. No public clause cites this module.
-use Rattle.std.specs.Prelude.{◌≡◌, ℕ, ◌≤◌, List, [], replicate}
+use Rattle.std.specs.Prelude.{◌≡◌, ℕ, ◌≤◌, []}
 use Rattle.atomic_table.specs.declared.shared.Seat.{Seat}
 use Rattle.atomic_table.specs.Seated.{TableId}
 use Rattle.strm_mblk.specs.Arena.{census_of}
 use Rattle.strm_pool.specs.PoolValue.{PoolValue}
-use Rattle.strm_pool.specs.Registers.{AreAccounted, Entries}
 use Rattle.strm_shared.specs.declared.views.View.{View}
 use Rattle.strm_shared.specs.Limits.{most_stamp, most_workers}
-use Rattle.strm_shared.specs.Seats.{no_entries, opening_history}
+use Rattle.strm_shared.specs.Seats.{opening_history}
 use Rattle.strm_shared.specs.SeatsLayout.{IsLock}
 use Rattle.strm_shared.specs.Pairs.{Pair}
 use Rattle.strm_shared.specs.Traces.{TraceValue}
 
--- there is a table for each desk, and they tell of nothing, since nothing is held; the trace has no entry; the ledger is in as many
--- parts
-pub record IsReady (v : PoolValue) (desks first : ℕ) (tables : List Entries) (trace : TraceValue) (parts : ℕ) : Type 0 where
+-- there are not too few desks, nor too many; nothing is held; the trace has no entry; the ledger is in as many parts as there are desks
+pub record IsReady (v : PoolValue) (desks first : ℕ) (trace : TraceValue) (parts : ℕ) : Type 0 where
   pub some : 1 ≤ desks
   pub few : desks ≤ most_workers
   pub unspent : first ≤ most_stamp
-  pub told : tables ≡ replicate desks no_entries
-  pub accounted : AreAccounted v.arena tables
   pub idle : (census_of v.arena).held ≡ 0
   pub blank : trace.entries ≡ []
   pub shared : parts ≡ desks

@@ -3,17 +3,17 @@ use Rattle.std.specs.Prelude.{ℕ, ◌+◌, ◌-◌, ◌*◌, ◌/◌, ◌%◌}
 use Rattle.strm_mblk.specs.Limits.{most_message_blocks}
 use Rattle.strm_shared.specs.Pairs.{Pair}
 
--- each count of a word lies below this number: 2^12
+-- each count of a word lies below this number
 abbrev pub count_range : ℕ
 count_range = most_message_blocks + 1
 
--- stamp * 2^24 + free * 2^12 + queued
+-- the stamp, then what is free, then what is queued, as three digits of this base
 abbrev pub word_of : Pair → ℕ
-word_of p = p.0 * (count_range * count_range) + (p.1.free * count_range + p.1.queued)
+word_of p = (p.0 * count_range + p.1.free) * count_range + p.1.queued
 
 -- the pair of a word, in a pool of so many message blocks, of which those are held that are neither free nor queued
 abbrev pub pair_of : ℕ → ℕ → Pair
 pair_of blocks w =
     let free : ℕ = w / count_range % count_range in
     let queued : ℕ = w % count_range in
-    (w / (count_range * count_range), record { free = free; queued = queued; held = blocks - (free + queued) })
+    (w / count_range / count_range, record { free = free; queued = queued; held = blocks - (free + queued) })

@@ -10,6 +10,7 @@ ghost use Rattle.strm_shared.specs.declared.views.History.{History};
 ghost use Rattle.strm_shared.specs.declared.views.Known.{Known};
 ghost use Rattle.strm_shared.specs.declared.views.View.TheVariants.{At};
 
+use crate::entry::Told;
 use crate::name::Name;
 use crate::rule::{Loads, NewDesk, Reads, Says, Stores, Visits, WordRule};
 use crate::views::View;
@@ -17,7 +18,7 @@ use crate::word::{pack, unpack};
 use atomic_table::{Seat, Table};
 use std::alloc::Global;
 use std::marker::PhantomData;
-use strm_pool::{Call, Census, Regs, Reply};
+use strm_pool::{Census, Regs};
 
 // The table with the word, and how many message blocks its pool has. Seats take their steps here.
 #[derive(Drop)]
@@ -78,29 +79,22 @@ impl<N: Name> Board<N> {
         let _ = self.table.shared.load::<Reads<N>>(lock, 0);
     }
 
-    // The lock's seat stores the word of the next pair, with what is said of the call: the number of its desk, which is the
-    // guest, its line, itself, its reply, and what the registers tell. The desk's seat leaves with the pair, the entry and the
-    // table.
+    // The lock's seat stores the word of the next pair, with what is told of a call of the desk that is its guest, and with what
+    // the desk's registers tell. The desk's seat leaves with the pair, the entry and the table.
     pub(crate) fn enter<E: Says>(
         &self,
         lock: &mut Seat<(), View>,
         pair: (u64, Census),
-        desk: u8,
-        line: u32,
-        call: &Call,
-        reply: &Reply,
+        told: Told<'_>,
         regs: &Regs,
     ) -> Seat<(), View>
-        requires lock { (h : History) × (d : Known) × IsLock N.board h (d ∷ []) lock.old × IsHistory (pair_at N.first N.opened) h × IsNextOf (pair_at N.first N.opened) h pair × (desk ≡ d.number) }
+        requires lock { (h : History) × (d : Known) × IsLock N.board h (d ∷ []) lock.old × IsHistory (pair_at N.first N.opened) h × IsNextOf (pair_at N.first N.opened) h pair × (told.desk ≡ d.number) }
         requires unspent { pair.0 ≤ most_stamp }
-        requires entry { entry_of desk line call.now reply.now ≡ E.entry }
+        requires entry { entry_of told.desk told.line told.call.now told.reply.now ≡ E.entry }
         requires table { entries_of regs.now ≡ E.table }
-        ensures { (h : History) (d : Known) → IsLock N.board h (d ∷ []) lock.old → IsLock N.board (history_after pair (entry_of desk line call.now reply.now) (entries_of regs.now) h) [] lock.new × IsAt N.board (known_after pair (entry_of desk line call.now reply.now) (entries_of regs.now) d) result }
+        ensures { (h : History) (d : Known) → IsLock N.board h (d ∷ []) lock.old → IsLock N.board (history_after pair (entry_of told.entry.desk told.entry.line told.entry.call.now told.entry.reply.now) (entries_of regs.now) h) [] lock.new × IsAt N.board (known_after pair (entry_of told.entry.desk told.entry.line told.entry.call.now told.entry.reply.now) (entries_of regs.now) d) result }
     {
-        let _ = desk;
-        let _ = line;
-        let _ = call;
-        let _ = reply;
+        let _ = told;
         let _ = regs;
         self.table.shared.store::<Stores<N, E>>(lock, 0, pack(pair));
         self.leave(lock)

@@ -5,7 +5,7 @@ ghost use Rattle.strm_shared.specs.Desks.{shown};
 
 use crate::board::Board;
 use crate::desk::Desk;
-use crate::desk_table::DeskTable;
+use crate::entry::Told;
 use crate::held::Held;
 use crate::kept_trace::KeptTrace;
 use crate::limits::MOST_STAMP;
@@ -17,13 +17,12 @@ use std::marker::{Brand, Model, PhantomData};
 use std::sync::ledger::{self, Ledger, Share};
 use strm_pool::{Call, Pool, Refusal, Reply};
 
-/// What the lock of a shared pool guards: the pool; the stamp, which each served call raises by 1; for each desk what its
-/// registers tell; the trace, if one is kept; and its seat at the word, which each served call stores.
+/// What the lock of a shared pool guards: the pool; the stamp, which each served call raises by 1; the trace, if one is kept; and
+/// its seat at the word, which each served call stores, and which knows of each desk what its registers tell.
 #[derive(Drop)]
 pub struct Book<N: Name> {
     pub(crate) pool: Pool,
     pub(crate) stamp: u64,
-    pub(crate) tables: Vec<DeskTable>,
     pub(crate) trace: KeptTrace,
     pub(crate) seat: Seat<(), View>,
     pub(crate) held: ledger::Book<Held<N>>,
@@ -32,18 +31,18 @@ pub struct Book<N: Name> {
 
 impl<N: Name> Model for Book<N> {
     ghost use Rattle.std.specs.Prelude.{length};
-    ghost use Rattle.strm_shared.specs.Books.{BookValue, IsBookOf, book_value};
+    ghost use Rattle.strm_shared.specs.Books.{BookValue, IsBookOf};
     ghost use Rattle.strm_shared.specs.Chronicle.{AreTold};
     ghost use Rattle.strm_shared.specs.LedgerLayout.{IsCounted};
     ghost use Rattle.strm_shared.specs.Pairs.{pair_at};
-    ghost use Rattle.strm_shared.specs.SeatsLayout.{IsKeptBy, history_at};
+    ghost use Rattle.strm_shared.specs.SeatsLayout.{IsKeptBy, book_with, history_at};
     ghost use Rattle.strm_shared.specs.Traces.{IsTraceOf};
 
     ghost Value = { BookValue };
 
-    ghost view = { λ b. book_value b.pool b.stamp b.tables.items (history_at b.seat).pairs (history_at b.seat).entries b.trace };
+    ghost view = { λ b. book_with (history_at b.seat) b.pool b.stamp b.trace };
 
-    ghost invariant = { λ b. IsBookOf N.opened.arena.id N.desks N.first (book_value b.pool b.stamp b.tables.items (history_at b.seat).pairs (history_at b.seat).entries b.trace) × IsCounted (length N.opened.arena.held) N.desks b.held.total b.pool × IsKeptBy N.board (pair_at N.first N.opened) N.desks b.stamp b.pool b.tables.items (history_at b.seat) b.seat × AreTold N.opened N.desks N.first b.stamp (history_at b.seat).entries b.pool b.tables.items (history_at b.seat).pairs × IsTraceOf N.kept (history_at b.seat).entries b.trace };
+    ghost invariant = { λ b. IsBookOf N.opened.arena.id N.desks N.first (book_with (history_at b.seat) b.pool b.stamp b.trace) × IsCounted (length N.opened.arena.held) N.desks b.held.total b.pool × IsKeptBy N.board (pair_at N.first N.opened) N.desks b.stamp b.pool (history_at b.seat) b.seat × AreTold N.opened N.desks N.first b.stamp (history_at b.seat).entries b.pool (history_at b.seat).tables (history_at b.seat).pairs × IsTraceOf N.kept (history_at b.seat).entries b.trace };
 }
 
 impl<N: Name> Book<N> {
@@ -93,7 +92,7 @@ impl<N: Name> Book<N> {
     /// Serves a call on the desk's registers, and answers its reply. The stamp rises by 1, the word is stored once, and the
     /// desk has seen its pair. `shared` is the pool whose book this is, and has the word; the line is that of the call in its
     /// script. Where a trace is kept, it gets the call's entry.
-    /// Takes the steps of the call, and a few for each register; no memory is taken.
+    /// Takes the steps of the call, and a few more; no memory is taken.
     ///
     /// Refused as `Worn` where the stamp is `MOST_STAMP`, and then as `TraceFull` where a trace is kept and has as many entries
     /// as it may: nothing changes but that the desk has seen the last pair. Every reply counts as served, `Refused`, `Empty` and
@@ -120,19 +119,18 @@ impl<N: Name> Book<N> {
         self.pool.lawful();
         let census = self.pool.census();
         count_held(&mut self.held, &mut desk.share, before, census.held);
-        self.tables[usize::from(desk.number)].note(&desk.regs, &call.names());
-        self.trace.keep(desk.number, line, call, &reply);
-        self.stamp += 1;
-        let pair = (self.stamp, census);
-        let seat = shared.board.enter::<Brand>(
-            &mut self.seat,
-            pair,
-            desk.number,
+        let told = Told {
+            desk: desk.number,
             line,
             call,
-            &reply,
-            &desk.regs,
-        );
+            reply: &reply,
+        };
+        self.trace.keep(told);
+        self.stamp += 1;
+        let pair = (self.stamp, census);
+        let seat = shared
+            .board
+            .enter::<Brand>(&mut self.seat, pair, told, &desk.regs);
         desk.seat = Some(seat);
         desk.seen = self.stamp;
         desk.calls += 1;

@@ -9,3 +9,12 @@ pub struct Entry {
     pub call: Call,
     pub reply: Reply,
 }
+
+// What an entry tells, lent.
+#[derive(Clone, Copy)]
+pub(crate) struct Told<'a> {
+    pub(crate) desk: u8,
+    pub(crate) line: u32,
+    pub(crate) call: &'a Call,
+    pub(crate) reply: &'a Reply,
+}

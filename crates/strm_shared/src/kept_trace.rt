@@ -3,11 +3,10 @@ ghost use Rattle.std.specs.Prelude.{◌≡◌, ◌++◌, ◌∷◌, [], false, I
 ghost use Rattle.strm_shared.specs.Chronicle.{entry_of};
 ghost use Rattle.strm_shared.specs.Traces.{empty_trace, entries_kept, is_full, most_of};
 
-use crate::entry::Entry;
+use crate::entry::{Entry, Told};
 use crate::setup::Trace;
 use std::alloc::{AllocError, Global};
 use std::marker::Model;
-use strm_pool::{Call, Reply};
 
 // The entries of served calls, where they are kept, with room for as many as may be.
 #[derive(Debug, Drop)]
@@ -51,17 +50,17 @@ impl KeptTrace {
     }
 
     // Keeps the entry of a call, if entries are kept.
-    pub(crate) fn keep(&mut self, desk: u8, line: u32, call: &Call, reply: &Reply)
+    pub(crate) fn keep(&mut self, told: Told<'_>)
         requires { is_full self.old ≡ false }
         ensures most { self.new.most ≡ self.old.most }
-        ensures entries { self.new.entries ≡ self.old.entries ++ entries_kept self.old.most (entry_of desk line call.now reply.now ∷ []) }
+        ensures entries { self.new.entries ≡ self.old.entries ++ entries_kept self.old.most (entry_of told.entry.desk told.entry.line told.entry.call.now told.entry.reply.now ∷ []) }
     {
         if self.most.is_some() {
             self.entries.push_reserved(Entry {
-                desk,
-                line,
-                call: call.copy(),
-                reply: reply.copy(),
+                desk: told.desk,
+                line: told.line,
+                call: told.call.copy(),
+                reply: told.reply.copy(),
             });
         }
     }

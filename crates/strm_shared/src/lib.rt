@@ -7,7 +7,6 @@ mod book;
 mod desk;
 mod desk_count;
 mod desk_slot;
-mod desk_table;
 mod desks;
 mod entry;
 mod gate;

@@ -4,7 +4,7 @@ ghost use Rattle.std.specs.List.Sorted.{IsNonDecreasingBy};
 ghost use Rattle.strm_data.specs.declared.refusal.Refusal.TheVariants.{DeskMissing};
 ghost use Rattle.strm_pool.specs.PoolValue.{owns};
 ghost use Rattle.strm_pool.specs.Registers.{AreAccounted, entries_of};
-ghost use Rattle.strm_shared.specs.Books.{AreShown, IsAfter, IsWholeUnder, MayRefuse, TellsNewest};
+ghost use Rattle.strm_shared.specs.Books.{AreShown, IsAfter, IsEnd, IsWholeUnder, TellsNewest};
 ghost use Rattle.strm_shared.specs.Desks.{DeskValue, no_desk, shown, stamp_seen};
 ghost use Rattle.strm_shared.specs.Ledger.{AreAll};
 
@@ -55,7 +55,7 @@ impl<N: Name> Shared<N> {
     ) -> Result<Reply, Refusal>
         ensures after { IsAfter N.Name desk.old line call.now desk.new result }
         ensures census { TellsNewest desk.new result call.now }
-        ensures refused { IfErr result (λ why. MayRefuse N.kept why) }
+        ensures refused { IfErr result (λ why. IsEnd N.Name why (stamp_seen desk.new)) }
     {
         let mut lock = self.book.lock(rt);
         let book = &mut *lock;
@@ -92,8 +92,9 @@ impl<N: Name> Shared<N> {
     /// registers of these desks have. The pool owns the registers of each, and each held message is in exactly one register of one
     /// of them.
     ///
-    /// Refused as `DeskMissing` where fewer desks come than were handed out. Desks and pool come back as they were then; of
-    /// the book behind the lock contracts see nothing, so of the pool only tests say so.
+    /// Refused as `DeskMissing` where fewer desks come than were handed out. Desks and pool come back as they were then. Of the
+    /// book behind the lock contracts see nothing; but a later `gather` that gets all desks tells a pool that is the replay of what
+    /// they were served, and of nothing else.
     pub fn gather(self, desks: Desks<N>) -> Result<Gathered<N>, (Refusal, Shared<N>, Desks<N>)>
         ensures missing { IfErr result (λ e. (length desks < N.desks) × (e.0 ≡ DeskMissing) × (e.1 ≡ self) × (e.2 ≡ desks)) }
         ensures enough { OnOk result (length desks ≡ N.desks) }
@@ -117,7 +118,6 @@ impl<N: Name> Shared<N> {
         let Book {
             pool,
             stamp: _,
-            tables: _,
             trace,
             mut seat,
             mut held,

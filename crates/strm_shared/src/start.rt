@@ -1,8 +1,7 @@
 //! How a pool is shared out.
-ghost use Rattle.std.specs.Prelude.{◌≡◌, ◌≤◌, [], ◌∷◌, length, IfOk, None, replicate, vec_capacity};
+ghost use Rattle.std.specs.Prelude.{◌≡◌, ◌≤◌, [], ◌∷◌, length};
 ghost use Rattle.strm_mblk.specs.Arena.{census_of};
 ghost use Rattle.strm_mblk.specs.Limits.{most_message_blocks};
-ghost use Rattle.strm_pool.specs.Limits.{most_registers};
 ghost use Rattle.strm_shared.specs.Desks.{fresh};
 ghost use Rattle.strm_shared.specs.Limits.{most_workers};
 ghost use Rattle.strm_shared.specs.Pairs.{count_in, pair_at};
@@ -14,7 +13,6 @@ use crate::board::Board;
 use crate::book::Book;
 use crate::desk::Desk;
 use crate::desk_count::DeskCount;
-use crate::desk_table::DeskTable;
 use crate::desks::Desks;
 use crate::held::Held;
 use crate::kept_trace::KeptTrace;
@@ -25,7 +23,7 @@ use crate::shared::Shared;
 use crate::views::View;
 use crate::word::pack;
 use atomic_table::{Seat, Table};
-use std::alloc::{AllocError, Global};
+use std::alloc::Global;
 use std::marker::{Model, PhantomData};
 use std::sync::Mutex;
 use std::sync::ledger::{Blank, Share};
@@ -37,7 +35,6 @@ pub struct Start {
     pool: Pool,
     desks: u8,
     first_stamp: u64,
-    tables: Vec<DeskTable>,
     trace: KeptTrace,
     blank: Blank,
     table: Table<(), View, (u64, Census), WordRule, Global>,
@@ -53,7 +50,7 @@ impl Model for Start {
 
     ghost view = { λ s. record { pool = s.pool; board = s.table.shared.table_id; desks = s.desks; first = s.first_stamp; kept = s.trace.most; ledger = s.blank.name } };
 
-    ghost invariant = { λ s. IsReady s.pool s.desks s.first_stamp s.tables.items s.trace s.blank.parts × IsLaid (pair_at s.first_stamp s.pool) s.table.shared.table_id s.table.shared.key s.seat };
+    ghost invariant = { λ s. IsReady s.pool s.desks s.first_stamp s.trace s.blank.parts × IsLaid (pair_at s.first_stamp s.pool) s.table.shared.table_id s.table.shared.key s.seat };
 }
 
 impl Start {
@@ -69,9 +66,6 @@ impl Start {
         if setup.is_bad_shared() {
             return Err((NewFault::BadShared, pool));
         }
-        let Ok(tables) = tables_of(alloc, setup.desks) else {
-            return Err((NewFault::Memory, pool));
-        };
         let Ok(trace) = KeptTrace::new(alloc, setup.trace) else {
             return Err((NewFault::Memory, pool));
         };
@@ -84,7 +78,6 @@ impl Start {
             pool,
             desks: setup.desks,
             first_stamp: setup.first_stamp,
-            tables,
             trace,
             blank: Blank::new(u64::from(setup.desks)),
             table,
@@ -103,7 +96,6 @@ impl Start {
             pool,
             desks: count,
             first_stamp,
-            tables,
             trace,
             blank,
             table,
@@ -121,7 +113,6 @@ impl Start {
         let book = Book {
             pool,
             stamp: first_stamp,
-            tables,
             trace,
             seat,
             held,
@@ -137,17 +128,6 @@ impl Start {
         };
         (shared, desks)
     }
-}
-
-// So many tables of empty registers.
-fn tables_of(alloc: Global, desks: u8) -> Result<Vec<DeskTable>, AllocError>
-    ensures { IfOk result (λ tables. tables.items ≡ replicate desks (replicate most_registers None)) }
-{
-    let mut tables = Vec::with_capacity(alloc, usize::from(desks))?;
-    for _ in 0..desks {
-        tables.push_reserved(DeskTable::new());
-    }
-    Ok(tables)
 }
 
 // Desks 0, 1 and so on, so many, each with one of as many parts of a ledger that counts nothing yet, and with a seat that leaves

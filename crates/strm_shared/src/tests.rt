@@ -308,6 +308,7 @@ fn assert_bad(rt: &impl Abort, alloc: Global, setup: Setup, bad: bool) {
 
 #[test]
 fn setups_out_of_bounds(rt: HostRuntime) {
+    assert_eq!(rt; (MOST_STAMP, MOST_TRACE), (1_099_511_627_775, 1_048_576));
     let rows = [
         (setup(0, Trace::Off, 0), true),
         (setup(1, Trace::Off, 0), false),
@@ -418,6 +419,37 @@ fn missing<N: Name, R: Wait + Abort>(rt: &R, start: Start)
     assert_census(rt, &pool, (7, 1, 0));
     let told = pool.queue_info(0);
     assert!(rt; told.is_ok_and(|queue| queue.bytes == 3 && queue.enabled && !queue.noenable));
+}
+
+#[test]
+fn a_spent_desk(rt: HostRuntime) {
+    spent::<Brand, _>(&rt, rt.alloc(), start(&rt, rt.alloc(), 7, 2, 0));
+}
+
+// Desk 1 is spent, and another pool drains its empty registers. So the shared pool is never gathered any more, and desk 0 is served as
+// before.
+fn spent<N: Name, R: Wait + Abort>(rt: &R, alloc: Global, start: Start)
+    requires { IsNameOf N.Name start }
+{
+    let a = reg(rt, b'a');
+    let mut other = eight(rt, alloc, 8);
+    let (shared, mut desks) = start.open::<N>();
+    other.drain(last(rt, &mut desks, 1).into_regs());
+    let (shared, mut desks) = ungathered(rt, shared, desks);
+    assert!(rt; desks.len() == 1);
+    assert_served(
+        rt,
+        &shared,
+        desks.desk_mut(0),
+        &Call::Allocb(a, 1),
+        &Reply::Done,
+    );
+    let (shared, mut desks) = ungathered(rt, shared, desks);
+    assert!(rt; desks.len() == 1);
+    let zero = desks.desk_mut(0);
+    assert_served(rt, &shared, zero, &Call::Freemsg(a), &Reply::Done);
+    assert_eq!(rt; zero.seen(), 2);
+    desks.forget();
 }
 
 #[test]

@@ -5,10 +5,11 @@ ghost use Rattle.strm_shared.specs.Limits.{most_stamp};
 ghost use Rattle.strm_shared.specs.Pairs.{count_in};
 ghost use Rattle.strm_shared.specs.Words.{pair_of, word_of};
 
+use strm_mblk::MOST_MESSAGE_BLOCKS;
 use strm_pool::Census;
 
-// Each count of a word lies below this number: 2^12, which is `MOST_MESSAGE_BLOCKS` and 1.
-const COUNT_RANGE: u64 = 4096;
+// Each count of a word lies below this number, a power of 2.
+const COUNT_RANGE: u64 = MOST_MESSAGE_BLOCKS as u64 + 1;
 
 // The word of a stamp and a census. It does not tell what is held: that is the rest of the pool.
 pub(crate) fn pack(pair: (u64, Census)) -> u64
@@ -17,8 +18,7 @@ pub(crate) fn pack(pair: (u64, Census)) -> u64
     ensures { result ≡ word_of pair }
 {
     let (stamp, census) = pair;
-    let counts = u64::from(census.free) * COUNT_RANGE + u64::from(census.queued);
-    stamp * (COUNT_RANGE * COUNT_RANGE) + counts
+    (stamp * COUNT_RANGE + u64::from(census.free)) * COUNT_RANGE + u64::from(census.queued)
 }
 
 // The stamp and the census of a word, in a pool of so many message blocks.
@@ -33,5 +33,5 @@ pub(crate) fn unpack(blocks: u32, word: u64) -> (u64, Census)
         queued,
         held: blocks - (free + queued),
     };
-    (word / (COUNT_RANGE * COUNT_RANGE), census)
+    (word / COUNT_RANGE / COUNT_RANGE, census)
 }

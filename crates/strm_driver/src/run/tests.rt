@@ -312,19 +312,20 @@ fn writes_the_order_in_which_workers_were_served(rt: HostRuntime) -> Result<(), 
     Ok(())
 }
 
-// The fault of a run whose reader and writer fail so.
-fn fault_at(
+// The fault of a run of this script to a writer that may fail.
+fn fault_to(
     rt: &(impl AllocGlobal + Threads + Wait + Sync),
     mode: Mode,
-    read: Option<usize>,
+    gate: &impl Gate,
+    script: &[u8],
     writer: &mut Choppy,
 ) -> Option<RunFault> {
     run(
         rt,
         mode,
         MAX,
-        &OpenGate,
-        &mut Watched::new(slow_reader(SCRIPT, read)),
+        gate,
+        &mut Watched::new(slow_reader(script, None)),
         &mut Watched::new(writer),
     )
     .err()
@@ -335,7 +336,15 @@ fn a_failing_reader_leaves_nothing_written(rt: HostRuntime) {
     for mode in [Mode::Serial, Mode::Workers] {
         for cut in [0, 9, SCRIPT.len()] {
             let mut writer = choppy_writer(rt.alloc(), 100, None, true);
-            let fault = fault_at(&rt, mode, Some(cut), &mut writer);
+            let fault = run(
+                &rt,
+                mode,
+                MAX,
+                &OpenGate,
+                &mut Watched::new(slow_reader(SCRIPT, Some(cut))),
+                &mut Watched::new(&mut writer),
+            )
+            .err();
             assert!(rt; fault == Some(RunFault::Read), "at {cut}");
             assert!(rt; writer.got.is_empty());
         }
@@ -347,10 +356,22 @@ fn a_failing_writer_has_the_beginning(rt: HostRuntime) {
     for mode in [Mode::Serial, Mode::Workers] {
         for cut in [0, 7, 14] {
             let mut writer = choppy_writer(rt.alloc(), 7, Some(cut), true);
-            let fault = fault_at(&rt, mode, None, &mut writer);
+            let fault = fault_to(&rt, mode, &OpenGate, SCRIPT, &mut writer);
             assert!(rt; fault == Some(RunFault::Write), "at {cut}");
             assert_eq!(rt; writer.got.as_slice(), &TEXT[..cut]);
         }
+    }
+}
+
+#[test]
+fn a_failing_writer_has_the_beginning_of_what_two_workers_were_served(rt: HostRuntime) {
+    for cut in [0, 7, 21] {
+        let gate = Turns::new();
+        let mut writer = choppy_writer(rt.alloc(), 7, Some(cut), true);
+        let fault = fault_to(&rt, Mode::Workers, &gate, TURNS, &mut writer);
+        assert!(rt; fault == Some(RunFault::Write), "at {cut}");
+        assert_eq!(rt; writer.got.as_slice(), &TURNS_TEXT[..cut]);
+        assert_eq!(rt; gate.missed.load(Ordering::SeqCst), 0);
     }
 }
 

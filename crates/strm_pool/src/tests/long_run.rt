@@ -1,6 +1,7 @@
 //! Thousands of calls beside their second doing.
-ghost use Rattle.std.specs.Prelude.{◌<◌, IsTrue};
+ghost use Rattle.std.specs.Prelude.{◌<◌, ◌≤◌, IsTrue};
 ghost use Rattle.strm_data.specs.Classes.{are_lawful};
+ghost use Rattle.strm_mblk.specs.Limits.{most_message_blocks};
 
 use super::beside::serve;
 use super::flow::SPECS;
@@ -160,7 +161,7 @@ fn any_call(rt: &impl Abort, draw: &mut u32, wished: u32) -> Call {
 impl Both {
     // Message blocks over data blocks of these classes, and three queues.
     fn opened(rt: &impl Abort, alloc: Global, mblks: u32, classes: &[ClassSpec]) -> Both
-        requires few_blocks { mblks < 4096 }
+        requires few_blocks { mblks ≤ most_message_blocks }
         requires classes { IsTrue (are_lawful classes.now) }
     {
         let mut specs = ArrayVec::new();

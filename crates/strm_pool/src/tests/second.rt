@@ -1,6 +1,7 @@
 //! Calls done on message blocks of their own, with a plain vector for each queue.
-ghost use Rattle.std.specs.Prelude.{◌<◌, IsTrue};
+ghost use Rattle.std.specs.Prelude.{◌≤◌, IsTrue};
 ghost use Rattle.strm_data.specs.Classes.{are_lawful};
+ghost use Rattle.strm_mblk.specs.Limits.{most_message_blocks};
 
 use super::flow::{Flow, SPECS, target, waker};
 use crate::limits::MOST_OCTETS;
@@ -216,7 +217,7 @@ impl Second {
         mblks: u32,
         classes: &[ClassSpec],
     ) -> Second
-        requires few_blocks { mblks < 4096 }
+        requires few_blocks { mblks ≤ most_message_blocks }
         requires classes { IsTrue (are_lawful classes.now) }
     {
         Second {

@@ -1,4 +1,5 @@
 use super::report_text;
+use crate::limits::MOST_SCRIPT_BYTES;
 use crate::piece::Piece;
 use crate::script::{Script, parse};
 use std::process::Abort;
@@ -35,7 +36,7 @@ const QUEUED: &str =
 
 // The pool that a script opens, and its registers, once the calls of the script are done.
 fn served(rt: &(impl Abort + AllocGlobal), script: &str) -> Result<(Pool, Regs), Fail> {
-    assert!(rt; script.len() <= 16_777_216);
+    assert!(rt; script.len() <= MOST_SCRIPT_BYTES as usize);
     let Script { config, parts } = parse(rt.alloc(), script.as_bytes())?;
     let lines = parts.items().first().ok_or("a script has a section")?;
     let mut pool = Pool::new(rt.alloc(), config)?;

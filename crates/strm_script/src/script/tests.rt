@@ -1,5 +1,6 @@
 //! Scripts that are read, and the first faults of scripts that are not.
 use super::*;
+use crate::limits::MOST_SCRIPT_BYTES;
 use std::process::Abort;
 use std::test::Fail;
 use strm_pool::{ClassSpec, QueueSpec};
@@ -35,7 +36,7 @@ fn expect(
     kind: Kind,
 ) -> Result<(), Fail> {
     let text = format!(in rt.alloc(); "{start}{end}")?;
-    assert!(rt; text.len() <= 16_777_216);
+    assert!(rt; text.len() <= MOST_SCRIPT_BYTES as usize);
     let found = parse(rt.alloc(), text.as_bytes()).err();
     assert_eq!(rt;
         found,
@@ -77,7 +78,7 @@ fn expect_calls(
     calls: &[(u32, &str)],
 ) -> Result<(), Fail> {
     let text = format!(in rt.alloc(); "{OPEN}{commands}")?;
-    assert!(rt; text.len() <= 16_777_216);
+    assert!(rt; text.len() <= MOST_SCRIPT_BYTES as usize);
     let script = parse(rt.alloc(), text.as_bytes())?;
     let [lines] = script.parts.items() else {
         return Err(Fail::from("one section"));
@@ -184,7 +185,7 @@ fn reads_sections(rt: HostRuntime) -> Result<(), Fail> {
     let text = format!(in rt.alloc();
         "{OPEN}allocb a 1\nworker\n# x\nworker\n\ncensus\nfreemsg a\n"
     )?;
-    assert!(rt; text.len() <= 16_777_216);
+    assert!(rt; text.len() <= MOST_SCRIPT_BYTES as usize);
     let wanted = [[6].as_slice(), &[], &[11, 12]];
     let parts = parse(rt.alloc(), text.as_bytes())?.parts.into_vec();
     assert_eq!(rt; parts.len(), wanted.len());

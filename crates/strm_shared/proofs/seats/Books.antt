@@ -22,12 +22,12 @@ history_is z h gs s is = ap (λ (m : Mine). history_of m.0) is.1
 
 -- ---- the book's invariant
 
-pub kept : (z : TableId) (o : Pair) (n stamp : ℕ) (v : PoolValue) (ts : List Entries) (h : History) (s : Seat (Unit {0}) View)
-    → IsLock z h [] s → IsHistory o h → last_pair h.pairs ≡ pair_at stamp v → h.desks ≡ n → h.tables ≡ ts → IsKeptBy z o n stamp v ts (history_at s) s
-kept z o n stamp v ts h s here lawful last desks tables =
-    subst (λ i. IsKeptBy z o n stamp v ts i s) (sym (history_is z h [] s here)) (record { here = here; lawful = lawful; last = last; desks = desks; tables = tables })
+pub kept : (z : TableId) (o : Pair) (n stamp : ℕ) (v : PoolValue) (h : History) (s : Seat (Unit {0}) View)
+    → IsLock z h [] s → IsHistory o h → last_pair h.pairs ≡ pair_at stamp v → h.desks ≡ n → IsKeptBy z o n stamp v (history_at s) s
+kept z o n stamp v h s here lawful last desks =
+    subst (λ i. IsKeptBy z o n stamp v i s) (sym (history_is z h [] s here)) (record { here = here; lawful = lawful; last = last; desks = desks })
 
-module _ {z : TableId} {o : Pair} {n stamp : ℕ} {v : PoolValue} {ts : List Entries} {h : History} {s : Seat (Unit {0}) View} (is : IsKeptBy z o n stamp v ts h s) where
+module _ {z : TableId} {o : Pair} {n stamp : ℕ} {v : PoolValue} {h : History} {s : Seat (Unit {0}) View} (is : IsKeptBy z o n stamp v h s) where
   -- the pairs of a book
   pub pairs_lawful : ArePairs o stamp v h.pairs
   pairs_lawful = record { some = omega (arith, is.lawful.entered); opened = is.lawful.opened; rising = is.lawful.rising; last = is.last }
@@ -38,12 +38,11 @@ module _ {z : TableId} {o : Pair} {n stamp : ℕ} {v : PoolValue} {ts : List Ent
     next_pair = record { stamp = omega (arith, ap (λ (q : Pair). q.0) is.last); whole = whole }
 
     -- once it is there
-    pub kept_more : (us : List Entries) (e : Entry) (t : Entries) (r : Seat (Unit {0}) View) → e.desk < n → us ≡ set ts e.desk t
-        → IsLock z (history_after (pair_at (stamp + 1) w) e t h) [] r → IsKeptBy z o n (stamp + 1) w us (history_at r) r
-    kept_more us e t r there tables here =
+    pub kept_more : (e : Entry) (t : Entries) (r : Seat (Unit {0}) View) → e.desk < n
+        → IsLock z (history_after (pair_at (stamp + 1) w) e t h) [] r → IsKeptBy z o n (stamp + 1) w (history_at r) r
+    kept_more e t r there here =
         let p : Pair = pair_at (stamp + 1) w in
-        kept z o n (stamp + 1) w us (history_after p e t h) r here
+        kept z o n (stamp + 1) w (history_after p e t h) r here
         (history_more o h p e t is.lawful next_pair (omega (arith, there, is.desks)))
         (last_pair-push h.pairs p)
         is.desks
-        (ap (λ xs. set xs e.desk t) is.tables ∙ sym tables)

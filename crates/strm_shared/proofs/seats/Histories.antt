@@ -6,6 +6,7 @@ use Rattle.std.proofs.Math.Seq.{get_or-append_seam}
 use Rattle.std.proofs.lemmas.Bool.{cases_lt}
 use Rattle.std.proofs.lemmas.Grind.{replicate_next}
 use Rattle.std.proofs.lemmas.List.{get_or_default, length-replicate}
+use Rattle.std.proofs.lemmas.Nat.{div-mul-add, mod-mul-add}
 use Rattle.std.proofs.lemmas.List.Elements.{All-contains_itself, All-head, All-nil, All-push, All-tail, All-weaker, Contains-append_left, Contains-get_or, Contains-push}
 use Rattle.strm_mblk.specs.Limits.{most_message_blocks}
 use Rattle.strm_pool.specs.Registers.{Entries}
@@ -23,11 +24,14 @@ use Rattle.strm_shared.specs.SeatsLayout.{IsNextOf}
 -- the word tells the pair, where its census counts the blocks of the pool
 pub pair_of-word_of : (blocks : ℕ) (p : Pair) → blocks < count_range → count_in p.1 ≡ blocks → pair_of blocks (word_of p) ≡ p
 pair_of-word_of blocks p few whole =
-    let s : (p.0 * 16777216 + (p.1.free * 4096 + p.1.queued)) / 16777216 ≡ p.0 = omega arith in
-    let f : (p.0 * 16777216 + (p.1.free * 4096 + p.1.queued)) / 4096 % 4096 ≡ p.1.free = omega arith in
-    let q : (p.0 * 16777216 + (p.1.free * 4096 + p.1.queued)) % 4096 ≡ p.1.queued = omega arith in
-    let h : blocks - ((p.0 * 16777216 + (p.1.free * 4096 + p.1.queued)) / 4096 % 4096 + (p.0 * 16777216 + (p.1.free * 4096 + p.1.queued)) % 4096) ≡ p.1.held = omega arith in
-    λ i. (s i, record { free = f i; queued = q i; held = h i })
+    let free : p.1.free < count_range = omega (arith, few, whole) in
+    let queued : p.1.queued < count_range = omega (arith, few, whole) in
+    let both : word_of p / count_range ≡ p.0 * count_range + p.1.free = div-mul-add (p.0 * count_range + p.1.free) count_range p.1.queued queued in
+    let s : word_of p / count_range / count_range ≡ p.0 = ap (λ n. n / count_range) both ∙ div-mul-add p.0 count_range p.1.free free in
+    let f : word_of p / count_range % count_range ≡ p.1.free = ap (λ n. n % count_range) both ∙ mod-mul-add p.0 count_range p.1.free free in
+    let q : word_of p % count_range ≡ p.1.queued = mod-mul-add (p.0 * count_range + p.1.free) count_range p.1.queued queued in
+    let h : blocks - (p.1.free + p.1.queued) ≡ p.1.held = omega (arith, whole) in
+    λ i. (s i, record { free = f i; queued = q i; held = (ap (λ n. blocks - n) (λ j. f j + q j) ∙ h) i })
 
 -- ---- pairs
 

@@ -23,18 +23,19 @@ use Rattle.strm_shared.proofs.seats.Histories.{last_after, length-served_from}
 -- A call was served on a desk of this number, as its so-manieth, and left the pool and the desk's table so, at this stamp: the lock's seat r has the pair
 -- and this entry behind the history that it had, and keeps the book's invariant; the desk's seat s has seen the pair and has the entry,
 -- and sits as a desk's does.
-pub record Entered (z : TableId) (o : Pair) (blocks n stamp number calls : ℕ) (w : PoolValue) (ts : List Entries) (u : Entries) (x : Entry) (h : History) (d : Known) (r s : Seat (Unit {0}) View) : Type 0 where
+pub record Entered (z : TableId) (o : Pair) (blocks n stamp number calls : ℕ) (w : PoolValue) (u : Entries) (x : Entry) (h : History) (d : Known) (r s : Seat (Unit {0}) View) : Type 0 where
+  pub tables : (history_at r).tables ≡ set h.tables number u
   pub listed : (history_at r).pairs ≡ h.pairs ++ pair_at stamp w ∷ []
   pub entered : (history_at r).entries ≡ h.entries ++ x ∷ []
   pub saw : (known_at s).pairs ≡ d.pairs ++ pair_at stamp w ∷ []
   pub served : (known_at s).served ≡ d.served ++ (stamp, x) ∷ []
-  pub kept : (us : List Entries) → us ≡ set ts number u → IsKeptBy z o n stamp w us (history_at r) r
+  pub kept : IsKeptBy z o n stamp w (history_at r) r
   pub seated : IsSeated z o blocks number stamp calls u (known_at s) (Some s)
 
 -- A desk's seat has joined the lock's: the desk was served no more calls than the stamp has counted.
-pub few_calls : {z : TableId} {o : Pair} {blocks n stamp number seen calls : ℕ} {v : PoolValue} {ts : List Entries} {t : Entries} {h : History} {lock : Seat (Unit {0}) View} {seat : Option (Seat (Unit {0}) View)} {d : Known}
-    → IsKeptBy z o n stamp v ts h lock → IsSeated z o blocks number seen calls t d seat → IsOf o.0 h d → calls ≤ stamp
-few_calls {z} {o} {blocks} {n} {stamp} {number} {seen} {calls} {v} {ts} {t} {h} {lock} {seat} {d} kept before is_of =
+pub few_calls : {z : TableId} {o : Pair} {blocks n stamp number seen calls : ℕ} {v : PoolValue} {t : Entries} {h : History} {lock : Seat (Unit {0}) View} {seat : Option (Seat (Unit {0}) View)} {d : Known}
+    → IsKeptBy z o n stamp v h lock → IsSeated z o blocks number seen calls t d seat → IsOf o.0 h d → calls ≤ stamp
+few_calls {z} {o} {blocks} {n} {stamp} {number} {seen} {calls} {v} {t} {h} {lock} {seat} {d} kept before is_of =
     omega (
       arith,
       before.counted,
@@ -45,17 +46,16 @@ few_calls {z} {o} {blocks} {n} {stamp} {number} {seen} {calls} {v} {ts} {t} {h} 
     )
 
 -- and the book knows what its registers tell
-pub table_known : {z : TableId} {o : Pair} {blocks n stamp number seen calls : ℕ} {v : PoolValue} {ts : List Entries} {t : Entries} {h : History} {lock : Seat (Unit {0}) View} {seat : Option (Seat (Unit {0}) View)} {d : Known}
-    → IsKeptBy z o n stamp v ts h lock → IsSeated z o blocks number seen calls t d seat → IsOf o.0 h d → get_or ts number [] ≡ t
-table_known {z} {o} {blocks} {n} {stamp} {number} {seen} {calls} {v} {ts} {t} {h} {lock} {seat} {d} kept before is_of =
-    ap (λ (us : List Entries). get_or us number []) (sym kept.tables)
-    ∙ ap (λ (k : ℕ). get_or h.tables k []) (sym before.number)
+pub table_known : {z : TableId} {o : Pair} {blocks n stamp number seen calls : ℕ} {v : PoolValue} {t : Entries} {h : History} {lock : Seat (Unit {0}) View} {seat : Option (Seat (Unit {0}) View)} {d : Known}
+    → IsKeptBy z o n stamp v h lock → IsSeated z o blocks number seen calls t d seat → IsOf o.0 h d → get_or h.tables number [] ≡ t
+table_known {z} {o} {blocks} {n} {stamp} {number} {seen} {calls} {v} {t} {h} {lock} {seat} {d} kept before is_of =
+    ap (λ (k : ℕ). get_or h.tables k []) (sym before.number)
     ∙ is_of.table
     ∙ before.table
 
 -- A desk's seat has joined the lock's, and the call has left the pool so, with this census.
-module _ {z : TableId} {o : Pair} {blocks n stamp number seen calls : ℕ} {v : PoolValue} {ts : List Entries} {t : Entries} {h : History} {lock : Seat (Unit {0}) View} {seat : Option (Seat (Unit {0}) View)} {d : Known}
-    (kept : IsKeptBy z o n stamp v ts h lock) (before : IsSeated z o blocks number seen calls t d seat) (is_of : IsOf o.0 h d)
+module _ {z : TableId} {o : Pair} {blocks n stamp number seen calls : ℕ} {v : PoolValue} {t : Entries} {h : History} {lock : Seat (Unit {0}) View} {seat : Option (Seat (Unit {0}) View)} {d : Known}
+    (kept : IsKeptBy z o n stamp v h lock) (before : IsSeated z o blocks number seen calls t d seat) (is_of : IsOf o.0 h d)
     (w : PoolValue) (whole : count_in (census_of w.arena) ≡ blocks) where
   follows : IsNextOf o h (pair_at (stamp + 1) w)
   follows = next_pair kept w (whole ∙ sym before.sized)
@@ -81,15 +81,14 @@ module _ {z : TableId} {o : Pair} {blocks n stamp number seen calls : ℕ} {v : 
       there : IsAt z (known_after (pair_at (stamp + 1) w) e u d) s
       there = subst (λ q. IsAt z (known_after q e u d) s) pair_is stored.1
 
-      pub entered : Entered z o blocks n (stamp + 1) number (calls + 1) w ts u e h d r s
+      pub entered : Entered z o blocks n (stamp + 1) number (calls + 1) w u e h d r s
       entered = record {
+        tables = ap (λ (i : History). i.tables) (history_is z (history_after (pair_at (stamp + 1) w) e u h) [] r here) ∙ ap (λ k. set h.tables k u) mine;
         entered = ap (λ (i : History). i.entries) (history_is z (history_after (pair_at (stamp + 1) w) e u h) [] r here);
         served = ap (λ (k : Known). k.served) (known_is z (known_after (pair_at (stamp + 1) w) e u d) s there);
         listed = ap (λ (i : History). i.pairs) (history_is z (history_after (pair_at (stamp + 1) w) e u h) [] r here);
         saw = ap (λ (k : Known). k.pairs) (known_is z (known_after (pair_at (stamp + 1) w) e u d) s there);
-        kept = λ us tables.
-            kept_more kept w (whole ∙ sym before.sized) us e u r (omega (arith, mine, before.number, is_of.below, kept.desks))
-            (tables ∙ ap (λ k. set ts k u) (sym mine)) here;
+        kept = kept_more kept w (whole ∙ sym before.sized) e u r (omega (arith, mine, before.number, is_of.below, kept.desks)) here;
         seated =
             seated z o blocks number (calls + 1) u (known_after (pair_at (stamp + 1) w) e u d) d.pairs (pair_at (stamp + 1) w) s before.sized there before.number refl
             (length_push d.served (stamp + 1, e) ∙ ap (λ k. k + 1) before.counted) refl

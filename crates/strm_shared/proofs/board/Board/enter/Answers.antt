@@ -23,8 +23,8 @@ store-requires g c =
 
 -- the lock's seat, with the desk still its guest
 after : (g : given.Over) (c : After-store g) (h : History) (d : Known) → IsLock g.N.Name.board h (d ∷ []) c.args.lock.now
-    → IsLock g.N.Name.board (history_after c.args.pair (entry_of c.args.desk c.args.line c.args.call.now c.args.reply.now) (entries_of c.args.regs.now) h)
-    (known_after c.args.pair (entry_of c.args.desk c.args.line c.args.call.now c.args.reply.now) (entries_of c.args.regs.now) d ∷ []) c.store.new.seat
+    → IsLock g.N.Name.board (history_after c.args.pair (entry_of c.args.told.desk c.args.told.line c.args.told.call.now c.args.told.reply.now) (entries_of c.args.regs.now) h)
+    (known_after c.args.pair (entry_of c.args.told.desk c.args.told.line c.args.told.call.now c.args.told.reply.now) (entries_of c.args.regs.now) d ∷ []) c.store.new.seat
 after g c h d lock =
     let o = pair_at g.N.Name.first g.N.Name.opened in
     let l = c.requires.lock in

@@ -2,12 +2,12 @@ use Rattle.std.proofs.Common.{◌≡◌, [], sym, ap, ◌∙◌, subst}
 use Rattle.strm_shared.specs.declared.views.History.{History}
 use Rattle.strm_shared.specs.declared.views.Known.{Known}
 use Rattle.strm_shared.specs.Chronicle.{AreTold}
-use Rattle.strm_shared.specs.Books.{BookValue, IsBookOf, book_value, pair_in}
+use Rattle.strm_shared.specs.Books.{BookValue, IsBookOf, pair_in}
 use Rattle.strm_shared.specs.Desks.{desk_value, shown}
 use Rattle.strm_shared.specs.Pairs.{pair_at}
 use Rattle.strm_shared.specs.Seats.{with_pair}
 use Rattle.strm_shared.specs.Traces.{IsTraceOf}
-use Rattle.strm_shared.specs.SeatsLayout.{IsShownBy, history_at, known_at, known_in}
+use Rattle.strm_shared.specs.SeatsLayout.{IsShownBy, book_with, history_at, known_at, known_in}
 use Rattle.strm_shared.proofs.seats.Books.{history_is, kept}
 use Rattle.strm_shared.proofs.seats.Desks.{desk_shown, known_is, seat_is, seated_shown}
 use Rattle.strm_shared.proofs.book.Book.show.Given as given
@@ -21,8 +21,8 @@ looked g c = c.show_desk-seat.ensures (history_at c.self.inside.seat) (known_in 
 
 -- what contracts see of the book is as it was
 same_book : (g : given.Over) (c : After-show_desk-seat g)
-    → book_value c.self.inside.pool c.self.inside.stamp c.self.inside.tables.items (history_at c.show_desk-seat.new.lock).pairs (history_at c.show_desk-seat.new.lock).entries c.self.inside.trace ≡ book_value c.self.inside.pool c.self.inside.stamp c.self.inside.tables.items (history_at c.self.inside.seat).pairs (history_at c.self.inside.seat).entries c.self.inside.trace
-same_book g c = ap (λ (h : History). book_value c.self.inside.pool c.self.inside.stamp c.self.inside.tables.items h.pairs h.entries c.self.inside.trace) (history_is _ _ [] c.show_desk-seat.new.lock (looked g c).here)
+    → book_with (history_at c.show_desk-seat.new.lock) c.self.inside.pool c.self.inside.stamp c.self.inside.trace ≡ book_with (history_at c.self.inside.seat) c.self.inside.pool c.self.inside.stamp c.self.inside.trace
+same_book g c = ap (λ (h : History). book_with h c.self.inside.pool c.self.inside.stamp c.self.inside.trace) (history_is _ _ [] c.show_desk-seat.new.lock (looked g c).here)
 
 -- and of the desk, that it has seen the pair
 desk_shown_it : (g : given.Over) (c : After-show_desk-seat g)
@@ -36,7 +36,7 @@ invariant_of-self g c =
     let same = sym (same_book g at) in (
       subst (IsBookOf g.N.Name.opened.arena.id g.N.Name.desks g.N.Name.first) same c.self.invariant.0,
       c.self.invariant.1,
-      kept _ _ _ _ _ _ _ c.show_desk-seat.new.lock (looked g at).here was.lawful was.last was.desks was.tables,
+      kept _ _ _ _ _ _ c.show_desk-seat.new.lock (looked g at).here was.lawful was.last was.desks,
       subst (λ (b : BookValue). AreTold g.N.Name.opened g.N.Name.desks g.N.Name.first b.stamp b.entries b.pool b.tables b.pairs) same c.self.invariant.3,
       subst (λ (b : BookValue). IsTraceOf g.N.Name.kept b.entries b.trace) same c.self.invariant.4,
     )

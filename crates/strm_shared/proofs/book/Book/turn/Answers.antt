@@ -1,18 +1,15 @@
 use Rattle.std.proofs.Common.{rules, ◌≡◌, ◌+◌, false, List, None, refl, sym, ap, ◌∙◌, subst, arith, length, set}
-use Rattle.strm_links.specs.Rows as rows
 use Rattle.strm_mblk.specs.declared.census.Census.{Census}
-use Rattle.strm_pool.specs.declared.names.Names.{Names}
-use Rattle.strm_pool.specs.Names.{registers_in}
 use Rattle.strm_pool.specs.Registers.{entries_of}
-use Rattle.strm_shared.specs.Books.{BookValue, IsServed, book_value, end_of}
+use Rattle.strm_shared.specs.Books.{BookValue, IsServed, end_of}
 use Rattle.strm_shared.specs.Desks.{DeskValue, desk_value}
 use Rattle.strm_shared.specs.Pairs.{pair_at}
 use Rattle.strm_shared.specs.Chronicle.{entry_of}
 use Rattle.strm_shared.specs.Seats.{IsOf}
-use Rattle.strm_shared.specs.SeatsLayout.{IsAt, history_at, known_at, known_in}
+use Rattle.strm_shared.specs.SeatsLayout.{IsAt, book_with, history_at, known_at, known_in}
 use Rattle.strm_shared.specs.Traces.{IsTraceOf, is_full}
 use Rattle.strm_shared.specs.declared.entry.Entry.{Entry}
-use Rattle.strm_shared.proofs.Turning.{IsKnown, Turns, held_moved, others, owned, table_is, turns, within}
+use Rattle.strm_shared.proofs.Turning.{IsKnown, Turns, held_moved, owned, turns}
 use Rattle.strm_shared.proofs.Telling.{told_next}
 use Rattle.strm_shared.proofs.Tracing.{trace_next}
 use Rattle.strm_shared.proofs.seats.Desks.{seat_is}
@@ -33,12 +30,12 @@ joined g c = (c.admit.ensures (history_at c.self.inside.seat) (known_in c.desk.i
 
 -- so the book knows the desk
 is_known : (g : given.Over) (c : After-census-before g)
-    → IsKnown g.N.Name.opened.arena.id g.N.Name.desks g.N.Name.first (book_value c.self.inside.pool c.self.inside.stamp c.self.inside.tables.items (history_at c.self.inside.seat).pairs (history_at c.self.inside.seat).entries c.self.inside.trace)
+    → IsKnown g.N.Name.opened.arena.id g.N.Name.desks g.N.Name.first (book_with (history_at c.self.inside.seat) c.self.inside.pool c.self.inside.stamp c.self.inside.trace)
     (desk_value c.desk.inside.number c.desk.inside.regs (known_in c.desk.inside.seat).pairs (known_in c.desk.inside.seat).served)
 is_known g c = record { book = c.self.invariant.0; desk = c.desk.invariant.0; table = table_known c.self.invariant.2 c.desk.invariant.2 (joined g c) }
 
 -- calls are still served
-unended : (g : given.Over) (c : After-census-before g) → end_of (book_value c.self.inside.pool c.self.inside.stamp c.self.inside.tables.items (history_at c.self.inside.seat).pairs (history_at c.self.inside.seat).entries c.self.inside.trace) ≡ None
+unended : (g : given.Over) (c : After-census-before g) → end_of (book_with (history_at c.self.inside.seat) c.self.inside.pool c.self.inside.stamp c.self.inside.trace) ≡ None
 unended g c = search rules
 
 not_full : (g : given.Over) (c : After-census-before g) → is_full c.self.inside.trace ≡ false
@@ -74,32 +71,26 @@ overflow_add-desk g c =
 
 -- book, desk and their seats, once the call is entered
 left : (g : given.Over) (c : After-enter-seat g)
-    → IsKnown g.N.Name.opened.arena.id g.N.Name.desks g.N.Name.first (book_value c.self.inside.pool c.self.inside.stamp c.self.inside.tables.items (history_at c.self.inside.seat).pairs (history_at c.self.inside.seat).entries c.self.inside.trace)
+    → IsKnown g.N.Name.opened.arena.id g.N.Name.desks g.N.Name.first (book_with (history_at c.self.inside.seat) c.self.inside.pool c.self.inside.stamp c.self.inside.trace)
     (desk_value c.desk.inside.number c.desk.inside.regs (known_in c.desk.inside.seat).pairs (known_in c.desk.inside.seat).served)
     → IsAt g.N.Name.board (known_in c.desk.inside.seat) c.in-Some-take.seat
-    → end_of (book_value c.self.inside.pool c.self.inside.stamp c.self.inside.tables.items (history_at c.self.inside.seat).pairs (history_at c.self.inside.seat).entries c.self.inside.trace) ≡ None
-    → Turns g.N.Name.opened.arena.id g.N.Name.desks g.N.Name.first (book_value c.self.inside.pool c.self.inside.stamp c.self.inside.tables.items (history_at c.self.inside.seat).pairs (history_at c.self.inside.seat).entries c.self.inside.trace)
+    → end_of (book_with (history_at c.self.inside.seat) c.self.inside.pool c.self.inside.stamp c.self.inside.trace) ≡ None
+    → Turns g.N.Name.opened.arena.id g.N.Name.desks g.N.Name.first (book_with (history_at c.self.inside.seat) c.self.inside.pool c.self.inside.stamp c.self.inside.trace)
     (desk_value c.desk.inside.number c.desk.inside.regs (known_in c.desk.inside.seat).pairs (known_in c.desk.inside.seat).served) c.args.line c.args.call.now
-    (book_value c.apply-reply.new.self (c.self.inside.stamp + 1) (set c.self.inside.tables.items c.from.result c.note.new.self) (history_at c.enter-seat.new.lock).pairs (history_at c.enter-seat.new.lock).entries c.keep.new.self)
+    (book_with (history_at c.enter-seat.new.lock) c.apply-reply.new.self (c.self.inside.stamp + 1) c.keep.new.self)
     (desk_value c.desk.inside.number c.apply-reply.new.regs (known_at c.enter-seat.result).pairs (known_at c.enter-seat.result).served) c.apply-reply.result
     × Entered g.N.Name.board (pair_at g.N.Name.first g.N.Name.opened) (length g.N.Name.opened.arena.held) g.N.Name.desks (c.self.inside.stamp + 1) c.desk.inside.number (c.desk.inside.calls + 1) c.apply-reply.new.self
-    c.self.inside.tables.items (entries_of c.apply-reply.new.regs) (entry_of c.desk.inside.number c.args.line c.args.call.now c.apply-reply.result) (history_at c.self.inside.seat) (known_in c.desk.inside.seat) c.enter-seat.new.lock c.enter-seat.result
+    (entries_of c.apply-reply.new.regs) (entry_of c.desk.inside.number c.args.line c.args.call.now c.apply-reply.result) (history_at c.self.inside.seat) (known_in c.desk.inside.seat) c.enter-seat.new.lock c.enter-seat.result
 left g c known at going =
     let h = history_at c.self.inside.seat in
     let d = known_in c.desk.inside.seat in
     let kept = c.self.invariant.2 in
     let joined = c.admit.ensures h d kept.here at in
     let whole = c.lawful.ensures.whole ∙ c.apply-reply.ensures.size ∙ c.self.invariant.1.sized in
-    let b : BookValue = book_value c.self.inside.pool c.self.inside.stamp c.self.inside.tables.items h.pairs h.entries c.self.inside.trace in
-    let desk : DeskValue = desk_value c.desk.inside.number c.desk.inside.regs d.pairs d.served in
-    let here = within g.N.Name.opened.arena.id g.N.Name.desks g.N.Name.first b desk c.self.invariant.0 c.desk.invariant.0 in
-    let noted : c.note.new.self ≡ entries_of c.apply-reply.new.regs =
-    c.note.ensures desk.regs (sym (table_is b desk.number c.index_mut.result.now here (search rules)) ∙ known.table)
-    (λ x past. others known c.apply-reply.ensures x (ap (λ (names : Names). rows.has x (registers_in names)) (sym c.names.ensures) ∙ past)) in
     let now =
     entered kept c.desk.invariant.2 joined.1 c.apply-reply.new.self whole c.census-census.result c.census-census.ensures (entry_of c.desk.inside.number c.args.line c.args.call.now c.apply-reply.result)
     (entries_of c.apply-reply.new.regs) c.enter-seat.new.lock c.enter-seat.result refl (c.enter-seat.ensures h d joined.0) in (
-      turns known c.apply-reply.ensures c.args.line c.from.result c.note.new.self (history_at c.enter-seat.new.lock).pairs (known_at c.enter-seat.result).pairs (history_at c.enter-seat.new.lock).entries (known_at c.enter-seat.result).served c.keep.new.self c.from.ensures noted
+      turns known c.apply-reply.ensures c.args.line (history_at c.enter-seat.new.lock).tables (history_at c.enter-seat.new.lock).pairs (known_at c.enter-seat.result).pairs (history_at c.enter-seat.new.lock).entries (known_at c.enter-seat.result).served c.keep.new.self now.tables
           going now.listed now.saw joined.1.pairs (later kept c.desk.invariant.2 joined.1 c.apply-reply.new.self whole) now.entered now.served c.keep.ensures.entries,
       now,
     )
@@ -112,7 +103,7 @@ invariant_of-self g c =
     let after = ap (λ (census : Census). census.held) c.census-census.ensures in (
       now.0.book,
       record { some = c.self.invariant.1.some; counted = omega (arith, c.count_held.ensures.total, c.self.invariant.1.counted, before, after); sized = now.0.sized ∙ c.self.invariant.1.sized },
-      now.1.kept _ now.0.served.tables,
+      now.1.kept,
       told_next c.self.invariant.3 now.0.served c.desk.invariant.0.below,
       subst (λ (es : List Entry). IsTraceOf g.N.Name.kept es c.keep.new.self) (sym now.1.entered)
           (trace_next (history_at c.self.inside.seat).entries (entry_of c.desk.inside.number c.args.line c.args.call.now c.apply-reply.result) c.self.inside.trace c.keep.new.self g.N.Name.kept
@@ -135,7 +126,7 @@ returns g c =
     let at = goal.at.returns g c in
     let now = left g at.After-enter-seat (is_known g at.After-census-before) (there g at.After-census-before) (unended g at.After-census-before) in
     let d = desk_value c.desk.inside.number c.desk.inside.regs (known_in c.desk.inside.seat).pairs (known_in c.desk.inside.seat).served in
-    let b = book_value c.apply-reply.new.self (c.self.inside.stamp + 1) (set c.self.inside.tables.items c.from.result c.note.new.self) (history_at c.enter-seat.new.lock).pairs (history_at c.enter-seat.new.lock).entries c.keep.new.self in
+    let b = book_with (history_at c.enter-seat.new.lock) c.apply-reply.new.self (c.self.inside.stamp + 1) c.keep.new.self in
     let e = desk_value c.desk.inside.number c.apply-reply.new.regs (known_at c.enter-seat.result).pairs (known_at c.enter-seat.result).served in
     subst (λ (x : DeskValue). IsServed c.args.self.now x c.args.line c.args.call.now b e c.apply-reply.result) c.desk.view_is
     (subst (λ (x : BookValue). IsServed x d c.args.line c.args.call.now b e c.apply-reply.result) c.self.view_is now.0.served)

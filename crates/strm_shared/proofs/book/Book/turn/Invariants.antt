@@ -3,4 +3,4 @@ use Rattle.strm_shared.specs.Chronicle.{entry_of}
 use Rattle.strm_shared.proofs.book.Book.turn.Given as goal
 
 abbrev pub ghosts-enter : goal.ghosts-enter
-ghosts-enter g a = record { entry = entry_of a.desk a.line a.call.now a.reply.now; table = entries_of a.regs.now }
+ghosts-enter g a = record { entry = entry_of a.told.desk a.told.line a.told.call.now a.told.reply.now; table = entries_of a.regs.now }

@@ -1,11 +1,10 @@
-use Rattle.std.proofs.Common.{rules, ◌≡◌, ℕ, ◌+◌, ◌≤◌, List, [], ◌∷◌, ◌∙◌, map, refl, sym, ap, subst, length, append-nil, arith, get_or}
+use Rattle.std.proofs.Common.{rules, ◌≡◌, ℕ, ◌+◌, ◌≤◌, List, [], ◌∷◌, ◌∙◌, map, refl, sym, ap, subst, length, append-nil, arith}
 use Rattle.std.specs.Prelude.{All, IsPermutation}
 use Rattle.std.specs.List.Sorted.{IsNonDecreasingBy}
 use Rattle.std.proofs.lemmas.List.{length-map}
 use Rattle.std.proofs.lemmas.List.Sorted.{IsPermutation-map, length_permutation, sum_by-IsPermutation}
 use Rattle.std.proofs.lemmas.List.Sums.{sum_by-cons}
 use Rattle.strm_links.specs.Counting.{times}
-use Rattle.strm_pool.specs.Registers.{AreAccounted, Entries}
 use Rattle.strm_shared.specs.Desks.{DeskValue, shown}
 use Rattle.strm_shared.specs.Ledger.{blocks_at, blocks_held}
 use Rattle.strm_shared.specs.Pairs.{Pair, pair_at}
@@ -31,13 +30,6 @@ met g c =
     subst (λ id. All (IsMet id g.N.Name.desks g.N.Name.first (history_at c.pool.inside.seat)) c.meet.new.self) (sym c.pool.invariant.0.same)
     (c.meet.ensures.met (history_at c.pool.inside.seat) [] c.pool.invariant.2.here)
 
--- whose tables are the book's
-accounted : (g : given.Over) (c : After-meet g) → AreAccounted c.pool.inside.pool.arena (history_at c.pool.inside.seat).tables
-accounted g c = subst (AreAccounted c.pool.inside.pool.arena) (sym c.pool.invariant.2.tables) c.pool.invariant.0.accounted
-
-many : (g : given.Over) (c : After-meet g) → length (history_at c.pool.inside.seat).tables ≡ g.N.Name.desks
-many g c = ap length c.pool.invariant.2.tables ∙ c.pool.invariant.0.tables
-
 pub meet-requires : goal.meet-requires
 meet-requires g c = (
   omega arith,
@@ -55,7 +47,7 @@ returns-clause-shown g c =
       stamp = b.stamp;
       pairs = h.pairs;
       entries = h.entries;
-      tables = b.tables.items;
+      tables = h.tables;
       told = c.pool.invariant.3;
       counted = told_at c.pool.invariant.3;
       kept = search rules;
@@ -65,7 +57,7 @@ returns-clause-shown g c =
           (IsPermutation-map (shown (pair_at b.stamp b.pool)) c.args.desks c.sort.new.self (subst (λ (ds : List DeskValue). IsPermutation ds c.sort.new.self) c.audit.ensures.same c.sort.ensures.same));
       seen = λ k d within. (there k d within).pairs;
       served = λ k d within. (there k d within).served;
-      known = λ k d within. ap (λ (ts : List Entries). get_or ts (get_or c.meet.new.self k d).number []) (sym kept.tables) ∙ (there k d within).table;
+      known = λ k d within. (there k d within).table;
     }
 
 pub returns-clause-sorted : goal.returns-clause-sorted
@@ -88,7 +80,7 @@ returns-clause-all g c =
 pub returns-clause-owned : goal.returns-clause-owned
 returns-clause-owned g c =
     let at = (goal.at.returns-clause-owned g c).After-meet in
-    all_owned g.N.Name.desks g.N.Name.first (history_at c.pool.inside.seat) c.pool.inside.pool c.meet.new.self (met g at) (accounted g at) (many g at)
+    all_owned g.N.Name.desks g.N.Name.first (history_at c.pool.inside.seat) c.pool.inside.pool c.meet.new.self (met g at) c.pool.invariant.0.accounted c.pool.invariant.0.tables
 
 -- they are in the order of their numbers, of which none stands twice, and all came
 in_order : (g : given.Over) (c : After-meet g) → IsNonDecreasingBy (λ (d : DeskValue). d.number) c.meet.new.self
@@ -118,4 +110,4 @@ pub returns-clause-accounted : goal.returns-clause-accounted
 returns-clause-accounted g c =
     let at = (goal.at.returns-clause-accounted g c).After-meet in
     let enough : length c.args.desks ≡ g.N.Name.desks = search rules in
-    all_accounted g.N.Name.desks g.N.Name.first (history_at c.pool.inside.seat) c.pool.inside.pool c.meet.new.self (met g at) (accounted g at) (many g at) (in_order g at) (once g at) (all_came g at enough)
+    all_accounted g.N.Name.desks g.N.Name.first (history_at c.pool.inside.seat) c.pool.inside.pool c.meet.new.self (met g at) c.pool.invariant.0.accounted c.pool.invariant.0.tables (in_order g at) (once g at) (all_came g at enough)

@@ -4,9 +4,9 @@ use Rattle.strm_data.specs.declared.refusal.Refusal.{Refusal}
 use Rattle.strm_pool.specs.declared.call.Call.{Call}
 use Rattle.strm_pool.specs.declared.reply.Reply.{Reply}
 use Rattle.strm_shared.specs.declared.name.Name.{Ghosts}
-use Rattle.strm_shared.specs.Books.{Answers, BookValue, IsAfter, MayRefuse, TellsNewest}
-use Rattle.strm_shared.specs.Desks.{DeskValue}
-use Rattle.strm_shared.proofs.Refusing.{may_refuse}
+use Rattle.strm_shared.specs.Books.{Answers, BookValue, IsAfter, IsEnd, TellsNewest}
+use Rattle.strm_shared.specs.Desks.{DeskValue, stamp_seen}
+use Rattle.strm_shared.proofs.Refusing.{end_seen}
 use Rattle.strm_shared.proofs.Turning.{tells_newest}
 use Rattle.strm_shared.proofs.shared.Shared.serve.Goals as goal
 
@@ -14,9 +14,9 @@ census : (b : BookValue) (d : DeskValue) (line : ℕ) (call : Call) (c : BookVal
 census b d line call c e (Ok reply) served = tells_newest b d line call c e reply served
 census b d line call c e (Err why) refused = tt
 
-refusals : {N : Type 0} (n : Ghosts N) (d : DeskValue) (line : ℕ) (call : Call) (e : DeskValue) (r : Result Reply Refusal) → IsAfter n d line call e r → IfErr r (λ why. MayRefuse n.kept why)
+refusals : {N : Type 0} (n : Ghosts N) (d : DeskValue) (line : ℕ) (call : Call) (e : DeskValue) (r : Result Reply Refusal) → IsAfter n d line call e r → IfErr r (λ why. IsEnd n why (stamp_seen e))
 refusals n d line call e (Ok reply) after = tt
-refusals n d line call e (Err why) after = may_refuse n d line call e why after
+refusals n d line call e (Err why) after = end_seen n d line call e why after
 
 pub returns : goal.returns
 returns g c =

@@ -1,6 +1,4 @@
-use Rattle.std.proofs.Common.{◌≡◌, [], rules, arith, subst, sym, ap, ◌∙◌}
-use Rattle.strm_pool.specs.Registers.{AreAccounted}
-use Rattle.strm_pool.proofs.Accounts.{accounted_idle}
+use Rattle.std.proofs.Common.{◌≡◌, [], rules, arith, sym, ap, ◌∙◌}
 use Rattle.strm_shared.specs.Seats.{first_view}
 use Rattle.strm_shared.specs.Pairs.{Pair, count_in, pair_at}
 use Rattle.strm_shared.proofs.Opening.{good_setup}
@@ -30,8 +28,6 @@ invariant_of-result c =
         some = bounds.0;
         few = bounds.1;
         unspent = bounds.2;
-        told = c.in-Ok.ensures;
-        accounted = subst (AreAccounted c.args.pool.arena) (sym c.in-Ok.ensures) (accounted_idle c.args.pool.arena c.args.setup.desks c.lawful.ensures.parted c.requires);
         idle = c.requires;
         blank = search rules;
         shared = search rules;

@@ -1,12 +1,14 @@
-use Rattle.std.proofs.Common.{rules, ◌≡◌, [], length, replicate, sym, ap, ◌∙◌, subst, arith}
+use Rattle.std.proofs.Common.{rules, ◌≡◌, [], length, sym, ap, ◌∙◌, subst, arith}
 use Rattle.std.proofs.lemmas.List.{length-replicate}
 use Rattle.strm_mblk.specs.Arena.{census_of}
 use Rattle.strm_pool.specs.PoolValue.{PoolValue}
-use Rattle.strm_shared.specs.Books.{BookValue, book_value}
+use Rattle.strm_pool.specs.Registers.{AreAccounted}
+use Rattle.strm_pool.proofs.Accounts.{accounted_idle}
+use Rattle.strm_shared.specs.Books.{BookValue}
 use Rattle.strm_shared.specs.Chronicle.{AreTold}
 use Rattle.strm_shared.specs.Pairs.{count_in, pair_at}
 use Rattle.strm_shared.specs.Seats.{no_entries, opening_history}
-use Rattle.strm_shared.specs.SeatsLayout.{history_at}
+use Rattle.strm_shared.specs.SeatsLayout.{book_with, history_at}
 use Rattle.strm_shared.specs.Starts.{StartValue}
 use Rattle.strm_shared.specs.Traces.{IsTraceOf}
 use Rattle.strm_shared.specs.declared.views.History.{History}
@@ -25,23 +27,21 @@ invariant_of-book g c =
     let first : n.first ≡ s.first_stamp = c.requires.begun ∙ sym (ap (λ (x : StartValue). x.first) c.self.view_is) in
     let desks : n.desks ≡ s.desks = c.requires.counted ∙ sym (ap (λ (x : StartValue). x.desks) c.self.view_is) in
     let trace : n.kept ≡ s.trace.most = c.requires.kept ∙ sym (ap (λ (x : StartValue). x.kept) c.self.view_is) in
-    let tables : replicate n.desks no_entries ≡ s.tables.items = ap (λ k. replicate k no_entries) desks ∙ sym c.self.invariant.0.told in
-    let history : opening_history o s.desks ≡ history_at c.hand_out-desks.new.lock = sym (history_is n.board _ [] c.hand_out-desks.new.lock c.hand_out-desks.ensures.lock) in (
+    let history : opening_history o n.desks ≡ history_at c.hand_out-desks.new.lock = ap (opening_history o) desks ∙ sym (history_is n.board _ [] c.hand_out-desks.new.lock c.hand_out-desks.ensures.lock) in (
       record {
         same = ap (λ (v : PoolValue). v.arena.id) (sym pool);
         begun = omega (arith, first);
         unspent = c.self.invariant.0.unspent;
-        tables = ap length c.self.invariant.0.told ∙ length-replicate s.desks no_entries ∙ sym desks;
-        accounted = c.self.invariant.0.accounted;
+        tables = ap (λ (h : History). length h.tables) (sym history) ∙ length-replicate n.desks no_entries;
+        accounted = subst (λ (h : History). AreAccounted s.pool.arena h.tables) history (accounted_idle s.pool.arena n.desks c.lawful.ensures.parted c.self.invariant.0.idle);
       },
       search rules,
-      kept n.board o n.desks s.first_stamp s.pool s.tables.items (opening_history o s.desks) c.hand_out-desks.new.lock c.hand_out-desks.ensures.lock
+      kept n.board o n.desks s.first_stamp s.pool (opening_history o s.desks) c.hand_out-desks.new.lock c.hand_out-desks.ensures.lock
           (history_begins o s.desks (omega (arith, c.lawful.ensures.whole, c.lawful.ensures.few, ap (λ (v : PoolValue). count_in (census_of v.arena)) pool)))
           (λ i. pair_at (first i) (pool i))
-          (sym desks)
-          (sym c.self.invariant.0.told),
+          (sym desks),
       subst (λ (b : BookValue). AreTold n.opened n.desks n.first b.stamp b.entries b.pool b.tables b.pairs)
-          (λ i. book_value (pool i) (first i) (tables i) (history i).pairs (history i).entries s.trace)
+          (λ i. book_with (history i) (pool i) (first i) s.trace)
           (told_first n.opened n.desks n.first),
       subst (λ (h : History). IsTraceOf n.kept h.entries s.trace) history (trace_first n.kept s.trace (sym trace) c.self.invariant.0.blank),
     )

@@ -1,7 +1,7 @@
 use Rattle.std.proofs.Common.{arith}
 use Rattle.std.proofs.lemmas.Grind.{common_steps}
 use Rattle.strm_script.proofs.Digits.{length_line, length_worker, placed}
-use Rattle.strm_script.proofs.transcript.PlacePiece.append.Goals as goal
+use Rattle.strm_script.proofs.transcript.LabelPiece.append.Goals as goal
 
 pub write_digits-colon-requires : goal.write_digits-colon-requires
 write_digits-colon-requires c = let short = length_line c.from.result (omega arith) in (omega (arith, short), omega arith)
