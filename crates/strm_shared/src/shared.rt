@@ -15,8 +15,12 @@ use crate::desk_count::DeskCount;
 use crate::desks::Desks;
 use crate::listed::TraceEntries;
 use crate::name::Name;
-use std::sync::{Mutex, Wait};
+use std::hint::spin_loop;
+use std::sync::{Mutex, MutexGuard, Wait};
 use strm_pool::{Call, Census, Pool, Refusal, Reply};
+
+// How often a thread looks whether the lock is free before it sleeps.
+const LOOKS: u32 = 16;
 
 /// A pool that threads share, under one lock. Each has a desk of its own. Beside the lock stands one atomic word, which tells a
 /// stamp, and how many message blocks were free, queued and held then; each served call stores it once, inside the lock.
@@ -57,12 +61,26 @@ impl<N: Name> Shared<N> {
         ensures census { TellsNewest desk.new result call.now }
         ensures refused { IfErr result (λ why. IsEnd N.Name why (stamp_seen desk.new)) }
     {
-        let mut lock = self.book.lock(rt);
+        let mut lock = self.wait_for_book(rt);
         let book = &mut *lock;
         book.lawful();
         let answer = book.turn(self, desk, line, call);
         book.lawful();
         answer
+    }
+
+    // Waits for the lock. Whoever finds it held pauses, each time twice as long, so that the thread that has it goes on with the pool
+    // in its processor's cache, and is not asked for a wake; behind the last look it sleeps.
+    fn wait_for_book(&self, rt: &impl Wait) -> MutexGuard<'_, Book<N>> {
+        let mut pauses = 1u32;
+        for _ in 0..LOOKS {
+            if let Some(book) = self.book.try_lock() {
+                return book;
+            }
+            pause(pauses);
+            pauses = pauses.saturating_mul(2);
+        }
+        self.book.lock(rt)
     }
 
     /// The stamp, and how many message blocks are free, queued and held at it, by one load of the word. It asks for no lock, so
@@ -130,5 +148,12 @@ impl<N: Name> Shared<N> {
         desks.meet(&board, &mut seat);
         let trace = TraceEntries::of(trace.into_entries());
         Ok(Gathered { pool, trace, desks })
+    }
+}
+
+// Pauses so often.
+fn pause(times: u32) {
+    for _ in 0..times {
+        spin_loop();
     }
 }
