@@ -1,14 +1,16 @@
-"""Judges the text of a script whose sections workers have served: it tells an order, which the plain model replays."""
+"""Judges the text of a script whose sections workers have served: it tells an order, which the plain model replays. A text
+that ends early is judged too, as far as it goes."""
+import copy
 import re
 
 from mixed import WORDS
 from model import Model, Pool
 
-REPLY = re.compile(r"(0|[1-9][0-9]*):([1-9][0-9]*) (.*)")
+REPLY = re.compile(r"(0|[1-9][0-9]*):[1-9][0-9]* .*")
 
 
 class Wrong(Exception):
-    """Why a text is none of its script."""
+    """Why a text is none of its script, or no beginning of one."""
 
 
 def value_of(item, text):
@@ -44,40 +46,72 @@ def script_of(script):
     return pool, sections
 
 
+class Replay:
+    """A script whose lines the plain model serves in the order that a text tells."""
+
+    def __init__(self, script):
+        pool, self.sections = script_of(script)
+        self.model = Model(pool)
+        for _ in self.sections:
+            self.model.begin()
+        self.served = [0] * len(self.sections)
+        self.order = []
+
+    def waits(self, worker):
+        """Whether there is such a worker, and a line of it left."""
+        return worker < len(self.sections) and self.served[worker] < len(self.sections[worker])
+
+    def waiting(self):
+        return list(filter(self.waits, range(len(self.sections))))
+
+    def line(self, model, worker):
+        """The line of the text where a model serves the next line of this worker."""
+        number, word, items, values = self.sections[worker][self.served[worker]]
+        model.held = model.workers[worker]
+        return f"{worker}:{number} {model.answer(word, items, values)}"
+
+    def follow(self, lines):
+        """Serves the lines that the first lines of a text tell of, and returns what comes behind them."""
+        for at, line in enumerate(lines):
+            told = REPLY.fullmatch(line)
+            if told is None:
+                return lines[at:]
+            worker = int(told[1])
+            if not self.waits(worker):
+                raise Wrong(f"worker {worker} has no line left: {line}")
+            wanted = self.line(self.model, worker)
+            if line != wanted:
+                raise Wrong(f"in this order it is {wanted!r}: {line}")
+            self.served[worker] += 1
+            self.order.append(worker)
+        return []
+
+    def ahead(self):
+        """What may come next: the line of any worker that has one left, or else the report."""
+        waiting = self.waiting()
+        if not waiting:
+            return ["".join(f"{line}\n" for line in self.model.report())]
+        return [f"{self.line(copy.deepcopy(self.model), worker)}\n" for worker in waiting]
+
+
 def judge(script, text):
     """Raises `Wrong` where this is no text of the script under any order that keeps each worker's own. Returns whether
     the order is the serial one."""
-    pool, sections = script_of(script)
     if not text.endswith("\n"):
         raise Wrong("the text does not end with a line end")
-    lines = text[:-1].split("\n")
-    model = Model(pool)
-    for _ in sections:
-        model.begin()
-    served = [0] * len(sections)
-    order = []
-    for at, line in enumerate(lines):
-        told = REPLY.fullmatch(line)
-        if told is None:
-            break
-        worker, number, reply = int(told[1]), int(told[2]), told[3]
-        if worker >= len(sections):
-            raise Wrong(f"there is no worker {worker}: {line}")
-        if served[worker] == len(sections[worker]):
-            raise Wrong(f"worker {worker} has no line more: {line}")
-        wanted, word, items, values = sections[worker][served[worker]]
-        if number != wanted:
-            raise Wrong(f"line {wanted} comes next of worker {worker}: {line}")
-        model.held = model.workers[worker]
-        answer = model.answer(word, items, values)
-        if reply != answer:
-            raise Wrong(f"in this order the reply is {answer!r}: {line}")
-        served[worker] += 1
-        order.append(worker)
-    else:
-        raise Wrong("there is no report")
-    if served != [len(section) for section in sections]:
-        raise Wrong(f"a line was not served, or the report comes too early: {served}")
-    if lines[at:] != model.report():
-        raise Wrong(f"the report is another one: {lines[at:]}, and not {model.report()}")
-    return order == sorted(order)
+    replay = Replay(script)
+    rest = replay.follow(text[:-1].split("\n"))
+    if replay.waiting():
+        raise Wrong(f"a line was not served, or the report comes too early: {replay.served}")
+    if rest != replay.model.report():
+        raise Wrong(f"the report is another one: {rest}, and not {replay.model.report()}")
+    return replay.order == sorted(replay.order)
+
+
+def judge_beginning(script, text):
+    """Raises `Wrong` where no such text of the script begins so."""
+    *lines, piece = text.split("\n")
+    replay = Replay(script)
+    rest = "\n".join([*replay.follow(lines), piece])
+    if not any(following.startswith(rest) for following in replay.ahead()):
+        raise Wrong(f"nothing that may come next begins so: {rest!r}")
