@@ -1,4 +1,4 @@
-# Builds, runs and tests the program strm. All that it needs is Rattle's command `rt` on PATH.
+# Builds, runs and tests the program strm. All that it needs is Rattle's command `rt` on PATH, and `cc` for the tests.
 
 SHELL := bash
 .SHELLFLAGS := -o pipefail -c

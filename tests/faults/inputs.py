@@ -1,0 +1,112 @@
+"""What the program is run on: cases of tests/cases, and the answer to each where nothing fails."""
+import os
+import shutil
+import subprocess
+import sys
+from typing import NamedTuple
+
+from shim import Answer
+
+TOP = os.path.dirname(os.path.dirname(os.path.dirname(os.path.abspath(__file__))))
+sys.path.insert(0, os.path.join(TOP, "tests", "making"))
+from judge import Wrong, judge, judge_beginning
+
+# Where a write takes only a part of a text, it is one of about so many.
+PARTS = 7
+
+
+class Input(NamedTuple):
+    """A case with words in front of its own, and what the program asks the C library for."""
+
+    case: str
+    words: tuple = ()
+    threads: int = 0
+    reads: bool = True
+    # How many growths are made good where they are refused: in each run that of the vector of the program's words.
+    made_good: int = 1
+
+
+# Where workers serve several sections, each order has a text of the same length, and so as many writes.
+INPUTS = [
+    Input("first_run", words=("--serial",)),
+    Input("back_enabling", threads=1),
+    Input("two_workers_at_one_pool", threads=2),
+    Input("sixteen_workers_in_any_order", threads=16),
+    Input("text_that_grows", threads=1),
+    Input("text_that_grows", words=("--serial",)),
+    Input("bands_of_sixteen_queues", threads=1),
+    Input("bands_of_sixteen_queues", words=("--serial",)),
+    Input("unknown"),
+    Input("bad_marks"),
+    Input("input_too_long"),
+    Input("help", reads=False),
+    # An unknown word is compared with those that there are, whose letters are vectors too.
+    Input("unknown_option", reads=False, made_good=11),
+]
+
+
+def want(wanted, came):
+    if came != wanted:
+        raise Wrong(f"wanted {wanted}; came {came}")
+
+
+def read(path, absent=""):
+    """What a file says, or what stands for it where there is none."""
+    if not os.path.exists(path):
+        return absent
+    with open(path, encoding="latin-1", newline="") as file:
+        return file.read()
+
+
+class Case:
+    """An input with its files, and the answer to it where nothing fails."""
+
+    def __init__(self, given, room):
+        self.given = given
+        self.name = " ".join([given.case, *given.words])
+        self.folder = os.path.join(room, self.name)
+        shutil.copytree(os.path.join(TOP, "tests", "cases", given.case), self.folder)
+        if os.path.exists(self.path("make")):
+            subprocess.run([self.path("make"), self.folder], cwd=TOP, check=True)
+        self.words = [*given.words, *read(self.path("words")).splitlines()]
+        self.script = self.path("script")
+        if not os.path.exists(self.script):
+            self.script = os.path.join(TOP, read(self.path("script.path"), os.devnull).strip())
+        status = int(read(self.path("status"), "0"))
+        self.answer = Answer(status, read(self.path("stdout")), read(self.path("stderr")))
+        self.is_served = given.reads and status == 0
+        # The numbers of the growths that were made good.
+        self.made_good = []
+
+    def path(self, name):
+        return os.path.join(self.folder, name)
+
+    def complete(self, came):
+        """Takes the text of which the case gives only the beginning from an answer that came."""
+        for stream in ("stdout", "stderr"):
+            begins = read(self.path(f"{stream}.begins"))
+            text = getattr(came, stream)
+            if begins and text.startswith(begins):
+                self.answer = self.answer._replace(**{stream: text})
+
+    def least(self):
+        """How many calls of each kind there are at least."""
+        return [1, self.given.threads, int(self.given.reads), int(self.answer.stdout != ""), int(self.answer.stderr != "")]
+
+    def part(self):
+        """How many bytes a write takes where it takes only a part."""
+        return max(1, len(self.answer.stdout) // PARTS)
+
+    def check(self, came):
+        """Wants the answer where nothing fails, in whatever order workers have served the lines."""
+        if self.is_served:
+            judge(read(self.script), came.stdout)
+            came = came._replace(stdout=self.answer.stdout)
+        want(self.answer, came)
+
+    def check_beginning(self, text):
+        """Wants what such a text begins with."""
+        if self.is_served:
+            judge_beginning(read(self.script), text)
+        elif not self.answer.stdout.startswith(text):
+            raise Wrong(f"the text does not begin so: {text[-200:]!r}")

@@ -1,0 +1,60 @@
+"""Runs a program over a shim (shim.c) between it and the C library, which counts its calls and fails one of them."""
+import os
+import struct
+import subprocess
+import sys
+import tempfile
+from typing import NamedTuple
+
+SOURCE = os.path.join(os.path.dirname(os.path.abspath(__file__)), "shim.c")
+# How long a run may take.
+SECONDS = 20
+# What the shim maps: of each kind of calls, how many were made and which one fails, and how many bytes a write to standard
+# output takes at most.
+KINDS_OF_CALLS = GROWTHS, THREADS, READS, OUTPUTS, ERRORS = range(5)
+CALLS = struct.Struct("2Q")
+MOST = struct.Struct("Q")
+NO_LIMIT = 2**64 - 1
+
+
+class Answer(NamedTuple):
+    """How a run ended, and what it wrote."""
+
+    status: int
+    stdout: str
+    stderr: str
+
+    def __str__(self):
+        return f"status {self.status}, {self.stdout[-100:]!r}, {self.stderr[-100:]!r}"
+
+
+class Shim:
+    """A program over the shim."""
+
+    def __init__(self, program, room):
+        self.program = os.path.abspath(program)
+        self.room = room
+        self.library = os.path.join(room, "shim.so")
+        words = ["cc", "-Wall", "-Wextra", "-Werror", "-shared", "-fPIC", "-o", self.library, SOURCE, "-ldl"]
+        try:
+            subprocess.run(words, check=True)
+        except (OSError, subprocess.CalledProcessError) as why:
+            sys.exit(f"the shim is not compiled: {why}")
+
+    def run(self, words, script, kind, failing=0, most=NO_LIMIT):
+        """Runs the program on a script, where this call of a kind fails, or none, and a write to standard output takes so many
+        bytes at most. Returns the answer, and how many calls of that kind were made."""
+        plan = b"".join(CALLS.pack(0, failing if calls == kind else 0) for calls in KINDS_OF_CALLS) + MOST.pack(most)
+        with tempfile.NamedTemporaryFile(dir=self.room) as mapped, open(script, "rb") as stdin:
+            mapped.write(plan)
+            mapped.flush()
+            ran = subprocess.run(
+                [self.program, *words],
+                stdin=stdin,
+                capture_output=True,
+                env={**os.environ, "LD_PRELOAD": self.library, "FAULTS": mapped.name},
+                timeout=SECONDS,
+            )
+            mapped.seek(kind * CALLS.size)
+            made, _ = CALLS.unpack(mapped.read(CALLS.size))
+        return Answer(ran.returncode, ran.stdout.decode("latin-1"), ran.stderr.decode("latin-1")), made
