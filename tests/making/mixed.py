@@ -1,5 +1,5 @@
 """Draws lines of all words, and answers them by the model."""
-from model import HIGH_PRIORITY, ORDINARY, Model
+from model import HIGH_PRIORITY, ORDINARY, Model, rank
 from served import write_served
 
 REGISTERS = "abcdefghijklmz"
@@ -49,6 +49,8 @@ WORDS = {
     "flushq": ("queue flag", 2),
     "flushband": ("queue band flag", 2),
     "bcanput": ("queue band", 10),
+    "strqset": ("queue marked high low", 8),
+    "strqget": ("queue marked", 2),
     "qsize": ("queue", 1),
     "qenable": ("queue", 1),
     "noenable": ("queue", 1),
@@ -62,8 +64,14 @@ WORDS = {
 BAG = [word for word, (_, often) in WORDS.items() for _ in range(often)]
 
 
-def value_of(what, model, dice):
-    """What may stand behind a word. Mostly, a source holds a message and a destination doesn't."""
+def queue_of(model, before):
+    """The queue that a line names, if there is such a one."""
+    return model.queues[before[0] : before[0] + 1]
+
+
+def value_of(what, model, dice, before):
+    """What may stand behind a word and these values. Mostly, a source holds a message and a destination doesn't, a band that is
+    marked has messages or is wanted, and its marks are near the number of its bytes."""
     if what in ("from", "to"):
         fitting = [register for register in REGISTERS if (register in model.held) == (what == "from")]
         return dice.one_of(fitting if fitting and dice.below(8) > 0 else REGISTERS)
@@ -77,6 +85,16 @@ def value_of(what, model, dice):
         return dice.one_of(dice.one_of([["M_DATA"], ["M_DATA", "M_PROTO"], ORDINARY, HIGH_PRIORITY]))
     if what == "band":
         return dice.below(3) if dice.below(6) > 0 else dice.below(256)
+    if what == "marked":
+        bands = [rank(message) % 256 for queue in queue_of(model, before) for message in queue.messages]
+        bands += [band for queue in queue_of(model, before) for band in sorted(queue.wanted) * 3]
+        return dice.one_of(bands) if bands and dice.below(4) > 0 else dice.below(256)
+    if what == "high":
+        count = sum(queue.bytes_in(before[1]) for queue in queue_of(model, before))
+        return dice.one_of([count, count + dice.below(9), dice.below(count + 9), dice.below(24), dice.below(2**32)])
+    if what == "low":
+        high = before[2]
+        return dice.one_of([min(dice.below(high + 2), 2**32 - 1), max(high - dice.below(6), 0)])
     if what == "count":
         return dice.one_of([-1, dice.below(10) - 3, dice.below(60) - 20, dice.below(2**32) - 2**31])
     if what == "at":
@@ -102,7 +120,9 @@ def drawn(model, dice):
         return dice.one_of(["", "#", "# more"]), None
     word = dice.one_of(BAG)
     items = WORDS[word][0].split()
-    values = [value_of(what, model, dice) for what in items]
+    values = []
+    for what in items:
+        values.append(value_of(what, model, dice, values))
     return " ".join([word, *map(written, values)]), model.answer(word, items, values)
 
 

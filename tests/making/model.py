@@ -95,13 +95,15 @@ def ranks_of(band):
 
 
 class Queue:
-    """A queue: what it was made with, its messages, its two marks, and its wanted bands."""
+    """A queue: what it was made with, the water marks of bands that have their own, its messages, its two marks, and its
+    wanted bands."""
 
     def __init__(self, high, low, service, following):
         self.high = high
         self.low = low
         self.has_service = service == "s"
         self.next = following
+        self.marks = {}
         self.messages = []
         self.wants_to_read = True
         self.enabling_is_off = False
@@ -109,6 +111,15 @@ class Queue:
 
     def bytes_in(self, band):
         return sum(total(message) for message in self.messages if rank(message) in ranks_of(band))
+
+    def marks_of(self, band):
+        return self.marks.get(band, (self.high, self.low))
+
+    def is_full(self, band):
+        return self.bytes_in(band) >= self.marks_of(band)[0]
+
+    def has_room(self, band):
+        return self.bytes_in(band) <= self.marks_of(band)[1]
 
 
 class Model:
@@ -335,7 +346,7 @@ class Model:
 
     def settle(self, number):
         queue = self.queues[number]
-        settled = {band for band in queue.wanted if queue.bytes_in(band) <= queue.low}
+        settled = {band for band in queue.wanted if queue.has_room(band)}
         queue.wanted -= settled
         if settled:
             self.enable_behind(number)
@@ -404,10 +415,19 @@ class Model:
         queue = self.queues[number]
         while not queue.has_service and queue.next != "-":
             queue = self.queues[queue.next]
-        if queue.bytes_in(band) < queue.high:
+        if not queue.is_full(band):
             return "yes"
         queue.wanted.add(band)
         return "no"
+
+    def strqset(self, number, band, high, low):
+        if low >= high:
+            raise Refused("20 BadMarks")
+        self.queues[number].marks[band] = high, low
+        self.settle(number)
+
+    def strqget(self, number, band):
+        return "marks {} {}".format(*self.queues[number].marks_of(band))
 
     def qsize(self, number):
         return f"size {len(self.queues[number].messages)}"
@@ -465,7 +485,7 @@ class Model:
                 count = queue.bytes_in(band)
                 if count > 0:
                     lines.append(
-                        f"band {band} bytes={count} full={int(count >= queue.high)} wanted={int(band in queue.wanted)}"
+                        f"band {band} bytes={count} full={int(queue.is_full(band))} wanted={int(band in queue.wanted)}"
                     )
         lines.append(f"run {' '.join(map(str, self.run)) or '-'}")
         lines.append(f"wishes {' '.join(f'{own}:{size}' for own, size in self.wishes) or '-'}")

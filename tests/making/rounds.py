@@ -1,7 +1,7 @@
 """Sections of rounds: the same 64 commands of all words again and again.
 
-A round begins with empty registers and a pool that nobody has used, and leaves them so, but that two ids are given. As
-many commands as there may be are whole rounds in each of one or sixteen sections."""
+A round begins with empty registers and a pool that nobody has used, and leaves them so, but that two ids are given and one
+band has water marks of its own. As many commands as there may be are whole rounds in each of one or sixteen sections."""
 
 # How many command lines there may be.
 MOST = 1_048_576
@@ -26,7 +26,6 @@ ROUND = [
     ("copymsg a f", "refused 2 NoMblk"),
     ("census", "census 1 0 7"),
     ("testb 0", "yes"),
-    ("testb 65", "no"),
     ("freemsg d", "ok"),
     ("freeb b", "ok"),
     ("adjmsg a 1", "ok"),
@@ -43,6 +42,8 @@ ROUND = [
     ("putbq 1 e", "ok"),
     ("bcanput 1 0", "yes"),
     ("bcanput 1 1", "no"),
+    ("strqset 1 3 9 8", "ok"),
+    ("strqget 1 3", "marks 9 8"),
     ("insq 1 2 g", "refused 9 NoSuchPlace"),
     ("insq 1 0 g", "ok"),
     ("noenable 1", "ok"),
@@ -70,7 +71,6 @@ ROUND = [
     ("unbufcall {first}", "refused 14 NotPending"),
     ("ready", "ready {second} 64"),
     ("ready", "none"),
-    ("qsize 0", "size 0"),
     ("census", "census 8 0 0"),
 ]
 REPORT = [

@@ -1,7 +1,7 @@
 -- The number and the name of each refusal.
 use Rattle.std.specs.Prelude.{ℕ, List, codes}
 use Rattle.strm_data.specs.declared.refusal.Refusal.{Refusal}
-use Rattle.strm_data.specs.declared.refusal.Refusal.TheVariants.{TooLarge, NoMblk, NoData, RefMax, NoSuchBlock, Shared, NoRoom, Short, NoSuchPlace, BadOrder, NoSuchQueue, Full, IdsSpent, NotPending, Stranger, TraceFull, Worn, DeskMissing, BadShared}
+use Rattle.strm_data.specs.declared.refusal.Refusal.TheVariants.{TooLarge, NoMblk, NoData, RefMax, NoSuchBlock, Shared, NoRoom, Short, NoSuchPlace, BadOrder, NoSuchQueue, Full, IdsSpent, NotPending, Stranger, TraceFull, Worn, DeskMissing, BadMarks, BadShared}
 
 abbrev pub number_of : Refusal → ℕ
 number_of TooLarge = 1
@@ -22,6 +22,7 @@ number_of Stranger = 16
 number_of TraceFull = 17
 number_of Worn = 18
 number_of DeskMissing = 19
+number_of BadMarks = 20
 number_of BadShared = 21
 
 abbrev pub name_of : Refusal → List ℕ
@@ -43,4 +44,5 @@ name_of Stranger = codes "Stranger"
 name_of TraceFull = codes "TraceFull"
 name_of Worn = codes "Worn"
 name_of DeskMissing = codes "DeskMissing"
+name_of BadMarks = codes "BadMarks"
 name_of BadShared = codes "BadShared"

@@ -60,7 +60,7 @@ const _: () = prove!(size_of::<Data>() == 120 && size_of::<Vec<u8>>() == 24);
 
 // Where bytes begin: at a place of the region of a class.
 #[derive(Clone, Copy, Debug)]
-struct Place {
+struct RegionPlace {
     class: usize,
     start: usize,
 }
@@ -112,7 +112,7 @@ fn overwrite(old: &mut [u8], at: usize, new: &[u8])
 }
 
 // Where byte `at` of a data block stands.
-fn place_of(classes: &[Class], blocks: &[DataBlock], number: DataNo, at: u32) -> Place
+fn place_of(classes: &[Class], blocks: &[DataBlock], number: DataNo, at: u32) -> RegionPlace
     requires there { number < length blocks.now }
     requires class { (block_at blocks.now number).class < length classes.now }
     requires first { (class_at classes.now (block_at blocks.now number).class).first ≤ number }
@@ -121,14 +121,14 @@ fn place_of(classes: &[Class], blocks: &[DataBlock], number: DataNo, at: u32) ->
     ensures low { result.start + 2 ^ 32 ≤ 2 ^ 64 + at }
 {
     let class = usize::from(blocks[number as usize].class);
-    Place {
+    RegionPlace {
         class,
         start: classes[class].start_of(number) + at as usize,
     }
 }
 
 // Copies so many bytes from a place to another, of the same region or another.
-fn copy_bytes(regions: &mut [Vec<u8>], from: Place, into: Place, len: usize)
+fn copy_bytes(regions: &mut [Vec<u8>], from: RegionPlace, into: RegionPlace, len: usize)
     requires from_class { from.class < length regions.old }
     requires into_class { into.class < length regions.old }
     requires low { from.start + len < 2 ^ 64 }

@@ -7,7 +7,7 @@ use thiserror::Error;
 /// Why a call is refused. A refused call changes nothing and gives its tokens back.
 ///
 /// Each refusal has a number, which is its discriminant and is what a transcript shows beside its name.
-/// 15 and 20 stand for no refusal. The numbers are this project's own choice.
+/// 15 stands for no refusal. The numbers are this project's own choice.
 #[derive(Clone, Copy, Debug, PartialEq, Eq, Error)]
 pub enum Refusal {
     #[error("the size is above the largest class")]
@@ -38,7 +38,7 @@ pub enum Refusal {
     IdsSpent = 13,
     #[error("no wish has this id")]
     NotPending = 14,
-    #[error("the registers are not those that were kept for the desk")]
+    #[error("a token is a stranger's, which is never answered")]
     Stranger = 16,
     #[error("the trace is full")]
     TraceFull = 17,
@@ -46,6 +46,8 @@ pub enum Refusal {
     Worn = 18,
     #[error("a desk that was handed out is not among those gathered")]
     DeskMissing = 19,
+    #[error("the low water mark is not below the high one")]
+    BadMarks = 20,
     #[error("the number of desks, the length of the trace or the first stamp is out of range")]
     BadShared = 21,
 }
@@ -81,6 +83,7 @@ impl Refusal {
             Refusal::TraceFull => "TraceFull",
             Refusal::Worn => "Worn",
             Refusal::DeskMissing => "DeskMissing",
+            Refusal::BadMarks => "BadMarks",
             Refusal::BadShared => "BadShared",
         }
     }

@@ -6,8 +6,8 @@ use Rattle.std.specs.Fmt.{digits}
 use Rattle.std.specs.List.{flat_map}
 use Rattle.strm_data.specs.declared.msg_type.MsgType.TheVariants.{MProto, MIocdata}
 use Rattle.strm_pool.specs.declared.call.Call.{Call}
-use Rattle.strm_pool.specs.declared.call.Call.TheVariants.{Testb, Dupb, Settype, Rmvb, Adjmsg, Pullupmsg, Read, Putbq, Insq, Rmvq, Flushq, Flushband, Bcanput, Qsize, Qenable, Noenable, Enableok, Service, Bufcall, Unbufcall, Ready}
-use Rattle.strm_pool.specs.declared.reply.Reply.TheVariants.{Size, Bytes, Block, Id, Queue}
+use Rattle.strm_pool.specs.declared.call.Call.TheVariants.{Testb, Dupb, Settype, Rmvb, Adjmsg, Pullupmsg, Read, Putbq, Insq, Rmvq, Flushq, Flushband, Bcanput, Strqset, Strqget, Qsize, Qenable, Noenable, Enableok, Service, Bufcall, Unbufcall, Ready}
+use Rattle.strm_pool.specs.declared.reply.Reply.TheVariants.{Size, Bytes, Block, Id, Queue, Marks}
 use Rattle.strm_pool.specs.declared.reply.Reply.TheVariants as replies
 use Rattle.strm_pool.specs.declared.config.Which.TheVariants.{Mblks}
 use Rattle.strm_queue.specs.declared.flush.Flush.TheVariants.{All, Data}
@@ -74,6 +74,11 @@ pub back-enabling : run (codes "pool 7 8\nclass 16 4\nqueue 10 4 s 1\nqueue 10 4
 unfolding digits every_band
 back-enabling = refl
 
+pub water-marks-of-a-band : run (codes "pool 7 8\nclass 16 4\nqueue 10 4 s 1\nqueue 10 4 s -\nbufcalls 0 1\nworker\nallocb a 4\nwrite a 0 00010203\nallocb b 3\nwrite b 0 040506\nallocb c 3\nwrite c 0 070809\nputq 1 a\nputq 1 b\nbcanput 1 0\nputq 1 c\nbcanput 1 0\nstrqset 1 0 20 10\nservice\nservice\nbcanput 1 0\nstrqset 1 0 5 5\nstrqget 1 0\nstrqget 1 3\nstrqset 1 0 10 9\nbcanput 1 0\nstrqset 2 0 5 5\n")
+    ≡ Ok (codes "0:7 ok\n0:8 ok\n0:9 ok\n0:10 ok\n0:11 ok\n0:12 ok\n0:13 ok\n0:14 ok\n0:15 yes\n0:16 ok\n0:17 no\n0:18 ok\n0:19 queue 1\n0:20 queue 0\n0:21 yes\n0:22 refused 20 BadMarks\n0:23 marks 20 10\n0:24 marks 10 4\n0:25 ok\n0:26 no\n0:27 refused 11 NoSuchQueue\nblocks free=5 queued=3 held=0 total=8\ndata size=16 free=1 total=4\nqueue 0 msgs=0 bytes=0 read=1 noenable=0 enabled=0\nqueue 1 msgs=3 bytes=10 read=1 noenable=0 enabled=0\nband 0 bytes=10 full=1 wanted=1\nrun -\nwishes -\n")
+unfolding digits every_band
+water-marks-of-a-band = refl
+
 pub bands-downwards : run (H ++ codes "allocb a 12\nwrite a 0 000102030405060708090a0b\nsetband a 255\nputq 0 a\nallocb a 1\nwrite a 0 00\nsettype a 0 M_PCPROTO\nputq 0 a\n")
     ≡ Ok (codes "0:7 ok\n0:8 ok\n0:9 ok\n0:10 ok\n0:11 ok\n0:12 ok\n0:13 ok\n0:14 ok\nblocks free=6 queued=2 held=0 total=8\ndata size=16 free=2 total=4\ndata size=64 free=2 total=2\nqueue 0 msgs=2 bytes=13 read=1 noenable=0 enabled=1\nband 255 bytes=12 full=1 wanted=0\nband 0 bytes=1 full=0 wanted=0\nrun 0\nwishes -\n")
 unfolding digits every_band
@@ -94,8 +99,8 @@ pub calls-on-queues : calls_in (script_of (H ++ codes "putbq 1 a\ninsq 2 3 b\nrm
     ≡ (Putbq 1 0 ∷ Insq 2 3 1 ∷ Rmvq 4 5 2 ∷ Qsize 255 ∷ []) ∷ []
 calls-on-queues = refl
 
-pub calls-on-flow : calls_in (script_of (H ++ codes "flushq 1 all\nflushband 2 3 data\nbcanput 4 255\nqenable 5\nnoenable 6\nenableok 7\nservice\n"))
-    ≡ (Flushq 1 All ∷ Flushband 2 3 Data ∷ Bcanput 4 255 ∷ Qenable 5 ∷ Noenable 6 ∷ Enableok 7 ∷ Service ∷ []) ∷ []
+pub calls-on-flow : calls_in (script_of (H ++ codes "flushq 1 all\nflushband 2 3 data\nbcanput 4 255\nqenable 5\nnoenable 6\nenableok 7\nservice\nstrqset 8 9 4294967295 10\nstrqget 11 12\n"))
+    ≡ (Flushq 1 All ∷ Flushband 2 3 Data ∷ Bcanput 4 255 ∷ Qenable 5 ∷ Noenable 6 ∷ Enableok 7 ∷ Service ∷ Strqset 8 9 4294967295 10 ∷ Strqget 11 12 ∷ []) ∷ []
 calls-on-flow = refl
 
 pub calls-on-wishes : calls_in (script_of (H ++ codes "bufcall 64\nunbufcall 4294967295\nready\n")) ≡ (Bufcall 64 ∷ Unbufcall 4294967295 ∷ Ready ∷ []) ∷ []
@@ -112,6 +117,10 @@ a-ready-wish = refl
 pub a-queue : reply_text (Queue 15) ≡ codes "queue 15"
 unfolding digits
 a-queue = refl
+
+pub the-marks : reply_text (Marks 20 10) ≡ codes "marks 20 10"
+unfolding digits
+the-marks = refl
 
 pub some-bytes : reply_text (Bytes (0 ∷ 10 ∷ 171 ∷ 255 ∷ [])) ≡ codes "bytes 000aabff"
 unfolding digits

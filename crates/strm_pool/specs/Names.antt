@@ -1,7 +1,7 @@
 -- What a call names: a queue, registers that it takes from, and one that it puts into.
 use Rattle.std.specs.Prelude.{ℕ, List, [], ◌∷◌, Option, None, Some}
 use Rattle.strm_pool.specs.declared.call.Call.{Call}
-use Rattle.strm_pool.specs.declared.call.Call.TheVariants.{Allocb, Testb, Dupb, Dupmsg, Copyb, Copymsg, Write, Settype, Setband, Linkb, Unlinkb, Rmvb, Adjmsg, Pullupmsg, Msgdsize, Size, Read, Block, Freeb, Freemsg, Putq, Putbq, Insq, Getq, Rmvq, Flushq, Flushband, Bcanput, Qsize, Qenable, Noenable, Enableok, Service, Bufcall, Unbufcall, Ready, Census}
+use Rattle.strm_pool.specs.declared.call.Call.TheVariants.{Allocb, Testb, Dupb, Dupmsg, Copyb, Copymsg, Write, Settype, Setband, Linkb, Unlinkb, Rmvb, Adjmsg, Pullupmsg, Msgdsize, Size, Read, Block, Freeb, Freemsg, Putq, Putbq, Insq, Getq, Rmvq, Flushq, Flushband, Bcanput, Strqset, Strqget, Qsize, Qenable, Noenable, Enableok, Service, Bufcall, Unbufcall, Ready, Census}
 use Rattle.strm_pool.specs.declared.names.Names.{Names}
 
 -- a queue, a first and a second source, and a destination
@@ -38,6 +38,8 @@ names_of (Rmvq q k y) = naming (Some q) None None (Some y)
 names_of (Flushq q flush) = naming (Some q) None None None
 names_of (Flushband q band flush) = naming (Some q) None None None
 names_of (Bcanput q band) = naming (Some q) None None None
+names_of (Strqset q band hiwat lowat) = naming (Some q) None None None
+names_of (Strqget q band) = naming (Some q) None None None
 names_of (Qsize q) = naming (Some q) None None None
 names_of (Qenable q) = naming (Some q) None None None
 names_of (Noenable q) = naming (Some q) None None None

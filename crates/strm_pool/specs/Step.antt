@@ -10,9 +10,10 @@ use Rattle.strm_mblk.specs.BlockCalls as blocks
 use Rattle.strm_mblk.specs.Freeing as freeing
 use Rattle.strm_mblk.specs.Given.{Given}
 use Rattle.strm_mblk.specs.Trimming as trimming
+use Rattle.strm_queue.specs.declared.marks.Marks.{Marks}
 use Rattle.strm_queue.specs.QueueCalls as queues
 use Rattle.strm_pool.specs.declared.call.Call.{Call}
-use Rattle.strm_pool.specs.declared.call.Call.TheVariants.{Allocb, Testb, Dupb, Dupmsg, Copyb, Copymsg, Write, Settype, Setband, Linkb, Unlinkb, Rmvb, Adjmsg, Pullupmsg, Msgdsize, Size, Read, Block, Freeb, Freemsg, Putq, Putbq, Insq, Getq, Rmvq, Flushq, Flushband, Bcanput, Qsize, Qenable, Noenable, Enableok, Service, Bufcall, Unbufcall, Ready, Census}
+use Rattle.strm_pool.specs.declared.call.Call.TheVariants.{Allocb, Testb, Dupb, Dupmsg, Copyb, Copymsg, Write, Settype, Setband, Linkb, Unlinkb, Rmvb, Adjmsg, Pullupmsg, Msgdsize, Size, Read, Block, Freeb, Freemsg, Putq, Putbq, Insq, Getq, Rmvq, Flushq, Flushband, Bcanput, Strqset, Strqget, Qsize, Qenable, Noenable, Enableok, Service, Bufcall, Unbufcall, Ready, Census}
 use Rattle.strm_pool.specs.declared.names.Names.{Names}
 use Rattle.strm_pool.specs.declared.reply.Reply.{Reply}
 use Rattle.strm_pool.specs.declared.reply.Reply.TheVariants.{Done, Yes, No, Nothing, Empty, Taken, Refused}
@@ -106,6 +107,9 @@ abbrev pub queue_or_nothing : Option ℕ → Reply
 queue_or_nothing None = Nothing
 queue_or_nothing (Some q) = replies.Queue q
 
+abbrev pub marks_told : Marks → Reply
+marks_told marks = replies.Marks marks.hiwat marks.lowat
+
 abbrev pub ready_or_nothing : Option Wish → Reply
 ready_or_nothing None = Nothing
 ready_or_nothing (Some w) = replies.Ready w.0 w.1
@@ -144,6 +148,8 @@ act v t (Rmvq q k y) = doing v t (gives y) (on_queues v (queues.rmvq q k (queued
 act v t (Flushq q flush) = doing v t keeps (on_queues v (queues.flushq q flush (queued v)))
 act v t (Flushband q band flush) = doing v t keeps (on_queues v (queues.flushband q band flush (queued v)))
 act v t (Bcanput q band) = doing v t (answers yes_or_no) (on_queues v (queues.bcanput q band (queued v)))
+act v t (Strqset q band hiwat lowat) = doing v t keeps (on_queues v (queues.strqset q band hiwat lowat (queued v)))
+act v t (Strqget q band) = doing v t (answers marks_told) (on_queues v (queues.strqget q band (queued v)))
 act v t (Qsize q) = doing v t (answers (λ size. replies.Size size)) (on_queues v (queues.qsize q (queued v)))
 act v t (Qenable q) = doing v t keeps (on_queues v (queues.qenable q (queued v)))
 act v t (Noenable q) = doing v t keeps (on_queues v (queues.noenable q (queued v)))

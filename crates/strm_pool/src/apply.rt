@@ -161,6 +161,10 @@ impl Pool {
                 *queue, *band, *flush,
             )),
             Call::Bcanput(queue, band) => Reply::truth(self.bcanput(*queue, *band)),
+            Call::Strqset(queue, band, hiwat, lowat) => {
+                Reply::done(self.strqset(*queue, *band, *hiwat, *lowat))
+            }
+            Call::Strqget(queue, band) => Reply::marks(self.strqget(*queue, *band)),
             Call::Qsize(queue) => Reply::size(self.qsize(*queue)),
             Call::Qenable(queue) => Reply::done(self.qenable(*queue)),
             Call::Noenable(queue) => Reply::done(self.noenable(*queue)),

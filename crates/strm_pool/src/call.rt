@@ -68,6 +68,10 @@ pub enum Call {
     Flushband(u8, u8, Flush),
     /// Whether a message of a band may be put on a queue.
     Bcanput(u8, u8),
+    /// `strqset` of a band of a queue: its high and its low water mark.
+    Strqset(u8, u8, u32, u32),
+    /// `strqget` of a band of a queue.
+    Strqget(u8, u8),
     /// How many messages stand on a queue.
     Qsize(u8),
     /// `qenable` of a queue.
@@ -129,6 +133,8 @@ impl Call {
             Call::Flushq(queue, _)
             | Call::Flushband(queue, _, _)
             | Call::Bcanput(queue, _)
+            | Call::Strqset(queue, _, _, _)
+            | Call::Strqget(queue, _)
             | Call::Qsize(queue)
             | Call::Qenable(queue)
             | Call::Noenable(queue)
@@ -169,6 +175,8 @@ impl Call {
             Call::Flushq(queue, flush) => Call::Flushq(queue, flush),
             Call::Flushband(queue, band, flush) => Call::Flushband(queue, band, flush),
             Call::Bcanput(queue, band) => Call::Bcanput(queue, band),
+            Call::Strqset(queue, band, hiwat, lowat) => Call::Strqset(queue, band, hiwat, lowat),
+            Call::Strqget(queue, band) => Call::Strqget(queue, band),
             Call::Qsize(queue) => Call::Qsize(queue),
             Call::Qenable(queue) => Call::Qenable(queue),
             Call::Noenable(queue) => Call::Noenable(queue),

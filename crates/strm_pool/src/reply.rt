@@ -2,11 +2,12 @@
 ghost use Rattle.std.specs.Prelude.{◌≡◌};
 ghost use Rattle.strm_pool.specs.declared.reply.Reply.TheVariants as replies;
 ghost use Rattle.strm_pool.specs.Shapes.{reply_done, reply_made};
-ghost use Rattle.strm_pool.specs.Step.{queue_or_nothing, ready_or_nothing, yes_or_no};
+ghost use Rattle.strm_pool.specs.Step.{marks_told, queue_or_nothing, ready_or_nothing, yes_or_no};
 
 use crate::short_list::Octets;
 use strm_data::Refusal;
 use strm_mblk::{BlockInfo, Census};
+use strm_queue::Marks;
 
 /// The reply to a call.
 #[derive(Debug, PartialEq, Eq, Drop)]
@@ -35,6 +36,8 @@ pub enum Reply {
     Ready(u32, u32),
     /// The number of a queue.
     Queue(u8),
+    /// The high and the low water mark of a band.
+    Marks(u32, u32),
     /// How many message blocks are where.
     Census(Census),
     /// The call was refused, and nothing was done.
@@ -59,6 +62,7 @@ impl Reply {
             Reply::Id(id) => Reply::Id(id),
             Reply::Ready(id, size) => Reply::Ready(id, size),
             Reply::Queue(queue) => Reply::Queue(queue),
+            Reply::Marks(hiwat, lowat) => Reply::Marks(hiwat, lowat),
             Reply::Census(census) => Reply::Census(census),
             Reply::Refused(why) => Reply::Refused(why),
         }
@@ -88,6 +92,16 @@ impl Reply {
         match answer {
             Some(queue) => Reply::Queue(queue),
             None => Reply::Nothing,
+        }
+    }
+
+    // The water marks of a band, or the refusal.
+    pub(crate) fn marks(answer: Result<Marks, Refusal>) -> Reply
+        ensures { result ≡ reply_made marks_told answer }
+    {
+        match answer {
+            Ok(marks) => Reply::Marks(marks.hiwat, marks.lowat),
+            Err(why) => Reply::Refused(why),
         }
     }
 

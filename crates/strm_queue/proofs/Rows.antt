@@ -2,7 +2,7 @@
 use Rattle.std.proofs.Common.{◌≡◌, ℕ, Bool, true, false, List, [], ◌∷◌, map, Option, Some, None, Ok, Err, refl}
 use Rattle.strm_data.specs.declared.msg_type.MsgType.TheVariants.{MPcproto}
 use Rattle.strm_data.specs.DataStore.{with_kind}
-use Rattle.strm_data.specs.declared.refusal.Refusal.TheVariants.{BadOrder, NoSuchPlace, NoSuchQueue}
+use Rattle.strm_data.specs.declared.refusal.Refusal.TheVariants.{BadMarks, BadOrder, NoSuchPlace, NoSuchQueue}
 use Rattle.strm_mblk.specs.Arena.{Arena, opening_arena, shelf_at}
 use Rattle.strm_mblk.specs.Block.{Block, head_of}
 use Rattle.strm_mblk.specs.BlockCalls.{setband}
@@ -10,7 +10,7 @@ use Rattle.strm_mblk.specs.Given.{answer_of, value_after}
 use Rattle.strm_queue.specs.declared.queue_spec.QueueSpec.{QueueSpec}
 use Rattle.strm_queue.specs.declared.flush.Flush.TheVariants.{All}
 use Rattle.strm_queue.specs.Flow.{every_band, flags_at, has_band, opening_queues, target, waker}
-use Rattle.strm_queue.specs.QueueCalls.{bcanput, count_on, enableok, flushband, getq, insq, noenable, putbq, putq, qenable, rmvq}
+use Rattle.strm_queue.specs.QueueCalls.{band_info, bcanput, count_on, enableok, flushband, getq, insq, noenable, putbq, putq, qenable, rmvq, strqget, strqset}
 use Rattle.strm_queue.specs.QueuedBlocks.{QueuedBlocks}
 
 abbrev queue : Bool → Option ℕ → QueueSpec
@@ -83,6 +83,83 @@ wanted-no_more = refl
 pub enabled-behind : with_room.queues.run ≡ 0 ∷ []
 unfolding every_band
 enabled-behind = refl
+
+-- ---- water marks of a band
+
+abbrev marked : ℕ → ℕ → ℕ → QueuedBlocks → QueuedBlocks
+marked band hiwat lowat v = value_after v (strqset 3 band hiwat lowat v)
+
+pub marks-opening : answer_of (strqget 3 9 before) ≡ Ok (record { hiwat = 10; lowat = 4 })
+marks-opening = refl
+
+pub marks-given : answer_of (strqget 3 9 (marked 9 2 1 before)) ≡ Ok (record { hiwat = 2; lowat = 1 })
+unfolding every_band
+marks-given = refl
+
+pub marks-of_other_bands : answer_of (strqget 3 8 (marked 9 2 1 before)) ≡ Ok (record { hiwat = 10; lowat = 4 })
+unfolding every_band
+marks-of_other_bands = refl
+
+pub marks-of_other_queues : answer_of (strqget 2 9 (marked 9 2 1 before)) ≡ Ok (record { hiwat = 10; lowat = 4 })
+unfolding every_band
+marks-of_other_queues = refl
+
+pub marks-no_such_queue : answer_of (strqget 5 9 before) ≡ Err NoSuchQueue
+marks-no_such_queue = refl
+
+pub bad_marks-equal : answer_of (strqset 3 9 5 5 before) ≡ Err BadMarks
+bad_marks-equal = refl
+
+pub bad_marks-no_such_queue : answer_of (strqset 5 9 5 5 before) ≡ Err NoSuchQueue
+bad_marks-no_such_queue = refl
+
+-- a lower high mark makes a band full under its messages, and nobody waits for room
+pub full-under_its_messages : answer_of (band_info 3 9 (marked 9 2 1 before)) ≡ Ok (record { bytes = 2; full = true; wanted = false })
+unfolding every_band
+full-under_its_messages = refl
+
+-- a greater one makes band 3 full no more, and it is still waited for
+abbrev eased : QueuedBlocks
+eased = marked 3 20 14 waited_for
+
+pub eased-still_wanted : answer_of (band_info 3 3 eased) ≡ Ok (record { bytes = 15; full = false; wanted = true })
+unfolding every_band
+eased-still_wanted = refl
+
+pub eased-enables_none : eased.queues.run ≡ []
+unfolding every_band
+eased-enables_none = refl
+
+-- until the low mark is as great as its bytes
+pub raised-wanted_no_more : answer_of (band_info 3 3 (marked 3 20 15 eased)) ≡ Ok (record { bytes = 15; full = false; wanted = false })
+unfolding every_band
+raised-wanted_no_more = refl
+
+pub raised-enables : (marked 3 20 15 eased).queues.run ≡ 0 ∷ []
+unfolding every_band
+raised-enables = refl
+
+-- somebody waits for room in bands 3 and 9
+abbrev two_waited_for : QueuedBlocks
+two_waited_for = let v : QueuedBlocks = marked 9 2 1 waited_for in value_after v (bcanput 1 9 v)
+
+-- those of a third band clear neither
+pub third-clears_none : (let f = flags_at (marked 5 20 19 two_waited_for).queues 3 in map (has_band f.wanted) (3 ∷ 5 ∷ 9 ∷ [])) ≡ true ∷ false ∷ true ∷ []
+unfolding every_band
+third-clears_none = refl
+
+pub third-enables_none : (marked 5 20 19 two_waited_for).queues.run ≡ []
+unfolding every_band
+third-enables_none = refl
+
+-- each band is settled by its own
+pub own-clears_one : (let f = flags_at (marked 9 20 19 two_waited_for).queues 3 in map (has_band f.wanted) (3 ∷ 5 ∷ 9 ∷ [])) ≡ true ∷ false ∷ false ∷ []
+unfolding every_band
+own-clears_one = refl
+
+pub own-enables : (marked 9 20 19 two_waited_for).queues.run ≡ 0 ∷ []
+unfolding every_band
+own-enables = refl
 
 -- ---- places
 

@@ -2,3 +2,4 @@
 pub mod Targets
 pub mod Settling
 pub mod Wanting
+pub mod Marking

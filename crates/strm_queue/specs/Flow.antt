@@ -1,10 +1,11 @@
 -- Flow control: how many bytes a band has, its water marks, the flags of queues, and which queues are enabled.
-use Rattle.std.specs.Prelude.{ℕ, zero, suc, Bool, true, false, not, ◌&&◌, ◌||◌, ◌==◌, ◌<◌, nat_le, nat_lt, List, [], ◌∷◌, ◌++◌, length, map, sum_by, slice_index_or, slice_set, Option, None, Some, if◌then◌else◌}
+use Rattle.std.specs.Prelude.{ℕ, zero, suc, Bool, true, false, not, ◌&&◌, ◌||◌, ◌==◌, ◌<◌, nat_le, nat_lt, List, [], ◌∷◌, ◌++◌, length, map, sum_by, slice_index_or, slice_set, replicate, Option, None, Some, if◌then◌else◌}
 use Rattle.std.specs.List.{list_any, position, range_with_len}
 use Rattle.std.specs.Option.{option_map_or}
 use Rattle.strm_data.specs.DataStore.{DataStore}
 use Rattle.strm_links.specs.Rows as rows
 use Rattle.strm_mblk.specs.Block.{Message, size_of}
+use Rattle.strm_queue.specs.declared.marks.Marks.{Marks}
 use Rattle.strm_queue.specs.declared.queue_spec.QueueSpec.{QueueSpec}
 use Rattle.strm_queue.specs.Limits.{bands, high_rank}
 use Rattle.strm_queue.specs.Rank.{rank_of}
@@ -36,9 +37,11 @@ pub record Flags : Type 0 where
   pub noenable : Bool
   pub wanted : List Bool
 
--- what queues were made with, their flags, and the queues that wait to be served, the next one first
+-- what queues were made with, for each of them the water marks of its bands from 0 on, their flags, and the queues that
+-- wait to be served, the next one first
 pub record QueueState : Type 0 where
   pub specs : List QueueSpec
+  pub marks : List (List Marks)
   pub flags : List Flags
   pub run : List ℕ
 
@@ -58,9 +61,16 @@ bands_where true_of = map true_of every_band
 abbrev pub opening_flags : Flags
 opening_flags = record { read = true; noenable = false; wanted = bands_where (λ band. false) }
 
+-- the water marks of a new queue: each band has those that the queue is made with
+abbrev pub given_marks : QueueSpec → Marks
+given_marks spec = record { hiwat = spec.hiwat; lowat = spec.lowat }
+
+abbrev pub opening_marks : QueueSpec → List Marks
+opening_marks spec = replicate bands (given_marks spec)
+
 -- new queues: nothing stands on them, and none waits to be served
 abbrev pub opening_queues : List QueueSpec → QueueState
-opening_queues specs = record { specs = specs; flags = map (λ s. opening_flags) specs; run = [] }
+opening_queues specs = record { specs = specs; marks = map opening_marks specs; flags = map (λ s. opening_flags) specs; run = [] }
 
 -- what a queue was made with that is not there
 abbrev pub no_spec : QueueSpec
@@ -90,12 +100,27 @@ with_wanted q b s = with_flags q (record (flags_at s q) { wanted = slice_set (fl
 
 -- ---- water marks
 
--- the high and the low water mark of a band of queue q: those that the queue was made with, whatever the band
+-- those of a band that is not there
+abbrev pub no_marks : Marks
+no_marks = record { hiwat = 0; lowat = 0 }
+
+-- those of the bands of queue q, and those of one of them
+abbrev pub marks_of : QueueState → ℕ → List Marks
+marks_of s q = slice_index_or s.marks q []
+
+abbrev pub marks_at : QueueState → ℕ → ℕ → Marks
+marks_at s q band = slice_index_or (marks_of s q) band no_marks
+
+-- a band of queue q has these, and all other bands those that they had
+abbrev pub with_marks : ℕ → ℕ → Marks → QueueState → QueueState
+with_marks q band m s = record s { marks = slice_set s.marks q (slice_set (marks_of s q) band m) }
+
+-- the high and the low water mark of a band of queue q
 abbrev pub hiwat_of : QueueState → ℕ → ℕ → ℕ
-hiwat_of s q band = (spec_at s.specs q).hiwat
+hiwat_of s q band = (marks_at s q band).hiwat
 
 abbrev pub lowat_of : QueueState → ℕ → ℕ → ℕ
-lowat_of s q band = (spec_at s.specs q).lowat
+lowat_of s q band = (marks_at s q band).lowat
 
 -- the low water mark of each band is below its high one
 abbrev pub AreMarksApart : QueueState → Type 0

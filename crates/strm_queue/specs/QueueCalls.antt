@@ -1,15 +1,16 @@
 -- What each call on queues does. A message that is put is held before, at the head that is given.
-use Rattle.std.specs.Prelude.{ℕ, Bool, true, false, not, nat_lt, filter, List, [], ◌∷◌, drop, length, Option, None, Some, Ok, Err, slice_get, if◌then◌else◌}
+use Rattle.std.specs.Prelude.{ℕ, Bool, true, false, not, nat_le, nat_lt, filter, List, [], ◌∷◌, drop, length, Option, None, Some, Ok, Err, slice_get, if◌then◌else◌}
 use Rattle.std.specs.Option.{option_map_or}
-use Rattle.strm_data.specs.declared.refusal.Refusal.TheVariants.{BadOrder, NoSuchPlace, NoSuchQueue}
+use Rattle.strm_data.specs.declared.refusal.Refusal.TheVariants.{BadMarks, BadOrder, NoSuchPlace, NoSuchQueue}
 use Rattle.strm_links.specs.Rows as rows
 use Rattle.strm_mblk.specs.Arena.{message_at, shelf_at, with_held, with_shelf, without_held}
 use Rattle.strm_mblk.specs.Block.{Message, head_of}
 use Rattle.strm_mblk.specs.Given.{Given}
 use Rattle.strm_queue.specs.declared.band_info.BandInfo.{BandInfo}
 use Rattle.strm_queue.specs.declared.flush.Flush.{Flush}
+use Rattle.strm_queue.specs.declared.marks.Marks.{Marks}
 use Rattle.strm_queue.specs.declared.queue_info.QueueInfo.{QueueInfo}
-use Rattle.strm_queue.specs.Flow.{Flags, QueueState, band_count, bytes_on, enabled, enabled_where, enables_inserted, enables_put, enables_put_back, fills, flags_at, has_band, hiwat_of, lowat_of, some_relieved, still_wanted, target, waker, with_flags, with_noenable, with_read, with_wanted}
+use Rattle.strm_queue.specs.Flow.{Flags, QueueState, band_count, bytes_on, enabled, enabled_where, enables_inserted, enables_put, enables_put_back, fills, flags_at, has_band, hiwat_of, lowat_of, marks_at, some_relieved, still_wanted, target, waker, with_flags, with_marks, with_noenable, with_read, with_wanted}
 use Rattle.strm_queue.specs.Flush.{is_picked, with_freed}
 use Rattle.strm_queue.specs.QueuedBlocks.{QueuedBlocks}
 use Rattle.strm_queue.specs.Rank.{as_queued, is_ordered, put_ahead, put_at, put_behind, rank_of, without_place}
@@ -144,6 +145,19 @@ asked_for_room p band v = if is_full v p band then (false, with_state (with_want
 -- asked of the first queue with a service procedure from q on, or of the last one
 abbrev pub bcanput : ℕ → ℕ → QueuedBlocks → Given QueuedBlocks Bool
 bcanput q band v = if has_queue v q then Ok (asked_for_room (target v.queues.specs q) band v) else Err NoSuchQueue
+
+-- ---- water marks
+
+-- a band has these water marks, and q is settled by them; all other bands keep theirs
+abbrev pub strqset : ℕ → ℕ → ℕ → ℕ → QueuedBlocks → Given QueuedBlocks (Unit {0})
+strqset q band hiwat lowat v =
+    if not (has_queue v q) then Err NoSuchQueue
+    else (if nat_le hiwat lowat then Err BadMarks
+    else Ok (tt, settled q (with_state (with_marks q band (record { hiwat = hiwat; lowat = lowat })) v)))
+
+-- the water marks of a band
+abbrev pub strqget : ℕ → ℕ → QueuedBlocks → Given QueuedBlocks Marks
+strqget q band v = if has_queue v q then Ok (marks_at v.queues q band, v) else Err NoSuchQueue
 
 -- ---- scheduling
 

@@ -69,6 +69,10 @@ pub record IsTallyOf (s : DataStore) (hiwat : ℕ → ℕ) (ms : List Message) (
 abbrev pub with_count : ℕ → ℕ → ℕ → Tally → Tally
 with_count hiwat band n t = record t { counts = slice_set t.counts band n; full = slice_set t.full band (fills hiwat n) }
 
+-- whether a band is full with the bytes that are stored of it, by this high water mark
+abbrev pub recounted : ℕ → ℕ → Tally → Tally
+recounted hiwat band t = with_count hiwat band (count_of t band) t
+
 -- these are stored as the first and the last message of a rank
 abbrev pub with_ends : ℕ → Option ℕ → Option ℕ → Tally → Tally
 with_ends r first last t = record t { firsts = slice_set t.firsts r first; lasts = slice_set t.lasts r last; used = slice_set t.used r (is_some first) }

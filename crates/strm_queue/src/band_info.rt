@@ -5,8 +5,8 @@
 pub struct BandInfo {
     /// How many bytes its messages have. High priority messages count with band 0.
     pub bytes: u32,
-    /// The full mark: there are at least as many bytes as the high water mark.
+    /// The full mark: it has at least as many bytes as its high water mark.
     pub full: bool,
-    /// The wanted mark: somebody found it full, and it has had more bytes than the low water mark since.
+    /// The wanted mark: somebody found it full, and it has had more bytes than its low water mark since.
     pub wanted: bool,
 }

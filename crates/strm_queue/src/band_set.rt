@@ -3,9 +3,10 @@ ghost use Rattle.std.specs.Prelude.{◌≡◌, ◌+◌, ◌<◌, ◌≤◌, ℕ,
 ghost use Rattle.std.specs.Int.{bit_at};
 ghost use Rattle.std.specs.Option.{IfNone, IfSome};
 ghost use Rattle.strm_queue.specs.BandSets.{IsFirstFrom, IsHighestTo, IsLastTo, IsLowestFrom};
-ghost use Rattle.strm_queue.specs.Flow.{bands_where, every_band, has_band, some_relieved, still_wanted};
+ghost use Rattle.strm_queue.specs.Flow.{bands_where, every_band, has_band, no_marks, some_relieved, still_wanted};
 
 use crate::limits::BANDS;
+use crate::marks::Marks;
 use std::marker::Model;
 
 // The bits of a word, and the words of a set.
@@ -109,16 +110,16 @@ impl BandSet {
         self.at_least(band.checked_add(1)?)
     }
 
-    // Takes out each band with at most so many bytes. Whether there was one.
-    pub(crate) fn remove_at_most(&mut self, counts: &[u32; BANDS], most: u32) -> bool
-        ensures left { self.new ≡ still_wanted self.old (λ band. slice_index_or counts.now band 0) (λ band. most) }
-        ensures some { result ≡ some_relieved self.old (λ band. slice_index_or counts.now band 0) (λ band. most) }
+    // Takes out each band that has room again: with at most as many bytes as its low water mark. Whether there was one.
+    pub(crate) fn relieve(&mut self, counts: &[u32; BANDS], marks: &[Marks; BANDS]) -> bool
+        ensures left { self.new ≡ still_wanted self.old (λ band. slice_index_or counts.now band 0) (λ band. (slice_index_or marks.now band no_marks).lowat) }
+        ensures some { result ≡ some_relieved self.old (λ band. slice_index_or counts.now band 0) (λ band. (slice_index_or marks.now band no_marks).lowat) }
     {
         self.lawful();
         let mut some = false;
         let mut next = self.at_least(0);
         while let Some(band) = next {
-            if counts[usize::from(band)] <= most {
+            if counts[usize::from(band)] <= marks[usize::from(band)].lowat {
                 self.remove(band);
                 some = true;
             }

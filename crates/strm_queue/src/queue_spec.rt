@@ -3,9 +3,9 @@
 /// One queue, as it is made.
 #[derive(Clone, Copy, Debug, Default, PartialEq, Eq)]
 pub struct QueueSpec {
-    /// The high water mark of each band, in bytes: a band with at least as many is full.
+    /// The high water mark that each band has at first, in bytes: a band with at least as many is full.
     pub hiwat: u32,
-    /// The low water mark of each band, in bytes: a band that was found full back-enables once it has at most as
+    /// The low water mark that each band has at first, in bytes: a band that was found full back-enables once it has at most as
     /// many.
     pub lowat: u32,
     /// Whether the queue has a service procedure.

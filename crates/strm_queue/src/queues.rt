@@ -4,13 +4,13 @@ ghost use Rattle.std.specs.List.{All};
 ghost use Rattle.strm_links.specs.Rows as rows;
 ghost use Rattle.strm_mblk.specs.Arena.{shelf_at};
 ghost use Rattle.strm_mblk.specs.Shelves.{heads_at};
-ghost use Rattle.strm_queue.specs.Flow.{AreMarksApart, band_count, band_of_rank, bytes_on, every_band, hiwat_of, spec_at};
+ghost use Rattle.strm_queue.specs.Flow.{AreMarksApart, band_count, band_of_rank, bytes_on, every_band, hiwat_of, marks_at, spec_at};
 ghost use Rattle.strm_queue.specs.Limits.{most_queues, ranks};
 ghost use Rattle.strm_queue.specs.QueueSpecs.{are_lawful};
 ghost use Rattle.strm_queue.specs.QueuedBlocks.{Agrees, AreCountsTrue, AreMarksLawful, AreFullMarksTrue, opening_value, tally_at, with_tally};
 ghost use Rattle.strm_queue.specs.QueuesLayout.{new_queue};
 ghost use Rattle.strm_queue.specs.Rank.{is_ordered, rank_of};
-ghost use Rattle.strm_queue.specs.Tallies.{count_of, one_less, one_more};
+ghost use Rattle.strm_queue.specs.Tallies.{count_of, one_less, one_more, recounted};
 
 mod asking;
 mod counts;
@@ -18,12 +18,15 @@ mod enabling;
 mod flags;
 mod flushing;
 mod getting;
+mod marking;
 mod places;
 mod putting;
 mod settling;
 mod shelving;
 
 use crate::band_set::BandSet;
+use crate::mark_table::MarkTable;
+use crate::marks::Marks;
 use crate::queue_spec::QueueSpec;
 use crate::tally::{Placed, Tally, band_of};
 use std::alloc::{AllocError, Global};
@@ -35,12 +38,13 @@ use strm_mblk::Blocks;
 ///
 /// High priority messages come first, then those of greater bands, and of equal ones that which came first. Beside its
 /// messages a queue has flags: that somebody wants to read from it (at first, and after `getq` found it empty), that
-/// enabling is switched off, and for each band that it is wanted, since `bcanput` found it full. A queue that is
-/// enabled stands on the run list until `next_service` takes it off.
+/// enabling is switched off, and for each band that it is wanted, since `bcanput` found it full. Each of its bands has water
+/// marks, at first those that the queue was made with. A queue that is enabled stands on the run list until
+/// `next_service` takes it off.
 ///
 /// Each call that touches messages takes the `Blocks` too, and asks that the two agree (`Agrees`): that there is a shelf
 /// for each queue, that each is in priority order, that what is stored of it is true, and that a wanted mark stands only
-/// where the band has more bytes than the low water mark. New `Queues` agree with new `Blocks` that have as many
+/// where the band has more bytes than its low water mark. New `Queues` agree with new `Blocks` that have as many
 /// shelves, each call here keeps it, and so does every call of `Blocks` on tokens, since it leaves the shelves and what
 /// stands there (`LeavesShelves`).
 ///
@@ -58,6 +62,8 @@ struct Queue {
     spec: QueueSpec,
     // What is stored of its messages.
     tally: Tally,
+    // The water marks of its bands.
+    marks: MarkTable,
     // Its flags.
     read: bool,
     noenable: bool,
@@ -84,6 +90,10 @@ impl Queue {
         Queue {
             spec,
             tally: Tally::new(),
+            marks: MarkTable::new(Marks {
+                hiwat: spec.hiwat,
+                lowat: spec.lowat,
+            }),
             read: true,
             noenable: false,
             wanted: BandSet::new(),
@@ -150,6 +160,15 @@ impl Queues {
         self.queues[usize::from(queue)].tally.leave(hiwat, placed);
     }
 
+    // Notes anew whether a band of a queue is full.
+    fn recount(&mut self, queue: u8, band: u8)
+        requires { queue < length self.old.state.specs }
+        ensures { self.new ≡ with_tally queue (recounted (hiwat_of self.old.state queue band) band (tally_at self.old queue)) self.old }
+    {
+        let hiwat = self.hiwat(queue, band);
+        self.queues[usize::from(queue)].tally.recount(hiwat, band);
+    }
+
     // What a queue was made with.
     fn spec(&self, queue: u8) -> QueueSpec
         requires { queue < length self.now.state.specs }
@@ -158,12 +177,20 @@ impl Queues {
         self.queues[usize::from(queue)].spec
     }
 
-    // The high water mark of a band of a queue.
-    fn hiwat(&self, queue: u8, _band: u8) -> u32
+    // The water marks of a band of a queue.
+    fn marks(&self, queue: u8, band: u8) -> Marks
         requires { queue < length self.now.state.specs }
-        ensures { result ≡ hiwat_of self.now.state queue _band }
+        ensures { result ≡ marks_at self.now.state queue band }
     {
-        self.spec(queue).hiwat
+        self.queues[usize::from(queue)].marks.at(band)
+    }
+
+    // The high one.
+    fn hiwat(&self, queue: u8, band: u8) -> u32
+        requires { queue < length self.now.state.specs }
+        ensures { result ≡ hiwat_of self.now.state queue band }
+    {
+        self.marks(queue, band).hiwat
     }
 
     // The law that the queues were lawful when they were made, and that no low water mark meets a high one. Does nothing.

@@ -3,7 +3,7 @@ ghost use Rattle.std.specs.Prelude.{◌≡◌, ◌+◌, ◌<◌, ◌≤◌, ◌^
 ghost use Rattle.std.specs.Option.{IfNone, IfSome};
 ghost use Rattle.strm_queue.specs.Flow.{band_of_rank, has_band};
 ghost use Rattle.strm_queue.specs.Limits.{ranks};
-ghost use Rattle.strm_queue.specs.Tallies.{IsRankFrom, IsRankTo, count_of, end_joined, end_left, first_in, has_rank, last_in, no_tally, one_less, one_more, with_count, with_ends};
+ghost use Rattle.strm_queue.specs.Tallies.{IsRankFrom, IsRankTo, count_of, end_joined, end_left, first_in, has_rank, last_in, no_tally, one_less, one_more, recounted, with_count, with_ends};
 
 use crate::band_set::BandSet;
 use crate::limits::{BANDS, HIGH_RANK, RANKS};
@@ -183,6 +183,13 @@ impl Tally {
         self.bytes -= size;
         self.set_count(hiwat, band, self.count(band) - size);
         self.set_ends(rank, first, last);
+    }
+
+    // A band has this high water mark.
+    pub(crate) fn recount(&mut self, hiwat: u32, band: u8)
+        ensures { self.new ≡ recounted hiwat band self.old }
+    {
+        self.set_count(hiwat, band, self.count(band));
     }
 
     // Stores how many bytes a band has.

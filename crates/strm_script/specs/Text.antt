@@ -52,6 +52,7 @@ reply_text (replies.Block info) = block_text info
 reply_text (replies.Id id) = codes "id " ++ decimal id
 reply_text (replies.Ready id size) = codes "ready " ++ (decimal id ++ (codes " " ++ decimal size))
 reply_text (replies.Queue q) = codes "queue " ++ decimal q
+reply_text (replies.Marks hiwat lowat) = codes "marks " ++ (decimal hiwat ++ (codes " " ++ decimal lowat))
 reply_text (replies.Census c) = codes "census " ++ (decimal c.free ++ (codes " " ++ (decimal c.queued ++ (codes " " ++ decimal c.held))))
 reply_text (Refused why) = codes "refused " ++ (decimal (number_of why) ++ (codes " " ++ name_of why))
 

@@ -36,6 +36,8 @@ all_words =
     ∷ (codes "flushq", words.Command verbs.Flushq)
     ∷ (codes "flushband", words.Command verbs.Flushband)
     ∷ (codes "bcanput", words.Command verbs.Bcanput)
+    ∷ (codes "strqset", words.Command verbs.Strqset)
+    ∷ (codes "strqget", words.Command verbs.Strqget)
     ∷ (codes "qsize", words.Command verbs.Qsize)
     ∷ (codes "qenable", words.Command verbs.Qenable)
     ∷ (codes "noenable", words.Command verbs.Noenable)

@@ -4,7 +4,7 @@ ghost use Rattle.strm_script.specs.Cut.{words_behind};
 ghost use Rattle.strm_script.specs.Entry.{call_of};
 
 use crate::fault::Kind;
-use crate::shape::{none, one, three, two};
+use crate::shape::{four, none, one, three, two};
 use crate::verb::Verb;
 use strm_pool::Call;
 
@@ -43,6 +43,10 @@ pub fn call_of(verb: Verb, arguments: Option<&[u8]>) -> Result<Call, Kind>
             three(arguments).map(|(queue, band, flush)| Call::Flushband(queue, band, flush))
         }
         Verb::Bcanput => two(arguments).map(|(queue, band)| Call::Bcanput(queue, band)),
+        Verb::Strqset => four(arguments).map(|(queue, band, hiwat, lowat)| Call::Strqset(
+            queue, band, hiwat, lowat,
+        )),
+        Verb::Strqget => two(arguments).map(|(queue, band)| Call::Strqget(queue, band)),
         Verb::Qsize => one(arguments).map(Call::Qsize),
         Verb::Qenable => one(arguments).map(Call::Qenable),
         Verb::Noenable => one(arguments).map(Call::Noenable),

@@ -102,6 +102,9 @@ impl Piece for &Reply {
             Reply::Id(id) => pieces!(" id ", *id, "\n").append(text),
             Reply::Ready(id, size) => pieces!(" ready ", *id, " ", *size, "\n").append(text),
             Reply::Queue(queue) => pieces!(" queue ", *queue, "\n").append(text),
+            Reply::Marks(hiwat, lowat) => pieces!(" marks ", *hiwat, " ", *lowat, "\n").append(
+                text,
+            ),
             Reply::Census(census) => {
                 let Census { free, queued, held } = *census;
                 pieces!(" census ", free, " ", queued, " ", held, "\n").append(text)

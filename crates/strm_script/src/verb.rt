@@ -31,6 +31,8 @@ pub enum Verb {
     Flushq,
     Flushband,
     Bcanput,
+    Strqset,
+    Strqget,
     Qsize,
     Qenable,
     Noenable,

@@ -88,6 +88,8 @@ fn seven_letters(text: &[u8]) -> Option<Word>
         b"qenable" => Some(Word::Command(Verb::Qenable)),
         b"service" => Some(Word::Command(Verb::Service)),
         b"bufcall" => Some(Word::Command(Verb::Bufcall)),
+        b"strqset" => Some(Word::Command(Verb::Strqset)),
+        b"strqget" => Some(Word::Command(Verb::Strqget)),
         _ => None,
     }
 }

@@ -4,7 +4,7 @@ use Rattle.std.proofs.lemmas.List.{get_or_default}
 use Rattle.strm_data.specs.declared.data.Class.{Class}
 use Rattle.strm_data.specs.declared.data.Data.TheInside.{Inside}
 use Rattle.strm_data.specs.declared.data.DataBlock.{DataBlock}
-use Rattle.strm_data.specs.declared.data.Place.{Place}
+use Rattle.strm_data.specs.declared.data.RegionPlace.{RegionPlace}
 use Rattle.strm_data.specs.CountedStore.{CountedStore}
 use Rattle.strm_data.specs.DataLayout.{block_at, bytes_of, class_at, counted, counted_store, no_block, no_class, region_at, start_in, IsLaidOut, IsPlaced}
 use Rattle.strm_data.specs.DataStore.{capacity_of, data_block_at, overwritten, with_bytes_written}
@@ -14,7 +14,7 @@ use Rattle.strm_data.proofs.lists.Tables.{part_of}
 
 -- p is where byte `at` of data block d stands
 module _ (a : Inside) (v : CountedStore) (view : counted_store a ≡ v) (laid : IsLaidOut a) (d : ℕ) (there : d < length v.store.blocks) (at : ℕ)
-    (p : Place) (class : p.class ≡ (block_at a.blocks.items d).class) (start : p.start ≡ start_in (class_at a.classes.items p.class) d + at) where
+    (p : RegionPlace) (class : p.class ≡ (block_at a.blocks.items d).class) (start : p.start ≡ start_in (class_at a.classes.items p.class) d + at) where
   abbrev regions : List (List ℕ)
   regions = bytes_of a.regions.items
 

@@ -31,6 +31,7 @@ fn refusals_have_their_numbers(rt: HostRuntime) {
         (Refusal::TraceFull, 17, "TraceFull"),
         (Refusal::Worn, 18, "Worn"),
         (Refusal::DeskMissing, 19, "DeskMissing"),
+        (Refusal::BadMarks, 20, "BadMarks"),
         (Refusal::BadShared, 21, "BadShared"),
     ] {
         assert_eq!(rt; refusal.number(), number);

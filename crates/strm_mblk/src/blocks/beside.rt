@@ -6,12 +6,13 @@ ghost use Rattle.strm_mblk.specs.Shelves.{shelf_of, stands_on};
 
 use super::{BlockNo, Blocks};
 use crate::chains::beside::{assert_free, is_on};
+use crate::limits::MOST_MESSAGE_BLOCKS;
 use crate::plain::arena::Arena;
 use crate::plain::block::{Block, Message, count_naming, head_in};
 use crate::plain::list::List;
 use crate::plain::store::DataBlock;
 use std::process::Abort;
-use strm_data::Data;
+use strm_data::{Data, MOST_DATA_BLOCKS};
 
 // No more bytes than this are in a data block that is compared.
 const MOST: usize = 64;
@@ -135,7 +136,7 @@ impl Blocks {
     // The held messages are these.
     fn assert_held(&self, rt: &impl Abort, plain: &Arena) {
         assert!(rt; self.blocks.len() == plain.held().len());
-        for (head, message) in (0..4096u32).zip(plain.held()) {
+        for (head, message) in (0..=MOST_MESSAGE_BLOCKS).zip(plain.held()) {
             self.assert_held_at(rt, head, message);
         }
     }
@@ -195,7 +196,7 @@ impl Blocks {
     // These are the data blocks, and so many of these message blocks name each.
     fn assert_named(&self, rt: &impl Abort, others: &[DataBlock], blocks: &[Block]) {
         assert!(rt; self.data.len() == others.len());
-        for (number, other) in (0..4096u32).zip(others) {
+        for (number, other) in (0..=MOST_DATA_BLOCKS).zip(others) {
             self.assert_data_block(rt, number, other);
             self.assert_names(rt, number, blocks);
         }

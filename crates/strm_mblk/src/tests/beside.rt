@@ -1,6 +1,7 @@
 //! Blocks and a plain program side by side: each call is made on both, which answer alike and are the same afterwards.
-ghost use Rattle.std.specs.Prelude.{◌<◌, IsTrue};
+ghost use Rattle.std.specs.Prelude.{◌≤◌, IsTrue};
 ghost use Rattle.strm_data.specs.Classes.{are_lawful};
+ghost use Rattle.strm_mblk.specs.Limits.{most_message_blocks};
 
 use crate::TokenValue;
 use crate::blocks::beside::assert_same;
@@ -34,7 +35,7 @@ impl Beside {
         classes: &[ClassSpec],
         tally: Tally,
     ) -> Beside
-        requires few_blocks { mblks < 4096 }
+        requires few_blocks { mblks ≤ most_message_blocks }
         requires classes { IsTrue (are_lawful classes.now) }
     {
         Beside {

@@ -9,7 +9,7 @@ ghost use Rattle.strm_queue.specs.QueueCalls as queues;
 use super::Pool;
 use strm_data::Refusal;
 use strm_mblk::{Rejected, Token};
-use strm_queue::{BandInfo, Flush, QueueInfo};
+use strm_queue::{BandInfo, Flush, Marks, QueueInfo};
 
 #[tactic(auto, using(crate::proofs::OnParts::queues_after))]
 impl Pool {
@@ -68,7 +68,7 @@ impl Pool {
     }
 
     /// Takes the first message off a queue, or nothing where the queue is empty: then somebody wants to read from it, else
-    /// nobody does any more. Where a message came, the queue settles: each wanted band with at most the low water mark loses
+    /// nobody does any more. Where a message came, the queue settles: each wanted band with at most its low water mark loses
     /// its wanted mark, and where one did, the nearest queue behind with a service procedure is enabled.
     ///
     /// Refused as `NoSuchQueue` where there is no such queue; nothing changes then.
@@ -84,7 +84,7 @@ impl Pool {
         self.queues.getq(&mut self.blocks, queue)
     }
 
-    /// Takes the message at `place`, counted from 0, off a queue, which settles: each wanted band with at most the low water
+    /// Takes the message at `place`, counted from 0, off a queue, which settles: each wanted band with at most its low water
     /// mark loses its wanted mark, and where one did, the nearest queue behind with a service procedure is enabled.
     ///
     /// Refused as `NoSuchQueue` where there is no such queue, then as `NoSuchPlace` where it has no such message; nothing
@@ -111,7 +111,7 @@ impl Pool {
     }
 
     /// Frees the messages of a queue front to back: all, or those that carry data. What stays keeps its place. The queue
-    /// settles: each wanted band with at most the low water mark loses its wanted mark, and where one did, the nearest queue
+    /// settles: each wanted band with at most its low water mark loses its wanted mark, and where one did, the nearest queue
     /// behind with a service procedure is enabled.
     ///
     /// Refused as `NoSuchQueue` where there is no such queue; nothing changes then.
@@ -125,7 +125,7 @@ impl Pool {
 
     /// Frees the messages of one band of a queue, front to back: all of them, or those that carry data. High priority
     /// messages are of band 0. What stays keeps its place. The queue settles: each wanted band, of whatever number, with at
-    /// most the low water mark loses its wanted mark, and where one did, the nearest queue behind with a service procedure is
+    /// most its low water mark loses its wanted mark, and where one did, the nearest queue behind with a service procedure is
     /// enabled.
     ///
     /// Refused as `NoSuchQueue` where there is no such queue; nothing changes then.
@@ -138,7 +138,7 @@ impl Pool {
     }
 
     /// Whether a message of a band may be put: asked of the first queue with a service procedure from this one on, or of
-    /// the last one there. Where the band has as many bytes as the high water mark there, or more, its wanted mark is set,
+    /// the last one there. Where the band has as many bytes as its high water mark there, or more, its wanted mark is set,
     /// and the answer is false.
     ///
     /// Refused as `NoSuchQueue` where there is no such queue; nothing changes then.
@@ -148,6 +148,30 @@ impl Pool {
         ensures arena { self.new.arena ≡ self.old.arena }
     {
         self.queues.bcanput(&self.blocks, queue, band)
+    }
+
+    /// Gives one band of a queue water marks of its own; all other bands keep theirs. The band is full from now on where it
+    /// has at least `hiwat` bytes. The queue settles: each wanted band, this one or another, with at most its low water mark
+    /// loses its wanted mark, and where one did, the nearest queue behind with a service procedure is enabled.
+    ///
+    /// Refused as `NoSuchQueue` where there is no such queue, then as `BadMarks` where `lowat` is not below `hiwat`; nothing
+    /// changes then.
+    pub fn strqset(&mut self, queue: u8, band: u8, hiwat: u32, lowat: u32) -> Result<(), Refusal>
+        ensures pool { self.new ≡ value_after self.old (on_queues self.old (queues.strqset queue band hiwat lowat (queued self.old))) }
+        ensures answer { result ≡ answer_of (queues.strqset queue band hiwat lowat (queued self.old)) }
+        ensures arena { self.new.arena ≡ self.old.arena }
+    {
+        self.queues.strqset(&self.blocks, queue, band, hiwat, lowat)
+    }
+
+    /// The water marks of one band of a queue: those that the queue was made with, or that `strqset` gave last. Nothing
+    /// changes.
+    ///
+    /// Refused as `NoSuchQueue` where there is no such queue.
+    pub fn strqget(&self, queue: u8, band: u8) -> Result<Marks, Refusal>
+        ensures { result ≡ answer_of (queues.strqget queue band (queued self.now)) }
+    {
+        self.queues.strqget(queue, band)
     }
 
     /// Enables a queue: adds it at the end of the run list, unless it is there or has no service procedure.

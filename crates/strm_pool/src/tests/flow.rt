@@ -26,17 +26,20 @@ pub(super) const SPECS: [QueueSpec; QUEUES] = [
     },
 ];
 
-// Whether somebody wants to read from a queue, whether enabling is off, and for each band whether somebody waits for room.
+// Whether somebody wants to read from a queue, whether enabling is off, and for each band its high and its low water mark,
+// and whether somebody waits for room.
 #[derive(Clone, Copy)]
 struct Marks {
     read: bool,
     off: bool,
+    water: [(u32, u32); BANDS],
     wanted: [bool; BANDS],
 }
 
 const OPENING: Marks = Marks {
     read: true,
     off: false,
+    water: [(10, 4); BANDS],
     wanted: [false; BANDS],
 };
 
@@ -64,6 +67,17 @@ impl Flow {
     pub(super) fn marks(&self, rt: &impl Abort, queue: usize) -> (bool, bool) {
         assert!(rt; queue < QUEUES);
         (self.marks[queue].read, self.marks[queue].off)
+    }
+
+    // The high and the low water mark of a band.
+    pub(super) fn water(&self, rt: &impl Abort, queue: usize, band: u8) -> (u32, u32) {
+        assert!(rt; queue < QUEUES);
+        self.marks[queue].water[usize::from(band)]
+    }
+
+    pub(super) fn set_water(&mut self, rt: &impl Abort, queue: usize, band: u8, water: (u32, u32)) {
+        assert!(rt; queue < QUEUES);
+        self.marks[queue].water[usize::from(band)] = water;
     }
 
     pub(super) fn is_wanted(&self, rt: &impl Abort, queue: usize, band: u8) -> bool {
@@ -109,7 +123,7 @@ impl Flow {
         self.marks[queue].wanted[usize::from(band)] = true;
     }
 
-    // A band has no more bytes than the low water mark. Whether somebody waited for that.
+    // A band has no more bytes than its low water mark. Whether somebody waited for that.
     pub(super) fn relieve(&mut self, rt: &impl Abort, queue: usize, band: u8) -> bool {
         let was = self.is_wanted(rt, queue, band);
         assert!(rt; queue < QUEUES);

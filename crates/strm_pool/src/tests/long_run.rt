@@ -87,7 +87,7 @@ fn any_alteration(rt: &impl Abort, draw: &mut u32, reg: Reg) -> Call {
 fn any_control(draw: &mut u32) -> Call {
     let queue = (below(draw, 13) / 4) as u8;
     let band = below(draw, 3) as u8;
-    match below(draw, 16) {
+    match below(draw, 22) {
         0 => Call::Flushq(queue, Flush::All),
         1 => Call::Flushq(queue, Flush::Data),
         2 => Call::Flushband(queue, band, Flush::All),
@@ -96,6 +96,11 @@ fn any_control(draw: &mut u32) -> Call {
         10 => Call::Qenable(queue),
         11 => Call::Noenable(queue),
         12..14 => Call::Enableok(queue),
+        14..19 => {
+            let hiwat = below(draw, 8) * below(draw, 5);
+            Call::Strqset(queue, band, hiwat, below(draw, 6))
+        }
+        19 => Call::Strqget(queue, band),
         _ => Call::Service,
     }
 }
@@ -147,13 +152,13 @@ fn any_on_queue(draw: &mut u32, reg: Reg) -> Call {
 fn any_call(rt: &impl Abort, draw: &mut u32, wished: u32) -> Call {
     let reg = any_reg(rt, draw);
     let other = any_reg(rt, draw);
-    match below(draw, 34) {
+    match below(draw, 36) {
         0..10 => any_new(draw, reg, other),
         10..18 => any_alteration(rt, draw, reg),
         18..20 => any_question(draw, reg),
         20..24 => any_move(draw, reg, other),
-        24..26 => any_control(draw),
-        26..32 => any_on_queue(draw, reg),
+        24..28 => any_control(draw),
+        28..34 => any_on_queue(draw, reg),
         _ => any_wish(draw, wished),
     }
 }
@@ -236,6 +241,7 @@ fn any_calls(rt: HostRuntime) {
     let mut tally = Tally::opening(&rt, rt.alloc());
     let mut both = Both::opened(&rt, rt.alloc(), 16, &SMALL);
     serve_any(&rt, &mut both, &mut tally, 8000);
+    assert!(&rt; both.second.filled() > 0 && both.second.eased() > 0);
     both.end(&rt);
     let mut both = Both::opened(&rt, rt.alloc(), 300, &SMALL);
     name_often(&rt, &mut both, &mut tally);

@@ -202,6 +202,30 @@ fn queues_in_priority_order(rt: HostRuntime) {
 }
 
 #[test]
+fn water_marks_of_a_band(rt: HostRuntime) {
+    let bench = Bench::opened(&rt, rt.alloc(), (1, 8), &SIZES);
+    let a = reg(&rt, b'a');
+    let rows = [
+        (Call::Allocb(a, 10), Reply::Done),
+        (Call::Write(a, 0, octets(&rt, &[0; 10])), Reply::Done),
+        (Call::Putq(0, a), Reply::Done),
+        (Call::Bcanput(0, 0), Reply::No),
+        (Call::Strqset(0, 0, 20, 10), Reply::Done),
+        (Call::Bcanput(0, 0), Reply::Yes),
+        (Call::Strqset(0, 0, 5, 5), refused(Refusal::BadMarks)),
+        (Call::Strqget(0, 0), Reply::Marks(20, 10)),
+        (Call::Strqget(0, 3), Reply::Marks(10, 4)),
+        (Call::Strqset(0, 0, 10, 9), Reply::Done),
+        (Call::Bcanput(0, 0), Reply::No),
+        (Call::Strqset(1, 0, 5, 5), refused(Refusal::NoSuchQueue)),
+        (Call::Strqget(1, 0), refused(Refusal::NoSuchQueue)),
+        (Call::Strqset(0, 255, u32::MAX, 0), Reply::Done),
+        (Call::Strqget(0, 255), Reply::Marks(u32::MAX, 0)),
+    ];
+    bench.serve(&rt, &rows, &[None]);
+}
+
+#[test]
 fn the_last_id_is_given_once(rt: HostRuntime) {
     let bench = Bench::wishing(&rt, rt.alloc(), (1, 8), &SIZES, (2, u32::MAX));
     let rows = [

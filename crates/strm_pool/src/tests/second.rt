@@ -40,6 +40,9 @@ pub(super) struct Second {
     // The id and the size of each wish, and how many there have been.
     wishes: Vec<(u32, u32)>,
     wished: u32,
+    // How often other water marks made a band full under its messages, and how often full no more.
+    filled: u32,
+    eased: u32,
 }
 
 // The rank of a message.
@@ -227,6 +230,8 @@ impl Second {
             flow: Flow::opening(alloc),
             wishes: Vec::new(alloc),
             wished: 0,
+            filled: 0,
+            eased: 0,
         }
     }
 
@@ -440,11 +445,11 @@ impl Second {
         bytes_of_band(&self.queues[queue], band)
     }
 
-    // Messages left a queue: a queue behind is enabled where somebody waited for room and there is some.
+    // Messages left a queue, or a band has other water marks: a queue behind is enabled where somebody waited for room and there is some.
     fn settle(&mut self, rt: &impl Abort, queue: usize) {
         let mut some = false;
         for band in 0..=u8::MAX {
-            if self.count(rt, queue, band) <= 4 {
+            if self.count(rt, queue, band) <= self.flow.water(rt, queue, band).1 {
                 some = self.flow.relieve(rt, queue, band) || some;
             }
         }
@@ -476,9 +481,32 @@ impl Second {
         self.settle(rt, queue);
     }
 
+    // Whether a band of a queue has at least as many bytes as its high water mark.
+    fn is_full(&self, rt: &impl Abort, queue: usize, band: u8) -> bool {
+        self.count(rt, queue, band) >= self.flow.water(rt, queue, band).0
+    }
+
+    fn strqset(&mut self, rt: &impl Abort, queue: usize, band: u8, water: (u32, u32)) -> Reply {
+        if water.1 >= water.0 {
+            return Reply::Refused(Refusal::BadMarks);
+        }
+        let was = self.is_full(rt, queue, band);
+        self.flow.set_water(rt, queue, band, water);
+        let is = self.is_full(rt, queue, band);
+        self.filled = self.filled.wrapping_add(u32::from(is && !was));
+        self.eased = self.eased.wrapping_add(u32::from(was && !is));
+        self.settle(rt, queue);
+        Reply::Done
+    }
+
+    fn strqget(&self, rt: &impl Abort, queue: usize, band: u8) -> Reply {
+        let (hiwat, lowat) = self.flow.water(rt, queue, band);
+        Reply::Marks(hiwat, lowat)
+    }
+
     fn bcanput(&mut self, rt: &impl Abort, queue: usize, band: u8) -> Reply {
         let asked = target(queue);
-        if self.count(rt, asked, band) < 10 {
+        if !self.is_full(rt, asked, band) {
             return Reply::Yes;
         }
         self.flow.want(rt, asked, band);
@@ -491,6 +519,10 @@ impl Second {
             Call::Flushq(_, flush) => self.flush(rt, queue, None, flush),
             Call::Flushband(_, band, flush) => self.flush(rt, queue, Some(band), flush),
             Call::Bcanput(_, band) => return self.bcanput(rt, queue, band),
+            Call::Strqset(_, band, hiwat, lowat) => {
+                return self.strqset(rt, queue, band, (hiwat, lowat));
+            }
+            Call::Strqget(_, band) => return self.strqget(rt, queue, band),
             Call::Qenable(_) => self.flow.enable(rt, queue),
             Call::Noenable(_) => self.flow.switch(rt, queue, true),
             _ => self.flow.switch(rt, queue, false),
@@ -544,6 +576,16 @@ impl Second {
         self.wished
     }
 
+    // How often other water marks made a band full under its messages.
+    pub(super) fn filled(&self) -> u32 {
+        self.filled
+    }
+
+    // How often they made one full no more.
+    pub(super) fn eased(&self) -> u32 {
+        self.eased
+    }
+
     // The id and the size of a wish, in order of recording.
     pub(super) fn wish_at(&self, place: usize) -> Option<(u32, u32)> {
         self.wishes.get(place).copied()
@@ -576,7 +618,7 @@ impl Second {
         let bytes = self.count(rt, queue, band);
         BandInfo {
             bytes,
-            full: bytes >= 10,
+            full: self.is_full(rt, queue, band),
             wanted: self.flow.is_wanted(rt, queue, band),
         }
     }
@@ -698,6 +740,8 @@ impl Second {
             Call::Flushq(queue, _)
             | Call::Flushband(queue, _, _)
             | Call::Bcanput(queue, _)
+            | Call::Strqset(queue, _, _, _)
+            | Call::Strqget(queue, _)
             | Call::Qenable(queue)
             | Call::Noenable(queue)
             | Call::Enableok(queue) => match self.queue_len(queue) {
@@ -722,6 +766,8 @@ impl Second {
             flow: _,
             wishes: _,
             wished: _,
+            filled: _,
+            eased: _,
         } = self;
         for place in 0..26 {
             let place = Reg::new(place).expect(rt, "a place");

@@ -117,6 +117,14 @@ module _ (so : Bool) (q : ℕ) (s : QueueState) where
       by_cases true false = refl
       by_cases false here = refl
 
+  pub enabled_marks : (enabled_where so q s).marks ≡ s.marks
+  enabled_marks = by_cases so ((spec_at s.specs q).service && not (rows.has q s.run))
+    where
+      by_cases : (so here : Bool) → (let t : QueueState = if so then (if here then record s { run = s.run ++ q ∷ [] } else s) else s in t).marks ≡ s.marks
+      by_cases true true = refl
+      by_cases true false = refl
+      by_cases false here = refl
+
   pub enabled_flags : (enabled_where so q s).flags ≡ s.flags
   enabled_flags = by_cases so ((spec_at s.specs q).service && not (rows.has q s.run))
     where
@@ -127,7 +135,7 @@ module _ (so : Bool) (q : ℕ) (s : QueueState) where
 
 pub agrees_enabled : (v : QueuesValue) (a : Arena) (so : Bool) (q : ℕ) → Agrees v a → Agrees (record v { state = enabled_where so q v.state }) a
 agrees_enabled v a so q =
-    agrees_state v a (enabled_where so q v.state) (enabled_specs so q v.state)
+    agrees_state v a (enabled_where so q v.state) (enabled_specs so q v.state) (enabled_marks so q v.state)
     (λ p. ap (λ ms. (get_or ms p opening_flags).wanted) (enabled_flags so q v.state))
 
 -- the want-to-read mark and the switched-off mark are other than wanted marks
@@ -139,7 +147,7 @@ wanted_kept (x ∷ xs) (suc q) m is zero = refl
 wanted_kept (x ∷ xs) (suc q) m is (suc p) = wanted_kept xs q m is p
 
 pub agrees_read : (v : QueuesValue) (a : Arena) (q : ℕ) (read : Bool) → Agrees v a → Agrees (record v { state = with_read q read v.state }) a
-agrees_read v a q read = agrees_state v a (with_read q read v.state) refl (wanted_kept v.state.flags q (record (flags_at v.state q) { read = read }) refl)
+agrees_read v a q read = agrees_state v a (with_read q read v.state) refl refl (wanted_kept v.state.flags q (record (flags_at v.state q) { read = read }) refl)
 
 -- ---- for callers
 
@@ -246,7 +254,7 @@ agrees_new specs lawful id mblks classes = record {
     true_of = λ q below.
         subst (IsTallyOf (opening_arena id mblks classes (length specs)).store (hiwat_of (opening_queues specs) q) (shelf_at (opening_arena id mblks classes (length specs)) q)) (sym (get_or-map_same specs no_tally q))
         (subst (λ ms. IsTallyOf (opening_arena id mblks classes (length specs)).store (hiwat_of (opening_queues specs) q) ms no_tally) (sym (empty (length specs) q))
-        (tally_none (opening_arena id mblks classes (length specs)).store (hiwat_of (opening_queues specs) q) (λ band within. omega (arith, marks_below (opening_queues specs) lawful q band below within))));
+        (tally_none (opening_arena id mblks classes (length specs)).store (hiwat_of (opening_queues specs) q) (λ band within. omega (arith, marks_below specs lawful q band below within))));
   };
   marks = λ q band wanted. absurd (false≢true (sym (ap (λ (m : Flags). has_band m.wanted band) (get_or-map_same specs opening_flags q) ∙ get_or-map_same every_band false band) ∙ wanted));
 }

@@ -9,7 +9,7 @@ use Rattle.strm_queue.specs.Flow.{band_count, band_of_rank, bytes_on, fills}
 use Rattle.strm_queue.specs.Limits.{bands, ranks}
 use Rattle.strm_queue.specs.declared.tally.Placed.{Placed}
 use Rattle.strm_queue.specs.Ends.{first_of_rank, last_of_rank, of_rank}
-use Rattle.strm_queue.specs.Tallies.{IsTallyOf, Tally, count_of, end_joined, end_left, first_in, last_in, no_tally, one_less, one_more, with_count, with_ends}
+use Rattle.strm_queue.specs.Tallies.{IsTallyOf, Tally, count_of, end_joined, end_left, first_in, last_in, no_tally, one_less, one_more, recounted, with_count, with_ends}
 use Rattle.strm_queue.specs.Rank.{rank_of, is_ordered}
 use Rattle.strm_queue.proofs.Lists.{get_or-replicate_same}
 use Rattle.strm_queue.proofs.bands.Bands.{has_band_where, length-bands_where, length-every_band}
@@ -50,19 +50,41 @@ pub record IsPlaced (s : DataStore) (pre post : List Message) (m : Message) (p :
   pub behind : p.behind ≡ first (heads post)
   pub few : p.rank < ranks
 
+-- what stands in a list where one was set
+at_set : {X : Type 0} (f : ℕ → X) (xs : List X) (k : ℕ) (v d : X) → k < length xs → v ≡ f k → (x : ℕ) → (x ≢ k → get_or xs x d ≡ f x) → get_or (set xs k v) x d ≡ f x
+at_set f xs k v d inside new x old =
+    elim (cases_eq x k) [
+      | inl same ↦ ap (λ j. get_or (set xs k v) j d) same ∙ get_or-set_same xs k v d inside ∙ new ∙ ap f (sym same)
+      | inr other ↦ get_or-set_other xs k x v d other ∙ old other
+    ]
+
+-- one band has another high water mark, and its full mark is told anew
+pub tally_recounted : (s : DataStore) (hiwat high : ℕ → ℕ) (ms : List Message) (t : Tally) → IsTallyOf s hiwat ms t → (band : ℕ) → band < bands → ((x : ℕ) → x ≢ band → high x ≡ hiwat x)
+    → IsTallyOf s high ms (recounted (high band) band t)
+tally_recounted s hiwat high ms t is band within same = record {
+  len = is.len;
+  bytes = is.bytes;
+  each_band = length-set t.counts band (count_of t band) ∙ is.each_band;
+  each_mark = length-set t.full band (fills (high band) (count_of t band)) ∙ is.each_mark;
+  counts = λ x inside. at_set (λ j. band_count s j ms) t.counts band (count_of t band) 0 (omega (arith, within, is.each_band)) (is.counts band within) x (λ other. is.counts x inside);
+  full = λ x inside.
+      at_set (λ j. fills (high j) (band_count s j ms)) t.full band (fills (high band) (count_of t band)) false (omega (arith, within, is.each_mark)) (ap (fills (high band)) (is.counts band within)) x
+      (λ other. is.full x inside ∙ ap (λ n. fills n (band_count s x ms)) (sym (same x other)));
+  ends = record {
+    each_first = is.ends.each_first;
+    each_last = is.ends.each_last;
+    each_used = is.ends.each_used;
+    firsts = is.ends.firsts;
+    lasts = is.ends.lasts;
+    used = is.ends.used;
+  };
+}
+
 -- one band has another count, and one rank other ends
 module _ (s : DataStore) (hiwat : ℕ → ℕ) (ms ns : List Message) (t : Tally) (is : IsTallyOf s hiwat ms t) (len : ℕ) (long : len ≡ length ns) (bytes : ℕ) (heavy : bytes ≡ bytes_on ns)
     (band n : ℕ) (within : band < bands) (here : n ≡ band_count s band ns) (others : (x : ℕ) → x ≢ band → band_count s x ns ≡ band_count s x ms)
     (r : ℕ) (end beginning : Option ℕ) (below : r < ranks) (first_is : beginning ≡ first_of_rank (rank_of s) r ns) (last_is : end ≡ last_of_rank (rank_of s) r ns)
     (other_ranks : (x : ℕ) → x ≢ r → of_rank (rank_of s) x ns ≡ of_rank (rank_of s) x ms) where
-  -- what stands in a list of numbers where one was set
-  at_set : {X : Type 0} (f : ℕ → X) (xs : List X) (k : ℕ) (v d : X) → k < length xs → v ≡ f k → (x : ℕ) → (x ≢ k → get_or xs x d ≡ f x) → get_or (set xs k v) x d ≡ f x
-  at_set f xs k v d inside new x old =
-      elim (cases_eq x k) [
-        | inl same ↦ ap (λ j. get_or (set xs k v) j d) same ∙ get_or-set_same xs k v d inside ∙ new ∙ ap f (sym same)
-        | inr other ↦ get_or-set_other xs k x v d other ∙ old other
-      ]
-
   tally_set : IsTallyOf s hiwat ns (with_ends r beginning end (with_count (hiwat band) band n (record t { len = len; bytes = bytes })))
   tally_set = record {
     len = long;

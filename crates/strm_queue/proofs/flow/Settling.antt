@@ -9,7 +9,7 @@ use Rattle.strm_queue.specs.Limits.{bands}
 use Rattle.strm_queue.specs.QueueCalls.{count_on, flags_left, has_relieved, settled, waker_enabled_where}
 use Rattle.strm_queue.specs.QueuedBlocks.{Agrees, AreInOrder, AreMarksLawful, QueuedBlocks, QueuesValue, together, tally_at}
 use Rattle.strm_queue.specs.Tallies.{count_of}
-use Rattle.strm_queue.proofs.agreeing.Agreeing.{enabled_flags, enabled_specs}
+use Rattle.strm_queue.proofs.agreeing.Agreeing.{enabled_flags, enabled_marks, enabled_specs}
 use Rattle.strm_queue.proofs.bands.Bands.{bands_where-same, has_band_where, some_same, wanted_past}
 use Rattle.strm_queue.proofs.agreeing.Flagged.{in_order_state}
 use Rattle.strm_queue.proofs.Lists.{get_or-map_same}
@@ -23,6 +23,14 @@ module _ (so : Bool) (q : ℕ) (s : QueueState) where
       by_cases : (so : Bool) (o : Option ℕ) → (let t : QueueState = if so then option_map_or (λ p. enabled p s) o s else s in t).specs ≡ s.specs
       by_cases true None = refl
       by_cases true (Some p) = enabled_specs true p s
+      by_cases false o = refl
+
+  waker_marks : (waker_enabled_where so q s).marks ≡ s.marks
+  waker_marks = by_cases so (waker s.specs q)
+    where
+      by_cases : (so : Bool) (o : Option ℕ) → (let t : QueueState = if so then option_map_or (λ p. enabled p s) o s else s in t).marks ≡ s.marks
+      by_cases true None = refl
+      by_cases true (Some p) = enabled_marks true p s
       by_cases false o = refl
 
   waker_flags : (waker_enabled_where so q s).flags ≡ s.flags
@@ -112,10 +120,11 @@ module _ (v : QueuesValue) (a : Arena) (q : ℕ) where
     settled_agrees s in_order is =
         let state = ap (λ (x : QueuedBlocks). x.queues) is in
         let specs = ap (λ (t : QueueState). t.specs) state ∙ waker_specs (has_relieved both q) q left in
+        let marks = ap (λ (t : QueueState). t.marks) state ∙ waker_marks (has_relieved both q) q left in
         let flags = ap (λ (t : QueueState). t.flags) state ∙ waker_flags (has_relieved both q) q left in
         record {
-          in_order = in_order_state v a s specs in_order;
+          in_order = in_order_state v a s specs marks in_order;
           marks = λ p band here.
-              subst (λ marks. marks band < band_count a.store band (shelf_at a p)) (sym (lowat_of-same v.state s specs p))
+              subst (λ low. low band < band_count a.store band (shelf_at a p)) (sym (lowat_of-same v.state s marks p))
               (left_at p band (subst (λ ms. has_band (get_or ms p opening_flags).wanted band ≡ true) flags here));
         }

@@ -63,7 +63,7 @@ impl Queues {
     }
 
     /// Whether a message of a band may be put: asked of the first queue with a service procedure from this one on, or of
-    /// the last one there. Where the band has at least as many bytes as the high water mark there, it is full: its wanted
+    /// the last one there. Where the band has at least as many bytes as its high water mark there, it is full: its wanted
     /// mark is set, and the answer is false. Takes a step for each queue that is passed.
     ///
     /// Refused as `NoSuchQueue` where there is no such queue; nothing changes then.

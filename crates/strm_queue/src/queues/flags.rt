@@ -72,7 +72,7 @@ impl Queues {
         self.queues[usize::from(queue)].wanted.insert(band);
     }
 
-    // Takes away the wanted mark of each band that has room again: it has at most as many bytes as the low water mark.
+    // Takes away the wanted mark of each band that has room again: it has at most as many bytes as its low water mark.
     // Whether there was one.
     pub(super) fn relieve(&mut self, queue: u8) -> bool
         requires { queue < length self.old.state.specs }
@@ -81,11 +81,11 @@ impl Queues {
         ensures some { result ≡ some_relieved (flags_at self.old.state queue).wanted (count_of (tally_at self.old queue)) (lowat_of self.old.state queue) }
     {
         let Queue {
-            spec,
             tally,
+            marks,
             wanted,
             ..
         } = &mut self.queues[usize::from(queue)];
-        wanted.remove_at_most(tally.counts(), spec.lowat)
+        wanted.relieve(tally.counts(), marks.each())
     }
 }

@@ -86,6 +86,16 @@ impl Bench {
     pub(super) fn woken(&self) -> u32 {
         self.plain.woken()
     }
+
+    // How often other water marks made a band full under its messages.
+    pub(super) fn filled(&self) -> u32 {
+        self.plain.filled()
+    }
+
+    // How often they made one full no more.
+    pub(super) fn eased(&self) -> u32 {
+        self.plain.eased()
+    }
 }
 
 // A message as the plain side has it.

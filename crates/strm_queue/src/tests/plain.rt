@@ -2,20 +2,22 @@
 mod entry;
 mod queue;
 
-use crate::{BandInfo, Flush, QueueInfo, QueueSpec};
+use crate::{BandInfo, Flush, Marks, QueueInfo, QueueSpec};
 pub(super) use entry::Entry;
 use queue::Queue;
 use std::alloc::Global;
 use std::process::Abort;
 use strm_data::Refusal;
 
-// The queues, the numbers of those that wait to be served, and how often a queue behind was enabled since a band had
-// room again.
+// The queues, the numbers of those that wait to be served, how often a queue behind was enabled since a band had room
+// again, and how often other water marks made a band full under its messages, and how often no more.
 #[derive(Drop)]
 pub(super) struct Plain {
     queues: Vec<Queue>,
     run: Vec<u8>,
     woken: u32,
+    filled: u32,
+    eased: u32,
 }
 
 impl Plain {
@@ -29,6 +31,8 @@ impl Plain {
             queues,
             run: Vec::new(alloc),
             woken: 0,
+            filled: 0,
+            eased: 0,
         }
     }
 
@@ -46,6 +50,14 @@ impl Plain {
 
     pub(super) fn woken(&self) -> u32 {
         self.woken
+    }
+
+    pub(super) fn filled(&self) -> u32 {
+        self.filled
+    }
+
+    pub(super) fn eased(&self) -> u32 {
+        self.eased
     }
 
     fn queue(&self, queue: u8) -> Result<&Queue, Refusal> {
@@ -185,6 +197,26 @@ impl Plain {
         self.queue(queue)?;
         let target = self.target(queue);
         Ok(self.queue_mut(target)?.has_room(band))
+    }
+
+    pub(super) fn strqset(
+        &mut self,
+        rt: &impl Abort,
+        queue: u8,
+        band: u8,
+        marks: Marks,
+    ) -> Result<(), Refusal> {
+        let was = self.band_info(queue, band)?.full;
+        self.queue_mut(queue)?.set_marks(band, marks)?;
+        let is = self.band_info(queue, band)?.full;
+        self.filled = self.filled.wrapping_add(u32::from(is && !was));
+        self.eased = self.eased.wrapping_add(u32::from(was && !is));
+        self.settle(rt, queue);
+        Ok(())
+    }
+
+    pub(super) fn strqget(&self, queue: u8, band: u8) -> Result<Marks, Refusal> {
+        Ok(self.queue(queue)?.marks(band))
     }
 
     pub(super) fn qenable(&mut self, rt: &impl Abort, queue: u8) -> Result<(), Refusal> {

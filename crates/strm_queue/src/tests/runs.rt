@@ -170,6 +170,17 @@ fn some_message(draw: &mut u32) -> Draft {
 }
 
 impl Bench {
+    // Gives some band of a queue water marks, of which the low one may be too great.
+    fn mark_some(&mut self, rt: &impl Abort, queue: u8, draw: &mut u32)
+        requires { Agrees self.old.queues self.old.blocks }
+        ensures { Agrees self.new.queues self.new.blocks }
+    {
+        let at = (queue, some_band(draw));
+        let hiwat = below(draw, 8) * below(draw, 6);
+        let lowat = below(draw, 8);
+        let _ = self.strqset(rt, at, hiwat, lowat);
+    }
+
     // Puts a message on a queue in some way; it may come back.
     fn put_somehow(
         &mut self,
@@ -236,18 +247,19 @@ impl Bench {
         self.drop_any(given);
     }
 
-    // Asks for room, or changes what waits to be served.
+    // Asks for room, gives water marks, or changes what waits to be served.
     fn schedule_some(&mut self, rt: &impl Abort, queue: u8, draw: &mut u32)
         requires { Agrees self.old.queues self.old.blocks }
         ensures { Agrees self.new.queues self.new.blocks }
     {
-        match below(draw, 20) {
+        match below(draw, 32) {
             0 => self.qenable(rt, queue),
             1 => self.noenable(rt, queue),
             2..=3 => self.enableok(rt, queue),
             4..=7 => {
                 let _ = self.next_service(rt);
             }
+            8..=13 => self.mark_some(rt, queue, draw),
             _ => {
                 let _ = self.bcanput(rt, queue, some_band(draw));
             }
@@ -342,15 +354,25 @@ fn run(rt: &impl Abort, alloc: Global, specs: &[QueueSpec], many: u32, one: Opti
     bench.end(rt, queues, many);
 }
 
-// So many steps with so many message blocks, in which queues behind are enabled so often at the least.
-fn flow(rt: &impl Abort, alloc: Global, specs: &[QueueSpec], many: u32, steps: u32, woken: u32)
+// How often it comes in a run, at the least: that a queue behind is enabled, and that other water marks make a band full
+// under its messages, or full no more.
+#[derive(Clone, Copy)]
+struct Often {
+    woken: u32,
+    filled: u32,
+    eased: u32,
+}
+
+// So many steps with so many message blocks, in which flow control comes so often.
+fn flow(rt: &impl Abort, alloc: Global, specs: &[QueueSpec], many: u32, steps: u32, often: Often)
     requires few { many ≤ most_message_blocks }
     requires queues { IsTrue (are_lawful specs.now) }
 {
     let queues = specs.len() as u8;
     let mut bench = Bench::opened(rt, alloc, many, &CLASSES, specs);
     bench.walk(rt, queues, steps);
-    assert!(rt; bench.woken() >= woken);
+    assert!(rt; bench.woken() >= often.woken);
+    assert!(rt; bench.filled() >= often.filled && bench.eased() >= often.eased);
     bench.end(rt, queues, many);
 }
 
@@ -376,10 +398,20 @@ fn most_messages(rt: HostRuntime) {
 
 #[test]
 fn short_chain(rt: HostRuntime) {
-    flow(&rt, rt.alloc(), &SHORT, 24, 5000, 20);
+    let often = Often {
+        woken: 20,
+        filled: 5,
+        eased: 4,
+    };
+    flow(&rt, rt.alloc(), &SHORT, 24, 5000, often);
 }
 
 #[test]
 fn many_queues(rt: HostRuntime) {
-    flow(&rt, rt.alloc(), &MANY, 80, 8000, 40);
+    let often = Often {
+        woken: 30,
+        filled: 10,
+        eased: 10,
+    };
+    flow(&rt, rt.alloc(), &MANY, 80, 8000, often);
 }

@@ -159,11 +159,14 @@ fn reads_calls_on_queues(rt: HostRuntime) -> Result<(), Fail> {
         (17, "Bufcall(0)"),
         (18, "Unbufcall(4294967295)"),
         (19, "Ready"),
+        (20, "Strqset(8, 255, 4294967295, 0)"),
+        (21, "Strqget(9, 7)"),
     ];
     let commands =
         "putbq 1 a\ninsq 2 4294967295 b\nrmvq 3 7 c\nqsize 4\nflushq 5 all\nflushband 6 255 data\n\
         bcanput 7 8\nqenable 9\nnoenable 10\nenableok 255\nservice\n\
-        bufcall 0\nunbufcall 4294967295\nready\n";
+        bufcall 0\nunbufcall 4294967295\nready\n\
+        strqset 8 255 4294967295 0\nstrqget 9 7\n";
     expect_calls(&rt, commands, &calls)
 }
 
@@ -312,8 +315,16 @@ fn finds_the_first_fault_of_a_queue_or_a_wish(rt: HostRuntime) -> Result<(), Fai
         (OPEN, "service 0\n", 6, Kind::Shape),
         (OPEN, "bufcall\n", 6, Kind::Shape),
         (OPEN, "ready \n", 6, Kind::Shape),
+        (OPEN, "strqset 0 0 20\n", 6, Kind::Shape),
+        (OPEN, "strqset 0 0 20 10 s\n", 6, Kind::Shape),
+        (OPEN, "strqget 0\n", 6, Kind::Shape),
         (OPEN, "flushband 0 256 none\n", 6, Kind::Number),
         (OPEN, "bcanput 0 -1\n", 6, Kind::Number),
+        (OPEN, "strqset 256 0 20 10\n", 6, Kind::Number),
+        (OPEN, "strqset 0 256 20 10\n", 6, Kind::Number),
+        (OPEN, "strqset 0 0 4294967296 10\n", 6, Kind::Number),
+        (OPEN, "strqset 0 0 20 -1\n", 6, Kind::Number),
+        (OPEN, "strqget 0 256\n", 6, Kind::Number),
         (OPEN, "unbufcall 4294967296\n", 6, Kind::Number),
         (OPEN, "flushq 0 All\n", 6, Kind::Word),
         (OPEN, "flushq 0 \n", 6, Kind::Word),

@@ -51,8 +51,10 @@ fn writes_what_a_call_answers(rt: HostRuntime) -> Result<(), Fail> {
     reply_text(&mut text, 0, 15, &Reply::Queue(255))?;
     reply_text(&mut text, 0, 16, &Reply::Id(u32::MAX))?;
     reply_text(&mut text, 0, 17, &Reply::Ready(1, 0))?;
+    reply_text(&mut text, 0, 18, &Reply::Marks(u32::MAX, 0))?;
+    reply_text(&mut text, 0, 19, &Reply::Refused(Refusal::BadMarks))?;
     let wanted =
-        b"0:7 yes\n0:8 no\n0:9 size 4294967295\n0:10 size 0\n0:11 bytes 00090a0f109fa0ff\n0:12 bytes -\n0:13 block M_PCPROTO len=5000 band=255 room=0 names=12\n0:14 queue 0\n0:15 queue 255\n0:16 id 4294967295\n0:17 ready 1 0\n";
+        b"0:7 yes\n0:8 no\n0:9 size 4294967295\n0:10 size 0\n0:11 bytes 00090a0f109fa0ff\n0:12 bytes -\n0:13 block M_PCPROTO len=5000 band=255 room=0 names=12\n0:14 queue 0\n0:15 queue 255\n0:16 id 4294967295\n0:17 ready 1 0\n0:18 marks 4294967295 0\n0:19 refused 20 BadMarks\n";
     assert_eq!(rt; text.as_slice(), wanted.as_slice());
     Ok(())
 }

@@ -121,6 +121,8 @@ fn queueing<N: Name, R: Wait + Abort>(rt: &R, shared: &Shared<N>, desk: &mut Des
         (Call::Insq(1, 2, e), Reply::Done),
         (Call::Qsize(1), Reply::Size(3)),
         (Call::Bcanput(1, 2), Reply::No),
+        (Call::Strqset(1, 3, 9, 8), Reply::Done),
+        (Call::Strqget(1, 3), Reply::Marks(9, 8)),
         (Call::Rmvq(1, 1, a), Reply::Done),
         (Call::Size(a), Reply::Size(5)),
         (Call::Service, Reply::Queue(1)),

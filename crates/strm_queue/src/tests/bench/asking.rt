@@ -4,7 +4,7 @@ ghost use Rattle.strm_queue.specs.QueuedBlocks.{Agrees};
 use super::Bench;
 use crate::limits::MOST_QUEUES;
 use crate::tests::reading::assert_on;
-use crate::{BandInfo, QueueInfo};
+use crate::{BandInfo, Marks, QueueInfo};
 use std::process::Abort;
 use strm_data::Refusal;
 
@@ -25,6 +25,49 @@ impl Bench {
         let expected = self.plain.bcanput(queue, band);
         assert_eq!(rt; self.queues.bcanput(&self.blocks, queue, band), expected);
         expected
+    }
+
+    // Gives a band water marks.
+    pub(in crate::tests) fn strqset(
+        &mut self,
+        rt: &impl Abort,
+        at: (u8, u8),
+        hiwat: u32,
+        lowat: u32,
+    ) -> Result<(), Refusal>
+        requires { Agrees self.old.queues self.old.blocks }
+        ensures { Agrees self.new.queues self.new.blocks }
+    {
+        let (queue, band) = at;
+        let marks = Marks { hiwat, lowat };
+        let expected = self.plain.strqset(rt, queue, band, marks);
+        let answer = self.queues.strqset(&self.blocks, queue, band, hiwat, lowat);
+        assert_eq!(rt; answer, expected);
+        expected
+    }
+
+    // The water marks of a band are the same.
+    pub(in crate::tests) fn strqget(
+        &self,
+        rt: &impl Abort,
+        queue: u8,
+        band: u8,
+    ) -> Result<Marks, Refusal> {
+        let expected = self.plain.strqget(queue, band);
+        assert_eq!(rt; self.queues.strqget(queue, band), expected);
+        expected
+    }
+
+    // A band of a queue has these water marks.
+    pub(in crate::tests) fn assert_marks(
+        &self,
+        rt: &impl Abort,
+        at: (u8, u8),
+        hiwat: u32,
+        lowat: u32,
+    ) {
+        let (queue, band) = at;
+        assert_eq!(rt; self.strqget(rt, queue, band), Ok(Marks { hiwat, lowat }));
     }
 
     pub(in crate::tests) fn qenable(&mut self, rt: &impl Abort, queue: u8)
@@ -75,7 +118,7 @@ impl Bench {
         }
     }
 
-    // A band of a queue is the same. What there is to tell of it.
+    // A band of a queue is the same, with its water marks. What there is to tell of it.
     pub(in crate::tests) fn band(
         &self,
         rt: &impl Abort,
@@ -86,6 +129,7 @@ impl Bench {
     {
         let expected = self.plain.band_info(queue, band);
         assert_eq!(rt; self.queues.band_info(&self.blocks, queue, band), expected);
+        let _ = self.strqget(rt, queue, band);
         expected
     }
 

@@ -1,19 +1,20 @@
 //! A plain queue.
 use super::entry::Entry;
 use crate::limits::{BANDS, HIGH_RANK};
-use crate::{BandInfo, Flush, QueueInfo, QueueSpec};
+use crate::{BandInfo, Flush, Marks, QueueInfo, QueueSpec};
 use std::alloc::Global;
 use std::process::Abort;
 use strm_data::Refusal;
 
 // What a queue was made with, its messages front to back, whether somebody wants to read, whether enabling is off, and
-// for each band whether somebody waits for room.
+// for each band its water marks, and whether somebody waits for room.
 #[derive(Drop)]
 pub(super) struct Queue {
     spec: QueueSpec,
     entries: Vec<Entry>,
     read: bool,
     off: bool,
+    marks: [Marks; BANDS],
     wanted: [bool; BANDS],
 }
 
@@ -40,6 +41,10 @@ impl Queue {
             entries: Vec::new(alloc),
             read: true,
             off: false,
+            marks: [Marks {
+                hiwat: spec.hiwat,
+                lowat: spec.lowat,
+            }; BANDS],
             wanted: [false; BANDS],
         }
     }
@@ -71,11 +76,25 @@ impl Queue {
         bytes
     }
 
+    // The water marks of a band.
+    pub(super) fn marks(&self, band: u8) -> Marks {
+        self.marks[usize::from(band)]
+    }
+
+    // Gives a band water marks.
+    pub(super) fn set_marks(&mut self, band: u8, marks: Marks) -> Result<(), Refusal> {
+        if marks.hiwat <= marks.lowat {
+            return Err(Refusal::BadMarks);
+        }
+        self.marks[usize::from(band)] = marks;
+        Ok(())
+    }
+
     // Takes away the wanted marks where there is room again. Whether there was one.
     pub(super) fn relieve(&mut self) -> bool {
         let mut some = false;
         for band in 0..=u8::MAX {
-            if self.wanted[usize::from(band)] && self.bytes(band) <= self.spec.lowat {
+            if self.wanted[usize::from(band)] && self.bytes(band) <= self.marks(band).lowat {
                 self.wanted[usize::from(band)] = false;
                 some = true;
             }
@@ -85,7 +104,7 @@ impl Queue {
 
     // Whether there is room in a band. Where there is none, somebody waits for it.
     pub(super) fn has_room(&mut self, band: u8) -> bool {
-        let room = self.bytes(band) < self.spec.hiwat;
+        let room = self.bytes(band) < self.marks(band).hiwat;
         if !room {
             self.wanted[usize::from(band)] = true;
         }
@@ -164,7 +183,7 @@ impl Queue {
         let bytes = self.bytes(band);
         BandInfo {
             bytes,
-            full: bytes >= self.spec.hiwat,
+            full: bytes >= self.marks(band).hiwat,
             wanted: self.wanted[usize::from(band)],
         }
     }

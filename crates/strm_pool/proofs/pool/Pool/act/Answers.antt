@@ -157,6 +157,11 @@ returns-in-Bcanput c =
     let made = queues.bcanput c.in-Bcanput.queue c.in-Bcanput.band (queued c.args.self.now) in
     tells c.in-Bcanput.is c.requires yes_or_no (on_queues c.args.self.now made) refl (all_stays c.bcanput.ensures.arena) refl c.bcanput.ensures.pool (queues_answer c.args.self.now made) c.bcanput.ensures.answer c.truth.ensures
 
+pub returns-in-Strqset : goal.returns-in-Strqset
+returns-in-Strqset c =
+    let made = queues.strqset c.in-Strqset.queue c.in-Strqset.band c.in-Strqset.hiwat c.in-Strqset.lowat (queued c.args.self.now) in
+    tells c.in-Strqset.is c.requires (λ done. Done) (on_queues c.args.self.now made) refl (all_stays c.strqset.ensures.arena) refl c.strqset.ensures.pool (queues_answer c.args.self.now made) c.strqset.ensures.answer c.done-in-Strqset.ensures
+
 pub returns-in-Qenable : goal.returns-in-Qenable
 returns-in-Qenable c =
     let made = queues.qenable c.in-Qenable.queue (queued c.args.self.now) in

@@ -1,6 +1,7 @@
-use Rattle.std.proofs.Common.{◌≡◌, arith, map, ap, ◌∙◌, length}
-use Rattle.std.proofs.lemmas.List.{take_all}
+use Rattle.std.proofs.Common.{◌≡◌, ◌++◌, [], ◌∷◌, arith, get_or, map, take, ap, sym, ◌∙◌, length}
+use Rattle.std.proofs.lemmas.List.{map_push, take_all, take_more}
 use Rattle.strm_links.specs.Rows as rows
+use Rattle.strm_queue.specs.Flow.{no_spec}
 use Rattle.strm_queue.specs.QueuesLayout.{new_queue}
 use Rattle.strm_queue.proofs.layout.Stored.{lawful_made, value_made}
 use Rattle.strm_queue.proofs.queues.Queues.new.Goals as goal
@@ -20,3 +21,10 @@ pub returns : goal.returns
 returns c =
     let here = (goal.at.returns c).In_ok-run in
     value_made (record { queues = c.loop-spec.queues; run = c.in_ok-run.run' }) c.args.specs.now (made here) (ap (rows.list_at 0) c.in_ok-run.ensures.rows)
+
+pub loop-spec-preserved : goal.loop-spec-preserved
+loop-spec-preserved c =
+    let specs = c.args.specs.now in
+    let i = c.loop-spec.spec-index in
+    c.in_ok-push.ensures.items ∙ (λ j. c.loop-spec.invariant j ++ c.new.ensures j ∷ []) ∙ sym (map_push new_queue (take i specs) (get_or specs i no_spec))
+    ∙ ap (map new_queue) (sym (take_more specs i no_spec c.loop-spec-test.true))

@@ -13,6 +13,7 @@ returns-clause-state c =
     (λ i. let w : QueuesValue = record {
       state = record c.args.self.now.state {
         specs = (c.self.view_is i).state.specs;
+        marks = (c.self.view_is i).state.marks;
         flags = (c.self.view_is i).state.flags;
         run = (run_left c.self.inside.run c.parts_nodes.ensures.parting c.self.invariant.lists c.in_ok-node.node (sym c.in_ok-node.ensures.value) c.remove.new.self c.remove.ensures.lists
             ∙ ap (λ (v : QueuesValue). drop 1 v.state.run) c.self.view_is) i;

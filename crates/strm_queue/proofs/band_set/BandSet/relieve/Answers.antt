@@ -1,13 +1,13 @@
 use Rattle.std.proofs.Common.{◌+◌, ◌<◌, false, arith, rules}
 use Rattle.strm_queue.specs.Limits.{bands}
 use Rattle.strm_queue.proofs.bands.Bands.{AreLookedAt, first_from, looked_at_first, looked_at_last, looked_leaves, looked_stays, looked_to}
-use Rattle.strm_queue.proofs.band_set.BandSet.remove_at_most.Invariants.{is_at_most}
-use Rattle.strm_queue.proofs.band_set.BandSet.remove_at_most.Goals.{then-counts-from, else-counts-from}
-use Rattle.strm_queue.proofs.band_set.BandSet.remove_at_most.Goals as goal
+use Rattle.strm_queue.proofs.band_set.BandSet.relieve.Invariants.{has_room_again}
+use Rattle.strm_queue.proofs.band_set.BandSet.relieve.Goals.{then-counts-from, else-counts-from}
+use Rattle.strm_queue.proofs.band_set.BandSet.relieve.Goals as goal
 
 pub loop-next-init : goal.loop-next-init
 loop-next-init c =
-    let may = is_at_most c.args.counts.now c.args.most in
+    let may = has_room_again c.args.counts.now c.args.marks.now in
     looked_to c.args.self.now may 0 c.args.self.now false (looked_at_first c.args.self.now may c.lawful.ensures) c.at_least-next.result (omega arith) c.at_least-next.ensures.some c.at_least-next.ensures.none
 
 pub loop-next-smaller : goal.loop-next-smaller
@@ -18,7 +18,7 @@ loop-next-smaller c =
 
 pub loop-next-preserved : goal.loop-next-preserved
 loop-next-preserved c =
-    let may = is_at_most c.args.counts.now c.args.most in
+    let may = has_room_again c.args.counts.now c.args.marks.now in
     let (are, marked) = rw c.in-Some.is at c.loop-next.invariant in
     let low : c.in-Some.band < bands = search rules in
     let next : AreLookedAt c.args.self.now may (c.in-Some.band + 1) c.if-counts-from.self c.if-counts-from.some =
@@ -30,7 +30,7 @@ loop-next-preserved c =
     looked_to c.args.self.now may (c.in-Some.band + 1) c.if-counts-from.self c.if-counts-from.some next c.above-next.result (omega (arith, low)) c.above-next.ensures.some c.above-next.ensures.none
 
 pub returns-clause-left : goal.returns-clause-left
-returns-clause-left c = (looked_at_last c.args.self.now (is_at_most c.args.counts.now c.args.most) c.loop-next.self c.loop-next.some (rw c.in_default.is at c.loop-next.invariant.0)).0
+returns-clause-left c = (looked_at_last c.args.self.now (has_room_again c.args.counts.now c.args.marks.now) c.loop-next.self c.loop-next.some (rw c.in_default.is at c.loop-next.invariant.0)).0
 
 pub returns-clause-some : goal.returns-clause-some
-returns-clause-some c = (looked_at_last c.args.self.now (is_at_most c.args.counts.now c.args.most) c.loop-next.self c.loop-next.some (rw c.in_default.is at c.loop-next.invariant.0)).1
+returns-clause-some c = (looked_at_last c.args.self.now (has_room_again c.args.counts.now c.args.marks.now) c.loop-next.self c.loop-next.some (rw c.in_default.is at c.loop-next.invariant.0)).1

@@ -1,0 +1,44 @@
+use Rattle.std.proofs.Common.{◌≡◌, true, arith, length, sym, ap, subst, ◌∙◌}
+use Rattle.std.specs.Prelude.{nat_lt}
+use Rattle.std.proofs.lemmas.Bool.{ltb-true}
+use Rattle.strm_mblk.specs.Given.{value_after}
+use Rattle.strm_queue.specs.declared.marks.Marks.{Marks}
+use Rattle.strm_queue.specs.Flow.{hiwat_of}
+use Rattle.strm_queue.specs.QueueCalls.{settled}
+use Rattle.strm_queue.specs.QueuedBlocks.{AreInOrder, AreMarksLawful, QueuesValue, tally_at, together, with_tally}
+use Rattle.strm_queue.specs.Tallies.{recounted}
+use Rattle.strm_queue.proofs.flow.Marking.{marked_in_order, marked_others, strqset_given, with_recounted}
+use Rattle.strm_queue.proofs.queues.Queues.strqset.Goals as goal
+use Rattle.strm_queue.proofs.queues.Queues.strqset.Goals.{After-recount}
+
+-- the new marks
+abbrev m : After-recount → Marks
+m c = record { hiwat = c.args.hiwat; lowat = c.args.lowat }
+
+-- there is such a queue
+there : (c : After-recount) → nat_lt c.args.queue (length c.args.self.now.state.specs) ≡ true
+there c = sym c.has_queue.ensures ∙ c.if-not-has_queue.false
+
+-- the queues before they are settled
+marked : (c : After-recount) → c.recount.new.self ≡ with_recounted c.args.self.now c.args.blocks.now c.args.queue c.args.band (m c)
+marked c =
+    c.recount.ensures
+    ∙ ap (λ (w : QueuesValue). with_tally c.args.queue (recounted (hiwat_of w.state c.args.queue c.args.band) c.args.band (tally_at w c.args.queue)) w) c.set_marks.ensures
+
+in_order : (c : After-recount) → AreInOrder c.recount.new.self c.args.blocks.now
+in_order c =
+    subst (λ w. AreInOrder w c.args.blocks.now) (sym (marked c))
+    (marked_in_order c.args.self.now c.args.blocks.now c.args.queue c.args.band (m c) c.requires.in_order (ltb-true c.args.queue (length c.args.self.now.state.specs) (there c)) (omega (arith, c.ranges.band)))
+
+pub returns-clause-after : goal.returns-clause-after
+returns-clause-after c =
+    let here = (goal.at.returns-clause-after c).After-recount in
+    c.settle.ensures.state c.args.blocks.now (in_order here)
+    ∙ ap (λ w. settled c.args.queue (together w c.args.blocks.now)) (marked here)
+    ∙ sym (ap (value_after (together c.args.self.now c.args.blocks.now)) (strqset_given (together c.args.self.now c.args.blocks.now) c.args.queue c.args.band c.args.hiwat c.args.lowat (there here) (omega (arith, c.if-lowat-hiwat.false))))
+
+pub returns-clause-agrees : goal.returns-clause-agrees
+returns-clause-agrees c =
+    let here = (goal.at.returns-clause-agrees c).After-recount in
+    c.settle.ensures.agrees c.args.blocks.now (in_order here)
+    (λ p other. subst (λ (w : QueuesValue). AreMarksLawful w.state c.args.blocks.now p) (sym (marked here)) (marked_others c.args.self.now c.args.blocks.now c.args.queue c.args.band (m here) c.requires p other))
