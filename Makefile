@@ -12,7 +12,7 @@ LOG := build/proving.log
 # Ends with one line where there is no `rt`.
 NEEDS_RT = $(if $(shell command -v rt 2>/dev/null),,$(error Rattle's command rt is not on PATH, and README.md says which is wanted))
 
-.PHONY: run test bench bench-census strm install
+.PHONY: run test soak bench bench-census strm install
 
 # Runs the first run's script, once the program is proved.
 run: $(BUILT)
@@ -22,6 +22,10 @@ run: $(BUILT)
 test:
 	$(NEEDS_RT)
 	@.ci/run
+
+# Has workers serve drawn scripts for a minute, and replays what they write. OPTIONS are words of tests/soak, as --seconds N.
+soak: $(BUILT)
+	@tests/soak $(OPTIONS) $(BUILT)
 
 # Prints what a line and a call cost. OPTIONS are words of bench/run.py, as --instructions, or --write for docs/.
 bench: $(BUILT)

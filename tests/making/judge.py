@@ -1,12 +1,13 @@
 """Judges the text of a script whose sections workers have served: it tells an order, which the plain model replays. A text
 that ends early is judged too, as far as it goes."""
 import copy
+import functools
 import re
 
 from mixed import WORDS
 from model import Model, Pool
 
-REPLY = re.compile(r"(0|[1-9][0-9]*):[1-9][0-9]* .*")
+REPLY = re.compile(r"(0|[1-9][0-9]*):[1-9][0-9]* ")
 
 
 class Wrong(Exception):
@@ -20,6 +21,8 @@ def value_of(item, text):
     return text if item in ("from", "to", "kind", "flag") else int(text)
 
 
+# A script that is judged again and again is read once.
+@functools.lru_cache(maxsize=1)
 def script_of(script):
     """The pool of a script without faults, and the commands of each section: number, word, items, values."""
     header = {"pool": [], "class": [], "queue": [], "bufcalls": []}
@@ -67,13 +70,13 @@ class Replay:
     def line(self, model, worker):
         """The line of the text where a model serves the next line of this worker."""
         number, word, items, values = self.sections[worker][self.served[worker]]
-        model.held = model.workers[worker]
+        model.turn_to(worker)
         return f"{worker}:{number} {model.answer(word, items, values)}"
 
     def follow(self, lines):
         """Serves the lines that the first lines of a text tell of, and returns what comes behind them."""
         for at, line in enumerate(lines):
-            told = REPLY.fullmatch(line)
+            told = REPLY.match(line)
             if told is None:
                 return lines[at:]
             worker = int(told[1])
@@ -95,8 +98,8 @@ class Replay:
 
 
 def judge(script, text):
-    """Raises `Wrong` where this is no text of the script under any order that keeps each worker's own. Returns whether
-    the order is the serial one."""
+    """Raises `Wrong` where this is no text of the script under any order that keeps each worker's own. Returns the order, as
+    the workers of its lines."""
     if not text.endswith("\n"):
         raise Wrong("the text does not end with a line end")
     replay = Replay(script)
@@ -105,7 +108,11 @@ def judge(script, text):
         raise Wrong(f"a line was not served, or the report comes too early: {replay.served}")
     if rest != replay.model.report():
         raise Wrong(f"the report is another one: {rest}, and not {replay.model.report()}")
-    return replay.order == sorted(replay.order)
+    return replay.order
+
+
+def is_serial(order):
+    return order == sorted(order)
 
 
 def judge_beginning(script, text):

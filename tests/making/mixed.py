@@ -6,10 +6,10 @@ REGISTERS = "abcdefghijklmz"
 
 
 class Dice:
-    """Numbers that look random, the same on every run."""
+    """Numbers that look random, the same on every run with the same seed."""
 
-    def __init__(self):
-        self.state = 1
+    def __init__(self, seed=1):
+        self.state = seed
 
     def below(self, bound):
         self.state = (self.state * 6364136223846793005 + 1442695040888963407) % 2**64

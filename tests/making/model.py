@@ -123,7 +123,7 @@ class Queue:
 
 
 class Model:
-    """A pool and the registers of workers, which are served one after another. A message is a list of blocks.
+    """A pool and the registers of workers, of which one is served at a time. A message is a list of blocks.
 
     Each word has a method, which is called where its queue is there, its sources hold messages and its
     destination holds none. It gives the reply, or none for `ok`."""
@@ -142,12 +142,16 @@ class Model:
         self.held = {}
         self.workers.append(self.held)
 
+    def turn_to(self, worker):
+        """This worker is served on."""
+        self.held = self.workers[worker]
+
     def answer(self, word, items, values):
         """The reply to a line: what refuses it first, or what the word gives. Items say what the values are."""
         sources = [value for item, value in zip(items, values) if item == "from"]
         if "queue" in items and values[items.index("queue")] >= len(self.queues):
             return "refused 11 NoSuchQueue"
-        if any(source not in self.held for source in sources) or len(set(sources)) < len(sources):
+        if not all(map(self.held.__contains__, sources)) or len(set(sources)) < len(sources):
             return "empty"
         if "to" in items and values[items.index("to")] in self.held:
             return "taken"
@@ -157,8 +161,8 @@ class Model:
             return f"refused {refusal}"
 
     def counts(self):
-        queued = sum(len(message) for queue in self.queues for message in queue.messages)
-        held = sum(len(message) for registers in self.workers for message in registers.values())
+        queued = sum(sum(map(len, queue.messages)) for queue in self.queues)
+        held = sum(sum(map(len, registers.values())) for registers in self.workers if registers)
         return self.pool.mblks - queued - held, queued, held
 
     def take(self, free, size):
