@@ -4,6 +4,9 @@ SHELL := bash
 .SHELLFLAGS := -o pipefail -c
 
 PREFIX ?= /usr/local
+SHARE := $(DESTDIR)$(PREFIX)/share
+# The version, which the installed manual names.
+VERSION := $(shell cat VERSION)
 BUILT := crates/strm_driver/out/strm_driver
 SOURCES := crates.txt HANDLES $(shell find crates -path '*/out' -prune -o \( -name '*.rt' -o -name '*.antt' \) -print)
 # What `rt` said when it last proved and built the program.
@@ -12,7 +15,7 @@ LOG := build/proving.log
 # Ends with one line where there is no `rt`.
 NEEDS_RT = $(if $(shell command -v rt 2>/dev/null),,$(error Rattle's command rt is not on PATH, and README.md says which is wanted))
 
-.PHONY: run test soak bench bench-census strm install
+.PHONY: run test soak bench bench-census strm install install-pages
 
 # Runs the first run's script, once the program is proved.
 run: $(BUILT)
@@ -42,9 +45,15 @@ strm: build/strm
 build/strm: $(BUILT)
 	@install -D -m 755 $(BUILT) build/strm
 
-# Installs the proved program as PREFIX/bin/strm.
-install: $(BUILT)
+# Installs the proved program as PREFIX/bin/strm, and the pages.
+install: $(BUILT) install-pages
 	install -D -m 755 $(BUILT) $(DESTDIR)$(PREFIX)/bin/strm
+
+# Installs the manual and the completions of bash and zsh, for which nothing is built.
+install-pages:
+	sed 's/@VERSION@/$(VERSION)/' man/strm.1 | install -D -m 644 /dev/stdin $(SHARE)/man/man1/strm.1
+	install -D -m 644 completions/strm.bash $(SHARE)/bash-completion/completions/strm
+	install -D -m 644 completions/_strm $(SHARE)/zsh/site-functions/_strm
 
 # Only a proved program is built. `rt run` keeps its work, and runs the program once.
 $(BUILT): $(SOURCES)

@@ -1,0 +1,119 @@
+"""What the source says of what stands in strm(1). The tables of words are those of the definitions, which the parser's code is
+proved to follow."""
+import glob
+import os
+import re
+import subprocess
+import tempfile
+
+from page import TOP
+
+CASES = os.path.join(TOP, "tests", "cases")
+# Cases whose script is made, for refusals that no script of a few lines meets.
+MADE = ["most_names"]
+
+
+def read(*path):
+    with open(os.path.join(TOP, *path), encoding="utf-8") as file:
+        return file.read()
+
+
+def version():
+    return read("VERSION").strip()
+
+
+def forms():
+    """The first words of a script's lines, each with the forms of the words behind it."""
+    words = re.findall(r'\(codes "(\w+)", words\.(?:Command verbs\.)?(\w+)\)', read("crates/strm_script/specs/Word.antt"))
+    row = re.compile(r"^(?:call|entry)_of (?:verbs|words)\.(\w+) = (?:none|one|two|three|four)((?: \w+_of)*)", re.MULTILINE)
+    behind = dict(row.findall(read("crates/strm_script/specs/Entry.antt")))
+    return {word: behind[name].split() for word, name in words}
+
+
+def type_names():
+    """The names of the types of messages, by their variants."""
+    return dict(re.findall(r'MsgType::(\w+) => "(\w+)"', read("crates/strm_data/src/msg_type.rt")))
+
+
+def types():
+    """Each type of messages, and whether it is ordinary or of high priority."""
+    rows = re.findall(r"^is_high_priority (\w+) = (\w+)$", read("crates/strm_data/specs/MsgType.antt"), re.MULTILINE)
+    return {type_names()[kind]: "high priority" if high == "true" else "ordinary" for kind, high in rows}
+
+
+def data_types():
+    """The types that a flush of data takes."""
+    carry = re.findall(r"^carries_data (\w+) = true$", read("crates/strm_queue/specs/Flush.antt"), re.MULTILINE)
+    return sorted(type_names()[kind] for kind in carry)
+
+
+def replies():
+    """The words that replies begin with."""
+    return sorted(re.findall(r'" ?([a-z]+)(?: "|\\n")', read("crates/strm_script/src/transcript.rt")))
+
+
+def refusals():
+    """The name and the meaning of each refusal, by its number."""
+    rows = re.findall(r'#\[error\("([^"]+)"\)\]\s+(\w+) = (\d+),', read("crates/strm_data/src/refusal.rt"))
+    return {int(number): (name, meaning.lower()) for meaning, name, number in rows}
+
+
+def kinds():
+    """The faults of a script, in the order in which they are looked for on one line."""
+    return re.findall(r'Kind::\w+ => "(\w+)"', read("crates/strm_script/src/fault.rt"))
+
+
+def config_faults():
+    """The faults of a configuration, in the order in which they are looked for."""
+    return re.findall(r'Which::\w+ => "(\w+)"', read("crates/strm_pool/src/config.rt"))
+
+
+def limits():
+    """The limits, by the names of their constants."""
+    files = glob.glob(os.path.join(TOP, "crates", "*", "src", "limits.rt"))
+    rows = [row for file in files for row in re.findall(r"pub const (\w+): \w+ = ([\d_]+);", read(file))]
+    return {name: int(number) for name, number in rows}
+
+
+def statuses():
+    """What is written to standard error, by the status, from the table of README.md."""
+    rows = re.findall(r"^\| (\d+) \|.*\| (.*) \|$", read("README.md"), re.MULTILINE)
+    return {int(status): sorted(re.findall(r"`(strm: [^`]+)`", texts)) for status, texts in rows}
+
+
+def options(help_text):
+    """The options of a help text, each with the name of its value and the numbers that are said of it, if it has a value."""
+    row = re.compile(r"^ +((?:-\w|--\w+)(?:, --\w+)?)(?: <(\w+)>)? +(.*)$", re.MULTILINE)
+    found = {}
+    for names, value, text in row.findall(help_text):
+        numbers = re.findall(r"\d+", text) if value else []
+        found |= {name: (value, sorted(numbers)) for name in names.split(", ")}
+    return found
+
+
+def newest_change():
+    """The newest version of CHANGELOG.md."""
+    return re.search(r"^## \[([\d.]+)\]", read("CHANGELOG.md"), re.MULTILINE)[1]
+
+
+def told_lines(folder):
+    """The first word of each command line of a case, and the words of its reply."""
+    script = read(folder, "script").split("\n")
+    for number, reply in re.findall(r"^\d+:(\d+) (.*)$", read(folder, "stdout"), re.MULTILINE):
+        yield script[int(number) - 1].partition(" ")[0], reply.split(" ")
+
+
+def answers(of_all):
+    """What each command is answered in the cases, beside what all may be: the first word of a reply, or a refusal's name."""
+    found = {}
+    folders = [folder for folder in glob.glob(os.path.join(CASES, "*")) if os.path.isfile(os.path.join(folder, "script"))]
+    with tempfile.TemporaryDirectory() as room:
+        for name in MADE:
+            folders.append(os.path.join(room, name))
+            os.mkdir(folders[-1])
+            subprocess.run([os.path.join(CASES, name, "make"), folders[-1]], cwd=TOP, check=True)
+        for folder in folders:
+            if os.path.exists(os.path.join(folder, "stdout")):
+                for word, reply in told_lines(folder):
+                    found.setdefault(word, set()).add(reply[2] if reply[0] == "refused" else reply[0])
+    return {word: sorted(replies - of_all) for word, replies in found.items()}
