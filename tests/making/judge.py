@@ -3,11 +3,12 @@ that ends early is judged too, as far as it goes."""
 import copy
 import functools
 import re
+from itertools import zip_longest
 
 from mixed import WORDS
 from model import Model, Pool
 
-REPLY = re.compile(r"(0|[1-9][0-9]*):[1-9][0-9]* ")
+REPLY = re.compile(r"(0|[1-9][0-9]?):[1-9][0-9]* ")
 
 
 class Wrong(Exception):
@@ -73,6 +74,13 @@ class Replay:
         model.turn_to(worker)
         return f"{worker}:{number} {model.answer(word, items, values)}"
 
+    def serve(self, worker):
+        """Serves the next line of this worker, and returns the line of the text."""
+        line = self.line(self.model, worker)
+        self.served[worker] += 1
+        self.order.append(worker)
+        return line
+
     def follow(self, lines):
         """Serves the lines that the first lines of a text tell of, and returns what comes behind them."""
         for at, line in enumerate(lines):
@@ -81,13 +89,23 @@ class Replay:
                 return lines[at:]
             worker = int(told[1])
             if not self.waits(worker):
-                raise Wrong(f"worker {worker} has no line left: {line}")
-            wanted = self.line(self.model, worker)
+                raise Wrong(f"line {at + 1}: worker {worker} has no line left, and {line!r} stands there")
+            wanted = self.serve(worker)
             if line != wanted:
-                raise Wrong(f"in this order it is {wanted!r}: {line}")
-            self.served[worker] += 1
-            self.order.append(worker)
+                raise Wrong(f"line {at + 1}: in this order it is {wanted!r}, and not {line!r}")
         return []
+
+    def finish(self, text):
+        """Serves all lines in the order that a text tells, which has to be the text of the script in this order."""
+        if not text.endswith("\n"):
+            raise Wrong(f"line {text.count(chr(10)) + 1}: there is no line end")
+        rest = self.follow(text[:-1].split("\n"))
+        begin = len(self.order) + 1
+        if self.waiting():
+            raise Wrong(f"line {begin}: a line was not served, or the report comes too early: {self.served}")
+        for number, (line, wanted) in enumerate(zip_longest(rest, self.model.report()), begin):
+            if line != wanted:
+                raise Wrong(f"line {number}: in the report it is {wanted!r}, and not {line!r}")
 
     def ahead(self):
         """What may come next: the line of any worker that has one left, or else the report."""
@@ -100,14 +118,8 @@ class Replay:
 def judge(script, text):
     """Raises `Wrong` where this is no text of the script under any order that keeps each worker's own. Returns the order, as
     the workers of its lines."""
-    if not text.endswith("\n"):
-        raise Wrong("the text does not end with a line end")
     replay = Replay(script)
-    rest = replay.follow(text[:-1].split("\n"))
-    if replay.waiting():
-        raise Wrong(f"a line was not served, or the report comes too early: {replay.served}")
-    if rest != replay.model.report():
-        raise Wrong(f"the report is another one: {rest}, and not {replay.model.report()}")
+    replay.finish(text)
     return replay.order
 
 

@@ -1,0 +1,23 @@
+"""The page of a run: one file, with style, program and run in it."""
+import html
+import json
+import os
+import re
+
+FOLDER = os.path.dirname(os.path.abspath(__file__))
+
+
+def source(name):
+    with open(os.path.join(FOLDER, name), encoding="utf-8") as file:
+        return file.read()
+
+
+def page(title, told):
+    """The page of what a film tells. In the run, nothing may end the element that it stands in."""
+    parts = {
+        "title": html.escape(title),
+        "style": source("page.css"),
+        "program": source("page.js"),
+        "run": json.dumps(told, separators=(",", ":")).replace("<", "\\u003c"),
+    }
+    return re.sub(r"<!-- (title|style|program|run) -->", lambda place: parts[place[1]], source("page.html"))
