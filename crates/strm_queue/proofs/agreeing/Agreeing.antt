@@ -109,34 +109,19 @@ marks_put v a agrees q within before m b store shelves p =
 
 -- enabling changes the run list alone
 module _ (so : Bool) (q : ℕ) (s : QueueState) where
-  pub enabled_specs : (enabled_where so q s).specs ≡ s.specs
-  enabled_specs = by_cases so ((spec_at s.specs q).service && not (rows.has q s.run))
+  pub enabled_alone : enabled_where so q s ≡ record s { run = (enabled_where so q s).run }
+  enabled_alone = by_cases so ((spec_at s.specs q).service && not (rows.has q s.run))
     where
-      by_cases : (so here : Bool) → (let t : QueueState = if so then (if here then record s { run = s.run ++ q ∷ [] } else s) else s in t).specs ≡ s.specs
-      by_cases true true = refl
-      by_cases true false = refl
-      by_cases false here = refl
-
-  pub enabled_marks : (enabled_where so q s).marks ≡ s.marks
-  enabled_marks = by_cases so ((spec_at s.specs q).service && not (rows.has q s.run))
-    where
-      by_cases : (so here : Bool) → (let t : QueueState = if so then (if here then record s { run = s.run ++ q ∷ [] } else s) else s in t).marks ≡ s.marks
-      by_cases true true = refl
-      by_cases true false = refl
-      by_cases false here = refl
-
-  pub enabled_flags : (enabled_where so q s).flags ≡ s.flags
-  enabled_flags = by_cases so ((spec_at s.specs q).service && not (rows.has q s.run))
-    where
-      by_cases : (so here : Bool) → (let t : QueueState = if so then (if here then record s { run = s.run ++ q ∷ [] } else s) else s in t).flags ≡ s.flags
+      by_cases : (so here : Bool) → (let t : QueueState = if so then (if here then record s { run = s.run ++ q ∷ [] } else s) else s in t ≡ record s { run = t.run })
       by_cases true true = refl
       by_cases true false = refl
       by_cases false here = refl
 
 pub agrees_enabled : (v : QueuesValue) (a : Arena) (so : Bool) (q : ℕ) → Agrees v a → Agrees (record v { state = enabled_where so q v.state }) a
 agrees_enabled v a so q =
-    agrees_state v a (enabled_where so q v.state) (enabled_specs so q v.state) (enabled_marks so q v.state)
-    (λ p. ap (λ ms. (get_or ms p opening_flags).wanted) (enabled_flags so q v.state))
+    let alone = enabled_alone so q v.state in
+    agrees_state v a (enabled_where so q v.state) (ap (λ (t : QueueState). t.specs) alone) (ap (λ (t : QueueState). t.marks) alone)
+    (λ p. ap (λ (t : QueueState). (get_or t.flags p opening_flags).wanted) alone)
 
 -- the want-to-read mark and the switched-off mark are other than wanted marks
 wanted_kept : (ms : List Flags) (q : ℕ) (m : Flags) → m.wanted ≡ (get_or ms q opening_flags).wanted → (p : ℕ) → (get_or (set ms q m) p opening_flags).wanted ≡ (get_or ms p opening_flags).wanted

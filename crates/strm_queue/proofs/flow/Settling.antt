@@ -9,7 +9,7 @@ use Rattle.strm_queue.specs.Limits.{bands}
 use Rattle.strm_queue.specs.QueueCalls.{count_on, flags_left, has_relieved, settled, waker_enabled_where}
 use Rattle.strm_queue.specs.QueuedBlocks.{Agrees, AreInOrder, AreMarksLawful, QueuedBlocks, QueuesValue, together, tally_at}
 use Rattle.strm_queue.specs.Tallies.{count_of}
-use Rattle.strm_queue.proofs.agreeing.Agreeing.{enabled_flags, enabled_marks, enabled_specs}
+use Rattle.strm_queue.proofs.agreeing.Agreeing.{enabled_alone}
 use Rattle.strm_queue.proofs.bands.Bands.{bands_where-same, has_band_where, some_same, wanted_past}
 use Rattle.strm_queue.proofs.agreeing.Flagged.{in_order_state}
 use Rattle.strm_queue.proofs.Lists.{get_or-map_same}
@@ -17,28 +17,12 @@ use Rattle.strm_queue.proofs.layout.Lawful.{lowat_of-same}
 
 -- enabling the queue behind changes the run list alone
 module _ (so : Bool) (q : ℕ) (s : QueueState) where
-  waker_specs : (waker_enabled_where so q s).specs ≡ s.specs
-  waker_specs = by_cases so (waker s.specs q)
+  waker_alone : waker_enabled_where so q s ≡ record s { run = (waker_enabled_where so q s).run }
+  waker_alone = by_cases so (waker s.specs q)
     where
-      by_cases : (so : Bool) (o : Option ℕ) → (let t : QueueState = if so then option_map_or (λ p. enabled p s) o s else s in t).specs ≡ s.specs
+      by_cases : (so : Bool) (o : Option ℕ) → (let t : QueueState = if so then option_map_or (λ p. enabled p s) o s else s in t ≡ record s { run = t.run })
       by_cases true None = refl
-      by_cases true (Some p) = enabled_specs true p s
-      by_cases false o = refl
-
-  waker_marks : (waker_enabled_where so q s).marks ≡ s.marks
-  waker_marks = by_cases so (waker s.specs q)
-    where
-      by_cases : (so : Bool) (o : Option ℕ) → (let t : QueueState = if so then option_map_or (λ p. enabled p s) o s else s in t).marks ≡ s.marks
-      by_cases true None = refl
-      by_cases true (Some p) = enabled_marks true p s
-      by_cases false o = refl
-
-  waker_flags : (waker_enabled_where so q s).flags ≡ s.flags
-  waker_flags = by_cases so (waker s.specs q)
-    where
-      by_cases : (so : Bool) (o : Option ℕ) → (let t : QueueState = if so then option_map_or (λ p. enabled p s) o s else s in t).flags ≡ s.flags
-      by_cases true None = refl
-      by_cases true (Some p) = enabled_flags true p s
+      by_cases true (Some p) = enabled_alone true p s
       by_cases false o = refl
 
 -- a new queue has no wanted mark
@@ -119,9 +103,10 @@ module _ (v : QueuesValue) (a : Arena) (q : ℕ) where
     pub settled_agrees : (s : QueueState) → AreInOrder v a → record both { queues = s } ≡ settled q both → Agrees (record v { state = s }) a
     settled_agrees s in_order is =
         let state = ap (λ (x : QueuedBlocks). x.queues) is in
-        let specs = ap (λ (t : QueueState). t.specs) state ∙ waker_specs (has_relieved both q) q left in
-        let marks = ap (λ (t : QueueState). t.marks) state ∙ waker_marks (has_relieved both q) q left in
-        let flags = ap (λ (t : QueueState). t.flags) state ∙ waker_flags (has_relieved both q) q left in
+        let alone = state ∙ waker_alone (has_relieved both q) q left in
+        let specs = ap (λ (t : QueueState). t.specs) alone in
+        let marks = ap (λ (t : QueueState). t.marks) alone in
+        let flags = ap (λ (t : QueueState). t.flags) alone in
         record {
           in_order = in_order_state v a s specs marks in_order;
           marks = λ p band here.
