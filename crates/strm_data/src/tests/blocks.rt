@@ -1,7 +1,6 @@
 use super::class;
 use crate::{ClassInfo, Data, MOST_DATA_BLOCK_BYTES, MsgType, Refusal};
 use std::process::Abort;
-use std::test::Fail;
 
 // What is free of a class.
 const fn info(size: u32, free: u32, total: u32) -> Option<ClassInfo> {
@@ -9,8 +8,8 @@ const fn info(size: u32, free: u32, total: u32) -> Option<ClassInfo> {
 }
 
 #[test]
-fn takes_and_frees(rt: HostRuntime) -> Result<(), Fail> {
-    let mut data = Data::new(rt.alloc(), &[class(16, 1), class(64, 1)])?;
+fn takes_and_frees(rt: HostRuntime) {
+    let mut data = Data::new(rt.alloc(), &[class(16, 1), class(64, 1)]).expect(&rt, "memory");
     assert_eq!(rt; data.take(0), Ok(0));
     assert_eq!(rt; data.cap(0), 16);
     assert_eq!(rt; data.take(0), Ok(1));
@@ -31,14 +30,13 @@ fn takes_and_frees(rt: HostRuntime) -> Result<(), Fail> {
     assert_eq!(rt; data.class_info(0), info(16, 1, 1));
     assert_eq!(rt; data.class_info(1), info(64, 0, 1));
     assert_eq!(rt; data.class_info(2), None);
-    Ok(())
 }
 
 #[test]
-fn opens_with_all_free(rt: HostRuntime) -> Result<(), Fail> {
-    let mut data = Data::new(rt.alloc(), &[class(4, 2), class(8, 1)])?;
+fn opens_with_all_free(rt: HostRuntime) {
+    let mut data = Data::new(rt.alloc(), &[class(4, 2), class(8, 1)]).expect(&rt, "memory");
     for (number, cap) in [(0, 4), (1, 4), (2, 8)] {
-        let mut bytes = vec![in rt.alloc(); 1; cap as usize]?;
+        let mut bytes = vec![in rt.alloc(); 1; cap as usize].expect(&rt, "memory");
         assert_eq!(rt; data.count(number), 0);
         assert_eq!(rt; data.kind(number), MsgType::MData);
         assert_eq!(rt; data.cap(number), cap);
@@ -50,12 +48,11 @@ fn opens_with_all_free(rt: HostRuntime) -> Result<(), Fail> {
     assert_eq!(rt; data.take(4), Ok(0));
     assert_eq!(rt; data.take(4), Ok(1));
     assert_eq!(rt; data.take(4), Ok(2));
-    Ok(())
 }
 
 #[test]
-fn has_classes_up_to_the_largest(rt: HostRuntime) -> Result<(), Fail> {
-    let mut data = Data::new(rt.alloc(), &[class(1, 1), class(MOST_DATA_BLOCK_BYTES, 1)])?;
+fn has_classes_up_to_the_largest(rt: HostRuntime) {
+    let mut data = Data::new(rt.alloc(), &[class(1, 1), class(MOST_DATA_BLOCK_BYTES, 1)]).expect(&rt, "memory");
     assert_eq!(rt; data.take(2), Ok(1));
     for (size, has, fits) in [
         (0, true, true),
@@ -68,12 +65,11 @@ fn has_classes_up_to_the_largest(rt: HostRuntime) -> Result<(), Fail> {
         assert_eq!(rt; data.has_class_for(size), has);
         assert_eq!(rt; data.fits(size), fits);
     }
-    Ok(())
 }
 
 #[test]
-fn writes_to_the_ends_of_a_block(rt: HostRuntime) -> Result<(), Fail> {
-    let mut data = Data::new(rt.alloc(), &[class(4, 3)])?;
+fn writes_to_the_ends_of_a_block(rt: HostRuntime) {
+    let mut data = Data::new(rt.alloc(), &[class(4, 3)]).expect(&rt, "memory");
     data.write(1, 0, &[1, 2]);
     data.write(1, 3, &[4]);
     data.write(0, 4, &[]);
@@ -92,12 +88,11 @@ fn writes_to_the_ends_of_a_block(rt: HostRuntime) -> Result<(), Fail> {
     data.read(1, 3, &mut last);
     assert!(rt; last == [4]);
     data.read(1, 4, &mut []);
-    Ok(())
 }
 
 #[test]
-fn takes_the_last_freed_as_it_was_left(rt: HostRuntime) -> Result<(), Fail> {
-    let mut data = Data::new(rt.alloc(), &[class(2, 3)])?;
+fn takes_the_last_freed_as_it_was_left(rt: HostRuntime) {
+    let mut data = Data::new(rt.alloc(), &[class(2, 3)]).expect(&rt, "memory");
     assert_eq!(rt; data.take(2), Ok(0));
     assert_eq!(rt; data.take(2), Ok(1));
     data.set_kind(0, MsgType::MCtl);
@@ -116,69 +111,64 @@ fn takes_the_last_freed_as_it_was_left(rt: HostRuntime) -> Result<(), Fail> {
     assert!(rt; bytes == [7, 8]);
     assert_eq!(rt; data.take(2), Ok(1));
     assert_eq!(rt; data.take(2), Ok(2));
-    Ok(())
 }
 
 // The bytes of a data block of four are these.
-fn holds(rt: &impl Abort, data: &Data, number: u32, wanted: [u8; 4]) -> Result<(), Fail> {
+fn holds(rt: &impl Abort, data: &Data, number: u32, wanted: [u8; 4]) {
     assert!(rt; (number as usize) < data.len());
     let cap = data.cap(number);
     assert!(rt; cap >= 4);
     let mut bytes = [9; 4];
     data.read(number, 0, &mut bytes);
     assert!(rt; bytes == wanted);
-    Ok(())
 }
 
 #[test]
-fn copies_within_a_class(rt: HostRuntime) -> Result<(), Fail> {
-    let mut data = Data::new(rt.alloc(), &[class(4, 3)])?;
+fn copies_within_a_class(rt: HostRuntime) {
+    let mut data = Data::new(rt.alloc(), &[class(4, 3)]).expect(&rt, "memory");
     data.write(0, 0, &[1, 2, 3, 4]);
     data.write(1, 0, &[5, 6, 7, 8]);
     data.write(2, 0, &[9, 10, 11, 12]);
     data.copy(0, 1, 2, 0, 2);
-    holds(&rt, &data, 0, [1, 2, 3, 4])?;
-    holds(&rt, &data, 1, [5, 6, 7, 8])?;
-    holds(&rt, &data, 2, [2, 3, 11, 12])?;
+    holds(&rt, &data, 0, [1, 2, 3, 4]);
+    holds(&rt, &data, 1, [5, 6, 7, 8]);
+    holds(&rt, &data, 2, [2, 3, 11, 12]);
     data.copy(2, 0, 1, 0, 4);
-    holds(&rt, &data, 0, [1, 2, 3, 4])?;
-    holds(&rt, &data, 1, [2, 3, 11, 12])?;
+    holds(&rt, &data, 0, [1, 2, 3, 4]);
+    holds(&rt, &data, 1, [2, 3, 11, 12]);
     data.copy(0, 4, 1, 4, 0);
     data.copy(1, 2, 0, 3, 0);
-    holds(&rt, &data, 0, [1, 2, 3, 4])?;
-    holds(&rt, &data, 1, [2, 3, 11, 12])?;
+    holds(&rt, &data, 0, [1, 2, 3, 4]);
+    holds(&rt, &data, 1, [2, 3, 11, 12]);
     data.copy(0, 0, 0, 1, 3);
-    holds(&rt, &data, 0, [1, 1, 2, 3])?;
+    holds(&rt, &data, 0, [1, 1, 2, 3]);
     data.copy(0, 2, 0, 0, 2);
-    holds(&rt, &data, 0, [2, 3, 2, 3])
+    holds(&rt, &data, 0, [2, 3, 2, 3]);
 }
 
 #[test]
-fn copies_between_classes(rt: HostRuntime) -> Result<(), Fail> {
-    let mut data = Data::new(
-        rt.alloc(),
-        &[class(4, 2), class(6, 2), class(MOST_DATA_BLOCK_BYTES, 1)],
-    )?;
+fn copies_between_classes(rt: HostRuntime) {
+    let mut data = Data::new(rt.alloc(), &[class(4, 2), class(6, 2), class(MOST_DATA_BLOCK_BYTES, 1)]).expect(&rt, "memory");
     data.write(1, 0, &[1, 2, 3, 4]);
     data.write(3, 0, &[5, 6, 7, 8, 9, 10]);
     data.copy(1, 0, 3, 2, 4);
-    holds(&rt, &data, 3, [5, 6, 1, 2])?;
+    holds(&rt, &data, 3, [5, 6, 1, 2]);
     data.copy(3, 3, 1, 0, 3);
-    holds(&rt, &data, 1, [2, 3, 4, 4])?;
-    holds(&rt, &data, 0, [0, 0, 0, 0])?;
-    holds(&rt, &data, 2, [0, 0, 0, 0])?;
+    holds(&rt, &data, 1, [2, 3, 4, 4]);
+    holds(&rt, &data, 0, [0, 0, 0, 0]);
+    holds(&rt, &data, 2, [0, 0, 0, 0]);
     data.copy(3, 6, 1, 4, 0);
     data.copy(1, 0, 3, 6, 0);
-    holds(&rt, &data, 1, [2, 3, 4, 4])
+    holds(&rt, &data, 1, [2, 3, 4, 4]);
 }
 
 #[test]
-fn copies_to_and_from_the_last_places(rt: HostRuntime) -> Result<(), Fail> {
-    let mut data = Data::new(rt.alloc(), &[class(4, 2), class(MOST_DATA_BLOCK_BYTES, 1)])?;
+fn copies_to_and_from_the_last_places(rt: HostRuntime) {
+    let mut data = Data::new(rt.alloc(), &[class(4, 2), class(MOST_DATA_BLOCK_BYTES, 1)]).expect(&rt, "memory");
     data.write(1, 0, &[1, 2, 3, 4]);
     let last = MOST_DATA_BLOCK_BYTES - 4;
     data.copy(1, 0, 2, last, 4);
     data.copy(2, last, 0, 0, 4);
-    holds(&rt, &data, 0, [1, 2, 3, 4])?;
-    holds(&rt, &data, 2, [0, 0, 0, 0])
+    holds(&rt, &data, 0, [1, 2, 3, 4]);
+    holds(&rt, &data, 2, [0, 0, 0, 0]);
 }

@@ -5,65 +5,66 @@ use super::Links;
 use std::alloc::{AllocError, Global};
 use std::mem;
 use std::process::Abort;
-use std::test::Fail;
 
 // The nodes of a list, by `next` from its front.
-fn forward(alloc: Global, links: &Links, list: u32) -> Result<Vec<u32>, AllocError>
+fn forward(rt: &impl Abort, alloc: Global, links: &Links, list: u32) -> Vec<u32>
     requires { list < length links.now.lists }
 {
     let mut nodes = Vec::new(alloc);
     let mut at = links.front(list);
     for _ in 0..links.len(list) {
         if let Some(node) = at {
-            nodes.push(node)?;
+            nodes.push(node).expect(rt, "memory");
             at = links.next(node);
         }
     }
-    Ok(nodes)
+    nodes
 }
 
 // The nodes of a list, by `prev` from its back, and then turned round.
-fn backward(alloc: Global, links: &Links, list: u32) -> Result<Vec<u32>, AllocError>
+fn backward(rt: &impl Abort, alloc: Global, links: &Links, list: u32) -> Vec<u32>
     requires { list < length links.now.lists }
 {
     let mut nodes = Vec::new(alloc);
     let mut at = links.back(list);
     for _ in 0..links.len(list) {
         if let Some(node) = at {
-            nodes.push(node)?;
+            nodes.push(node).expect(rt, "memory");
             at = links.prev(node);
         }
     }
     nodes.reverse();
-    Ok(nodes)
+    nodes
 }
 
 #[test]
-fn worked_rows(rt: HostRuntime) -> Result<(), Fail> {
-    let mut links = Links::new(rt.alloc(), 4, 2)?;
+fn worked_rows(rt: HostRuntime) {
+    let mut links = Links::new(rt.alloc(), 4, 2).expect(&rt, "memory");
     links.push_back(0, 1);
     links.push_back(0, 3);
     links.insert_before(3, 2);
     links.push_front(1, 0);
     assert_eq!(rt;
-        forward(rt.alloc(), &links, 0)?.as_slice(),
+        forward(&rt, rt.alloc(), &links, 0).as_slice(),
         [1, 2, 3].as_slice()
     );
-    assert_eq!(rt; forward(rt.alloc(), &links, 1)?.as_slice(), [0].as_slice());
+    assert_eq!(rt;
+        forward(&rt, rt.alloc(), &links, 1).as_slice(),
+        [0].as_slice()
+    );
     links.remove(2);
     assert_eq!(rt; links.prev(3), Some(1));
     assert_eq!(rt; links.next(1), Some(3));
     assert_eq!(rt; links.list_of(2), None);
     links.append(0, 1);
     assert_eq!(rt;
-        forward(rt.alloc(), &links, 0)?.as_slice(),
+        forward(&rt, rt.alloc(), &links, 0).as_slice(),
         [1, 3, 0].as_slice()
     );
     assert_eq!(rt; links.list_of(0), Some(0));
     assert_eq!(rt; links.back(0), Some(0));
     assert_eq!(rt; links.front(1), None);
     assert_eq!(rt; links.len(0), 3);
-    Ok(())
 }
 
 const NODES: u32 = 4000;
@@ -91,31 +92,25 @@ impl Twin {
     }
 
     // Puts a free node in front of a list.
-    fn push_front(&mut self, rt: &impl Abort, list: u32, node: u32) -> Result<(), Fail> {
+    fn push_front(&mut self, rt: &impl Abort, list: u32, node: u32) {
         assert!(rt; list < LISTS && node < NODES);
         assert_eq!(rt; self.links.list_of(node), None);
         self.links.push_front(list, node);
-        self.plain[list as usize].insert(0, node)?;
-        Ok(())
+        self.plain[list as usize]
+            .insert(0, node)
+            .expect(rt, "memory");
     }
 
     // Puts a free node behind a list.
-    fn push_back(&mut self, rt: &impl Abort, list: u32, node: u32) -> Result<(), Fail> {
+    fn push_back(&mut self, rt: &impl Abort, list: u32, node: u32) {
         assert!(rt; list < LISTS && node < NODES);
         assert_eq!(rt; self.links.list_of(node), None);
         self.links.push_back(list, node);
-        self.plain[list as usize].push(node)?;
-        Ok(())
+        self.plain[list as usize].push(node).expect(rt, "memory");
     }
 
     // Puts a free node just before one of a list.
-    fn insert_before(
-        &mut self,
-        rt: &impl Abort,
-        list: u32,
-        at: u32,
-        node: u32,
-    ) -> Result<(), Fail> {
+    fn insert_before(&mut self, rt: &impl Abort, list: u32, at: u32, node: u32) {
         assert!(rt; list < LISTS && at < NODES && node < NODES);
         assert_eq!(rt; self.links.list_of(at), Some(list));
         assert_eq!(rt; self.links.list_of(node), None);
@@ -123,49 +118,49 @@ impl Twin {
         let place = self.plain[list as usize]
             .iter()
             .position(|x| *x == at)
-            .ok_or("no such node")?;
-        self.plain[list as usize].insert(place, node)?;
-        Ok(())
+            .expect(rt, "a node");
+        self.plain[list as usize]
+            .insert(place, node)
+            .expect(rt, "memory");
     }
 
     // Takes a node out of its list.
-    fn remove(&mut self, rt: &impl Abort, list: u32, node: u32) -> Result<(), Fail> {
+    fn remove(&mut self, rt: &impl Abort, list: u32, node: u32) {
         assert!(rt; list < LISTS && node < NODES);
         assert_eq!(rt; self.links.list_of(node), Some(list));
         self.links.remove(node);
         let place = self.plain[list as usize]
             .iter()
             .position(|x| *x == node)
-            .ok_or("no such node")?;
+            .expect(rt, "a node");
         self.plain[list as usize].remove(place);
-        Ok(())
     }
 
     // Puts one list behind another.
-    fn append(&mut self, rt: &impl Abort, to: u32, from: u32) -> Result<(), Fail> {
+    fn append(&mut self, rt: &impl Abort, to: u32, from: u32) {
         assert!(rt; to < LISTS && from < LISTS && to != from);
         self.links.append(to, from);
-        let tail = mem::try_take(&mut self.plain[from as usize])?;
-        self.plain[to as usize].extend(tail.iter().copied())?;
-        Ok(())
+        let tail = mem::try_take(&mut self.plain[from as usize]).expect(rt, "memory");
+        self.plain[to as usize]
+            .extend(tail.iter().copied())
+            .expect(rt, "memory");
     }
 
     // The next call of the long run, drawn at random.
-    fn step(&mut self, rt: &impl Abort, draw: &mut u32) -> Result<(), Fail> {
+    fn step(&mut self, rt: &impl Abort, draw: &mut u32) {
         let node = below(draw, NODES);
         let list = below(draw, LISTS);
         match self.links.list_of(node) {
-            None => self.join(rt, draw, list, node)?,
-            Some(held) if held != list && below(draw, 16) == 0 => self.append(rt, held, list)?,
-            Some(held) => self.remove(rt, held, node)?,
+            None => self.join(rt, draw, list, node),
+            Some(held) if held != list && below(draw, 16) == 0 => self.append(rt, held, list),
+            Some(held) => self.remove(rt, held, node),
         }
         self.compare_ends(rt, list);
         self.compare_node(rt, node);
-        Ok(())
     }
 
     // Puts a free node into a list, at one end or before a node that is drawn too.
-    fn join(&mut self, rt: &impl Abort, draw: &mut u32, list: u32, node: u32) -> Result<(), Fail> {
+    fn join(&mut self, rt: &impl Abort, draw: &mut u32, list: u32, node: u32) {
         let at = below(draw, NODES);
         match self.links.list_of(at) {
             Some(held) => self.insert_before(rt, held, at, node),
@@ -195,12 +190,12 @@ impl Twin {
     }
 
     // Every list reads as its plain vector, both ways, and every other node is free.
-    fn compare_all(&self, alloc: Global, rt: &impl Abort) -> Result<(), Fail> {
+    fn compare_all(&self, rt: &impl Abort, alloc: Global) {
         let mut listed = 0;
         for list in 0..LISTS {
             let plain = self.plain[list as usize].as_slice();
-            assert_eq!(rt; forward(alloc, &self.links, list)?.as_slice(), plain);
-            assert_eq!(rt; backward(alloc, &self.links, list)?.as_slice(), plain);
+            assert_eq!(rt; forward(rt, alloc, &self.links, list).as_slice(), plain);
+            assert_eq!(rt; backward(rt, alloc, &self.links, list).as_slice(), plain);
             for node in plain {
                 assert!(rt; *node < NODES);
                 assert_eq!(rt; self.links.list_of(*node), Some(list));
@@ -211,7 +206,6 @@ impl Twin {
             .filter(|node| self.links.list_of(*node).is_none())
             .count();
         assert_eq!(rt; listed.saturating_add(free), NODES as usize);
-        Ok(())
     }
 }
 
@@ -235,18 +229,17 @@ fn below(draw: &mut u32, limit: u32) -> u32
 }
 
 #[test]
-fn long_run_beside_vectors(rt: HostRuntime) -> Result<(), Fail> {
-    let mut twin = Twin::new(rt.alloc())?;
+fn long_run_beside_vectors(rt: HostRuntime) {
+    let mut twin = Twin::new(rt.alloc()).expect(&rt, "memory");
     for node in 0..NODES {
-        twin.push_back(&rt, node % LISTS, node)?;
+        twin.push_back(&rt, node % LISTS, node);
     }
-    twin.compare_all(rt.alloc(), &rt)?;
+    twin.compare_all(&rt, rt.alloc());
     let mut draw = 1;
     for _ in 0..40 {
         for _ in 0..1000 {
-            twin.step(&rt, &mut draw)?;
+            twin.step(&rt, &mut draw);
         }
-        twin.compare_all(rt.alloc(), &rt)?;
+        twin.compare_all(&rt, rt.alloc());
     }
-    Ok(())
 }

@@ -4,11 +4,10 @@ ghost use Rattle.std.specs.Prelude.{◌≡◌, ◌<◌, IfOk, length, vec_len};
 use super::Stacks;
 use std::alloc::{AllocError, Global};
 use std::process::Abort;
-use std::test::Fail;
 
 #[test]
-fn worked_rows(rt: HostRuntime) -> Result<(), Fail> {
-    let mut stacks = Stacks::new(rt.alloc(), 4, 2)?;
+fn worked_rows(rt: HostRuntime) {
+    let mut stacks = Stacks::new(rt.alloc(), 4, 2).expect(&rt, "memory");
     stacks.push_front(0, 1);
     stacks.push_front(0, 3);
     stacks.push_front(1, 0);
@@ -22,7 +21,6 @@ fn worked_rows(rt: HostRuntime) -> Result<(), Fail> {
     assert_eq!(rt; stacks.len(1), 2);
     assert_eq!(rt; stacks.pop_front(1), Some(3));
     assert_eq!(rt; stacks.front(1), Some(0));
-    Ok(())
 }
 
 const NODES: u32 = 4000;
@@ -64,17 +62,16 @@ impl Twin {
     }
 
     // Puts the front of one stack on another, or on its own again.
-    fn move_front(&mut self, rt: &impl Abort, from: u32, to: u32) -> Result<(), Fail> {
+    fn move_front(&mut self, rt: &impl Abort, from: u32, to: u32) {
         assert!(rt; from < LISTS && to < LISTS);
         let node = self.stacks.pop_front(from);
         assert_eq!(rt; node, self.plain[from as usize].pop());
         self.compare(rt, from);
         if let Some(node) = node {
             self.stacks.push_front(to, node);
-            self.plain[to as usize].push(node)?;
+            self.plain[to as usize].push(node).expect(rt, "memory");
             self.compare(rt, to);
         }
-        Ok(())
     }
 
     // Takes all nodes off a stack.
@@ -108,16 +105,15 @@ fn below(draw: &mut u32, limit: u32) -> u32
 }
 
 #[test]
-fn drawn_run_beside_vectors(rt: HostRuntime) -> Result<(), Fail> {
-    let mut twin = Twin::new(rt.alloc())?;
+fn drawn_run_beside_vectors(rt: HostRuntime) {
+    let mut twin = Twin::new(rt.alloc()).expect(&rt, "memory");
     let mut draw = 1;
     for _ in 0..40_000 {
         let from = below(&mut draw, LISTS);
         let to = below(&mut draw, LISTS);
-        twin.move_front(&rt, from, to)?;
+        twin.move_front(&rt, from, to);
     }
     for list in 0..LISTS {
         twin.drain(&rt, list);
     }
-    Ok(())
 }

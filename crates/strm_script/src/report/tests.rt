@@ -3,26 +3,25 @@ use crate::limits::MOST_SCRIPT_BYTES;
 use crate::piece::Piece;
 use crate::script::{Script, parse};
 use std::process::Abort;
-use std::test::Fail;
 use strm_pool::{Census, ClassInfo, Pool, Regs, Reply};
 
 #[test]
-fn writes_lines_of_wide_numbers(rt: HostRuntime) -> Result<(), Fail> {
+fn writes_lines_of_wide_numbers(rt: HostRuntime) {
     let census = Census {
         free: 5000,
         queued: 0,
         held: 12,
     };
     let mut text = Vec::new(rt.alloc());
-    census.append(&mut text)?;
+    census.append(&mut text).expect(&rt, "memory");
     for (size, free, total) in [(16, 0, 4), (8000, 5000, 5000)] {
-        ClassInfo { size, free, total }.append(&mut text)?;
+        let info = ClassInfo { size, free, total };
+        info.append(&mut text).expect(&rt, "memory");
     }
     assert_eq!(rt;
         text.as_slice(),
         b"blocks free=5000 queued=0 held=12 total=5012\ndata size=16 free=0 total=4\ndata size=8000 free=5000 total=5000\n".as_slice()
     );
-    Ok(())
 }
 
 // Five messages stand on the first queue: of bands 255, 1, 7 and 0, of which that of band 7 is empty, and one of high
@@ -35,38 +34,36 @@ const QUEUED: &str =
     allocb a 2\nputq 2 a\ngetq 2 a\n";
 
 // The pool that a script opens, and its registers, once the calls of the script are done.
-fn served(rt: &(impl Abort + AllocGlobal), script: &str) -> Result<(Pool, Regs), Fail> {
+fn served(rt: &(impl Abort + AllocGlobal), script: &str) -> (Pool, Regs) {
     assert!(rt; script.len() <= MOST_SCRIPT_BYTES as usize);
-    let Script { config, parts } = parse(rt.alloc(), script.as_bytes())?;
-    let lines = parts.items().first().ok_or("a script has a section")?;
-    let mut pool = Pool::new(rt.alloc(), config)?;
+    let Script { config, parts } = parse(rt.alloc(), script.as_bytes()).expect(rt, "a script");
+    let lines = parts.items().first().expect(rt, "a section");
+    let mut pool = Pool::new(rt.alloc(), config).expect(rt, "a pool");
     let mut regs = Regs::new();
     for line in lines.items() {
         assert!(rt; pool.owns(&regs));
         let reply = pool.apply(&mut regs, &line.call);
         assert!(rt; reply == Reply::Done, "{reply:?}");
     }
-    Ok((pool, regs))
+    (pool, regs)
 }
 
 // A line of a transcript, and the report of a pool behind it. The pool's registers are drained.
-fn report_of(rt: &impl AllocGlobal, mut pool: Pool, regs: Regs) -> Result<Vec<u8>, Fail> {
+fn report_of(rt: &(impl Abort + AllocGlobal), mut pool: Pool, regs: Regs) -> Vec<u8> {
     let mut text = Vec::new(rt.alloc());
-    let begun = "0:7 ok\n".append(&mut text);
-    let reported = report_text(&mut text, &pool);
+    "0:7 ok\n".append(&mut text).expect(rt, "memory");
+    report_text(&mut text, &pool).expect(rt, "memory");
     pool.drain(regs);
-    begun?;
-    reported?;
-    Ok(text)
+    text
 }
 
 #[test]
-fn reports_queues_bands_with_bytes_and_wishes(rt: HostRuntime) -> Result<(), Fail> {
-    let (mut pool, regs) = served(&rt, QUEUED)?;
+fn reports_queues_bands_with_bytes_and_wishes(rt: HostRuntime) {
+    let (mut pool, regs) = served(&rt, QUEUED);
     assert!(rt; pool.bcanput(0, 255) == Ok(false));
     assert!(rt; pool.noenable(2) == Ok(()));
     assert!(rt; pool.bufcall(64) == Ok(1) && pool.bufcall(0) == Ok(2));
-    let text = report_of(&rt, pool, regs)?;
+    let text = report_of(&rt, pool, regs);
     assert_eq!(rt;
         text.as_slice(),
         b"0:7 ok\nblocks free=10 queued=5 held=1 total=16\ndata size=16 free=2 total=8\ndata size=64 free=4 total=4\n\
@@ -75,21 +72,19 @@ fn reports_queues_bands_with_bytes_and_wishes(rt: HostRuntime) -> Result<(), Fai
         queue 1 msgs=0 bytes=0 read=1 noenable=0 enabled=0\nqueue 2 msgs=0 bytes=0 read=0 noenable=1 enabled=1\nrun 0 2\nwishes 1:64 2:0\n"
             .as_slice()
     );
-    Ok(())
 }
 
 #[test]
-fn reports_an_empty_run_list_and_no_wishes(rt: HostRuntime) -> Result<(), Fail> {
+fn reports_an_empty_run_list_and_no_wishes(rt: HostRuntime) {
     let (pool, regs) = served(
         &rt,
         "pool 1 2\nclass 4 1\nqueue 1 0 s -\nbufcalls 0 1\nworker\n",
-    )?;
-    let text = report_of(&rt, pool, regs)?;
+    );
+    let text = report_of(&rt, pool, regs);
     assert_eq!(rt;
         text.as_slice(),
         b"0:7 ok\nblocks free=2 queued=0 held=0 total=2\ndata size=4 free=1 total=1\n\
         queue 0 msgs=0 bytes=0 read=1 noenable=0 enabled=0\nrun -\nwishes -\n"
             .as_slice()
     );
-    Ok(())
 }

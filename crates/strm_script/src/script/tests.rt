@@ -2,7 +2,6 @@
 use super::*;
 use crate::limits::MOST_SCRIPT_BYTES;
 use std::process::Abort;
-use std::test::Fail;
 use strm_pool::{ClassSpec, QueueSpec};
 
 // Five lines, behind which commands may stand.
@@ -28,14 +27,8 @@ fn queue(hiwat: u32, lowat: u32, service: bool, next: Option<u8>) -> QueueSpec {
 }
 
 // The first fault of a text of two parts is this one.
-fn expect(
-    rt: &(impl Abort + AllocGlobal),
-    start: &str,
-    end: &str,
-    line: u32,
-    kind: Kind,
-) -> Result<(), Fail> {
-    let text = format!(in rt.alloc(); "{start}{end}")?;
+fn expect(rt: &(impl Abort + AllocGlobal), start: &str, end: &str, line: u32, kind: Kind) {
+    let text = format!(in rt.alloc(); "{start}{end}").expect(rt, "memory");
     assert!(rt; text.len() <= MOST_SCRIPT_BYTES as usize);
     let found = parse(rt.alloc(), text.as_bytes()).err();
     assert_eq!(rt;
@@ -43,14 +36,13 @@ fn expect(
         Some(ParseFault::Script(Fault { line, kind })),
         "of {text:?}"
     );
-    Ok(())
 }
 
 #[test]
-fn reads_a_configuration(rt: HostRuntime) -> Result<(), Fail> {
+fn reads_a_configuration(rt: HostRuntime) {
     let text = b"# a pool\npool 7 20\nclass 64 4\nclass 4096 2\n\nqueue 100 50 s 1\nqueue 9 0 n -\n\
         bufcalls 3 4294967295\nworker\n";
-    let script = parse(rt.alloc(), text)?;
+    let script = parse(rt.alloc(), text).expect(&rt, "a script");
     let config = &script.config;
     assert_eq!(rt;
         (config.id, config.mblks, config.bufcalls, config.first_id),
@@ -65,35 +57,29 @@ fn reads_a_configuration(rt: HostRuntime) -> Result<(), Fail> {
         [queue(100, 50, true, Some(1)), queue(9, 0, false, None)].as_slice()
     );
     let [lines] = script.parts.items() else {
-        return Err(Fail::from("one section"));
+        panic!(rt; "not one section")
     };
     assert!(rt; lines.items().is_empty());
-    Ok(())
 }
 
 // The calls that the command lines of a text are read as, one on each line of the other.
-fn expect_calls(
-    rt: &(impl Abort + AllocGlobal),
-    commands: &str,
-    calls: &[(u32, &str)],
-) -> Result<(), Fail> {
-    let text = format!(in rt.alloc(); "{OPEN}{commands}")?;
+fn expect_calls(rt: &(impl Abort + AllocGlobal), commands: &str, calls: &[(u32, &str)]) {
+    let text = format!(in rt.alloc(); "{OPEN}{commands}").expect(rt, "memory");
     assert!(rt; text.len() <= MOST_SCRIPT_BYTES as usize);
-    let script = parse(rt.alloc(), text.as_bytes())?;
+    let script = parse(rt.alloc(), text.as_bytes()).expect(rt, "a script");
     let [lines] = script.parts.items() else {
-        return Err(Fail::from("one section"));
+        panic!(rt; "not one section")
     };
     assert_eq!(rt; lines.items().len(), calls.len());
     for (line, (number, call)) in lines.items().iter().zip(calls) {
         assert_eq!(rt; line.number, *number);
-        let found = format!(in rt.alloc(); "{:?}", line.call)?;
+        let found = format!(in rt.alloc(); "{:?}", line.call).expect(rt, "memory");
         assert_eq!(rt; found.as_str(), *call);
     }
-    Ok(())
 }
 
 #[test]
-fn reads_commands(rt: HostRuntime) -> Result<(), Fail> {
+fn reads_commands(rt: HostRuntime) {
     let commands =
         "allocb a 10\nwrite b 0 68656aff\n# more\n\nputq 0 a\ngetq 255 z\nfreemsg c\ncensus\n\
         write d 4294967295 -\n";
@@ -108,11 +94,11 @@ fn reads_commands(rt: HostRuntime) -> Result<(), Fail> {
         (13, "Census"),
         (14, write_nothing),
     ];
-    expect_calls(&rt, commands, &calls)
+    expect_calls(&rt, commands, &calls);
 }
 
 #[test]
-fn reads_calls_on_blocks(rt: HostRuntime) -> Result<(), Fail> {
+fn reads_calls_on_blocks(rt: HostRuntime) {
     let commands =
         "testb 0\ndupb a b\ndupmsg b c\ncopyb c d\ncopymsg d e\nsettype f 1 M_DATA\nsettype g 2 M_IOCDATA\n\
         setband h 255\nlinkb i j\nunlinkb j k\nrmvb k 3 l\nadjmsg l -2147483648\nadjmsg m 2147483647\n\
@@ -139,11 +125,11 @@ fn reads_calls_on_blocks(rt: HostRuntime) -> Result<(), Fail> {
         (24, "Block(Reg { place: 18 }, 5)"),
         (25, "Freeb(Reg { place: 19 })"),
     ];
-    expect_calls(&rt, commands, &calls)
+    expect_calls(&rt, commands, &calls);
 }
 
 #[test]
-fn reads_calls_on_queues(rt: HostRuntime) -> Result<(), Fail> {
+fn reads_calls_on_queues(rt: HostRuntime) {
     let calls = [
         (6, "Putbq(1, Reg { place: 0 })"),
         (7, "Insq(2, 4294967295, Reg { place: 1 })"),
@@ -167,43 +153,42 @@ fn reads_calls_on_queues(rt: HostRuntime) -> Result<(), Fail> {
         bcanput 7 8\nqenable 9\nnoenable 10\nenableok 255\nservice\n\
         bufcall 0\nunbufcall 4294967295\nready\n\
         strqset 8 255 4294967295 0\nstrqget 9 7\n";
-    expect_calls(&rt, commands, &calls)
+    expect_calls(&rt, commands, &calls);
 }
 
 #[test]
-fn tells_why_a_script_was_not_read(rt: HostRuntime) -> Result<(), Fail> {
+fn tells_why_a_script_was_not_read(rt: HostRuntime) {
     let found = Fault {
         line: 7,
         kind: Kind::Toomany,
     };
-    let text = format!(in rt.alloc(); "{}", ParseFault::Script(found))?;
+    let text = format!(in rt.alloc(); "{}", ParseFault::Script(found)).expect(&rt, "memory");
     assert_eq!(rt; text.as_str(), "line 7: toomany");
-    let text = format!(in rt.alloc(); "{}", ParseFault::Memory)?;
+    let text = format!(in rt.alloc(); "{}", ParseFault::Memory).expect(&rt, "memory");
     assert_eq!(rt; text.as_str(), "memory");
-    Ok(())
 }
 
 #[test]
-fn reads_sections(rt: HostRuntime) -> Result<(), Fail> {
+fn reads_sections(rt: HostRuntime) {
     let text = format!(in rt.alloc();
         "{OPEN}allocb a 1\nworker\n# x\nworker\n\ncensus\nfreemsg a\n"
-    )?;
+    ).expect(&rt, "memory");
     assert!(rt; text.len() <= MOST_SCRIPT_BYTES as usize);
     let wanted = [[6].as_slice(), &[], &[11, 12]];
-    let parts = parse(rt.alloc(), text.as_bytes())?.parts.into_vec();
+    let script = parse(rt.alloc(), text.as_bytes()).expect(&rt, "a script");
+    let parts = script.parts.into_vec();
     assert_eq!(rt; parts.len(), wanted.len());
     for (lines, numbers) in parts.into_iter().zip(wanted) {
         let mut found = Vec::new(rt.alloc());
         for line in lines.into_vec() {
-            found.push(line.number)?;
+            found.push(line.number).expect(&rt, "memory");
         }
         assert_eq!(rt; found.as_slice(), numbers);
     }
-    Ok(())
 }
 
 #[test]
-fn finds_the_first_fault(rt: HostRuntime) -> Result<(), Fail> {
+fn finds_the_first_fault(rt: HostRuntime) {
     let faults = [
         ("", "pool 1 4", 1, Kind::Cut),
         ("", "# x", 1, Kind::Cut),
@@ -241,13 +226,12 @@ fn finds_the_first_fault(rt: HostRuntime) -> Result<(), Fail> {
         (CLASSES, "\n\n# x\n", 6, Kind::Missing),
     ];
     for (start, end, line, kind) in faults {
-        expect(&rt, start, end, line, kind)?;
+        expect(&rt, start, end, line, kind);
     }
-    Ok(())
 }
 
 #[test]
-fn finds_the_first_fault_of_a_form(rt: HostRuntime) -> Result<(), Fail> {
+fn finds_the_first_fault_of_a_form(rt: HostRuntime) {
     let faults = [
         ("", "pool 1\n", 1, Kind::Shape),
         ("", "pool x y z\n", 1, Kind::Shape),
@@ -303,13 +287,12 @@ fn finds_the_first_fault_of_a_form(rt: HostRuntime) -> Result<(), Fail> {
         (OPEN, "write a 0 \n", 6, Kind::Hex),
     ];
     for (start, end, line, kind) in faults {
-        expect(&rt, start, end, line, kind)?;
+        expect(&rt, start, end, line, kind);
     }
-    Ok(())
 }
 
 #[test]
-fn finds_the_first_fault_of_a_queue_or_a_wish(rt: HostRuntime) -> Result<(), Fail> {
+fn finds_the_first_fault_of_a_queue_or_a_wish(rt: HostRuntime) {
     let faults = [
         (OPEN, "flushq all\n", 6, Kind::Shape),
         (OPEN, "service 0\n", 6, Kind::Shape),
@@ -331,51 +314,30 @@ fn finds_the_first_fault_of_a_queue_or_a_wish(rt: HostRuntime) -> Result<(), Fai
         (OPEN, "flushband 0 0 datas\n", 6, Kind::Word),
     ];
     for (start, end, line, kind) in faults {
-        expect(&rt, start, end, line, kind)?;
+        expect(&rt, start, end, line, kind);
     }
-    Ok(())
+}
+
+// So many times a text, behind another.
+fn repeated(rt: &(impl Abort + AllocGlobal), start: &str, text: &str, times: u32) -> String {
+    let mut all = String::from_str(rt.alloc(), start).expect(rt, "memory");
+    for _ in 0..times {
+        all.push_str(text).expect(rt, "memory");
+    }
+    all
 }
 
 #[test]
-fn reads_as_many_as_there_may_be(rt: HostRuntime) -> Result<(), Fail> {
-    let mut classes = String::from_str(rt.alloc(), "pool 0 4294967295\n")?;
-    for _ in 0..8 {
-        classes.push_str("class 1 1\n")?;
-    }
-    expect(&rt, &classes, "class 1 1\n", 10, Kind::Toomany)?;
-    let mut queues = classes.clone()?;
-    for _ in 0..16 {
-        queues.push_str("queue 2 1 n 255\n")?;
-    }
-    expect(&rt, &queues, "queue 2 1 n 255\n", 26, Kind::Toomany)?;
-    let mut workers = String::from_str(rt.alloc(), OPEN)?;
-    for _ in 0..15 {
-        workers.push_str("worker\n")?;
-    }
-    expect(&rt, &workers, "worker x\n", 21, Kind::Toomany)?;
-    let mut digits = String::new(rt.alloc());
-    for _ in 0..64 {
-        digits.push_str("0f")?;
-    }
-    expect(
-        &rt,
-        OPEN,
-        &format!(in rt.alloc(); "write a 0 {digits}\n0")?,
-        7,
-        Kind::Cut,
-    )?;
-    expect(
-        &rt,
-        OPEN,
-        &format!(in rt.alloc(); "write a 0 {digits}0\n")?,
-        6,
-        Kind::Hex,
-    )?;
-    expect(
-        &rt,
-        OPEN,
-        &format!(in rt.alloc(); "write a 0 {digits}0f\n")?,
-        6,
-        Kind::Hex,
-    )
+fn reads_as_many_as_there_may_be(rt: HostRuntime) {
+    let classes = repeated(&rt, "pool 0 4294967295\n", "class 1 1\n", 8);
+    expect(&rt, &classes, "class 1 1\n", 10, Kind::Toomany);
+    let queues = repeated(&rt, &classes, "queue 2 1 n 255\n", 16);
+    expect(&rt, &queues, "queue 2 1 n 255\n", 26, Kind::Toomany);
+    let workers = repeated(&rt, OPEN, "worker\n", 15);
+    expect(&rt, &workers, "worker x\n", 21, Kind::Toomany);
+    let start = repeated(&rt, OPEN, "write a 0 ", 1);
+    let write = repeated(&rt, &start, "0f", 64);
+    expect(&rt, &write, "\n0", 7, Kind::Cut);
+    expect(&rt, &write, "0\n", 6, Kind::Hex);
+    expect(&rt, &write, "0f\n", 6, Kind::Hex);
 }
