@@ -293,15 +293,15 @@ fn one_word<N: Name, R: Wait + Abort>(rt: &R, start: Start)
     assert_census(rt, &pool, (7, 1, 0));
 }
 
-// Whether a pool can't be shared so. It comes back as it was then.
-fn assert_bad(rt: &impl Abort, alloc: Global, setup: Setup, bad: bool) {
+// Why a pool can't be shared so, if it can't. It comes back as it was then.
+fn fault_of(rt: &impl Abort, alloc: Global, setup: Setup) -> Option<NewFault> {
     let pool = eight(rt, alloc, 7);
     assert!(rt; pool.census().held == 0);
     match Start::new(alloc, pool, setup) {
-        Ok(_) => assert!(rt; !bad),
+        Ok(_) => None,
         Err((fault, pool)) => {
-            assert!(rt; bad && fault == NewFault::BadShared);
             assert_census(rt, &pool, (8, 0, 0));
+            Some(fault)
         }
     }
 }
@@ -323,7 +323,8 @@ fn setups_out_of_bounds(rt: HostRuntime) {
         (setup(1, Trace::Keep(u32::MAX), 0), true),
     ];
     for (setup, bad) in rows {
-        assert_bad(&rt, rt.alloc(), setup, bad);
+        let fault = bad.then_some(NewFault::BadShared);
+        assert_eq!(rt; fault_of(&rt, rt.alloc(), setup), fault);
     }
 }
 

@@ -35,14 +35,21 @@ fn takes_and_frees(rt: HostRuntime) {
 #[test]
 fn opens_with_all_free(rt: HostRuntime) {
     let mut data = Data::new(rt.alloc(), &[class(4, 2), class(8, 1)]).expect(&rt, "memory");
-    for (number, cap) in [(0, 4), (1, 4), (2, 8)] {
-        let mut bytes = vec![in rt.alloc(); 1; cap as usize].expect(&rt, "memory");
-        assert_eq!(rt; data.count(number), 0);
-        assert_eq!(rt; data.kind(number), MsgType::MData);
-        assert_eq!(rt; data.cap(number), cap);
-        data.read(number, 0, &mut bytes);
-        assert!(rt; bytes.iter().all(|byte| *byte == 0));
-    }
+    assert_eq!(rt;
+        (data.count(0), data.kind(0), data.cap(0)),
+        (0, MsgType::MData, 4)
+    );
+    assert_eq!(rt;
+        (data.count(1), data.kind(1), data.cap(1)),
+        (0, MsgType::MData, 4)
+    );
+    assert_eq!(rt;
+        (data.count(2), data.kind(2), data.cap(2)),
+        (0, MsgType::MData, 8)
+    );
+    assert_holds(&rt, &data, 0, [0, 0, 0, 0]);
+    assert_holds(&rt, &data, 1, [0, 0, 0, 0]);
+    assert_holds(&rt, &data, 2, [0, 0, 0, 0]);
     assert_eq!(rt; data.class_info(0), info(4, 2, 2));
     assert_eq!(rt; data.class_info(1), info(8, 1, 1));
     assert_eq!(rt; data.take(4), Ok(0));
@@ -52,7 +59,9 @@ fn opens_with_all_free(rt: HostRuntime) {
 
 #[test]
 fn has_classes_up_to_the_largest(rt: HostRuntime) {
-    let mut data = Data::new(rt.alloc(), &[class(1, 1), class(MOST_DATA_BLOCK_BYTES, 1)]).expect(&rt, "memory");
+    let mut data = Data::new(rt.alloc(), &[class(1, 1), class(MOST_DATA_BLOCK_BYTES, 1)]).expect(
+        &rt, "memory",
+    );
     assert_eq!(rt; data.take(2), Ok(1));
     for (size, has, fits) in [
         (0, true, true),
@@ -114,7 +123,7 @@ fn takes_the_last_freed_as_it_was_left(rt: HostRuntime) {
 }
 
 // The bytes of a data block of four are these.
-fn holds(rt: &impl Abort, data: &Data, number: u32, wanted: [u8; 4]) {
+fn assert_holds(rt: &impl Abort, data: &Data, number: u32, wanted: [u8; 4]) {
     assert!(rt; (number as usize) < data.len());
     let cap = data.cap(number);
     assert!(rt; cap >= 4);
@@ -130,45 +139,51 @@ fn copies_within_a_class(rt: HostRuntime) {
     data.write(1, 0, &[5, 6, 7, 8]);
     data.write(2, 0, &[9, 10, 11, 12]);
     data.copy(0, 1, 2, 0, 2);
-    holds(&rt, &data, 0, [1, 2, 3, 4]);
-    holds(&rt, &data, 1, [5, 6, 7, 8]);
-    holds(&rt, &data, 2, [2, 3, 11, 12]);
+    assert_holds(&rt, &data, 0, [1, 2, 3, 4]);
+    assert_holds(&rt, &data, 1, [5, 6, 7, 8]);
+    assert_holds(&rt, &data, 2, [2, 3, 11, 12]);
     data.copy(2, 0, 1, 0, 4);
-    holds(&rt, &data, 0, [1, 2, 3, 4]);
-    holds(&rt, &data, 1, [2, 3, 11, 12]);
+    assert_holds(&rt, &data, 0, [1, 2, 3, 4]);
+    assert_holds(&rt, &data, 1, [2, 3, 11, 12]);
     data.copy(0, 4, 1, 4, 0);
     data.copy(1, 2, 0, 3, 0);
-    holds(&rt, &data, 0, [1, 2, 3, 4]);
-    holds(&rt, &data, 1, [2, 3, 11, 12]);
+    assert_holds(&rt, &data, 0, [1, 2, 3, 4]);
+    assert_holds(&rt, &data, 1, [2, 3, 11, 12]);
     data.copy(0, 0, 0, 1, 3);
-    holds(&rt, &data, 0, [1, 1, 2, 3]);
+    assert_holds(&rt, &data, 0, [1, 1, 2, 3]);
     data.copy(0, 2, 0, 0, 2);
-    holds(&rt, &data, 0, [2, 3, 2, 3]);
+    assert_holds(&rt, &data, 0, [2, 3, 2, 3]);
 }
 
 #[test]
 fn copies_between_classes(rt: HostRuntime) {
-    let mut data = Data::new(rt.alloc(), &[class(4, 2), class(6, 2), class(MOST_DATA_BLOCK_BYTES, 1)]).expect(&rt, "memory");
+    let mut data = Data::new(
+        rt.alloc(),
+        &[class(4, 2), class(6, 2), class(MOST_DATA_BLOCK_BYTES, 1)],
+    )
+    .expect(&rt, "memory");
     data.write(1, 0, &[1, 2, 3, 4]);
     data.write(3, 0, &[5, 6, 7, 8, 9, 10]);
     data.copy(1, 0, 3, 2, 4);
-    holds(&rt, &data, 3, [5, 6, 1, 2]);
+    assert_holds(&rt, &data, 3, [5, 6, 1, 2]);
     data.copy(3, 3, 1, 0, 3);
-    holds(&rt, &data, 1, [2, 3, 4, 4]);
-    holds(&rt, &data, 0, [0, 0, 0, 0]);
-    holds(&rt, &data, 2, [0, 0, 0, 0]);
+    assert_holds(&rt, &data, 1, [2, 3, 4, 4]);
+    assert_holds(&rt, &data, 0, [0, 0, 0, 0]);
+    assert_holds(&rt, &data, 2, [0, 0, 0, 0]);
     data.copy(3, 6, 1, 4, 0);
     data.copy(1, 0, 3, 6, 0);
-    holds(&rt, &data, 1, [2, 3, 4, 4]);
+    assert_holds(&rt, &data, 1, [2, 3, 4, 4]);
 }
 
 #[test]
 fn copies_to_and_from_the_last_places(rt: HostRuntime) {
-    let mut data = Data::new(rt.alloc(), &[class(4, 2), class(MOST_DATA_BLOCK_BYTES, 1)]).expect(&rt, "memory");
+    let mut data = Data::new(rt.alloc(), &[class(4, 2), class(MOST_DATA_BLOCK_BYTES, 1)]).expect(
+        &rt, "memory",
+    );
     data.write(1, 0, &[1, 2, 3, 4]);
     let last = MOST_DATA_BLOCK_BYTES - 4;
     data.copy(1, 0, 2, last, 4);
     data.copy(2, last, 0, 0, 4);
-    holds(&rt, &data, 0, [1, 2, 3, 4]);
-    holds(&rt, &data, 2, [0, 0, 0, 0]);
+    assert_holds(&rt, &data, 0, [1, 2, 3, 4]);
+    assert_holds(&rt, &data, 2, [0, 0, 0, 0]);
 }

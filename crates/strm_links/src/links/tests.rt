@@ -115,13 +115,9 @@ impl Twin {
         assert_eq!(rt; self.links.list_of(at), Some(list));
         assert_eq!(rt; self.links.list_of(node), None);
         self.links.insert_before(at, node);
-        let place = self.plain[list as usize]
-            .iter()
-            .position(|x| *x == at)
-            .expect(rt, "a node");
-        self.plain[list as usize]
-            .insert(place, node)
-            .expect(rt, "memory");
+        let plain = &mut self.plain[list as usize];
+        let place = place_of(rt, plain, at);
+        plain.insert(place, node).expect(rt, "memory");
     }
 
     // Takes a node out of its list.
@@ -129,11 +125,9 @@ impl Twin {
         assert!(rt; list < LISTS && node < NODES);
         assert_eq!(rt; self.links.list_of(node), Some(list));
         self.links.remove(node);
-        let place = self.plain[list as usize]
-            .iter()
-            .position(|x| *x == node)
-            .expect(rt, "a node");
-        self.plain[list as usize].remove(place);
+        let plain = &mut self.plain[list as usize];
+        let place = place_of(rt, plain, node);
+        plain.remove(place);
     }
 
     // Puts one list behind another.
@@ -183,7 +177,7 @@ impl Twin {
         assert!(rt; node < NODES);
         let (before, after) = match self.links.list_of(node) {
             None => (None, None),
-            Some(list) => neighbours(&self.plain[list as usize], node),
+            Some(list) => neighbours(rt, &self.plain[list as usize], node),
         };
         assert_eq!(rt; self.links.prev(node), before);
         assert_eq!(rt; self.links.next(node), after);
@@ -209,11 +203,18 @@ impl Twin {
     }
 }
 
+// Where a node of a plain list stands.
+fn place_of(rt: &impl Abort, plain: &[u32], node: u32) -> usize
+    ensures { result < length plain.now }
+{
+    let place = plain.iter().position(|x| *x == node).expect(rt, "a node");
+    assert!(rt; place < plain.len());
+    place
+}
+
 // What stands before and behind a node of a plain list.
-fn neighbours(plain: &[u32], node: u32) -> (Option<u32>, Option<u32>) {
-    let Some(place) = plain.iter().position(|x| *x == node) else {
-        return (None, None);
-    };
+fn neighbours(rt: &impl Abort, plain: &[u32], node: u32) -> (Option<u32>, Option<u32>) {
+    let place = place_of(rt, plain, node);
     let before = place.checked_sub(1).and_then(|i| plain.get(i).copied());
     let after = place.checked_add(1).and_then(|i| plain.get(i).copied());
     (before, after)

@@ -9,7 +9,6 @@ use crate::{Brand, Desks, Entry, Gathered, MOST_STAMP, Name, Shared, Start, Trac
 use std::alloc::Global;
 use std::process::Abort;
 use std::sync::Wait;
-use std::test::Fail;
 use strm_pool::{Call, Pool, Refusal, Regs, Reply};
 
 // A pool of eight message blocks that is to be shared by so many desks, with so many entries kept at most, from this stamp on.
@@ -50,18 +49,13 @@ pub(super) fn replayed(rt: &impl Abort, mut pool: Pool, entries: &[Entry]) -> Po
 }
 
 // The entries read so, one after another.
-fn expect_entries(
-    rt: &(impl Abort + AllocGlobal),
-    trace: &TraceEntries,
-    wanted: &[&str],
-) -> Result<(), Fail> {
+fn expect_entries(rt: &(impl Abort + AllocGlobal), trace: &TraceEntries, wanted: &[&str]) {
     let entries = trace.items();
     assert_eq!(rt; entries.len(), wanted.len());
     for (entry, text) in entries.iter().zip(wanted) {
-        let found = format!(in rt.alloc(); "{entry:?}")?;
+        let found = format!(in rt.alloc(); "{entry:?}").expect(rt, "memory");
         assert_eq!(rt; found.as_str(), *text);
     }
-    Ok(())
 }
 
 // Has calls served as lines 1, 2 and so on, each on the desk of this number, with this reply.
@@ -81,7 +75,7 @@ fn serve_rows<N: Name>(
 }
 
 #[test]
-fn a_trace_by_turns(rt: HostRuntime) -> Result<(), Fail> {
+fn a_trace_by_turns(rt: HostRuntime) {
     let trace = by_turns::<Brand, _>(&rt, kept(&rt, rt.alloc(), 2, 4, 0));
     let wanted = [
         "Entry { desk: 0, line: 1, call: Allocb(Reg { place: 0 }, 1), reply: Done }",
@@ -89,7 +83,7 @@ fn a_trace_by_turns(rt: HostRuntime) -> Result<(), Fail> {
         "Entry { desk: 0, line: 3, call: Putq(0, Reg { place: 0 }), reply: Done }",
         "Entry { desk: 1, line: 4, call: Getq(0, Reg { place: 0 }), reply: Done }",
     ];
-    expect_entries(&rt, &trace, &wanted)
+    expect_entries(&rt, &trace, &wanted);
 }
 
 // A message goes from one desk to the other over the queue, and is held at the end. Each desk was served two calls.
@@ -124,7 +118,7 @@ fn by_turns<N: Name, R: Wait + Abort>(rt: &R, start: Start) -> TraceEntries
 }
 
 #[test]
-fn refused_calls_in_a_trace(rt: HostRuntime) -> Result<(), Fail> {
+fn refused_calls_in_a_trace(rt: HostRuntime) {
     let trace = refused::<Brand, _>(&rt, kept(&rt, rt.alloc(), 1, 4, 0));
     let wanted = [
         "Entry { desk: 0, line: 1, call: Putq(9, Reg { place: 0 }), reply: Refused(NoSuchQueue) }",
@@ -132,7 +126,7 @@ fn refused_calls_in_a_trace(rt: HostRuntime) -> Result<(), Fail> {
         "Entry { desk: 0, line: 3, call: Allocb(Reg { place: 0 }, 16), reply: Done }",
         "Entry { desk: 0, line: 4, call: Allocb(Reg { place: 0 }, 16), reply: Taken }",
     ];
-    expect_entries(&rt, &trace, &wanted)
+    expect_entries(&rt, &trace, &wanted);
 }
 
 // A call that is refused, one with an empty source, and one with a taken destination count as all others do.
