@@ -7,34 +7,48 @@ use std::mem;
 use std::process::Abort;
 
 // The nodes of a list, by `next` from its front.
-fn forward(rt: &impl Abort, alloc: Global, links: &Links, list: u32) -> Vec<u32>
+fn forward(alloc: Global, links: &Links, list: u32) -> Result<Vec<u32>, AllocError>
     requires { list < length links.now.lists }
 {
     let mut nodes = Vec::new(alloc);
     let mut at = links.front(list);
     for _ in 0..links.len(list) {
         if let Some(node) = at {
-            nodes.push(node).expect(rt, "memory");
+            nodes.push(node)?;
             at = links.next(node);
         }
     }
-    nodes
+    Ok(nodes)
 }
 
 // The nodes of a list, by `prev` from its back, and then turned round.
-fn backward(rt: &impl Abort, alloc: Global, links: &Links, list: u32) -> Vec<u32>
+fn backward(alloc: Global, links: &Links, list: u32) -> Result<Vec<u32>, AllocError>
     requires { list < length links.now.lists }
 {
     let mut nodes = Vec::new(alloc);
     let mut at = links.back(list);
     for _ in 0..links.len(list) {
         if let Some(node) = at {
-            nodes.push(node).expect(rt, "memory");
+            nodes.push(node)?;
             at = links.prev(node);
         }
     }
     nodes.reverse();
-    nodes
+    Ok(nodes)
+}
+
+// A list has these nodes, read forward and backward.
+fn assert_reads(rt: &impl Abort, alloc: Global, links: &Links, list: u32, nodes: &[u32])
+    requires { list < length links.now.lists }
+{
+    assert_eq!(rt;
+        forward(alloc, links, list).expect(rt, "memory").as_slice(),
+        nodes
+    );
+    assert_eq!(rt;
+        backward(alloc, links, list).expect(rt, "memory").as_slice(),
+        nodes
+    );
 }
 
 #[test]
@@ -44,23 +58,14 @@ fn worked_rows(rt: HostRuntime) {
     links.push_back(0, 3);
     links.insert_before(3, 2);
     links.push_front(1, 0);
-    assert_eq!(rt;
-        forward(&rt, rt.alloc(), &links, 0).as_slice(),
-        [1, 2, 3].as_slice()
-    );
-    assert_eq!(rt;
-        forward(&rt, rt.alloc(), &links, 1).as_slice(),
-        [0].as_slice()
-    );
+    assert_reads(&rt, rt.alloc(), &links, 0, &[1, 2, 3]);
+    assert_reads(&rt, rt.alloc(), &links, 1, &[0]);
     links.remove(2);
     assert_eq!(rt; links.prev(3), Some(1));
     assert_eq!(rt; links.next(1), Some(3));
     assert_eq!(rt; links.list_of(2), None);
     links.append(0, 1);
-    assert_eq!(rt;
-        forward(&rt, rt.alloc(), &links, 0).as_slice(),
-        [1, 3, 0].as_slice()
-    );
+    assert_reads(&rt, rt.alloc(), &links, 0, &[1, 3, 0]);
     assert_eq!(rt; links.list_of(0), Some(0));
     assert_eq!(rt; links.back(0), Some(0));
     assert_eq!(rt; links.front(1), None);
@@ -188,8 +193,7 @@ impl Twin {
         let mut listed = 0;
         for list in 0..LISTS {
             let plain = self.plain[list as usize].as_slice();
-            assert_eq!(rt; forward(rt, alloc, &self.links, list).as_slice(), plain);
-            assert_eq!(rt; backward(rt, alloc, &self.links, list).as_slice(), plain);
+            assert_reads(rt, alloc, &self.links, list, plain);
             for node in plain {
                 assert!(rt; *node < NODES);
                 assert_eq!(rt; self.links.list_of(*node), Some(list));
