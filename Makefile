@@ -15,7 +15,7 @@ LOG := build/proving.log
 # Ends with one line where there is no `rt`.
 NEEDS_RT = $(if $(shell command -v rt 2>/dev/null),,$(error Rattle's command rt is not on PATH, and README.md says which is wanted))
 
-.PHONY: run test soak view-test bench bench-census strm install install-pages
+.PHONY: run test soak view-test pictures bench bench-census strm install install-pages
 
 # Runs the first run's script, once the program is proved.
 run: $(BUILT)
@@ -34,6 +34,10 @@ soak: $(BUILT)
 # where there is none and apt-get may.
 view-test:
 	@tests/view_in_browser build/view
+
+# Draws the pictures in docs/ again, each by the words that stand in it. It needs Chromium, as view-test does.
+pictures:
+	@for picture in docs/pictures/*.svg; do tools/strm_view $$(sed -n 's:^<desc>\(.*\)</desc>$$:\1:p' $$picture) --output $$picture || exit 1; done
 
 # Prints what a line and a call cost. OPTIONS are words of bench/run.py, as --instructions, or --write for docs/.
 bench: $(BUILT)

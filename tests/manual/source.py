@@ -76,8 +76,8 @@ def limits():
 
 
 def statuses():
-    """What is written to standard error, by the status, from the table of README.md."""
-    rows = re.findall(r"^\| (\d+) \|.*\| (.*) \|$", read("README.md"), re.MULTILINE)
+    """What is written to standard error, by the status, from the table of docs/MODEL.md."""
+    rows = re.findall(r"^\| (\d+) \|.*\| (.*) \|$", read("docs/MODEL.md"), re.MULTILINE)
     return {int(status): sorted(re.findall(r"`(strm: [^`]+)`", texts)) for status, texts in rows}
 
 

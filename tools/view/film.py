@@ -100,3 +100,13 @@ class Film(Replay):
             "opening": self.opening,
             "lines": self.lines,
         }
+
+
+def film_of(script, text=None):
+    """A replay of a script by a text, or of its lines worker by worker."""
+    film = Film(script)
+    if text is None:
+        film.serve_all()
+    else:
+        film.finish(text)
+    return film
