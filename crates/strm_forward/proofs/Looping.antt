@@ -54,7 +54,7 @@ module _ (from to : ℕ) (old : PoolValue) where
     }
 
     module _ (stays : Stays from to now then) (whole : (census_of old.arena).free + (census_of old.arena).queued + (census_of old.arena).held ≡ length old.arena.held)
-      (whole_then : (census_of then.arena).free + (census_of then.arena).queued + (census_of then.arena).held ≡ length then.arena.held) where
+        (whole_then : (census_of then.arena).free + (census_of then.arena).queued + (census_of then.arena).held ≡ length then.arena.held) where
       messages_then : then.arena ≡ moved from to n old.arena
       messages_then = stays.messages ∙ on.messages
 

@@ -178,13 +178,13 @@ module _ (from to : ℕ) (apart : from ≢ to) (v x : PoolValue) (t : TokenValue
           leave = sym leave_same ∙ sym leave;
           messages = put_is ∙ sym (ap (λ ms. with_put to (get_or ms 0 []) (with_shelf from (drop 1 ms) a)) g.first);
           left =
-            ap (λ z. shelf_at z from) put_is ∙ get_or-set_other off.shelves to from _ [] apart ∙ get_or-set_same a.shelves from g.behind [] below
-            ∙ sym (ap (drop 1) g.first);
+              ap (λ z. shelf_at z from) put_is ∙ get_or-set_other off.shelves to from _ [] apart ∙ get_or-set_same a.shelves from g.behind [] below
+              ∙ sym (ap (drop 1) g.first);
           rest = rest_kept;
         }
 
       module _ (below : from < length a.shelves) (ordered : is_ordered (rank_of a.store) (shelf_at a from) ≡ true) (leave : false ≡ has_leave to x.queues x.arena (message_at x.arena t.head))
-        (messages : w.arena ≡ placed from to t.head false x.arena) where
+          (messages : w.arena ≡ placed from to t.head false x.arena) where
         stays_off : may_go from to v.queues a ≡ false
         stays_off = sym leave_same ∙ sym leave
 

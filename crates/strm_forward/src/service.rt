@@ -1,5 +1,5 @@
 //! A service procedure.
-ghost use Rattle.std.specs.Prelude.{◌≡◌, ◌≢◌, IfErr, IfOk, IsTrue, ◌&&◌, false};
+ghost use Rattle.std.specs.Prelude.{◌≡◌, ◌≢◌, IfErr, IfOk, IsTrue, ◌&&◌, false, true};
 ghost use Rattle.strm_data.specs.declared.refusal.Refusal.TheVariants.{NoSuchQueue};
 ghost use Rattle.strm_forward.specs.Forwarding.{Forwards, HandsOn, KeepsRest, has_leave, placed};
 ghost use Rattle.strm_mblk.specs.Arena.{has, message_at};
@@ -15,6 +15,7 @@ use strm_pool::{Pool, Refusal, Token};
 pub fn forward(pool: &mut Pool, from: u8, to: u8) -> Result<u32, Refusal>
     requires apart { from ≢ to }
     ensures forwards { IfOk result (λ count. Forwards from to count pool.old pool.new) }
+    ensures found { IfOk result (λ count. (has_queue pool.old from && has_queue pool.old to) ≡ true) }
     ensures refused { IfErr result (λ why. (why ≡ NoSuchQueue) × ((has_queue pool.old from && has_queue pool.old to) ≡ false) × (pool.new ≡ pool.old)) }
 {
     pool.lawful();
