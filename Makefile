@@ -5,6 +5,8 @@ SHELL := bash
 
 PREFIX ?= /usr/local
 SHARE := $(DESTDIR)$(PREFIX)/share
+# The crate that `make vendor` puts into the repository at TO, with all below it.
+CRATE ?= strm_pool
 # The version, which the installed manual names.
 VERSION := $(shell cat VERSION)
 BUILT := crates/strm_driver/out/strm_driver
@@ -15,7 +17,7 @@ LOG := build/proving.log
 # Ends with one line where there is no `rt`.
 NEEDS_RT = $(if $(shell command -v rt 2>/dev/null),,$(error Rattle's command rt is not on PATH, and README.md says which is wanted))
 
-.PHONY: run test soak view-test pictures bench bench-census strm install install-pages
+.PHONY: run test soak view-test pictures bench bench-census strm install install-pages vendor
 
 # Runs the first run's script, once the program is proved.
 run: $(BUILT)
@@ -63,6 +65,10 @@ install-pages:
 	sed 's/@VERSION@/$(VERSION)/' man/strm.1 | install -D -m 644 /dev/stdin $(SHARE)/man/man1/strm.1
 	install -D -m 644 completions/strm.bash $(SHARE)/bash-completion/completions/strm
 	install -D -m 644 completions/_strm $(SHARE)/zsh/site-functions/_strm
+
+# Puts CRATE and the crates below it into the repository whose top is TO. It needs no `rt`, and writes nothing where it refuses.
+vendor:
+	@$(if $(TO),,$(error make vendor TO=DIR wants the top of a repository))tools/vendor $(CRATE) $(TO)
 
 # Only a proved program is built. `rt run` keeps its work, and runs the program once.
 $(BUILT): $(SOURCES)

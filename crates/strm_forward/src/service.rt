@@ -1,0 +1,90 @@
+//! A service procedure.
+ghost use Rattle.std.specs.Prelude.{◌≡◌, ◌≢◌, IfErr, IfOk, IsTrue, ◌&&◌, false, true};
+ghost use Rattle.strm_data.specs.declared.refusal.Refusal.TheVariants.{NoSuchQueue};
+ghost use Rattle.strm_forward.specs.Forwarding.{Forwards, HandsOn, KeepsRest, has_leave, placed};
+ghost use Rattle.strm_mblk.specs.Arena.{has, message_at};
+ghost use Rattle.strm_pool.specs.PoolValue.{has_queue};
+
+use strm_pool::{Pool, Refusal, Token};
+
+/// Forwards the messages of one queue to another, as the service procedure of a STREAMS module does: one after another, until none
+/// is left, or the first is not of high priority and its band is full in front. That one is put back where it was, and its band is
+/// noted as wanted, so that the queue is enabled once there is room again. Answers how many went.
+///
+/// Refused as `NoSuchQueue` where one of the queues is not there; nothing changes then.
+pub fn forward(pool: &mut Pool, from: u8, to: u8) -> Result<u32, Refusal>
+    requires apart { from ≢ to }
+    ensures forwards { IfOk result (λ count. Forwards from to count pool.old pool.new) }
+    ensures found { IfOk result (λ count. (has_queue pool.old from && has_queue pool.old to) ≡ true) }
+    ensures refused { IfErr result (λ why. (why ≡ NoSuchQueue) × ((has_queue pool.old from && has_queue pool.old to) ≡ false) × (pool.new ≡ pool.old)) }
+{
+    pool.lawful();
+    let waiting = pool.qsize(from)?;
+    pool.qsize(to)?;
+    let mut count = 0;
+    while hand_on(pool, from, to) {
+        prove!(count < waiting);
+        count += 1;
+    }
+    pool.lawful();
+    Ok(count)
+}
+
+// Takes the first message off a queue, if there is one, and puts it on the other where it may go there, else back. Tells whether it
+// went.
+fn hand_on(pool: &mut Pool, from: u8, to: u8) -> bool
+    requires apart { from ≢ to }
+    requires behind { IsTrue (has_queue pool.old from) }
+    requires ahead { IsTrue (has_queue pool.old to) }
+    ensures { HandsOn from to pool.old result pool.new }
+{
+    pool.lawful();
+    match pool.getq(from) {
+        Ok(Some(token)) => place(pool, from, to, token),
+        Ok(None) => false,
+        Err(_) => unreachable!(),
+    }
+}
+
+// Puts a message on the queue in front, where it may go there, or back. Tells whether it went.
+fn place(pool: &mut Pool, from: u8, to: u8, token: Token) -> bool
+    requires has { IsTrue (has pool.old.arena token) }
+    requires behind { IsTrue (has_queue pool.old from) }
+    requires ahead { IsTrue (has_queue pool.old to) }
+    ensures leave { result ≡ has_leave to pool.old.queues pool.old.arena (message_at pool.old.arena token.head) }
+    ensures messages { pool.new.arena ≡ placed from to token.head result pool.old.arena }
+    ensures rest { KeepsRest pool.old pool.new }
+{
+    let goes = may_go(pool, to, &token);
+    let put = if goes {
+        pool.putq(to, token)
+    } else {
+        pool.putbq(from, token)
+    };
+    match put {
+        Ok(()) => goes,
+        Err(_) => unreachable!(),
+    }
+}
+
+// Whether a message may be put on a queue now: one of high priority always, any other where its band has room. Where it has
+// none, its wanted mark is set.
+fn may_go(pool: &mut Pool, to: u8, token: &Token) -> bool
+    requires has { IsTrue (has pool.old.arena token.now) }
+    requires ahead { IsTrue (has_queue pool.old to) }
+    ensures answer { result ≡ has_leave to pool.old.queues pool.old.arena (message_at pool.old.arena token.now.head) }
+    ensures arena { pool.new.arena ≡ pool.old.arena }
+    ensures rest { KeepsRest pool.old pool.new }
+{
+    pool.lawful();
+    let Ok(first) = pool.block(token, 0) else {
+        unreachable!()
+    };
+    if first.kind.is_high_priority() {
+        return true;
+    }
+    let Ok(room) = pool.bcanput(to, first.band) else {
+        unreachable!()
+    };
+    room
+}
