@@ -1,6 +1,7 @@
 """Debian's source packages, fetched by apt-get with lists of its own, which are gone with the folder that they stand in."""
 import glob
 import os
+import platform
 import subprocess
 from typing import NamedTuple
 
@@ -34,9 +35,11 @@ def run(*words, folder):
 
 def own_suite():
     """The suite of this machine, where it is Debian's."""
-    with open("/etc/os-release") as file:
-        fields = dict(line.rstrip().replace('"', "").split("=", 1) for line in file if "=" in line)
-    return fields.get("VERSION_CODENAME", OTHER_SUITE) if fields.get("ID") == "debian" else OTHER_SUITE
+    try:
+        release = platform.freedesktop_os_release()
+    except OSError:
+        release = {}
+    return release.get("VERSION_CODENAME", OTHER_SUITE) if release.get("ID") == "debian" else OTHER_SUITE
 
 
 class Suite:
