@@ -135,8 +135,8 @@ static void set_sides(struct part *part, struct qinit *read_side, struct qinit *
 /* Makes all queues, each in front of the one that is its next. */
 void make_streams(void)
 {
-    struct part *upper[] = {&control_head, &control}, *other[] = {&network_head, &network};
-    struct part *below_all[] = {&lower, &compressor, &framer, &terminal};
+    struct part *control_parts[] = {&control_head, &control}, *network_parts[] = {&network_head, &network};
+    struct part *line_parts[] = {&lower, &compressor, &framer, &terminal};
     set_sides(&control_head, &head_read, &head_write);
     set_sides(&network_head, &head_read, &head_write);
     set_sides(&control, pppinfo.st_rdinit, pppinfo.st_wrinit);
@@ -145,12 +145,12 @@ void make_streams(void)
     set_sides(&compressor, pcmpinfo.st_rdinit, pcmpinfo.st_wrinit);
     set_sides(&framer, phdlinfo.st_rdinit, phdlinfo.st_wrinit);
     set_sides(&terminal, &terminal_read, &terminal_write);
-    make_write_side(upper, 2);
-    make_write_side(other, 2);
-    make_write_side(below_all, 4);
-    make_read_side(below_all, 4);
-    make_read_side(upper, 2);
-    make_read_side(other, 2);
+    make_write_side(control_parts, 2);
+    make_write_side(network_parts, 2);
+    make_write_side(line_parts, 4);
+    make_read_side(line_parts, 4);
+    make_read_side(control_parts, 2);
+    make_read_side(network_parts, 2);
 }
 
 void open_part(struct part *part, int flag)
