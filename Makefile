@@ -17,7 +17,7 @@ LOG := build/proving.log
 # Ends with one line where there is no `rt`.
 NEEDS_RT = $(if $(shell command -v rt 2>/dev/null),,$(error Rattle's command rt is not on PATH, and README.md says which is wanted))
 
-.PHONY: run test soak view-test pictures bench bench-census strm install install-pages vendor
+.PHONY: run test soak field view-test pictures bench bench-census strm install install-pages vendor
 
 # Runs the first run's script, once the program is proved.
 run: $(BUILT)
@@ -31,6 +31,11 @@ test:
 # Has workers serve drawn scripts for a minute, and replays what they write. OPTIONS are words of tests/soak, as --seconds N.
 soak: $(BUILT)
 	@tests/soak $(OPTIONS) $(BUILT)
+
+# Serves what was recorded of ppp's STREAMS modules and of lwIP's buffers, whose sources it fetches from Debian (tests/field). OPTIONS are
+# words of tests/field/run, as --scripts N.
+field: $(BUILT)
+	@tests/field/run $(OPTIONS) $(BUILT)
 
 # Moves through pages of tools/strm_view in Chromium, and puts pictures of some into build/view. It needs no `rt`, and installs Chromium
 # where there is none and apt-get may.

@@ -1,0 +1,389 @@
+/* Plays on ppp's STREAMS modules as drawn.
+ *
+ *     ppp SEED ACTIONS
+ */
+#include "dice.h"
+#include "line.h"
+#include "packets.h"
+
+#include <stdlib.h>
+#include <string.h>
+
+#include <net/ppp_defs.h>
+#include <net/ppp-comp.h>
+#include <net/pppio.h>
+
+static int links_left = 4;
+
+/* Messages that the network layer keeps until they are acknowledged. */
+#define KEPT 3
+static mblk_t *kept[KEPT];
+
+/* Messages */
+
+/* A message of these bytes over one block or a few, or none. */
+static mblk_t *message(const void *from, int size)
+{
+    const u_char *bytes = from;
+    mblk_t *first = NULL;
+    do {
+        int part = size > 1 && once_in(3) ? 1 + below(size - 1) : size;
+        mblk_t *mp = allocb(part + (once_in(3) ? below(40) : 0), BPRI_MED);
+        if (!mp) {
+            freemsg(first);
+            return NULL;
+        }
+        memcpy(mp->b_wptr, bytes, part);
+        mp->b_wptr += part;
+        if (first)
+            linkb(first, mp);
+        else
+            first = mp;
+        bytes += part;
+        size -= part;
+    } while (size > 0);
+    return first;
+}
+
+/* A message whose first block has a structure and a type, with another message behind it. */
+static mblk_t *headed(int type, const void *head, int size, mblk_t *behind)
+{
+    mblk_t *mp = allocb(size, BPRI_MED);
+    if (!mp) {
+        freemsg(behind);
+        return NULL;
+    }
+    memcpy(mp->b_wptr, head, size);
+    mp->b_wptr += size;
+    mp->b_datap->db_type = type;
+    mp->b_cont = behind;
+    return mp;
+}
+
+static void send_down(struct part *head, mblk_t *mp)
+{
+    if (mp)
+        put_to(head->write, mp);
+}
+
+static void ioctl(struct part *head, int command, const void *data, int size)
+{
+    static uint number;
+    struct iocblk block;
+    mblk_t *behind = data ? headed(M_DATA, data, size, NULL) : NULL;
+    memset(&block, 0, sizeof block);
+    block.ioc_cmd = command;
+    block.ioc_id = ++number;
+    block.ioc_count = size;
+    send_down(head, headed(M_IOCTL, &block, sizeof block, behind));
+}
+
+static void ioctl_number(struct part *head, int command, int number)
+{
+    ioctl(head, command, &number, sizeof number);
+}
+
+static void ioctl_pair(struct part *head, int command, int one, int other)
+{
+    int pair[2] = {one, other};
+    ioctl(head, command, pair, sizeof pair);
+}
+
+static void request(int primitive, uint value)
+{
+    uint words[4] = {primitive, value, DL_CLDLS, 0};
+    send_down(&network_head, headed(M_PROTO, words, sizeof words, NULL));
+}
+
+/* Actions */
+
+static void write_control(void)
+{
+    u_char bytes[MOST_PACKET];
+    if (bcanput(control_head.write, 0))
+        send_down(&control_head, message(bytes, draw_control_packet(bytes)));
+}
+
+static void let_go(int place)
+{
+    if (kept[place])
+        look(kept[place]);
+    freemsg(kept[place]);
+    kept[place] = NULL;
+}
+
+static void let_one_go(void)
+{
+    let_go(below(KEPT));
+}
+
+static void keep(mblk_t *mp)
+{
+    int place = below(KEPT);
+    let_go(place);
+    kept[place] = dupmsg(mp);
+}
+
+static void write_network(void)
+{
+    u_char bytes[MOST_PACKET];
+    uint words[4] = {DL_UNITDATA_REQ, 0, 0, 0};
+    mblk_t *mp = message(bytes, draw_network_packet(bytes));
+    if (mp)
+        mp = headed(M_PROTO, words, sizeof words, mp);
+    if (mp && once_in(3))
+        keep(mp);
+    send_down(&network_head, mp);
+}
+
+static void write_many(void)
+{
+    for (int count = below(16); count > 0; count--)
+        write_network();
+}
+
+static void draw_frame(void)
+{
+    u_char packet[MOST_PACKET];
+    if (line.size + MOST_FRAME <= (int)sizeof line.bytes)
+        line.size += framed(line.bytes + line.size, packet, draw_packet_of_peer(packet));
+}
+
+/* Has some bytes of the line received, as far as they can be passed on. */
+static void receive(void)
+{
+    int size = 1 + below(200);
+    mblk_t *mp;
+    if (line.size < size)
+        draw_frame();
+    if (size > line.size)
+        size = line.size;
+    if (size == 0 || !bcanput(terminal.read->q_next, 0))
+        return;
+    mp = message(line.bytes, size);
+    line.size -= size;
+    memmove(line.bytes, line.bytes + size, line.size);
+    if (mp)
+        putnext(terminal.read, mp);
+}
+
+static void serve_some(void)
+{
+    for (int count = 1 + below(4); count > 0; count--)
+        serve_next();
+}
+
+/* Reads a message of a stream, if there is one. */
+static int read_from(struct part *head)
+{
+    mblk_t *mp = getq(head->read);
+    if (mp) {
+        look(mp);
+        freemsg(mp);
+    }
+    return mp != NULL;
+}
+
+static void read_control(void)
+{
+    read_from(&control_head);
+}
+
+static void read_network(void)
+{
+    read_from(&network_head);
+}
+
+static void read_all(void)
+{
+    while (read_from(&control_head))
+        ;
+    while (read_from(&network_head))
+        ;
+}
+
+static void set_flags(void)
+{
+    int bits = COMP_AC | DECOMP_AC | COMP_PROT | DECOMP_PROT | COMP_VJC | DECOMP_VJC;
+    ioctl_pair(&control_head, PPPIO_CFLAGS, once_in(4) ? below(256) & bits : bits, bits);
+}
+
+static void set_maps(void)
+{
+    if (once_in(2))
+        ioctl_number(&control_head, PPPIO_XACCM, below(2) * 0x000a0000);
+    else
+        ioctl_number(&control_head, PPPIO_RACCM, below(2) * 0x000a0000);
+}
+
+static void set_sizes(void)
+{
+    static const int sizes[] = {1500, 1500, 296, 4000, 60000};
+    ioctl_number(&control_head, once_in(2) ? PPPIO_MRU : PPPIO_MTU, sizes[below(5)]);
+}
+
+static void ask(void)
+{
+    static const int commands[] = {PPPIO_GETSTAT, PPPIO_GETCSTAT, PPPIO_GIDLE, PPPIO_GCLEAN, PPPIO_LASTMOD, PPPIO_BIND};
+    ioctl(once_in(4) ? &network_head : &control_head, commands[below(6)], NULL, 0);
+}
+
+static void set_mode(void)
+{
+    ioctl_pair(&control_head, PPPIO_NPMODE, PPP_IP, once_in(3) ? below(4) : NPMODE_PASS);
+}
+
+/* Has both directions take memory for compression, and agrees on it as a peer would: the driver sees its own word come back. */
+static void begin_compression(void)
+{
+    static const u_char option[] = {CI_BSD_COMPRESS, CILEN_BSD_COMPRESS, BSD_MAKE_OPT(BSD_CURRENT_VERSION, 12)};
+    u_char agreed[] = {PPP_ALLSTATIONS, PPP_UI, PPP_CCP >> 8, PPP_CCP & 255, CCP_CONFACK, 1, 0, CCP_HDRLEN + sizeof option, 0, 0, 0};
+    memcpy(agreed + sizeof agreed - sizeof option, option, sizeof option);
+    ioctl(&control_head, PPPIO_XCOMP, option, sizeof option);
+    ioctl(&control_head, PPPIO_RCOMP, option, sizeof option);
+    ioctl_pair(&control_head, PPPIO_CFLAGS, CCP_ISOPEN, CCP_ISOPEN | CCP_ISUP);
+    send_down(&control_head, message(agreed, sizeof agreed));
+}
+
+static void use_compression(void)
+{
+    ioctl_pair(&control_head, PPPIO_CFLAGS, CCP_ISUP, CCP_ISUP);
+}
+
+static void reset_header_compression(void)
+{
+    static const u_char slots[2] = {15, 15};
+    ioctl(&control_head, PPPIO_VJINIT, slots, sizeof slots);
+}
+
+/* Primitives that the network layer asks for, in an order that may be wrong. */
+static void change_state(void)
+{
+    static const int primitives[] = {DL_INFO_REQ, DL_ATTACH_REQ, DL_BIND_REQ, DL_UNBIND_REQ, DL_CONNECT_REQ, DL_RESET_REQ, DL_NONE};
+    int primitive = primitives[below(7)];
+    request(primitive, primitive == DL_BIND_REQ ? (once_in(5) ? PPP_IPV6 : PPP_IP) : 0);
+}
+
+static void bind_network(void)
+{
+    request(DL_ATTACH_REQ, 0);
+    request(DL_BIND_REQ, PPP_IP);
+}
+
+static void flush(void)
+{
+    u_char what = 1 + below(3);
+    if (once_in(3)) {
+        mblk_t *mp = headed(M_FLUSH, &what, 1, NULL);
+        if (mp)
+            putnext(terminal.read, mp);
+    } else {
+        send_down(once_in(2) ? &control_head : &network_head, headed(M_FLUSH, &what, 1, NULL));
+    }
+}
+
+static void hang_up(void)
+{
+    mblk_t *mp = headed(M_HANGUP, "", 0, NULL);
+    if (mp)
+        putnext(terminal.read, mp);
+}
+
+static void link_or_unlink(int command)
+{
+    struct linkblk block;
+    memset(&block, 0, sizeof block);
+    block.l_qbot = lower.write;
+    ioctl(&control_head, command, &block, sizeof block);
+}
+
+static int is_linked(void)
+{
+    return lower.write->q_ptr != NULL;
+}
+
+/* ppp_ahdlc never frees the message by which it is told its unit, so there are few links. */
+static void relink(void)
+{
+    if (links_left == 0)
+        return;
+    if (is_linked())
+        link_or_unlink(I_UNLINK);
+    else if (links_left-- > 0)
+        link_or_unlink(I_LINK);
+}
+
+static void stop_or_go(void)
+{
+    is_stopped = !is_stopped;
+    if (!is_stopped)
+        qenable(terminal.write);
+}
+
+static const struct {
+    void (*act)(void);
+    int often;
+} actions[] = {
+    {write_control, 12}, {write_network, 18}, {write_many, 2}, {receive, 40}, {serve_some, 24}, {read_control, 4}, {read_network, 4},
+    {read_all, 2}, {let_one_go, 3}, {stop_or_go, 2}, {set_flags, 2}, {set_maps, 1}, {set_sizes, 1}, {set_mode, 1}, {ask, 3},
+    {change_state, 2}, {bind_network, 2}, {begin_compression, 1}, {use_compression, 3}, {reset_header_compression, 1}, {flush, 1},
+    {hang_up, 1}, {look_around, 1},
+};
+
+static void act(void)
+{
+    int sum = 0, k = 0, drawn;
+    for (size_t i = 0; i < sizeof actions / sizeof *actions; i++)
+        sum += actions[i].often;
+    for (drawn = below(sum); drawn >= actions[k].often; k++)
+        drawn -= actions[k].often;
+    actions[k].act();
+    if (once_in(400))
+        relink();
+}
+
+static void begin(void)
+{
+    open_part(&control, CLONEOPEN);
+    open_part(&network, CLONEOPEN);
+    open_part(&compressor, MODOPEN);
+    open_part(&framer, MODOPEN);
+    ioctl(&control_head, PPPIO_NEWPPA, NULL, 0);
+    relink();
+    set_flags();
+    bind_network();
+    set_mode();
+}
+
+static void finish(void)
+{
+    for (int place = 0; place < KEPT; place++)
+        let_go(place);
+    if (is_linked())
+        link_or_unlink(I_UNLINK);
+    close_part(&framer);
+    close_part(&compressor);
+    close_part(&network);
+    close_part(&control);
+    for (queue_t *q = queues; q < queues + queue_count(); q++)
+        flushq(q, FLUSHALL);
+    look_around();
+}
+
+int main(int count, char **words)
+{
+    static const struct pool ample = {400, 8, {16, 64, 128, 256, 512, 1024, 2048, 4096}, {90, 120, 90, 60, 30, 20, 16, 12}};
+    static const struct pool scarce = {60, 5, {16, 64, 256, 1024, 4096}, {20, 20, 20, 6, 4}};
+    if (count != 3)
+        return 64;
+    seed_dice(atol(words[1]));
+    open_pool(once_in(3) ? &scarce : &ample);
+    make_streams();
+    tell_header();
+    begin();
+    for (int left = atoi(words[2]); left > 0; left--)
+        act();
+    finish();
+    tell_report();
+    return 0;
+}

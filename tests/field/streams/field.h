@@ -1,0 +1,54 @@
+/* What the parts of this STREAMS tell each other, and who plays on them. */
+#ifndef FIELD_H
+#define FIELD_H
+#include "streams.h"
+
+/* The limits of strm. */
+#define MOST_BLOCKS 4095
+#define MOST_CLASSES 8
+#define MOST_QUEUES 16
+#define MOST_NAMES 255
+
+/* What a pool is made with: so many message blocks, and of each size class its bytes and its number of data blocks. */
+struct pool {
+    int blocks, classes;
+    int size[MOST_CLASSES], count[MOST_CLASSES];
+};
+
+/* messages.c */
+void open_pool(const struct pool *given);
+const struct pool *opened_pool(void);
+mblk_t *block_at(int number);
+const dblk_t *data_at(int number);
+int blocks_in(int place);
+int free_data_of(int class);
+size_t length_of(const mblk_t *mp);
+size_t size_of(const mblk_t *mp);
+void release_all(mblk_t *mp);
+
+/* queues.c */
+extern queue_t queues[MOST_QUEUES];
+queue_t *new_queue(struct qinit *what, int flag);
+int queue_count(void);
+int messages_on(const queue_t *q);
+size_t bytes_on(const queue_t *q);
+int is_full(const queue_t *q, int band);
+queue_t *waiting_queue(void);
+queue_t *next_service(void);
+
+/* trace.c: a call is told between begin_call and end_call. First come the blocks that a module has changed by pointers, then the call
+ * with its reply, then what it left. In the format stand %f for a message that the call takes, %t for one that it gives or none, %q
+ * for a queue, and %d, %l and %s. */
+void begin_call(void);
+void end_call(const char *reply, const char *format, ...);
+/* Whose procedure runs from here on: that of a queue's module. Returns whose ran before, for leave. */
+const char *enter(const queue_t *q);
+void leave(const char *before);
+const char *type_name(int type);
+
+/* looks.c */
+void tell_header(void);
+void tell_report(void);
+void look(mblk_t *mp);
+void look_around(void);
+#endif
