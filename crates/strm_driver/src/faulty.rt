@@ -35,39 +35,44 @@ pub fn slow_reader(text: &[u8], cut: Option<usize>) -> Slow<'_> {
     }
 }
 
-/// Takes at most `most` bytes a call, fails where it holds `cut` bytes, and flushes only where it `flushes`.
+/// Takes at most `most` bytes a write, and fails where it holds `cut` bytes, in a flush too. It counts how often it has failed.
 #[derive(Drop)]
 pub struct Choppy {
     pub got: Vec<u8>,
+    pub faults: u32,
     most: usize,
     cut: Option<usize>,
-    flushes: bool,
+}
+
+impl Choppy {
+    // Fails where it is to fail.
+    fn check(&mut self) -> io::Result<()> {
+        if self.cut == Some(self.got.len()) {
+            self.faults = self.faults.saturating_add(1);
+            return Err(io::Error::from(io::ErrorKind::BrokenPipe));
+        }
+        Ok(())
+    }
 }
 
 impl Write for Choppy {
     fn write(&mut self, buf: &[u8]) -> io::Result<usize> {
-        if self.cut == Some(self.got.len()) {
-            return Err(io::Error::from(io::ErrorKind::BrokenPipe));
-        }
+        self.check()?;
         let count = buf.len().min(self.most);
         self.got.extend_from_slice(&buf[..count])?;
         Ok(count)
     }
 
     fn flush(&mut self) -> io::Result<()> {
-        if self.flushes {
-            Ok(())
-        } else {
-            Err(io::Error::from(io::ErrorKind::BrokenPipe))
-        }
+        self.check()
     }
 }
 
-pub fn choppy_writer(alloc: Global, most: usize, cut: Option<usize>, flushes: bool) -> Choppy {
+pub fn choppy_writer(alloc: Global, most: usize, cut: Option<usize>) -> Choppy {
     Choppy {
         got: Vec::new(alloc),
+        faults: 0,
         most,
         cut,
-        flushes,
     }
 }

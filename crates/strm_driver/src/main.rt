@@ -10,6 +10,8 @@ mod fault;
 mod faulty;
 mod input;
 mod output;
+#[cfg(test)]
+mod refused;
 mod run;
 mod serial;
 mod watched;

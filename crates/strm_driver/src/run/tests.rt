@@ -14,24 +14,15 @@ use strm_pool::Which;
 use strm_script::{Fault, Kind};
 use strm_shared::{Gate, OpenGate};
 
+// The first run: seven lines of commands.
 const SCRIPT: &[u8] =
-    b"pool 1 8\nclass 16 4\nqueue 10 4 s -\nbufcalls 2 1\nworker\nallocb a 3\nwrite a 0 616263\nputq 0 a\ncensus\nallocb b 17\ngetq 0 c\n";
+    b"pool 1 8\nclass 16 4\nclass 64 2\nqueue 10 4 s -\nbufcalls 2 1\nworker\nallocb a 3\nwrite a 0 616263\n\
+      putq 0 a\ngetq 0 b\ncensus\nfreemsg b\ncensus\n";
 
-// The message got from the queue is still held when the script ends.
 const TEXT: &[u8] =
-    b"0:6 ok\n0:7 ok\n0:8 ok\n0:9 census 7 1 0\n0:10 refused 1 TooLarge\n0:11 ok\nblocks free=7 queued=0 held=1 total=8\ndata size=16 free=3 total=4\nqueue 0 msgs=0 bytes=0 read=0 noenable=0 enabled=1\nrun 0\nwishes -\n";
-
-// The stored run: six lines of a header, and then commands.
-const STORED: &[u8] =
-    b"pool 7 8\nclass 16 4\nqueue 10 4 s 1\nqueue 10 4 s -\nbufcalls 0 1\nworker\nallocb a 4\n\
-      write a 0 00010203\nallocb b 3\nwrite b 0 040506\nallocb c 3\nwrite c 0 070809\nputq 1 a\n\
-      putq 1 b\nbcanput 1 0\nputq 1 c\nbcanput 1 0\ngetq 1 a\ngetq 1 b\nread b 0\nservice\nservice\n\
-      service\nfreemsg a\n";
-
-// The replies to its commands.
-const REPLIES: &[u8] =
-    b"0:7 ok\n0:8 ok\n0:9 ok\n0:10 ok\n0:11 ok\n0:12 ok\n0:13 ok\n0:14 ok\n0:15 yes\n0:16 ok\n\
-      0:17 no\n0:18 ok\n0:19 ok\n0:20 bytes 040506\n0:21 queue 1\n0:22 queue 0\n0:23 none\n0:24 ok\n";
+    b"0:7 ok\n0:8 ok\n0:9 ok\n0:10 ok\n0:11 census 7 0 1\n0:12 ok\n0:13 census 8 0 0\n\
+      blocks free=8 queued=0 held=0 total=8\ndata size=16 free=4 total=4\ndata size=64 free=2 total=2\n\
+      queue 0 msgs=0 bytes=0 read=0 noenable=0 enabled=1\nrun 0\nwishes -\n";
 
 const MAX: u32 = 1_048_576;
 
@@ -52,7 +43,7 @@ fn written(
     gate: &impl Gate,
     script: &[u8],
 ) -> Result<Vec<u8>, Fail> {
-    let mut writer = choppy_writer(rt.alloc(), 1, None, true);
+    let mut writer = choppy_writer(rt.alloc(), 1, None);
     run(
         rt,
         mode,
@@ -233,8 +224,8 @@ fn a_worker_serves_one_section(rt: HostRuntime) -> Result<(), Fail> {
         written(&rt, Mode::Workers, &gate, SCRIPT)?.as_slice(),
         TEXT
     );
-    assert_eq!(rt; gate.came.load(Ordering::SeqCst), 6);
-    assert_eq!(rt; gate.answered.load(Ordering::SeqCst), 6);
+    assert_eq!(rt; gate.came.load(Ordering::SeqCst), 7);
+    assert_eq!(rt; gate.answered.load(Ordering::SeqCst), 7);
     assert_eq!(rt; gate.strange.load(Ordering::SeqCst), 0);
     Ok(())
 }
@@ -331,11 +322,12 @@ fn fault_to(
     .err()
 }
 
+// Each of its reads, of a byte each, fails in turn.
 #[test]
 fn a_failing_reader_leaves_nothing_written(rt: HostRuntime) {
     for mode in [Mode::Serial, Mode::Workers] {
-        for cut in [0, 9, SCRIPT.len()] {
-            let mut writer = choppy_writer(rt.alloc(), 100, None, true);
+        for cut in 0..=SCRIPT.len() {
+            let mut writer = choppy_writer(rt.alloc(), 100, None);
             let fault = run(
                 &rt,
                 mode,
@@ -351,14 +343,16 @@ fn a_failing_reader_leaves_nothing_written(rt: HostRuntime) {
     }
 }
 
+// Each of its writes, of a byte each, fails in turn, and then the flush. No other call comes behind it.
 #[test]
 fn a_failing_writer_has_the_beginning(rt: HostRuntime) {
     for mode in [Mode::Serial, Mode::Workers] {
-        for cut in [0, 7, 14] {
-            let mut writer = choppy_writer(rt.alloc(), 7, Some(cut), true);
+        for cut in 0..=TEXT.len() {
+            let mut writer = choppy_writer(rt.alloc(), 1, Some(cut));
             let fault = fault_to(&rt, mode, &OpenGate, SCRIPT, &mut writer);
             assert!(rt; fault == Some(RunFault::Write), "at {cut}");
             assert_eq!(rt; writer.got.as_slice(), &TEXT[..cut]);
+            assert_eq!(rt; writer.faults, 1);
         }
     }
 }
@@ -367,7 +361,7 @@ fn a_failing_writer_has_the_beginning(rt: HostRuntime) {
 fn a_failing_writer_has_the_beginning_of_what_two_workers_were_served(rt: HostRuntime) {
     for cut in [0, 7, 21] {
         let gate = Turns::new();
-        let mut writer = choppy_writer(rt.alloc(), 7, Some(cut), true);
+        let mut writer = choppy_writer(rt.alloc(), 7, Some(cut));
         let fault = fault_to(&rt, Mode::Workers, &gate, TURNS, &mut writer);
         assert!(rt; fault == Some(RunFault::Write), "at {cut}");
         assert_eq!(rt; writer.got.as_slice(), &TURNS_TEXT[..cut]);
@@ -384,7 +378,7 @@ fn fault_of(
     requires least { 1 ≤ max }
     requires most { max ≤ most_script_bytes }
 {
-    let mut writer = choppy_writer(rt.alloc(), 100, None, true);
+    let mut writer = choppy_writer(rt.alloc(), 100, None);
     let fault = run(
         rt,
         Mode::Serial,
@@ -407,71 +401,4 @@ fn tells_the_first_fault(rt: HostRuntime) {
     assert!(rt; fault_of(&rt, MAX, b"pool 1 0\nalloc a 3\n") == Some(RunFault::Script(unknown)));
     let unlawful = b"pool 1 0\nclass 16 4\nqueue 10 4 s -\nbufcalls 2 0\nworker\n";
     assert!(rt; fault_of(&rt, MAX, unlawful) == Some(RunFault::Config(Which::Mblks)));
-}
-
-// How many lines a text has.
-fn count_lines(text: &[u8]) -> u32 {
-    let mut count: u32 = 0;
-    for byte in text {
-        if *byte == b'\n' {
-            count = count.wrapping_add(1);
-        }
-    }
-    count
-}
-
-// The fault of the beginning of a lawful script with a header of six lines, if there is one.
-fn fault_of_prefix(prefix: &[u8]) -> Option<RunFault> {
-    let whole = count_lines(prefix);
-    let kind = match prefix {
-        [.., last] if *last != b'\n' => Kind::Cut,
-        _ if whole < 6 => Kind::Missing,
-        _ => return None,
-    };
-    let line = whole.wrapping_add(1);
-    Some(RunFault::Script(Fault { line, kind }))
-}
-
-// Whether a text begins with so many lines of the replies, and then goes on with the report.
-fn has_replies(text: &[u8], count: u32) -> bool {
-    let mut left = count;
-    let mut at = 0;
-    for byte in REPLIES {
-        if left == 0 {
-            break;
-        }
-        if text.get(at) != Some(byte) {
-            return false;
-        }
-        at = at.wrapping_add(1);
-        if *byte == b'\n' {
-            left = left.wrapping_sub(1);
-        }
-    }
-    left == 0 && text.get(at) == Some(&b'b')
-}
-
-#[test]
-fn every_prefix_is_refused_or_served(rt: HostRuntime) {
-    for cut in 0..=STORED.len() {
-        let prefix = &STORED[..cut];
-        let mut writer = choppy_writer(rt.alloc(), 100, None, true);
-        let fault = run(
-            &rt,
-            Mode::Serial,
-            MAX,
-            &OpenGate,
-            &mut Watched::new(slow_reader(prefix, None)),
-            &mut Watched::new(&mut writer),
-        )
-        .err();
-        let wanted = fault_of_prefix(prefix);
-        assert!(rt; fault == wanted, "of {cut} bytes");
-        let commands = count_lines(prefix).saturating_sub(6);
-        assert!(rt;
-            wanted.is_some() || has_replies(&writer.got, commands),
-            "of {cut} bytes"
-        );
-        assert!(rt; wanted.is_none() || writer.got.is_empty(), "of {cut} bytes");
-    }
 }

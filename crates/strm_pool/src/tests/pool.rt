@@ -57,18 +57,33 @@ fn has_no_message_that_was_freed(rt: HostRuntime) {
     two.end();
 }
 
+// A pool whose registers a and b hold two tokens of its one message: that in b is of another pool with its id.
+fn held_twice(rt: &impl Abort, alloc: Global) -> Bench {
+    let mut one = holding(rt, alloc, 1);
+    let mut two = holding(rt, alloc, 1);
+    let token = two.taken(rt, reg(rt, b'a'));
+    one.hold(rt, reg(rt, b'b'), token);
+    assert!(rt; one.owns(&one) && two.owns(&one));
+    two.assert_census(rt, 3, 1);
+    two.end();
+    one
+}
+
 #[test]
 fn drains_a_message_held_twice_once(rt: HostRuntime) {
-    let mut one = holding(&rt, rt.alloc(), 1);
-    let mut two = holding(&rt, rt.alloc(), 1);
-    let token = two.taken(&rt, reg(&rt, b'a'));
-    one.hold(&rt, reg(&rt, b'b'), token);
-    assert!(rt; one.owns(&one) && two.owns(&one));
-    let one = one.drained();
+    let one = held_twice(&rt, rt.alloc()).drained();
     one.assert_census(&rt, 4, 0);
-    two.assert_census(&rt, 3, 1);
     one.end();
-    two.end();
+}
+
+#[test]
+fn links_no_message_behind_itself(rt: HostRuntime) {
+    let mut one = held_twice(&rt, rt.alloc());
+    let (a, b) = (reg(&rt, b'a'), reg(&rt, b'b'));
+    one.done(&rt, &[Call::Linkb(a, b)], &[Some(0), None]);
+    assert!(rt; one.regs().entry(a) == Some((0, 1)));
+    one.assert_census(&rt, 3, 1);
+    one.end();
 }
 
 #[test]

@@ -23,6 +23,9 @@ use strm_pool::{Call, Census, Pool, Refusal, Reg, Reply};
 // So many turns at most a worker waits, and a monitor looks.
 const TURNS: u32 = 100_000_000;
 
+// So many times at least a monitor looks while workers are at work.
+const LOOKS: u32 = 10_000;
+
 // Whether one of these bits comes in time.
 fn comes(flags: &AtomicU32, bits: u32) -> bool {
     for _ in 0..TURNS {
@@ -89,8 +92,8 @@ impl Gate for Meeting {
     }
 }
 
-// Where two workers wait before their last lines until a monitor has seen two stamps: whether it has, how many workers waited
-// in vain, and how many have ended.
+// Where two workers wait before their first lines until a monitor has looked, and before their last ones until it has seen
+// enough: what it has shown of both, how often a worker waited in vain, and how many have ended.
 #[derive(Drop)]
 struct Watch {
     last: u32,
@@ -98,6 +101,11 @@ struct Watch {
     missed: AtomicU32,
     ended: AtomicU32,
 }
+
+// What a monitor shows.
+const LOOKED: u32 = 1;
+
+const ENOUGH: u32 = 2;
 
 impl Watch {
     // With this number of the last line of each worker.
@@ -110,9 +118,9 @@ impl Watch {
         }
     }
 
-    // The monitor has seen two stamps.
-    fn show(&self) {
-        self.shown.store(1, Ordering::SeqCst);
+    // The monitor has looked, and then it has seen enough.
+    fn show(&self, what: u32) {
+        self.shown.fetch_or(what, Ordering::SeqCst);
     }
 
     // Whether both workers have ended.
@@ -123,7 +131,9 @@ impl Watch {
 
 impl Gate for Watch {
     fn before(&self, _worker: u8, line: u32) {
-        if line == self.last && !comes(&self.shown, 1) {
+        let missed = (line == 0 && !comes(&self.shown, LOOKED))
+            || (line == self.last && !comes(&self.shown, ENOUGH));
+        if missed {
             self.missed.fetch_add(1, Ordering::SeqCst);
         }
     }
@@ -198,15 +208,15 @@ fn small(rt: &impl Abort, alloc: Global, desks: u8, trace: Trace) -> Start {
     start_of(rt, alloc, four(rt, alloc), setup(desks, trace, 0))
 }
 
-// Two workers at most have so many rounds served at the small pool. One desk more is a monitor's, who looks once they have
-// ended.
+// The trace once two workers at most have so many rounds served at the small pool. One desk more is a monitor's, who looks once
+// they have ended.
 fn work<N: Name + Send + Sync, R: Threads + Wait + Abort + Sync, G: Gate>(
     rt: &R,
     alloc: Global,
     start: Start,
     gate: &G,
     rounds: u32,
-) -> Result<(), Fail>
+) -> TraceEntries
     requires { IsNameOf N.Name start }
 {
     let (shared, mut desks) = start.open::<N>();
@@ -214,9 +224,7 @@ fn work<N: Name + Send + Sync, R: Threads + Wait + Abort + Sync, G: Gate>(
     let monitor = desks.take_last();
     let parts = parts(alloc, reg(rt, b'a'), desks.len() as u8, rounds).expect(rt, "memory");
     let outcome = ran(rt, alloc, &shared, desks, &parts, gate);
-    let trace = after_work(rt, shared, monitor, outcome, rounds);
-    assert!(rt; trace.items().is_empty());
-    Ok(())
+    after_work(rt, shared, monitor, outcome, rounds)
 }
 
 // The trace once all workers had so many rounds served. The monitor sees it, and is the desk without which none are gathered.
@@ -249,15 +257,15 @@ fn after_work<N: Name, R: Wait + Abort>(
 }
 
 #[test]
-fn two_threads_at_once(rt: HostRuntime) -> Result<(), Fail> {
+fn two_threads_at_once(rt: HostRuntime) {
     let gate = Meeting::new();
-    let three = small(&rt, rt.alloc(), 3, Trace::Off);
-    work::<Brand, _, _>(&rt, rt.alloc(), three, &gate, 1)?;
+    let three = small(&rt, rt.alloc(), 3, Trace::Keep(5));
+    let trace = work::<Brand, _, _>(&rt, rt.alloc(), three, &gate, 1);
+    assert_replayed(&rt, rt.alloc(), trace.items(), 2);
     assert_eq!(rt; gate.missed.load(Ordering::SeqCst), 0);
     assert_eq!(rt; gate.early.load(Ordering::SeqCst), 0);
     assert_eq!(rt; gate.came.load(Ordering::SeqCst), ALL);
     assert_eq!(rt; gate.answered.load(Ordering::SeqCst), ALL);
-    Ok(())
 }
 
 #[test]
@@ -279,9 +287,21 @@ fn assert_lines(rt: &impl Abort, entries: &[Entry], worker: u8, count: u32) {
     assert_eq!(rt; next, count);
 }
 
+// The trace has so many lines of each of two workers and the monitor's one call, and done again by a pool like theirs its calls have
+// the same replies.
+fn assert_replayed(rt: &impl Abort, alloc: Global, entries: &[Entry], lines: u32) {
+    assert_lines(rt, entries, 0, lines);
+    assert_lines(rt, entries, 1, lines);
+    assert_eq!(rt;
+        entries.len(),
+        (lines as usize).wrapping_mul(2).wrapping_add(1)
+    );
+    let pool = replayed(rt, four(rt, alloc), entries);
+    assert_census(rt, &pool, (4, 0, 0));
+}
+
 // Two workers of 500 rounds each, while a monitor on a thread of its own reads what they leave, until they have ended. A
-// closure owns only what may be dropped, so the workers' desks are lent to it. The trace has their lines and the monitor's one
-// call, and done again by a pool like this one its calls have the same replies.
+// closure owns only what may be dropped, so the workers' desks are lent to it.
 fn watched<N: Name + Send + Sync, R: Threads + Wait + Abort + Sync>(
     rt: &R,
     alloc: Global,
@@ -305,24 +325,20 @@ fn watched<N: Name + Send + Sync, R: Threads + Wait + Abort + Sync>(
     assert!(rt; in_time);
     assert_eq!(rt; gate.missed.load(Ordering::SeqCst), 0);
     let trace = after_work(rt, shared, monitor, outcome, 500);
-    let entries = trace.items();
-    assert_eq!(rt; entries.len(), 2001);
-    assert_lines(rt, entries, 0, 1000);
-    assert_lines(rt, entries, 1, 1000);
-    let pool = replayed(rt, four(rt, alloc), entries);
-    assert_census(rt, &pool, (4, 0, 0));
+    assert_replayed(rt, alloc, trace.items(), 1000);
 }
 
 // Looks until the workers have ended, and tells whether they did in time. Each time four blocks are counted, at a stamp that is none
-// before the last. Two stamps are seen, at the first look that finds one above the first.
+// before the last. The workers don't end before so many looks, of which one finds another stamp than the first.
 fn monitored<N: Name>(
     rt: &impl Abort,
     shared: &Shared<N>,
     desk: &mut Desk<N>,
     gate: &Watch,
 ) -> bool {
-    let first = desk.seen();
-    for _ in 0..TURNS {
+    let (first, _) = shared.census_now(desk);
+    gate.show(LOOKED);
+    for look in 0..TURNS {
         let seen = desk.seen();
         let (stamp, census) = shared.census_now(desk);
         assert!(rt; seen <= stamp);
@@ -330,8 +346,8 @@ fn monitored<N: Name>(
             u64::from(census.free) + u64::from(census.queued) + u64::from(census.held),
             4
         );
-        if first < stamp {
-            gate.show();
+        if first < stamp && LOOKS <= look {
+            gate.show(ENOUGH);
         }
         if gate.is_over() {
             return true;
@@ -341,9 +357,10 @@ fn monitored<N: Name>(
 }
 
 #[test]
-fn one_worker_of_many_lines(rt: HostRuntime) -> Result<(), Fail> {
+fn one_worker_of_many_lines(rt: HostRuntime) {
     let one = small(&rt, rt.alloc(), 2, Trace::Off);
-    work::<Brand, _, _>(&rt, rt.alloc(), one, &OpenGate, 1500)
+    let trace = work::<Brand, _, _>(&rt, rt.alloc(), one, &OpenGate, 1500);
+    assert!(rt; trace.items().is_empty());
 }
 
 #[test]
