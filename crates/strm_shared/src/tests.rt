@@ -308,7 +308,7 @@ fn assert_bad(rt: &impl Abort, alloc: Global, setup: Setup, bad: bool) {
 
 #[test]
 fn setups_out_of_bounds(rt: HostRuntime) {
-    assert_eq!(rt; (MOST_STAMP, MOST_TRACE), (1_099_511_627_775, 1_048_576));
+    assert_eq!(rt; (MOST_STAMP, MOST_TRACE), (68_719_476_735, 1_048_576));
     let rows = [
         (setup(0, Trace::Off, 0), true),
         (setup(1, Trace::Off, 0), false),
@@ -316,6 +316,7 @@ fn setups_out_of_bounds(rt: HostRuntime) {
         (setup(17, Trace::Off, 0), true),
         (setup(255, Trace::Off, MOST_STAMP), true),
         (setup(1, Trace::Off, MOST_STAMP + 1), true),
+        (setup(1, Trace::Off, 1_099_511_627_774), true),
         (setup(1, Trace::Keep(0), 0), true),
         (setup(1, Trace::Keep(1), 0), false),
         (setup(16, Trace::Keep(MOST_TRACE), MOST_STAMP), false),
