@@ -14,6 +14,7 @@ use arrayvec::ArrayVec;
 use std::alloc::Global;
 use std::process::Abort;
 use std::sync::Wait;
+use strm_mblk::MOST_MESSAGE_BLOCKS;
 use strm_pool::{
     Call, Census, ClassSpec, ClassSpecs, Config, Flush, NewFault, Pool, QueueSpec, QueueSpecs,
     Refusal, Reg, Regs, Reply,
@@ -291,6 +292,27 @@ fn one_word<N: Name, R: Wait + Abort>(rt: &R, start: Start)
     assert_now(rt, &shared, &mut one, 3, (6, 1, 1));
     let pool = emptied(rt, shared.gather(listed(zero, one)), 3);
     assert_census(rt, &pool, (7, 1, 0));
+}
+
+#[test]
+fn the_largest_pool(rt: HostRuntime) {
+    let pool = opened(&rt, rt.alloc(), 7, MOST_MESSAGE_BLOCKS, &[(16, 1)]);
+    let start = start_of(&rt, rt.alloc(), pool, setup(1, Trace::Off, 0));
+    largest::<Brand, _>(&rt, start);
+}
+
+// The word tells of each of its message blocks.
+fn largest<N: Name, R: Wait + Abort>(rt: &R, start: Start)
+    requires { IsNameOf N.Name start }
+{
+    let call = Call::Allocb(reg(rt, b'a'), 1);
+    let (shared, mut desks) = start.open::<N>();
+    assert!(rt; desks.len() == 1);
+    assert_now(rt, &shared, desks.desk_mut(0), 0, (16_383, 0, 0));
+    assert_served(rt, &shared, desks.desk_mut(0), &call, &Reply::Done);
+    assert_now(rt, &shared, desks.desk_mut(0), 1, (16_382, 0, 1));
+    let pool = emptied(rt, shared.gather(desks), 1);
+    assert_census(rt, &pool, (16_383, 0, 0));
 }
 
 // Whether a pool can't be shared so. It comes back as it was then.
