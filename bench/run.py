@@ -17,8 +17,8 @@ from limits import DATA_BLOCK_BYTES, DATA_BLOCKS, MESSAGE_BLOCKS, SCRIPT_BYTES, 
 from script import RANKED, WORDS, drawn
 
 SIZES = (1_000, 10_000, 100_000, 1_000_000)
-POOLS = (16, 255, MESSAGE_BLOCKS)
-QUEUED = (16, 255, 4_000)
+POOLS = (16, 255, 4_095, MESSAGE_BLOCKS)
+QUEUED = (16, 255, 4_000, 12_000)
 DOCS = os.path.join(os.path.dirname(os.path.abspath(__file__)), "..", "docs")
 BEGIN, END = "<!-- bench: begin -->\n", "<!-- bench: end -->\n"
 # Runs a program, and then tells its peak memory in KiB. Without the shell between, that would be Python's at least.

@@ -8,8 +8,8 @@ from limits import COMMAND_LINES, DATA_BLOCK_BYTES, DATA_BLOCKS, MESSAGE_BLOCKS,
 
 REGISTERS = "abcdefghijklmnopqrstuvwxyz"
 QUEUES = "0123"
-HEADER = [f"pool 1 {MESSAGE_BLOCKS}", "class 16 2000", "class 64 1500", "class 256 500"]
-HEADER += [f"class {DATA_BLOCK_BYTES} {DATA_BLOCKS - 4000}"]
+HEADER = [f"pool 1 {MESSAGE_BLOCKS}", f"class 16 {DATA_BLOCKS - 2095}", "class 64 1500", "class 256 500"]
+HEADER += [f"class {DATA_BLOCK_BYTES} 95"]
 HEADER += ["queue 16 4 s 1", "queue 16 4 n 2", "queue 16 4 s 3", "queue 16 4 s -", f"bufcalls {WISHES} 1"]
 
 # Items that are counted: the names that may stand there, and of how many blocks, or messages, at least and at most.

@@ -1,6 +1,7 @@
 """Whether strm serves a script: which lines may stand in one, in which order, and which pool they may ask for."""
 import re
 
+from limits import DATA_BLOCK_BYTES, DATA_BLOCKS, MESSAGE_BLOCKS, WISHES
 from mixed import WORDS
 from model import HIGH_PRIORITY, ORDINARY
 
@@ -66,15 +67,15 @@ def is_bad_next(pool):
 
 # The faults of a configuration, in the order in which strm looks for them.
 CONFIG_FAULTS = {
-    "Mblks": lambda pool: not 1 <= pool.mblks <= 4095,
+    "Mblks": lambda pool: not 1 <= pool.mblks <= MESSAGE_BLOCKS,
     "ClassSize": lambda pool: not all(
-        below < size <= 4096 for below, (size, _) in zip([0, *(size for size, _ in pool.classes)], pool.classes)
+        below < size <= DATA_BLOCK_BYTES for below, (size, _) in zip([0, *(size for size, _ in pool.classes)], pool.classes)
     ),
     "ClassTotal": lambda pool: min(count for _, count in pool.classes) == 0
-    or sum(count for _, count in pool.classes) > 4095,
+    or sum(count for _, count in pool.classes) > DATA_BLOCKS,
     "Marks": lambda pool: any(low >= high for high, low, *_ in pool.queues),
     "Next": is_bad_next,
-    "Bufcalls": lambda pool: pool.bufcalls > 64,
+    "Bufcalls": lambda pool: pool.bufcalls > WISHES,
     "FirstId": lambda pool: pool.first_id == 0,
 }
 

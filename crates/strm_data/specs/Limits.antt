@@ -11,7 +11,7 @@ most_data_block_bytes = 4096
 
 -- the data blocks of all classes
 abbrev pub most_data_blocks : ℕ
-most_data_blocks = 4095
+most_data_blocks = 16383
 
 -- the message blocks that name one data block
 abbrev pub most_data_block_names : ℕ

@@ -7,7 +7,7 @@ pub const MOST_CLASSES: usize = 8;
 pub const MOST_DATA_BLOCK_BYTES: u32 = 4096;
 
 /// The most data blocks, those of all classes together.
-pub const MOST_DATA_BLOCKS: u32 = 4095;
+pub const MOST_DATA_BLOCKS: u32 = 16_383;
 
 /// The most message blocks that name one data block.
 pub const MOST_DATA_BLOCK_NAMES: u8 = 255;

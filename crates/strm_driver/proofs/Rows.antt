@@ -181,7 +181,7 @@ hex = refl
 pub missing : run (codes "") ≡ faulty 1 Missing
 missing = refl
 
-pub bad-config : run (codes "pool 1 4096\nclass 16 4\nqueue 10 4 s -\nbufcalls 2 1\nworker\n") ≡ Err (Config Mblks)
+pub bad-config : run (codes "pool 1 16384\nclass 16 4\nqueue 10 4 s -\nbufcalls 2 1\nworker\n") ≡ Err (Config Mblks)
 bad-config = refl
 
 pub too-long : run_within 10 H ≡ Err TooLong

@@ -3,4 +3,4 @@ use Rattle.std.specs.Prelude.{ℕ}
 
 -- the message blocks: free, held and shelved
 abbrev pub most_message_blocks : ℕ
-most_message_blocks = 4095
+most_message_blocks = 16383

@@ -149,6 +149,17 @@ fn duplicated(rt: &impl Abort, queues: &Queues, blocks: &mut Blocks, token: &Tok
     }
 }
 
+// Puts a message behind another.
+#[tactic(auto, using(crate::proofs::agreeing::Agreeing::agrees_left))]
+fn linked(queues: &Queues, blocks: &mut Blocks, message: &mut Token, tail: Token)
+    requires agrees { Agrees queues.now blocks.old }
+    requires head { IsTrue (has blocks.old message.old) }
+    requires tail { IsTrue (has blocks.old tail) }
+    ensures { Agrees queues.now blocks.new }
+{
+    blocks.linkb(message, tail);
+}
+
 // Frees a message.
 fn free(queues: &Queues, blocks: &mut Blocks, token: Token)
     requires { Agrees queues.now blocks.old }

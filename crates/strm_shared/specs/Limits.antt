@@ -7,7 +7,7 @@ most_workers = 16
 
 -- the stamp at which no call is served any more
 abbrev pub most_stamp : ℕ
-most_stamp = 1099511627775
+most_stamp = 68719476735
 
 -- the entries of a trace
 abbrev pub most_trace : ℕ

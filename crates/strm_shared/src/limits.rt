@@ -4,7 +4,7 @@
 pub const MOST_WORKERS: usize = 16;
 
 /// The stamp at which a shared pool is worn: no call is served any more.
-pub const MOST_STAMP: u64 = 1_099_511_627_775;
+pub const MOST_STAMP: u64 = 68_719_476_735;
 
 /// The most entries of a trace.
 pub const MOST_TRACE: u32 = 1_048_576;

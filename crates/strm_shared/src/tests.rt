@@ -14,6 +14,7 @@ use arrayvec::ArrayVec;
 use std::alloc::Global;
 use std::process::Abort;
 use std::sync::Wait;
+use strm_mblk::MOST_MESSAGE_BLOCKS;
 use strm_pool::{
     Call, Census, ClassSpec, ClassSpecs, Config, Flush, NewFault, Pool, QueueSpec, QueueSpecs,
     Refusal, Reg, Regs, Reply,
@@ -293,6 +294,27 @@ fn one_word<N: Name, R: Wait + Abort>(rt: &R, start: Start)
     assert_census(rt, &pool, (7, 1, 0));
 }
 
+#[test]
+fn the_largest_pool(rt: HostRuntime) {
+    let pool = opened(&rt, rt.alloc(), 7, MOST_MESSAGE_BLOCKS, &[(16, 1)]);
+    let start = start_of(&rt, rt.alloc(), pool, setup(1, Trace::Off, 0));
+    largest::<Brand, _>(&rt, start);
+}
+
+// The word tells of each of its message blocks.
+fn largest<N: Name, R: Wait + Abort>(rt: &R, start: Start)
+    requires { IsNameOf N.Name start }
+{
+    let call = Call::Allocb(reg(rt, b'a'), 1);
+    let (shared, mut desks) = start.open::<N>();
+    assert!(rt; desks.len() == 1);
+    assert_now(rt, &shared, desks.desk_mut(0), 0, (16_383, 0, 0));
+    assert_served(rt, &shared, desks.desk_mut(0), &call, &Reply::Done);
+    assert_now(rt, &shared, desks.desk_mut(0), 1, (16_382, 0, 1));
+    let pool = emptied(rt, shared.gather(desks), 1);
+    assert_census(rt, &pool, (16_383, 0, 0));
+}
+
 // Why a pool can't be shared so, if it can't. It comes back as it was then.
 fn fault_of(rt: &impl Abort, alloc: Global, setup: Setup) -> Option<NewFault> {
     let pool = eight(rt, alloc, 7);
@@ -308,7 +330,7 @@ fn fault_of(rt: &impl Abort, alloc: Global, setup: Setup) -> Option<NewFault> {
 
 #[test]
 fn setups_out_of_bounds(rt: HostRuntime) {
-    assert_eq!(rt; (MOST_STAMP, MOST_TRACE), (1_099_511_627_775, 1_048_576));
+    assert_eq!(rt; (MOST_STAMP, MOST_TRACE), (68_719_476_735, 1_048_576));
     let rows = [
         (setup(0, Trace::Off, 0), true),
         (setup(1, Trace::Off, 0), false),
@@ -316,6 +338,7 @@ fn setups_out_of_bounds(rt: HostRuntime) {
         (setup(17, Trace::Off, 0), true),
         (setup(255, Trace::Off, MOST_STAMP), true),
         (setup(1, Trace::Off, MOST_STAMP + 1), true),
+        (setup(1, Trace::Off, 1_099_511_627_774), true),
         (setup(1, Trace::Keep(0), 0), true),
         (setup(1, Trace::Keep(1), 0), false),
         (setup(16, Trace::Keep(MOST_TRACE), MOST_STAMP), false),

@@ -6,7 +6,7 @@ use crate::{
 fn limits_have_their_numbers(rt: HostRuntime) {
     assert_eq!(rt; MOST_CLASSES, 8);
     assert_eq!(rt; MOST_DATA_BLOCK_BYTES, 4096);
-    assert_eq!(rt; MOST_DATA_BLOCKS, 4095);
+    assert_eq!(rt; MOST_DATA_BLOCKS, 16_383);
     assert_eq!(rt; MOST_DATA_BLOCK_NAMES, 255);
 }
 

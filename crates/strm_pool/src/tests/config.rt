@@ -19,11 +19,11 @@ type Row<'a> = (
 // Message blocks, classes, queues, wishes, first id, and the fault.
 const ROWS: [Row<'static>; 16] = [
     (1, &[(1, 1)], &[(1, 0, None)], 0, 1, None),
-    (4095, &[(4096, 4095)], &QUEUES, 64, u32::MAX, None),
+    (16_383, &[(4096, 16_383)], &QUEUES, 64, u32::MAX, None),
     (4, &CLASSES, &[(u32::MAX, 0, None)], 64, 1, None),
     // Each fault, with all that come later.
     (0, &[], &[], 65, 0, Some(Which::Mblks)),
-    (4096, &[], &[], 65, 0, Some(Which::Mblks)),
+    (16_384, &[], &[], 65, 0, Some(Which::Mblks)),
     (4, &[], &[], 65, 0, Some(Which::Classes)),
     (4, &[(0, 0)], &[], 65, 0, Some(Which::ClassSize)),
     (4, &[(1, 0)], &[], 65, 0, Some(Which::ClassTotal)),
@@ -44,10 +44,10 @@ const CLASS_ROWS: [Row<'static>; 8] = [
     (4, &[(4, 0), (3, 1)], &QUEUES, 0, 1, Some(Which::ClassSize)),
     (4, &[(4, 0), (0, 0)], &QUEUES, 0, 1, Some(Which::ClassSize)),
     (4, &[(4, 1), (8, 0)], &QUEUES, 0, 1, Some(Which::ClassTotal)),
-    (4, &[(4, 4096)], &QUEUES, 0, 1, Some(Which::ClassTotal)),
+    (4, &[(4, 16_384)], &QUEUES, 0, 1, Some(Which::ClassTotal)),
     (
         4,
-        &[(4, 4000), (8, 96)],
+        &[(4, 16_000), (8, 384)],
         &QUEUES,
         0,
         1,

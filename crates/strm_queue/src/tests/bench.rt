@@ -7,7 +7,7 @@ ghost use Rattle.strm_mblk.specs.Limits.{most_message_blocks};
 ghost use Rattle.strm_queue.specs.QueuedBlocks.{Agrees};
 
 use super::plain::{Entry, Plain};
-use super::{Draft, drafted, duplicated, free, opened};
+use super::{Draft, drafted, duplicated, free, linked, opened};
 use crate::limits::HIGH_RANK;
 use crate::{QueueSpec, Queues};
 use std::alloc::Global;
@@ -63,6 +63,16 @@ impl Bench {
     {
         assert!(rt; self.blocks.has(token));
         duplicated(rt, &self.queues, &mut self.blocks, token)
+    }
+
+    // Puts a message behind another.
+    pub(super) fn linkb(&mut self, rt: &impl Abort, message: &mut Token, tail: Token)
+        requires { Agrees self.old.queues self.old.blocks }
+        ensures { Agrees self.new.queues self.new.blocks }
+    {
+        assert!(rt; self.blocks.has(message));
+        assert!(rt; self.blocks.has(&tail));
+        linked(&self.queues, &mut self.blocks, message, tail);
     }
 
     // Frees a message.

@@ -313,6 +313,22 @@ impl Bench {
         self.assert_around(rt, 0);
     }
 
+    // The first messages of queue 0, so many, become one, which is held until it is put on another queue.
+    fn join_first(&mut self, rt: &impl Abort, to: u8, many: u32)
+        requires { Agrees self.old.queues self.old.blocks }
+        ensures { Agrees self.new.queues self.new.blocks }
+    {
+        let Some(mut message) = self.getq(rt, 0) else {
+            panic!(rt; "no message")
+        };
+        for _other in 1..many {
+            self.link_first(rt, 0, &mut message);
+        }
+        assert!(rt; self.census().held == many);
+        let back = self.putq(rt, to, message);
+        self.assert_put(rt, back);
+    }
+
     // Takes all messages off a queue, first to last, and frees them.
     fn empty(&mut self, rt: &impl Abort, queue: u8, many: u32)
         requires { Agrees self.old.queues self.old.blocks }
@@ -391,9 +407,17 @@ fn all_ranks(rt: HostRuntime) {
     run(&rt, rt.alloc(), &SHORT, 300, None, 1000);
 }
 
+// All message blocks are in messages of one block on queue 0. Then half of them are in one message on queue 1, and a quarter in
+// one on queue 2.
 #[test]
 fn most_messages(rt: HostRuntime) {
-    run(&rt, rt.alloc(), &SHORT, MOST_MESSAGE_BLOCKS, None, 8);
+    let many = MOST_MESSAGE_BLOCKS;
+    let mut bench = Bench::opened(&rt, rt.alloc(), many, &CLASSES, &SHORT);
+    bench.fill(&rt, many, None);
+    bench.join_first(&rt, 1, many / 2);
+    bench.join_first(&rt, 2, many / 4);
+    bench.walk(&rt, 3, 8);
+    bench.end(&rt, 3, many);
 }
 
 #[test]

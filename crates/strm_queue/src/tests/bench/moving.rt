@@ -186,6 +186,17 @@ impl Bench {
         self.assert_put(rt, back);
     }
 
+    // Takes the first message off a queue, and puts it behind another.
+    pub(in crate::tests) fn link_first(&mut self, rt: &impl Abort, queue: u8, message: &mut Token)
+        requires { Agrees self.old.queues self.old.blocks }
+        ensures { Agrees self.new.queues self.new.blocks }
+    {
+        match self.getq(rt, queue) {
+            Some(tail) => self.linkb(rt, message, tail),
+            None => panic!(rt; "no message"),
+        }
+    }
+
     // Takes the first message off a queue, if there is one, and frees it.
     pub(in crate::tests) fn drop_first(&mut self, rt: &impl Abort, queue: u8)
         requires { Agrees self.old.queues self.old.blocks }

@@ -16,8 +16,8 @@ const MANY: u32 = MOST_MESSAGE_BLOCKS;
 
 // A band is full with about half of its messages, and has room again with about a tenth of them.
 const QUEUES: [QueueSpec; 1] = [QueueSpec {
-    hiwat: 400,
-    lowat: 80,
+    hiwat: MANY / 10,
+    lowat: MANY / 50,
     ..SERVES
 }];
 
@@ -168,7 +168,8 @@ impl Large {
         self.assert_counts(rt);
     }
 
-    // A call, and now and then one that asks for room. All bands are compared after each, and the messages are read.
+    // A call, and now and then one that asks for room. All bands are compared after each, and every so often the messages are
+    // read.
     fn step(&mut self, rt: &impl Abort, draw: &mut u32, turn: u32, full: bool)
         requires { Agrees self.old.queues self.old.blocks }
         ensures { Agrees self.new.queues self.new.blocks }
@@ -178,7 +179,9 @@ impl Large {
         if turn % 8 == 0 {
             self.ask_some(rt, draw);
         }
-        self.assert_counted(rt);
+        if turn % 32 == 0 {
+            self.assert_counted(rt);
+        }
     }
 
     // The queue is filled, and emptied again.
