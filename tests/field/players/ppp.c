@@ -14,6 +14,7 @@
 #include <net/pppio.h>
 
 static int links_left = 4;
+static int is_compressing;
 
 /* Messages that the network layer keeps until they are acknowledged. */
 #define KEPT 3
@@ -233,11 +234,15 @@ static void set_mode(void)
     ioctl_pair(&control_head, PPPIO_NPMODE, PPP_IP, once_in(3) ? below(4) : NPMODE_PASS);
 }
 
-/* Has both directions take memory for compression, and agrees on it as a peer would: the driver sees its own word come back. */
+/* Has both directions take memory for compression, and agrees on it as a peer would: the driver sees its own word come back. Once in a
+ * script: bsd-comp.c would go on with memory that was taken anew and not made ready. */
 static void begin_compression(void)
 {
     static const u_char option[] = {CI_BSD_COMPRESS, CILEN_BSD_COMPRESS, BSD_MAKE_OPT(BSD_CURRENT_VERSION, 12)};
     u_char agreed[] = {PPP_ALLSTATIONS, PPP_UI, PPP_CCP >> 8, PPP_CCP & 255, CCP_CONFACK, 1, 0, CCP_HDRLEN + sizeof option, 0, 0, 0};
+    if (is_compressing)
+        return;
+    is_compressing = 1;
     memcpy(agreed + sizeof agreed - sizeof option, option, sizeof option);
     ioctl(&control_head, PPPIO_XCOMP, option, sizeof option);
     ioctl(&control_head, PPPIO_RCOMP, option, sizeof option);
