@@ -96,7 +96,8 @@ def line_costs(meter):
 def numbers(blocks):
     """The numbers that measured lines may name, over a pool of so many message blocks."""
     half = (blocks - 4) // 2
-    return {"blocks": half, "last": half - 1, "bytes": 2 * half, "end": 2 * half - 1, "middle": half}
+    pulled = min(2 * half, DATA_BLOCK_BYTES)
+    return {"blocks": half, "last": half - 1, "bytes": 2 * half, "end": 2 * half - 1, "middle": half, "pulled": pulled}
 
 
 def ranks():
@@ -187,7 +188,7 @@ def call_table(sizes, costs):
     """The cost of each round of lines for each size, in markdown."""
     shown = {name: name.upper() for name in ("round", "kind", "band", *numbers(16))}
     shown["emptied"] = "(flushband 0 BAND all); "
-    yield from (f"| Word | Lines | {' | '.join(f'{size:,}' for size in sizes)} |", "|---|---|---|---|---|")
+    yield from (f"| Word | Lines | {' | '.join(f'{size:,}' for size in sizes)} |", "|---" * (2 + len(sizes)) + "|")
     for words, lines, each in costs:
         code = ", ".join(f"`{line}`" for line in lines.format(**shown).split("; "))
         named = ", ".join(f"`{word}`" for word in words)

@@ -62,7 +62,7 @@ WORDS = {
     "unlinkb": Word("chain to", 2, "unlinkb a b; linkb a b", after=lambda x, y: (1, x - 1)),
     "rmvb": Word("chain 1 to", 2, "linkb a c; rmvb a {blocks} c", after=lambda x, y: (x - 1, 1)),
     "adjmsg": Word("from count", 3, "(dupmsg a b); adjmsg b {bytes}; (freemsg b)"),
-    "pullupmsg": Word("from -1", 2, "dupmsg a b; pullupmsg b -1; freemsg b", after=lambda x: (1,)),
+    "pullupmsg": Word("from -1", 2, "dupmsg a b; pullupmsg b {pulled}; freemsg b", after=lambda x: (1,)),
     "msgdsize": Word("from", 1, "msgdsize a"),
     "size": Word("from", 1, "size a"),
     "read": Word("from at", 3, "read a {end}"),

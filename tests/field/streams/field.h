@@ -4,7 +4,7 @@
 #include "streams.h"
 
 /* The limits of strm. */
-#define MOST_BLOCKS 4095
+#define MOST_BLOCKS 16383
 #define MOST_CLASSES 8
 #define MOST_QUEUES 16
 #define MOST_NAMES 255
