@@ -78,7 +78,7 @@ vendor:
 # Only a proved program is built. `rt run` keeps its work, and runs the program once.
 $(BUILT): $(SOURCES)
 	$(NEEDS_RT)
-	@echo "proving and building strm: some 45 minutes of processor time at first, and seconds to minutes after a change; what is said of it goes to $(LOG)" >&2
+	@echo "proving and building strm: some 30 minutes of processor time at first, and seconds to minutes after a change; what is said of it goes to $(LOG)" >&2
 	@mkdir -p $(dir $(LOG))
 	@cd crates/strm_driver && rt run -- --help </dev/null 2>&1 | tee $(CURDIR)/$(LOG) | awk '/^crate /{ name = $$2 } /^logic=proved/{ print name, "proved"; fflush() }' >&2 || { echo "not proved, for the reason in $(LOG)" >&2; exit 1; }
 	@touch $(BUILT)
