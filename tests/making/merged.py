@@ -41,9 +41,9 @@ def drawn_script(dice, workers, lines):
     return "".join(f"{line}\n" for line, _ in numbered(model.pool.header(), sections))
 
 
-def serve(program, script):
-    """How the program ends on a script that workers serve, and what it writes."""
-    command = ["timeout", str(SECONDS), program, "--max", str(BYTES)]
+def serve(program, script, *words):
+    """How the program ends on a script, which workers serve where no word says otherwise, and what it writes."""
+    command = ["timeout", str(SECONDS), program, *words, "--max", str(BYTES)]
     return subprocess.run(command, input=script.encode(), capture_output=True)
 
 

@@ -2,8 +2,8 @@ mod Constants
 mod Rows
 mod Lists
 mod bands
-mod shelf
-mod order
+pub mod shelf
+pub mod order
 mod counting
 mod layout
 pub mod agreeing

@@ -19,6 +19,3 @@ pub use marks::Marks;
 pub use queue_info::QueueInfo;
 pub use queue_spec::QueueSpec;
 pub use queues::Queues;
-
-#[cfg(test)]
-mod tests;

@@ -239,6 +239,3 @@ pub fn report_text(text: &mut Vec<u8>, pool: &Pool) -> Result<(), AllocError>
     );
     append_whole(text, report)
 }
-
-#[cfg(test)]
-mod tests;

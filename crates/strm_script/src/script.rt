@@ -51,6 +51,3 @@ pub fn parse(alloc: Global, bytes: &[u8]) -> Result<Script, ParseFault>
         }
     }
 }
-
-#[cfg(test)]
-mod tests;

@@ -129,6 +129,3 @@ pub fn reply_text(
 {
     append_whole(text, (Label { worker, line }, reply))
 }
-
-#[cfg(test)]
-mod tests;

@@ -39,6 +39,3 @@ pub use setup::{Setup, Trace};
 pub use shared::{Gathered, Shared};
 pub use start::Start;
 pub use workers::run_workers;
-
-#[cfg(test)]
-mod tests;

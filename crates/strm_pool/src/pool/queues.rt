@@ -154,6 +154,9 @@ impl Pool {
     /// has at least `hiwat` bytes. The queue settles: each wanted band, this one or another, with at most its low water mark
     /// loses its wanted mark, and where one did, the nearest queue behind with a service procedure is enabled.
     ///
+    /// STREAMS' `strqset` sets one of many fields; of these there are the two water marks here. That both are set at once, that
+    /// `lowat` must be below `hiwat`, that the band is full or not at once, and that the queue settles, is this project's own choice.
+    ///
     /// Refused as `NoSuchQueue` where there is no such queue, then as `BadMarks` where `lowat` is not below `hiwat`; nothing
     /// changes then.
     pub fn strqset(&mut self, queue: u8, band: u8, hiwat: u32, lowat: u32) -> Result<(), Refusal>
@@ -165,7 +168,8 @@ impl Pool {
     }
 
     /// The water marks of one band of a queue: those that the queue was made with, or that `strqset` gave last. Nothing
-    /// changes.
+    /// changes. STREAMS' `strqget` tells one of many fields; that both water marks are told at once, and no other field, is this
+    /// project's own choice.
     ///
     /// Refused as `NoSuchQueue` where there is no such queue.
     pub fn strqget(&self, queue: u8, band: u8) -> Result<Marks, Refusal>

@@ -19,6 +19,9 @@ impl Queues {
     /// as many bytes as its low water mark loses its wanted mark, and the nearest queue behind with a service procedure is
     /// enabled. Takes a step for each wanted band of the queue.
     ///
+    /// STREAMS' `strqset` sets one of many fields; of these there are the two water marks here. That both are set at once, that
+    /// `lowat` must be below `hiwat`, that the band is full or not at once, and that the queue is settled, is this project's own choice.
+    ///
     /// Refused as `NoSuchQueue` where there is no such queue, then as `BadMarks` where `lowat` is not below `hiwat`; nothing
     /// changes then.
     pub fn strqset(
@@ -47,7 +50,8 @@ impl Queues {
     }
 
     /// The water marks of one band of a queue: those that the queue was made with, or that `strqset` gave last. Takes
-    /// constant time. Nothing changes.
+    /// constant time. Nothing changes. STREAMS' `strqget` tells one of many fields; that both water marks are told at once, and no
+    /// other field, is this project's own choice.
     ///
     /// Refused as `NoSuchQueue` where there is no such queue.
     pub fn strqget(&self, queue: u8, band: u8) -> Result<Marks, Refusal>

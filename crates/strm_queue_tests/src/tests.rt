@@ -1,0 +1,205 @@
+ghost use Rattle.std.specs.Prelude.{◌≡◌, ◌≤◌, IsTrue};
+ghost use Rattle.strm_data.specs.Classes.{are_lawful};
+ghost use Rattle.strm_mblk.specs.Arena.{has};
+ghost use Rattle.strm_mblk.specs.Limits.{most_message_blocks};
+ghost use Rattle.strm_queue.specs.QueueSpecs as queue_specs;
+ghost use Rattle.strm_queue.specs.QueuedBlocks.{Agrees};
+
+use std::alloc::Global;
+use std::process::Abort;
+use strm_data::{ClassSpec, MsgType, Refusal};
+use strm_mblk::{Blocks, Rejected, Token};
+use strm_queue::{BANDS, QueueSpec, Queues};
+
+mod bench;
+mod plain;
+mod reading;
+mod rows;
+mod runs;
+
+// The rank of high priority messages: each band is a rank, and this one is above them.
+const HIGH_RANK: u16 = BANDS as u16;
+
+// The ranks of messages, numbered from 0.
+const RANKS: usize = HIGH_RANK as usize + 1;
+
+// A queue with a service procedure, and no next one.
+const QUEUE: QueueSpec = QueueSpec {
+    hiwat: 10,
+    lowat: 4,
+    service: true,
+    next: None,
+};
+
+// What a message of one block is made with.
+#[derive(Clone, Copy)]
+struct Draft {
+    kind: MsgType,
+    band: u8,
+    size: u32,
+}
+
+// As many bytes as a message may get.
+const BYTES: [u8; 8] = [7; 8];
+
+// New queues, and so many message blocks with a shelf for each.
+fn opened(
+    rt: &impl Abort,
+    alloc: Global,
+    mblks: u32,
+    classes: &[ClassSpec],
+    queues: &[QueueSpec],
+) -> (Queues, Blocks)
+    requires few_blocks { mblks ≤ most_message_blocks }
+    requires classes { IsTrue (are_lawful classes.now) }
+    requires queues { IsTrue (queue_specs.are_lawful queues.now) }
+    ensures { Agrees result.0 result.1 }
+{
+    let shelves = queues.len() as u8;
+    let blocks = Blocks::new(alloc, 7, mblks, classes, shelves).expect(rt, "memory");
+    (Queues::new(alloc, queues).expect(rt, "memory"), blocks)
+}
+
+// A new message of one block.
+fn allocated(rt: &impl Abort, queues: &Queues, blocks: &mut Blocks) -> Token
+    requires { Agrees queues.now blocks.old }
+    ensures agrees { Agrees queues.now blocks.new }
+    ensures had { IsTrue (has blocks.new result) }
+{
+    match blocks.allocb(0) {
+        Ok(token) => token,
+        Err(why) => panic!(rt; "{why:?}"),
+    }
+}
+
+// Gives a message of one block another type.
+fn set_kind(rt: &impl Abort, queues: &Queues, blocks: &mut Blocks, token: &Token, kind: MsgType)
+    requires agrees { Agrees queues.now blocks.old }
+    requires had { IsTrue (has blocks.old token.now) }
+    ensures agrees { Agrees queues.now blocks.new }
+    ensures had { IsTrue (has blocks.new token.now) }
+{
+    assert_eq!(rt; blocks.settype(token, 0, kind), Ok(()));
+}
+
+// Gives a message a band.
+#[tactic(auto, using(strm_queue::proofs::agreeing::Agreeing::agrees_left))]
+fn set_band(queues: &Queues, blocks: &mut Blocks, token: &Token, band: u8)
+    requires agrees { Agrees queues.now blocks.old }
+    requires had { IsTrue (has blocks.old token.now) }
+    ensures agrees { Agrees queues.now blocks.new }
+    ensures had { IsTrue (has blocks.new token.now) }
+{
+    blocks.setband(token, band);
+}
+
+// Writes so many bytes to a message of one block.
+fn write(rt: &impl Abort, queues: &Queues, blocks: &mut Blocks, token: &Token, size: u32)
+    requires agrees { Agrees queues.now blocks.old }
+    requires had { IsTrue (has blocks.old token.now) }
+    ensures agrees { Agrees queues.now blocks.new }
+    ensures had { IsTrue (has blocks.new token.now) }
+{
+    assert!(rt; size <= 8);
+    assert_eq!(rt; blocks.write(token, 0, &BYTES[..size as usize]), Ok(()));
+}
+
+// A new message of one block, made so.
+fn drafted(rt: &impl Abort, queues: &Queues, blocks: &mut Blocks, how: Draft) -> Token
+    requires { Agrees queues.now blocks.old }
+    ensures agrees { Agrees queues.now blocks.new }
+    ensures had { IsTrue (has blocks.new result) }
+{
+    let token = allocated(rt, queues, blocks);
+    set_kind(rt, queues, blocks, &token, how.kind);
+    set_band(queues, blocks, &token, how.band);
+    write(rt, queues, blocks, &token, how.size);
+    token
+}
+
+// How a message of no bytes and this rank is made: of high priority for that rank, and then with band 9, else of this band.
+fn ranked(rank: u16) -> Draft {
+    match u8::try_from(rank) {
+        Ok(band) => Draft {
+            kind: MsgType::MData,
+            band,
+            size: 0,
+        },
+        Err(_) => Draft {
+            kind: MsgType::MPcproto,
+            band: 9,
+            size: 0,
+        },
+    }
+}
+
+// A new message of no bytes and this rank.
+fn message(rt: &impl Abort, queues: &Queues, blocks: &mut Blocks, rank: u16) -> Token
+    requires { Agrees queues.now blocks.old }
+    ensures agrees { Agrees queues.now blocks.new }
+    ensures had { IsTrue (has blocks.new result) }
+{
+    drafted(rt, queues, blocks, ranked(rank))
+}
+
+// A message that names the data of another.
+fn duplicated(rt: &impl Abort, queues: &Queues, blocks: &mut Blocks, token: &Token) -> Token
+    requires agrees { Agrees queues.now blocks.old }
+    requires had { IsTrue (has blocks.old token.now) }
+    ensures { Agrees queues.now blocks.new }
+{
+    match blocks.dupmsg(token) {
+        Ok(copy) => copy,
+        Err(why) => panic!(rt; "{why:?}"),
+    }
+}
+
+// Puts a message behind another.
+#[tactic(auto, using(strm_queue::proofs::agreeing::Agreeing::agrees_left))]
+fn linked(queues: &Queues, blocks: &mut Blocks, message: &mut Token, tail: Token)
+    requires agrees { Agrees queues.now blocks.old }
+    requires head { IsTrue (has blocks.old message.old) }
+    requires tail { IsTrue (has blocks.old tail) }
+    ensures { Agrees queues.now blocks.new }
+{
+    blocks.linkb(message, tail);
+}
+
+// Frees a message.
+fn free(queues: &Queues, blocks: &mut Blocks, token: Token)
+    requires { Agrees queues.now blocks.old }
+    ensures { Agrees queues.now blocks.new }
+{
+    blocks.freemsg(token);
+}
+
+// The rank of a message of one block.
+fn rank_of(rt: &impl Abort, blocks: &Blocks, token: &Token) -> u16 {
+    assert!(rt; blocks.has(token));
+    match blocks.block(token, 0) {
+        Ok(first) if first.kind.is_high_priority() => {
+            assert_eq!(rt; first.band, 0);
+            HIGH_RANK
+        }
+        Ok(first) => u16::from(first.band),
+        Err(why) => panic!(rt; "{why:?}"),
+    }
+}
+
+// The message was put.
+fn assert_put(rt: &impl Abort, blocks: &mut Blocks, answer: Result<(), Rejected>)
+    ensures { blocks.new ≡ blocks.old }
+{
+    if let Err(Rejected { why, token }) = answer {
+        blocks.freemsg(token);
+        panic!(rt; "{why:?}");
+    }
+}
+
+// The message that came back, and why.
+fn came_back(rt: &impl Abort, answer: Result<(), Rejected>) -> (Refusal, Token) {
+    match answer {
+        Ok(()) => panic!(rt; "the message was put"),
+        Err(Rejected { why, token }) => (why, token),
+    }
+}

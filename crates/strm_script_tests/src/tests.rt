@@ -1,0 +1,3 @@
+mod report;
+mod script;
+mod transcript;

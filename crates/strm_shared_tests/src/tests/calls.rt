@@ -1,0 +1,171 @@
+//! A line of each kind of call, served on one desk.
+ghost use Rattle.std.specs.Prelude.{◌≡◌};
+ghost use Rattle.strm_shared.specs.Starts.{IsNameOf};
+
+use super::traces::{kept, replayed};
+use super::{assert_census, assert_served, drained, eight, last, reg};
+use arrayvec::ArrayVec;
+use std::alloc::Global;
+use std::process::Abort;
+use std::sync::Wait;
+use strm_pool::{BlockInfo, Call, Census, Flush, MsgType, Octets, Reply};
+use strm_shared::{Brand, Desk, Name, Shared, Start};
+
+#[test]
+fn each_kind_of_call(rt: HostRuntime) {
+    each_kind::<Brand, _>(&rt, rt.alloc(), kept(&rt, rt.alloc(), 1, 100, 0));
+}
+
+// The calls of a part find what the part before left: the registers a, c, d, e behind the first two, and queue 1 with a
+// message, a and b behind the third. At the end nothing is held or queued. Done again by a pool like this one, the calls in the
+// trace have the same replies.
+fn each_kind<N: Name, R: Wait + Abort>(rt: &R, alloc: Global, start: Start)
+    requires { IsNameOf N.Name start }
+{
+    let (shared, mut desks) = start.open::<N>();
+    let mut desk = last(rt, &mut desks, 0);
+    making(rt, &shared, &mut desk);
+    altering(rt, &shared, &mut desk);
+    queueing(rt, &shared, &mut desk);
+    enabling(rt, &shared, &mut desk);
+    wishing(rt, &shared, &mut desk);
+    assert!(rt; desks.len() == 0);
+    let stamp = desk.seen();
+    desks.push(desk);
+    let (pool, trace) = drained(rt, shared.gather(desks), stamp);
+    assert_census(rt, &pool, (8, 0, 0));
+    assert_eq!(rt; trace.items().len() as u64, stamp);
+    let pool = replayed(rt, eight(rt, alloc, 7), trace.items());
+    assert_census(rt, &pool, (8, 0, 0));
+}
+
+// The calls are served on the desk, with these replies.
+fn assert_rows<N: Name>(
+    rt: &(impl Wait + Abort),
+    shared: &Shared<N>,
+    desk: &mut Desk<N>,
+    rows: &[(Call, Reply)],
+) {
+    for (call, reply) in rows {
+        assert_served(rt, shared, desk, call, reply);
+    }
+}
+
+// These bytes, at most 64.
+fn octets(rt: &impl Abort, bytes: &[u8]) -> Octets {
+    let mut list = ArrayVec::new();
+    assert!(rt; list.try_extend_from_slice(bytes).is_ok());
+    Octets::of(list)
+}
+
+// What there is to tell of a block whose data block it alone names.
+const fn block(kind: MsgType, len: u32, band: u8, room: u32) -> Reply {
+    Reply::Block(BlockInfo {
+        kind,
+        len,
+        band,
+        room,
+        names: 1,
+    })
+}
+
+// Messages are made, joined, parted and freed.
+fn making<N: Name, R: Wait + Abort>(rt: &R, shared: &Shared<N>, desk: &mut Desk<N>) {
+    let (a, b, c) = (reg(rt, b'a'), reg(rt, b'b'), reg(rt, b'c'));
+    let (d, e, f) = (reg(rt, b'd'), reg(rt, b'e'), reg(rt, b'f'));
+    let rows = [
+        (Call::Testb(65), Reply::No),
+        (Call::Allocb(a, 3), Reply::Done),
+        (Call::Write(a, 0, octets(rt, b"abc")), Reply::Done),
+        (Call::Dupb(a, b), Reply::Done),
+        (Call::Freeb(b), Reply::Done),
+        (Call::Dupmsg(a, c), Reply::Done),
+        (Call::Copyb(a, d), Reply::Done),
+        (Call::Linkb(a, d), Reply::Done),
+        (Call::Copymsg(a, d), Reply::Done),
+        (Call::Size(d), Reply::Size(6)),
+        (Call::Unlinkb(d, e), Reply::Done),
+        (Call::Rmvb(a, 0, f), Reply::Done),
+        (Call::Freemsg(f), Reply::Done),
+        (Call::Block(c, 0), block(MsgType::MData, 3, 0, 13)),
+    ];
+    assert_rows(rt, shared, desk, &rows);
+}
+
+// Type, band and bytes of a message change. Data blocks of 16 bytes are all taken by then.
+fn altering<N: Name, R: Wait + Abort>(rt: &R, shared: &Shared<N>, desk: &mut Desk<N>) {
+    let (a, c, d) = (reg(rt, b'a'), reg(rt, b'c'), reg(rt, b'd'));
+    let (free, queued, held) = (4, 0, 4);
+    let rows = [
+        (Call::Settype(c, 0, MsgType::MIocack), Reply::Done),
+        (Call::Setband(d, 2), Reply::Done),
+        (Call::Adjmsg(d, 1), Reply::Done),
+        (Call::Linkb(d, a), Reply::Done),
+        (Call::Pullupmsg(d, 4), Reply::Done),
+        (Call::Block(d, 0), block(MsgType::MData, 4, 2, 60)),
+        (Call::Msgdsize(d), Reply::Size(5)),
+        (Call::Read(d, 1), Reply::Bytes(octets(rt, b"cabc"))),
+        (Call::Census, Reply::Census(Census { free, queued, held })),
+    ];
+    assert_rows(rt, shared, desk, &rows);
+}
+
+// A message of high priority goes before one of band 2, with which the band is full, and that before one of band 0. Once it
+// is taken off, the queue behind is enabled.
+fn queueing<N: Name, R: Wait + Abort>(rt: &R, shared: &Shared<N>, desk: &mut Desk<N>) {
+    let (a, b, c) = (reg(rt, b'a'), reg(rt, b'b'), reg(rt, b'c'));
+    let (d, e) = (reg(rt, b'd'), reg(rt, b'e'));
+    let rows = [
+        (Call::Putq(1, d), Reply::Done),
+        (Call::Putq(1, c), Reply::Done),
+        (Call::Insq(1, 2, e), Reply::Done),
+        (Call::Qsize(1), Reply::Size(3)),
+        (Call::Bcanput(1, 2), Reply::No),
+        (Call::Strqset(1, 3, 9, 8), Reply::Done),
+        (Call::Strqget(1, 3), Reply::Marks(9, 8)),
+        (Call::Rmvq(1, 1, a), Reply::Done),
+        (Call::Size(a), Reply::Size(5)),
+        (Call::Service, Reply::Queue(1)),
+        (Call::Service, Reply::Queue(0)),
+        (Call::Getq(1, b), Reply::Done),
+        (Call::Block(b, 0), block(MsgType::MIocack, 3, 0, 13)),
+    ];
+    assert_rows(rt, shared, desk, &rows);
+}
+
+// A queue that is not to be enabled is not, and then it is. Two flushes spare the message of high priority.
+fn enabling<N: Name, R: Wait + Abort>(rt: &R, shared: &Shared<N>, desk: &mut Desk<N>) {
+    let (a, b) = (reg(rt, b'a'), reg(rt, b'b'));
+    let rows = [
+        (Call::Noenable(1), Reply::Done),
+        (Call::Putq(1, a), Reply::Done),
+        (Call::Service, Reply::Nothing),
+        (Call::Enableok(1), Reply::Done),
+        (Call::Rmvq(1, 0, a), Reply::Done),
+        (Call::Putq(1, a), Reply::Done),
+        (Call::Service, Reply::Queue(1)),
+        (Call::Putbq(1, b), Reply::Done),
+        (Call::Service, Reply::Queue(1)),
+        (Call::Qenable(0), Reply::Done),
+        (Call::Service, Reply::Queue(0)),
+        (Call::Flushband(1, 2, Flush::All), Reply::Done),
+        (Call::Qsize(1), Reply::Size(2)),
+        (Call::Flushq(1, Flush::Data), Reply::Done),
+        (Call::Getq(1, a), Reply::Done),
+        (Call::Getq(1, b), Reply::Nothing),
+        (Call::Freemsg(a), Reply::Done),
+    ];
+    assert_rows(rt, shared, desk, &rows);
+}
+
+// Of two wishes one is taken back, and the other can be served.
+fn wishing<N: Name, R: Wait + Abort>(rt: &R, shared: &Shared<N>, desk: &mut Desk<N>) {
+    let rows = [
+        (Call::Bufcall(64), Reply::Id(1)),
+        (Call::Bufcall(16), Reply::Id(2)),
+        (Call::Unbufcall(1), Reply::Done),
+        (Call::Ready, Reply::Ready(2, 16)),
+        (Call::Ready, Reply::Nothing),
+    ];
+    assert_rows(rt, shared, desk, &rows);
+}
