@@ -10,6 +10,8 @@ CRATE ?= strm_pool
 # The version, which the installed manual names.
 VERSION := $(shell cat VERSION)
 BUILT := crates/strm_driver/out/strm_driver
+# The program whose rounds of calls are counted.
+ROUNDS := crates/strm_bench/out/strm_bench
 SOURCES := crates.txt HANDLES $(shell find crates -path '*/out' -prune -o \( -name '*.rt' -o -name '*.antt' \) -print)
 # What `rt` said when it last proved and built the program.
 LOG := build/proving.log
@@ -17,7 +19,7 @@ LOG := build/proving.log
 # Ends with one line where there is no `rt`.
 NEEDS_RT = $(if $(shell command -v rt 2>/dev/null),,$(error Rattle's command rt is not on PATH, and README.md says which is wanted))
 
-.PHONY: run test soak field view-test pictures bench bench-census strm install install-pages vendor
+.PHONY: run test soak field view-test pictures bench bench-library bench-census strm install install-pages vendor
 
 # Runs the first run's script, once the program is proved.
 run: $(BUILT)
@@ -50,7 +52,12 @@ pictures:
 bench: $(BUILT)
 	@python3 bench/run.py $(OPTIONS) $(BUILT)
 
-# Prints what a look at the census without the lock costs, and a served call. OPTIONS are words of bench/census.py.
+# Prints what calls of the libraries cost, with tokens, with registers and at a shared pool. OPTIONS are words of bench/library.py, as
+# --write for docs/.
+bench-library: $(ROUNDS)
+	@python3 bench/library.py $(OPTIONS) $(ROUNDS)
+
+# Prints what a look at the census without the lock costs, beside workers too. OPTIONS are words of bench/census.py.
 bench-census: $(BUILT)
 	$(NEEDS_RT)
 	@python3 bench/census.py $(OPTIONS)
@@ -82,3 +89,9 @@ $(BUILT): $(SOURCES)
 	@mkdir -p $(dir $(LOG))
 	@cd crates/strm_driver && rt run -- --help </dev/null 2>&1 | tee $(CURDIR)/$(LOG) | awk '/^crate /{ name = $$2 } /^logic=proved/{ print name, "proved"; fflush() }' >&2 || { echo "not proved, for the reason in $(LOG)" >&2; exit 1; }
 	@touch $(BUILT)
+
+# It is proved over the libraries that the program strm has had proved and built.
+$(ROUNDS): $(BUILT) $(SOURCES)
+	$(NEEDS_RT)
+	@cd crates/strm_bench && rt run </dev/null >$(CURDIR)/build/proving_rounds.log 2>&1 || { echo "not proved, for the reason in build/proving_rounds.log" >&2; exit 1; }
+	@touch $(ROUNDS)

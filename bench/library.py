@@ -1,0 +1,217 @@
+#!/usr/bin/env python3
+"""Measures what calls of the libraries cost, by rounds of the program of crates/strm_bench, and prints tables. bench/README.md says how."""
+import argparse
+import os
+import shutil
+import sys
+from concurrent.futures import ThreadPoolExecutor
+from typing import NamedTuple
+
+from limits import MESSAGE_BLOCKS
+from programs import Running, collected, medians, rewrite
+
+POOLS = (255, 4_095, MESSAGE_BLOCKS)
+# The pool over which time is taken, and forms are compared.
+MIDDLE = 4_095
+# How long the rounds of a turn take, in instructions.
+TURN = 20_000_000
+
+
+class Row(NamedTuple):
+    """A row: what a round does, the instructions that a plain program takes for it or what it has to touch, how many calls it makes with
+    registers, if it has such a form, and the function whose instructions alone are told, if one's are."""
+
+    shown: str
+    beside: str
+    calls: int = 0
+    within: str = ""
+
+
+# The rows by their names. The plain program's instructions are those of the section on message blocks in docs/COST.md.
+ROWS = {
+    "allocb": Row("`allocb`, `freemsg`", "123", 2),
+    "dupb": Row("`allocb`, `dupb`, both freed", "234", 4),
+    "dupmsg": Row("`allocb`, `dupmsg`, both freed", "287", 4),
+    "write": Row("`allocb`, `write` of 64 bytes, `freemsg`", "198", 3),
+    "queued": Row("`allocb`, `write` of 64 bytes, `setband`, `putq`, `getq`, `freemsg`", "513"),
+    "copymsg_four": Row("`copymsg` of four blocks of 64 bytes, and the copy freed", "717", 2),
+    "dupmsg_four": Row("`dupmsg` of four blocks, and the duplicate freed", "395", 2),
+    "build": Row("a message of four blocks of 64 bytes built and freed", "853"),
+    "pullup": Row("`pullupmsg` of four blocks of 64 bytes into one", "509", within="pull_up"),
+    "unlinkb": Row("`unlinkb`, `linkb`, of four blocks", "83", 2),
+    "settype": Row("`settype`", "a block, its data block's names and type", 1),
+    "setband": Row("`setband`", "a block", 1),
+    "has": Row("`has`", "18"),
+    "size": Row("`size` of four blocks", "52", 1),
+    "read": Row("`read` of the 64 bytes of the last of four blocks", "147", 1),
+    "block": Row("`block` of the first of four blocks", "a block, its data block's type, class and names", 1),
+    "census": Row("`census`", "12", 1),
+    "testb": Row("`testb`", "the free blocks, and a class", 1),
+    "open": Row("a pool made and given up", "all that it has"),
+    "putq": Row("`getq`, `putq`, of the only message of a queue", "317", 2),
+    "putq_ranked": Row("so too, of the first of 1,000 messages of 17 ranks", "a message's links and size, and the count, bytes and ends of its rank, twice"),
+    "putq_full": Row("so too, of ten messages in a band that is full and wanted", "the same, and the band's marks"),
+    "putbq": Row("`getq`, `putbq`, of the only message", "as `putq`", 2),
+    "putbq_ranked": Row("so too, of the first of 1,000 messages of 17 ranks", "as `putq`"),
+    "rmvq": Row("`rmvq` in front, `putbq`", "as `putq`", 2),
+    "insq": Row("`rmvq` in front, `insq` in front", "as `putq`, and the rank of what stands there", 2),
+    "bcanput": Row("`bcanput` on the first of eight queues without service procedures", "eight queues, and a band's mark", 1),
+    "flushband": Row("`flushband` of 100 messages, of 4,000", "the links, size and data of each of the 100", within="flush_hundred"),
+    "strqset": Row("`strqset`", "a band's marks, bytes and wanted mark", 1),
+    "qsize": Row("`qsize`", "a queue's count", 1),
+    "qenable": Row("`qenable`, and the queue served", "the run list, twice", 2),
+    "bufcall": Row("`bufcall`, and the wish served", "the wishes, twice, and a class", 2),
+}
+# What a round tells where it is not 1, over so many message blocks.
+TOLD = {"open": lambda blocks: blocks, "census": lambda blocks: blocks, "size": lambda _: 256, "read": lambda _: 64, "block": lambda _: 64, "qsize": lambda _: 0}
+# A look at the census without the lock, by the form `serve`, and what a round of it is.
+LOOK = "look"
+# A served call from the first instruction of `serve` to its last, and the forms in which it is told.
+SERVED, SERVING = "serve_call", {"no trace": "serve", "a trace kept": "trace"}
+
+
+class Measure(NamedTuple):
+    """A row in a form over a pool of so many message blocks."""
+
+    form: str
+    row: str
+    blocks: int
+    within: str = ""
+
+    def line(self, times):
+        """The line that asks for so many rounds."""
+        return f"{self.form} {self.row} {self.blocks} {times}"
+
+    def calls(self):
+        """How many calls a round makes, where it tells how many were done."""
+        return 1 if self.form == "direct" else ROWS[self.row].calls
+
+    def check(self, times, answer):
+        """Ends where not each call was done, and so was not measured."""
+        if self.row == LOOK:
+            return
+        each = TOLD.get(self.row, lambda _: 1)(self.blocks) if self.form == "direct" else self.calls()
+        if answer != times * each:
+            sys.exit(f"{self.line(times)}: {answer}, not {times * each}")
+
+
+def rounds_counted(measure):
+    """How many rounds are counted: few where one has many calls."""
+    return 5 if measure.row in ("open", "flushband") else 100
+
+
+def instructions(program, measure):
+    """The instructions of a round, by how many more twice as many take."""
+    times = rounds_counted(measure)
+    within = f"*{measure.within}*" if measure.within else None
+
+    def counted(times):
+        count, [answer] = collected(program, [measure.line(times)], within)
+        measure.check(times, int(answer))
+        return count
+
+    return (counted(2 * times) - counted(times)) / times
+
+
+def all_instructions(program, measures):
+    """The instructions of a round of each, counted side by side: how many there are does not hang on what else runs."""
+    with ThreadPoolExecutor(os.cpu_count()) as pool:
+        return dict(zip(measures, pool.map(lambda measure: instructions(program, measure), measures)))
+
+
+def nanoseconds(program, measures, counts, turns):
+    """The nanoseconds of processor time of a round of each: medians of turns, less those of turns with no round."""
+    costs = {}
+    with Running(program) as running:
+        for measure in measures:
+            times = max(20, min(100_000, int(TURN / max(counts[measure], 1))))
+
+            def turn(times):
+                had, _, answer = running.turn(measure.line(times))
+                measure.check(times, answer)
+                return (had,)
+
+            [more] = medians([(turn(times)[0] - turn(0)[0],) for _ in range(turns)])
+            costs[measure] = more / times
+    return costs
+
+
+def wanted():
+    """All that is measured: rows on the pool, those with registers, a look, and a served call alone."""
+    direct = [Measure("direct", row, blocks, told.within) for row, told in ROWS.items() for blocks in POOLS]
+    registers = [Measure(form, row, MIDDLE) for row, told in ROWS.items() if told.calls for form in ("apply", "serve")]
+    looks = [Measure("serve", LOOK, blocks) for blocks in POOLS]
+    alone = [Measure(form, "allocb", MIDDLE, within) for form in SERVING.values() for within in ("", SERVED)]
+    return list(dict.fromkeys([*direct, *registers, *looks, *alone]))
+
+
+def rows_table(counts, times, before):
+    """Rows on the pool, in markdown."""
+    head = ["A round", "A plain program, or what it has to touch", *([f"before, {MIDDLE:,}"] if before else []), *(f"{blocks:,}" for blocks in POOLS), f"ns, {MIDDLE:,}"]
+    yield from (f"| {' | '.join(head)} |", "|---" * len(head) + "|")
+    every = [("direct", row, told.shown, told.beside, told.within) for row, told in ROWS.items()]
+    for form, row, shown, beside, within in [*every, ("serve", LOOK, "`census_now`", "18, of a function in C", "")]:
+        cells = [shown, beside]
+        middle = Measure(form, row, MIDDLE, within)
+        if before:
+            cells.append(f"{before[middle]:,.0f}")
+        cells += [f"{counts[Measure(form, row, blocks, within)]:,.0f}" for blocks in POOLS]
+        cells.append("" if within else f"{times[middle]:,.1f}")
+        yield f"| {' | '.join(cells)} |"
+
+
+def forms_table(counts, times, before):
+    """Rows with registers beside those with tokens, in markdown."""
+    head = ["A round", "calls", "with tokens", *(["`apply`, before"] if before else []), "`apply`", "more a call", *(["`serve`, before"] if before else []), "`serve`", "more a call", "ns of `serve`"]
+    yield from (f"| {' | '.join(head)} |", "|---" * len(head) + "|")
+    for row, told in ROWS.items():
+        if not told.calls:
+            continue
+        direct, apply, serve = (Measure(form, row, MIDDLE) for form in ("direct", "apply", "serve"))
+        cells = [told.shown, str(told.calls), f"{counts[direct]:,.0f}"]
+        for form, less in ((apply, direct), (serve, apply)):
+            cells += [f"{before[form]:,.0f}"] if before else []
+            cells += [f"{counts[form]:,.0f}", f"{(counts[form] - counts[less]) / told.calls:,.0f}"]
+        yield f"| {' | '.join([*cells, f'{times[serve]:,.1f}'])} |"
+
+
+def served_table(counts, times, before):
+    """A served call, in markdown."""
+    head = ["A served call", *(["before, within `serve`"] if before else []), "instructions within `serve`", "with the loop", "nanoseconds of the processor"]
+    yield from (f"| {' | '.join(head)} |", "|---" * len(head) + "|")
+    for name, form in SERVING.items():
+        whole, alone = Measure(form, "allocb", MIDDLE), Measure(form, "allocb", MIDDLE, SERVED)
+        cells = [name, *([f"{before[alone] / 2:,.1f}"] if before else []), f"{counts[alone] / 2:,.1f}", f"{counts[whole] / 2:,.1f}", f"{times[whole] / 2:,.1f}"]
+        yield f"| {' | '.join(cells)} |"
+
+
+def tables(counts, times, before):
+    """All tables, in markdown."""
+    yield from (f"Instructions of a round, at so many message blocks, and nanoseconds of the processor at {MIDDLE:,}:", "", *rows_table(counts, times, before))
+    yield from ("", f"Instructions of a round over {MIDDLE:,} message blocks, with tokens, with registers, and at a shared pool:", "", *forms_table(counts, times, before))
+    yield from ("", "One of the served calls `allocb b 64` and `freemsg b`, in turn:", "", *served_table(counts, times, before))
+
+
+def main():
+    """Measures, prints, and rewrites docs/ where that was asked for."""
+    words = argparse.ArgumentParser(description=__doc__)
+    words.add_argument("program", help="the path of strm_bench")
+    words.add_argument("--turns", type=int, default=21, help="turns for each median")
+    words.add_argument("--before", metavar="PROGRAM", help="tell the instructions of another build too")
+    words.add_argument("--write", action="store_true", help="put the tables into docs/")
+    given = words.parse_args()
+    if not shutil.which("valgrind"):
+        sys.exit("valgrind is not there")
+    measures = wanted()
+    counts = all_instructions(os.path.abspath(given.program), measures)
+    before = all_instructions(os.path.abspath(given.before), measures) if given.before else {}
+    timed = [measure for measure in measures if measure.blocks == MIDDLE and not measure.within]
+    times = nanoseconds(os.path.abspath(given.program), timed, counts, given.turns)
+    lines = list(tables(counts, times, before))
+    print("\n".join(lines))
+    if given.write:
+        rewrite("library", lines)
+
+
+if __name__ == "__main__":
+    main()

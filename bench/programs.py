@@ -1,0 +1,66 @@
+"""Runs the small programs that are measured, and puts tables into docs/. `library.py` and `census.py` use it."""
+import os
+import re
+import statistics
+import subprocess
+import sys
+import time
+
+PAGE = os.path.join(os.path.dirname(os.path.abspath(__file__)), "..", "docs", "COST.md")
+
+
+class Running:
+    """A program that answers each line, which says what it is to do and how often, by a line."""
+
+    def __init__(self, program):
+        self.child = subprocess.Popen([program], stdin=subprocess.PIPE, stdout=subprocess.PIPE, text=True, bufsize=1)
+
+    def __enter__(self):
+        return self
+
+    def __exit__(self, *_):
+        self.child.stdin.close()
+        self.child.wait()
+        self.child.stdout.close()
+
+    def say(self, line):
+        """Has it read a line that it does not answer."""
+        self.child.stdin.write(f"{line}\n")
+
+    def processor_time(self):
+        """The nanoseconds of processor time that the first thread has had."""
+        with open(f"/proc/{self.child.pid}/task/{self.child.pid}/schedstat") as told:
+            return int(told.read().split()[0])
+
+    def turn(self, line):
+        """The nanoseconds of processor time of the first thread, and those that went by, until it has answered the line; and the
+        number that its answer begins with."""
+        had, begun = self.processor_time(), time.perf_counter_ns()
+        self.say(line)
+        answer = self.child.stdout.readline()
+        if not answer:
+            sys.exit(f"{self.child.args[0]} ended")
+        return self.processor_time() - had, time.perf_counter_ns() - begun, int(answer.split()[0])
+
+
+def medians(turns):
+    """The medians of what turns give, each a tuple."""
+    return [statistics.median(column) for column in zip(*turns)]
+
+
+def collected(program, lines, within=None):
+    """The instructions of a program that reads these lines, all of them or those within a function, by valgrind; and what it
+    answered."""
+    words = ["valgrind", "--tool=callgrind", "--callgrind-out-file=/dev/null", *([f"--toggle-collect={within}"] if within else []), program]
+    ran = subprocess.run(words, input="".join(f"{line}\n" for line in lines), capture_output=True, text=True, check=True)
+    return int(re.search(r"Collected : (\d+)", ran.stderr)[1]), ran.stdout.split()
+
+
+def rewrite(name, lines):
+    """Puts tables between their two marks in docs/COST.md."""
+    begin, end = f"<!-- {name}: begin -->\n", f"<!-- {name}: end -->\n"
+    with open(PAGE) as text:
+        before, rest = text.read().split(begin)
+    written = "\n".join(lines)
+    with open(PAGE, "w") as text:
+        text.write(f"{before}{begin}\n{written}\n\n{end}{rest.split(end)[1]}")

@@ -1,0 +1,84 @@
+//! Rounds of calls on a message that stays.
+ghost use Rattle.std.specs.Prelude.{IsTrue};
+ghost use Rattle.strm_mblk.specs.Arena.{has};
+
+use crate::messages::four;
+use strm_pool::{MsgType, Pool, Token};
+
+/// A pool, and the token of a message of four blocks.
+pub(crate) struct Held {
+    pub(crate) pool: Pool,
+    pub(crate) token: Token,
+    pub ghost had: { IsTrue (has pool.arena token) },
+}
+
+impl Held {
+    /// Makes the message.
+    pub(crate) fn of(pool: Pool) -> Option<Held> {
+        let mut pool = pool;
+        let token = four(&mut pool)?;
+        Some(Held { pool, token })
+    }
+
+    /// Frees the message, and gives up the pool.
+    pub(crate) fn end(self) {
+        let Held { mut pool, token } = self;
+        pool.freemsg(token);
+    }
+
+    /// `copymsg`, and the copy freed.
+    pub(crate) fn copymsg(&mut self, times: u64) -> u64 {
+        let mut told = 0u64;
+        for _ in 0..times {
+            if let Ok(copy) = self.pool.copymsg(&self.token) {
+                self.pool.freemsg(copy);
+                told = told.wrapping_add(1);
+            }
+        }
+        told
+    }
+
+    /// `dupmsg`, and the duplicate freed.
+    pub(crate) fn dupmsg(&mut self, times: u64) -> u64 {
+        let mut told = 0u64;
+        for _ in 0..times {
+            if let Ok(copy) = self.pool.dupmsg(&self.token) {
+                self.pool.freemsg(copy);
+                told = told.wrapping_add(1);
+            }
+        }
+        told
+    }
+
+    /// `unlinkb`, `linkb`.
+    pub(crate) fn unlinkb(&mut self, times: u64) -> u64 {
+        let mut told = 0u64;
+        for _ in 0..times {
+            if let Some(rest) = self.pool.unlinkb(&mut self.token) {
+                self.pool.linkb(&mut self.token, rest);
+                told = told.wrapping_add(1);
+            }
+        }
+        told
+    }
+
+    /// `settype`.
+    pub(crate) fn settype(&mut self, times: u64) -> u64 {
+        let mut told = 0u64;
+        for _ in 0..times {
+            let answer = self.pool.settype(&self.token, 0, MsgType::MData);
+            told = told.wrapping_add(u64::from(answer.is_ok()));
+        }
+        told
+    }
+
+    /// `setband`.
+    pub(crate) fn setband(&mut self, times: u64) -> u64 {
+        let mut told = 0u64;
+        for _ in 0..times {
+            self.pool.setband(&self.token, 1);
+            told = told.wrapping_add(1);
+        }
+        told
+    }
+}

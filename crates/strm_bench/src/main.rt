@@ -1,0 +1,65 @@
+//! Rounds of calls of the libraries, so that what each costs can be counted. Each line of standard input names a form, a row, a number of
+//! message blocks and a number of rounds, as `direct allocb 4095 1000`; README.md has the forms and the rows. The rounds are done over a
+//! new pool of so many message blocks, and a line is written that sums up what the calls answered. A line that names none ends the program.
+#![tactic(auto)]
+
+mod applied;
+mod calls;
+mod config;
+mod direct;
+mod held;
+mod looks;
+mod messages;
+mod order;
+mod queues;
+mod row;
+mod served;
+
+use applied::applied_rounds;
+use config::{opened, start};
+use direct::direct_rounds;
+use order::Order;
+use row::Form;
+use served::served_rounds;
+use std::io;
+use std::sync::Wait;
+use strm_shared::{Brand, Trace};
+
+// What the next line of standard input asks for, if it asks for anything.
+fn next_order(rt: &(impl AllocGlobal + Input)) -> io::Result<Option<Order>> {
+    let mut line = String::new(rt.alloc());
+    rt.read_line(&mut line)?;
+    Ok(Order::of(line.as_str()))
+}
+
+// Shares a pool with one desk, and has the rounds served on it.
+fn share(rt: &(impl AllocGlobal + Wait), order: Order, trace: Trace) -> u64 {
+    match start(rt.alloc(), order.blocks, trace) {
+        Some(start) => served_rounds::<Brand>(rt, start, order.row, order.times),
+        None => 0,
+    }
+}
+
+// Does the rounds, and gives the sum.
+fn done(rt: &(impl AllocGlobal + Wait), order: Order) -> u64 {
+    match order.form {
+        Form::Direct => direct_rounds(rt.alloc(), order),
+        Form::Apply => match opened(rt.alloc(), order.blocks) {
+            Some(pool) => applied_rounds(pool, order.row, order.times),
+            None => 0,
+        },
+        Form::Serve => share(rt, order, Trace::Off),
+        Form::Trace => share(rt, order, order.trace()),
+    }
+}
+
+fn main(rt: HostRuntime) -> io::Result<()> {
+    for _ in 0..u64::MAX {
+        let Some(order) = next_order(&rt)? else {
+            return Ok(());
+        };
+        let told = done(&rt, order);
+        println!(rt; "{told}")?;
+    }
+    Ok(())
+}

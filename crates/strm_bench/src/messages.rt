@@ -1,0 +1,130 @@
+//! Rounds of calls on messages that the round makes.
+ghost use Rattle.std.specs.Prelude.{IfSome, IsTrue};
+ghost use Rattle.strm_mblk.specs.Arena.{has};
+
+use strm_pool::{Pool, Refusal, Token};
+
+/// The size of a message's blocks, in bytes.
+pub(crate) const SIZE: u32 = 64;
+
+/// The bytes of each block.
+pub(crate) const BYTES: [u8; 64] = [90; 64];
+
+// Puts a new block with bytes behind a message, if there is one.
+fn grow(pool: &mut Pool, token: &mut Token)
+    requires { IsTrue (has pool.old.arena token.old) }
+    ensures { IsTrue (has pool.new.arena token.new) }
+{
+    let Ok(other) = pool.allocb(SIZE) else {
+        return;
+    };
+    let _ = pool.write(&other, 0, &BYTES);
+    pool.linkb(token, other);
+}
+
+/// A message of four blocks with bytes.
+pub(crate) fn four(pool: &mut Pool) -> Option<Token>
+    ensures { IfSome result (λ token. IsTrue (has pool.new.arena token)) }
+{
+    let Ok(mut token) = pool.allocb(SIZE) else {
+        return None;
+    };
+    let _ = pool.write(&token, 0, &BYTES);
+    grow(pool, &mut token);
+    grow(pool, &mut token);
+    grow(pool, &mut token);
+    Some(token)
+}
+
+// Frees a message, and the duplicate that was made of it. Tells whether one was.
+fn free_both(pool: &mut Pool, token: Token, copy: Result<Token, Refusal>) -> bool {
+    pool.freemsg(token);
+    match copy {
+        Ok(copy) => {
+            pool.freemsg(copy);
+            true
+        }
+        Err(_) => false,
+    }
+}
+
+/// `allocb`, `freemsg`.
+pub(crate) fn allocb(pool: &mut Pool, times: u64) -> u64 {
+    let mut told = 0u64;
+    for _ in 0..times {
+        if let Ok(token) = pool.allocb(SIZE) {
+            pool.freemsg(token);
+            told = told.wrapping_add(1);
+        }
+    }
+    told
+}
+
+/// `allocb`, `dupb`, and both freed.
+pub(crate) fn dupb(pool: &mut Pool, times: u64) -> u64 {
+    let mut told = 0u64;
+    for _ in 0..times {
+        if let Ok(token) = pool.allocb(SIZE) {
+            let copy = pool.dupb(&token);
+            told = told.wrapping_add(u64::from(free_both(pool, token, copy)));
+        }
+    }
+    told
+}
+
+/// `allocb`, `dupmsg`, and both freed.
+pub(crate) fn dupmsg(pool: &mut Pool, times: u64) -> u64 {
+    let mut told = 0u64;
+    for _ in 0..times {
+        if let Ok(token) = pool.allocb(SIZE) {
+            let copy = pool.dupmsg(&token);
+            told = told.wrapping_add(u64::from(free_both(pool, token, copy)));
+        }
+    }
+    told
+}
+
+/// `allocb`, `write` of 64 bytes, `freemsg`.
+pub(crate) fn write(pool: &mut Pool, times: u64) -> u64 {
+    let mut told = 0u64;
+    for _ in 0..times {
+        if let Ok(token) = pool.allocb(SIZE) {
+            let written = pool.write(&token, 0, &BYTES);
+            pool.freemsg(token);
+            told = told.wrapping_add(u64::from(written.is_ok()));
+        }
+    }
+    told
+}
+
+/// A message of four blocks is built and freed.
+pub(crate) fn build(pool: &mut Pool, times: u64) -> u64 {
+    let mut told = 0u64;
+    for _ in 0..times {
+        if let Some(token) = four(pool) {
+            pool.freemsg(token);
+            told = told.wrapping_add(1);
+        }
+    }
+    told
+}
+
+// Pulls all of a message up. It is a call of its own in the program, so that its instructions can be told.
+#[inline(never)]
+fn pull_up(pool: &mut Pool, token: &mut Token) -> bool
+    requires { IsTrue (has pool.old.arena token.old) }
+{
+    pool.pullupmsg(token, -1).is_ok()
+}
+
+/// A message of four blocks is built, pulled up into one, and freed.
+pub(crate) fn pullup(pool: &mut Pool, times: u64) -> u64 {
+    let mut told = 0u64;
+    for _ in 0..times {
+        if let Some(mut token) = four(pool) {
+            told = told.wrapping_add(u64::from(pull_up(pool, &mut token)));
+            pool.freemsg(token);
+        }
+    }
+    told
+}

@@ -1,0 +1,252 @@
+//! Rounds of calls on queues.
+ghost use Rattle.std.specs.Prelude.{IfSome, IsTrue};
+ghost use Rattle.strm_mblk.specs.Arena.{has};
+
+use crate::config::{CHAIN, NARROW};
+use crate::messages::{BYTES, SIZE};
+use strm_pool::{Flush, MsgType, Pool, Rejected, Token};
+
+// The ranks of drawn messages: bands 0 to 15, and high priority.
+const RANKS: u32 = 17;
+
+// How many messages stand on a queue of many, and how many beside those that are flushed, where there are as many blocks.
+const MANY: u32 = 1_000;
+
+const BESIDE: u32 = 3_900;
+
+// How many messages of a band are flushed at once.
+const FLUSHED: u32 = 100;
+
+/// Puts a message on a queue, and tells whether it stands there. One that is refused is freed.
+pub(crate) fn put(pool: &mut Pool, queue: u8, token: Token) -> bool
+    requires { IsTrue (has pool.old.arena token) }
+{
+    match pool.putq(queue, token) {
+        Ok(()) => true,
+        Err(Rejected { why: _, token }) => {
+            pool.freemsg(token);
+            false
+        }
+    }
+}
+
+// Puts a message back on a queue, and tells whether it stands there. One that is refused is freed.
+fn put_back(pool: &mut Pool, queue: u8, token: Token) -> bool
+    requires { IsTrue (has pool.old.arena token) }
+{
+    match pool.putbq(queue, token) {
+        Ok(()) => true,
+        Err(Rejected { why: _, token }) => {
+            pool.freemsg(token);
+            false
+        }
+    }
+}
+
+// Puts a message on a queue in front, and tells whether it stands there. One that is refused is freed.
+fn put_first(pool: &mut Pool, queue: u8, token: Token) -> bool
+    requires { IsTrue (has pool.old.arena token) }
+{
+    match pool.insq(queue, 0, token) {
+        Ok(()) => true,
+        Err(Rejected { why: _, token }) => {
+            pool.freemsg(token);
+            false
+        }
+    }
+}
+
+// Gives a message a rank: a band up to 15, or else high priority.
+fn set_rank(pool: &mut Pool, token: &Token, rank: u8)
+    requires { IsTrue (has pool.old.arena token.now) }
+    ensures { IsTrue (has pool.new.arena token.now) }
+{
+    if rank < 16 {
+        pool.setband(token, rank);
+    } else {
+        let _ = pool.settype(token, 0, MsgType::MPcproto);
+    }
+}
+
+// Makes a message of one block and 64 bytes, of a rank, and puts it on a queue.
+fn post(pool: &mut Pool, queue: u8, rank: u8) -> bool {
+    let Ok(token) = pool.allocb(SIZE) else {
+        return false;
+    };
+    let _ = pool.write(&token, 0, &BYTES);
+    set_rank(pool, &token, rank);
+    put(pool, queue, token)
+}
+
+// Puts so many messages on queue 0, of all ranks in turn.
+fn fill(pool: &mut Pool, count: u32) {
+    for number in 0..count {
+        let _ = post(pool, 0, (number % RANKS) as u8);
+    }
+}
+
+// Puts so many messages on queue 0, of band 0 and band 2 in turn.
+fn fill_beside(pool: &mut Pool, count: u32) {
+    for number in 0..count {
+        let _ = post(pool, 0, (number % 2 * 2) as u8);
+    }
+}
+
+// The first message of a queue, which is taken off.
+fn taken(pool: &mut Pool, queue: u8) -> Option<Token>
+    ensures { IfSome result (λ token. IsTrue (has pool.new.arena token)) }
+{
+    match pool.getq(queue) {
+        Ok(given) => given,
+        Err(_) => None,
+    }
+}
+
+// `getq` and `putq` on a queue.
+fn put_rounds(pool: &mut Pool, queue: u8, times: u64) -> u64 {
+    let mut told = 0u64;
+    for _ in 0..times {
+        if let Some(token) = taken(pool, queue) {
+            told = told.wrapping_add(u64::from(put(pool, queue, token)));
+        }
+    }
+    told
+}
+
+// `getq` and `putbq` on queue 0.
+fn put_back_rounds(pool: &mut Pool, times: u64) -> u64 {
+    let mut told = 0u64;
+    for _ in 0..times {
+        if let Some(token) = taken(pool, 0) {
+            told = told.wrapping_add(u64::from(put_back(pool, 0, token)));
+        }
+    }
+    told
+}
+
+/// `allocb`, `write` of 64 bytes, `putq`, `getq`, `freemsg`, on an empty queue.
+pub(crate) fn queued(pool: &mut Pool, times: u64) -> u64 {
+    let mut told = 0u64;
+    for _ in 0..times {
+        let _ = post(pool, 0, 0);
+        if let Some(token) = taken(pool, 0) {
+            pool.freemsg(token);
+            told = told.wrapping_add(1);
+        }
+    }
+    told
+}
+
+/// `getq`, `putq`, of the only message.
+pub(crate) fn putq(pool: &mut Pool, times: u64) -> u64 {
+    let _ = post(pool, 0, 0);
+    put_rounds(pool, 0, times)
+}
+
+/// So too, of many messages of all ranks.
+pub(crate) fn putq_ranked(pool: &mut Pool, blocks: u32, times: u64) -> u64 {
+    fill(pool, MANY.min(blocks / 2));
+    put_rounds(pool, 0, times)
+}
+
+/// So too, of ten messages in a band that is full and wanted, and stays so.
+pub(crate) fn putq_full(pool: &mut Pool, times: u64) -> u64 {
+    for _ in 0..10 {
+        let _ = post(pool, NARROW, 0);
+    }
+    let _ = pool.bcanput(NARROW, 0);
+    put_rounds(pool, NARROW, times)
+}
+
+/// `getq`, `putbq`, of the only message.
+pub(crate) fn putbq(pool: &mut Pool, times: u64) -> u64 {
+    let _ = post(pool, 0, 0);
+    put_back_rounds(pool, times)
+}
+
+/// So too, of many messages of all ranks.
+pub(crate) fn putbq_ranked(pool: &mut Pool, blocks: u32, times: u64) -> u64 {
+    fill(pool, MANY.min(blocks / 2));
+    put_back_rounds(pool, times)
+}
+
+/// `rmvq` in front, `putbq`.
+pub(crate) fn rmvq(pool: &mut Pool, times: u64) -> u64 {
+    let _ = post(pool, 0, 0);
+    let mut told = 0u64;
+    for _ in 0..times {
+        if let Ok(token) = pool.rmvq(0, 0) {
+            told = told.wrapping_add(u64::from(put_back(pool, 0, token)));
+        }
+    }
+    told
+}
+
+/// `rmvq` in front, `insq` in front.
+pub(crate) fn insq(pool: &mut Pool, times: u64) -> u64 {
+    let _ = post(pool, 0, 0);
+    let mut told = 0u64;
+    for _ in 0..times {
+        if let Ok(token) = pool.rmvq(0, 0) {
+            told = told.wrapping_add(u64::from(put_first(pool, 0, token)));
+        }
+    }
+    told
+}
+
+// Flushes band 1. It is a call of its own in the program, so that its instructions can be told.
+#[inline(never)]
+fn flush_hundred(pool: &mut Pool) -> bool {
+    pool.flushband(0, 1, Flush::All).is_ok()
+}
+
+/// A hundred messages of band 1 are put among others, and flushed.
+pub(crate) fn flushband(pool: &mut Pool, blocks: u32, times: u64) -> u64 {
+    fill_beside(pool, BESIDE.min(blocks.saturating_sub(FLUSHED + 10)));
+    let mut told = 0u64;
+    for _ in 0..times {
+        for _ in 0..FLUSHED {
+            let _ = post(pool, 0, 1);
+        }
+        told = told.wrapping_add(u64::from(flush_hundred(pool)));
+    }
+    told
+}
+
+/// `bcanput` on the first of eight queues without service procedures.
+pub(crate) fn bcanput(pool: &mut Pool, times: u64) -> u64 {
+    let mut told = 0u64;
+    for _ in 0..times {
+        told = told.wrapping_add(u64::from(pool.bcanput(CHAIN, 0).unwrap_or(false)));
+    }
+    told
+}
+
+/// `strqset`.
+pub(crate) fn strqset(pool: &mut Pool, times: u64) -> u64 {
+    let mut told = 0u64;
+    for _ in 0..times {
+        told = told.wrapping_add(u64::from(pool.strqset(0, 3, 8, 4).is_ok()));
+    }
+    told
+}
+
+/// `qenable`, and the queue is taken off the run list.
+pub(crate) fn qenable(pool: &mut Pool, times: u64) -> u64 {
+    let mut told = 0u64;
+    for _ in 0..times {
+        let _ = pool.qenable(0);
+        told = told.wrapping_add(u64::from(pool.next_service().is_some()));
+    }
+    told
+}
+
+/// `bufcall`, and the wish is taken.
+pub(crate) fn bufcall(pool: &mut Pool, times: u64) -> u64 {
+    let mut told = 0u64;
+    for _ in 0..times {
+        let _ = pool.bufcall(SIZE);
+        told = told.wrapping_add(u64::from(pool.take_ready().is_some()));
+    }
+    told
+}

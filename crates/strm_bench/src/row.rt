@@ -1,0 +1,151 @@
+//! The forms and the rows.
+
+/// How a row's calls are made.
+#[derive(Clone, Copy)]
+pub(crate) enum Form {
+    /// On the pool, with tokens.
+    Direct,
+    /// By `apply`, with registers.
+    Apply,
+    /// By `serve`, on one desk.
+    Serve,
+    /// So too, with a trace kept.
+    Trace,
+}
+
+/// What a round does. README.md says it of each.
+#[derive(Clone, Copy)]
+pub(crate) enum Row {
+    Open,
+    Allocb,
+    Dupb,
+    Dupmsg,
+    Write,
+    Queued,
+    Build,
+    Pullup,
+    CopymsgFour,
+    DupmsgFour,
+    Unlinkb,
+    Settype,
+    Setband,
+    Has,
+    Size,
+    Read,
+    Block,
+    Census,
+    Testb,
+    Putq,
+    PutqRanked,
+    PutqFull,
+    Putbq,
+    PutbqRanked,
+    Rmvq,
+    Insq,
+    Flushband,
+    Bcanput,
+    Strqset,
+    Qsize,
+    Qenable,
+    Bufcall,
+    Look,
+}
+
+/// What a row's calls are made on, in the form `Direct`.
+#[derive(Clone, Copy)]
+pub(crate) enum Group {
+    /// Messages that the round makes.
+    Messages,
+    /// The pool, which they leave as it is.
+    Looks,
+    /// A message that stays.
+    Held,
+    /// Queues.
+    Queues,
+}
+
+// Each row by its name.
+const ROWS: [(&str, Row); 33] = [
+    ("open", Row::Open),
+    ("allocb", Row::Allocb),
+    ("dupb", Row::Dupb),
+    ("dupmsg", Row::Dupmsg),
+    ("write", Row::Write),
+    ("queued", Row::Queued),
+    ("build", Row::Build),
+    ("pullup", Row::Pullup),
+    ("copymsg_four", Row::CopymsgFour),
+    ("dupmsg_four", Row::DupmsgFour),
+    ("unlinkb", Row::Unlinkb),
+    ("settype", Row::Settype),
+    ("setband", Row::Setband),
+    ("has", Row::Has),
+    ("size", Row::Size),
+    ("read", Row::Read),
+    ("block", Row::Block),
+    ("census", Row::Census),
+    ("testb", Row::Testb),
+    ("putq", Row::Putq),
+    ("putq_ranked", Row::PutqRanked),
+    ("putq_full", Row::PutqFull),
+    ("putbq", Row::Putbq),
+    ("putbq_ranked", Row::PutbqRanked),
+    ("rmvq", Row::Rmvq),
+    ("insq", Row::Insq),
+    ("flushband", Row::Flushband),
+    ("bcanput", Row::Bcanput),
+    ("strqset", Row::Strqset),
+    ("qsize", Row::Qsize),
+    ("qenable", Row::Qenable),
+    ("bufcall", Row::Bufcall),
+    ("look", Row::Look),
+];
+
+impl Form {
+    /// The form with this name.
+    pub(crate) fn named(name: &str) -> Option<Form> {
+        match name {
+            "direct" => Some(Form::Direct),
+            "apply" => Some(Form::Apply),
+            "serve" => Some(Form::Serve),
+            "trace" => Some(Form::Trace),
+            _ => None,
+        }
+    }
+}
+
+impl Row {
+    /// The row with this name.
+    pub(crate) fn named(name: &str) -> Option<Row> {
+        for (known, row) in &ROWS {
+            if *known == name {
+                return Some(*row);
+            }
+        }
+        None
+    }
+
+    /// What its calls are made on.
+    pub(crate) fn group(self) -> Group {
+        match self {
+            Row::Allocb
+            | Row::Dupb
+            | Row::Dupmsg
+            | Row::Write
+            | Row::Queued
+            | Row::Build
+            | Row::Pullup => Group::Messages,
+            Row::Census | Row::Testb | Row::Qsize => Group::Looks,
+            Row::CopymsgFour
+            | Row::DupmsgFour
+            | Row::Unlinkb
+            | Row::Settype
+            | Row::Setband
+            | Row::Has
+            | Row::Size
+            | Row::Read
+            | Row::Block => Group::Held,
+            _ => Group::Queues,
+        }
+    }
+}
