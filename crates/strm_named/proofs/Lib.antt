@@ -1,0 +1,4 @@
+mod Fitted
+mod Renamed
+mod Shaped
+mod Joined

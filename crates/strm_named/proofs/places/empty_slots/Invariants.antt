@@ -1,0 +1,6 @@
+use Rattle.std.proofs.Common.{◌≡◌, None, replicate}
+use Rattle.strm_named.proofs.places.empty_slots.Given as goal
+
+-- so many slots were made
+abbrev pub invariant-loop-block : goal.invariant-loop-block
+invariant-loop-block l = l.slots.items ≡ replicate l._block None

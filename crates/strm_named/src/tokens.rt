@@ -1,0 +1,60 @@
+//! The tokens of names that are valid.
+ghost use Rattle.std.specs.Prelude.{◌≡◌, ◌≢◌, ◌&&◌, IsTrue, not, ◌==◌};
+ghost use Rattle.strm_named.specs.Fitting.{Fits, IsTokenOf, named};
+ghost use Rattle.strm_named.specs.NamedValue.{is_valid};
+ghost use Rattle.strm_named.specs.PlacesValue.{refusing, without_token};
+
+use crate::fault::Fault;
+use crate::name::Name;
+use crate::places::Places;
+use strm_pool::{Pool, Refusal, Token};
+
+// The token of a name that is valid. The pool that it is of, with these places, is named for the contract alone.
+pub(crate) fn lent<'a>(pool: &Pool, places: &'a Places, name: Name) -> &'a Token
+    requires fits { Fits pool.now.arena places.now }
+    requires valid { IsTrue (is_valid (named pool.now places.now) name) }
+    ensures { IsTokenOf name pool.now.arena result.now }
+{
+    let _ = pool;
+    places.token(name.head)
+}
+
+// Takes the token of a name that is valid out of its place.
+pub(crate) fn taken(pool: &Pool, places: &mut Places, name: Name) -> Token
+    requires fits { Fits pool.now.arena places.old }
+    requires valid { IsTrue (is_valid (named pool.now places.old) name) }
+    ensures of { IsTokenOf name pool.now.arena result }
+    ensures places { places.new ≡ without_token name.head places.old }
+{
+    let _ = pool;
+    places.take(name.head)
+}
+
+// Takes the tokens of two names that are valid out of their places.
+pub(crate) fn taken_both(
+    pool: &Pool,
+    places: &mut Places,
+    first: Name,
+    second: Name,
+) -> (Token, Token)
+    requires fits { Fits pool.now.arena places.old }
+    requires valid { IsTrue (is_valid (named pool.now places.old) first && (is_valid (named pool.now places.old) second && not (first.head == second.head))) }
+    ensures first { IsTokenOf first pool.now.arena result.0 }
+    ensures second { IsTokenOf second pool.now.arena result.1 }
+    ensures apart { first.head ≢ second.head }
+    ensures places { places.new ≡ without_token second.head (without_token first.head places.old) }
+{
+    let _ = pool;
+    let token = places.take(first.head);
+    (token, places.take(second.head))
+}
+
+// What the pool answered, as an answer of the named pool.
+pub(crate) fn answered<T>(answer: Result<T, Refusal>) -> Result<T, Fault>
+    ensures { result ≡ refusing answer }
+{
+    match answer {
+        Ok(value) => Ok(value),
+        Err(why) => Err(Fault::Refused(why)),
+    }
+}

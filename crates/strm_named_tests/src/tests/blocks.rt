@@ -1,0 +1,140 @@
+use super::spent::assert_invalid;
+use super::{assert_census, assert_freed, assert_linked, assert_size, message, name, opened};
+use std::process::Abort;
+use strm_named::{Fault, Name, NamedPool};
+use strm_pool::{MsgType, Refusal};
+
+fn assert_unlinked(rt: &impl Abort, pool: &mut NamedPool, name: Name, wanted: Option<Name>) {
+    assert!(rt; pool.unlinkb(name) == Ok(wanted));
+}
+
+fn assert_parted(
+    rt: &impl Abort,
+    pool: &mut NamedPool,
+    from: (Name, u32),
+    wanted: Result<(Name, Option<Name>), Fault>,
+) {
+    assert!(rt; pool.rmvb(from.0, from.1) == wanted);
+}
+
+fn assert_typed(
+    rt: &impl Abort,
+    pool: &mut NamedPool,
+    block: (Name, u32),
+    kind: MsgType,
+    wanted: Result<(), Fault>,
+) {
+    assert!(rt; pool.settype(block.0, block.1, kind) == wanted);
+}
+
+fn assert_trimmed(
+    rt: &impl Abort,
+    pool: &mut NamedPool,
+    name: Name,
+    count: i32,
+    wanted: Result<(), Fault>,
+) {
+    assert!(rt; pool.adjmsg(name, count) == wanted);
+}
+
+#[test]
+fn joins_messages(rt: HostRuntime) {
+    let mut pool = opened(&rt, rt.alloc(), 1);
+    let first = message(&rt, &mut pool, b"one");
+    let second = message(&rt, &mut pool, b"two");
+    assert_linked(&rt, &mut pool, (first, first), Err(Fault::Invalid));
+    assert_linked(&rt, &mut pool, (first, second), Ok(()));
+    assert_invalid(&rt, &mut pool, second);
+    assert_size(&rt, &pool, first, Ok(6));
+    assert_linked(&rt, &mut pool, (first, second), Err(Fault::Invalid));
+    assert_unlinked(&rt, &mut pool, first, Some(name(1, 2)));
+    assert_unlinked(&rt, &mut pool, first, None);
+    assert_invalid(&rt, &mut pool, second);
+    assert_size(&rt, &pool, name(1, 2), Ok(3));
+}
+
+// One of the two parts keeps the head, and has another name all the same.
+#[test]
+fn parts_messages(rt: HostRuntime) {
+    let mut pool = opened(&rt, rt.alloc(), 1);
+    let first = message(&rt, &mut pool, b"one");
+    let second = message(&rt, &mut pool, b"two");
+    assert_linked(&rt, &mut pool, (first, second), Ok(()));
+    let missing = Err(Fault::Refused(Refusal::NoSuchBlock));
+    assert_parted(&rt, &mut pool, (first, 2), missing);
+    assert_parted(
+        &rt,
+        &mut pool,
+        (first, 1),
+        Ok((name(1, 2), Some(name(0, 2)))),
+    );
+    assert_invalid(&rt, &mut pool, first);
+    assert_invalid(&rt, &mut pool, second);
+    assert_parted(&rt, &mut pool, (name(0, 2), 0), Ok((name(0, 3), None)));
+    assert_invalid(&rt, &mut pool, name(0, 2));
+    assert_freed(&rt, &mut pool, name(0, 3), Ok(()));
+    assert_census(&rt, &pool, (7, 0, 1));
+}
+
+#[test]
+fn frees_a_first_block(rt: HostRuntime) {
+    let mut pool = opened(&rt, rt.alloc(), 1);
+    let first = message(&rt, &mut pool, b"one");
+    let second = message(&rt, &mut pool, b"two");
+    assert_linked(&rt, &mut pool, (first, second), Ok(()));
+    assert!(rt; pool.freeb(first) == Ok(Some(name(1, 2))));
+    assert_invalid(&rt, &mut pool, first);
+    assert!(rt; pool.freeb(name(1, 2)) == Ok(None));
+    assert_census(&rt, &pool, (8, 0, 0));
+}
+
+#[test]
+fn names_what_it_copies(rt: HostRuntime) {
+    let mut pool = opened(&rt, rt.alloc(), 1);
+    let source = message(&rt, &mut pool, b"one");
+    assert!(rt; pool.dupb(source) == Ok(name(1, 1)));
+    assert!(rt; pool.dupmsg(source) == Ok(name(2, 1)));
+    assert!(rt; pool.copyb(source) == Ok(name(3, 1)));
+    assert!(rt; pool.copymsg(source) == Ok(name(4, 1)));
+    let shared = Err(Fault::Refused(Refusal::Shared));
+    assert_typed(&rt, &mut pool, (source, 0), MsgType::MProto, shared);
+    assert_census(&rt, &pool, (3, 0, 5));
+}
+
+// A message of two blocks, of which the second is of another type.
+fn two_types(rt: &impl Abort, pool: &mut NamedPool) -> Name {
+    let first = message(rt, pool, b"one");
+    let second = message(rt, pool, b"two");
+    assert_linked(rt, pool, (first, second), Ok(()));
+    assert_typed(rt, pool, (first, 1), MsgType::MProto, Ok(()));
+    first
+}
+
+#[test]
+fn changes_a_message(rt: HostRuntime) {
+    let mut pool = opened(&rt, rt.alloc(), 1);
+    let changed = two_types(&rt, &mut pool);
+    assert!(rt; pool.setband(changed, 9) == Ok(()));
+    assert!(rt; (pool.size(changed), pool.msgdsize(changed)) == (Ok(6), Ok(3)));
+    let short = Err(Fault::Refused(Refusal::Short));
+    assert_trimmed(&rt, &mut pool, changed, 4, short);
+    assert_trimmed(&rt, &mut pool, changed, 1, Ok(()));
+    let Ok(block) = pool.block(changed, 0) else {
+        panic!(&rt; "no block")
+    };
+    assert!(rt; (block.kind, block.len, block.band) == (MsgType::MData, 2, 9));
+}
+
+// The blocks behind the first are freed, and the name is still valid.
+#[test]
+fn pulls_a_message_up(rt: HostRuntime) {
+    let mut pool = opened(&rt, rt.alloc(), 1);
+    let pulled = two_types(&rt, &mut pool);
+    assert_typed(&rt, &mut pool, (pulled, 1), MsgType::MData, Ok(()));
+    assert!(rt; pool.pullupmsg(pulled, -1) == Ok(()));
+    let mut bytes = [0; 8];
+    assert!(rt; pool.read(pulled, 1, &mut bytes) == Ok(5));
+    assert!(rt; bytes == *b"netwo\0\0\0");
+    assert!(rt; pool.block(pulled, 1) == Err(Fault::Refused(Refusal::NoSuchBlock)));
+    assert_census(&rt, &pool, (7, 0, 1));
+}
