@@ -14,6 +14,3 @@ pub use data::{Data, DataNo};
 pub use limits::{MOST_CLASSES, MOST_DATA_BLOCK_BYTES, MOST_DATA_BLOCK_NAMES, MOST_DATA_BLOCKS};
 pub use msg_type::MsgType;
 pub use refusal::Refusal;
-
-#[cfg(test)]
-mod tests;

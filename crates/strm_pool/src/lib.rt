@@ -26,6 +26,3 @@ pub use short_list::{ClassSpecs, Octets, QueueSpecs, ShortList};
 pub use strm_data::{ClassInfo, ClassSpec, MsgType, Refusal};
 pub use strm_mblk::{BlockInfo, Blocks, Census, Rejected, Token, TokenValue};
 pub use strm_queue::{BANDS, BandInfo, Flush, MOST_QUEUES, Marks, QueueInfo, QueueSpec, Queues};
-
-#[cfg(test)]
-mod tests;

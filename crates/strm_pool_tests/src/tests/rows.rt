@@ -1,7 +1,7 @@
 //! Calls on registers with the replies and the heads that are expected.
 use super::bench::Bench;
 use super::{SIZES, octets, reg};
-use crate::{BlockInfo, Call, Census, MsgType, Refusal, Reg, Reply};
+use strm_pool::{BlockInfo, Call, Census, MsgType, Refusal, Reg, Reply};
 
 const fn census(free: u32, queued: u32, held: u32) -> Reply {
     Reply::Census(Census { free, queued, held })

@@ -1,9 +1,9 @@
 //! A pool beside its calls done a second time: both answer alike, and have the same afterwards.
-use super::assert_reply;
 use super::second::{QUEUES, REGISTERS, Second};
-use crate::{Call, MOST_OCTETS, Pool, Refusal, Regs, Reply, Token};
+use super::{assert_reply, register};
 use std::process::Abort;
 use strm_mblk::Blocks;
+use strm_pool::{Call, MOST_OCTETS, MOST_REGISTERS, Pool, Refusal, Reg, Regs, Reply, Token};
 
 // The first block of a message, and those behind it: one more place than there are blocks.
 fn assert_blocks(rt: &impl Abort, pool: &Pool, blocks: &Blocks, token: &Token, other: &Token) {
@@ -27,30 +27,42 @@ fn assert_message(rt: &impl Abort, pool: &Pool, blocks: &Blocks, token: &Token, 
     assert_eq!(rt; bytes, others);
 }
 
-// Two registers have the same message, or hold nothing.
-fn assert_slot(
-    rt: &impl Abort,
-    pool: &Pool,
-    blocks: &Blocks,
-    slot: &Option<Token>,
-    place: &Option<Token>,
-) {
-    match (slot, place) {
-        (Some(token), Some(other)) => assert_message(rt, pool, blocks, token, other),
-        (None, None) => {}
-        _ => panic!(rt; "one holds a message"),
+// Puts a token back into the register that it was taken from.
+fn put_back(rt: &impl Abort, regs: &mut Regs, reg: Reg, token: Token) {
+    if let Some(token) = regs.put(reg, token) {
+        token.forget();
+        panic!(rt; "the register holds a message");
+    }
+}
+
+// A register of the pool and that of the second have the same message, or hold nothing.
+fn assert_place(rt: &impl Abort, pool: &Pool, regs: &mut Regs, second: &mut Second, reg: Reg) {
+    assert_eq!(rt; regs.holds(reg), second.places().holds(reg));
+    if let Some(token) = regs.take(reg) {
+        if let Some(other) = second.places().take(reg) {
+            assert_message(rt, pool, second.blocks(), &token, &other);
+            put_back(rt, second.places(), reg, other);
+        }
+        put_back(rt, regs, reg, token);
+    }
+}
+
+// The pool has no message that stands on a queue, which a place behind the registers has.
+fn assert_queued(rt: &impl Abort, pool: &Pool, second: &mut Second, reg: Reg) {
+    if let Some(token) = second.places().take(reg) {
+        assert!(rt; !pool.has(&token));
+        put_back(rt, second.places(), reg, token);
     }
 }
 
 // Each register of the pool has the message of its place. The pool has no message that stands on a queue.
-fn assert_places(rt: &impl Abort, pool: &Pool, regs: &Regs, second: &Second) {
-    let many = usize::from(REGISTERS);
-    for (slot, place) in regs.slots().iter().zip(second.places().slots()).take(many) {
-        assert_slot(rt, pool, second.blocks(), slot.token(), place.token());
-    }
-    for place in second.places().slots().iter().skip(many) {
-        if let Some(token) = place.token() {
-            assert!(rt; !pool.has(token));
+fn assert_places(rt: &impl Abort, pool: &Pool, regs: &mut Regs, second: &mut Second) {
+    for place in 0..MOST_REGISTERS as u8 {
+        let reg = register(rt, place);
+        if place < REGISTERS {
+            assert_place(rt, pool, regs, second, reg);
+        } else {
+            assert_queued(rt, pool, second, reg);
         }
     }
 }

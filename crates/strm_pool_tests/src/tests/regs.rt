@@ -1,7 +1,7 @@
 use super::bench::Bench;
 use super::{SIZES, reg};
-use crate::{Call, Reg, Regs, Token};
 use std::process::Abort;
+use strm_pool::{Call, Reg, Regs, Token};
 
 #[test]
 fn there_are_registers_a_to_z(rt: HostRuntime) {

@@ -1,6 +1,6 @@
 ghost use Rattle.std.specs.Prelude.{◌≡◌};
 
-use crate::ClassSpec;
+use strm_data::ClassSpec;
 
 mod blocks;
 mod long_run;

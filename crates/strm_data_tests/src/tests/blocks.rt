@@ -1,6 +1,6 @@
 use super::class;
-use crate::{ClassInfo, Data, MOST_DATA_BLOCK_BYTES, MsgType, Refusal};
 use std::process::Abort;
+use strm_data::{ClassInfo, Data, MOST_DATA_BLOCK_BYTES, MsgType, Refusal};
 
 // What is free of a class.
 const fn info(size: u32, free: u32, total: u32) -> Option<ClassInfo> {

@@ -1,7 +1,7 @@
 use super::{classes, queues};
-use crate::{Config, NewFault, Pool, Which};
 use std::alloc::Global;
 use std::process::Abort;
+use strm_pool::{Config, NewFault, Pool, Which};
 
 const CLASSES: [(u32, u32); 2] = [(4, 1), (16, 2)];
 

@@ -2,9 +2,9 @@
 ghost use Rattle.std.specs.Prelude.{◌≡◌, ◌<◌, length};
 
 use super::class;
-use crate::{Data, MOST_DATA_BLOCK_NAMES, MsgType, Refusal};
 use std::alloc::{AllocError, Global};
 use std::process::Abort;
+use strm_data::{Data, MOST_DATA_BLOCK_NAMES, MsgType, Refusal};
 
 const SIZES: [u32; 3] = [4, 16, 40];
 

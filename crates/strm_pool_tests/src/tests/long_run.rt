@@ -8,10 +8,10 @@ use super::flow::SPECS;
 use super::second::{REGISTERS, Second};
 use super::tally::Tally;
 use super::{octets, opened, reg};
-use crate::{Call, ClassSpec, ClassSpecs, Flush, MsgType, Pool, QueueSpecs, Reg, Regs};
 use arrayvec::ArrayVec;
 use std::alloc::Global;
 use std::process::Abort;
+use strm_pool::{Call, ClassSpec, ClassSpecs, Flush, MsgType, Pool, QueueSpecs, Reg, Regs};
 
 // Few data blocks of each size, so that every refusal comes but that of 255 names.
 const SMALL: [ClassSpec; 3] = [

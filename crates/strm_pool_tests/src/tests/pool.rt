@@ -1,8 +1,8 @@
 use super::bench::Bench;
 use super::{SIZES, reg};
-use crate::Call;
 use std::alloc::Global;
 use std::process::Abort;
+use strm_pool::Call;
 
 // A pool of an id and four message blocks, and a message in register a.
 fn holding(rt: &impl Abort, alloc: Global, id: u32) -> Bench {

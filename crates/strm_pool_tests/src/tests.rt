@@ -1,7 +1,9 @@
-use crate::{Call, ClassSpec, ClassSpecs, Config, Octets, Pool, QueueSpec, QueueSpecs, Reg, Reply};
 use arrayvec::ArrayVec;
 use std::alloc::Global;
 use std::process::Abort;
+use strm_pool::{
+    Call, ClassSpec, ClassSpecs, Config, Octets, Pool, QueueSpec, QueueSpecs, Reg, Reply,
+};
 
 mod bench;
 mod beside;
@@ -76,7 +78,12 @@ fn octets(rt: &impl Abort, bytes: &[u8]) -> Octets {
 
 // The register of a letter.
 fn reg(rt: &impl Abort, letter: u8) -> Reg {
-    Reg::new(letter.wrapping_sub(b'a')).expect(rt, "a letter")
+    register(rt, letter.wrapping_sub(b'a'))
+}
+
+// The register of this place, counted from 0.
+fn register(rt: &impl Abort, place: u8) -> Reg {
+    Reg::new(place).expect(rt, "a register")
 }
 
 // A call was answered so.

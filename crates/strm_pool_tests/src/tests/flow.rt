@@ -1,8 +1,8 @@
 //! Marks of queues and the run list, plainly.
 use super::second::QUEUES;
-use crate::{BANDS, Call, QueueSpec};
 use std::alloc::Global;
 use std::process::Abort;
+use strm_pool::{BANDS, Call, QueueSpec};
 
 // What the queues are made with: the one in the middle has no service procedure.
 pub(super) const SPECS: [QueueSpec; QUEUES] = [

@@ -1,7 +1,7 @@
 //! Copies of calls and replies that are gone. Drawn calls are copied beside their second doing.
 use super::{octets, reg};
-use crate::{Call, MOST_OCTETS, Reply};
 use std::process::Abort;
+use strm_pool::{Call, MOST_OCTETS, Reply};
 
 // The bytes 1, 2 and so on, the most that a call carries.
 fn counted() -> [u8; MOST_OCTETS] {

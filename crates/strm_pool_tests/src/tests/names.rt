@@ -1,7 +1,7 @@
-use crate::{NewFault, Which};
 use std::alloc::Global;
 use std::process::Abort;
 use std::test::Fail;
+use strm_pool::{NewFault, Which};
 
 // The fault's text is this.
 fn assert_told(rt: &impl Abort, alloc: Global, fault: NewFault, text: &str) -> Result<(), Fail> {

@@ -1,8 +1,8 @@
 //! A pool with registers of its own.
-use super::{assert_reply, classes, opened, queues};
-use crate::{Call, Pool, Refusal, Reg, Regs, Rejected, Reply, Token};
+use super::{assert_reply, classes, opened, queues, register};
 use std::alloc::Global;
 use std::process::Abort;
+use strm_pool::{Call, Pool, Refusal, Reg, Regs, Rejected, Reply, Token};
 
 // A pool and its registers.
 pub(super) struct Bench {
@@ -67,11 +67,9 @@ impl Bench {
 
     // The first registers hold messages with these heads.
     fn assert_heads(&self, rt: &impl Abort, heads: &[Option<u32>]) {
-        for (slot, head) in self.regs.slots().iter().zip(heads) {
-            match slot.token() {
-                Some(token) => assert_eq!(rt; Some(token.head()), *head),
-                None => assert_eq!(rt; None, *head),
-            }
+        for (place, head) in (0..=u8::MAX).zip(heads) {
+            let told = self.regs.entry(register(rt, place));
+            assert_eq!(rt; told.map(|(head, _)| head), *head);
         }
     }
 

@@ -4,15 +4,15 @@ ghost use Rattle.strm_data.specs.Classes.{are_lawful};
 ghost use Rattle.strm_mblk.specs.Limits.{most_message_blocks};
 
 use super::flow::{Flow, SPECS, target, waker};
-use crate::limits::MOST_OCTETS;
-use crate::{
-    BandInfo, Call, Census, ClassSpec, Flush, MsgType, Octets, Pool, QueueInfo, Refusal, Reg, Regs,
-    Rejected, Reply, Token,
-};
+use super::register;
 use arrayvec::ArrayVec;
 use std::alloc::Global;
 use std::process::Abort;
 use strm_mblk::Blocks;
+use strm_pool::{
+    BandInfo, Call, Census, ClassSpec, Flush, MOST_OCTETS, MOST_REGISTERS, MsgType, Octets, Pool,
+    QueueInfo, Refusal, Reg, Regs, Rejected, Reply, Token,
+};
 
 // How many queues there are.
 pub(super) const QUEUES: usize = 3;
@@ -239,9 +239,9 @@ impl Second {
         &self.blocks
     }
 
-    // What a place holds.
-    pub(super) fn places(&self) -> &Regs {
-        &self.places
+    // What the places hold.
+    pub(super) fn places(&mut self) -> &mut Regs {
+        &mut self.places
     }
 
     // How many messages stand on a queue, if there is one.
@@ -693,12 +693,11 @@ impl Second {
     }
 
     // Of the blocks that are not free, those of messages behind the registers are on queues.
-    fn census(&self) -> Reply {
-        let behind = self.places.slots().iter().skip(usize::from(REGISTERS));
+    fn census(&self, rt: &impl Abort) -> Reply {
         let mut queued: u32 = 0;
-        for place in behind {
-            if let Some(token) = place.token() {
-                queued = queued.saturating_add(token.blocks());
+        for place in REGISTERS..MOST_REGISTERS as u8 {
+            if let Some((_, blocks)) = self.places.entry(register(rt, place)) {
+                queued = queued.saturating_add(blocks);
             }
         }
         let census = self.blocks.census();
@@ -753,7 +752,7 @@ impl Second {
             Call::Bufcall(size) => self.bufcall(rt, size),
             Call::Unbufcall(id) => self.unbufcall(id),
             Call::Ready => self.ready(),
-            Call::Census => self.census(),
+            Call::Census => self.census(rt),
         }
     }
 

@@ -1,4 +1,4 @@
-use crate::{
+use strm_data::{
     MOST_CLASSES, MOST_DATA_BLOCK_BYTES, MOST_DATA_BLOCK_NAMES, MOST_DATA_BLOCKS, MsgType, Refusal,
 };
 

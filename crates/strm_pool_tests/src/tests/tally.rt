@@ -1,8 +1,8 @@
 //! How often each call came, by what it answered.
-use crate::{Call, Refusal, Reply};
 use Answer::{Done, Empty, Nothing, Refused, Taken};
 use std::alloc::Global;
 use std::process::Abort;
+use strm_pool::{Call, Refusal, Reply};
 
 // A call.
 #[derive(Clone, Copy, Debug, PartialEq, Eq)]
