@@ -19,7 +19,7 @@ LOG := build/proving.log
 # Ends with one line where there is no `rt`.
 NEEDS_RT = $(if $(shell command -v rt 2>/dev/null),,$(error Rattle's command rt is not on PATH, and README.md says which is wanted))
 
-.PHONY: run test soak field view-test pictures bench bench-library bench-census strm install install-pages vendor
+.PHONY: run test soak field view-test pictures bench bench-lines bench-library bench-census strm install install-pages vendor
 
 # Runs the first run's script, once the program is proved.
 run: $(BUILT)
@@ -48,8 +48,11 @@ view-test:
 pictures:
 	@for picture in docs/pictures/*.svg; do tools/strm_view $$(sed -n 's:^<desc>\(.*\)</desc>$$:\1:p' $$picture) --output $$picture || exit 1; done
 
-# Prints what a line and a call cost. OPTIONS are words of bench/run.py, as --instructions, or --write for docs/.
-bench: $(BUILT)
+# Prints what a line, a call of the libraries and a look at the census cost. OPTIONS are words of all three, as --write for docs/.
+bench: bench-lines bench-library bench-census
+
+# Prints what a line and a call of each word cost. OPTIONS are words of bench/run.py, as --instructions, or --write for docs/.
+bench-lines: $(BUILT)
 	@python3 bench/run.py $(OPTIONS) $(BUILT)
 
 # Prints what calls of the libraries cost, with tokens, with registers and at a shared pool. OPTIONS are words of bench/library.py, as
