@@ -1,6 +1,7 @@
 //! Each call of the libraries that asks for memory, and `run`, made once more where it is refused. tests/faults/calls has each
 //! growth and each thread refused in turn; where none is, these tests pass too.
 ghost use Rattle.std.specs.Prelude.{◌≡◌, length};
+ghost use Rattle.strm_mblk.specs.Arena.{census_of};
 ghost use Rattle.strm_shared.specs.Starts.{IsNameOf};
 
 use crate::fault::RunFault;
@@ -50,16 +51,31 @@ macro_rules! made {
     };
 }
 
+// A node goes into one of two lists.
+fn links(rt: &(impl Abort + Print), alloc: Global) {
+    let mut links = made!(rt, AllocError, Links::new, alloc, 4, 2);
+    links.push_back(1, 3);
+    assert!(rt; links.front(0).is_none() && links.front(1) == Some(3));
+}
+
+// A node goes onto one of two stacks.
+fn stacks(rt: &(impl Abort + Print), alloc: Global) {
+    let mut stacks = made!(rt, AllocError, Stacks::new, alloc, 4, 2);
+    stacks.push_front(1, 3);
+    assert!(rt; stacks.front(0).is_none() && stacks.front(1) == Some(3));
+}
+
+// The one node begins a strand, and then none is left.
+fn strands(rt: &(impl Abort + Print), alloc: Global) {
+    let mut strands = made!(rt, AllocError, Strands::new, alloc, 1);
+    assert!(rt; strands.begin() == Some(0) && strands.begin().is_none());
+}
+
 #[test]
 fn lists(rt: HostRuntime) {
-    let mut links = made!(&rt, AllocError, Links::new, rt.alloc(), 4, 2);
-    links.push_back(1, 3);
-    assert_eq!(rt; (links.front(0), links.front(1)), (None, Some(3)));
-    let mut stacks = made!(&rt, AllocError, Stacks::new, rt.alloc(), 4, 2);
-    stacks.push_front(1, 3);
-    assert_eq!(rt; (stacks.front(0), stacks.front(1)), (None, Some(3)));
-    let mut strands = made!(&rt, AllocError, Strands::new, rt.alloc(), 1);
-    assert_eq!(rt; (strands.begin(), strands.begin()), (Some(0), None));
+    links(&rt, rt.alloc());
+    stacks(&rt, rt.alloc());
+    strands(&rt, rt.alloc());
 }
 
 // Four small data blocks, and two large ones.
@@ -76,14 +92,29 @@ const QUEUES: [QueueSpec; 1] = [QueueSpec {
     next: None,
 }];
 
+// The first large data block is taken.
+fn data(rt: &(impl Abort + Print), alloc: Global) {
+    let mut data = made!(rt, AllocError, Data::new, alloc, &CLASSES);
+    assert!(rt; data.take(17) == Ok(4));
+}
+
+// All message blocks are free.
+fn blocks(rt: &(impl Abort + Print), alloc: Global) {
+    let blocks = made!(rt, AllocError, Blocks::new, alloc, 7, 8, &CLASSES, 1);
+    assert!(rt; blocks.testb(64) && blocks.census().free == 8);
+}
+
+// There is one queue.
+fn queues(rt: &(impl Abort + Print), alloc: Global) {
+    let queues = made!(rt, AllocError, Queues::new, alloc, &QUEUES);
+    assert!(rt; queues.has_queue(0) && !queues.has_queue(1));
+}
+
 #[test]
 fn parts_of_a_pool(rt: HostRuntime) {
-    let mut data = made!(&rt, AllocError, Data::new, rt.alloc(), &CLASSES);
-    assert_eq!(rt; data.take(17), Ok(4));
-    let blocks = made!(&rt, AllocError, Blocks::new, rt.alloc(), 7, 8, &CLASSES, 1);
-    assert!(rt; blocks.testb(64) && blocks.census().free == 8);
-    let queues = made!(&rt, AllocError, Queues::new, rt.alloc(), &QUEUES);
-    assert!(rt; queues.has_queue(0) && !queues.has_queue(1));
+    data(&rt, rt.alloc());
+    blocks(&rt, rt.alloc());
+    queues(&rt, rt.alloc());
 }
 
 // What the script says.
@@ -104,10 +135,16 @@ const SETUP: Setup = Setup {
     first_stamp: 0,
 };
 
+// Its pool, in which nothing is held.
+fn pool(rt: &(impl Abort + Print), alloc: Global) -> Pool
+    ensures { (census_of result.arena).held ≡ 0 }
+{
+    made!(rt, NewFault::Memory, Pool::new, alloc, config(rt, alloc))
+}
+
 // Its pool, which is to be shared so. Where memory is refused the pool comes back.
 fn start(rt: &(impl Abort + Print), alloc: Global) -> Start {
-    let pool = made!(rt, NewFault::Memory, Pool::new, alloc, config(rt, alloc));
-    match Start::new(alloc, pool, SETUP) {
+    match Start::new(alloc, pool(rt, alloc), SETUP) {
         Ok(start) => start,
         Err((fault, pool)) => {
             assert!(rt; fault == NewFault::Memory);
@@ -163,23 +200,33 @@ fn text_behind(rt: &(impl Abort + Print), ends: &[End]) -> &'static [u8] {
 
 // Has a call append to a text, once more where memory is refused, which leaves the text as it was.
 macro_rules! append {
-    ($rt:expr, $text:ident, $call:path, $($argument:expr),*) => {{
+    ($rt:expr, $text:ident, $call:path, $($argument:expr),*) => {
         let before = $text.len();
-        if $call(&mut $text, $($argument),*).is_err() {
+        if $call($text, $($argument),*).is_err() {
             tell($rt, stringify!($call));
-            assert_eq!($rt; $text.len(), before);
-            $call(&mut $text, $($argument),*).expect($rt, "memory");
+            assert!($rt; $text.len() == before);
+            $call($text, $($argument),*).expect($rt, "memory");
         }
-    }};
+    };
+}
+
+// Appends a line for an entry.
+fn append_reply(rt: &(impl Abort + Print), text: &mut Vec<u8>, entry: &Entry) {
+    append!(rt, text, reply_text, entry.desk, entry.line, &entry.reply);
+}
+
+// Appends the report.
+fn append_report(rt: &(impl Abort + Print), text: &mut Vec<u8>, pool: &Pool) {
+    append!(rt, text, report_text, pool);
 }
 
 // A line for each entry, and the report.
 fn text_of(rt: &(impl Abort + Print), alloc: Global, pool: &Pool, entries: &[Entry]) -> Vec<u8> {
     let mut text = Vec::new(alloc);
     for entry in entries {
-        append!(rt, text, reply_text, entry.desk, entry.line, &entry.reply);
+        append_reply(rt, &mut text, entry);
     }
-    append!(rt, text, report_text, pool);
+    append_report(rt, &mut text, pool);
     text
 }
 
@@ -203,7 +250,7 @@ fn serve<N: Name + Send + Sync, R: Abort + Print + Threads + Wait + Sync>(
     match shared.gather(desks) {
         Ok(Gathered { pool, trace, desks }) => {
             desks.forget();
-            assert_eq!(rt; text_of(rt, alloc, &pool, trace.items()).as_slice(), wanted);
+            assert!(rt; text_of(rt, alloc, &pool, trace.items()).as_slice() == wanted);
         }
         Err((_, _, desks)) => {
             desks.forget();
@@ -228,19 +275,25 @@ fn run_once<R: AllocGlobal + Threads + Wait + Sync>(
     run(rt, mode, 1000, &OpenGate, &mut Watched::new(SCRIPT), writer)
 }
 
-// Where memory is refused nothing was written, so that the next run writes the whole.
+// Runs the script, once more where memory is refused. Nothing was written then, so that the next run writes the whole.
+fn run_whole<R: Abort + AllocGlobal + Print + Threads + Wait + Sync>(
+    rt: &R,
+    mode: Mode,
+    writer: &mut Watched<&mut [u8]>,
+) {
+    let mut ran = run_once(rt, mode, writer);
+    if ran == Err(RunFault::Memory) {
+        tell(rt, "run");
+        ran = run_once(rt, mode, writer);
+    }
+    assert!(rt; ran == Ok(()));
+}
+
 #[test]
 fn whole_runs(rt: HostRuntime) {
     for mode in [Mode::Serial, Mode::Workers] {
         let mut room = [0; TEXT.len()];
-        let mut writer = Watched::new(room.as_mut_slice());
-        let mut ran = run_once(&rt, mode, &mut writer);
-        if ran == Err(RunFault::Memory) {
-            tell(&rt, "run");
-            ran = run_once(&rt, mode, &mut writer);
-        }
-        drop(writer);
-        assert!(rt; ran == Ok(()));
-        assert_eq!(rt; room.as_slice(), TEXT);
+        run_whole(&rt, mode, &mut Watched::new(room.as_mut_slice()));
+        assert!(rt; room.as_slice() == TEXT);
     }
 }

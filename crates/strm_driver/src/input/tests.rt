@@ -1,67 +1,77 @@
+ghost use Rattle.std.specs.Prelude.{◌≤◌};
+ghost use Rattle.strm_script.specs.Limits.{most_script_bytes};
+
 use super::{ReadFault, read_input};
 use crate::faulty::slow_reader;
 use crate::watched::Watched;
-use std::test::Fail;
+use std::io::Read;
+use std::process::Abort;
 
-#[test]
-fn reads_byte_by_byte(rt: HostRuntime) -> Result<(), Fail> {
-    let input = read_input(
-        rt.alloc(),
-        10,
-        &mut Watched::new(slow_reader(b"pool 1 8\n", None)),
-    )?;
-    assert_eq!(rt; input.as_slice(), b"pool 1 8\n".as_slice());
-    Ok(())
+const TEXT: &[u8] = b"pool 1 8\n";
+
+// The input from this reader is read whole, and is this text.
+fn expect_text(rt: &(impl Abort + AllocGlobal), max: u32, reader: &mut impl Read, text: &[u8])
+    requires least { 1 ≤ max }
+    requires most { max ≤ most_script_bytes }
+{
+    let input = read_input(rt.alloc(), max, &mut Watched::new(reader)).expect(rt, "an input");
+    assert!(rt; input.as_slice() == text);
+}
+
+// The input from this reader is not read, for this fault.
+fn expect_fault(
+    rt: &(impl Abort + AllocGlobal),
+    max: u32,
+    reader: &mut impl Read,
+    wanted: ReadFault,
+)
+    requires least { 1 ≤ max }
+    requires most { max ≤ most_script_bytes }
+{
+    let found = read_input(rt.alloc(), max, &mut Watched::new(reader)).err();
+    assert!(rt; found == Some(wanted), "{found:?}");
+}
+
+// The text is not read byte by byte from a reader that may fail, for this fault, behind which so many bytes were taken.
+fn expect_taken(
+    rt: &(impl Abort + AllocGlobal),
+    max: u32,
+    cut: Option<usize>,
+    wanted: ReadFault,
+    taken: usize,
+)
+    requires least { 1 ≤ max }
+    requires most { max ≤ most_script_bytes }
+{
+    let mut reader = slow_reader(TEXT, cut);
+    expect_fault(rt, max, &mut reader, wanted);
+    assert!(rt; reader.given == taken);
 }
 
 #[test]
-fn reads_more_than_a_chunk(rt: HostRuntime) -> Result<(), Fail> {
-    let text = vec![in rt.alloc(); b'#'; 10_000]?;
-    let input = read_input(rt.alloc(), 10_000, &mut Watched::new(text.as_slice()))?;
-    assert!(rt; input.as_slice() == text.as_slice());
-    assert!(rt;
-        read_input(rt.alloc(), 9_999, &mut Watched::new(text.as_slice())).err()
-            == Some(ReadFault::TooLong)
-    );
-    Ok(())
+fn reads_byte_by_byte(rt: HostRuntime) {
+    expect_text(&rt, 10, &mut slow_reader(TEXT, None), TEXT);
+}
+
+#[test]
+fn reads_more_than_a_chunk(rt: HostRuntime) {
+    let text = vec![in rt.alloc(); b'#'; 10_000].expect(&rt, "memory");
+    expect_text(&rt, 10_000, &mut text.as_slice(), &text);
+    expect_fault(&rt, 9_999, &mut text.as_slice(), ReadFault::TooLong);
 }
 
 #[test]
 fn takes_one_byte_too_many_at_most(rt: HostRuntime) {
-    let mut reader = slow_reader(b"pool 1 8\n", None);
-    assert!(rt;
-        read_input(rt.alloc(), 8, &mut Watched::new(&mut reader)).err() == Some(ReadFault::TooLong)
-    );
-    assert_eq!(rt; reader.given, 9);
-    let mut reader = slow_reader(b"pool 1 8\n", None);
-    assert!(rt;
-        read_input(rt.alloc(), 4, &mut Watched::new(&mut reader)).err() == Some(ReadFault::TooLong)
-    );
-    assert_eq!(rt; reader.given, 5);
-    assert!(rt;
-        read_input(
-            rt.alloc(),
-            9,
-            &mut Watched::new(slow_reader(b"pool 1 8\n", None))
-        )
-        .is_ok()
-    );
+    expect_taken(&rt, 8, None, ReadFault::TooLong, 9);
+    expect_taken(&rt, 4, None, ReadFault::TooLong, 5);
+    expect_text(&rt, 9, &mut slow_reader(TEXT, None), TEXT);
 }
 
 #[test]
 fn a_failing_reader_is_a_read_fault(rt: HostRuntime) {
     for cut in [0, 5, 9] {
-        let mut reader = slow_reader(b"pool 1 8\n", Some(cut));
-        assert!(rt;
-            read_input(rt.alloc(), 20, &mut Watched::new(&mut reader)).err()
-                == Some(ReadFault::Read),
-            "at {cut}"
-        );
-        assert_eq!(rt; reader.given, cut);
+        expect_taken(&rt, 20, Some(cut), ReadFault::Read, cut);
     }
     // what is too long already is not read on
-    let mut reader = slow_reader(b"pool 1 8\n", Some(5));
-    assert!(rt;
-        read_input(rt.alloc(), 4, &mut Watched::new(&mut reader)).err() == Some(ReadFault::TooLong)
-    );
+    expect_taken(&rt, 4, Some(5), ReadFault::TooLong, 5);
 }

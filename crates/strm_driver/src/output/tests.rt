@@ -1,41 +1,42 @@
 use super::{WriteFault, write_text};
 use crate::faulty::choppy_writer;
 use crate::watched::Watched;
-use std::test::Fail;
+use std::process::Abort;
 
 const TEXT: &[u8] = b"0:7 ok\n0:8 ok\n";
 
-#[test]
-fn writes_piece_by_piece(rt: HostRuntime) -> Result<(), Fail> {
-    let mut writer = choppy_writer(rt.alloc(), 3, None);
-    write_text(&mut Watched::new(&mut writer), TEXT)?;
-    assert!(rt; writer.got.as_slice() == TEXT);
-    let mut writer = choppy_writer(rt.alloc(), 3, None);
-    write_text(&mut Watched::new(&mut writer), b"")?;
-    assert!(rt; writer.got.is_empty());
-    Ok(())
+// A text is written to a writer that takes so many bytes at a time and may fail, with this result, and so the writer has these bytes.
+fn expect(
+    rt: &(impl Abort + AllocGlobal),
+    text: &[u8],
+    most: usize,
+    cut: Option<usize>,
+    wanted: Result<(), WriteFault>,
+    got: &[u8],
+) {
+    let mut writer = choppy_writer(rt.alloc(), most, cut);
+    let found = write_text(&mut Watched::new(&mut writer), text);
+    assert!(rt; found == wanted);
+    assert!(rt; writer.got.as_slice() == got);
 }
 
 #[test]
-fn a_failing_writer_has_the_beginning(rt: HostRuntime) -> Result<(), Fail> {
-    let mut writer = choppy_writer(rt.alloc(), 5, Some(10));
-    assert!(rt; write_text(&mut Watched::new(&mut writer), TEXT) == Err(WriteFault));
-    assert!(rt; writer.got.as_slice() == b"0:7 ok\n0:8".as_slice());
-    Ok(())
+fn writes_piece_by_piece(rt: HostRuntime) {
+    expect(&rt, TEXT, 3, None, Ok(()), TEXT);
+    expect(&rt, b"", 3, None, Ok(()), b"");
 }
 
 #[test]
-fn a_writer_that_takes_nothing_is_a_write_fault(rt: HostRuntime) -> Result<(), Fail> {
-    let mut writer = choppy_writer(rt.alloc(), 0, None);
-    assert!(rt; write_text(&mut Watched::new(&mut writer), TEXT) == Err(WriteFault));
-    assert!(rt; writer.got.is_empty());
-    Ok(())
+fn a_failing_writer_has_the_beginning(rt: HostRuntime) {
+    expect(&rt, TEXT, 5, Some(10), Err(WriteFault), b"0:7 ok\n0:8");
 }
 
 #[test]
-fn a_failing_flush_is_a_write_fault(rt: HostRuntime) -> Result<(), Fail> {
-    let mut writer = choppy_writer(rt.alloc(), 100, Some(TEXT.len()));
-    assert!(rt; write_text(&mut Watched::new(&mut writer), TEXT) == Err(WriteFault));
-    assert!(rt; writer.got.as_slice() == TEXT);
-    Ok(())
+fn a_writer_that_takes_nothing_is_a_write_fault(rt: HostRuntime) {
+    expect(&rt, TEXT, 0, None, Err(WriteFault), b"");
+}
+
+#[test]
+fn a_failing_flush_is_a_write_fault(rt: HostRuntime) {
+    expect(&rt, TEXT, 100, Some(TEXT.len()), Err(WriteFault), TEXT);
 }

@@ -3,12 +3,11 @@ ghost use Rattle.strm_script.specs.Limits.{most_script_bytes};
 
 use super::{Mode, run};
 use crate::fault::RunFault;
-use crate::faulty::{Choppy, choppy_writer, slow_reader};
+use crate::faulty::{Choppy, Slow, choppy_writer, slow_reader};
 use crate::watched::Watched;
 use std::process::Abort;
 use std::sync::Wait;
 use std::sync::atomic::{AtomicU32, Ordering};
-use std::test::Fail;
 use std::thread::Threads;
 use strm_pool::Which;
 use strm_script::{Fault, Kind};
@@ -36,40 +35,58 @@ const SECTIONS_TEXT: &[u8] =
     b"0:6 ok\n0:7 ok\n0:8 ok\n1:10 empty\n1:11 ok\n1:12 census 6 0 2\nblocks free=6 queued=0 held=2 total=8\n\
       data size=16 free=2 total=4\nqueue 0 msgs=0 bytes=0 read=0 noenable=0 enabled=1\nrun 0\nwishes -\n";
 
-// What is written for a script to a writer that takes one byte at a time.
-fn written(
+// The fault of a run from this reader to this writer, if any.
+fn fault_of(
     rt: &(impl AllocGlobal + Threads + Wait + Sync),
     mode: Mode,
+    max: u32,
     gate: &impl Gate,
-    script: &[u8],
-) -> Result<Vec<u8>, Fail> {
-    let mut writer = choppy_writer(rt.alloc(), 1, None);
+    reader: Slow<'_>,
+    writer: &mut Choppy,
+) -> Option<RunFault>
+    requires least { 1 ≤ max }
+    requires most { max ≤ most_script_bytes }
+{
     run(
         rt,
         mode,
-        MAX,
+        max,
         gate,
-        &mut Watched::new(slow_reader(script, None)),
-        &mut Watched::new(&mut writer),
-    )?;
-    Ok(writer.got)
+        &mut Watched::new(reader),
+        &mut Watched::new(writer),
+    )
+    .err()
+}
+
+// What is written for a script to a writer that takes one byte at a time.
+fn written(
+    rt: &(impl Abort + AllocGlobal + Threads + Wait + Sync),
+    mode: Mode,
+    gate: &impl Gate,
+    script: &[u8],
+) -> Vec<u8> {
+    let mut writer = choppy_writer(rt.alloc(), 1, None);
+    let fault = fault_of(rt, mode, MAX, gate, slow_reader(script, None), &mut writer);
+    assert!(rt; fault.is_none());
+    writer.got
+}
+
+// A text is the one that is wanted.
+fn expect_text(rt: &impl Abort, text: &[u8], wanted: &[u8]) {
+    assert_eq!(rt; text, wanted);
 }
 
 #[test]
-fn goes_byte_by_byte(rt: HostRuntime) -> Result<(), Fail> {
+fn goes_byte_by_byte(rt: HostRuntime) {
     for mode in [Mode::Serial, Mode::Workers] {
-        assert_eq!(rt; written(&rt, mode, &OpenGate, SCRIPT)?.as_slice(), TEXT);
+        expect_text(&rt, &written(&rt, mode, &OpenGate, SCRIPT), TEXT);
     }
-    Ok(())
 }
 
 #[test]
-fn serves_one_section_after_the_other(rt: HostRuntime) -> Result<(), Fail> {
-    assert_eq!(rt;
-        written(&rt, Mode::Serial, &OpenGate, SECTIONS)?.as_slice(),
-        SECTIONS_TEXT
-    );
-    Ok(())
+fn serves_one_section_after_the_other(rt: HostRuntime) {
+    let text = written(&rt, Mode::Serial, &OpenGate, SECTIONS);
+    expect_text(&rt, &text, SECTIONS_TEXT);
 }
 
 // Two sections of two lines each: lines 6 and 7, and lines 9 and 10.
@@ -141,47 +158,43 @@ impl Gate for Meeting {
     }
 }
 
-// What is written for a script, where the gate was told these lines before and after, and nobody waited in vain.
-fn written_at_a_gate(
+// A count of a gate is the one that is wanted.
+fn expect_count(rt: &impl Abort, count: &AtomicU32, wanted: u32) {
+    assert_eq!(rt; count.load(Ordering::SeqCst), wanted);
+}
+
+// What is written for the script of the meeting, where the gate was told these lines before and after, and nobody waited in vain.
+fn written_at_a_meeting(
     rt: &(impl Abort + AllocGlobal + Threads + Wait + Sync),
     mode: Mode,
-    script: &[u8],
     told: u32,
-) -> Result<Vec<u8>, Fail> {
+) -> Vec<u8> {
     let gate = Meeting::new();
-    let text = written(rt, mode, &gate, script)?;
-    assert_eq!(rt; gate.came.load(Ordering::SeqCst), told);
-    assert_eq!(rt; gate.answered.load(Ordering::SeqCst), told);
-    assert_eq!(rt; gate.missed.load(Ordering::SeqCst), 0);
-    Ok(text)
+    let text = written(rt, mode, &gate, MEETING);
+    expect_count(rt, &gate.came, told);
+    expect_count(rt, &gate.answered, told);
+    expect_count(rt, &gate.missed, 0);
+    text
 }
 
 // The bytes of a text, in the order of their values.
-fn sorted(rt: &impl AllocGlobal, text: &[u8]) -> Result<Vec<u8>, Fail> {
-    let mut bytes = Vec::new(rt.alloc());
-    bytes.extend_from_slice(text)?;
+fn sorted(rt: &(impl Abort + AllocGlobal), text: &[u8]) -> Vec<u8> {
+    let mut bytes = Vec::from_slice(rt.alloc(), text).expect(rt, "memory");
     bytes.sort_unstable();
-    Ok(bytes)
+    bytes
 }
 
 // In which order they are served is not said.
 #[test]
-fn workers_run_at_once(rt: HostRuntime) -> Result<(), Fail> {
-    let text = written_at_a_gate(&rt, Mode::Workers, MEETING, EACH_LINE)?;
-    assert_eq!(rt;
-        sorted(&rt, &text)?.as_slice(),
-        sorted(&rt, MEETING_TEXT)?.as_slice()
-    );
-    Ok(())
+fn workers_run_at_once(rt: HostRuntime) {
+    let text = written_at_a_meeting(&rt, Mode::Workers, EACH_LINE);
+    expect_text(&rt, &sorted(&rt, &text), &sorted(&rt, MEETING_TEXT));
 }
 
 #[test]
-fn a_line_that_no_worker_serves_passes_no_gate(rt: HostRuntime) -> Result<(), Fail> {
-    assert_eq!(rt;
-        written_at_a_gate(&rt, Mode::Serial, MEETING, 0)?.as_slice(),
-        MEETING_TEXT
-    );
-    Ok(())
+fn a_line_that_no_worker_serves_passes_no_gate(rt: HostRuntime) {
+    let text = written_at_a_meeting(&rt, Mode::Serial, 0);
+    expect_text(&rt, &text, MEETING_TEXT);
 }
 
 // A gate that counts the lines of worker 0 that come, those that were answered, and those of any other worker.
@@ -218,16 +231,12 @@ impl Gate for Count {
 }
 
 #[test]
-fn a_worker_serves_one_section(rt: HostRuntime) -> Result<(), Fail> {
+fn a_worker_serves_one_section(rt: HostRuntime) {
     let gate = Count::new();
-    assert_eq!(rt;
-        written(&rt, Mode::Workers, &gate, SCRIPT)?.as_slice(),
-        TEXT
-    );
-    assert_eq!(rt; gate.came.load(Ordering::SeqCst), 7);
-    assert_eq!(rt; gate.answered.load(Ordering::SeqCst), 7);
-    assert_eq!(rt; gate.strange.load(Ordering::SeqCst), 0);
-    Ok(())
+    expect_text(&rt, &written(&rt, Mode::Workers, &gate, SCRIPT), TEXT);
+    expect_count(&rt, &gate.came, 7);
+    expect_count(&rt, &gate.answered, 7);
+    expect_count(&rt, &gate.strange, 0);
 }
 
 // Two sections at one queue, each with a register a of its own.
@@ -293,33 +302,28 @@ impl Gate for Turns {
 }
 
 #[test]
-fn writes_the_order_in_which_workers_were_served(rt: HostRuntime) -> Result<(), Fail> {
+fn writes_the_order_in_which_workers_were_served(rt: HostRuntime) {
     let gate = Turns::new();
-    assert_eq!(rt;
-        written(&rt, Mode::Workers, &gate, TURNS)?.as_slice(),
-        TURNS_TEXT
-    );
-    assert_eq!(rt; gate.missed.load(Ordering::SeqCst), 0);
-    Ok(())
+    let text = written(&rt, Mode::Workers, &gate, TURNS);
+    expect_text(&rt, &text, TURNS_TEXT);
+    expect_count(&rt, &gate.missed, 0);
 }
 
-// The fault of a run of this script to a writer that may fail.
-fn fault_to(
-    rt: &(impl AllocGlobal + Threads + Wait + Sync),
+// A run from this reader has this fault, and writes nothing.
+fn expect_fault(
+    rt: &(impl Abort + AllocGlobal + Threads + Wait + Sync),
     mode: Mode,
-    gate: &impl Gate,
-    script: &[u8],
-    writer: &mut Choppy,
-) -> Option<RunFault> {
-    run(
-        rt,
-        mode,
-        MAX,
-        gate,
-        &mut Watched::new(slow_reader(script, None)),
-        &mut Watched::new(writer),
-    )
-    .err()
+    max: u32,
+    reader: Slow<'_>,
+    wanted: RunFault,
+)
+    requires least { 1 ≤ max }
+    requires most { max ≤ most_script_bytes }
+{
+    let mut writer = choppy_writer(rt.alloc(), 100, None);
+    let fault = fault_of(rt, mode, max, &OpenGate, reader, &mut writer);
+    assert!(rt; fault == Some(wanted), "{fault:?}");
+    assert!(rt; writer.got.is_empty());
 }
 
 // Each of its reads, of a byte each, fails in turn.
@@ -327,32 +331,35 @@ fn fault_to(
 fn a_failing_reader_leaves_nothing_written(rt: HostRuntime) {
     for mode in [Mode::Serial, Mode::Workers] {
         for cut in 0..=SCRIPT.len() {
-            let mut writer = choppy_writer(rt.alloc(), 100, None);
-            let fault = run(
-                &rt,
-                mode,
-                MAX,
-                &OpenGate,
-                &mut Watched::new(slow_reader(SCRIPT, Some(cut))),
-                &mut Watched::new(&mut writer),
-            )
-            .err();
-            assert!(rt; fault == Some(RunFault::Read), "at {cut}");
-            assert!(rt; writer.got.is_empty());
+            let reader = slow_reader(SCRIPT, Some(cut));
+            expect_fault(&rt, mode, MAX, reader, RunFault::Read);
         }
     }
 }
 
-// Each of its writes, of a byte each, fails in turn, and then the flush. No other call comes behind it.
+// A run to a writer that takes so many bytes at a time, and fails behind this beginning of the text, has a write fault. No other
+// call comes behind it.
+fn expect_beginning(
+    rt: &(impl Abort + AllocGlobal + Threads + Wait + Sync),
+    mode: Mode,
+    gate: &impl Gate,
+    script: &[u8],
+    most: usize,
+    beginning: &[u8],
+) {
+    let mut writer = choppy_writer(rt.alloc(), most, Some(beginning.len()));
+    let fault = fault_of(rt, mode, MAX, gate, slow_reader(script, None), &mut writer);
+    assert!(rt; fault == Some(RunFault::Write), "at {}", beginning.len());
+    expect_text(rt, &writer.got, beginning);
+    assert!(rt; writer.faults == 1);
+}
+
+// Each of its writes, of a byte each, fails in turn, and then the flush.
 #[test]
 fn a_failing_writer_has_the_beginning(rt: HostRuntime) {
     for mode in [Mode::Serial, Mode::Workers] {
         for cut in 0..=TEXT.len() {
-            let mut writer = choppy_writer(rt.alloc(), 1, Some(cut));
-            let fault = fault_to(&rt, mode, &OpenGate, SCRIPT, &mut writer);
-            assert!(rt; fault == Some(RunFault::Write), "at {cut}");
-            assert_eq!(rt; writer.got.as_slice(), &TEXT[..cut]);
-            assert_eq!(rt; writer.faults, 1);
+            expect_beginning(&rt, mode, &OpenGate, SCRIPT, 1, &TEXT[..cut]);
         }
     }
 }
@@ -361,44 +368,28 @@ fn a_failing_writer_has_the_beginning(rt: HostRuntime) {
 fn a_failing_writer_has_the_beginning_of_what_two_workers_were_served(rt: HostRuntime) {
     for cut in [0, 7, 21] {
         let gate = Turns::new();
-        let mut writer = choppy_writer(rt.alloc(), 7, Some(cut));
-        let fault = fault_to(&rt, Mode::Workers, &gate, TURNS, &mut writer);
-        assert!(rt; fault == Some(RunFault::Write), "at {cut}");
-        assert_eq!(rt; writer.got.as_slice(), &TURNS_TEXT[..cut]);
-        assert_eq!(rt; gate.missed.load(Ordering::SeqCst), 0);
+        expect_beginning(&rt, Mode::Workers, &gate, TURNS, 7, &TURNS_TEXT[..cut]);
+        expect_count(&rt, &gate.missed, 0);
     }
-}
-
-// Why a run of this script fails, where it has written nothing.
-fn fault_of(
-    rt: &(impl AllocGlobal + Threads + Wait + Sync),
-    max: u32,
-    script: &[u8],
-) -> Option<RunFault>
-    requires least { 1 ≤ max }
-    requires most { max ≤ most_script_bytes }
-{
-    let mut writer = choppy_writer(rt.alloc(), 100, None);
-    let fault = run(
-        rt,
-        Mode::Serial,
-        max,
-        &OpenGate,
-        &mut Watched::new(slow_reader(script, None)),
-        &mut Watched::new(&mut writer),
-    )
-    .err();
-    if writer.got.is_empty() { fault } else { None }
 }
 
 #[test]
 fn tells_the_first_fault(rt: HostRuntime) {
-    assert!(rt; fault_of(&rt, 40, SCRIPT) == Some(RunFault::TooLong));
+    let reader = slow_reader(SCRIPT, None);
+    expect_fault(&rt, Mode::Serial, 40, reader, RunFault::TooLong);
     let unknown = Fault {
         line: 2,
         kind: Kind::Unknown,
     };
-    assert!(rt; fault_of(&rt, MAX, b"pool 1 0\nalloc a 3\n") == Some(RunFault::Script(unknown)));
+    let reader = slow_reader(b"pool 1 0\nalloc a 3\n", None);
+    expect_fault(&rt, Mode::Serial, MAX, reader, RunFault::Script(unknown));
     let unlawful = b"pool 1 0\nclass 16 4\nqueue 10 4 s -\nbufcalls 2 0\nworker\n";
-    assert!(rt; fault_of(&rt, MAX, unlawful) == Some(RunFault::Config(Which::Mblks)));
+    let reader = slow_reader(unlawful, None);
+    expect_fault(
+        &rt,
+        Mode::Serial,
+        MAX,
+        reader,
+        RunFault::Config(Which::Mblks),
+    );
 }

@@ -1,20 +1,25 @@
 use super::{Options, options_of};
 use crate::run::Mode;
-use std::alloc::Global;
-use std::test::Fail;
+use std::process::Abort;
 
-// What these words ask for behind the program's name, or nothing where they are refused.
-fn asked(alloc: Global, words: &[&str]) -> Result<Option<Options>, Fail> {
-    let mut all = Vec::new(alloc);
-    all.push("strm".to_string(alloc)?)?;
-    for word in words {
-        all.push(word.to_string(alloc)?)?;
+// The words behind the program's name.
+fn words_of(rt: &(impl Abort + AllocGlobal), words: &[&str]) -> Vec<String> {
+    let mut all = Vec::new(rt.alloc());
+    for word in ["strm"].iter().chain(words) {
+        let word = word.to_string(rt.alloc()).expect(rt, "memory");
+        all.push(word).expect(rt, "memory");
     }
-    Ok(options_of(alloc, &all).ok())
+    all
+}
+
+// These words ask for these options, or are refused where there are none.
+fn expect(rt: &(impl Abort + AllocGlobal), words: &[&str], wanted: Option<Options>) {
+    let found = options_of(rt.alloc(), &words_of(rt, words)).ok();
+    assert!(rt; found == wanted, "{words:?}");
 }
 
 #[test]
-fn reads_what_the_words_ask_for(rt: HostRuntime) -> Result<(), Fail> {
+fn reads_what_the_words_ask_for(rt: HostRuntime) {
     let rows = [
         (&[][..], Mode::Workers, 1_048_576),
         (&["--serial"], Mode::Serial, 1_048_576),
@@ -22,13 +27,12 @@ fn reads_what_the_words_ask_for(rt: HostRuntime) -> Result<(), Fail> {
         (&["--max=16777216", "--serial"], Mode::Serial, 16_777_216),
     ];
     for (words, mode, max) in rows {
-        assert_eq!(rt; asked(rt.alloc(), words)?, Some(Options { mode, max }));
+        expect(&rt, words, Some(Options { mode, max }));
     }
-    Ok(())
 }
 
 #[test]
-fn refuses_other_words(rt: HostRuntime) -> Result<(), Fail> {
+fn refuses_other_words(rt: HostRuntime) {
     let rows = [
         &["--max", "0"][..],
         &["--max", "16777217"],
@@ -39,7 +43,6 @@ fn refuses_other_words(rt: HostRuntime) -> Result<(), Fail> {
         &["--help"],
     ];
     for words in rows {
-        assert_eq!(rt; asked(rt.alloc(), words)?, None, "{words:?}");
+        expect(&rt, words, None);
     }
-    Ok(())
 }
