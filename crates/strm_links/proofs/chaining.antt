@@ -10,4 +10,3 @@ pub mod Divided
 pub mod TakenOut
 pub mod Freed
 pub mod SecondFreed
-pub mod NodeCounts

@@ -385,6 +385,3 @@ impl Links {
         let _ = &self.nodes;
     }
 }
-
-#[cfg(test)]
-mod tests;

@@ -147,6 +147,3 @@ impl Stacks {
         let _ = &self.behind;
     }
 }
-
-#[cfg(test)]
-mod tests;

@@ -438,6 +438,3 @@ impl Strands {
         let _ = &self.nodes;
     }
 }
-
-#[cfg(test)]
-mod tests;

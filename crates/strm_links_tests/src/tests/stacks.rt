@@ -1,9 +1,10 @@
 //! Worked rows, and a drawn run beside plain vectors.
 ghost use Rattle.std.specs.Prelude.{◌≡◌, ◌<◌, IfOk, length, vec_len};
 
-use super::Stacks;
+use super::below;
 use std::alloc::{AllocError, Global};
 use std::process::Abort;
+use strm_links::Stacks;
 
 #[test]
 fn worked_rows(rt: HostRuntime) {
@@ -93,15 +94,6 @@ impl Twin {
         assert_eq!(rt; self.stacks.front(list), plain.last().copied());
         assert_eq!(rt; self.stacks.len(list) as usize, plain.len());
     }
-}
-
-// The next number below `limit` of a fixed sequence.
-fn below(draw: &mut u32, limit: u32) -> u32
-    requires { 0 < limit }
-    ensures { result < limit }
-{
-    *draw = draw.wrapping_mul(1_664_525).wrapping_add(1_013_904_223);
-    (*draw >> 8) % limit
 }
 
 #[test]

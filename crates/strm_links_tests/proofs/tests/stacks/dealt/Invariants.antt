@@ -1,6 +1,6 @@
 use Rattle.std.proofs.Common.{◌≡◌, ℕ, ◌≤◌, None, length}
 use Rattle.strm_links.specs.Rows.{holder}
-use Rattle.strm_links.proofs.stacks.tests.dealt.Given as goal
+use Rattle.strm_links_tests.proofs.tests.stacks.dealt.Given as goal
 
 -- the nodes from here on are in no stack
 abbrev pub invariant-loop-node : goal.invariant-loop-node

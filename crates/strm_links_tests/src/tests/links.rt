@@ -1,10 +1,11 @@
 //! Worked rows, and a long run beside plain vectors.
 ghost use Rattle.std.specs.Prelude.{◌≡◌, ◌<◌, length, vec_len};
 
-use super::Links;
+use super::below;
 use std::alloc::{AllocError, Global};
 use std::mem;
 use std::process::Abort;
+use strm_links::Links;
 
 // The nodes of a list, by `next` from its front.
 fn forward(alloc: Global, links: &Links, list: u32) -> Result<Vec<u32>, AllocError>
@@ -222,15 +223,6 @@ fn neighbours(rt: &impl Abort, plain: &[u32], node: u32) -> (Option<u32>, Option
     let before = place.checked_sub(1).and_then(|i| plain.get(i).copied());
     let after = place.checked_add(1).and_then(|i| plain.get(i).copied());
     (before, after)
-}
-
-// The next number below `limit` of a fixed sequence.
-fn below(draw: &mut u32, limit: u32) -> u32
-    requires { 0 < limit }
-    ensures { result < limit }
-{
-    *draw = draw.wrapping_mul(1_664_525).wrapping_add(1_013_904_223);
-    (*draw >> 8) % limit
 }
 
 #[test]

@@ -1,10 +1,11 @@
 //! Worked rows, and a long run beside plain vectors.
 ghost use Rattle.std.specs.Prelude.{◌≡◌, ◌<◌, length, vec_len};
 
-use super::Strands;
+use super::below;
 use std::alloc::{AllocError, Global};
 use std::mem;
 use std::process::Abort;
+use strm_links::Strands;
 
 const NODES: u32 = 250;
 
@@ -20,7 +21,7 @@ struct Twin {
     ghost chain_count: { vec_len chains ≡ 250 },
 }
 
-#[tactic(auto, using(crate::proofs::chaining::NodeCounts::node_counts))]
+#[tactic(auto, using(crate::proofs::NodeCounts::node_counts))]
 impl Twin {
     fn new(alloc: Global) -> Result<Self, AllocError> {
         let strands = Strands::new(alloc, NODES)?;
@@ -175,15 +176,6 @@ impl Twin {
             self.begin(rt);
         }
     }
-}
-
-// The next number below `limit` of a fixed sequence.
-fn below(draw: &mut u32, limit: u32) -> u32
-    requires { 0 < limit }
-    ensures { result < limit }
-{
-    *draw = draw.wrapping_mul(1_664_525).wrapping_add(1_013_904_223);
-    (*draw >> 8) % limit
 }
 
 #[test]
