@@ -1,8 +1,19 @@
 ghost use Rattle.std.specs.Prelude.{◌<◌};
 
+use std::process::Abort;
+
 mod links;
+mod plain;
 mod stacks;
 mod strands;
+
+// Reading has come to this node, one of so many.
+fn assert_at(rt: &impl Abort, at: Option<u32>, node: u32, nodes: u32)
+    ensures { node < nodes }
+{
+    assert!(rt; at == Some(node));
+    assert!(rt; node < nodes);
+}
 
 // The next number below `limit` of a fixed sequence.
 fn below(draw: &mut u32, limit: u32) -> u32

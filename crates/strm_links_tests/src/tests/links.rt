@@ -1,156 +1,101 @@
 //! Worked rows, and a long run beside plain vectors.
-ghost use Rattle.std.specs.Prelude.{◌≡◌, ◌<◌, length, vec_len};
+ghost use Rattle.std.specs.Prelude.{◌≡◌, ◌<◌, IsSome, None, length};
+ghost use Rattle.strm_links.specs.Rows.{holder};
 
-use super::below;
-use std::alloc::{AllocError, Global};
-use std::mem;
+use super::plain::Plain;
+use super::{assert_at, below};
+use std::alloc::Global;
 use std::process::Abort;
 use strm_links::Links;
-
-// The nodes of a list, by `next` from its front.
-fn forward(alloc: Global, links: &Links, list: u32) -> Result<Vec<u32>, AllocError>
-    requires { list < length links.now.lists }
-{
-    let mut nodes = Vec::new(alloc);
-    let mut at = links.front(list);
-    for _ in 0..links.len(list) {
-        if let Some(node) = at {
-            nodes.push(node)?;
-            at = links.next(node);
-        }
-    }
-    Ok(nodes)
-}
-
-// The nodes of a list, by `prev` from its back, and then turned round.
-fn backward(alloc: Global, links: &Links, list: u32) -> Result<Vec<u32>, AllocError>
-    requires { list < length links.now.lists }
-{
-    let mut nodes = Vec::new(alloc);
-    let mut at = links.back(list);
-    for _ in 0..links.len(list) {
-        if let Some(node) = at {
-            nodes.push(node)?;
-            at = links.prev(node);
-        }
-    }
-    nodes.reverse();
-    Ok(nodes)
-}
-
-// A list has these nodes, read forward and backward.
-fn assert_reads(rt: &impl Abort, alloc: Global, links: &Links, list: u32, nodes: &[u32])
-    requires { list < length links.now.lists }
-{
-    assert_eq!(rt;
-        forward(alloc, links, list).expect(rt, "memory").as_slice(),
-        nodes
-    );
-    assert_eq!(rt;
-        backward(alloc, links, list).expect(rt, "memory").as_slice(),
-        nodes
-    );
-}
-
-#[test]
-fn worked_rows(rt: HostRuntime) {
-    let mut links = Links::new(rt.alloc(), 4, 2).expect(&rt, "memory");
-    links.push_back(0, 1);
-    links.push_back(0, 3);
-    links.insert_before(3, 2);
-    links.push_front(1, 0);
-    assert_reads(&rt, rt.alloc(), &links, 0, &[1, 2, 3]);
-    assert_reads(&rt, rt.alloc(), &links, 1, &[0]);
-    links.remove(2);
-    assert_eq!(rt; links.prev(3), Some(1));
-    assert_eq!(rt; links.next(1), Some(3));
-    assert_eq!(rt; links.list_of(2), None);
-    links.append(0, 1);
-    assert_reads(&rt, rt.alloc(), &links, 0, &[1, 3, 0]);
-    assert_eq!(rt; links.list_of(0), Some(0));
-    assert_eq!(rt; links.back(0), Some(0));
-    assert_eq!(rt; links.front(1), None);
-    assert_eq!(rt; links.len(0), 3);
-}
 
 const NODES: u32 = 4000;
 
 const LISTS: u32 = 50;
 
-// The same lists twice: linked by index, and as plain vectors.
+// A node is free.
+fn assert_free(rt: &impl Abort, links: &Links, node: u32)
+    requires { node < links.now.nodes }
+    ensures { holder node links.now ≡ None }
+{
+    assert!(rt; links.list_of(node).is_none());
+}
+
+// A node is in this list.
+fn assert_held(rt: &impl Abort, links: &Links, node: u32, list: u32)
+    requires { node < links.now.nodes }
+    ensures { IsSome (holder node links.now) }
+{
+    assert!(rt; links.list_of(node) == Some(list));
+}
+
+// So many nodes and lists twice: linked by index, and as plain lists.
 #[derive(Drop)]
 struct Twin {
     links: Links,
-    plain: Vec<Vec<u32>>,
-    ghost node_count: { links.nodes ≡ 4000 },
-    ghost list_count: { length links.lists ≡ 50 },
-    ghost plain_count: { vec_len plain ≡ 50 },
+    plain: Plain,
+    nodes: u32,
+    lists: u32,
+    ghost node_count: { links.nodes ≡ nodes },
+    ghost list_count: { length links.lists ≡ lists },
 }
 
 impl Twin {
-    fn new(alloc: Global) -> Result<Self, AllocError> {
-        let links = Links::new(alloc, NODES, LISTS)?;
-        let mut plain = Vec::new(alloc);
-        for _list in 0..LISTS {
-            plain.push(Vec::new(alloc))?;
+    fn new(rt: &impl Abort, alloc: Global, nodes: u32, lists: u32) -> Twin {
+        Twin {
+            links: Links::new(alloc, nodes, lists).expect(rt, "memory"),
+            plain: Plain::new(rt, alloc, lists),
+            nodes,
+            lists,
         }
-        Ok(Twin { links, plain })
     }
 
     // Puts a free node in front of a list.
     fn push_front(&mut self, rt: &impl Abort, list: u32, node: u32) {
-        assert!(rt; list < LISTS && node < NODES);
-        assert_eq!(rt; self.links.list_of(node), None);
+        assert!(rt; list < self.lists && node < self.nodes);
+        assert_free(rt, &self.links, node);
         self.links.push_front(list, node);
-        self.plain[list as usize]
-            .insert(0, node)
-            .expect(rt, "memory");
+        self.plain.insert(rt, list, 0, node);
     }
 
     // Puts a free node behind a list.
     fn push_back(&mut self, rt: &impl Abort, list: u32, node: u32) {
-        assert!(rt; list < LISTS && node < NODES);
-        assert_eq!(rt; self.links.list_of(node), None);
+        assert!(rt; list < self.lists && node < self.nodes);
+        assert_free(rt, &self.links, node);
         self.links.push_back(list, node);
-        self.plain[list as usize].push(node).expect(rt, "memory");
+        self.plain.push(rt, list, node);
     }
 
     // Puts a free node just before one of a list.
     fn insert_before(&mut self, rt: &impl Abort, list: u32, at: u32, node: u32) {
-        assert!(rt; list < LISTS && at < NODES && node < NODES);
-        assert_eq!(rt; self.links.list_of(at), Some(list));
-        assert_eq!(rt; self.links.list_of(node), None);
+        assert!(rt; at < self.nodes && node < self.nodes);
+        assert_held(rt, &self.links, at, list);
+        assert_free(rt, &self.links, node);
         self.links.insert_before(at, node);
-        let plain = &mut self.plain[list as usize];
-        let place = place_of(rt, plain, at);
-        plain.insert(place, node).expect(rt, "memory");
+        let place = self.plain.place_of(rt, list, at);
+        self.plain.insert(rt, list, place, node);
     }
 
     // Takes a node out of its list.
     fn remove(&mut self, rt: &impl Abort, list: u32, node: u32) {
-        assert!(rt; list < LISTS && node < NODES);
-        assert_eq!(rt; self.links.list_of(node), Some(list));
+        assert!(rt; node < self.nodes);
+        assert_held(rt, &self.links, node, list);
         self.links.remove(node);
-        let plain = &mut self.plain[list as usize];
-        let place = place_of(rt, plain, node);
-        plain.remove(place);
+        let place = self.plain.place_of(rt, list, node);
+        let _ = self.plain.remove(rt, list, place);
     }
 
     // Puts one list behind another.
     fn append(&mut self, rt: &impl Abort, to: u32, from: u32) {
-        assert!(rt; to < LISTS && from < LISTS && to != from);
+        assert!(rt; to < self.lists && from < self.lists && to != from);
         self.links.append(to, from);
-        let tail = mem::try_take(&mut self.plain[from as usize]).expect(rt, "memory");
-        self.plain[to as usize]
-            .extend(tail.iter().copied())
-            .expect(rt, "memory");
+        self.plain.append(rt, to, from);
     }
 
     // The next call of the long run, drawn at random.
     fn step(&mut self, rt: &impl Abort, draw: &mut u32) {
         let node = below(draw, NODES);
         let list = below(draw, LISTS);
-        match self.links.list_of(node) {
+        match self.list_of(rt, node) {
             None => self.join(rt, draw, list, node),
             Some(held) if held != list && below(draw, 16) == 0 => self.append(rt, held, list),
             Some(held) => self.remove(rt, held, node),
@@ -162,81 +107,156 @@ impl Twin {
     // Puts a free node into a list, at one end or before a node that is drawn too.
     fn join(&mut self, rt: &impl Abort, draw: &mut u32, list: u32, node: u32) {
         let at = below(draw, NODES);
-        match self.links.list_of(at) {
+        match self.list_of(rt, at) {
             Some(held) => self.insert_before(rt, held, at, node),
             None if below(draw, 2) == 0 => self.push_front(rt, list, node),
             None => self.push_back(rt, list, node),
         }
     }
 
-    // The ends and the length of a list are those of its plain vector.
+    // The list that a node is in, if it is in one.
+    fn list_of(&self, rt: &impl Abort, node: u32) -> Option<u32> {
+        assert!(rt; node < self.nodes);
+        self.links.list_of(node)
+    }
+
+    fn assert_list_of(&self, rt: &impl Abort, node: u32, list: Option<u32>) {
+        assert!(rt; self.list_of(rt, node) == list);
+    }
+
+    // A list has so many nodes.
+    fn assert_len(&self, rt: &impl Abort, list: u32, len: usize) {
+        assert!(rt; list < self.lists);
+        assert!(rt; self.links.len(list) as usize == len);
+    }
+
+    // A list has this front and this back.
+    fn assert_ends(&self, rt: &impl Abort, list: u32, ends: (Option<u32>, Option<u32>)) {
+        assert!(rt; list < self.lists);
+        assert!(rt; (self.links.front(list), self.links.back(list)) == ends);
+    }
+
+    // The ends and the length of a list are those of its plain one.
     fn compare_ends(&self, rt: &impl Abort, list: u32) {
-        assert!(rt; list < LISTS);
-        let plain = &self.plain[list as usize];
-        assert_eq!(rt; self.links.front(list), plain.first().copied());
-        assert_eq!(rt; self.links.back(list), plain.last().copied());
-        assert_eq!(rt; self.links.len(list) as usize, plain.len());
+        let plain = self.plain.list(rt, list);
+        self.assert_ends(rt, list, (plain.first().copied(), plain.last().copied()));
+        self.assert_len(rt, list, plain.len());
     }
 
-    // The neighbours of a node are those in the plain vector of its list.
+    // A node has these before and behind it.
+    fn assert_neighbours(
+        &self,
+        rt: &impl Abort,
+        node: u32,
+        neighbours: (Option<u32>, Option<u32>),
+    ) {
+        assert!(rt; node < self.nodes);
+        assert!(rt; (self.links.prev(node), self.links.next(node)) == neighbours);
+    }
+
+    // The neighbours of a node are those in the plain list.
     fn compare_node(&self, rt: &impl Abort, node: u32) {
-        assert!(rt; node < NODES);
-        let (before, after) = match self.links.list_of(node) {
+        let neighbours = match self.list_of(rt, node) {
             None => (None, None),
-            Some(list) => neighbours(rt, &self.plain[list as usize], node),
+            Some(list) => self.plain.neighbours(rt, list, node),
         };
-        assert_eq!(rt; self.links.prev(node), before);
-        assert_eq!(rt; self.links.next(node), after);
+        self.assert_neighbours(rt, node, neighbours);
     }
 
-    // Every list reads as its plain vector, both ways, and every other node is free.
-    fn compare_all(&self, rt: &impl Abort, alloc: Global) {
-        let mut listed = 0;
-        for list in 0..LISTS {
-            let plain = self.plain[list as usize].as_slice();
-            assert_reads(rt, alloc, &self.links, list, plain);
-            for node in plain {
-                assert!(rt; *node < NODES);
-                assert_eq!(rt; self.links.list_of(*node), Some(list));
-            }
-            listed = plain.len().saturating_add(listed);
+    // A list has these nodes, by `next` from its front.
+    fn assert_forward(&self, rt: &impl Abort, list: u32, nodes: &[u32]) {
+        assert!(rt; list < self.lists);
+        let mut at = self.links.front(list);
+        for node in nodes {
+            assert_at(rt, at, *node, self.nodes);
+            at = self.links.next(*node);
         }
-        let free = (0..NODES)
-            .filter(|node| self.links.list_of(*node).is_none())
-            .count();
-        assert_eq!(rt; listed.saturating_add(free), NODES as usize);
+        assert!(rt; at.is_none());
+    }
+
+    // A list has these nodes, by `prev` from its back.
+    fn assert_backward(&self, rt: &impl Abort, list: u32, nodes: &[u32]) {
+        assert!(rt; list < self.lists);
+        let mut at = self.links.back(list);
+        for node in nodes.iter().rev() {
+            assert_at(rt, at, *node, self.nodes);
+            at = self.links.prev(*node);
+        }
+        assert!(rt; at.is_none());
+    }
+
+    // A list has these nodes, as many as it tells, read forward and backward.
+    fn assert_reads(&self, rt: &impl Abort, list: u32, nodes: &[u32]) {
+        self.assert_len(rt, list, nodes.len());
+        self.assert_forward(rt, list, nodes);
+        self.assert_backward(rt, list, nodes);
+    }
+
+    // Each of these nodes is in this list.
+    fn assert_all_held(&self, rt: &impl Abort, list: u32, nodes: &[u32]) {
+        for node in nodes {
+            self.assert_list_of(rt, *node, Some(list));
+        }
+    }
+
+    // How many nodes are free.
+    fn free_len(&self) -> usize {
+        let mut free = 0usize;
+        for node in 0..self.nodes {
+            if self.links.list_of(node).is_none() {
+                free = free.saturating_add(1);
+            }
+        }
+        free
+    }
+
+    // Every list reads as its plain one, both ways, and every other node is free.
+    fn compare_all(&self, rt: &impl Abort) {
+        let mut listed = 0usize;
+        for list in 0..self.lists {
+            let plain = self.plain.list(rt, list);
+            self.assert_reads(rt, list, plain);
+            self.assert_all_held(rt, list, plain);
+            listed = listed.saturating_add(plain.len());
+        }
+        let nodes = listed.saturating_add(self.free_len());
+        assert!(rt; nodes == self.nodes as usize);
     }
 }
 
-// Where a node of a plain list stands.
-fn place_of(rt: &impl Abort, plain: &[u32], node: u32) -> usize
-    ensures { result < length plain.now }
-{
-    let place = plain.iter().position(|x| *x == node).expect(rt, "a node");
-    assert!(rt; place < plain.len());
-    place
-}
-
-// What stands before and behind a node of a plain list.
-fn neighbours(rt: &impl Abort, plain: &[u32], node: u32) -> (Option<u32>, Option<u32>) {
-    let place = place_of(rt, plain, node);
-    let before = place.checked_sub(1).and_then(|i| plain.get(i).copied());
-    let after = place.checked_add(1).and_then(|i| plain.get(i).copied());
-    (before, after)
+#[test]
+fn worked_rows(rt: HostRuntime) {
+    let mut twin = Twin::new(&rt, rt.alloc(), 4, 2);
+    twin.push_back(&rt, 0, 1);
+    twin.push_back(&rt, 0, 3);
+    twin.insert_before(&rt, 0, 3, 2);
+    twin.push_front(&rt, 1, 0);
+    twin.assert_reads(&rt, 0, &[1, 2, 3]);
+    twin.assert_reads(&rt, 1, &[0]);
+    twin.remove(&rt, 0, 2);
+    twin.assert_neighbours(&rt, 3, (Some(1), None));
+    twin.assert_neighbours(&rt, 1, (None, Some(3)));
+    twin.assert_list_of(&rt, 2, None);
+    twin.append(&rt, 0, 1);
+    twin.assert_reads(&rt, 0, &[1, 3, 0]);
+    twin.assert_list_of(&rt, 0, Some(0));
+    twin.assert_ends(&rt, 0, (Some(1), Some(0)));
+    twin.assert_ends(&rt, 1, (None, None));
+    twin.assert_len(&rt, 0, 3);
 }
 
 #[test]
 fn long_run_beside_vectors(rt: HostRuntime) {
-    let mut twin = Twin::new(rt.alloc()).expect(&rt, "memory");
+    let mut twin = Twin::new(&rt, rt.alloc(), NODES, LISTS);
     for node in 0..NODES {
         twin.push_back(&rt, node % LISTS, node);
     }
-    twin.compare_all(&rt, rt.alloc());
+    twin.compare_all(&rt);
     let mut draw = 1;
     for _ in 0..40 {
         for _ in 0..1000 {
             twin.step(&rt, &mut draw);
         }
-        twin.compare_all(&rt, rt.alloc());
+        twin.compare_all(&rt);
     }
 }

@@ -1,47 +1,29 @@
 //! Worked rows, and a drawn run beside plain vectors.
-ghost use Rattle.std.specs.Prelude.{◌≡◌, ◌<◌, IfOk, length, vec_len};
+ghost use Rattle.std.specs.Prelude.{◌≡◌, ◌<◌, IfOk, IfSome, None, length};
+ghost use Rattle.strm_links.specs.Rows.{holder};
 
 use super::below;
+use super::plain::Plain;
 use std::alloc::{AllocError, Global};
 use std::process::Abort;
 use strm_links::Stacks;
-
-#[test]
-fn worked_rows(rt: HostRuntime) {
-    let mut stacks = Stacks::new(rt.alloc(), 4, 2).expect(&rt, "memory");
-    stacks.push_front(0, 1);
-    stacks.push_front(0, 3);
-    stacks.push_front(1, 0);
-    assert_eq!(rt; stacks.front(0), Some(3));
-    assert_eq!(rt; stacks.len(0), 2);
-    assert_eq!(rt; stacks.pop_front(0), Some(3));
-    stacks.push_front(1, 3);
-    assert_eq!(rt; stacks.pop_front(0), Some(1));
-    assert_eq!(rt; stacks.pop_front(0), None);
-    assert_eq!(rt; stacks.front(0), None);
-    assert_eq!(rt; stacks.len(1), 2);
-    assert_eq!(rt; stacks.pop_front(1), Some(3));
-    assert_eq!(rt; stacks.front(1), Some(0));
-}
 
 const NODES: u32 = 4000;
 
 const LISTS: u32 = 7;
 
-// The same stacks twice: linked by index, and as plain vectors that end with the front.
+// So many stacks twice: linked by index, and as plain lists that end with the front.
 #[derive(Drop)]
 struct Twin {
     stacks: Stacks,
-    plain: Vec<Vec<u32>>,
-    ghost node_count: { stacks.nodes ≡ 4000 },
-    ghost list_count: { length stacks.lists ≡ 7 },
-    ghost plain_count: { vec_len plain ≡ 7 },
+    plain: Plain,
+    lists: u32,
+    ghost list_count: { length stacks.lists ≡ lists },
 }
 
 // The nodes, put on the stacks in turn.
 fn dealt(alloc: Global) -> Result<Stacks, AllocError>
-    ensures nodes { IfOk result (λ s. s.nodes ≡ 4000) }
-    ensures lists { IfOk result (λ s. length s.lists ≡ 7) }
+    ensures { IfOk result (λ s. length s.lists ≡ 7) }
 {
     let mut stacks = Stacks::new(alloc, NODES, LISTS)?;
     for node in 0..NODES {
@@ -50,55 +32,112 @@ fn dealt(alloc: Global) -> Result<Stacks, AllocError>
     Ok(stacks)
 }
 
+// Two stacks of four nodes, of which one is free.
+fn stacked(alloc: Global) -> Result<Stacks, AllocError>
+    ensures { IfOk result (λ s. length s.lists ≡ 2) }
+{
+    let mut stacks = Stacks::new(alloc, 4, 2)?;
+    stacks.push_front(0, 1);
+    stacks.push_front(0, 3);
+    stacks.push_front(1, 0);
+    Ok(stacks)
+}
+
 impl Twin {
     // The nodes, put on the stacks in turn, twice.
-    fn new(alloc: Global) -> Result<Self, AllocError> {
-        let stacks = dealt(alloc)?;
-        let mut plain = Vec::new(alloc);
-        for list in 0..LISTS {
-            let nodes = (0..NODES).filter(|node| node % LISTS == list);
-            plain.push(Vec::from_iter(alloc, nodes)?)?;
+    fn dealt(rt: &impl Abort, alloc: Global) -> Twin {
+        let mut plain = Plain::new(rt, alloc, LISTS);
+        for node in 0..NODES {
+            plain.push(rt, node % LISTS, node);
         }
-        Ok(Twin { stacks, plain })
+        Twin {
+            stacks: dealt(alloc).expect(rt, "memory"),
+            plain,
+            lists: LISTS,
+        }
+    }
+
+    // Two stacks of four nodes, of which one is free, twice.
+    fn stacked(rt: &impl Abort, alloc: Global) -> Twin {
+        let mut plain = Plain::new(rt, alloc, 2);
+        for (list, node) in [(0, 1), (0, 3), (1, 0)] {
+            plain.push(rt, list, node);
+        }
+        Twin {
+            stacks: stacked(alloc).expect(rt, "memory"),
+            plain,
+            lists: 2,
+        }
+    }
+
+    // Takes the front off a stack.
+    fn pop_front(&mut self, rt: &impl Abort, list: u32) -> Option<u32>
+        ensures range { IfSome result (λ node. node < self.new.stacks.nodes) }
+        ensures freed { IfSome result (λ node. holder node self.new.stacks ≡ None) }
+    {
+        assert!(rt; list < self.lists);
+        let node = self.stacks.pop_front(list);
+        assert!(rt; node == self.plain.pop(rt, list));
+        node
     }
 
     // Puts the front of one stack on another, or on its own again.
     fn move_front(&mut self, rt: &impl Abort, from: u32, to: u32) {
-        assert!(rt; from < LISTS && to < LISTS);
-        let node = self.stacks.pop_front(from);
-        assert_eq!(rt; node, self.plain[from as usize].pop());
+        let node = self.pop_front(rt, from);
         self.compare(rt, from);
+        assert!(rt; to < self.lists);
         if let Some(node) = node {
             self.stacks.push_front(to, node);
-            self.plain[to as usize].push(node).expect(rt, "memory");
+            self.plain.push(rt, to, node);
             self.compare(rt, to);
         }
     }
 
     // Takes all nodes off a stack.
     fn drain(&mut self, rt: &impl Abort, list: u32) {
-        assert!(rt; list < LISTS);
+        assert!(rt; list < self.lists);
         for _ in 0..self.stacks.len(list) {
-            assert_eq!(rt;
-                self.stacks.pop_front(list),
-                self.plain[list as usize].pop()
-            );
+            let _ = self.pop_front(rt, list);
         }
         self.compare(rt, list);
     }
 
-    // The front and the length of a stack are those of its plain vector.
+    // The front of a stack is this one, and leaves it.
+    fn assert_popped(&mut self, rt: &impl Abort, list: u32, node: Option<u32>) {
+        assert!(rt; self.pop_front(rt, list) == node);
+    }
+
+    // A stack has this front and this length.
+    fn assert_top(&self, rt: &impl Abort, list: u32, top: (Option<u32>, usize)) {
+        assert!(rt; list < self.lists);
+        let told = (self.stacks.front(list), self.stacks.len(list) as usize);
+        assert!(rt; told == top);
+    }
+
+    // They are those of its plain list.
     fn compare(&self, rt: &impl Abort, list: u32) {
-        assert!(rt; list < LISTS);
-        let plain = &self.plain[list as usize];
-        assert_eq!(rt; self.stacks.front(list), plain.last().copied());
-        assert_eq!(rt; self.stacks.len(list) as usize, plain.len());
+        let plain = self.plain.list(rt, list);
+        self.assert_top(rt, list, (plain.last().copied(), plain.len()));
     }
 }
 
 #[test]
+fn worked_rows(rt: HostRuntime) {
+    let mut twin = Twin::stacked(&rt, rt.alloc());
+    twin.assert_top(&rt, 0, (Some(3), 2));
+    twin.move_front(&rt, 0, 1);
+    twin.assert_top(&rt, 0, (Some(1), 1));
+    twin.assert_top(&rt, 1, (Some(3), 2));
+    twin.assert_popped(&rt, 0, Some(1));
+    twin.assert_popped(&rt, 0, None);
+    twin.assert_top(&rt, 0, (None, 0));
+    twin.assert_popped(&rt, 1, Some(3));
+    twin.assert_top(&rt, 1, (Some(0), 1));
+}
+
+#[test]
 fn drawn_run_beside_vectors(rt: HostRuntime) {
-    let mut twin = Twin::new(rt.alloc()).expect(&rt, "memory");
+    let mut twin = Twin::dealt(&rt, rt.alloc());
     let mut draw = 1;
     for _ in 0..40_000 {
         let from = below(&mut draw, LISTS);

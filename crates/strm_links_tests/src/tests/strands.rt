@@ -1,39 +1,38 @@
 //! Worked rows, and a long run beside plain vectors.
-ghost use Rattle.std.specs.Prelude.{◌≡◌, ◌<◌, length, vec_len};
+ghost use Rattle.std.specs.Prelude.{◌≡◌, ◌<◌, IsSome, length};
+ghost use Rattle.strm_links.specs.Chains.{chain_in};
 
-use super::below;
-use std::alloc::{AllocError, Global};
-use std::mem;
+use super::plain::Plain;
+use super::{assert_at, below};
+use std::alloc::Global;
 use std::process::Abort;
 use strm_links::Strands;
 
 const NODES: u32 = 250;
 
-// The same chains twice: linked by number, and as plain vectors.
+// The free nodes stand in the plain list behind those of the nodes, the next to be taken last.
+const FREE: u32 = NODES;
+
+// The same chains twice: linked by number, and as plain lists, at each node the chain that begins with it; empty where
+// none does.
 #[derive(Drop)]
 struct Twin {
     strands: Strands,
-    // The free nodes, the next to be taken last.
-    free: Vec<u32>,
-    // At each node the chain that begins with it; empty where none does.
-    chains: Vec<Vec<u32>>,
+    plain: Plain,
     ghost node_count: { length strands.chains ≡ 250 },
-    ghost chain_count: { vec_len chains ≡ 250 },
 }
 
 #[tactic(auto, using(crate::proofs::NodeCounts::node_counts))]
 impl Twin {
-    fn new(alloc: Global) -> Result<Self, AllocError> {
-        let strands = Strands::new(alloc, NODES)?;
-        let mut chains = Vec::new(alloc);
-        for _node in 0..NODES {
-            chains.push(Vec::new(alloc))?;
+    fn new(rt: &impl Abort, alloc: Global) -> Twin {
+        let mut plain = Plain::new(rt, alloc, FREE + 1);
+        for node in (0..NODES).rev() {
+            plain.push(rt, FREE, node);
         }
-        Ok(Twin {
-            strands,
-            free: (0..NODES).rev().collect(alloc)?,
-            chains,
-        })
+        Twin {
+            strands: Strands::new(alloc, NODES).expect(rt, "memory"),
+            plain,
+        }
     }
 
     // Whether a chain begins with this node.
@@ -42,12 +41,20 @@ impl Twin {
         self.strands.begins_chain(head)
     }
 
+    // A chain begins with this node.
+    fn assert_chain(&self, rt: &impl Abort, head: u32)
+        ensures { IsSome (chain_in self.now.strands.chains head) }
+    {
+        assert!(rt; head < NODES);
+        assert!(rt; self.strands.begins_chain(head));
+    }
+
     // Begins a chain with the first free node, if one is free.
     fn begin(&mut self, rt: &impl Abort) {
         let begun = self.strands.begin();
-        assert_eq!(rt; begun, self.free.pop());
+        assert!(rt; begun == self.plain.pop(rt, FREE));
         if let Some(node) = begun {
-            self.chains[node as usize].push(node).expect(rt, "memory");
+            self.plain.push(rt, node, node);
         }
     }
 
@@ -56,95 +63,87 @@ impl Twin {
         assert!(rt; 0 < count && count <= self.strands.free_len());
         let head = self.strands.begin_all(count);
         for _ in 0..count {
-            let node = self.free.pop().expect(rt, "a free node");
-            self.chains[head as usize].push(node).expect(rt, "memory");
+            let node = self.plain.pop(rt, FREE).expect(rt, "a free node");
+            self.plain.push(rt, head, node);
         }
     }
 
     // Puts a chain behind another.
     fn join(&mut self, rt: &impl Abort, head: u32, tail: u32) {
-        assert!(rt; head < NODES && tail < NODES && head != tail);
-        assert!(rt; self.strands.begins_chain(head));
-        assert!(rt; self.strands.begins_chain(tail));
+        assert!(rt; head != tail);
+        self.assert_chain(rt, head);
+        self.assert_chain(rt, tail);
         self.strands.join(head, tail);
-        let behind = mem::try_take(&mut self.chains[tail as usize]).expect(rt, "memory");
-        self.chains[head as usize]
-            .extend(behind.iter().copied())
-            .expect(rt, "memory");
+        self.plain.append(rt, head, tail);
     }
 
     // Parts a chain behind its first node.
     fn divide(&mut self, rt: &impl Abort, head: u32) {
-        assert!(rt; head < NODES);
-        assert!(rt; self.strands.begins_chain(head));
+        self.assert_chain(rt, head);
         let rest = self.strands.divide(head);
-        let plain = &mut self.chains[head as usize];
-        assert!(rt; !plain.is_empty());
-        let behind = plain.split_off(1).expect(rt, "memory");
-        assert_eq!(rt; rest, behind.first().copied());
-        if let Some(node) = rest {
-            self.chains[node as usize] = behind;
-        }
+        assert!(rt; rest == self.plain.divide(rt, head));
     }
 
     // Takes the node at a place behind the first out of a chain, if there is one.
     fn take_out(&mut self, rt: &impl Abort, head: u32, place: u32) {
-        assert!(rt; head < NODES && 0 < place);
-        assert!(rt; self.strands.begins_chain(head));
+        assert!(rt; 0 < place);
+        self.assert_chain(rt, head);
         let taken = self.strands.take_out(head, place);
-        let plain = &mut self.chains[head as usize];
-        assert_eq!(rt; taken, plain.get(place as usize).copied());
+        assert!(rt; taken == self.plain.remove(rt, head, place as usize));
         if let Some(node) = taken {
-            plain.remove(place as usize);
-            self.chains[node as usize].push(node).expect(rt, "memory");
+            self.plain.push(rt, node, node);
         }
     }
 
     // Frees the second node of a chain, if there is one.
     fn free_second(&mut self, rt: &impl Abort, head: u32) {
-        assert!(rt; head < NODES);
-        assert!(rt; self.strands.begins_chain(head));
+        self.assert_chain(rt, head);
         let freed = self.strands.free_second(head);
-        let plain = &mut self.chains[head as usize];
-        assert_eq!(rt; freed, plain.get(1).copied());
+        assert!(rt; freed == self.plain.remove(rt, head, 1));
         if let Some(node) = freed {
-            plain.remove(1);
-            self.free.push(node).expect(rt, "memory");
+            self.plain.push(rt, FREE, node);
         }
     }
 
     // Frees the nodes of a chain.
     fn free(&mut self, rt: &impl Abort, head: u32) {
-        assert!(rt; head < NODES);
-        assert!(rt; self.strands.begins_chain(head));
+        self.assert_chain(rt, head);
         self.strands.free(head);
-        let freed = mem::try_take(&mut self.chains[head as usize]).expect(rt, "memory");
-        self.free.extend(freed.iter().copied()).expect(rt, "memory");
+        self.plain.append(rt, FREE, head);
+    }
+
+    // A chain has these nodes, by `next` from its head.
+    fn assert_reads(&self, rt: &impl Abort, head: u32, nodes: &[u32]) {
+        let mut at = Some(head);
+        for node in nodes {
+            assert_at(rt, at, *node, NODES);
+            at = self.strands.next(*node);
+        }
+        assert!(rt; at.is_none());
     }
 
     // A chain reads as this list, and its length is that of the list.
-    fn compare(&self, rt: &impl Abort, head: u32, plain: &[u32]) {
-        assert!(rt; head < NODES);
-        assert!(rt; self.strands.begins_chain(head));
-        assert_eq!(rt; self.strands.len(head) as usize, plain.len());
-        let mut at = Some(head);
-        for node in plain {
-            assert_eq!(rt; at, Some(*node));
-            assert!(rt; *node < NODES);
-            at = self.strands.next(*node);
-        }
-        assert_eq!(rt; at, None);
+    fn compare(&self, rt: &impl Abort, head: u32, nodes: &[u32]) {
+        self.assert_chain(rt, head);
+        assert!(rt; self.strands.len(head) as usize == nodes.len());
+        self.assert_reads(rt, head, nodes);
     }
 
-    // Every chain reads as its plain vector, and as many nodes are free.
+    // Every chain reads as its plain list, and as many nodes are free.
     fn compare_all(&self, rt: &impl Abort) {
-        assert_eq!(rt; self.strands.free_len() as usize, self.free.len());
+        let free = self.plain.list(rt, FREE).len();
+        assert!(rt; self.strands.free_len() as usize == free);
         for head in 0..NODES {
-            let plain = self.chains[head as usize].as_slice();
-            assert_eq!(rt; self.strands.begins_chain(head), !plain.is_empty());
-            if !plain.is_empty() {
-                self.compare(rt, head, plain);
-            }
+            self.compare_at(rt, head);
+        }
+    }
+
+    // A chain begins with a node where its plain list has nodes, and reads as that list.
+    fn compare_at(&self, rt: &impl Abort, head: u32) {
+        let plain = self.plain.list(rt, head);
+        assert!(rt; self.begins_chain(rt, head) != plain.is_empty());
+        if !plain.is_empty() {
+            self.compare(rt, head, plain);
         }
     }
 
@@ -180,7 +179,7 @@ impl Twin {
 
 #[test]
 fn worked_rows(rt: HostRuntime) {
-    let mut twin = Twin::new(rt.alloc()).expect(&rt, "memory");
+    let mut twin = Twin::new(&rt, rt.alloc());
     twin.begin(&rt);
     twin.begin_all(&rt, 3);
     twin.begin(&rt);
@@ -212,7 +211,7 @@ fn worked_rows(rt: HostRuntime) {
 
 #[test]
 fn long_run_beside_vectors(rt: HostRuntime) {
-    let mut twin = Twin::new(rt.alloc()).expect(&rt, "memory");
+    let mut twin = Twin::new(&rt, rt.alloc());
     let mut draw = 1;
     for _ in 0..40 {
         for _ in 0..1000 {
