@@ -1,7 +1,8 @@
 ghost use Rattle.std.specs.Prelude.{◌≡◌};
 
-use strm_data::ClassSpec;
+use strm_data::{ClassInfo, ClassSpec};
 
+mod bench;
 mod blocks;
 mod long_run;
 mod names;
@@ -12,4 +13,9 @@ const fn class(size: u32, count: u32) -> ClassSpec
     ensures count { result.count ≡ count }
 {
     ClassSpec { size, count }
+}
+
+// What is free of a class.
+const fn info(size: u32, free: u32, total: u32) -> Option<ClassInfo> {
+    Some(ClassInfo { size, free, total })
 }

@@ -1,16 +1,19 @@
 //! A long run beside plain vectors.
-ghost use Rattle.std.specs.Prelude.{◌≡◌, ◌<◌, length};
+ghost use Rattle.std.specs.Prelude.{◌<◌};
 
-use super::class;
-use std::alloc::{AllocError, Global};
+use super::bench::Bench;
+use super::{class, info};
+use std::alloc::Global;
 use std::process::Abort;
-use strm_data::{Data, MOST_DATA_BLOCK_NAMES, MsgType, Refusal};
+use strm_data::{MOST_DATA_BLOCK_NAMES, MsgType, Refusal};
 
-const SIZES: [u32; 3] = [4, 16, 40];
-
-const COUNTS: [u32; 3] = [3, 5, 4];
+// The size of each class, and how many data blocks it has.
+const CLASSES: [(u32, u32); 3] = [(4, 3), (16, 5), (40, 4)];
 
 const BLOCKS: u32 = 12;
+
+// No data block has more bytes.
+const MOST_BYTES: usize = 40;
 
 const KINDS: [MsgType; 4] = [
     MsgType::MData,
@@ -22,11 +25,10 @@ const KINDS: [MsgType; 4] = [
 // The same data blocks twice: in size classes, and as plain vectors.
 #[derive(Drop)]
 struct Twin {
-    data: Data,
+    data: Bench,
     blocks: Vec<Plain>,
     // Of each class the free data blocks, the next to be taken first.
     free: Vec<Vec<u32>>,
-    ghost block_count: { length data.store.blocks ≡ 12 },
 }
 
 #[derive(Drop)]
@@ -37,34 +39,85 @@ struct Plain {
     bytes: Vec<u8>,
 }
 
-impl Twin {
-    fn new(alloc: Global) -> Result<Self, AllocError> {
-        let data = Data::new(alloc, &[class(4, 3), class(16, 5), class(40, 4)])?;
-        let mut blocks = Vec::new(alloc);
-        let mut free = Vec::new(alloc);
-        let mut number = 0u32;
-        for (class, count) in COUNTS.iter().enumerate() {
-            let mut list = Vec::new(alloc);
-            for _block in 0..*count {
-                let bytes = vec![in alloc; 0; SIZES[class] as usize]?;
-                list.push(number)?;
-                blocks.push(Plain {
-                    class,
-                    kind: MsgType::MData,
-                    count: 0,
-                    bytes,
-                })?;
-                number = number.saturating_add(1);
-            }
-            free.push(list)?;
+impl Plain {
+    // A free data block of so many bytes, which are 0.
+    fn free(rt: &impl Abort, alloc: Global, class: usize, size: u32) -> Plain {
+        Plain {
+            class,
+            kind: MsgType::MData,
+            count: 0,
+            bytes: vec![in alloc; 0; size as usize].expect(rt, "memory"),
         }
-        Ok(Twin { data, blocks, free })
+    }
+
+    // Whether it has so many bytes from a place on.
+    fn has_room(&self, at: u32, len: u32) -> bool {
+        at.saturating_add(len) as usize <= self.bytes.len()
+    }
+
+    // The bytes from a place on, and zeros behind them.
+    fn bytes_from(&self, at: u32) -> [u8; MOST_BYTES] {
+        let mut bytes = [0; MOST_BYTES];
+        for (place, byte) in bytes.iter_mut().enumerate() {
+            let place = (at as usize).saturating_add(place);
+            *byte = self.bytes.get(place).copied().unwrap_or(0);
+        }
+        bytes
+    }
+
+    // Writes so many of these bytes, from a place on.
+    fn write(&mut self, rt: &impl Abort, at: u32, bytes: &[u8], len: u32) {
+        for (place, new) in bytes.iter().take(len as usize).enumerate() {
+            let place = (at as usize).saturating_add(place);
+            *self.bytes.get_mut(place).expect(rt, "a byte") = *new;
+        }
+    }
+}
+
+impl Twin {
+    fn new(rt: &impl Abort, alloc: Global) -> Twin {
+        let classes = [class(4, 3), class(16, 5), class(40, 4)];
+        let mut twin = Twin {
+            data: Bench::opened(rt, alloc, &classes),
+            blocks: Vec::new(alloc),
+            free: Vec::new(alloc),
+        };
+        for (class, (size, count)) in CLASSES.iter().enumerate() {
+            twin.add_class(rt, alloc, class, (*size, *count));
+        }
+        twin
+    }
+
+    // Adds the plain data blocks of a class, all free.
+    fn add_class(&mut self, rt: &impl Abort, alloc: Global, class: usize, spec: (u32, u32)) {
+        let mut list = Vec::new(alloc);
+        for _block in 0..spec.1 {
+            let plain = Plain::free(rt, alloc, class, spec.0);
+            let number = u32::try_from(self.blocks.len()).unwrap_or(u32::MAX);
+            list.push(number).expect(rt, "memory");
+            self.blocks.push(plain).expect(rt, "memory");
+        }
+        self.free.push(list).expect(rt, "memory");
+    }
+
+    fn plain(&self, rt: &impl Abort, number: u32) -> &Plain {
+        self.blocks.get(number as usize).expect(rt, "a block")
+    }
+
+    fn plain_mut(&mut self, rt: &impl Abort, number: u32) -> &mut Plain {
+        self.blocks.get_mut(number as usize).expect(rt, "a block")
+    }
+
+    // The free data blocks of a class.
+    fn free_mut(&mut self, rt: &impl Abort, class: usize) -> &mut Vec<u32> {
+        self.free.get_mut(class).expect(rt, "a class")
     }
 
     // The data block that the plain vectors give for a size.
-    fn plain_take(&mut self, size: u32) -> Result<u32, Refusal> {
-        for (list, room) in self.free.iter_mut().zip(SIZES) {
-            if room >= size && !list.is_empty() {
+    fn plain_take(&mut self, rt: &impl Abort, size: u32) -> Result<u32, Refusal> {
+        for (class, (room, _)) in CLASSES.iter().enumerate() {
+            let list = self.free_mut(rt, class);
+            if *room >= size && !list.is_empty() {
                 return Ok(list.remove(0));
             }
         }
@@ -77,13 +130,11 @@ impl Twin {
 
     // Takes a data block.
     fn take(&mut self, rt: &impl Abort, size: u32) {
-        let fits = self.data.fits(size);
-        let wanted = self.plain_take(size);
-        assert_eq!(rt; fits, wanted.is_ok());
-        assert_eq!(rt; self.data.has_class_for(size), size <= 40);
-        assert_eq!(rt; self.data.take(size), wanted);
-        if let Ok(number) = wanted {
-            let plain = self.blocks.get_mut(number as usize).expect(rt, "a block");
+        let answer = self.plain_take(rt, size);
+        self.data.assert_fits(rt, size, size <= 40, answer.is_ok());
+        self.data.take(rt, size, answer);
+        if let Ok(number) = answer {
+            let plain = self.plain_mut(rt, number);
             plain.kind = MsgType::MData;
             plain.count = 1;
         }
@@ -91,52 +142,43 @@ impl Twin {
 
     // Names a data block once more, where it is in use and can be.
     fn name(&mut self, rt: &impl Abort, number: u32) {
-        assert!(rt; number < BLOCKS);
-        let plain = self.blocks.get_mut(number as usize).expect(rt, "a block");
+        let plain = self.plain_mut(rt, number);
         if plain.count > 0 && plain.count < MOST_DATA_BLOCK_NAMES {
-            let count = self.data.count(number);
-            assert!(rt; count > 0 && count < MOST_DATA_BLOCK_NAMES);
-            self.data.name(number);
             plain.count = plain.count.saturating_add(1);
+            self.data.name(rt, number);
         }
     }
 
     // Names a data block once less, where it is in use.
     fn drop_name(&mut self, rt: &impl Abort, number: u32) {
-        assert!(rt; number < BLOCKS);
-        let plain = self.blocks.get_mut(number as usize).expect(rt, "a block");
-        if plain.count > 0 {
-            assert!(rt; self.data.count(number) > 0);
-            self.data.drop_name(number);
-            plain.count = plain.count.saturating_sub(1);
-            if plain.count == 0 {
-                let list = self.free.get_mut(plain.class).expect(rt, "a class");
-                list.insert(0, number).expect(rt, "memory");
-            }
+        let plain = self.plain_mut(rt, number);
+        if plain.count == 0 {
+            return;
+        }
+        plain.count = plain.count.saturating_sub(1);
+        let (class, count) = (plain.class, plain.count);
+        self.data.drop_name(rt, number);
+        if count == 0 {
+            let list = self.free_mut(rt, class);
+            list.insert(0, number).expect(rt, "memory");
         }
     }
 
     // Gives a data block another type.
     fn set_kind(&mut self, rt: &impl Abort, number: u32, kind: MsgType) {
-        assert!(rt; number < BLOCKS);
-        self.data.set_kind(number, kind);
-        let plain = self.blocks.get_mut(number as usize).expect(rt, "a block");
-        plain.kind = kind;
+        self.data.set_kind(rt, number, kind);
+        self.plain_mut(rt, number).kind = kind;
     }
 
     // Writes a few bytes, from a place on that is drawn too, where there is room.
     fn write(&mut self, rt: &impl Abort, number: u32, draw: &mut u32) {
-        assert!(rt; number < BLOCKS);
         let bytes = [below(draw, 256) as u8, below(draw, 256) as u8, 255];
-        let bytes = &bytes[..below(draw, 4) as usize];
+        let len = below(draw, 4);
         let at = below(draw, 41);
-        let room = self.data.cap(number);
-        if at.saturating_add(bytes.len() as u32) <= room {
-            self.data.write(number, at, bytes);
-            let plain = self.blocks.get_mut(number as usize).expect(rt, "a block");
-            for (old, new) in plain.bytes.iter_mut().skip(at as usize).zip(bytes) {
-                *old = *new;
-            }
+        let plain = self.plain_mut(rt, number);
+        if plain.has_room(at, len) {
+            plain.write(rt, at, &bytes, len);
+            self.data.write(rt, number, at, &bytes[..len as usize]);
         }
     }
 
@@ -147,24 +189,12 @@ impl Twin {
         let at = below(draw, 6);
         let to = below(draw, 6);
         let len = below(draw, 40);
-        assert!(rt; from < BLOCKS);
-        let there = self.data.cap(from);
-        let room = self.data.cap(into);
-        if at.saturating_add(len) > there || to.saturating_add(len) > room {
-            return;
+        if self.plain(rt, from).has_room(at, len) && self.plain(rt, into).has_room(to, len) {
+            let bytes = self.plain(rt, from).bytes_from(at);
+            self.plain_mut(rt, into).write(rt, to, &bytes, len);
+            self.data.copy(rt, (from, at), (into, to), len);
+            self.compare_bytes(rt, into, 0);
         }
-        self.data.copy(from, at, into, to, len);
-        let mut bytes = [0; 40];
-        let source = self.blocks.get(from as usize).expect(rt, "a block");
-        for (new, old) in bytes.iter_mut().zip(source.bytes.iter().skip(at as usize)) {
-            *new = *old;
-        }
-        let target = self.blocks.get_mut(into as usize).expect(rt, "a block");
-        let changed = target.bytes.iter_mut().skip(to as usize).take(len as usize);
-        for (old, new) in changed.zip(bytes) {
-            *old = new;
-        }
-        self.compare_bytes(rt, into, 0);
     }
 
     // The next call of the long run, drawn at random.
@@ -185,37 +215,37 @@ impl Twin {
 
     // A data block is as its plain one says.
     fn compare_block(&self, rt: &impl Abort, number: u32) {
-        assert!(rt; number < BLOCKS);
-        let plain = self.blocks.get(number as usize).expect(rt, "a block");
-        assert_eq!(rt; self.data.kind(number), plain.kind);
-        assert_eq!(rt; self.data.count(number), plain.count);
-        assert_eq!(rt; self.data.cap(number) as usize, plain.bytes.len());
+        let plain = self.plain(rt, number);
+        let block = (plain.count, plain.kind, plain.bytes.len());
+        self.data.assert_block(rt, number, block);
         self.compare_bytes(rt, number, 0);
     }
 
     // The bytes of a data block from a place on are those of its plain one.
     fn compare_bytes(&self, rt: &impl Abort, number: u32, at: u32) {
-        assert!(rt; number < BLOCKS);
-        let plain = self.blocks.get(number as usize).expect(rt, "a block");
-        let cap = self.data.cap(number);
-        assert!(rt; at <= cap && cap <= 40);
-        let mut bytes = [0; 40];
-        let read = &mut bytes[..(cap - at) as usize];
-        self.data.read(number, at, read);
-        assert!(rt; read.iter().eq(plain.bytes.iter().skip(at as usize)));
+        let plain = self.plain(rt, number);
+        let count = plain.bytes.len().saturating_sub(at as usize);
+        assert!(rt; count <= MOST_BYTES);
+        let mut bytes = [0; MOST_BYTES];
+        self.data.read(rt, number, at, &mut bytes[..count]);
+        assert!(rt; bytes == plain.bytes_from(at));
     }
 
-    // Each class has as many free data blocks as its plain list.
+    // A class has as many free data blocks as its plain list.
+    fn compare_class(&self, rt: &impl Abort, class: u8, spec: (u32, u32)) {
+        let list = self.free.get(usize::from(class)).expect(rt, "a class");
+        let free = u32::try_from(list.len()).unwrap_or(u32::MAX);
+        self.data
+            .assert_class(rt, class, info(spec.0, free, spec.1));
+    }
+
+    // So has each class, and there are no others.
     fn compare_classes(&self, rt: &impl Abort) {
-        for class in 0..3 {
-            let list = self.free.get(usize::from(class)).expect(rt, "a class");
-            let info = self.data.class_info(class).expect(rt, "a class");
-            assert_eq!(rt; info.size, SIZES[usize::from(class)]);
-            assert_eq!(rt; info.free as usize, list.len());
-            assert_eq!(rt; info.total, COUNTS[usize::from(class)]);
+        for (class, spec) in CLASSES.iter().enumerate() {
+            self.compare_class(rt, class as u8, *spec);
         }
-        assert_eq!(rt; self.data.class_info(3), None);
-        assert_eq!(rt; self.data.class_info(u8::MAX), None);
+        self.data.assert_class(rt, 3, None);
+        self.data.assert_class(rt, u8::MAX, None);
     }
 
     // Everything is as the plain vectors say.
@@ -224,6 +254,12 @@ impl Twin {
             self.compare_block(rt, number);
         }
         self.compare_classes(rt);
+    }
+
+    // The plain vectors give a data block so many names.
+    fn assert_names(&self, rt: &impl Abort, number: u32, count: u8) {
+        assert!(rt; self.plain(rt, number).count == count);
+        self.compare_all(rt);
     }
 }
 
@@ -238,7 +274,7 @@ fn below(draw: &mut u32, limit: u32) -> u32
 
 #[test]
 fn long_run_beside_vectors(rt: HostRuntime) {
-    let mut twin = Twin::new(rt.alloc()).expect(&rt, "memory");
+    let mut twin = Twin::new(&rt, rt.alloc());
     twin.compare_all(&rt);
     let mut draw = 1;
     for _ in 0..40 {
@@ -251,18 +287,16 @@ fn long_run_beside_vectors(rt: HostRuntime) {
 
 #[test]
 fn names_a_block_as_often_as_can_be(rt: HostRuntime) {
-    let mut twin = Twin::new(rt.alloc()).expect(&rt, "memory");
+    let mut twin = Twin::new(&rt, rt.alloc());
     twin.take(&rt, 5);
     for _ in 1..MOST_DATA_BLOCK_NAMES {
         twin.name(&rt, 3);
     }
-    assert_eq!(rt; twin.data.count(3), MOST_DATA_BLOCK_NAMES);
-    twin.compare_all(&rt);
+    twin.assert_names(&rt, 3, MOST_DATA_BLOCK_NAMES);
     for _ in 1..MOST_DATA_BLOCK_NAMES {
         twin.drop_name(&rt, 3);
     }
-    assert_eq!(rt; twin.data.count(3), 1);
-    twin.compare_all(&rt);
+    twin.assert_names(&rt, 3, 1);
     twin.drop_name(&rt, 3);
     twin.compare_all(&rt);
 }

@@ -1,13 +1,24 @@
+use std::process::Abort;
 use strm_data::{
     MOST_CLASSES, MOST_DATA_BLOCK_BYTES, MOST_DATA_BLOCK_NAMES, MOST_DATA_BLOCKS, MsgType, Refusal,
 };
 
+// A refusal has this number and this name.
+fn assert_refusal(rt: &impl Abort, refusal: Refusal, number: u8, name: &str) {
+    assert!(rt; refusal.number() == number);
+    assert!(rt; refusal.name() == name);
+}
+
+// A type has this name, and is of high priority or not.
+fn assert_type(rt: &impl Abort, kind: MsgType, name: &str, high: bool) {
+    assert!(rt; kind.name() == name);
+    assert!(rt; kind.is_high_priority() == high);
+}
+
 #[test]
 fn limits_have_their_numbers(rt: HostRuntime) {
-    assert_eq!(rt; MOST_CLASSES, 8);
-    assert_eq!(rt; MOST_DATA_BLOCK_BYTES, 4096);
-    assert_eq!(rt; MOST_DATA_BLOCKS, 16_383);
-    assert_eq!(rt; MOST_DATA_BLOCK_NAMES, 255);
+    assert!(rt; MOST_CLASSES == 8 && MOST_DATA_BLOCK_BYTES == 4096);
+    assert!(rt; MOST_DATA_BLOCKS == 16_383 && MOST_DATA_BLOCK_NAMES == 255);
 }
 
 #[test]
@@ -34,8 +45,7 @@ fn refusals_have_their_numbers(rt: HostRuntime) {
         (Refusal::BadMarks, 20, "BadMarks"),
         (Refusal::BadShared, 21, "BadShared"),
     ] {
-        assert_eq!(rt; refusal.number(), number);
-        assert_eq!(rt; refusal.name(), name);
+        assert_refusal(&rt, refusal, number, name);
     }
 }
 
@@ -65,7 +75,6 @@ fn types_have_their_names(rt: HostRuntime) {
         (MsgType::MCopyout, "M_COPYOUT", true),
         (MsgType::MIocdata, "M_IOCDATA", true),
     ] {
-        assert_eq!(rt; kind.name(), name);
-        assert_eq!(rt; kind.is_high_priority(), high);
+        assert_type(&rt, kind, name, high);
     }
 }
