@@ -1,8 +1,8 @@
-ghost use Rattle.std.specs.Prelude.{◌≡◌, ◌<◌, length};
 ghost use Rattle.strm_pool.specs.Registers.{CarryId};
 ghost use Rattle.strm_shared.specs.Starts.{IsNameOf};
 
 mod calls;
+mod steps;
 mod traces;
 mod workers;
 
@@ -10,14 +10,18 @@ use arrayvec::ArrayVec;
 use std::alloc::Global;
 use std::process::Abort;
 use std::sync::Wait;
+use steps::{
+    Step, assert_census, assert_ended, assert_seen, assert_served, assert_told, serve_calls,
+    take_steps, untraced,
+};
 use strm_mblk::MOST_MESSAGE_BLOCKS;
 use strm_pool::{
-    Call, Census, ClassSpec, ClassSpecs, Config, Flush, NewFault, Pool, QueueSpec, QueueSpecs,
-    Refusal, Reg, Regs, Reply,
+    Call, ClassSpec, ClassSpecs, Config, Flush, NewFault, Pool, QueueSpec, QueueSpecs, Refusal,
+    Reg, Regs, Reply,
 };
 use strm_shared::{
-    Brand, Desk, Desks, Gathered, MOST_STAMP, MOST_TRACE, Name, Setup, Shared, Start, Trace,
-    TraceEntries,
+    Brand, Desk, Desks, Gathered, MOST_STAMP, MOST_TRACE, MOST_WORKERS, Name, Setup, Shared, Start,
+    Trace, TraceEntries,
 };
 
 // A queue of these marks, with a service procedure.
@@ -68,10 +72,20 @@ const fn setup(desks: u8, trace: Trace, first_stamp: u64) -> Setup {
     }
 }
 
-// A pool that is to be shared so.
-fn start_of(rt: &impl Abort, alloc: Global, pool: Pool, setup: Setup) -> Start {
+// A pool that is to be shared so, or why it can't be, and the pool. Nothing is held of it.
+fn started(
+    rt: &impl Abort,
+    alloc: Global,
+    pool: Pool,
+    setup: Setup,
+) -> Result<Start, (NewFault, Pool)> {
     assert!(rt; pool.census().held == 0);
-    match Start::new(alloc, pool, setup) {
+    Start::new(alloc, pool, setup)
+}
+
+// A pool that is to be shared so, and can be.
+fn start_of(rt: &impl Abort, alloc: Global, pool: Pool, setup: Setup) -> Start {
+    match started(rt, alloc, pool, setup) {
         Ok(start) => start,
         Err(_) => panic!(rt; "not started"),
     }
@@ -110,78 +124,29 @@ fn reg(rt: &impl Abort, letter: u8) -> Reg {
     }
 }
 
+// The last desk.
+fn take_last<N: Name>(rt: &impl Abort, desks: &mut Desks<N>) -> Desk<N> {
+    assert!(rt; desks.len() > 0);
+    desks.take_last()
+}
+
 // The last desk, which has this number.
 fn last<N: Name>(rt: &impl Abort, desks: &mut Desks<N>, number: u8) -> Desk<N> {
-    assert!(rt; desks.len() > 0);
-    let desk = desks.take_last();
+    let desk = take_last(rt, desks);
     assert_eq!(rt; desk.number(), number);
     desk
 }
 
-// The call of this line is served, with this reply.
-fn assert_line_served<N: Name>(
-    rt: &(impl Wait + Abort),
-    shared: &Shared<N>,
-    desk: &mut Desk<N>,
-    line: u32,
-    call: &Call,
-    reply: &Reply,
-) {
-    match shared.serve(rt, desk, line, call) {
-        Ok(given) => assert!(rt; given == *reply),
-        Err(_) => panic!(rt; "refused"),
-    }
+// The only desk.
+fn only<N: Name>(rt: &impl Abort, desks: &mut Desks<N>) -> Desk<N> {
+    assert!(rt; desks.len() == 1);
+    last(rt, desks, 0)
 }
 
-// The call is served, with this reply.
-fn assert_served<N: Name>(
-    rt: &(impl Wait + Abort),
-    shared: &Shared<N>,
-    desk: &mut Desk<N>,
-    call: &Call,
-    reply: &Reply,
-) {
-    assert_line_served(rt, shared, desk, 1, call, reply);
-}
-
-// Has calls served as lines 1, 2 and so on, each on the desk of this number, with this reply.
-fn serve_rows<N: Name>(
-    rt: &(impl Wait + Abort),
-    shared: &Shared<N>,
-    desks: &mut Desks<N>,
-    rows: &[(u8, Call, Reply)],
-) {
-    let mut line: u32 = 0;
-    for (number, call, reply) in rows {
-        let place = usize::from(*number);
-        assert!(rt; place < desks.len());
-        line = line.wrapping_add(1);
-        assert_line_served(rt, shared, desks.desk_mut(place), line, call, reply);
-    }
-}
-
-// The call is refused for this reason.
-fn assert_refused<N: Name>(
-    rt: &(impl Wait + Abort),
-    shared: &Shared<N>,
-    desk: &mut Desk<N>,
-    call: &Call,
-    why: Refusal,
-) {
-    match shared.serve(rt, desk, 1, call) {
-        Ok(_) => panic!(rt; "served"),
-        Err(given) => assert!(rt; given == why),
-    }
-}
-
-// A list of these desks.
-fn listed<N: Name>(zero: Desk<N>, one: Desk<N>) -> Desks<N>
-    ensures { length result ≡ 2 }
-{
-    let mut desks = Desks::new();
-    desks.push(zero);
-    desks.push(one);
-    desks
+// Adds a desk behind the others.
+fn push<N: Name>(rt: &impl Abort, desks: &mut Desks<N>, desk: Desk<N>) {
+    assert!(rt; desks.len() < MOST_WORKERS);
+    desks.push(desk);
 }
 
 // The registers of a desk, whose tokens carry the pool's id, as the law of a desk says.
@@ -206,18 +171,23 @@ fn gathered<N: Name>(rt: &impl Abort, gathering: Gathering<N>) -> Gathered<N> {
     }
 }
 
-// The pool and the trace once the desks came back, in order, each of which has seen this stamp, and what they hold was freed.
-fn drained<N: Name>(rt: &impl Abort, gathering: Gathering<N>, stamp: u64) -> (Pool, TraceEntries) {
+// The pool and the trace once so many desks came back, in order, each of which has seen this stamp, and what they hold was freed.
+fn drained<N: Name>(
+    rt: &impl Abort,
+    gathering: Gathering<N>,
+    count: usize,
+    stamp: u64,
+) -> (Pool, TraceEntries) {
     let Gathered {
         mut pool,
         trace,
         mut desks,
     } = gathered(rt, gathering);
-    let count = desks.len();
+    assert!(rt; desks.len() == count);
     for place in 0..count {
         let number = count - 1 - place;
         let desk = last(rt, &mut desks, number as u8);
-        assert_eq!(rt; desk.seen(), stamp);
+        assert_seen(rt, &desk, stamp);
         pool.drain(regs_of(desk));
     }
     desks.forget();
@@ -225,120 +195,82 @@ fn drained<N: Name>(rt: &impl Abort, gathering: Gathering<N>, stamp: u64) -> (Po
 }
 
 // The pool then, where no trace was kept.
-fn emptied<N: Name>(rt: &impl Abort, gathering: Gathering<N>, stamp: u64) -> Pool {
-    let (pool, trace) = drained(rt, gathering, stamp);
+fn emptied<N: Name>(rt: &impl Abort, gathering: Gathering<N>, count: usize, stamp: u64) -> Pool {
+    let (pool, trace) = drained(rt, gathering, count, stamp);
     assert!(rt; trace.items().is_empty());
     pool
 }
 
-// So many message blocks are free, queued and held.
-fn assert_counts(rt: &impl Abort, census: Census, counts: (u32, u32, u32)) {
-    assert_eq!(rt; (census.free, census.queued, census.held), counts);
-}
-
-// They are so of the pool.
-fn assert_census(rt: &impl Abort, pool: &Pool, counts: (u32, u32, u32)) {
-    assert_counts(rt, pool.census(), counts);
-}
-
-// The desk sees that they are so at this stamp, which it has seen then.
-fn assert_now<N: Name>(
-    rt: &impl Abort,
-    shared: &Shared<N>,
-    desk: &mut Desk<N>,
-    stamp: u64,
-    counts: (u32, u32, u32),
-) {
-    let (told, census) = shared.census_now(desk);
-    assert_eq!(rt; (told, desk.seen()), (stamp, stamp));
-    assert_counts(rt, census, counts);
-}
-
 #[test]
 fn two_desks_by_turns(rt: HostRuntime) {
-    by_turns::<Brand, _>(&rt, start(&rt, rt.alloc(), 7, 2, 0));
+    let (a, b) = (reg(&rt, b'a'), reg(&rt, b'b'));
+    let rows = [
+        (0, Step::Serve(Call::Allocb(a, 1), Reply::Done)),
+        (1, Step::Serve(Call::Msgdsize(a), Reply::Empty)),
+        (1, Step::Serve(Call::Allocb(a, 1), Reply::Done)),
+        (0, Step::Serve(Call::Putq(0, a), Reply::Done)),
+        (1, Step::Serve(Call::Getq(0, a), Reply::Taken)),
+        (1, Step::Serve(Call::Getq(0, b), Reply::Done)),
+        (0, Step::Serve(Call::Freemsg(a), Reply::Empty)),
+        (1, Step::Serve(Call::Linkb(a, b), Reply::Done)),
+    ];
+    turned::<Brand, _>(&rt, start(&rt, rt.alloc(), 7, 2, 0), &rows);
 }
 
-// A message goes from one desk to the other over the queue. Each has registers of its own.
-fn by_turns<N: Name, R: Wait + Abort>(rt: &R, start: Start)
+// A message goes from one desk to the other over the queue. Each has registers of its own. Handed in from the last to the
+// first, the desks come back in order.
+fn turned<N: Name, R: Wait + Abort>(rt: &R, start: Start, rows: &[(u8, Step)])
     requires { IsNameOf N.Name start }
 {
-    let (a, b) = (reg(rt, b'a'), reg(rt, b'b'));
-    let rows = [
-        (0, Call::Allocb(a, 1), Reply::Done),
-        (1, Call::Msgdsize(a), Reply::Empty),
-        (1, Call::Allocb(a, 1), Reply::Done),
-        (0, Call::Putq(0, a), Reply::Done),
-        (1, Call::Getq(0, a), Reply::Taken),
-        (1, Call::Getq(0, b), Reply::Done),
-        (0, Call::Freemsg(a), Reply::Empty),
-        (1, Call::Linkb(a, b), Reply::Done),
-    ];
     let (shared, mut desks) = start.open::<N>();
-    serve_rows(rt, &shared, &mut desks, &rows);
+    take_steps(rt, &shared, &mut desks, rows);
     let one = last(rt, &mut desks, 1);
     let zero = last(rt, &mut desks, 0);
-    desks.forget();
-    // Handed in from the last to the first, they come back in order.
-    let pool = emptied(rt, shared.gather(listed(one, zero)), 8);
+    push(rt, &mut desks, one);
+    push(rt, &mut desks, zero);
+    let pool = emptied(rt, shared.gather(desks), 2, 8);
     assert_census(rt, &pool, (8, 0, 0));
-}
-
-#[test]
-fn two_desks_one_word(rt: HostRuntime) {
-    one_word::<Brand, _>(&rt, start(&rt, rt.alloc(), 7, 2, 0));
 }
 
 // What one desk was served the other sees by a look, and not before. Who was served has seen it at once, and sees no less by a
 // look.
-fn one_word<N: Name, R: Wait + Abort>(rt: &R, start: Start)
-    requires { IsNameOf N.Name start }
-{
-    let a = reg(rt, b'a');
-    let (shared, mut desks) = start.open::<N>();
-    let mut one = last(rt, &mut desks, 1);
-    let mut zero = last(rt, &mut desks, 0);
-    desks.forget();
-    assert_now(rt, &shared, &mut zero, 0, (8, 0, 0));
-    assert_now(rt, &shared, &mut one, 0, (8, 0, 0));
-    assert_served(rt, &shared, &mut zero, &Call::Allocb(a, 1), &Reply::Done);
-    assert_served(rt, &shared, &mut zero, &Call::Putq(0, a), &Reply::Done);
-    assert_eq!(rt; (zero.seen(), one.seen()), (2, 0));
-    assert_now(rt, &shared, &mut zero, 2, (7, 1, 0));
-    assert_now(rt, &shared, &mut one, 2, (7, 1, 0));
-    assert_served(rt, &shared, &mut one, &Call::Allocb(a, 1), &Reply::Done);
-    assert_eq!(rt; (zero.seen(), one.seen()), (2, 3));
-    assert_now(rt, &shared, &mut one, 3, (6, 1, 1));
-    let pool = emptied(rt, shared.gather(listed(zero, one)), 3);
-    assert_census(rt, &pool, (7, 1, 0));
+#[test]
+fn two_desks_one_word(rt: HostRuntime) {
+    let a = reg(&rt, b'a');
+    let rows = [
+        (0, Step::Look(0, (8, 0, 0))),
+        (1, Step::Look(0, (8, 0, 0))),
+        (0, Step::Serve(Call::Allocb(a, 1), Reply::Done)),
+        (0, Step::Serve(Call::Putq(0, a), Reply::Done)),
+        (0, Step::Stand(2, 2)),
+        (1, Step::Stand(0, 0)),
+        (0, Step::Look(2, (7, 1, 0))),
+        (1, Step::Look(2, (7, 1, 0))),
+        (1, Step::Serve(Call::Allocb(a, 1), Reply::Done)),
+        (0, Step::Stand(2, 2)),
+        (1, Step::Stand(3, 1)),
+        (1, Step::Look(3, (6, 1, 1))),
+    ];
+    assert_ended(&rt, start(&rt, rt.alloc(), 7, 2, 0), &rows, 2, 3, (7, 1, 0));
 }
 
+// The word tells of each message block of the largest pool.
 #[test]
 fn the_largest_pool(rt: HostRuntime) {
+    let call = Call::Allocb(reg(&rt, b'a'), 1);
+    let rows = [
+        (0, Step::Look(0, (16_383, 0, 0))),
+        (0, Step::Serve(call, Reply::Done)),
+        (0, Step::Look(1, (16_382, 0, 1))),
+    ];
     let pool = opened(&rt, rt.alloc(), 7, MOST_MESSAGE_BLOCKS, &[(16, 1)]);
     let start = start_of(&rt, rt.alloc(), pool, setup(1, Trace::Off, 0));
-    largest::<Brand, _>(&rt, start);
-}
-
-// The word tells of each of its message blocks.
-fn largest<N: Name, R: Wait + Abort>(rt: &R, start: Start)
-    requires { IsNameOf N.Name start }
-{
-    let call = Call::Allocb(reg(rt, b'a'), 1);
-    let (shared, mut desks) = start.open::<N>();
-    assert!(rt; desks.len() == 1);
-    assert_now(rt, &shared, desks.desk_mut(0), 0, (16_383, 0, 0));
-    assert_served(rt, &shared, desks.desk_mut(0), &call, &Reply::Done);
-    assert_now(rt, &shared, desks.desk_mut(0), 1, (16_382, 0, 1));
-    let pool = emptied(rt, shared.gather(desks), 1);
-    assert_census(rt, &pool, (16_383, 0, 0));
+    assert_ended(&rt, start, &rows, 1, 1, (16_383, 0, 0));
 }
 
 // Why a pool can't be shared so, if it can't. It comes back as it was then.
 fn fault_of(rt: &impl Abort, alloc: Global, setup: Setup) -> Option<NewFault> {
-    let pool = eight(rt, alloc, 7);
-    assert!(rt; pool.census().held == 0);
-    match Start::new(alloc, pool, setup) {
+    match started(rt, alloc, eight(rt, alloc, 7), setup) {
         Ok(_) => None,
         Err((fault, pool)) => {
             assert_census(rt, &pool, (8, 0, 0));
@@ -370,51 +302,45 @@ fn setups_out_of_bounds(rt: HostRuntime) {
     }
 }
 
-#[test]
-fn the_last_stamps(rt: HostRuntime) {
-    worn::<Brand, _>(&rt, start(&rt, rt.alloc(), 7, 2, MOST_STAMP - 11));
-}
-
 // Each call before the last stamp is served and counts, and what it does to the pool shows in later ones; none is served at
 // the last, which a desk sees that is refused so.
-fn worn<N: Name, R: Wait + Abort>(rt: &R, start: Start)
-    requires { IsNameOf N.Name start }
-{
-    let a = reg(rt, b'a');
+#[test]
+fn the_last_stamps(rt: HostRuntime) {
+    let a = reg(&rt, b'a');
     let rows = [
-        (0, Call::Ready, Reply::Ready(1, 16)),
-        (0, Call::Allocb(a, 1), Reply::Done),
-        (0, Call::Msgdsize(a), Reply::Size(0)),
-        (0, Call::Noenable(0), Reply::Done),
-        (0, Call::Putq(0, a), Reply::Done),
-        (0, Call::Service, Reply::Nothing),
-        (0, Call::Qenable(0), Reply::Done),
-        (0, Call::Service, Reply::Queue(0)),
-        (0, Call::Flushq(0, Flush::All), Reply::Done),
-        (0, Call::Qsize(0), Reply::Size(0)),
+        (0, Step::Serve(Call::Bufcall(16), Reply::Id(1))),
+        (0, Step::Stand(MOST_STAMP - 10, 1)),
+        (0, Step::Serve(Call::Ready, Reply::Ready(1, 16))),
+        (0, Step::Serve(Call::Allocb(a, 1), Reply::Done)),
+        (0, Step::Serve(Call::Msgdsize(a), Reply::Size(0))),
+        (0, Step::Serve(Call::Noenable(0), Reply::Done)),
+        (0, Step::Serve(Call::Putq(0, a), Reply::Done)),
+        (0, Step::Serve(Call::Service, Reply::Nothing)),
+        (0, Step::Serve(Call::Qenable(0), Reply::Done)),
+        (0, Step::Serve(Call::Service, Reply::Queue(0))),
+        (0, Step::Serve(Call::Flushq(0, Flush::All), Reply::Done)),
+        (0, Step::Serve(Call::Qsize(0), Reply::Size(0))),
+        (0, Step::Stand(MOST_STAMP, 11)),
+        (1, Step::Stand(MOST_STAMP - 11, 0)),
+        (0, Step::Refuse(Call::Freemsg(a), Refusal::Worn)),
+        (0, Step::Refuse(Call::Freemsg(a), Refusal::Worn)),
+        (1, Step::Refuse(Call::Census, Refusal::Worn)),
+        (0, Step::Stand(MOST_STAMP, 11)),
+        (1, Step::Stand(MOST_STAMP, 0)),
+        (1, Step::Look(MOST_STAMP, (8, 0, 0))),
     ];
-    let (shared, mut desks) = start.open::<N>();
-    assert!(rt; desks.len() == 2);
-    let first = desks.desk_mut(0);
-    assert_served(rt, &shared, first, &Call::Bufcall(16), &Reply::Id(1));
-    assert_eq!(rt; first.seen(), MOST_STAMP - 10);
-    serve_rows(rt, &shared, &mut desks, &rows);
-    let mut other = last(rt, &mut desks, 1);
-    let mut desk = last(rt, &mut desks, 0);
-    desks.forget();
-    assert_eq!(rt; (desk.seen(), other.seen()), (MOST_STAMP, MOST_STAMP - 11));
-    assert_refused(rt, &shared, &mut desk, &Call::Freemsg(a), Refusal::Worn);
-    assert_refused(rt, &shared, &mut desk, &Call::Freemsg(a), Refusal::Worn);
-    assert_refused(rt, &shared, &mut other, &Call::Census, Refusal::Worn);
-    assert_eq!(rt; (desk.seen(), other.seen()), (MOST_STAMP, MOST_STAMP));
-    assert_now(rt, &shared, &mut other, MOST_STAMP, (8, 0, 0));
-    let pool = emptied(rt, shared.gather(listed(desk, other)), MOST_STAMP);
-    assert_census(rt, &pool, (8, 0, 0));
+    let start = start(&rt, rt.alloc(), 7, 2, MOST_STAMP - 11);
+    assert_ended(&rt, start, &rows, 2, MOST_STAMP, (8, 0, 0));
 }
 
-#[test]
-fn a_desk_is_missing(rt: HostRuntime) {
-    missing::<Brand, _>(&rt, loaded(&rt, rt.alloc()));
+// Gives up what was gathered.
+fn forget<N: Name>(gathered: Gathered<N>) {
+    let Gathered {
+        pool: _,
+        trace: _,
+        desks,
+    } = gathered;
+    desks.forget();
 }
 
 // The desks of a shared pool that can't be gathered, which are these.
@@ -423,96 +349,107 @@ fn ungathered<N: Name>(
     shared: Shared<N>,
     desks: Desks<N>,
 ) -> (Shared<N>, Desks<N>) {
+    let count = desks.len();
     match shared.gather(desks) {
-        Ok(
-            Gathered {
-                pool: _,
-                trace: _,
-                desks,
-            },
-        ) => {
-            desks.forget();
+        Ok(gathered) => {
+            forget(gathered);
             panic!(rt; "gathered")
         }
         Err((why, shared, desks)) => {
-            assert!(rt; why == Refusal::DeskMissing);
+            assert!(rt; why == Refusal::DeskMissing && desks.len() == count);
             (shared, desks)
         }
     }
 }
 
-// Desk 1 is not there at first. Each time the others are gathered they come back, with the pool and the stamp as they were, and
-// have seen no more.
-fn missing<N: Name, R: Wait + Abort>(rt: &R, start: Start)
-    requires { IsNameOf N.Name start }
-{
-    let a = reg(rt, b'a');
-    let (shared, mut desks) = start.open::<N>();
-    let mut one = last(rt, &mut desks, 1);
-    assert_served(rt, &shared, &mut one, &Call::Testb(16), &Reply::Yes);
-    let (shared, desks) = ungathered(rt, shared, desks);
-    let (shared, mut desks) = ungathered(rt, shared, desks);
-    assert!(rt; desks.len() == 1);
-    let zero = desks.desk_mut(0);
-    assert_eq!(rt; zero.seen(), MOST_STAMP - 5);
-    assert_served(rt, &shared, zero, &Call::Qsize(0), &Reply::Size(1));
-    assert_served(rt, &shared, zero, &Call::Getq(0, a), &Reply::Done);
-    assert_served(rt, &shared, zero, &Call::Msgdsize(a), &Reply::Size(3));
-    assert_served(rt, &shared, zero, &Call::Putbq(0, a), &Reply::Done);
-    assert_refused(rt, &shared, zero, &Call::Getq(0, a), Refusal::Worn);
-    assert_eq!(rt; one.seen(), MOST_STAMP - 4);
-    desks.push(one);
-    let pool = emptied(rt, shared.gather(desks), MOST_STAMP);
-    assert_census(rt, &pool, (7, 1, 0));
+#[test]
+fn a_desk_is_missing(rt: HostRuntime) {
+    let a = reg(&rt, b'a');
+    let early = [(1, Step::Serve(Call::Testb(16), Reply::Yes))];
+    let late = [
+        (0, Step::Stand(MOST_STAMP - 5, 0)),
+        (0, Step::Serve(Call::Qsize(0), Reply::Size(1))),
+        (0, Step::Serve(Call::Getq(0, a), Reply::Done)),
+        (0, Step::Serve(Call::Msgdsize(a), Reply::Size(3))),
+        (0, Step::Serve(Call::Putbq(0, a), Reply::Done)),
+        (0, Step::Refuse(Call::Getq(0, a), Refusal::Worn)),
+        (1, Step::Stand(MOST_STAMP - 4, 1)),
+    ];
+    let pool = missing::<Brand, _>(&rt, loaded(&rt, rt.alloc()), &early, &late);
+    assert_census(&rt, &pool, (7, 1, 0));
     let told = pool.queue_info(0);
     assert!(rt; told.is_ok_and(|queue| queue.bytes == 3 && queue.enabled && !queue.noenable));
 }
 
-#[test]
-fn a_spent_desk(rt: HostRuntime) {
-    spent::<Brand, _>(&rt, rt.alloc(), start(&rt, rt.alloc(), 7, 2, 0));
-}
-
-// Desk 1 is spent, and another pool drains its empty registers. So the shared pool is never gathered any more, and desk 0 is served as
-// before.
-fn spent<N: Name, R: Wait + Abort>(rt: &R, alloc: Global, start: Start)
+// Desk 1 is not there once the first steps were taken. Each time the others are gathered they come back, with the pool and the
+// stamp as they were, and have seen no more.
+fn missing<N: Name, R: Wait + Abort>(
+    rt: &R,
+    start: Start,
+    early: &[(u8, Step)],
+    late: &[(u8, Step)],
+) -> Pool
     requires { IsNameOf N.Name start }
 {
-    let a = reg(rt, b'a');
-    let mut other = eight(rt, alloc, 8);
     let (shared, mut desks) = start.open::<N>();
-    other.drain(last(rt, &mut desks, 1).into_regs());
+    take_steps(rt, &shared, &mut desks, early);
+    let one = last(rt, &mut desks, 1);
+    let (shared, desks) = ungathered(rt, shared, desks);
     let (shared, mut desks) = ungathered(rt, shared, desks);
-    assert!(rt; desks.len() == 1);
-    assert_served(
-        rt,
-        &shared,
-        desks.desk_mut(0),
-        &Call::Allocb(a, 1),
-        &Reply::Done,
-    );
+    push(rt, &mut desks, one);
+    take_steps(rt, &shared, &mut desks, late);
+    emptied(rt, shared.gather(desks), 2, MOST_STAMP)
+}
+
+#[test]
+fn a_spent_desk(rt: HostRuntime) {
+    let a = reg(&rt, b'a');
+    let early = [(0, Step::Serve(Call::Allocb(a, 1), Reply::Done))];
+    let late = [
+        (0, Step::Serve(Call::Freemsg(a), Reply::Done)),
+        (0, Step::Stand(2, 2)),
+    ];
+    let other = eight(&rt, rt.alloc(), 8);
+    spent::<Brand, _>(&rt, start(&rt, rt.alloc(), 7, 2, 0), other, &early, &late);
+}
+
+// Desk 1 is spent, and another pool drains its empty registers.
+fn spend<N: Name>(rt: &impl Abort, desks: &mut Desks<N>, other: Pool) {
+    let mut other = other;
+    other.drain(last(rt, desks, 1).into_regs());
+}
+
+// Desk 1 is spent. So the shared pool is never gathered any more, and desk 0 is served as
+// before.
+fn spent<N: Name, R: Wait + Abort>(
+    rt: &R,
+    start: Start,
+    other: Pool,
+    early: &[(u8, Step)],
+    late: &[(u8, Step)],
+)
+    requires { IsNameOf N.Name start }
+{
+    let (shared, mut desks) = start.open::<N>();
+    spend(rt, &mut desks, other);
     let (shared, mut desks) = ungathered(rt, shared, desks);
-    assert!(rt; desks.len() == 1);
-    let zero = desks.desk_mut(0);
-    assert_served(rt, &shared, zero, &Call::Freemsg(a), &Reply::Done);
-    assert_eq!(rt; zero.seen(), 2);
+    take_steps(rt, &shared, &mut desks, early);
+    let (shared, mut desks) = ungathered(rt, shared, desks);
+    take_steps(rt, &shared, &mut desks, late);
     desks.forget();
 }
 
 #[test]
 fn what_waits_comes_back(rt: HostRuntime) {
-    unserved::<Brand, _>(&rt, loaded(&rt, rt.alloc()));
+    let pool = untraced(&rt, loaded(&rt, rt.alloc()), &[], 2, MOST_STAMP - 5);
+    assert_waits(&rt, &pool);
+    assert_census(&rt, &pool, (7, 1, 0));
 }
 
 // The wish, and the queues that wait to be served, in order, are those that the pool was shared with.
-fn unserved<N: Name, R: Abort>(rt: &R, start: Start)
-    requires { IsNameOf N.Name start }
-{
-    let (shared, desks) = start.open::<N>();
-    let pool = emptied(rt, shared.gather(desks), MOST_STAMP - 5);
-    assert_eq!(rt; (pool.wish_at(0), pool.wish_at(1)), (Some((1, 16)), None));
-    assert_eq!(rt; (pool.run_at(0), pool.run_at(1)), (Some(1), Some(0)));
-    assert_census(rt, &pool, (7, 1, 0));
+fn assert_waits(rt: &impl Abort, pool: &Pool) {
+    assert!(rt; pool.wish_at(0) == Some((1, 16)) && pool.wish_at(1).is_none());
+    assert!(rt; pool.run_at(0) == Some(1) && pool.run_at(1) == Some(0));
 }
 
 #[test]
@@ -522,30 +459,40 @@ fn two_shared_pools(rt: HostRuntime) {
     side_by_side::<Brand, Brand, _>(&rt, one, other);
 }
 
-// What is served of one leaves the other as it was. With `desks` in the place of `others`, the calls of `second` do not
-// compile (tests/strangers).
+// What is served of one leaves the other as it was. With `desks` in the place of `others`, or `desk` in that of `other`, the calls of
+// `second` do not compile (tests/strangers).
 fn side_by_side<N: Name, M: Name, R: Wait + Abort>(rt: &R, one: Start, other: Start)
     requires one { IsNameOf N.Name one }
     requires other { IsNameOf M.Name other }
 {
-    let a = reg(rt, b'a');
     let (first, mut desks) = one.open::<N>();
     let (second, mut others) = other.open::<M>();
-    assert!(rt; desks.len() == 1 && others.len() == 1);
-    let served = first.serve(rt, desks.desk_mut(0), 1, &Call::Allocb(a, 1));
-    assert!(rt; served.is_ok_and(|reply| reply == Reply::Done));
-    let served = second.serve(rt, others.desk_mut(0), 1, &Call::Freemsg(a));
-    assert!(rt; served.is_ok_and(|reply| reply == Reply::Empty));
-    let served = first.serve(rt, desks.desk_mut(0), 2, &Call::Putq(0, a));
-    assert!(rt; served.is_ok_and(|reply| reply == Reply::Done));
-    assert_now(rt, &first, desks.desk_mut(0), 2, (7, 1, 0));
-    let (stamp, census) = second.census_now(others.desk_mut(0));
-    assert_eq!(rt; stamp, 6);
-    assert_counts(rt, census, (8, 0, 0));
-    let gathered = second.gather(others);
-    let pool = emptied(rt, gathered, 6);
+    let mut desk = only(rt, &mut desks);
+    let mut other = only(rt, &mut others);
+    serve_both(rt, &first, &mut desk, &second, &mut other);
+    push(rt, &mut desks, desk);
+    push(rt, &mut others, other);
+    let pool = emptied(rt, second.gather(others), 1, 6);
     assert_census(rt, &pool, (8, 0, 0));
-    let gathered = first.gather(desks);
-    let pool = emptied(rt, gathered, 2);
+    let pool = emptied(rt, first.gather(desks), 1, 2);
     assert_census(rt, &pool, (7, 1, 0));
+}
+
+// Calls of the first pool are served, and one of the second between them.
+fn serve_both<N: Name, M: Name>(
+    rt: &(impl Wait + Abort),
+    first: &Shared<N>,
+    desk: &mut Desk<N>,
+    second: &Shared<M>,
+    other: &mut Desk<M>,
+) {
+    let a = reg(rt, b'a');
+    serve_calls(rt, first, desk, &[(Call::Allocb(a, 1), Reply::Done)]);
+    let served = second.serve(rt, other, 1, &Call::Freemsg(a));
+    assert_served(rt, served, &Reply::Empty);
+    serve_calls(rt, first, desk, &[(Call::Putq(0, a), Reply::Done)]);
+    assert_told(rt, first.census_now(desk), 2, (7, 1, 0));
+    assert_seen(rt, desk, 2);
+    let told = second.census_now(other);
+    assert_told(rt, told, 6, (8, 0, 0));
 }

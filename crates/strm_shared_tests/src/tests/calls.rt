@@ -1,15 +1,15 @@
 //! A line of each kind of call, served on one desk.
-ghost use Rattle.std.specs.Prelude.{◌≡◌};
 ghost use Rattle.strm_shared.specs.Starts.{IsNameOf};
 
-use super::traces::{kept, replayed};
-use super::{assert_census, assert_served, drained, eight, last, reg};
+use super::steps::{assert_census, serve_calls};
+use super::traces::{assert_replayed, kept};
+use super::{drained, eight, only, push, reg};
 use arrayvec::ArrayVec;
 use std::alloc::Global;
 use std::process::Abort;
 use std::sync::Wait;
 use strm_pool::{BlockInfo, Call, Census, Flush, MsgType, Octets, Reply};
-use strm_shared::{Brand, Desk, Name, Shared, Start};
+use strm_shared::{Brand, Name, Start};
 
 #[test]
 fn each_kind_of_call(rt: HostRuntime) {
@@ -23,32 +23,18 @@ fn each_kind<N: Name, R: Wait + Abort>(rt: &R, alloc: Global, start: Start)
     requires { IsNameOf N.Name start }
 {
     let (shared, mut desks) = start.open::<N>();
-    let mut desk = last(rt, &mut desks, 0);
-    making(rt, &shared, &mut desk);
-    altering(rt, &shared, &mut desk);
-    queueing(rt, &shared, &mut desk);
-    enabling(rt, &shared, &mut desk);
-    wishing(rt, &shared, &mut desk);
-    assert!(rt; desks.len() == 0);
+    let mut desk = only(rt, &mut desks);
+    serve_calls(rt, &shared, &mut desk, &making(rt));
+    serve_calls(rt, &shared, &mut desk, &altering(rt));
+    serve_calls(rt, &shared, &mut desk, &queueing(rt));
+    serve_calls(rt, &shared, &mut desk, &enabling(rt));
+    serve_calls(rt, &shared, &mut desk, &wishing());
     let stamp = desk.seen();
-    desks.push(desk);
-    let (pool, trace) = drained(rt, shared.gather(desks), stamp);
+    push(rt, &mut desks, desk);
+    let (pool, trace) = drained(rt, shared.gather(desks), 1, stamp);
     assert_census(rt, &pool, (8, 0, 0));
     assert_eq!(rt; trace.items().len() as u64, stamp);
-    let pool = replayed(rt, eight(rt, alloc, 7), trace.items());
-    assert_census(rt, &pool, (8, 0, 0));
-}
-
-// The calls are served on the desk, with these replies.
-fn assert_rows<N: Name>(
-    rt: &(impl Wait + Abort),
-    shared: &Shared<N>,
-    desk: &mut Desk<N>,
-    rows: &[(Call, Reply)],
-) {
-    for (call, reply) in rows {
-        assert_served(rt, shared, desk, call, reply);
-    }
+    assert_replayed(rt, eight(rt, alloc, 7), trace.items(), 8);
 }
 
 // These bytes, at most 64.
@@ -70,13 +56,14 @@ const fn block(kind: MsgType, len: u32, band: u8, room: u32) -> Reply {
 }
 
 // Messages are made, joined, parted and freed.
-fn making<N: Name, R: Wait + Abort>(rt: &R, shared: &Shared<N>, desk: &mut Desk<N>) {
+fn making(rt: &impl Abort) -> [(Call, Reply); 14] {
     let (a, b, c) = (reg(rt, b'a'), reg(rt, b'b'), reg(rt, b'c'));
     let (d, e, f) = (reg(rt, b'd'), reg(rt, b'e'), reg(rt, b'f'));
-    let rows = [
+    let bytes = octets(rt, b"abc");
+    [
         (Call::Testb(65), Reply::No),
         (Call::Allocb(a, 3), Reply::Done),
-        (Call::Write(a, 0, octets(rt, b"abc")), Reply::Done),
+        (Call::Write(a, 0, bytes), Reply::Done),
         (Call::Dupb(a, b), Reply::Done),
         (Call::Freeb(b), Reply::Done),
         (Call::Dupmsg(a, c), Reply::Done),
@@ -88,15 +75,15 @@ fn making<N: Name, R: Wait + Abort>(rt: &R, shared: &Shared<N>, desk: &mut Desk<
         (Call::Rmvb(a, 0, f), Reply::Done),
         (Call::Freemsg(f), Reply::Done),
         (Call::Block(c, 0), block(MsgType::MData, 3, 0, 13)),
-    ];
-    assert_rows(rt, shared, desk, &rows);
+    ]
 }
 
 // Type, band and bytes of a message change. Data blocks of 16 bytes are all taken by then.
-fn altering<N: Name, R: Wait + Abort>(rt: &R, shared: &Shared<N>, desk: &mut Desk<N>) {
+fn altering(rt: &impl Abort) -> [(Call, Reply); 9] {
     let (a, c, d) = (reg(rt, b'a'), reg(rt, b'c'), reg(rt, b'd'));
     let (free, queued, held) = (4, 0, 4);
-    let rows = [
+    let bytes = octets(rt, b"cabc");
+    [
         (Call::Settype(c, 0, MsgType::MIocack), Reply::Done),
         (Call::Setband(d, 2), Reply::Done),
         (Call::Adjmsg(d, 1), Reply::Done),
@@ -104,18 +91,17 @@ fn altering<N: Name, R: Wait + Abort>(rt: &R, shared: &Shared<N>, desk: &mut Des
         (Call::Pullupmsg(d, 4), Reply::Done),
         (Call::Block(d, 0), block(MsgType::MData, 4, 2, 60)),
         (Call::Msgdsize(d), Reply::Size(5)),
-        (Call::Read(d, 1), Reply::Bytes(octets(rt, b"cabc"))),
+        (Call::Read(d, 1), Reply::Bytes(bytes)),
         (Call::Census, Reply::Census(Census { free, queued, held })),
-    ];
-    assert_rows(rt, shared, desk, &rows);
+    ]
 }
 
 // A message of high priority goes before one of band 2, with which the band is full, and that before one of band 0. Once it
 // is taken off, the queue behind is enabled.
-fn queueing<N: Name, R: Wait + Abort>(rt: &R, shared: &Shared<N>, desk: &mut Desk<N>) {
+fn queueing(rt: &impl Abort) -> [(Call, Reply); 13] {
     let (a, b, c) = (reg(rt, b'a'), reg(rt, b'b'), reg(rt, b'c'));
     let (d, e) = (reg(rt, b'd'), reg(rt, b'e'));
-    let rows = [
+    [
         (Call::Putq(1, d), Reply::Done),
         (Call::Putq(1, c), Reply::Done),
         (Call::Insq(1, 2, e), Reply::Done),
@@ -129,14 +115,13 @@ fn queueing<N: Name, R: Wait + Abort>(rt: &R, shared: &Shared<N>, desk: &mut Des
         (Call::Service, Reply::Queue(0)),
         (Call::Getq(1, b), Reply::Done),
         (Call::Block(b, 0), block(MsgType::MIocack, 3, 0, 13)),
-    ];
-    assert_rows(rt, shared, desk, &rows);
+    ]
 }
 
 // A queue that is not to be enabled is not, and then it is. Two flushes spare the message of high priority.
-fn enabling<N: Name, R: Wait + Abort>(rt: &R, shared: &Shared<N>, desk: &mut Desk<N>) {
+fn enabling(rt: &impl Abort) -> [(Call, Reply); 17] {
     let (a, b) = (reg(rt, b'a'), reg(rt, b'b'));
-    let rows = [
+    [
         (Call::Noenable(1), Reply::Done),
         (Call::Putq(1, a), Reply::Done),
         (Call::Service, Reply::Nothing),
@@ -154,18 +139,16 @@ fn enabling<N: Name, R: Wait + Abort>(rt: &R, shared: &Shared<N>, desk: &mut Des
         (Call::Getq(1, a), Reply::Done),
         (Call::Getq(1, b), Reply::Nothing),
         (Call::Freemsg(a), Reply::Done),
-    ];
-    assert_rows(rt, shared, desk, &rows);
+    ]
 }
 
 // Of two wishes one is taken back, and the other can be served.
-fn wishing<N: Name, R: Wait + Abort>(rt: &R, shared: &Shared<N>, desk: &mut Desk<N>) {
-    let rows = [
+fn wishing() -> [(Call, Reply); 5] {
+    [
         (Call::Bufcall(64), Reply::Id(1)),
         (Call::Bufcall(16), Reply::Id(2)),
         (Call::Unbufcall(1), Reply::Done),
         (Call::Ready, Reply::Ready(2, 16)),
         (Call::Ready, Reply::Nothing),
-    ];
-    assert_rows(rt, shared, desk, &rows);
+    ]
 }

@@ -1,17 +1,13 @@
 //! Traces that are kept.
 ghost use Rattle.strm_shared.specs.Starts.{IsNameOf};
 
-use super::{
-    assert_census, assert_now, assert_refused, assert_served, drained, eight, gathered, last,
-    listed, reg, serve_rows, setup, start_of,
-};
+use super::steps::{Step, assert_calls, assert_census, assert_seen, played, traced};
+use super::{eight, gathered, last, reg, setup, start_of};
 use std::alloc::Global;
 use std::process::Abort;
 use std::sync::Wait;
 use strm_pool::{Call, Pool, Refusal, Regs, Reply};
-use strm_shared::{
-    Brand, Desks, Entry, Gathered, MOST_STAMP, Name, Shared, Start, Trace, TraceEntries,
-};
+use strm_shared::{Brand, Desk, Entry, Gathered, MOST_STAMP, Name, Start, Trace, TraceEntries};
 
 // A pool of eight message blocks that is to be shared by so many desks, with so many entries kept at most, from this stamp on.
 pub(super) fn kept(
@@ -32,9 +28,9 @@ fn replay(rt: &impl Abort, pool: &mut Pool, regs: &mut Regs, entry: &Entry) {
     assert!(rt; reply == entry.reply);
 }
 
-// The pool once it has done the calls of these entries once more, one after another, on registers for each of three desks. What the
-// registers hold then was freed.
-pub(super) fn replayed(rt: &impl Abort, mut pool: Pool, entries: &[Entry]) -> Pool {
+// The pool does the calls of these entries once more, one after another, on registers for each of three desks. Once what the
+// registers hold then was freed, so many message blocks are free, and no others are left.
+pub(super) fn assert_replayed(rt: &impl Abort, mut pool: Pool, entries: &[Entry], free: u32) {
     let (mut zero, mut one, mut two) = (Regs::new(), Regs::new(), Regs::new());
     for entry in entries {
         match entry.desk {
@@ -47,22 +43,52 @@ pub(super) fn replayed(rt: &impl Abort, mut pool: Pool, entries: &[Entry]) -> Po
     pool.drain(zero);
     pool.drain(one);
     pool.drain(two);
-    pool
+    assert_census(rt, &pool, (free, 0, 0));
+}
+
+// The trace has so many entries.
+pub(super) fn assert_len(rt: &impl Abort, trace: &TraceEntries, count: usize) {
+    assert_eq!(rt; trace.items().len(), count);
+}
+
+// The entry reads so.
+fn expect_entry(rt: &(impl Abort + AllocGlobal), entry: &Entry, wanted: &str) {
+    let found = format!(in rt.alloc(); "{entry:?}").expect(rt, "memory");
+    assert_eq!(rt; found.as_str(), wanted);
 }
 
 // The entries read so, one after another.
 fn expect_entries(rt: &(impl Abort + AllocGlobal), trace: &TraceEntries, wanted: &[&str]) {
-    let entries = trace.items();
-    assert_eq!(rt; entries.len(), wanted.len());
-    for (entry, text) in entries.iter().zip(wanted) {
-        let found = format!(in rt.alloc(); "{entry:?}").expect(rt, "memory");
-        assert_eq!(rt; found.as_str(), *text);
+    assert_len(rt, trace, wanted.len());
+    for (entry, text) in trace.items().iter().zip(wanted) {
+        expect_entry(rt, entry, text);
     }
+}
+
+// The trace of a pool of eight message blocks once these steps were taken, where each of so many desks has seen this stamp. All
+// blocks are free once what the desks hold was freed.
+fn trace_of(
+    rt: &(impl Wait + Abort),
+    start: Start,
+    rows: &[(u8, Step)],
+    count: usize,
+    stamp: u64,
+) -> TraceEntries {
+    let (pool, trace) = traced(rt, start, rows, count, stamp);
+    assert_census(rt, &pool, (8, 0, 0));
+    trace
 }
 
 #[test]
 fn a_trace_by_turns(rt: HostRuntime) {
-    let trace = by_turns::<Brand, _>(&rt, kept(&rt, rt.alloc(), 2, 4, 0));
+    let a = reg(&rt, b'a');
+    let rows = [
+        (0, Step::Serve(Call::Allocb(a, 1), Reply::Done)),
+        (1, Step::Serve(Call::Getq(0, a), Reply::Nothing)),
+        (0, Step::Serve(Call::Putq(0, a), Reply::Done)),
+        (1, Step::Serve(Call::Getq(0, a), Reply::Done)),
+    ];
+    let trace = by_turns::<Brand, _>(&rt, kept(&rt, rt.alloc(), 2, 4, 0), &rows);
     let wanted = [
         "Entry { desk: 0, line: 1, call: Allocb(Reg { place: 0 }, 1), reply: Done }",
         "Entry { desk: 1, line: 2, call: Getq(0, Reg { place: 0 }), reply: Nothing }",
@@ -73,39 +99,42 @@ fn a_trace_by_turns(rt: HostRuntime) {
 }
 
 // A message goes from one desk to the other over the queue, and is held at the end. Each desk was served two calls.
-fn by_turns<N: Name, R: Wait + Abort>(rt: &R, start: Start) -> TraceEntries
+fn by_turns<N: Name, R: Wait + Abort>(rt: &R, start: Start, rows: &[(u8, Step)]) -> TraceEntries
     requires { IsNameOf N.Name start }
 {
-    let a = reg(rt, b'a');
-    let rows = [
-        (0, Call::Allocb(a, 1), Reply::Done),
-        (1, Call::Getq(0, a), Reply::Nothing),
-        (0, Call::Putq(0, a), Reply::Done),
-        (1, Call::Getq(0, a), Reply::Done),
-    ];
-    let (shared, mut desks) = start.open::<N>();
-    serve_rows(rt, &shared, &mut desks, &rows);
     let Gathered {
         pool,
         trace,
         mut desks,
-    } = gathered(rt, shared.gather(desks));
+    } = gathered(rt, played::<N, R>(rt, start, rows));
     assert_census(rt, &pool, (7, 0, 1));
-    let one = last(rt, &mut desks, 1);
-    let zero = last(rt, &mut desks, 0);
-    assert_eq!(rt; (zero.seen(), one.seen()), (4, 4));
-    assert_eq!(rt; (zero.calls(), one.calls()), (2, 2));
+    let one = spent(rt, last(rt, &mut desks, 1));
+    spent(rt, last(rt, &mut desks, 0)).forget();
     desks.forget();
-    zero.into_regs().forget();
-    let regs = one.into_regs();
-    assert!(rt; regs.holds(a));
-    regs.forget();
+    assert!(rt; one.holds(reg(rt, b'a')));
+    one.forget();
     trace
 }
 
+// The registers of a desk that has seen stamp 4, and was served two calls.
+fn spent<N: Name>(rt: &impl Abort, desk: Desk<N>) -> Regs {
+    assert_seen(rt, &desk, 4);
+    assert_calls(rt, &desk, 2);
+    desk.into_regs()
+}
+
+// A call that is refused, one with an empty source, and one with a taken destination count as all others do.
 #[test]
 fn refused_calls_in_a_trace(rt: HostRuntime) {
-    let trace = refused::<Brand, _>(&rt, kept(&rt, rt.alloc(), 1, 4, 0));
+    let a = reg(&rt, b'a');
+    let no_queue = Reply::Refused(Refusal::NoSuchQueue);
+    let rows = [
+        (0, Step::Serve(Call::Putq(9, a), no_queue)),
+        (0, Step::Serve(Call::Putq(0, a), Reply::Empty)),
+        (0, Step::Serve(Call::Allocb(a, 16), Reply::Done)),
+        (0, Step::Serve(Call::Allocb(a, 16), Reply::Taken)),
+    ];
+    let trace = trace_of(&rt, kept(&rt, rt.alloc(), 1, 4, 0), &rows, 1, 4);
     let wanted = [
         "Entry { desk: 0, line: 1, call: Putq(9, Reg { place: 0 }), reply: Refused(NoSuchQueue) }",
         "Entry { desk: 0, line: 2, call: Putq(0, Reg { place: 0 }), reply: Empty }",
@@ -115,51 +144,29 @@ fn refused_calls_in_a_trace(rt: HostRuntime) {
     expect_entries(&rt, &trace, &wanted);
 }
 
-// A call that is refused, one with an empty source, and one with a taken destination count as all others do.
-fn refused<N: Name, R: Wait + Abort>(rt: &R, start: Start) -> TraceEntries
-    requires { IsNameOf N.Name start }
-{
-    let a = reg(rt, b'a');
-    let rows = [
-        (0, Call::Putq(9, a), Reply::Refused(Refusal::NoSuchQueue)),
-        (0, Call::Putq(0, a), Reply::Empty),
-        (0, Call::Allocb(a, 16), Reply::Done),
-        (0, Call::Allocb(a, 16), Reply::Taken),
-    ];
-    let (shared, mut desks) = start.open::<N>();
-    serve_rows(rt, &shared, &mut desks, &rows);
-    let (pool, trace) = drained(rt, shared.gather(desks), 4);
-    assert_census(rt, &pool, (8, 0, 0));
-    trace
-}
-
 #[test]
 fn a_trace_of_one_entry(rt: HostRuntime) {
-    let early = kept(&rt, rt.alloc(), 2, 1, 5);
-    one_entry::<Brand, _>(&rt, early, 5, Refusal::TraceFull);
-    let late = kept(&rt, rt.alloc(), 2, 1, MOST_STAMP - 1);
-    one_entry::<Brand, _>(&rt, late, MOST_STAMP - 1, Refusal::Worn);
+    let rows = [(5, Refusal::TraceFull), (MOST_STAMP - 1, Refusal::Worn)];
+    for (first, why) in rows {
+        one_entry(&rt, rt.alloc(), first, why);
+    }
 }
 
 // Behind this first stamp one call is served. The next ones, of either desk, are refused for this reason, which the desk sees by
 // the stamp, and nothing else changes.
-fn one_entry<N: Name, R: Wait + Abort>(rt: &R, start: Start, first: u64, why: Refusal)
-    requires { IsNameOf N.Name start }
-{
+fn one_entry(rt: &(impl Wait + Abort), alloc: Global, first: u64, why: Refusal) {
     let a = reg(rt, b'a');
     let stamp = first.wrapping_add(1);
-    let (shared, mut desks) = start.open::<N>();
-    let mut one = last(rt, &mut desks, 1);
-    let mut zero = last(rt, &mut desks, 0);
-    desks.forget();
-    assert_served(rt, &shared, &mut zero, &Call::Allocb(a, 1), &Reply::Done);
-    assert_eq!(rt; (zero.seen(), one.seen()), (stamp, first));
-    assert_refused(rt, &shared, &mut one, &Call::Allocb(a, 1), why);
-    assert_eq!(rt; (one.seen(), one.calls()), (stamp, 0));
-    assert_refused(rt, &shared, &mut zero, &Call::Freemsg(a), why);
-    assert_eq!(rt; (zero.seen(), zero.calls()), (stamp, 1));
-    assert_now(rt, &shared, &mut one, stamp, (7, 0, 1));
-    let (pool, trace) = drained(rt, shared.gather(listed(zero, one)), stamp);
-    assert_census(rt, &pool, (8, 0, 0));
-    assert_eq!(rt; trace.items().len(), 1);
+    let rows = [
+        (0, Step::Serve(Call::Allocb(a, 1), Reply::Done)),
+        (0, Step::Stand(stamp, 1)),
+        (1, Step::Stand(first, 0)),
+        (1, Step::Refuse(Call::Allocb(a, 1), why)),
+        (1, Step::Stand(stamp, 0)),
+        (0, Step::Refuse(Call::Freemsg(a), why)),
+        (0, Step::Stand(stamp, 1)),
+        (1, Step::Look(stamp, (7, 0, 1))),
+    ];
+    let trace = trace_of(rt, kept(rt, alloc, 2, 1, first), &rows, 2, stamp);
+    assert_len(rt, &trace, 1);
 }

@@ -1,23 +1,22 @@
 //! Workers on threads of their own.
-ghost use Rattle.std.specs.Prelude.{◌≡◌, length};
 ghost use Rattle.strm_shared.specs.Starts.{IsNameOf};
 
-use super::traces::{kept, replayed};
+use super::steps::{Step, assert_census, take_steps};
+use super::traces::{assert_len, assert_replayed, kept};
 use super::{
-    assert_census, assert_now, assert_served, drained, eight, emptied, gathered, last, opened, reg,
-    setup, start, start_of, ungathered,
+    drained, eight, emptied, gathered, last, opened, push, reg, setup, start, start_of, take_last,
+    ungathered,
 };
 use std::alloc::{AllocError, Global};
 use std::process::Abort;
 use std::sync::Wait;
 use std::sync::atomic::{AtomicU32, Ordering};
-use std::test::Fail;
 use std::thread::Threads;
 use std::{mem, thread};
 use strm_pool::{Call, Census, Pool, Refusal, Reg, Reply};
 use strm_shared::{
-    Brand, Desk, Desks, End, Entry, Gate, Gathered, Line, Lines, MOST_STAMP, MOST_WORKERS, Name,
-    OpenGate, Outcome, Parts, Replies, Shared, Start, Trace, TraceEntries, run_workers,
+    Brand, Desk, Desks, End, Entry, Gate, Gathered, Line, Lines, MOST_STAMP, Name, OpenGate,
+    Outcome, Parts, Replies, Shared, Start, Trace, TraceEntries, run_workers,
 };
 
 // So many turns at most a worker waits, and a monitor looks.
@@ -34,6 +33,11 @@ fn comes(flags: &AtomicU32, bits: u32) -> bool {
         }
     }
     false
+}
+
+// The number has come to so much.
+fn assert_count(rt: &impl Abort, number: &AtomicU32, count: u32) {
+    assert_eq!(rt; number.load(Ordering::SeqCst), count);
 }
 
 // Where two workers of two lines each wait for each other: which lines have come, and were answered, each as a digit of four
@@ -145,24 +149,27 @@ impl Gate for Watch {
     }
 }
 
-// So many lines of a worker, each an `allocb` and then a `freemsg` of a register.
+// A line of a worker: an `allocb` into a register where its number is even, and else a `freemsg` of it.
+fn line(reg: Reg, number: u32) -> Line {
+    let call = if number % 2 == 0 {
+        Call::Allocb(reg, 16)
+    } else {
+        Call::Freemsg(reg)
+    };
+    Line { number, call }
+}
+
+// So many rounds of a worker, each an `allocb` and then a `freemsg` of a register.
 fn lines(alloc: Global, reg: Reg, rounds: u32) -> Result<Lines, AllocError> {
     let mut list = Vec::new(alloc);
-    for round in 0..rounds {
-        let number = round.wrapping_mul(2);
-        let call = Call::Allocb(reg, 16);
-        list.push(Line { number, call })?;
-        let call = Call::Freemsg(reg);
-        list.push(Line {
-            number: number.wrapping_add(1),
-            call,
-        })?;
+    for number in 0..rounds.wrapping_mul(2) {
+        list.push(line(reg, number))?;
     }
     Ok(Lines::of(list))
 }
 
 // Such lines of so many workers.
-fn parts(alloc: Global, reg: Reg, workers: u8, rounds: u32) -> Result<Parts, AllocError> {
+fn parts(alloc: Global, reg: Reg, workers: usize, rounds: u32) -> Result<Parts, AllocError> {
     let mut list = Vec::new(alloc);
     for _ in 0..workers {
         list.push(lines(alloc, reg, rounds)?)?;
@@ -170,13 +177,30 @@ fn parts(alloc: Global, reg: Reg, workers: u8, rounds: u32) -> Result<Parts, All
     Ok(Parts::of(list))
 }
 
-// Each worker has all its lines answered as done.
-fn assert_done(rt: &impl Abort, replies: &[Replies], ends: &[End], count: usize) {
-    assert!(rt; ends.iter().all(|end| *end == End::Done));
-    for given in replies {
-        assert_eq!(rt; given.items().len(), count);
-        assert!(rt; given.items().iter().all(|reply| *reply == Reply::Done));
+// Such lines of register a.
+fn parts_on_a(rt: &impl Abort, alloc: Global, workers: usize, rounds: u32) -> Parts {
+    parts(alloc, reg(rt, b'a'), workers, rounds).expect(rt, "memory")
+}
+
+// All lines of a worker were answered as done.
+fn assert_done(rt: &impl Abort, replies: &Replies, count: usize) {
+    let replies = replies.items();
+    assert_eq!(rt; replies.len(), count);
+    assert!(rt; replies.iter().all(|reply| *reply == Reply::Done));
+}
+
+// The desks of workers, each of which has all its lines answered as done.
+fn all_done<N: Name>(rt: &impl Abort, outcome: Outcome<N>, count: usize) -> Desks<N> {
+    let Outcome {
+        desks,
+        replies,
+        ends,
+    } = outcome;
+    assert!(rt; ends.items().iter().all(|end| *end == End::Done));
+    for given in replies.items() {
+        assert_done(rt, given, count);
     }
+    desks
 }
 
 // What workers leave that have these parts served, each on the desk of its place.
@@ -220,14 +244,14 @@ fn work<N: Name + Send + Sync, R: Threads + Wait + Abort + Sync, G: Gate>(
     requires { IsNameOf N.Name start }
 {
     let (shared, mut desks) = start.open::<N>();
-    assert!(rt; desks.len() > 0);
-    let monitor = desks.take_last();
-    let parts = parts(alloc, reg(rt, b'a'), desks.len() as u8, rounds).expect(rt, "memory");
+    let monitor = take_last(rt, &mut desks);
+    let parts = parts_on_a(rt, alloc, desks.len(), rounds);
     let outcome = ran(rt, alloc, &shared, desks, &parts, gate);
     after_work(rt, shared, monitor, outcome, rounds)
 }
 
-// The trace once all workers had so many rounds served. The monitor sees it, and is the desk without which none are gathered.
+// The trace once all workers had so many rounds served. The monitor is the desk without which none are gathered, and then sees what
+// they left.
 fn after_work<N: Name, R: Wait + Abort>(
     rt: &R,
     shared: Shared<N>,
@@ -235,23 +259,21 @@ fn after_work<N: Name, R: Wait + Abort>(
     outcome: Outcome<N>,
     rounds: u32,
 ) -> TraceEntries {
-    let Outcome {
-        desks,
-        replies,
-        ends,
-    } = outcome;
-    let mut monitor = monitor;
-    let count = (rounds as usize).wrapping_mul(2);
-    assert_done(rt, replies.items(), ends.items(), count);
-    let stamp = (count as u64).wrapping_mul(desks.len() as u64);
-    assert_now(rt, &shared, &mut monitor, stamp, (4, 0, 0));
+    let lines = u64::from(rounds).wrapping_mul(2);
+    let desks = all_done(rt, outcome, lines as usize);
+    let stamp = lines.wrapping_mul(desks.len() as u64);
+    let (shared, mut desks) = ungathered(rt, shared, desks);
+    let number = monitor.number();
+    push(rt, &mut desks, monitor);
     let (free, queued, held) = (4, 0, 0);
     let census = Reply::Census(Census { free, queued, held });
-    assert_served(rt, &shared, &mut monitor, &Call::Census, &census);
-    let (shared, mut desks) = ungathered(rt, shared, desks);
-    assert!(rt; desks.len() < MOST_WORKERS);
-    desks.push(monitor);
-    let (pool, trace) = drained(rt, shared.gather(desks), stamp.wrapping_add(1));
+    let rows = [
+        (number, Step::Look(stamp, (free, queued, held))),
+        (number, Step::Serve(Call::Census, census)),
+    ];
+    take_steps(rt, &shared, &mut desks, &rows);
+    let count = desks.len();
+    let (pool, trace) = drained(rt, shared.gather(desks), count, stamp.wrapping_add(1));
     assert_census(rt, &pool, (4, 0, 0));
     trace
 }
@@ -261,11 +283,11 @@ fn two_threads_at_once(rt: HostRuntime) {
     let gate = Meeting::new();
     let three = small(&rt, rt.alloc(), 3, Trace::Keep(5));
     let trace = work::<Brand, _, _>(&rt, rt.alloc(), three, &gate, 1);
-    assert_replayed(&rt, rt.alloc(), trace.items(), 2);
-    assert_eq!(rt; gate.missed.load(Ordering::SeqCst), 0);
-    assert_eq!(rt; gate.early.load(Ordering::SeqCst), 0);
-    assert_eq!(rt; gate.came.load(Ordering::SeqCst), ALL);
-    assert_eq!(rt; gate.answered.load(Ordering::SeqCst), ALL);
+    assert_small_trace(&rt, rt.alloc(), trace.items(), 2);
+    assert_count(&rt, &gate.missed, 0);
+    assert_count(&rt, &gate.early, 0);
+    assert_count(&rt, &gate.came, ALL);
+    assert_count(&rt, &gate.answered, ALL);
 }
 
 #[test]
@@ -279,8 +301,7 @@ fn assert_lines(rt: &impl Abort, entries: &[Entry], worker: u8, count: u32) {
     let mut next: u32 = 0;
     for entry in entries {
         if entry.desk == worker {
-            assert_eq!(rt; entry.line, next);
-            assert!(rt; entry.reply == Reply::Done);
+            assert!(rt; entry.line == next && entry.reply == Reply::Done);
             next = next.wrapping_add(1);
         }
     }
@@ -289,15 +310,14 @@ fn assert_lines(rt: &impl Abort, entries: &[Entry], worker: u8, count: u32) {
 
 // The trace has so many lines of each of two workers and the monitor's one call, and done again by a pool like theirs its calls have
 // the same replies.
-fn assert_replayed(rt: &impl Abort, alloc: Global, entries: &[Entry], lines: u32) {
+fn assert_small_trace(rt: &impl Abort, alloc: Global, entries: &[Entry], lines: u32) {
     assert_lines(rt, entries, 0, lines);
     assert_lines(rt, entries, 1, lines);
     assert_eq!(rt;
         entries.len(),
         (lines as usize).wrapping_mul(2).wrapping_add(1)
     );
-    let pool = replayed(rt, four(rt, alloc), entries);
-    assert_census(rt, &pool, (4, 0, 0));
+    assert_replayed(rt, four(rt, alloc), entries, 4);
 }
 
 // Two workers of 500 rounds each, while a monitor on a thread of its own reads what they leave, until they have ended. A
@@ -311,7 +331,7 @@ fn watched<N: Name + Send + Sync, R: Threads + Wait + Abort + Sync>(
 {
     let (shared, mut desks) = start.open::<N>();
     let mut monitor = last(rt, &mut desks, 2);
-    let parts = parts(alloc, reg(rt, b'a'), 2, 500).expect(rt, "memory");
+    let parts = parts_on_a(rt, alloc, desks.len(), 500);
     let gate = Watch::new(999);
     let (in_time, outcome) = thread::join(
         rt,
@@ -323,9 +343,14 @@ fn watched<N: Name + Send + Sync, R: Threads + Wait + Abort + Sync>(
     );
     desks.forget();
     assert!(rt; in_time);
-    assert_eq!(rt; gate.missed.load(Ordering::SeqCst), 0);
+    assert_count(rt, &gate.missed, 0);
     let trace = after_work(rt, shared, monitor, outcome, 500);
-    assert_replayed(rt, alloc, trace.items(), 1000);
+    assert_small_trace(rt, alloc, trace.items(), 1000);
+}
+
+// How many message blocks are counted.
+fn blocks(census: Census) -> u64 {
+    u64::from(census.free) + u64::from(census.queued) + u64::from(census.held)
 }
 
 // Looks until the workers have ended, and tells whether they did in time. Each time four blocks are counted, at a stamp that is none
@@ -341,11 +366,7 @@ fn monitored<N: Name>(
     for look in 0..TURNS {
         let seen = desk.seen();
         let (stamp, census) = shared.census_now(desk);
-        assert!(rt; seen <= stamp);
-        assert_eq!(rt;
-            u64::from(census.free) + u64::from(census.queued) + u64::from(census.held),
-            4
-        );
+        assert!(rt; seen <= stamp && blocks(census) == 4);
         if first < stamp && LOOKS <= look {
             gate.show(ENOUGH);
         }
@@ -365,7 +386,15 @@ fn one_worker_of_many_lines(rt: HostRuntime) {
 
 #[test]
 fn a_full_trace(rt: HostRuntime) {
-    full::<Brand, _>(&rt, rt.alloc(), kept(&rt, rt.alloc(), 2, 3, 0));
+    let trace = full::<Brand, _>(&rt, rt.alloc(), kept(&rt, rt.alloc(), 2, 3, 0));
+    assert_len(&rt, &trace, 3);
+    assert_replayed(&rt, eight(&rt, rt.alloc(), 7), trace.items(), 8);
+}
+
+// One of the two is done. The other is refused for a full trace.
+fn assert_one_refused(rt: &impl Abort, ends: &[End]) {
+    let refused = End::Refused(Refusal::TraceFull);
+    assert!(rt; ends == [End::Done, refused].as_slice() || ends == [refused, End::Done].as_slice());
 }
 
 // Of two workers of two lines each one is done. The other is refused at its second line, and holds a message then.
@@ -373,40 +402,30 @@ fn full<N: Name + Send + Sync, R: Threads + Wait + Abort + Sync>(
     rt: &R,
     alloc: Global,
     start: Start,
-)
+) -> TraceEntries
     requires { IsNameOf N.Name start }
 {
     let (shared, desks) = start.open::<N>();
-    let parts = parts(alloc, reg(rt, b'a'), desks.len() as u8, 1).expect(rt, "memory");
+    let parts = parts_on_a(rt, alloc, desks.len(), 1);
     let Outcome {
         desks,
         replies: _,
         ends,
     } = ran(rt, alloc, &shared, desks, &parts, &OpenGate);
-    let refused = End::Refused(Refusal::TraceFull);
-    let ends = ends.items();
-    assert!(rt; ends == [End::Done, refused].as_slice() || ends == [refused, End::Done].as_slice());
+    assert_one_refused(rt, ends.items());
     let Gathered { pool, trace, desks } = gathered(rt, shared.gather(desks));
     desks.forget();
     assert_census(rt, &pool, (7, 0, 1));
-    assert_eq!(rt; trace.items().len(), 3);
-    let pool = replayed(rt, eight(rt, alloc, 7), trace.items());
-    assert_census(rt, &pool, (8, 0, 0));
+    trace
 }
 
 #[test]
-fn replies_in_order(rt: HostRuntime) -> Result<(), Fail> {
-    unlike::<Brand, _>(
-        &rt,
-        rt.alloc(),
-        start(&rt, rt.alloc(), 7, 1, 0),
-        4,
-        4,
-        End::Done,
-    )?;
-    let end = End::Refused(Refusal::Worn);
+fn replies_in_order(rt: HostRuntime) {
+    let early = start(&rt, rt.alloc(), 7, 1, 0);
+    unlike::<Brand, _>(&rt, rt.alloc(), early, 4, 4, End::Done);
     let late = start(&rt, rt.alloc(), 7, 1, MOST_STAMP - 3);
-    unlike::<Brand, _>(&rt, rt.alloc(), late, 3, MOST_STAMP, end)
+    let end = End::Refused(Refusal::Worn);
+    unlike::<Brand, _>(&rt, rt.alloc(), late, 3, MOST_STAMP, end);
 }
 
 // One worker has four lines with replies of four sorts, of which so many are served, up to this stamp, and ends so.
@@ -417,40 +436,30 @@ fn unlike<N: Name + Send + Sync, R: Threads + Wait + Abort + Sync>(
     count: usize,
     stamp: u64,
     end: End,
-) -> Result<(), Fail>
+)
     requires { IsNameOf N.Name start }
 {
-    let a = reg(rt, b'a');
     let (shared, desks) = start.open::<N>();
-    let calls = [
-        Call::Allocb(a, 3),
-        Call::Allocb(a, 3),
-        Call::Msgdsize(a),
-        Call::Qsize(9),
-    ];
-    let parts = one_part(alloc, calls).expect(rt, "memory");
+    let parts = one_part(alloc, reg(rt, b'a')).expect(rt, "memory");
     let Outcome {
         desks,
         replies,
         ends,
     } = ran(rt, alloc, &shared, desks, &parts, &OpenGate);
-    let replies = replies.items();
-    let wanted = [
-        Reply::Done,
-        Reply::Taken,
-        Reply::Size(0),
-        Reply::Refused(Refusal::NoSuchQueue),
-    ];
     assert!(rt; ends.items() == [end].as_slice());
-    assert_eq!(rt; replies.len(), 1);
-    assert!(rt; count <= wanted.len() && replies[0].items() == &wanted[..count]);
-    let pool = emptied(rt, shared.gather(desks), stamp);
+    assert_unlike(rt, replies.items(), count);
+    let pool = emptied(rt, shared.gather(desks), 1, stamp);
     assert_census(rt, &pool, (8, 0, 0));
-    Ok(())
 }
 
-// One worker's lines, which are these calls.
-fn one_part(alloc: Global, calls: [Call; 4]) -> Result<Parts, AllocError> {
+// One worker's lines, with replies of four sorts.
+fn one_part(alloc: Global, reg: Reg) -> Result<Parts, AllocError> {
+    let calls = [
+        Call::Allocb(reg, 3),
+        Call::Allocb(reg, 3),
+        Call::Msgdsize(reg),
+        Call::Qsize(9),
+    ];
     let mut lines = Vec::new(alloc);
     for call in calls {
         lines.push(Line { number: 1, call })?;
@@ -458,4 +467,16 @@ fn one_part(alloc: Global, calls: [Call; 4]) -> Result<Parts, AllocError> {
     let mut list = Vec::new(alloc);
     list.push(Lines::of(lines))?;
     Ok(Parts::of(list))
+}
+
+// The one worker has the first so many of these replies.
+fn assert_unlike(rt: &impl Abort, replies: &[Replies], count: usize) {
+    let wanted = [
+        Reply::Done,
+        Reply::Taken,
+        Reply::Size(0),
+        Reply::Refused(Refusal::NoSuchQueue),
+    ];
+    assert_eq!(rt; replies.len(), 1);
+    assert!(rt; count <= wanted.len() && replies[0].items() == &wanted[..count]);
 }

@@ -1,0 +1,184 @@
+//! Steps at the desks of a shared pool.
+ghost use Rattle.strm_shared.specs.Starts.{IsNameOf};
+
+use super::{Gathering, drained};
+use std::process::Abort;
+use std::sync::Wait;
+use strm_pool::{Call, Census, Pool, Refusal, Reply};
+use strm_shared::{Brand, Desk, Desks, Name, Shared, Start, TraceEntries};
+
+// How many message blocks are free, queued and held.
+pub(super) type Counts = (u32, u32, u32);
+
+// What is done at a desk, and what comes of it.
+#[derive(Drop)]
+pub(super) enum Step {
+    // The call is served, with this reply.
+    Serve(Call, Reply),
+    // The call is refused for this reason.
+    Refuse(Call, Refusal),
+    // A look tells this stamp, which the desk has seen then, and so many message blocks.
+    Look(u64, Counts),
+    // The desk has seen this stamp, and was served so many calls.
+    Stand(u64, u64),
+}
+
+// The call was served, with this reply.
+pub(super) fn assert_served(rt: &impl Abort, served: Result<Reply, Refusal>, reply: &Reply) {
+    match served {
+        Ok(given) => assert!(rt; given == *reply),
+        Err(_) => panic!(rt; "refused"),
+    }
+}
+
+// The call was refused for this reason.
+fn assert_refused(rt: &impl Abort, served: Result<Reply, Refusal>, why: Refusal) {
+    match served {
+        Ok(_) => panic!(rt; "served"),
+        Err(given) => assert!(rt; given == why),
+    }
+}
+
+// So many message blocks are free, queued and held.
+pub(super) fn assert_counts(rt: &impl Abort, census: Census, counts: Counts) {
+    assert_eq!(rt; (census.free, census.queued, census.held), counts);
+}
+
+// They are so of the pool.
+pub(super) fn assert_census(rt: &impl Abort, pool: &Pool, counts: Counts) {
+    assert_counts(rt, pool.census(), counts);
+}
+
+// A look told this stamp, and so many message blocks.
+pub(super) fn assert_told(rt: &impl Abort, told: (u64, Census), stamp: u64, counts: Counts) {
+    let (found, census) = told;
+    assert_eq!(rt; found, stamp);
+    assert_counts(rt, census, counts);
+}
+
+// The desk has seen this stamp.
+pub(super) fn assert_seen<N: Name>(rt: &impl Abort, desk: &Desk<N>, stamp: u64) {
+    assert_eq!(rt; desk.seen(), stamp);
+}
+
+// The desk was served so many calls.
+pub(super) fn assert_calls<N: Name>(rt: &impl Abort, desk: &Desk<N>, calls: u64) {
+    assert_eq!(rt; desk.calls(), calls);
+}
+
+impl Step {
+    // Is taken at a desk, as this line.
+    fn take<N: Name>(
+        &self,
+        rt: &(impl Wait + Abort),
+        shared: &Shared<N>,
+        desk: &mut Desk<N>,
+        line: u32,
+    ) {
+        match self {
+            Step::Serve(call, reply) => {
+                assert_served(rt, shared.serve(rt, desk, line, call), reply);
+            }
+            Step::Refuse(call, why) => assert_refused(rt, shared.serve(rt, desk, line, call), *why),
+            Step::Look(stamp, counts) => {
+                assert_told(rt, shared.census_now(desk), *stamp, *counts);
+                assert_seen(rt, desk, *stamp);
+            }
+            Step::Stand(stamp, calls) => {
+                assert_seen(rt, desk, *stamp);
+                assert_calls(rt, desk, *calls);
+            }
+        }
+    }
+}
+
+// The calls are served on the desk, with these replies.
+pub(super) fn serve_calls<N: Name>(
+    rt: &(impl Wait + Abort),
+    shared: &Shared<N>,
+    desk: &mut Desk<N>,
+    rows: &[(Call, Reply)],
+) {
+    for (call, reply) in rows {
+        assert_served(rt, shared.serve(rt, desk, 1, call), reply);
+    }
+}
+
+// Takes steps as lines 1, 2 and so on, each at the desk of this number.
+pub(super) fn take_steps<N: Name>(
+    rt: &(impl Wait + Abort),
+    shared: &Shared<N>,
+    desks: &mut Desks<N>,
+    rows: &[(u8, Step)],
+) {
+    let mut line: u32 = 0;
+    for (number, step) in rows {
+        let place = usize::from(*number);
+        assert!(rt; place < desks.len());
+        line = line.wrapping_add(1);
+        step.take(rt, shared, desks.desk_mut(place), line);
+    }
+}
+
+// What is gathered once a pool was shared and these steps were taken.
+pub(super) fn played<N: Name, R: Wait + Abort>(
+    rt: &R,
+    start: Start,
+    rows: &[(u8, Step)],
+) -> Gathering<N>
+    requires { IsNameOf N.Name start }
+{
+    let (shared, mut desks) = start.open::<N>();
+    take_steps(rt, &shared, &mut desks, rows);
+    shared.gather(desks)
+}
+
+// The pool and the trace then, where each of so many desks has seen this stamp, and what they hold was freed.
+fn ended<N: Name, R: Wait + Abort>(
+    rt: &R,
+    start: Start,
+    rows: &[(u8, Step)],
+    count: usize,
+    stamp: u64,
+) -> (Pool, TraceEntries)
+    requires { IsNameOf N.Name start }
+{
+    drained(rt, played::<N, R>(rt, start, rows), count, stamp)
+}
+
+// The pool and the trace then, under a name that is nobody else's.
+pub(super) fn traced(
+    rt: &(impl Wait + Abort),
+    start: Start,
+    rows: &[(u8, Step)],
+    count: usize,
+    stamp: u64,
+) -> (Pool, TraceEntries) {
+    ended::<Brand, _>(rt, start, rows, count, stamp)
+}
+
+// The pool then, where no trace was kept.
+pub(super) fn untraced(
+    rt: &(impl Wait + Abort),
+    start: Start,
+    rows: &[(u8, Step)],
+    count: usize,
+    stamp: u64,
+) -> Pool {
+    let (pool, trace) = traced(rt, start, rows, count, stamp);
+    assert!(rt; trace.items().is_empty());
+    pool
+}
+
+// So many message blocks are free, queued and held of the pool then, where no trace was kept.
+pub(super) fn assert_ended(
+    rt: &(impl Wait + Abort),
+    start: Start,
+    rows: &[(u8, Step)],
+    count: usize,
+    stamp: u64,
+    counts: Counts,
+) {
+    let pool = untraced(rt, start, rows, count, stamp);
+    assert_census(rt, &pool, counts);
+}
