@@ -1,4 +1,6 @@
 use crate::BlockInfo;
+use std::fmt::Debug;
+use std::process::Abort;
 use strm_data::{ClassSpec, MsgType};
 
 mod alterations;
@@ -12,6 +14,7 @@ mod names;
 mod pulling;
 mod reading;
 mod removal;
+mod rows;
 mod shelves;
 mod tally;
 mod tokens;
@@ -23,13 +26,22 @@ const CLASSES: [ClassSpec; 2] = [
     ClassSpec { size: 64, count: 2 },
 ];
 
-// What there is to tell of a block whose data block has one name.
-const fn info(kind: MsgType, len: u32, band: u8, room: u32) -> BlockInfo {
+// What was given is what was wanted.
+pub(crate) fn assert_is<T: PartialEq + Debug>(rt: &impl Abort, given: &T, wanted: &T) {
+    assert_eq!(rt; given, wanted);
+}
+
+// What there is to tell of a block: its type, its length, its band, its room, and how many names its data block has.
+type Told = (MsgType, u32, u8, u32, u8);
+
+// All that in one.
+fn info(told: Told) -> BlockInfo {
+    let (kind, len, band, room, names) = told;
     BlockInfo {
         kind,
         len,
         band,
         room,
-        names: 1,
+        names,
     }
 }

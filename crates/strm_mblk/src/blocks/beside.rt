@@ -11,6 +11,7 @@ use crate::plain::arena::Arena;
 use crate::plain::block::{Block, Message, count_naming, head_in};
 use crate::plain::list::List;
 use crate::plain::store::DataBlock;
+use crate::tests::assert_is;
 use std::process::Abort;
 use strm_data::{Data, MOST_DATA_BLOCKS};
 
@@ -92,7 +93,7 @@ impl Blocks {
     // All is as in the plain program, but for the order of the free data blocks.
     fn assert_is(&self, rt: &impl Abort, plain: &Arena) {
         assert!(rt; self.id == plain.id());
-        assert_eq!(rt; self.census(), plain.census_of(rt));
+        assert_is(rt, &self.census(), &plain.census_of(rt));
         assert_free(rt, &self.chains, plain.free());
         self.assert_held(rt, plain);
         self.assert_shelves(rt, plain.shelves());
@@ -111,7 +112,7 @@ impl Blocks {
             len: fields.len,
             band: fields.band,
         };
-        assert_eq!(rt; own, *block);
+        assert_is(rt, &own, block);
         self.chains.next(block.number)
     }
 
@@ -176,7 +177,7 @@ impl Blocks {
     // A data block has this class's capacity, this type and these bytes.
     fn assert_data_block(&self, rt: &impl Abort, number: u32, other: &DataBlock) {
         assert!(rt; (number as usize) < self.data.len());
-        assert_eq!(rt; self.data.kind(number), other.kind);
+        assert_is(rt, &self.data.kind(number), &other.kind);
         let capacity = self.data.cap(number) as usize;
         assert!(rt; capacity <= MOST);
         let mut bytes = [0; MOST];
@@ -190,7 +191,7 @@ impl Blocks {
         let data = self.data();
         assert!(rt; (number as usize) < data.len());
         let names = usize::from(data.count(number));
-        assert_eq!(rt; names, count_naming(number, blocks));
+        assert_is(rt, &names, &count_naming(number, blocks));
     }
 
     // These are the data blocks, and so many of these message blocks name each.
@@ -211,7 +212,7 @@ impl Blocks {
     // The size of each class, and how many of its data blocks are free and there.
     fn assert_classes(&self, rt: &impl Abort, plain: &Arena) {
         for class in [0, 1, 2, 3, 255] {
-            assert_eq!(rt; self.class_info(class), plain.class_info(rt, class));
+            assert_is(rt, &self.class_info(class), &plain.class_info(rt, class));
         }
     }
 }

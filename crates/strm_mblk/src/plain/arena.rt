@@ -4,7 +4,9 @@ ghost use Rattle.strm_data.specs.DataStore.{class_infos, with_data_freed};
 ghost use Rattle.strm_mblk.specs.Arena as model;
 ghost use Rattle.strm_mblk.specs.Given.{value_after, answer_of};
 
-use super::block::{Block, Message, blocks_held, blocks_of, blocks_on, count_naming, head_of};
+use super::block::{
+    Block, Message, blocks_held, blocks_of, blocks_on, count_naming, head_of, small,
+};
 use super::list::{List, Twin};
 use super::store::{DataStore, numbers};
 use crate::{Census, TokenValue};
@@ -140,11 +142,10 @@ impl Arena {
     pub(crate) fn census_of(&self, rt: &impl Abort) -> Census
         ensures { result ≡ model.census_of self.now }
     {
-        let few = "few message blocks";
         Census {
-            free: u32::try_from(self.free.items().len()).expect(rt, few),
-            queued: u32::try_from(self.shelved_blocks(rt).items().len()).expect(rt, few),
-            held: u32::try_from(self.held_blocks(rt).items().len()).expect(rt, few),
+            free: small(rt, self.free.items().len()),
+            queued: small(rt, self.shelved_blocks(rt).items().len()),
+            held: small(rt, self.held_blocks(rt).items().len()),
         }
     }
 
@@ -170,9 +171,13 @@ impl Arena {
         ensures after { self.new ≡ value_after self.old given }
         ensures answer { result ≡ answer_of given }
     {
-        let (answer, arena) = given?;
-        *self = arena;
-        Ok(answer)
+        match given {
+            Ok((answer, arena)) => {
+                *self = arena;
+                Ok(answer)
+            }
+            Err(why) => Err(why),
+        }
     }
 
     // A copy over other data blocks.

@@ -166,6 +166,13 @@ pub(crate) fn sum(rt: &impl Abort, one: u32, other: u32) -> u32
     one.checked_add(other).expect(rt, "a small sum")
 }
 
+// A count that fits in 32 bits.
+pub(crate) fn small(rt: &impl Abort, count: usize) -> u32
+    ensures { result ≡ count }
+{
+    u32::try_from(count).expect(rt, "a small count")
+}
+
 pub(crate) fn blocks_of(message: &Option<Message>) -> &[Block]
     ensures { result.now ≡ messages.blocks_of message.now }
 {

@@ -4,16 +4,19 @@ ghost use Rattle.strm_data.specs.Classes.{are_lawful};
 ghost use Rattle.strm_mblk.specs.Arena.{has};
 ghost use Rattle.strm_mblk.specs.Limits.{most_message_blocks};
 
-use super::CLASSES;
-use crate::{BlockInfo, Blocks, Token, TokenValue};
+use super::{CLASSES, Told, assert_is, info};
+use crate::{BlockInfo, Blocks, Census, Token, TokenValue};
 use std::alloc::Global;
+use std::fmt::Debug;
 use std::process::Abort;
 use strm_data::{ClassInfo, ClassSpec, MsgType, Refusal};
 
-// Message blocks. What a token says stands for the token, and each call has the token itself.
+// Message blocks, and the number of the call on them, which a failed comparison tells. What a token says stands for the
+// token, and each call has the token itself.
 #[derive(Drop)]
 pub(super) struct Bench {
     pub(super) blocks: Blocks,
+    call: u32,
 }
 
 // What a token says, which is spent.
@@ -55,7 +58,7 @@ pub(super) fn made(rt: &impl Abort, answer: Result<TokenValue, Refusal>) -> Toke
 pub(super) fn refused(rt: &impl Abort, answer: Result<TokenValue, Refusal>, reason: Refusal) {
     match answer {
         Ok(_) => panic!(rt; "a message was made"),
-        Err(why) => assert_eq!(rt; why, reason),
+        Err(why) => assert_is(rt, &why, &reason),
     }
 }
 
@@ -73,6 +76,7 @@ impl Bench {
     {
         Bench {
             blocks: Blocks::new(alloc, named.0, named.1, classes, shelves).expect(rt, "memory"),
+            call: 0,
         }
     }
 
@@ -81,8 +85,24 @@ impl Bench {
         Bench::over(rt, alloc, (id, 8), &CLASSES, 1)
     }
 
-    // Ends the blocks.
-    pub(super) fn end(self) {}
+    // Ends the blocks, which have been lawful.
+    pub(super) fn end(self) {
+        self.blocks.lawful();
+    }
+
+    // Another call comes.
+    pub(super) fn count(&mut self) {
+        self.call = self.call.saturating_add(1);
+    }
+
+    // What was given is what was wanted.
+    pub(super) fn assert_is<T: PartialEq + Debug>(&self, rt: &impl Abort, given: &T, wanted: &T) {
+        assert!(rt;
+            given == wanted,
+            "call {}: {given:?}, not {wanted:?}",
+            self.call
+        );
+    }
 
     // The token that says so, which the blocks have.
     pub(super) fn token(&self, rt: &impl Abort, value: TokenValue) -> Token
@@ -119,7 +139,7 @@ impl Bench {
         let token = self.token(rt, message);
         let given = self.blocks.write(&token, place, bytes);
         token.spend();
-        assert_eq!(rt; given, answer);
+        self.assert_is(rt, &given, &answer);
     }
 
     // Sets the type of a block of a message.
@@ -134,7 +154,7 @@ impl Bench {
         let token = self.token(rt, message);
         let given = self.blocks.settype(&token, place, kind);
         token.spend();
-        assert_eq!(rt; given, answer);
+        self.assert_is(rt, &given, &answer);
     }
 
     // Sets the band of a message.
@@ -165,7 +185,7 @@ impl Bench {
         place: u32,
         answer: Result<BlockInfo, Refusal>,
     ) {
-        assert_eq!(rt; self.told(rt, message, place), answer);
+        self.assert_is(rt, &self.told(rt, message, place), &answer);
     }
 
     // What there is to tell of the first three blocks of a message.
@@ -173,14 +193,10 @@ impl Bench {
         [0, 1, 2].map(|place| self.told(rt, message, place).ok())
     }
 
-    // This is what there is to tell of the first three blocks of a message.
-    pub(super) fn assert_infos(
-        &self,
-        rt: &impl Abort,
-        message: TokenValue,
-        told: [Option<BlockInfo>; 3],
-    ) {
-        assert_eq!(rt; self.infos(rt, message), told);
+    // This is what there is to tell of each block of a message of three blocks at most.
+    pub(super) fn assert_infos(&self, rt: &impl Abort, message: TokenValue, told: &[Told]) {
+        let wanted = [0, 1, 2].map(|place| told.get(place).map(|told| info(*told)));
+        self.assert_is(rt, &self.infos(rt, message), &wanted);
     }
 
     // Reads the bytes of a message from a place on, as far as there is room, and says how many.
@@ -201,16 +217,13 @@ impl Bench {
     pub(super) fn assert_bytes(&self, rt: &impl Abort, message: TokenValue, at: u32, bytes: &[u8]) {
         let mut room = [0; 17];
         let count = self.read(rt, message, at, &mut room);
-        assert_eq!(rt; room.get(..count), Some(bytes));
+        self.assert_is(rt, &room.get(..count), &Some(bytes));
     }
 
     // So many message blocks are free, stand on shelves, and are held.
     pub(super) fn assert_census(&self, rt: &impl Abort, free: u32, queued: u32, held: u32) {
-        let census = self.blocks.census();
-        assert_eq!(rt;
-            (census.free, census.queued, census.held),
-            (free, queued, held)
-        );
+        let census = Census { free, queued, held };
+        self.assert_is(rt, &self.blocks.census(), &census);
     }
 
     // So many data blocks are free of each of two classes.
@@ -219,11 +232,19 @@ impl Bench {
             .blocks
             .class_info(class)
             .map(|info: ClassInfo| info.free));
-        assert_eq!(rt; given, free);
+        self.assert_is(rt, &given, &free);
     }
-}
 
-// What a token says: the first block of the message, and how many it has.
-pub(super) fn assert_says(rt: &impl Abort, message: TokenValue, head: u32, blocks: u32) {
-    assert_eq!(rt; (message.head, message.blocks), (head, blocks));
+    // What the token of a message says: the id, the head, and how many blocks it has.
+    pub(super) fn assert_says(
+        &self,
+        rt: &impl Abort,
+        message: TokenValue,
+        pool: u32,
+        head: u32,
+        blocks: u32,
+    ) {
+        let said = (message.pool, message.head, message.blocks);
+        self.assert_is(rt, &said, &(pool, head, blocks));
+    }
 }

@@ -104,6 +104,12 @@ impl Beside {
         self.tally.count(rt, call, answer);
     }
 
+    // A call on a held message answered so, and the message is still held.
+    fn served(&mut self, rt: &impl Abort, message: TokenValue, call: Call, answer: Answer) {
+        self.tally.count(rt, call, answer);
+        self.keep(rt, message);
+    }
+
     // Takes all messages off the shelves.
     fn clear_shelves(&mut self, rt: &impl Abort, mblks: u32) {
         for _message in 0..mblks {

@@ -1,46 +1,14 @@
-use super::bench::{Bench, assert_says, made, refused, spent};
-use super::info;
+use super::bench::{Bench, spent};
+use super::rows::Row::{
+    Allocb, Bytes, Census, Copyb, Copymsg, Dupmsg, FreeData, Freemsg, Infos, Linkb, OfBytes, Says,
+    Setband, Settype, Told, Write,
+};
+use super::rows::{A, B, DONE, Row, serve};
 use crate::TokenValue;
 use std::process::Abort;
 use strm_data::{ClassSpec, MsgType, Refusal};
 
 impl Bench {
-    // A message of one block for so many bytes, of a type and a band, with these bytes.
-    fn of_one(
-        &mut self,
-        rt: &impl Abort,
-        size: u32,
-        kind: MsgType,
-        band: u8,
-        bytes: &[u8],
-    ) -> TokenValue {
-        let message = self.allocated(rt, size);
-        self.settype(rt, message, 0, kind, Ok(()));
-        self.write(rt, message, 0, bytes, Ok(()));
-        self.setband(rt, message, band);
-        message
-    }
-
-    // A message of three blocks of other types, bands and lengths: of 16, of 64 and of 16 bytes.
-    fn of_three_types(&mut self, rt: &impl Abort) -> TokenValue {
-        let mut message = self.of_one(rt, 16, MsgType::MProto, 1, b"a");
-        let tail = self.of_one(rt, 64, MsgType::MCtl, 255, b"bc");
-        self.linkb(rt, &mut message, tail);
-        let tail = self.of_one(rt, 1, MsgType::MData, 3, b"def");
-        self.linkb(rt, &mut message, tail);
-        message
-    }
-
-    // This is what there is to tell of the blocks of such a message.
-    fn assert_three_types(&self, rt: &impl Abort, message: TokenValue) {
-        let told = [
-            Some(info(MsgType::MProto, 1, 1, 15)),
-            Some(info(MsgType::MCtl, 2, 255, 62)),
-            Some(info(MsgType::MData, 3, 3, 13)),
-        ];
-        self.assert_infos(rt, message, told);
-    }
-
     // A copy of a message, or why there is none.
     pub(super) fn copymsg(
         &mut self,
@@ -64,36 +32,96 @@ impl Bench {
         token.spend();
         spent(answer)
     }
-
-    // Copies a message of one block into the only data block of a larger class, and frees the copy.
-    fn copy_into_larger(&mut self, rt: &impl Abort, message: TokenValue) {
-        let copy = made(rt, self.copyb(rt, message));
-        self.assert_told(rt, copy, 0, Ok(info(MsgType::MSig, 16, 9, 48)));
-        self.assert_bytes(rt, copy, 0, b"0123456789abcdef");
-        refused(rt, self.copyb(rt, message), Refusal::NoData);
-        self.freemsg(copy);
-        self.assert_free_data(rt, [Some(0), Some(1)]);
-    }
 }
+
+// What there is to tell of three blocks of other types, bands and lengths: of 16, of 64 and of 16 bytes.
+const THREE_TYPES: &[super::Told] = &[
+    (MsgType::MProto, 1, 1, 15, 1),
+    (MsgType::MCtl, 2, 255, 62, 1),
+    (MsgType::MData, 3, 3, 13, 1),
+];
+
+const COPIED: &[Row] = &[
+    Allocb(16, Ok(A)),
+    Settype(A, 0, MsgType::MProto, DONE),
+    Write(A, 0, b"a", DONE),
+    Setband(A, 1),
+    Allocb(64, Ok(B)),
+    Settype(B, 0, MsgType::MCtl, DONE),
+    Write(B, 0, b"bc", DONE),
+    Setband(B, 255),
+    Linkb(A, B),
+    Allocb(1, Ok(B)),
+    Settype(B, 0, MsgType::MData, DONE),
+    Write(B, 0, b"def", DONE),
+    Setband(B, 3),
+    Linkb(A, B),
+    Copymsg(A, Ok(B)),
+    Says(B, 7, 3, 3),
+    Infos(B, THREE_TYPES),
+    Infos(A, THREE_TYPES),
+    FreeData(Some(0), Some(0)),
+    Census(2, 0, 6),
+    Write(A, 2, b"g", DONE),
+    Bytes(A, 0, b"abcdefg"),
+    Freemsg(A),
+    Infos(B, THREE_TYPES),
+    Bytes(B, 0, b"abcdef"),
+    Freemsg(B),
+    Census(8, 0, 0),
+];
+
+// What there is to tell of a full block in a data block of 64 bytes.
+const IN_A_LARGER: Row = Told(B, 0, Ok((MsgType::MSig, 16, 9, 48, 1)));
+
+const COPIED_INTO_A_LARGER: &[Row] = &[
+    Allocb(16, Ok(A)),
+    Settype(A, 0, MsgType::MSig, DONE),
+    Write(A, 0, b"0123456789abcdef", DONE),
+    Setband(A, 9),
+    Copyb(A, Ok(B)),
+    IN_A_LARGER,
+    Bytes(B, 0, b"0123456789abcdef"),
+    Copyb(A, Err(Refusal::NoData)),
+    Freemsg(B),
+    FreeData(Some(0), Some(1)),
+    Copyb(A, Ok(B)),
+    IN_A_LARGER,
+    Bytes(B, 0, b"0123456789abcdef"),
+    Copyb(A, Err(Refusal::NoData)),
+    Freemsg(B),
+    FreeData(Some(0), Some(1)),
+    Freemsg(A),
+];
+
+// Where the second block finds no data block, the first isn't copied either.
+const ALL_OR_NOTHING: &[Row] = &[
+    OfBytes(1, b"ab", &[b"c"], A),
+    Copymsg(A, Err(Refusal::NoData)),
+    Census(2, 0, 2),
+    Copyb(A, Ok(B)),
+    Told(B, 0, Ok((MsgType::MData, 2, 0, 14, 1))),
+    Told(B, 1, Err(Refusal::NoSuchBlock)),
+    Bytes(B, 0, b"ab"),
+    Dupmsg(A, Err(Refusal::NoMblk)),
+    Freemsg(A),
+    Freemsg(B),
+];
+
+const INTO_FREE_BLOCKS: &[Row] = &[
+    OfBytes(1, b"ab", &[b"c"], A),
+    Copymsg(A, Err(Refusal::NoMblk)),
+    FreeData(Some(7), None),
+    Copyb(A, Ok(B)),
+    Copyb(A, Err(Refusal::NoMblk)),
+    Freemsg(A),
+    Freemsg(B),
+    Census(3, 0, 0),
+];
 
 #[test]
 fn copies_each_block(rt: HostRuntime) {
-    let mut bench = Bench::opened(&rt, rt.alloc(), 7);
-    let a = bench.of_three_types(&rt);
-    let copy = made(&rt, bench.copymsg(&rt, a));
-    assert_says(&rt, copy, 3, 3);
-    bench.assert_three_types(&rt, copy);
-    bench.assert_three_types(&rt, a);
-    bench.assert_free_data(&rt, [Some(0), Some(0)]);
-    bench.assert_census(&rt, 2, 0, 6);
-    bench.write(&rt, a, 2, b"g", Ok(()));
-    bench.assert_bytes(&rt, a, 0, b"abcdefg");
-    bench.freemsg(a);
-    bench.assert_three_types(&rt, copy);
-    bench.assert_bytes(&rt, copy, 0, b"abcdef");
-    bench.freemsg(copy);
-    bench.assert_census(&rt, 8, 0, 0);
-    bench.end();
+    serve(&rt, Bench::opened(&rt, rt.alloc(), 7), COPIED);
 }
 
 #[test]
@@ -102,43 +130,20 @@ fn copies_into_a_larger_class(rt: HostRuntime) {
         ClassSpec { size: 16, count: 1 },
         ClassSpec { size: 64, count: 1 },
     ];
-    let mut bench = Bench::over(&rt, rt.alloc(), (1, 8), &classes, 0);
-    let a = bench.of_one(&rt, 16, MsgType::MSig, 9, b"0123456789abcdef");
-    bench.copy_into_larger(&rt, a);
-    bench.copy_into_larger(&rt, a);
-    bench.freemsg(a);
-    bench.end();
+    let bench = Bench::over(&rt, rt.alloc(), (1, 8), &classes, 0);
+    serve(&rt, bench, COPIED_INTO_A_LARGER);
 }
 
-// Where the second block finds no data block, the first isn't copied either.
 #[test]
 fn copies_all_or_nothing(rt: HostRuntime) {
     let classes = [ClassSpec { size: 16, count: 3 }];
-    let mut bench = Bench::over(&rt, rt.alloc(), (1, 4), &classes, 0);
-    let a = bench.of_bytes(&rt, 1, b"ab", &[b"c"]);
-    refused(&rt, bench.copymsg(&rt, a), Refusal::NoData);
-    bench.assert_census(&rt, 2, 0, 2);
-    let c = made(&rt, bench.copyb(&rt, a));
-    bench.assert_told(&rt, c, 0, Ok(info(MsgType::MData, 2, 0, 14)));
-    bench.assert_told(&rt, c, 1, Err(Refusal::NoSuchBlock));
-    bench.assert_bytes(&rt, c, 0, b"ab");
-    refused(&rt, bench.dupmsg(&rt, a), Refusal::NoMblk);
-    bench.freemsg(a);
-    bench.freemsg(c);
-    bench.end();
+    let bench = Bench::over(&rt, rt.alloc(), (1, 4), &classes, 0);
+    serve(&rt, bench, ALL_OR_NOTHING);
 }
 
 #[test]
 fn copies_into_free_message_blocks(rt: HostRuntime) {
     let classes = [ClassSpec { size: 16, count: 9 }];
-    let mut bench = Bench::over(&rt, rt.alloc(), (1, 3), &classes, 0);
-    let a = bench.of_bytes(&rt, 1, b"ab", &[b"c"]);
-    refused(&rt, bench.copymsg(&rt, a), Refusal::NoMblk);
-    bench.assert_free_data(&rt, [Some(7), None]);
-    let b = made(&rt, bench.copyb(&rt, a));
-    refused(&rt, bench.copyb(&rt, a), Refusal::NoMblk);
-    bench.freemsg(a);
-    bench.freemsg(b);
-    bench.assert_census(&rt, 3, 0, 0);
-    bench.end();
+    let bench = Bench::over(&rt, rt.alloc(), (1, 3), &classes, 0);
+    serve(&rt, bench, INTO_FREE_BLOCKS);
 }

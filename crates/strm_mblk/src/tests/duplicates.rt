@@ -1,17 +1,13 @@
-use super::bench::{Bench, assert_says, made, refused, spent};
+use super::bench::{Bench, spent};
+use super::rows::Row::{
+    Allocb, Bytes, Census, Dupmsg, Freemsg, Infos, Linkb, OfBytes, Repeated, Says, Setband, Unlinkb,
+};
+use super::rows::{A, B, C, Row, serve};
 use crate::TokenValue;
 use std::process::Abort;
-use strm_data::{ClassSpec, Refusal};
+use strm_data::{ClassSpec, MsgType, Refusal};
 
 impl Bench {
-    // So many message blocks name the data blocks of the first three blocks of a message.
-    fn assert_names(&self, rt: &impl Abort, message: TokenValue, names: [Option<u8>; 3]) {
-        let given = self
-            .infos(rt, message)
-            .map(|told| told.map(|info| info.names));
-        assert_eq!(rt; given, names);
-    }
-
     // A duplicate of a message, or why there is none.
     pub(super) fn dupmsg(
         &mut self,
@@ -35,59 +31,82 @@ impl Bench {
         token.spend();
         spent(answer)
     }
-
-    // A message of three blocks, the middle one of which names a data block that has 255 names, and another message,
-    // whose blocks have the other 254.
-    fn of_named_often(&mut self, rt: &impl Abort) -> (TokenValue, TokenValue) {
-        let mut a = self.allocated(rt, 1);
-        let mut b = self.repeated(rt, 254);
-        let others = self.rest_of(rt, &mut b);
-        let c = self.allocated(rt, 1);
-        self.linkb(rt, &mut b, c);
-        self.linkb(rt, &mut a, b);
-        (a, others)
-    }
 }
+
+// What there is to tell of three blocks whose data blocks have two names each, and once the last two have one.
+const TWICE: &[super::Told] = &[
+    (MsgType::MData, 1, 9, 15, 2),
+    (MsgType::MData, 2, 0, 14, 2),
+    (MsgType::MData, 3, 0, 13, 2),
+];
+
+const FIRST_TWICE: &[super::Told] = &[
+    (MsgType::MData, 1, 9, 15, 2),
+    (MsgType::MData, 2, 0, 14, 1),
+    (MsgType::MData, 3, 0, 13, 1),
+];
+
+const DUPLICATED: &[Row] = &[
+    OfBytes(3, b"a", &[b"bc", b"def"], A),
+    Setband(A, 9),
+    Dupmsg(A, Ok(B)),
+    Says(B, 7, 3, 3),
+    Infos(B, TWICE),
+    Bytes(B, 0, b"abcdef"),
+    Dupmsg(A, Err(Refusal::NoMblk)),
+    Infos(A, TWICE),
+    Census(2, 0, 6),
+    Unlinkb(B, Some(C)),
+    Freemsg(C),
+    Infos(A, FIRST_TWICE),
+    Bytes(A, 0, b"abcdef"),
+    Freemsg(A),
+    Bytes(B, 0, b"a"),
+    Freemsg(B),
+    Census(8, 0, 0),
+];
+
+// What there is to tell of three blocks with no bytes: the second's data block has 255 names, or each has two.
+const SECOND_OFTEN: &[super::Told] = &[
+    (MsgType::MData, 0, 0, 16, 1),
+    (MsgType::MData, 0, 0, 16, 255),
+    (MsgType::MData, 0, 0, 16, 1),
+];
+
+const EMPTY_TWICE: &[super::Told] = &[
+    (MsgType::MData, 0, 0, 16, 2),
+    (MsgType::MData, 0, 0, 16, 2),
+    (MsgType::MData, 0, 0, 16, 2),
+];
+
+// The middle block of a message names a data block that has 255 names, and another message's blocks have the other 254.
+const NAMES_TAKEN_BACK: &[Row] = &[
+    Allocb(1, Ok(A)),
+    Repeated(254, B),
+    Unlinkb(B, Some(C)),
+    Linkb(A, B),
+    Allocb(1, Ok(B)),
+    Linkb(A, B),
+    Infos(A, SECOND_OFTEN),
+    Dupmsg(A, Err(Refusal::RefMax)),
+    Infos(A, SECOND_OFTEN),
+    Census(43, 0, 257),
+    Freemsg(C),
+    Dupmsg(A, Ok(B)),
+    Infos(A, EMPTY_TWICE),
+    Freemsg(A),
+    Freemsg(B),
+    Census(300, 0, 0),
+];
 
 #[test]
 fn duplicates_each_block(rt: HostRuntime) {
-    let mut bench = Bench::opened(&rt, rt.alloc(), 7);
-    let a = bench.of_three(&rt);
-    bench.setband(&rt, a, 9);
-    let mut b = made(&rt, bench.dupmsg(&rt, a));
-    assert_says(&rt, b, 3, 3);
-    bench.assert_infos(&rt, b, bench.infos(&rt, a));
-    bench.assert_bytes(&rt, b, 0, b"abcdef");
-    bench.assert_names(&rt, b, [Some(2); 3]);
-    refused(&rt, bench.dupmsg(&rt, a), Refusal::NoMblk);
-    bench.assert_names(&rt, a, [Some(2); 3]);
-    bench.assert_census(&rt, 2, 0, 6);
-    let c = bench.rest_of(&rt, &mut b);
-    bench.freemsg(c);
-    bench.assert_names(&rt, a, [Some(2), Some(1), Some(1)]);
-    bench.assert_bytes(&rt, a, 0, b"abcdef");
-    bench.freemsg(a);
-    bench.assert_bytes(&rt, b, 0, b"a");
-    bench.freemsg(b);
-    bench.assert_census(&rt, 8, 0, 0);
-    bench.end();
+    serve(&rt, Bench::opened(&rt, rt.alloc(), 7), DUPLICATED);
 }
 
 #[test]
 fn takes_names_back(rt: HostRuntime) {
     let classes = [ClassSpec { size: 16, count: 3 }];
-    let mut bench = Bench::over(&rt, rt.alloc(), (1, 300), &classes, 0);
-    let (a, others) = bench.of_named_often(&rt);
-    let before = bench.infos(&rt, a);
-    bench.assert_names(&rt, a, [Some(1), Some(255), Some(1)]);
-    refused(&rt, bench.dupmsg(&rt, a), Refusal::RefMax);
-    bench.assert_infos(&rt, a, before);
-    bench.assert_census(&rt, 43, 0, 257);
-    bench.freemsg(others);
-    let d = made(&rt, bench.dupmsg(&rt, a));
-    bench.assert_names(&rt, a, [Some(2); 3]);
-    bench.freemsg(a);
-    bench.freemsg(d);
-    bench.assert_census(&rt, 300, 0, 0);
-    bench.end();
+    let bench = Bench::over(&rt, rt.alloc(), (1, 300), &classes, 0);
+    serve(&rt, bench, NAMES_TAKEN_BACK);
 }

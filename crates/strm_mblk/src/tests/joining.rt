@@ -1,4 +1,6 @@
-use super::bench::{Bench, assert_says, rest_spent, said};
+use super::bench::{Bench, rest_spent, said};
+use super::rows::Row::{Census, Freemsg, Lengths, OfBytes, Says, Unlinkb};
+use super::rows::{A, B, Row, serve};
 use crate::TokenValue;
 use std::process::Abort;
 
@@ -40,17 +42,13 @@ impl Bench {
         self.of_bytes(rt, 3, b"a", &[b"bc", b"def"])
     }
 
-    // These are the lengths of the first three blocks of a message.
-    pub(super) fn assert_lengths(
-        &self,
-        rt: &impl Abort,
-        message: TokenValue,
-        lengths: [Option<u32>; 3],
-    ) {
+    // These are the lengths of the blocks of a message of three blocks at most.
+    pub(super) fn assert_lengths(&self, rt: &impl Abort, message: TokenValue, lengths: &[u32]) {
         let given = self
             .infos(rt, message)
             .map(|told| told.map(|info| info.len));
-        assert_eq!(rt; given, lengths);
+        let wanted = [0, 1, 2].map(|place| lengths.get(place).copied());
+        self.assert_is(rt, &given, &wanted);
     }
 
     // The blocks behind the first, parted from it, if there are any.
@@ -64,26 +62,22 @@ impl Bench {
         *message = said(token);
         rest_spent(rest)
     }
-
-    // The blocks behind the first.
-    pub(super) fn rest_of(&mut self, rt: &impl Abort, message: &mut TokenValue) -> TokenValue {
-        self.unlinkb(rt, message)
-            .expect(rt, "there is a block more")
-    }
 }
+
+const JOINED_AND_PARTED: &[Row] = &[
+    OfBytes(3, b"a", &[b"bc", b"def"], A),
+    Says(A, 7, 0, 3),
+    Lengths(A, &[1, 2, 3]),
+    Unlinkb(A, Some(B)),
+    Lengths(A, &[1]),
+    Says(B, 7, 1, 2),
+    Lengths(B, &[2, 3]),
+    Freemsg(A),
+    Freemsg(B),
+    Census(8, 0, 0),
+];
 
 #[test]
 fn joins_and_parts(rt: HostRuntime) {
-    let mut bench = Bench::opened(&rt, rt.alloc(), 7);
-    let mut a = bench.of_three(&rt);
-    assert_says(&rt, a, 0, 3);
-    bench.assert_lengths(&rt, a, [Some(1), Some(2), Some(3)]);
-    let b = bench.rest_of(&rt, &mut a);
-    bench.assert_lengths(&rt, a, [Some(1), None, None]);
-    assert_says(&rt, b, 1, 2);
-    bench.assert_lengths(&rt, b, [Some(2), Some(3), None]);
-    bench.freemsg(a);
-    bench.freemsg(b);
-    bench.assert_census(&rt, 8, 0, 0);
-    bench.end();
+    serve(&rt, Bench::opened(&rt, rt.alloc(), 7), JOINED_AND_PARTED);
 }

@@ -1,8 +1,10 @@
-use super::bench::{Bench, made, refused};
+use super::bench::{Bench, made};
+use super::rows::Row::{Dupb, Dupmsg, Freemsg, Repeated, Says, Told, Unlinkb, Write};
+use super::rows::{A, B, DONE, Row, serve};
 use crate::TokenValue;
 use std::alloc::Global;
 use std::process::Abort;
-use strm_data::{ClassSpec, Refusal};
+use strm_data::{ClassSpec, MsgType, Refusal};
 
 impl Bench {
     // Many message blocks, over one data block.
@@ -24,43 +26,38 @@ impl Bench {
         }
         message
     }
-
-    // So many message blocks name the data block of a message's first block.
-    fn assert_first_names(&self, rt: &impl Abort, message: TokenValue, names: u8) {
-        assert_eq!(rt; self.told(rt, message, 0).map(|info| info.names), Ok(names));
-    }
 }
 
-// A message has so many blocks.
-fn assert_blocks(rt: &impl Abort, message: TokenValue, blocks: u32) {
-    assert_eq!(rt; message.blocks, blocks);
-}
+const NAMED_255_TIMES: &[Row] = &[
+    Repeated(254, A),
+    Told(A, 0, Ok((MsgType::MData, 0, 0, 16, 255))),
+    Dupb(A, Err(Refusal::RefMax)),
+    Write(A, 0, b"\0", Err(Refusal::Shared)),
+    Unlinkb(A, Some(B)),
+    Freemsg(B),
+    Write(A, 0, b"\0", DONE),
+    Freemsg(A),
+];
+
+// The blocks of a message that is freed are free again last to first, so the last of 128 is the next head.
+const NAMED_AGAIN: &[Row] = &[
+    Repeated(127, A),
+    Dupmsg(A, Err(Refusal::RefMax)),
+    Freemsg(A),
+    Repeated(126, A),
+    Dupmsg(A, Ok(B)),
+    Says(A, 1, 127, 127),
+    Says(B, 1, 0, 127),
+    Freemsg(A),
+    Freemsg(B),
+];
 
 #[test]
 fn names_a_data_block_255_times(rt: HostRuntime) {
-    let mut bench = Bench::over_one(&rt, rt.alloc());
-    let mut a = bench.repeated(&rt, 254);
-    bench.assert_first_names(&rt, a, 255);
-    refused(&rt, bench.dupb(&rt, a), Refusal::RefMax);
-    bench.write(&rt, a, 0, b"\0", Err(Refusal::Shared));
-    let b = bench.rest_of(&rt, &mut a);
-    bench.freemsg(b);
-    bench.write(&rt, a, 0, b"\0", Ok(()));
-    bench.freemsg(a);
-    bench.end();
+    serve(&rt, Bench::over_one(&rt, rt.alloc()), NAMED_255_TIMES);
 }
 
 #[test]
 fn names_it_again_for_each_block_of_a_message(rt: HostRuntime) {
-    let mut bench = Bench::over_one(&rt, rt.alloc());
-    let a = bench.repeated(&rt, 127);
-    refused(&rt, bench.dupmsg(&rt, a), Refusal::RefMax);
-    bench.freemsg(a);
-    let a = bench.repeated(&rt, 126);
-    let b = made(&rt, bench.dupmsg(&rt, a));
-    assert_blocks(&rt, a, 127);
-    assert_blocks(&rt, b, 127);
-    bench.freemsg(a);
-    bench.freemsg(b);
-    bench.end();
+    serve(&rt, Bench::over_one(&rt, rt.alloc()), NAMED_AGAIN);
 }

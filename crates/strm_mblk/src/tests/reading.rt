@@ -15,25 +15,42 @@ impl Bench {
     ) {
         let mut read = [b'-'; 8];
         assert!(rt; room <= 8);
-        assert_eq!(rt; self.read(rt, message, at, &mut read[..room]), count);
-        assert_eq!(rt; &read, bytes);
+        let given = self.read(rt, message, at, &mut read[..room]);
+        self.assert_is(rt, &(given, &read), &(count, bytes));
+    }
+
+    // From the place of each row on, that is read.
+    fn assert_each_read(
+        &mut self,
+        rt: &impl Abort,
+        message: TokenValue,
+        rows: &[(u32, usize, usize, &[u8; 8])],
+    ) {
+        for (at, room, count, bytes) in rows {
+            self.count();
+            self.assert_read(rt, message, *at, *room, *count, bytes);
+        }
     }
 }
+
+const READ: &[(u32, usize, usize, &[u8; 8])] = &[
+    (0, 8, 6, b"abcdef--"),
+    (1, 8, 5, b"bcdef---"),
+    (2, 8, 4, b"cdef----"),
+    (5, 8, 1, b"f-------"),
+    (6, 8, 0, b"--------"),
+    (u32::MAX, 8, 0, b"--------"),
+    (0, 2, 2, b"ab------"),
+    (2, 3, 3, b"cde-----"),
+    (1, 2, 2, b"bc------"),
+    (0, 0, 0, b"--------"),
+];
 
 #[test]
 fn reads_across_blocks(rt: HostRuntime) {
     let mut bench = Bench::opened(&rt, rt.alloc(), 7);
     let message = bench.of_three(&rt);
-    bench.assert_read(&rt, message, 0, 8, 6, b"abcdef--");
-    bench.assert_read(&rt, message, 1, 8, 5, b"bcdef---");
-    bench.assert_read(&rt, message, 2, 8, 4, b"cdef----");
-    bench.assert_read(&rt, message, 5, 8, 1, b"f-------");
-    bench.assert_read(&rt, message, 6, 8, 0, b"--------");
-    bench.assert_read(&rt, message, u32::MAX, 8, 0, b"--------");
-    bench.assert_read(&rt, message, 0, 2, 2, b"ab------");
-    bench.assert_read(&rt, message, 2, 3, 3, b"cde-----");
-    bench.assert_read(&rt, message, 1, 2, 2, b"bc------");
-    bench.assert_read(&rt, message, 0, 0, 0, b"--------");
+    bench.assert_each_read(&rt, message, READ);
     bench.freemsg(message);
     bench.assert_census(&rt, 8, 0, 0);
     bench.end();

@@ -1,4 +1,6 @@
-use super::bench::{Bench, assert_says, rest_spent, said};
+use super::bench::{Bench, rest_spent, said};
+use super::rows::Row::{Bytes, Census, Freeb, Freemsg, Lengths, OfBytes, Rmvb, Says, Unlinkb};
+use super::rows::{A, B, Row, serve};
 use crate::{Rejected, TokenValue};
 use std::process::Abort;
 use strm_data::Refusal;
@@ -19,7 +21,7 @@ impl Bench {
     }
 
     // A block of a message and the rest, if there is any. The message has the block.
-    fn parted(
+    pub(super) fn parted(
         &mut self,
         rt: &impl Abort,
         message: TokenValue,
@@ -31,23 +33,18 @@ impl Bench {
         }
     }
 
-    // The block at a place of a message, and the message that is left.
-    fn removed(
+    // The message, no block of which is removed, for this reason.
+    pub(super) fn rejected(
         &mut self,
         rt: &impl Abort,
         message: TokenValue,
         place: u32,
-    ) -> (TokenValue, TokenValue) {
-        let (block, rest) = self.parted(rt, message, place);
-        (block, rest.expect(rt, "a message of one block"))
-    }
-
-    // The message, which has no block at a place to remove.
-    fn rejected(&mut self, rt: &impl Abort, message: TokenValue, place: u32) -> TokenValue {
+        reason: Refusal,
+    ) -> TokenValue {
         match self.rmvb(rt, message, place) {
             Ok(_) => panic!(rt; "there is such a block"),
             Err((why, message)) => {
-                assert_eq!(rt; why, Refusal::NoSuchBlock);
+                self.assert_is(rt, &why, &reason);
                 message
             }
         }
@@ -60,42 +57,40 @@ impl Bench {
     }
 }
 
-// There is no rest of a message.
-fn assert_none(rt: &impl Abort, rest: Option<TokenValue>) {
-    assert!(rt; rest.is_none(), "there is a block more");
-}
+const REMOVED_AND_FREED: &[Row] = &[
+    OfBytes(1, b"\x01", &[b"\x02", b"\x03"], A),
+    Rmvb(A, 1, Ok((B, Some(A)))),
+    Bytes(A, 0, b"\x01\x03"),
+    Rmvb(A, 2, Err(Refusal::NoSuchBlock)),
+    Rmvb(B, 0, Ok((B, None))),
+    Unlinkb(B, None),
+    Bytes(B, 0, b"\x02"),
+    Freemsg(B),
+    Freeb(A, Some(A)),
+    Bytes(A, 0, b"\x03"),
+    Bytes(A, 1, b""),
+    Freeb(A, None),
+    Census(8, 0, 0),
+];
+
+const FIRST_REMOVED: &[Row] = &[
+    OfBytes(3, b"a", &[b"bc", b"def"], A),
+    Rmvb(A, 0, Ok((B, Some(A)))),
+    Says(B, 7, 0, 1),
+    Says(A, 7, 1, 2),
+    Lengths(B, &[1]),
+    Lengths(A, &[2, 3]),
+    Freemsg(A),
+    Freemsg(B),
+    Census(8, 0, 0),
+];
 
 #[test]
 fn removes_and_frees_block_by_block(rt: HostRuntime) {
-    let mut bench = Bench::opened(&rt, rt.alloc(), 7);
-    let a = bench.of_bytes(&rt, 1, b"\x01", &[b"\x02", b"\x03"]);
-    let (d, a) = bench.removed(&rt, a, 1);
-    bench.assert_bytes(&rt, a, 0, b"\x01\x03");
-    let a = bench.rejected(&rt, a, 2);
-    let (mut e, rest) = bench.parted(&rt, d, 0);
-    assert_none(&rt, rest);
-    assert_none(&rt, bench.unlinkb(&rt, &mut e));
-    bench.assert_bytes(&rt, e, 0, b"\x02");
-    bench.freemsg(e);
-    let a = bench.freeb(&rt, a).expect(&rt, "there is a block more");
-    bench.assert_bytes(&rt, a, 0, b"\x03");
-    bench.assert_bytes(&rt, a, 1, b"");
-    assert_none(&rt, bench.freeb(&rt, a));
-    bench.assert_census(&rt, 8, 0, 0);
-    bench.end();
+    serve(&rt, Bench::opened(&rt, rt.alloc(), 7), REMOVED_AND_FREED);
 }
 
 #[test]
 fn removes_the_first_block(rt: HostRuntime) {
-    let mut bench = Bench::opened(&rt, rt.alloc(), 7);
-    let a = bench.of_three(&rt);
-    let (b, a) = bench.removed(&rt, a, 0);
-    assert_says(&rt, b, 0, 1);
-    assert_says(&rt, a, 1, 2);
-    bench.assert_lengths(&rt, b, [Some(1), None, None]);
-    bench.assert_lengths(&rt, a, [Some(2), Some(3), None]);
-    bench.freemsg(a);
-    bench.freemsg(b);
-    bench.assert_census(&rt, 8, 0, 0);
-    bench.end();
+    serve(&rt, Bench::opened(&rt, rt.alloc(), 7), FIRST_REMOVED);
 }

@@ -1,5 +1,9 @@
-use super::bench::{Bench, assert_says, said};
-use super::tokens::assert_token;
+use super::assert_is;
+use super::bench::{Bench, said};
+use super::rows::Row::{
+    Allocb, Census, Freemsg, Head, Heads, OfBytes, Says, Setband, Settype, Shelve, Sizes, Unshelve,
+};
+use super::rows::{A, B, DONE, Row, serve};
 use crate::blocks::beside::stands_on;
 use crate::{Blocks, TokenValue};
 use std::process::Abort;
@@ -28,7 +32,7 @@ fn assert_heads(rt: &impl Abort, blocks: &Blocks, shelf: u8, heads: &[u32]) {
         at = next_head(rt, blocks, shelf, at, ahead, *head);
         ahead = Some(*head);
     }
-    assert_eq!(rt; (at, blocks.last(shelf)), (None, ahead));
+    assert_is(rt, &(at, blocks.last(shelf)), &(None, ahead));
 }
 
 impl Bench {
@@ -54,26 +58,14 @@ impl Bench {
         }
     }
 
-    // Puts a new message on a shelf.
-    fn shelve_new(&mut self, rt: &impl Abort, shelf: u8, before: Option<u32>) {
-        let message = self.allocated(rt, 1);
-        self.shelve(rt, shelf, before, message);
-    }
-
     // Takes the message with this head off a shelf.
     pub(super) fn unshelve(&mut self, rt: &impl Abort, shelf: u8, head: u32) -> TokenValue {
         assert!(rt; stands_on(&self.blocks, shelf, head));
         said(self.blocks.unshelve(shelf, head))
     }
 
-    // Takes the message with this head off a shelf, and frees it.
-    fn free_on(&mut self, rt: &impl Abort, shelf: u8, head: u32) {
-        let message = self.unshelve(rt, shelf, head);
-        self.freemsg(message);
-    }
-
     // The shelf has the messages with these heads, front to back.
-    fn assert_heads(&self, rt: &impl Abort, shelf: u8, heads: &[u32]) {
+    pub(super) fn assert_heads(&self, rt: &impl Abort, shelf: u8, heads: &[u32]) {
         assert_heads(rt, &self.blocks, shelf, heads);
     }
 
@@ -105,66 +97,74 @@ impl Bench {
     }
 
     // A message on the first shelf has this type, this band and so many bytes.
-    fn assert_head(&self, rt: &impl Abort, head: u32, told: (MsgType, u8, u32)) {
-        assert_eq!(rt; self.head_told(rt, 0, head), told);
-    }
-
-    // A message has so many bytes.
-    fn assert_size(&self, rt: &impl Abort, message: TokenValue, size: u32) {
-        let token = self.token(rt, message);
-        let given = self.blocks.size(&token);
-        token.spend();
-        assert_eq!(rt; given, size);
+    pub(super) fn assert_head(&self, rt: &impl Abort, head: u32, told: (MsgType, u8, u32)) {
+        self.assert_is(rt, &self.head_told(rt, 0, head), &told);
     }
 }
+
+const SHELVED: &[Row] = &[
+    Allocb(1, Ok(A)),
+    Shelve(0, None, A),
+    Allocb(1, Ok(A)),
+    Shelve(0, None, A),
+    Allocb(1, Ok(A)),
+    Shelve(0, Some(1), A),
+    Allocb(1, Ok(A)),
+    Shelve(1, None, A),
+    Allocb(1, Ok(A)),
+    Shelve(0, Some(0), A),
+    Heads(0, &[4, 0, 2, 1]),
+    Heads(1, &[3]),
+    Census(3, 5, 0),
+    // From the middle of one shelf to the front of the other.
+    Unshelve(0, 2, A),
+    Says(A, 7, 2, 1),
+    Heads(0, &[4, 0, 1]),
+    Census(3, 4, 1),
+    Shelve(1, Some(3), A),
+    Heads(1, &[2, 3]),
+    Unshelve(0, 4, A),
+    Freemsg(A),
+    Unshelve(1, 3, A),
+    Freemsg(A),
+    Unshelve(0, 1, A),
+    Freemsg(A),
+    Unshelve(0, 0, A),
+    Freemsg(A),
+    Unshelve(1, 2, A),
+    Freemsg(A),
+    Heads(0, &[]),
+    Heads(1, &[]),
+    Census(8, 0, 0),
+];
+
+const TOLD: &[Row] = &[
+    Allocb(0, Ok(A)),
+    Shelve(0, None, A),
+    OfBytes(3, b"a", &[b"bc", b"def"], B),
+    Settype(B, 0, MsgType::MPcproto, DONE),
+    Setband(B, 9),
+    Shelve(0, Some(0), B),
+    Head(1, (MsgType::MPcproto, 9, 6)),
+    Head(0, (MsgType::MData, 0, 0)),
+    Census(4, 4, 0),
+    Unshelve(0, 1, B),
+    Says(B, 7, 1, 3),
+    Sizes(B, 6, 5),
+    Freemsg(B),
+    Unshelve(0, 0, A),
+    Freemsg(A),
+    Census(8, 0, 0),
+];
 
 #[test]
 fn shelves_in_order(rt: HostRuntime) {
     let classes = [ClassSpec { size: 16, count: 8 }];
-    let mut bench = Bench::over(&rt, rt.alloc(), (7, 8), &classes, 2);
-    bench.shelve_new(&rt, 0, None);
-    bench.shelve_new(&rt, 0, None);
-    bench.shelve_new(&rt, 0, Some(1));
-    bench.shelve_new(&rt, 1, None);
-    bench.shelve_new(&rt, 0, Some(0));
-    bench.assert_heads(&rt, 0, &[4, 0, 2, 1]);
-    bench.assert_heads(&rt, 1, &[3]);
-    bench.assert_census(&rt, 3, 5, 0);
-    // From the middle of one shelf to the front of the other.
-    let message = bench.unshelve(&rt, 0, 2);
-    assert_token(&rt, message, 7, 2);
-    bench.assert_heads(&rt, 0, &[4, 0, 1]);
-    bench.assert_census(&rt, 3, 4, 1);
-    bench.shelve(&rt, 1, Some(3), message);
-    bench.assert_heads(&rt, 1, &[2, 3]);
-    bench.free_on(&rt, 0, 4);
-    bench.free_on(&rt, 1, 3);
-    bench.free_on(&rt, 0, 1);
-    bench.free_on(&rt, 0, 0);
-    bench.free_on(&rt, 1, 2);
-    bench.assert_heads(&rt, 0, &[]);
-    bench.assert_heads(&rt, 1, &[]);
-    bench.assert_census(&rt, 8, 0, 0);
-    bench.end();
+    let bench = Bench::over(&rt, rt.alloc(), (7, 8), &classes, 2);
+    serve(&rt, bench, SHELVED);
 }
 
 #[test]
 fn tells_of_a_shelved_message(rt: HostRuntime) {
-    let mut bench = Bench::opened(&rt, rt.alloc(), 7);
-    let empty = bench.allocated(&rt, 0);
-    bench.shelve(&rt, 0, None, empty);
-    let message = bench.of_three(&rt);
-    bench.settype(&rt, message, 0, MsgType::MPcproto, Ok(()));
-    bench.setband(&rt, message, 9);
-    bench.shelve(&rt, 0, Some(0), message);
-    bench.assert_head(&rt, 1, (MsgType::MPcproto, 9, 6));
-    bench.assert_head(&rt, 0, (MsgType::MData, 0, 0));
-    bench.assert_census(&rt, 4, 4, 0);
-    let message = bench.unshelve(&rt, 0, 1);
-    assert_says(&rt, message, 1, 3);
-    bench.assert_size(&rt, message, 6);
-    bench.freemsg(message);
-    bench.free_on(&rt, 0, 0);
-    bench.assert_census(&rt, 8, 0, 0);
-    bench.end();
+    serve(&rt, Bench::opened(&rt, rt.alloc(), 7), TOLD);
 }

@@ -1,7 +1,9 @@
-use super::bench::{Bench, made, refused};
+use super::bench::Bench;
+use super::rows::Row::{Allocb, Census, Class, Dupb, Fits, Freemsg, Says, Told};
+use super::rows::{A, B, C, D, Row, serve};
 use crate::{Token, TokenValue};
 use std::process::Abort;
-use strm_data::{ClassInfo, ClassSpec, Refusal};
+use strm_data::{ClassInfo, ClassSpec, MsgType, Refusal};
 
 impl Bench {
     // Whether the blocks have a message.
@@ -17,29 +19,67 @@ impl Bench {
         assert!(rt; self.has(message) && !other.has(message));
     }
 
-    // The first block of a message has so much room.
-    fn assert_room(&self, rt: &impl Abort, message: TokenValue, room: u32) {
-        assert_eq!(rt; self.told(rt, message, 0).map(|info| info.room), Ok(room));
-    }
-
     // Whether a message can be made for so many bytes.
     pub(super) fn assert_fits(&self, rt: &impl Abort, size: u32, fits: bool) {
-        assert!(rt; self.blocks.testb(size) == fits);
+        self.assert_is(rt, &self.blocks.testb(size), &fits);
     }
 
     // This is what there is to tell of a class.
-    fn assert_class(&self, rt: &impl Abort, class: u8, info: Option<ClassInfo>) {
-        assert_eq!(rt; self.blocks.class_info(class), info);
+    pub(super) fn assert_class(&self, rt: &impl Abort, class: u8, info: Option<ClassInfo>) {
+        self.assert_is(rt, &self.blocks.class_info(class), &info);
+    }
+
+    // A message of other blocks is spent here, and nothing else is done: these blocks hold one message of one block.
+    fn spend_strange(&mut self, rt: &impl Abort, message: TokenValue) {
+        self.freemsg(message);
+        self.assert_census(rt, 7, 0, 1);
+    }
+
+    // The only message is freed.
+    fn free_last(&mut self, rt: &impl Abort, message: TokenValue) {
+        self.freemsg(message);
+        self.assert_census(rt, 8, 0, 0);
     }
 }
 
-// What a token says: the id, the first block of the message, and how many it has.
-pub(super) fn assert_token(rt: &impl Abort, message: TokenValue, pool: u32, head: u32) {
-    assert_eq!(rt;
-        (message.pool, message.head, message.blocks),
-        (pool, head, 1)
-    );
-}
+const SMALLEST_TAKEN: &[Row] = &[
+    Allocb(16, Ok(A)),
+    Allocb(1, Ok(B)),
+    Told(B, 0, Ok((MsgType::MData, 0, 0, 64, 1))),
+    Allocb(17, Ok(C)),
+    Allocb(1, Err(Refusal::NoData)),
+    Fits(0, false),
+    Dupb(A, Ok(D)),
+    Allocb(1, Err(Refusal::NoMblk)),
+    Freemsg(A),
+    Freemsg(B),
+    Freemsg(C),
+    Freemsg(D),
+];
+
+// A size class of 64 bytes, of whose two data blocks one is left.
+const ONE_LEFT: ClassInfo = ClassInfo {
+    size: 64,
+    free: 1,
+    total: 2,
+};
+
+const ALLOCATED: &[Row] = &[
+    Allocb(0, Ok(A)),
+    Allocb(64, Ok(B)),
+    Says(A, 7, 0, 1),
+    Says(B, 7, 1, 1),
+    Fits(64, true),
+    Fits(65, false),
+    Class(1, Some(ONE_LEFT)),
+    Class(2, None),
+    Freemsg(A),
+    Freemsg(B),
+    Allocb(0, Ok(C)),
+    Says(C, 7, 1, 1),
+    Freemsg(C),
+    Census(8, 0, 0),
+];
 
 #[test]
 fn takes_the_smallest_class_that_has_a_free_block(rt: HostRuntime) {
@@ -47,46 +87,13 @@ fn takes_the_smallest_class_that_has_a_free_block(rt: HostRuntime) {
         ClassSpec { size: 16, count: 1 },
         ClassSpec { size: 64, count: 2 },
     ];
-    let mut bench = Bench::over(&rt, rt.alloc(), (1, 4), &classes, 0);
-    let a = bench.allocated(&rt, 16);
-    let b = bench.allocated(&rt, 1);
-    bench.assert_room(&rt, b, 64);
-    let c = bench.allocated(&rt, 17);
-    refused(&rt, bench.allocb(1), Refusal::NoData);
-    bench.assert_fits(&rt, 0, false);
-    let d = made(&rt, bench.dupb(&rt, a));
-    refused(&rt, bench.allocb(1), Refusal::NoMblk);
-    bench.freemsg(a);
-    bench.freemsg(b);
-    bench.freemsg(c);
-    bench.freemsg(d);
-    bench.end();
+    let bench = Bench::over(&rt, rt.alloc(), (1, 4), &classes, 0);
+    serve(&rt, bench, SMALLEST_TAKEN);
 }
 
 #[test]
 fn allocates_and_frees(rt: HostRuntime) {
-    let mut bench = Bench::opened(&rt, rt.alloc(), 7);
-    let a = bench.allocated(&rt, 0);
-    let b = bench.allocated(&rt, 64);
-    assert_token(&rt, a, 7, 0);
-    assert_token(&rt, b, 7, 1);
-    bench.assert_fits(&rt, 64, true);
-    bench.assert_fits(&rt, 65, false);
-    let left = ClassInfo {
-        size: 64,
-        free: 1,
-        total: 2,
-    };
-    bench.assert_class(&rt, 1, Some(left));
-    bench.assert_class(&rt, 2, None);
-    bench.freemsg(a);
-    bench.freemsg(b);
-    let c = bench.allocated(&rt, 0);
-    assert_token(&rt, c, 7, 1);
-    bench.freemsg(c);
-    bench.assert_census(&rt, 8, 0, 0);
-    bench.blocks.lawful();
-    bench.end();
+    serve(&rt, Bench::opened(&rt, rt.alloc(), 7), ALLOCATED);
 }
 
 #[test]
@@ -97,11 +104,9 @@ fn spends_a_strange_token(rt: HostRuntime) {
     let b = two.allocated(&rt, 1);
     one.assert_alone(&rt, &two, a);
     two.assert_alone(&rt, &one, b);
-    two.freemsg(a);
+    two.spend_strange(&rt, a);
     one.assert_census(&rt, 7, 0, 1);
-    two.assert_census(&rt, 7, 0, 1);
-    two.freemsg(b);
-    two.assert_census(&rt, 8, 0, 0);
+    two.free_last(&rt, b);
     one.end();
     two.end();
 }

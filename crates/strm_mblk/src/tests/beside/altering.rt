@@ -47,8 +47,7 @@ impl Beside {
         let plain = self.plain.write(rt, message.head, place, bytes);
         let answer = self.plain.go_on(plain);
         self.bench.write(rt, message, place, bytes, answer);
-        self.count(rt, Call::Write, Answer::unless(answer.err()));
-        self.keep(rt, message);
+        self.served(rt, message, Call::Write, Answer::unless(answer.err()));
     }
 
     fn settype(&mut self, rt: &impl Abort, at: u32, place: u32, kind: MsgType) {
@@ -58,8 +57,7 @@ impl Beside {
         let plain = self.plain.settype(rt, message.head, place, kind);
         let answer = self.plain.go_on(plain);
         self.bench.settype(rt, message, place, kind, answer);
-        self.count(rt, Call::Settype, Answer::unless(answer.err()));
-        self.keep(rt, message);
+        self.served(rt, message, Call::Settype, Answer::unless(answer.err()));
     }
 
     fn setband(&mut self, rt: &impl Abort, at: u32, band: u8) {
@@ -69,8 +67,7 @@ impl Beside {
         self.bench.setband(rt, message, band);
         let plain = self.plain.setband(rt, message.head, band);
         self.set_plain(plain);
-        self.count(rt, Call::Setband, Answer::Done);
-        self.keep(rt, message);
+        self.served(rt, message, Call::Setband, Answer::Done);
     }
 
     fn adjmsg(&mut self, rt: &impl Abort, at: u32, count: i32) {
@@ -80,8 +77,7 @@ impl Beside {
         let plain = self.plain.adjmsg(rt, message.head, count);
         let answer = self.plain.go_on(plain);
         self.bench.adjmsg(rt, message, count, answer);
-        self.count(rt, Call::Adjmsg, Answer::unless(answer.err()));
-        self.keep(rt, message);
+        self.served(rt, message, Call::Adjmsg, Answer::unless(answer.err()));
     }
 
     // The first block of a message in the plain program.
@@ -106,7 +102,6 @@ impl Beside {
             return;
         };
         let answer = self.pulled(rt, &mut message, count);
-        self.count(rt, Call::Pullupmsg, answer);
-        self.keep(rt, message);
+        self.served(rt, message, Call::Pullupmsg, answer);
     }
 }

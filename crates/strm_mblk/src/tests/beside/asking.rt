@@ -37,8 +37,7 @@ impl Beside {
         };
         let answer = self.plain.block(rt, message.head, place);
         self.bench.assert_told(rt, message, place, answer);
-        self.count(rt, Call::Block, Answer::unless(answer.err()));
-        self.keep(rt, message);
+        self.served(rt, message, Call::Block, Answer::unless(answer.err()));
     }
 
     fn sizes(&mut self, rt: &impl Abort, at: u32) {
@@ -48,8 +47,7 @@ impl Beside {
         let size = self.plain.size(rt, message.head);
         let in_data = self.plain.msgdsize(rt, message.head);
         self.bench.assert_sizes(rt, message, size, in_data);
-        self.count(rt, Call::Sizes, Answer::Done);
-        self.keep(rt, message);
+        self.served(rt, message, Call::Sizes, Answer::Done);
     }
 
     // As many bytes as there is room for, at most 40, from a place on.
@@ -64,8 +62,7 @@ impl Beside {
             .read(rt, message, from, &mut into[..room as usize]);
         let bytes = self.plain.bytes(rt, message.head);
         assert_read(rt, &into, count, from, room, bytes.items());
-        self.count(rt, Call::Read, Answer::whether(count > 0));
-        self.keep(rt, message);
+        self.served(rt, message, Call::Read, Answer::whether(count > 0));
     }
 
     // Both have the token of a held message.
@@ -94,7 +91,8 @@ impl Beside {
     fn ends(&mut self, rt: &impl Abort, shelf: u8) {
         let first = self.plain.first(rt, shelf);
         let last = self.plain.last(rt, shelf);
-        assert_eq!(rt; self.bench.ends(rt, shelf), (first, last));
+        self.bench
+            .assert_is(rt, &self.bench.ends(rt, shelf), &(first, last));
         self.count(rt, Call::Ends, Answer::whether(first.is_some()));
     }
 
@@ -105,7 +103,8 @@ impl Beside {
         };
         let after = self.plain.after(rt, shelf, head);
         let before = self.plain.before(rt, shelf, head);
-        assert_eq!(rt; self.bench.neighbours(rt, shelf, head), (after, before));
+        let given = self.bench.neighbours(rt, shelf, head);
+        self.bench.assert_is(rt, &given, &(after, before));
         self.count(rt, Call::After, Answer::whether(after.is_some()));
         self.count(rt, Call::Before, Answer::whether(before.is_some()));
     }
@@ -116,16 +115,18 @@ impl Beside {
             return;
         };
         let (kind, band, size) = self.bench.head_told(rt, shelf, head);
-        assert_eq!(rt; (Some(kind), Some(band)), self.kind_and_band(rt, head));
-        assert_eq!(rt; size, self.plain.head_size(rt, head));
+        let given = (Some(kind), Some(band), size);
+        self.bench
+            .assert_is(rt, &given, &self.plain_head_told(rt, head));
         self.count(rt, Call::Heads, Answer::Done);
     }
 
-    // The type and the band of a message on a shelf, in the plain program.
-    fn kind_and_band(&self, rt: &impl Abort, head: u32) -> (Option<MsgType>, Option<u8>) {
+    // The type, the band and the size of a message on a shelf, in the plain program.
+    fn plain_head_told(&self, rt: &impl Abort, head: u32) -> (Option<MsgType>, Option<u8>, u32) {
         (
             self.plain.head_kind(rt, head),
             self.plain.head_band(rt, head),
+            self.plain.head_size(rt, head),
         )
     }
 }

@@ -28,7 +28,8 @@ impl Beside {
         given: Result<TokenValue, Refusal>,
         plain: Result<u32, Refusal>,
     ) {
-        assert_eq!(rt; self.kept(rt, given), plain);
+        let given = self.kept(rt, given);
+        self.bench.assert_is(rt, &given, &plain);
         self.count(rt, call, Answer::unless(plain.err()));
     }
 

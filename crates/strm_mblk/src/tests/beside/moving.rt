@@ -51,8 +51,7 @@ impl Beside {
         };
         let tail = message;
         self.join(rt, &mut message, tail);
-        self.count(rt, Call::Linkb, Answer::Nothing);
-        self.keep(rt, message);
+        self.served(rt, message, Call::Linkb, Answer::Nothing);
     }
 
     // Keeps the rest of a message, if there is any: the plain program answers alike, and goes on.
@@ -65,7 +64,8 @@ impl Beside {
     ) {
         let (plain_rest, plain) = plain;
         self.set_plain(plain);
-        assert_eq!(rt; self.kept_rest(rt, rest), plain_rest);
+        let rest = self.kept_rest(rt, rest);
+        self.bench.assert_is(rt, &rest, &plain_rest);
         self.count(rt, call, Answer::whether(plain_rest.is_some()));
     }
 
@@ -104,7 +104,8 @@ impl Beside {
         let given = self.bench.rmvb(rt, message, place);
         let heads = self.kept_both(rt, given);
         let plain = self.plain.rmvb(rt, message.head, place);
-        assert_eq!(rt; heads, self.plain.go_on(plain));
+        let answer = self.plain.go_on(plain);
+        self.bench.assert_is(rt, &heads, &answer);
         let answer = match heads {
             Ok((_, rest)) => Answer::whether(rest.is_some()),
             Err(why) => Answer::Refused(why),
@@ -149,7 +150,7 @@ impl Beside {
             return;
         };
         let message = self.bench.unshelve(rt, shelf, head);
-        assert_eq!(rt; message.head, head);
+        self.bench.assert_is(rt, &message.head, &head);
         self.keep(rt, message);
         let plain = self.plain.unshelve(rt, shelf, head);
         self.set_plain(plain);
