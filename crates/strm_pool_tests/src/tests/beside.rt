@@ -9,22 +9,30 @@ use strm_pool::{Call, MOST_OCTETS, MOST_REGISTERS, Pool, Refusal, Reg, Regs, Rep
 fn assert_blocks(rt: &impl Abort, pool: &Pool, blocks: &Blocks, token: &Token, other: &Token) {
     assert!(rt; pool.has(token) && blocks.has(other));
     for place in 0..=token.blocks() {
-        assert_eq!(rt; pool.block(token, place), blocks.block(other, place));
+        assert!(rt; pool.block(token, place) == blocks.block(other, place));
     }
+}
+
+// The first bytes of a message, as far as a reply carries them.
+fn assert_bytes(rt: &impl Abort, pool: &Pool, blocks: &Blocks, token: &Token, other: &Token) {
+    assert!(rt; pool.has(token) && blocks.has(other));
+    let (mut bytes, mut others) = ([0; MOST_OCTETS], [0; MOST_OCTETS]);
+    let count = pool.read(token, 0, &mut bytes);
+    assert!(rt; count == blocks.read(other, 0, &mut others));
+    assert!(rt; bytes == others);
+}
+
+// A token tells the same.
+fn assert_tokens(rt: &impl Abort, token: &Token, other: &Token) {
+    assert!(rt; token.pool() == other.pool() && token.head() == other.head());
+    assert!(rt; token.blocks() == other.blocks());
 }
 
 // A message has the same blocks, and the same bytes, as far as a reply carries them.
 fn assert_message(rt: &impl Abort, pool: &Pool, blocks: &Blocks, token: &Token, other: &Token) {
-    assert_eq!(rt;
-        (token.pool(), token.head(), token.blocks()),
-        (other.pool(), other.head(), other.blocks())
-    );
+    assert_tokens(rt, token, other);
     assert_blocks(rt, pool, blocks, token, other);
-    assert!(rt; pool.has(token) && blocks.has(other));
-    let (mut bytes, mut others) = ([0; MOST_OCTETS], [0; MOST_OCTETS]);
-    let count = pool.read(token, 0, &mut bytes);
-    assert_eq!(rt; count, blocks.read(other, 0, &mut others));
-    assert_eq!(rt; bytes, others);
+    assert_bytes(rt, pool, blocks, token, other);
 }
 
 // Puts a token back into the register that it was taken from.
@@ -37,7 +45,7 @@ fn put_back(rt: &impl Abort, regs: &mut Regs, reg: Reg, token: Token) {
 
 // A register of the pool and that of the second have the same message, or hold nothing.
 fn assert_place(rt: &impl Abort, pool: &Pool, regs: &mut Regs, second: &mut Second, reg: Reg) {
-    assert_eq!(rt; regs.holds(reg), second.places().holds(reg));
+    assert!(rt; regs.holds(reg) == second.places().holds(reg));
     if let Some(token) = regs.take(reg) {
         if let Some(other) = second.places().take(reg) {
             assert_message(rt, pool, second.blocks(), &token, &other);
@@ -70,21 +78,21 @@ fn assert_places(rt: &impl Abort, pool: &Pool, regs: &mut Regs, second: &mut Sec
 // The size classes are the same, and the queues are as long.
 fn assert_counts(rt: &impl Abort, pool: &Pool, second: &Second) {
     for class in 0..4 {
-        assert_eq!(rt; pool.class_info(class), second.blocks().class_info(class));
+        assert!(rt; pool.class_info(class) == second.blocks().class_info(class));
     }
     for queue in 0..=QUEUES as u8 {
         let len = second.queue_len(queue);
-        assert_eq!(rt; pool.qsize(queue), len.ok_or(Refusal::NoSuchQueue));
+        assert!(rt; pool.qsize(queue) == len.ok_or(Refusal::NoSuchQueue));
     }
 }
 
 // A queue has the same counts and marks, and so has each band that messages are put into.
 fn assert_queue(rt: &impl Abort, pool: &Pool, second: &Second, queue: u8) {
     let info = second.queue_info(rt, usize::from(queue));
-    assert_eq!(rt; pool.queue_info(queue), Ok(info));
+    assert!(rt; pool.queue_info(queue) == Ok(info));
     for band in 0..4 {
         let info = second.band_info(rt, usize::from(queue), band);
-        assert_eq!(rt; pool.band_info(queue, band), Ok(info));
+        assert!(rt; pool.band_info(queue, band) == Ok(info));
     }
 }
 
@@ -94,13 +102,10 @@ fn assert_queues(rt: &impl Abort, pool: &Pool, second: &Second) {
         assert_queue(rt, pool, second, queue);
     }
     for place in 0..=QUEUES as u32 {
-        assert_eq!(rt;
-            pool.run_at(place),
-            second.run().get(place as usize).copied()
-        );
+        assert!(rt; pool.run_at(place) == second.run().get(place as usize).copied());
     }
     for place in 0..3 {
-        assert_eq!(rt; pool.wish_at(place), second.wish_at(place as usize));
+        assert!(rt; pool.wish_at(place) == second.wish_at(place as usize));
     }
 }
 

@@ -6,7 +6,9 @@ use strm_pool::{Call, MOST_OCTETS, Reply};
 // The bytes 1, 2 and so on, the most that a call carries.
 fn counted() -> [u8; MOST_OCTETS] {
     let mut bytes = [0; MOST_OCTETS];
-    for (byte, count) in bytes.iter_mut().zip(1..) {
+    let mut count = 0u8;
+    for byte in bytes.iter_mut() {
+        count = count.wrapping_add(1);
         *byte = count;
     }
     bytes
@@ -31,7 +33,7 @@ fn copies_have_bytes_of_their_own(rt: HostRuntime) {
         let bytes = &all[..count];
         match copied_call(&rt, bytes) {
             Call::Write(reg, place, kept) => {
-                assert_eq!(rt; (reg.index(), place), (25, 4094));
+                assert!(rt; (reg.index(), place) == (25, 4094));
                 assert!(rt; kept.items() == bytes);
             }
             _ => panic!(rt; "another call"),

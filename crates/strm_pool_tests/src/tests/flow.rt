@@ -133,7 +133,11 @@ impl Flow {
 
     // The first queue leaves the run list.
     pub(super) fn next(&mut self) -> Option<u8> {
-        (!self.run.is_empty()).then(|| self.run.remove(0))
+        if self.run.is_empty() {
+            None
+        } else {
+            Some(self.run.remove(0))
+        }
     }
 }
 

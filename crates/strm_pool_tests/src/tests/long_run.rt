@@ -195,7 +195,7 @@ impl Both {
             second,
         } = self;
         pool.drain(regs);
-        assert_eq!(rt; pool.census().held, 0);
+        assert!(rt; pool.census().held == 0);
         pool.drain(second.end(rt));
     }
 }

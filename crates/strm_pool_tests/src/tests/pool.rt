@@ -33,7 +33,7 @@ fn spends_the_token_of_another_pool(rt: HostRuntime) {
     assert!(rt; !one.owns(&two) && !two.owns(&one));
     let mut two = two.drained();
     let token = one.taken(&rt, reg(&rt, b'a'));
-    assert_eq!(rt; (token.pool(), token.head(), token.blocks()), (1, 0, 1));
+    assert!(rt; (token.pool(), token.head(), token.blocks()) == (1, 0, 1));
     two.free(token);
     one.assert_census(&rt, 3, 1);
     two.assert_census(&rt, 4, 0);

@@ -6,7 +6,7 @@ use strm_pool::{Call, Reg, Regs, Token};
 #[test]
 fn there_are_registers_a_to_z(rt: HostRuntime) {
     for (place, there) in [(0, true), (25, true), (26, false), (255, false)] {
-        assert_eq!(rt; Reg::new(place).is_some(), there);
+        assert!(rt; Reg::new(place).is_some() == there);
     }
 }
 
@@ -40,9 +40,9 @@ fn registers_hold_tokens(rt: HostRuntime) {
     let second = bench.taken(&rt, a);
     assert_holds(&rt, bench.regs(), false, true);
     let second = rejected(&rt, bench.regs(), z, second);
-    assert_eq!(rt; second.head(), 1);
+    assert!(rt; second.head() == 1);
     let first = bench.taken(&rt, z);
-    assert_eq!(rt; first.head(), 0);
+    assert!(rt; first.head() == 0);
     assert_holds(&rt, bench.regs(), false, false);
     bench.free(first);
     bench.hold(&rt, a, second);

@@ -24,7 +24,6 @@ const fn block(kind: MsgType, len: u32, room: u32, names: u8) -> Reply {
 
 #[test]
 fn first_run(rt: HostRuntime) {
-    let bench = Bench::opened(&rt, rt.alloc(), (1, 8), &SIZES);
     let (a, b) = (reg(&rt, b'a'), reg(&rt, b'b'));
     let rows = [
         (Call::Allocb(a, 3), Reply::Done),
@@ -38,12 +37,12 @@ fn first_run(rt: HostRuntime) {
         (Call::Census, census(8, 0, 0)),
         (Call::Getq(0, b), Reply::Nothing),
     ];
+    let bench = Bench::opened(&rt, rt.alloc(), (1, 8), &SIZES);
     bench.serve(&rt, &rows, &[None, None]);
 }
 
 #[test]
 fn refuses_in_order(rt: HostRuntime) {
-    let bench = Bench::opened(&rt, rt.alloc(), (1, 8), &SIZES);
     let (a, b, c) = (reg(&rt, b'a'), reg(&rt, b'b'), reg(&rt, b'c'));
     let rows = [
         // A queue that is not there comes before a register that holds nothing.
@@ -76,12 +75,12 @@ fn refuses_in_order(rt: HostRuntime) {
         (Call::Linkb(c, a), Reply::Empty),
         (Call::Census, census(6, 0, 2)),
     ];
+    let bench = Bench::opened(&rt, rt.alloc(), (1, 8), &SIZES);
     bench.serve(&rt, &rows, &[Some(0), Some(1), None]);
 }
 
 #[test]
 fn tells_of_messages(rt: HostRuntime) {
-    let bench = Bench::opened(&rt, rt.alloc(), (1, 8), &SIZES);
     let (a, b, c) = (reg(&rt, b'a'), reg(&rt, b'b'), reg(&rt, b'c'));
     let zeros = octets(&rt, &[0; 17]);
     let rows = [
@@ -113,12 +112,12 @@ fn tells_of_messages(rt: HostRuntime) {
         (Call::Adjmsg(c, 17), refused(Refusal::Short)),
         (Call::Pullupmsg(c, -2), refused(Refusal::Short)),
     ];
+    let bench = Bench::opened(&rt, rt.alloc(), (1, 8), &SIZES);
     bench.serve(&rt, &rows, &[Some(0), None, Some(2)]);
 }
 
 #[test]
 fn size_classes_run_dry(rt: HostRuntime) {
-    let bench = Bench::opened(&rt, rt.alloc(), (1, 4), &[(16, 1), (64, 2)]);
     let (a, b, c) = (reg(&rt, b'a'), reg(&rt, b'b'), reg(&rt, b'c'));
     let (d, e) = (reg(&rt, b'd'), reg(&rt, b'e'));
     let rows = [
@@ -135,6 +134,7 @@ fn size_classes_run_dry(rt: HostRuntime) {
         (Call::Allocb(e, 17), Reply::Done),
         (Call::Census, census(0, 0, 4)),
     ];
+    let bench = Bench::opened(&rt, rt.alloc(), (1, 4), &[(16, 1), (64, 2)]);
     bench.serve(&rt, &rows, &[Some(0), None, Some(2), Some(3), Some(1)]);
 }
 
@@ -203,7 +203,6 @@ fn queues_in_priority_order(rt: HostRuntime) {
 
 #[test]
 fn water_marks_of_a_band(rt: HostRuntime) {
-    let bench = Bench::opened(&rt, rt.alloc(), (1, 8), &SIZES);
     let a = reg(&rt, b'a');
     let rows = [
         (Call::Allocb(a, 10), Reply::Done),
@@ -222,12 +221,12 @@ fn water_marks_of_a_band(rt: HostRuntime) {
         (Call::Strqset(0, 255, u32::MAX, 0), Reply::Done),
         (Call::Strqget(0, 255), Reply::Marks(u32::MAX, 0)),
     ];
+    let bench = Bench::opened(&rt, rt.alloc(), (1, 8), &SIZES);
     bench.serve(&rt, &rows, &[None]);
 }
 
 #[test]
 fn the_last_id_is_given_once(rt: HostRuntime) {
-    let bench = Bench::wishing(&rt, rt.alloc(), (1, 8), &SIZES, (2, u32::MAX));
     let rows = [
         (Call::Bufcall(65), refused(Refusal::TooLarge)),
         (Call::Bufcall(16), Reply::Id(u32::MAX)),
@@ -239,19 +238,19 @@ fn the_last_id_is_given_once(rt: HostRuntime) {
         (Call::Bufcall(16), refused(Refusal::IdsSpent)),
         (Call::Ready, Reply::Nothing),
     ];
+    let bench = Bench::wishing(&rt, rt.alloc(), (1, 8), &SIZES, (2, u32::MAX));
     bench.serve(&rt, &rows, &[]);
-    let bench = Bench::wishing(&rt, rt.alloc(), (1, 8), &SIZES, (1, u32::MAX));
     let rows = [
         (Call::Bufcall(16), Reply::Id(u32::MAX)),
         (Call::Bufcall(65), refused(Refusal::TooLarge)),
         (Call::Bufcall(16), refused(Refusal::Full)),
     ];
+    let bench = Bench::wishing(&rt, rt.alloc(), (1, 8), &SIZES, (1, u32::MAX));
     bench.serve(&rt, &rows, &[]);
 }
 
 #[test]
 fn serves_the_first_wish_that_fits(rt: HostRuntime) {
-    let bench = Bench::opened(&rt, rt.alloc(), (1, 8), &[(16, 1), (64, 1)]);
     let (a, b) = (reg(&rt, b'a'), reg(&rt, b'b'));
     let rows = [
         (Call::Allocb(a, 64), Reply::Done),
@@ -268,5 +267,6 @@ fn serves_the_first_wish_that_fits(rt: HostRuntime) {
         (Call::Ready, Reply::Ready(3, 0)),
         (Call::Ready, Reply::Nothing),
     ];
+    let bench = Bench::opened(&rt, rt.alloc(), (1, 8), &[(16, 1), (64, 1)]);
     bench.serve(&rt, &rows, &[None, Some(1)]);
 }

@@ -551,7 +551,9 @@ impl Second {
 
     fn unbufcall(&mut self, id: u32) -> Reply {
         for place in 0..self.wishes.len() {
-            if self.wishes.get(place).is_some_and(|wish| wish.0 == id) {
+            if let Some((wish, _)) = self.wish_at(place)
+                && wish == id
+            {
                 self.wishes.remove(place);
                 return Reply::Done;
             }
@@ -774,7 +776,7 @@ impl Second {
                 blocks.freemsg(token);
             }
         }
-        assert_eq!(rt; blocks.census().held, 0);
+        assert!(rt; blocks.census().held == 0);
         places
     }
 }

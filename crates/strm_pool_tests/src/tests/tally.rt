@@ -252,8 +252,9 @@ impl Tally {
     // The call came, and was answered so.
     pub(super) fn count(&mut self, rt: &impl Abort, call: &Call, reply: &Reply) {
         let came = (kind_of(call), answer_of(reply));
-        for (each, times) in EACH.iter().zip(self.times.iter_mut()) {
+        for (place, each) in EACH.iter().enumerate() {
             if *each == came {
+                let times = self.times.get_mut(place).expect(rt, "a count");
                 *times = times.saturating_add(1);
                 return;
             }
@@ -263,8 +264,9 @@ impl Tally {
 
     // Each call came with each answer.
     pub(super) fn assert_each(&self, rt: &impl Abort) {
-        for (each, times) in EACH.iter().zip(&self.times) {
-            assert!(rt; *times > 0, "{each:?}");
+        for (place, each) in EACH.iter().enumerate() {
+            let times = self.times.get(place).copied().unwrap_or(0);
+            assert!(rt; times > 0, "{each:?}");
         }
     }
 }
