@@ -343,13 +343,13 @@ fn forget<N: Name>(gathered: Gathered<N>) {
     desks.forget();
 }
 
-// The desks of a shared pool that can't be gathered, which are these.
+// The pool can't be gathered with these desks, and they come back, so many.
 fn ungathered<N: Name>(
     rt: &impl Abort,
     shared: Shared<N>,
     desks: Desks<N>,
+    count: usize,
 ) -> (Shared<N>, Desks<N>) {
-    let count = desks.len();
     match shared.gather(desks) {
         Ok(gathered) => {
             forget(gathered);
@@ -394,8 +394,8 @@ fn missing<N: Name, R: Wait + Abort>(
     let (shared, mut desks) = start.open::<N>();
     take_steps(rt, &shared, &mut desks, early);
     let one = last(rt, &mut desks, 1);
-    let (shared, desks) = ungathered(rt, shared, desks);
-    let (shared, mut desks) = ungathered(rt, shared, desks);
+    let (shared, desks) = ungathered(rt, shared, desks, 1);
+    let (shared, mut desks) = ungathered(rt, shared, desks, 1);
     push(rt, &mut desks, one);
     take_steps(rt, &shared, &mut desks, late);
     emptied(rt, shared.gather(desks), 2, MOST_STAMP)
@@ -432,9 +432,9 @@ fn spent<N: Name, R: Wait + Abort>(
 {
     let (shared, mut desks) = start.open::<N>();
     spend(rt, &mut desks, other);
-    let (shared, mut desks) = ungathered(rt, shared, desks);
+    let (shared, mut desks) = ungathered(rt, shared, desks, 1);
     take_steps(rt, &shared, &mut desks, early);
-    let (shared, mut desks) = ungathered(rt, shared, desks);
+    let (shared, mut desks) = ungathered(rt, shared, desks, 1);
     take_steps(rt, &shared, &mut desks, late);
     desks.forget();
 }

@@ -261,8 +261,9 @@ fn after_work<N: Name, R: Wait + Abort>(
 ) -> TraceEntries {
     let lines = u64::from(rounds).wrapping_mul(2);
     let desks = all_done(rt, outcome, lines as usize);
-    let stamp = lines.wrapping_mul(desks.len() as u64);
-    let (shared, mut desks) = ungathered(rt, shared, desks);
+    let count = desks.len();
+    let stamp = lines.wrapping_mul(count as u64);
+    let (shared, mut desks) = ungathered(rt, shared, desks, count);
     let number = monitor.number();
     push(rt, &mut desks, monitor);
     let (free, queued, held) = (4, 0, 0);
@@ -272,8 +273,8 @@ fn after_work<N: Name, R: Wait + Abort>(
         (number, Step::Serve(Call::Census, census)),
     ];
     take_steps(rt, &shared, &mut desks, &rows);
-    let count = desks.len();
-    let (pool, trace) = drained(rt, shared.gather(desks), count, stamp.wrapping_add(1));
+    let gathering = shared.gather(desks);
+    let (pool, trace) = drained(rt, gathering, count.wrapping_add(1), stamp.wrapping_add(1));
     assert_census(rt, &pool, (4, 0, 0));
     trace
 }
