@@ -1,0 +1,72 @@
+-- The parts own what the handle owned.
+use Rattle.std.proofs.Common.{◌≡◌, ◌^◌, ◌<◌, ◌∙◌, ℕ, List, [], ◌∷◌, ◌++◌, refl, sym, ap, lit<, w64}
+use Rattle.std.specs.Prelude.{Bool, true, false, is_some, IsSome, Some, None}
+use mir.Syntax.{Fn}
+use mir.Val.{Val, vint, vptr}
+use base.Logic.{SProp, emp, id⊢, never, fst∗}
+use base.Fml.{ftrue}
+use prog.Wp.{Env, WpFn}
+use types.Logic.{sem}
+use contract.Monad.{fact, fact_i}
+use contract.Running.{tables}
+use types.Kit.{‵, raw, ◌⊛◌, prop, ◌$◌, ◌∵◌, !, qed, by, move, drop, use0, use1, use2, split, join, regoal, rewrite, fsplit, fjoin, feq_i, feq_l, flt_i}
+use types.Part.{whole, sub, agg}
+use types.Run.{stop, fld, of_opd, lit, no_more, and_then, returns, enter}
+use types.ByLocal.{alloc_all, pass_all, free_all, look_at, get, get_in, sets, env}
+use denote.RattleType.{owns}
+use denote.Builtin.{usize}
+use denote.RawPtr.{Ptr, RawPtr, block_ptr, null_ptr, ptr_val, in_a_block}
+use denote.Signature.{types_at}
+use denote.Steps.{nothing, heard}
+use denote.Struct.Tuple.{Tuple}
+use denote.Triple.Entry.{alive}
+use denote.Triple.Walked.{Stays, stay_dropped, walk_of}
+use Rattle.core.proofs.alloc.Calls.{Goes-blank, token, handle_tells}
+use Rattle.std_alloc.proofs.ResultValues.{and_tt}
+use Rattle.std_alloc.proofs.Pairs.{pair_of, pair_val}
+use Rattle.std_alloc.specs.Box.Ownership.{box_owns}
+use Rattle.std_alloc.proofs.BoxSteps.Form.{D, R, B, τ, word, box_typed}
+use Rattle.std_alloc.proofs.BoxSteps.Steps.{box_out, box_in}
+use mir.Raw.{raw as bare}
+use Rattle.std.proofs.raw_atomic.Walks.{proved_at, leaves}
+use Rattle.strm_c.specs.Holding.{held, is_open}
+use Rattle.strm_c.proofs.AsBox.{E}
+use Rattle.strm_c.proofs.Words.{ptr_typed, sized_val, sized_own, sized_told, sized_made, slot_at, there_is}
+use Rattle.strm_c.specs.contracts.parts.Parts as parts
+use Rattle.strm_c.specs.contracts.handle.StrmPool as handle
+use Rattle.strm_c.specs.contracts.handle.StrmPool.into_parts.{ended, clauses}
+use Rattle.strm_c.specs.contracts.handle.StrmPool.into_parts.Key.{name as #self}
+use Rattle.strm_c.proofs.handle.StrmPool.into_parts.Statement.{statement}
+use Rattle.strm_c.proofs.handle.StrmPool.into_parts.Code as compiled
+
+pub into_parts_spec : {M : Type 1} → statement M
+into_parts_spec 𝓤 𝓛 𝓜 𝓡 wired =
+    let H = 𝓛.H in
+    let fn : Fn = compiled.function in
+    let c = clauses 𝓛 𝓜.mem 𝓡.returns in
+    let C = (tables 𝓤 H 𝓜 𝓡 𝓡.env).C in
+    let Λ = (tables 𝓤 H 𝓜 𝓡 𝓡.env).Λ in
+    let stays : Stays ended.signature.params ended.kept = (stay_dropped (slot_at 0 ended.signature.params) ended.kept.0, (stay_dropped (slot_at 1 ended.signature.params) ended.kept.1.0, tt)) in
+    proved_at 𝓛 ended stays c 𝓜 𝓡 (Goes-blank 𝓛 0 (slot_at 0 ended.signature.params) ended.kept.0 (λ κs x f. tt), (Goes-blank 𝓛 0 (slot_at 1 ended.signature.params) ended.kept.1.0 (λ κs x f. tt), tt)) #self fn (compiled.unfolded 𝓤 H 𝓜 𝓡 wired) (λ z are.
+    let Post : Val → SProp 𝓤 = (walk_of 𝓛 ended stays c).post z in
+    let a = z.0.3 in let vss = z.0.4 in let x = a.0 in let n = x.state in let heap = a.1.0 in
+    let told = sized_told x.at n vss.0 are.0.0 in let fits = told.1 in
+    qed 𝓛 ((raw (alive 𝓛 ended.signature z.0.0 z.0.1) ⊛ ‵ (owns (types_at ended.signature.params z.0.0) a vss)) ∷ raw (fact 𝓤 (IsSome x.named)) ∷ []) ∵ move ! (1 ∷ []) $ heard ! (IsSome x.named) (λ some. split ! $ move ! (1 ∷ []) $
+    let there = there_is x.named some in let y = there.0 in
+    fsplit ! $ fsplit ! $ drop ! $ fsplit ! $ drop ! $ rewrite ! 0 (λ m. ‵ (held x.at m)) there.1 refl $
+    use1 𝓛 (‵ (box_owns (token E.al heap) (R E) x.at y)) (id⊢ 𝓤 _) $
+    in_a_block ! x.at (λ p. box_owns (token E.al heap) (R E) p y) (fst∗ 𝓤 (never 𝓤) (sem 𝓛 (token E.al heap (bare (τ E)) null_ptr))) (λ b o e. move ! (1 ∷ []) $
+    fsplit ! $ handle_tells E.al ! heap vss.1.0 (λ hv ea fa. move ! (1 ∷ []) $ drop ! $ move ! (1 ∷ 0 ∷ []) $
+    let v : D E = record { ptr = block_ptr b o; alloc = heap; value = y } in
+    let made : (parts.the_row (R E) E.al.row E.al.g).Denot = record { ptr = block_ptr b o; alloc = heap; value = y } in
+    -- [the value with its token; the handle; the tokens]
+    regoal ! (λ (us : List Val). prop (WpFn 𝓤 H C Λ fn us Post)) (λ i. (told.0 ∙ ap (λ (p : Ptr). sized_val p n ∷ []) e) i ++ (ea i ++ [])) refl $
+    enter ! C Λ fn (sized_val (block_ptr b o) n ∷ hv ∷ []) Post $
+    alloc_all ! (λ l. pass_all ! refl ((tt, (tt, (record { fits = fits }, tt))), (fa, tt)) $
+    sets ! (of_opd ! (get_in ! (fld ! refl (stop !)) (sub ! 0 refl (whole !)))) refl (tt, tt) $
+    sets ! (of_opd ! (get ! refl)) refl (tt, tt) $
+    sets ! (agg ! (and_then ! (get ! refl) (and_then ! (get ! refl) (no_more !)))) refl (box_typed E hv b o fa) $
+    returns ! (look_at ! 0 refl) $ free_all ! refl $ fsplit ! $ box_in E ! v b o y refl refl $
+    use1 𝓛 (‵ ((parts.the_row (R E) E.al.row E.al.g).own_val made (word E hv b o ∷ []))) (id⊢ 𝓤 _) $
+    use0 𝓛 (raw (fact 𝓤 (Some y ≡ x.named))) (fact_i 𝓤 (Some y ≡ x.named) (emp 𝓤) (sym there.1)) $ nothing ! $ nothing ! $ nothing ! $ fjoin ! $ move ! (1 ∷ 0 ∷ []) $ fjoin ! $ move ! (3 ∷ 0 ∷ 2 ∷ 1 ∷ []) $
+    by ! (leaves 𝓛 ended stays c z (word E hv b o) made (tt, (tt, tt)) (tt, (tt, tt))))))))

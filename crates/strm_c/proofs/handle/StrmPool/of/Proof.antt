@@ -1,0 +1,69 @@
+-- The handle owns what the parts of the box owned.
+use Rattle.std.proofs.Common.{◌≡◌, ◌^◌, ◌<◌, ◌∙◌, ℕ, List, [], ◌∷◌, ◌++◌, refl, sym, ap, lit<, w64}
+use Rattle.std.specs.Prelude.{Bool, true, false, is_some, IsSome, Some, None}
+use mir.Syntax.{Fn}
+use mir.Val.{Val, vint, vptr}
+use base.Logic.{SProp, emp, id⊢, never, fst∗}
+use base.Fml.{ftrue}
+use prog.Wp.{Env, WpFn}
+use types.Logic.{sem}
+use contract.Monad.{fact, fact_i}
+use contract.Running.{tables}
+use types.Kit.{‵, raw, ◌⊛◌, prop, ◌$◌, ◌∵◌, !, qed, by, move, drop, use0, use1, use2, split, join, regoal, rewrite, fsplit, fjoin, feq_i, feq_l, flt_i}
+use types.Part.{whole, sub, agg}
+use types.Run.{stop, fld, of_opd, lit, no_more, and_then, returns, enter}
+use types.ByLocal.{alloc_all, pass_all, free_all, look_at, get, get_in, sets, env}
+use denote.RattleType.{owns}
+use denote.Builtin.{usize}
+use denote.RawPtr.{Ptr, RawPtr, block_ptr, null_ptr, ptr_val, in_a_block}
+use denote.Signature.{types_at}
+use denote.Steps.{nothing, heard}
+use denote.Struct.Tuple.{Tuple}
+use denote.Triple.Entry.{alive}
+use denote.Triple.Walked.{Stays, stay_dropped, walk_of}
+use Rattle.core.proofs.alloc.Calls.{Goes-blank, token, handle_tells}
+use Rattle.std_alloc.proofs.ResultValues.{and_tt}
+use Rattle.std_alloc.proofs.Pairs.{pair_of, pair_val}
+use Rattle.std_alloc.specs.Box.Ownership.{box_owns}
+use Rattle.std_alloc.proofs.BoxSteps.Form.{D, R, B, τ, word, box_typed}
+use Rattle.std_alloc.proofs.BoxSteps.Steps.{box_out, box_in}
+use mir.Raw.{raw as bare}
+use Rattle.std.proofs.raw_atomic.Walks.{proved_at, leaves}
+use Rattle.strm_c.specs.Holding.{held, is_open, open_state}
+use Rattle.strm_c.proofs.AsBox.{E}
+use Rattle.strm_c.proofs.Words.{great, sized_val, sized_own, sized_made, slot_at}
+use Rattle.strm_c.specs.contracts.parts.Parts as parts
+use Rattle.strm_c.specs.contracts.handle.StrmPool as handle
+use Rattle.strm_c.specs.contracts.handle.StrmPool.of.{ended, clauses}
+use Rattle.strm_c.specs.contracts.handle.StrmPool.of.Key.{name as #self}
+use Rattle.strm_c.proofs.handle.StrmPool.of.Statement.{statement}
+use Rattle.strm_c.proofs.handle.StrmPool.of.Code as compiled
+
+pub of_spec : {M : Type 1} → statement M
+of_spec 𝓤 𝓛 𝓜 𝓡 wired =
+    let H = 𝓛.H in
+    let fn : Fn = compiled.function in
+    let c = clauses 𝓛 𝓜.mem 𝓡.returns in
+    let C = (tables 𝓤 H 𝓜 𝓡 𝓡.env).C in
+    let Λ = (tables 𝓤 H 𝓜 𝓡 𝓡.env).Λ in
+    let stays : Stays ended.signature.params ended.kept = (stay_dropped (slot_at 0 ended.signature.params) ended.kept.0, tt) in
+    proved_at 𝓛 ended stays c 𝓜 𝓡 (Goes-blank 𝓛 0 (slot_at 0 ended.signature.params) ended.kept.0 (λ κs x f. tt), tt) #self fn (compiled.unfolded 𝓤 H 𝓜 𝓡 wired) (λ z are.
+    let Post : Val → SProp 𝓤 = (walk_of 𝓛 ended stays c).post z in
+    let a = z.0.3 in let vss = z.0.4 in
+    let v : D E = record { ptr = a.0.ptr; alloc = a.0.alloc; value = a.0.value } in
+    qed 𝓛 ((raw (alive 𝓛 ended.signature z.0.0 z.0.1) ⊛ ‵ (owns (types_at ended.signature.params z.0.0) a vss)) ∷ ‵ ftrue ∷ []) ∵ move ! (1 ∷ []) $ drop ! $ split ! $ move ! (1 ∷ []) $
+    fsplit ! $ use1 𝓛 (‵ ((B E).own_val v vss.0)) (id⊢ 𝓤 _) $ box_out E ! v vss.0 (λ b o hv e ws fa. fjoin ! $
+    let x : (handle.the_row).Denot = record { at = block_ptr b o; state = open_state; named = Some v.value } in
+    use1 𝓛 (‵ (held (block_ptr b o) (Some v.value))) (id⊢ 𝓤 _) $ move ! (1 ∷ 2 ∷ []) $ drop ! $ drop ! $
+    -- [the value with its token; the tokens]
+    regoal ! (λ (us : List Val). prop (WpFn 𝓤 H C Λ fn (us ++ []) Post)) ws refl $
+    enter ! C Λ fn (word E hv b o ∷ []) Post $ alloc_all ! (λ l. pass_all ! refl (box_typed E hv b o fa, tt) $
+    sets ! (of_opd ! (get_in ! (fld ! refl (stop !)) (sub ! 0 refl (whole !)))) refl (tt, tt) $
+    sets ! (of_opd ! (get ! refl)) refl (tt, tt) $
+    sets ! (agg ! (and_then ! (get ! refl) (and_then ! (great ! (lit< tt)) (no_more !)))) refl (tt, (tt, (record { fits = lit< tt }, tt))) $
+    returns ! (look_at ! 0 refl) $ free_all ! refl $
+    feq_i ! Bool (is_open open_state) true refl $ fjoin ! $
+    use0 𝓛 (‵ (sized_own (block_ptr b o) open_state (sized_val (block_ptr b o) open_state ∷ []))) (sized_made 𝓛 (block_ptr b o) open_state (lit< tt)) $ fjoin ! $
+    use1 𝓛 (‵ ((handle.the_row).own_val x (sized_val (block_ptr b o) open_state ∷ []))) (id⊢ 𝓤 _) $
+    use0 𝓛 (raw (fact 𝓤 (x.named ≡ Some v.value))) (fact_i 𝓤 (x.named ≡ Some v.value) (emp 𝓤) refl) $ nothing ! $ nothing ! $ fjoin ! $ move ! (3 ∷ 0 ∷ 2 ∷ 1 ∷ []) $
+    by ! (leaves 𝓛 ended stays c z (sized_val (block_ptr b o) open_state) x (tt, tt) (tt, tt)))))

@@ -1,0 +1,74 @@
+-- What a call of C answers: what goes through a pointer, or a code.
+use Rattle.std.specs.Prelude.{ℕ, zero, suc, ℤ, pos, negsuc, Option, None, Some, Result, Ok, Err}
+use Rattle.strm_data.specs.declared.refusal.Refusal.{Refusal}
+use Rattle.strm_data.specs.Refusal as refusals
+use Rattle.strm_pool.specs.declared.config.Which.{Which}
+use Rattle.strm_pool.specs.declared.config.Which.TheVariants as which
+use Rattle.strm_named.specs.declared.fault.Fault.{Fault}
+use Rattle.strm_named.specs.declared.fault.Fault.TheVariants as faults
+use Rattle.strm_c.specs.declared.code.Code.{Code}
+use Rattle.strm_c.specs.declared.code.Code.TheVariants.{BadArgument, BadConfig, Invalid, IsOpen, NoMemory, NotOpen, Nothing, Refused}
+
+-- n below 0, from 1 on
+abbrev pub minus : ℕ → ℤ
+minus zero = pos 0
+minus (suc n) = negsuc n
+
+-- of the first fault of a configuration
+abbrev pub number_of_fault : Which → ℕ
+number_of_fault which.Mblks = 11
+number_of_fault which.Classes = 12
+number_of_fault which.ClassSize = 13
+number_of_fault which.ClassTotal = 14
+number_of_fault which.Queues = 15
+number_of_fault which.Marks = 16
+number_of_fault which.Next = 17
+number_of_fault which.Bufcalls = 18
+number_of_fault which.FirstId = 19
+
+-- the number of a code in strm.h
+abbrev pub number_of : Code → ℤ
+number_of (Refused why) = pos (refusals.number_of why)
+number_of Nothing = minus 1
+number_of Invalid = minus 2
+number_of NotOpen = minus 3
+number_of BadArgument = minus 4
+number_of IsOpen = minus 5
+number_of NoMemory = minus 6
+number_of (BadConfig fault) = minus (number_of_fault fault)
+
+-- ---- answers
+
+abbrev pub Answer : Type 0 → Type 0
+Answer Z = Result Z Code
+
+-- the number that the call returns
+abbrev pub returned : {Z : Type 0} → Answer Z → ℤ
+returned (Ok z) = pos 0
+returned (Err code) = number_of code
+
+-- what is behind the pointer then
+abbrev pub written : {Z : Type 0} → Z → Answer Z → Z
+written before (Ok z) = z
+written before (Err code) = before
+
+-- ---- answers of the named pool, as those of C
+
+abbrev pub code_of : Fault → Code
+code_of faults.Invalid = Invalid
+code_of (faults.Refused why) = Refused why
+
+-- what is told of an answer, by what is told of what it gives
+abbrev pub told : {Y Z : Type 0} → (Y → Answer Z) → Result Y Fault → Answer Z
+told tells (Ok y) = tells y
+told tells (Err fault) = Err (code_of fault)
+
+-- so of one that no name stands in the way of
+abbrev pub told_of_refused : {Y Z : Type 0} → (Y → Answer Z) → Result Y Refusal → Answer Z
+told_of_refused tells (Ok y) = tells y
+told_of_refused tells (Err why) = Err (Refused why)
+
+-- what there is, if there is something
+abbrev pub any : {Z : Type 0} → Option Z → Answer Z
+any None = Err Nothing
+any (Some z) = Ok z

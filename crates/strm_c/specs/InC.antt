@@ -1,0 +1,105 @@
+-- Numbers and structs of strm.h, and what they stand for.
+use Rattle.std.specs.Prelude.{ℕ, Bool, true, false, ◌==◌, nat_lt, List, ◌∷◌, [], Option, None, Some, Ok, if◌then◌else◌, slice_get, unwrap_or}
+use Rattle.strm_data.specs.declared.class_info.ClassInfo.{ClassInfo}
+use Rattle.strm_data.specs.declared.class_spec.ClassSpec.{ClassSpec}
+use Rattle.strm_data.specs.declared.msg_type.MsgType.{MsgType}
+use Rattle.strm_data.specs.declared.msg_type.MsgType.TheVariants.{MData, MProto, MBreak, MPassfp, MSig, MDelay, MCtl, MIoctl, MSetopts, MIocack, MIocnak, MPcproto, MPcsig, MRead, MFlush, MStop, MStart, MHangup, MError, MCopyin, MCopyout, MIocdata}
+use Rattle.strm_mblk.specs.declared.block_info.BlockInfo.{BlockInfo}
+use Rattle.strm_mblk.specs.declared.census.Census.{Census}
+use Rattle.strm_queue.specs.declared.band_info.BandInfo.{BandInfo}
+use Rattle.strm_queue.specs.declared.flush.Flush.{Flush}
+use Rattle.strm_queue.specs.declared.flush.Flush.TheVariants.{All, Data}
+use Rattle.strm_queue.specs.declared.marks.Marks.{Marks}
+use Rattle.strm_queue.specs.declared.queue_info.QueueInfo.{QueueInfo}
+use Rattle.strm_queue.specs.declared.queue_spec.QueueSpec.{QueueSpec}
+use Rattle.strm_pool.specs.PoolValue.{Wish}
+use Rattle.strm_named.specs.declared.name.Name.{Name}
+use Rattle.strm_c.specs.Codes.{Answer}
+use Rattle.strm_c.specs.declared.layout.StrmBandInfo.{StrmBandInfo}
+use Rattle.strm_c.specs.declared.layout.StrmBlockInfo.{StrmBlockInfo}
+use Rattle.strm_c.specs.declared.layout.StrmCensus.{StrmCensus}
+use Rattle.strm_c.specs.declared.layout.StrmClassInfo.{StrmClassInfo}
+use Rattle.strm_c.specs.declared.layout.StrmMarks.{StrmMarks}
+use Rattle.strm_c.specs.declared.layout.StrmQueueInfo.{StrmQueueInfo}
+use Rattle.strm_c.specs.declared.layout.StrmWish.{StrmWish}
+
+-- ---- numbers that C gives
+
+-- a queue or a class: there are far fewer than 255, so any number from there on is that of none
+abbrev pub capped : ℕ → ℕ
+capped n = if nat_lt n 255 then n else 255
+
+-- a band
+abbrev pub band_of : ℕ → Option ℕ
+band_of n = if nat_lt n 256 then Some n else None
+
+-- the types, by their numbers
+abbrev pub types : List MsgType
+types = MData ∷ MProto ∷ MBreak ∷ MPassfp ∷ MSig ∷ MDelay ∷ MCtl ∷ MIoctl ∷ MSetopts ∷ MIocack ∷ MIocnak ∷ MPcproto ∷ MPcsig ∷ MRead ∷ MFlush ∷ MStop ∷ MStart ∷ MHangup ∷ MError ∷ MCopyin ∷ MCopyout ∷ MIocdata ∷ []
+
+abbrev pub type_of : ℕ → Option MsgType
+type_of n = slice_get types n
+
+-- what a flush takes
+abbrev pub flush_of : ℕ → Option Flush
+flush_of n = if n == 0 then Some All else (if n == 1 then Some Data else None)
+
+-- ---- what C is told
+
+abbrev pub flag : Bool → ℕ
+flag false = 0
+flag true = 1
+
+-- the number of a type
+abbrev pub number_of_type : MsgType → ℕ
+number_of_type MData = 0
+number_of_type MProto = 1
+number_of_type MBreak = 2
+number_of_type MPassfp = 3
+number_of_type MSig = 4
+number_of_type MDelay = 5
+number_of_type MCtl = 6
+number_of_type MIoctl = 7
+number_of_type MSetopts = 8
+number_of_type MIocack = 9
+number_of_type MIocnak = 10
+number_of_type MPcproto = 11
+number_of_type MPcsig = 12
+number_of_type MRead = 13
+number_of_type MFlush = 14
+number_of_type MStop = 15
+number_of_type MStart = 16
+number_of_type MHangup = 17
+number_of_type MError = 18
+number_of_type MCopyin = 19
+number_of_type MCopyout = 20
+number_of_type MIocdata = 21
+
+abbrev pub block_in_c : BlockInfo → StrmBlockInfo
+block_in_c b = record { kind = number_of_type b.kind; length = b.len; band = b.band; room = b.room; names = b.names }
+
+abbrev pub queue_in_c : QueueInfo → StrmQueueInfo
+queue_in_c q = record { msgs = q.msgs; bytes = q.bytes; read = flag q.read; noenable = flag q.noenable; enabled = flag q.enabled }
+
+abbrev pub band_in_c : BandInfo → StrmBandInfo
+band_in_c b = record { bytes = b.bytes; full = flag b.full; wanted = flag b.wanted }
+
+abbrev pub marks_in_c : Marks → StrmMarks
+marks_in_c m = record { hiwat = m.hiwat; lowat = m.lowat }
+
+abbrev pub wish_in_c : Wish → StrmWish
+wish_in_c w = record { id = w.0; size = w.1 }
+
+abbrev pub census_in_c : Census → StrmCensus
+census_in_c c = record { free = c.free; queued = c.queued; held = c.held }
+
+abbrev pub class_in_c : ClassInfo → StrmClassInfo
+class_in_c c = record { size = c.size; free = c.free; total = c.total }
+
+-- the name of no message
+abbrev pub no_name : Name
+no_name = record { pool = 0; head = 0; stamp = 0 }
+
+-- two names, of which the second may be that of no message
+abbrev pub both : Name × Option Name → Answer (Name × Name)
+both names = Ok (names.0, unwrap_or names.1 no_name)

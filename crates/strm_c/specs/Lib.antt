@@ -1,0 +1,6 @@
+pub mod Codes
+pub mod Exports
+pub mod Holding
+pub mod InC
+pub mod Opening
+pub mod Texts

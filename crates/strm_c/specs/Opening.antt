@@ -1,0 +1,81 @@
+-- What opening and closing a handle does.
+use Rattle.std.specs.Prelude.{◌≡◌, ℕ, ℤ, pos, Bool, not, ◌&&◌, ◌==◌, nat_le, List, length, map, replicate, Option, None, Some, Result, Ok, Err, if◌then◌else◌}
+use Rattle.std.specs.Global.{Box}
+use Rattle.strm_data.specs.declared.class_spec.ClassSpec.{ClassSpec}
+use Rattle.strm_data.specs.Limits.{most_classes}
+use Rattle.strm_queue.specs.declared.queue_spec.QueueSpec.{QueueSpec}
+use Rattle.strm_queue.specs.Limits.{most_queues}
+use Rattle.strm_pool.specs.declared.config.Config.{Config}
+use Rattle.strm_pool.specs.declared.config.Which.{Which}
+use Rattle.strm_pool.specs.Config.{fault_of}
+use Rattle.strm_pool.specs.PoolValue.{opening}
+use Rattle.strm_named.specs.NamedValue.{HasNoNames, NamedValue}
+use Rattle.strm_c.specs.declared.code.Code.{Code}
+use Rattle.strm_c.specs.declared.code.Code.TheVariants.{BadArgument, BadConfig, IsOpen, NoMemory, NotOpen}
+use Rattle.strm_c.specs.declared.layout.StrmClassSpec.{StrmClassSpec}
+use Rattle.strm_c.specs.declared.layout.StrmQueueSpec.{StrmQueueSpec}
+use Rattle.strm_c.specs.Codes.{Answer, number_of}
+use Rattle.strm_c.specs.Exports.{Held}
+use Rattle.strm_c.specs.InC.{capped}
+
+-- ---- what C gives
+
+abbrev pub class_spec_of : StrmClassSpec → ClassSpec
+class_spec_of c = record { size = c.size; count = c.count }
+
+-- 2 ^ 32 - 1 stands for no queue
+abbrev pub next_of : ℕ → Option ℕ
+next_of n = if n == 4294967295 then None else Some (capped n)
+
+abbrev pub queue_spec_of : StrmQueueSpec → QueueSpec
+queue_spec_of q = record { hiwat = q.hiwat; lowat = q.lowat; service = not (q.service == 0); next = next_of q.next }
+
+-- whether there are not more classes and queues than a pool can have
+abbrev pub are_few : List StrmClassSpec → List StrmQueueSpec → Bool
+are_few classes queues = nat_le (length classes) most_classes && nat_le (length queues) most_queues
+
+-- the configuration, if they are
+abbrev pub config_of : ℕ → ℕ → List StrmClassSpec → List StrmQueueSpec → ℕ → ℕ → Option Config
+config_of id mblks classes queues bufcalls first_id =
+    if are_few classes queues then Some (record {
+      id = id;
+      mblks = mblks;
+      classes = map class_spec_of classes;
+      queues = map queue_spec_of queues;
+      bufcalls = bufcalls;
+      first_id = first_id;
+    }) else None
+
+-- ---- opening
+
+-- the named pool that a lawful configuration opens
+abbrev pub opened_by : Config → NamedValue
+opened_by c = record { pool = opening c; stamps = replicate c.mblks 0 }
+
+-- a lawful one opens a pool that has no names yet, or there is not enough memory
+abbrev pub OpensLawful : Config → Held → ℤ → Type 0
+OpensLawful c None number = number ≡ number_of NoMemory
+OpensLawful c (Some v) number = (v ≡ opened_by c) × (HasNoNames v × (number ≡ pos 0))
+
+-- one with a fault is told, before any want of memory, and the handle stays closed
+abbrev pub OpensBy : Option Which → Config → Held → ℤ → Type 0
+OpensBy None c new number = OpensLawful c new number
+OpensBy (Some which) c new number = (new ≡ None) × (number ≡ number_of (BadConfig which))
+
+-- so of the box that a handle is to hold, or why there is none
+abbrev pub OpensBoxed : Config → Result (Box NamedValue) Code → Type 0
+OpensBoxed c (Ok named) = OpensBy (fault_of c) c (Some named.value) (pos 0)
+OpensBoxed c (Err code) = OpensBy (fault_of c) c None (number_of code)
+
+-- an open handle stays as it is; one that is not is opened by a configuration, if there is one
+abbrev pub OpensHandle : Option Config → Held → Held → ℤ → Type 0
+OpensHandle config (Some v) new number = (new ≡ Some v) × (number ≡ number_of IsOpen)
+OpensHandle None None new number = (new ≡ None) × (number ≡ number_of BadArgument)
+OpensHandle (Some c) None new number = OpensBy (fault_of c) c new number
+
+-- ---- closing
+
+-- what is told of a handle that is closed
+abbrev pub closed : Held → Answer (Unit {0})
+closed None = Err NotOpen
+closed (Some v) = Ok tt

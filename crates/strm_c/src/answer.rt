@@ -1,0 +1,102 @@
+//! Answers of the named pool, as calls of C give them.
+ghost use Rattle.std.specs.Prelude.{◌≡◌, Ok};
+ghost use Rattle.strm_c.specs.Codes.{any, returned, told, told_of_refused, written};
+ghost use Rattle.strm_c.specs.InC.{both};
+
+use crate::code::Code;
+use strm_named::{Fault, Name};
+use strm_pool::Refusal;
+
+// The name of no message.
+const NO_NAME: Name = Name {
+    pool: 0,
+    head: 0,
+    stamp: 0,
+};
+
+// Takes the pool out of a handle, for the rest of a function that returns a code; one that is not open is answered.
+macro_rules! opened {
+    ($alloc:expr, $pool:expr) => {{
+        let Some(named) = $pool.take($alloc) else {
+            return Code::NotOpen.number();
+        };
+        named
+    }};
+}
+
+pub(crate) use opened;
+
+// What a number stands for, in a function that has taken the pool out of its handle; one that stands for nothing is answered.
+macro_rules! ranged {
+    ($meaning:expr, $pool:expr, $named:expr) => {{
+        let Some(meaning) = $meaning else {
+            $pool.hold($named);
+            return Code::BadArgument.number();
+        };
+        meaning
+    }};
+}
+
+pub(crate) use ranged;
+
+// An answer, with a code for a fault.
+pub(crate) fn coded<T>(answer: Result<T, Fault>) -> Result<T, Code>
+    ensures { result ≡ told Ok answer }
+{
+    answer.map_err(Code::of)
+}
+
+// So of one that may give nothing.
+pub(crate) fn coded_any<T>(answer: Result<Option<T>, Fault>) -> Result<T, Code>
+    ensures { result ≡ told any answer }
+{
+    match answer {
+        Ok(given) => present(given),
+        Err(fault) => Err(Code::of(fault)),
+    }
+}
+
+// So of one that gives a message, and maybe another, for which the name of none stands.
+pub(crate) fn coded_both(answer: Result<(Name, Option<Name>), Fault>) -> Result<(Name, Name), Code>
+    ensures { result ≡ told both answer }
+{
+    match answer {
+        Ok((first, second)) => Ok((first, second.unwrap_or(NO_NAME))),
+        Err(fault) => Err(Code::of(fault)),
+    }
+}
+
+// So of one that only the pool refuses.
+pub(crate) fn coded_refusal<T>(answer: Result<T, Refusal>) -> Result<T, Code>
+    ensures { result ≡ told_of_refused Ok answer }
+{
+    answer.map_err(Code::Refused)
+}
+
+// What there is, if there is something.
+pub(crate) fn present<T>(given: Option<T>) -> Result<T, Code>
+    ensures { result ≡ any given }
+{
+    given.ok_or(Code::Nothing)
+}
+
+// Puts what is given where a pointer of C leads, and returns 0; or leaves what stands there, and returns the code.
+pub(crate) fn put<T: Copy>(answer: Result<T, Code>, into: &mut T) -> i32
+    ensures number { result ≡ returned answer }
+    ensures into { into.new ≡ written into.old answer }
+{
+    match answer {
+        Ok(given) => {
+            *into = given;
+            0
+        }
+        Err(code) => code.number(),
+    }
+}
+
+// What a call returns that gives nothing: 0, or the code.
+pub(crate) fn number(answer: Result<(), Code>) -> i32
+    ensures { result ≡ returned answer }
+{
+    put(answer, &mut ())
+}

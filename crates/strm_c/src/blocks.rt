@@ -1,0 +1,140 @@
+//! The calls on bytes and fields of a message.
+ghost use Rattle.std.specs.Prelude.{◌≡◌, ◌-◌, [], Ok, length, min};
+ghost use Rattle.strm_mblk.specs.Arena.{message_at};
+ghost use Rattle.strm_mblk.specs.Block.{data_size_of, size_of};
+ghost use Rattle.strm_mblk.specs.BlockCalls as blocks;
+ghost use Rattle.strm_pool.specs.PoolValue.{on_arena, with_arena};
+ghost use Rattle.strm_named.specs.NamedCalls.{answer_told, done, if_valid, on_name, plain};
+ghost use Rattle.strm_named.specs.NamedValue.{is_valid};
+ghost use Rattle.strm_c.specs.Codes.{told};
+ghost use Rattle.strm_c.specs.Exports.{Asks, Does, Ranged, bytes_read};
+ghost use Rattle.strm_c.specs.InC.{band_of, block_in_c, flag, type_of};
+
+use crate::answer::{coded, number, opened, put, ranged};
+use crate::code::Code;
+use crate::handle::StrmPool;
+use crate::layout::StrmBlockInfo;
+use crate::numbers::{band_of, type_of};
+use std::alloc::Global;
+use strm_named::Name;
+
+/// `NamedPool::write`.
+#[unsafe(no_mangle)]
+pub extern "C" fn strm_c_write(
+    alloc: Global,
+    pool: &mut StrmPool,
+    msg: Name,
+    place: u32,
+    bytes: &[u8],
+) -> i32
+    ensures { Does plain Ok (λ v. on_name v msg (on_arena v.pool (blocks.write msg.head place bytes.now v.pool.arena))) [] pool.old.named pool.new.named result tt tt }
+{
+    let mut named = opened!(alloc, pool);
+    let answer = named.write(msg, place, bytes);
+    pool.hold(named);
+    number(coded(answer))
+}
+
+/// `NamedPool::read`: the number of bytes goes to `count`.
+#[unsafe(no_mangle)]
+pub extern "C" fn strm_c_read(
+    alloc: Global,
+    pool: &mut StrmPool,
+    msg: Name,
+    at: u32,
+    into: &mut [u8],
+    count: &mut usize,
+) -> i32
+    ensures count { Asks (λ v. told Ok (if_valid v msg (min (length into.old) (size_of (message_at v.pool.arena msg.head) - at)))) pool.old.named pool.new.named result count.old count.new }
+    ensures bytes { into.new ≡ bytes_read pool.old.named msg at into.old }
+{
+    let named = opened!(alloc, pool);
+    let answer = named.read(msg, at, into);
+    pool.hold(named);
+    put(coded(answer), count)
+}
+
+/// `NamedPool::settype`. A number that is that of no type is a `BadArgument`.
+#[unsafe(no_mangle)]
+pub extern "C" fn strm_c_settype(
+    alloc: Global,
+    pool: &mut StrmPool,
+    msg: Name,
+    place: u32,
+    kind: u32,
+) -> i32
+    ensures { Ranged (type_of kind) (λ t. Does plain Ok (λ v. on_name v msg (on_arena v.pool (blocks.settype msg.head place t v.pool.arena))) []) pool.old.named pool.new.named result tt tt }
+{
+    let mut named = opened!(alloc, pool);
+    let kind = ranged!(type_of(kind), pool, named);
+    let answer = named.settype(msg, place, kind);
+    pool.hold(named);
+    number(coded(answer))
+}
+
+/// `NamedPool::setband`. A band above 255 is a `BadArgument`.
+#[unsafe(no_mangle)]
+pub extern "C" fn strm_c_setband(alloc: Global, pool: &mut StrmPool, msg: Name, band: u32) -> i32
+    ensures { Ranged (band_of band) (λ b. Does plain Ok (λ v. on_name v msg (done (with_arena v.pool (blocks.setband msg.head b v.pool.arena)))) []) pool.old.named pool.new.named result tt tt }
+{
+    let mut named = opened!(alloc, pool);
+    let band = ranged!(band_of(band), pool, named);
+    let answer = named.setband(msg, band);
+    pool.hold(named);
+    number(coded(answer))
+}
+
+/// `NamedPool::size`: the number of bytes goes to `bytes`.
+#[unsafe(no_mangle)]
+pub extern "C" fn strm_c_size(alloc: Global, pool: &mut StrmPool, msg: Name, bytes: &mut u32) -> i32
+    ensures { Asks (λ v. told Ok (if_valid v msg (size_of (message_at v.pool.arena msg.head)))) pool.old.named pool.new.named result bytes.old bytes.new }
+{
+    let named = opened!(alloc, pool);
+    let answer = named.size(msg);
+    pool.hold(named);
+    put(coded(answer), bytes)
+}
+
+/// `NamedPool::msgdsize`: the number of bytes goes to `bytes`.
+#[unsafe(no_mangle)]
+pub extern "C" fn strm_c_msgdsize(
+    alloc: Global,
+    pool: &mut StrmPool,
+    msg: Name,
+    bytes: &mut u32,
+) -> i32
+    ensures { Asks (λ v. told Ok (if_valid v msg (data_size_of v.pool.arena.store (message_at v.pool.arena msg.head)))) pool.old.named pool.new.named result bytes.old bytes.new }
+{
+    let named = opened!(alloc, pool);
+    let answer = named.msgdsize(msg);
+    pool.hold(named);
+    put(coded(answer), bytes)
+}
+
+/// `NamedPool::block`: what there is to tell goes to `block`.
+#[unsafe(no_mangle)]
+pub extern "C" fn strm_c_block(
+    alloc: Global,
+    pool: &mut StrmPool,
+    msg: Name,
+    place: u32,
+    block: &mut StrmBlockInfo,
+) -> i32
+    ensures { Asks (λ v. told (λ b. Ok (block_in_c b)) (answer_told plain v (on_name v msg (on_arena v.pool (blocks.block msg.head place v.pool.arena))))) pool.old.named pool.new.named result block.old block.new }
+{
+    let named = opened!(alloc, pool);
+    let answer = named.block(msg, place);
+    pool.hold(named);
+    put(coded(answer).map(StrmBlockInfo::of), block)
+}
+
+/// `NamedPool::has`: 1 or 0 goes to `yes`.
+#[unsafe(no_mangle)]
+pub extern "C" fn strm_c_has(alloc: Global, pool: &mut StrmPool, msg: Name, yes: &mut u32) -> i32
+    ensures { Asks (λ v. Ok (flag (is_valid v msg))) pool.old.named pool.new.named result yes.old yes.new }
+{
+    let named = opened!(alloc, pool);
+    let answer = named.has(msg);
+    pool.hold(named);
+    put(Ok(u32::from(answer)), yes)
+}

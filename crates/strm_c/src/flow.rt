@@ -1,0 +1,130 @@
+//! The calls on flow control and service.
+ghost use Rattle.std.specs.Prelude.{◌≡◌, Ok, Some, None};
+ghost use Rattle.strm_mblk.specs.Given.{answer_of};
+ghost use Rattle.strm_queue.specs.QueueCalls as queues;
+ghost use Rattle.strm_pool.specs.PoolValue.{on_queues, queued, with_queued};
+ghost use Rattle.strm_c.specs.Codes.{any, told_of_refused};
+ghost use Rattle.strm_c.specs.Exports.{Asks, DoesOnPool, Ranged, Takes};
+ghost use Rattle.strm_c.specs.InC.{band_of, flag, marks_in_c, capped};
+
+use crate::answer::{coded_refusal, number, opened, present, put, ranged};
+use crate::code::Code;
+use crate::handle::StrmPool;
+use crate::layout::StrmMarks;
+use crate::numbers::{band_of, capped};
+use std::alloc::Global;
+
+/// `NamedPool::bcanput`: 1 or 0 goes to `yes`. A band above 255 is a `BadArgument`.
+#[unsafe(no_mangle)]
+pub extern "C" fn strm_c_bcanput(
+    alloc: Global,
+    pool: &mut StrmPool,
+    queue: u32,
+    band: u32,
+    yes: &mut u32,
+) -> i32
+    ensures { Ranged (band_of band) (λ b. DoesOnPool (λ y. Ok (flag y)) (λ p. on_queues p (queues.bcanput (capped queue) b (queued p)))) pool.old.named pool.new.named result yes.old yes.new }
+{
+    let mut named = opened!(alloc, pool);
+    let band = ranged!(band_of(band), pool, named);
+    let answer = named.bcanput(capped(queue), band);
+    pool.hold(named);
+    put(coded_refusal(answer).map(u32::from), yes)
+}
+
+/// `NamedPool::strqset`. A band above 255 is a `BadArgument`.
+#[unsafe(no_mangle)]
+pub extern "C" fn strm_c_strqset(
+    alloc: Global,
+    pool: &mut StrmPool,
+    queue: u32,
+    band: u32,
+    hiwat: u32,
+    lowat: u32,
+) -> i32
+    ensures { Ranged (band_of band) (λ b. DoesOnPool Ok (λ p. on_queues p (queues.strqset (capped queue) b hiwat lowat (queued p)))) pool.old.named pool.new.named result tt tt }
+{
+    let mut named = opened!(alloc, pool);
+    let band = ranged!(band_of(band), pool, named);
+    let answer = named.strqset(capped(queue), band, hiwat, lowat);
+    pool.hold(named);
+    number(coded_refusal(answer))
+}
+
+/// `NamedPool::strqget`: the marks go to `marks`. A band above 255 is a `BadArgument`.
+#[unsafe(no_mangle)]
+pub extern "C" fn strm_c_strqget(
+    alloc: Global,
+    pool: &mut StrmPool,
+    queue: u32,
+    band: u32,
+    marks: &mut StrmMarks,
+) -> i32
+    ensures { Ranged (band_of band) (λ b. Asks (λ v. told_of_refused (λ m. Ok (marks_in_c m)) (answer_of (queues.strqget (capped queue) b (queued v.pool))))) pool.old.named pool.new.named result marks.old marks.new }
+{
+    let named = opened!(alloc, pool);
+    let band = ranged!(band_of(band), pool, named);
+    let answer = named.strqget(capped(queue), band);
+    pool.hold(named);
+    put(coded_refusal(answer).map(StrmMarks::of), marks)
+}
+
+/// `NamedPool::qenable`.
+#[unsafe(no_mangle)]
+pub extern "C" fn strm_c_qenable(alloc: Global, pool: &mut StrmPool, queue: u32) -> i32
+    ensures { DoesOnPool Ok (λ p. on_queues p (queues.qenable (capped queue) (queued p))) pool.old.named pool.new.named result tt tt }
+{
+    let mut named = opened!(alloc, pool);
+    let answer = named.qenable(capped(queue));
+    pool.hold(named);
+    number(coded_refusal(answer))
+}
+
+/// `NamedPool::noenable`.
+#[unsafe(no_mangle)]
+pub extern "C" fn strm_c_noenable(alloc: Global, pool: &mut StrmPool, queue: u32) -> i32
+    ensures { DoesOnPool Ok (λ p. on_queues p (queues.noenable (capped queue) (queued p))) pool.old.named pool.new.named result tt tt }
+{
+    let mut named = opened!(alloc, pool);
+    let answer = named.noenable(capped(queue));
+    pool.hold(named);
+    number(coded_refusal(answer))
+}
+
+/// `NamedPool::enableok`.
+#[unsafe(no_mangle)]
+pub extern "C" fn strm_c_enableok(alloc: Global, pool: &mut StrmPool, queue: u32) -> i32
+    ensures { DoesOnPool Ok (λ p. on_queues p (queues.enableok (capped queue) (queued p))) pool.old.named pool.new.named result tt tt }
+{
+    let mut named = opened!(alloc, pool);
+    let answer = named.enableok(capped(queue));
+    pool.hold(named);
+    number(coded_refusal(answer))
+}
+
+/// `NamedPool::next_service`: the number of the queue goes to `queue`; `Nothing` where no queue is on the run list.
+#[unsafe(no_mangle)]
+pub extern "C" fn strm_c_next_service(alloc: Global, pool: &mut StrmPool, queue: &mut u32) -> i32
+    ensures { Takes any (λ p. ((queues.next_service (queued p)).0, with_queued p (queues.next_service (queued p)).1)) pool.old.named pool.new.named result queue.old queue.new }
+{
+    let mut named = opened!(alloc, pool);
+    let answer = named.next_service();
+    pool.hold(named);
+    put(present(answer).map(u32::from), queue)
+}
+
+/// `NamedPool::run_at`: the number of the queue goes to `queue`; `Nothing` where the run list is not so long.
+#[unsafe(no_mangle)]
+pub extern "C" fn strm_c_run_at(
+    alloc: Global,
+    pool: &mut StrmPool,
+    place: u32,
+    queue: &mut u32,
+) -> i32
+    ensures { Asks (λ v. any (queues.run_at place (queued v.pool))) pool.old.named pool.new.named result queue.old queue.new }
+{
+    let named = opened!(alloc, pool);
+    let answer = named.run_at(place);
+    pool.hold(named);
+    put(present(answer).map(u32::from), queue)
+}

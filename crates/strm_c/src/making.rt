@@ -1,0 +1,128 @@
+//! The calls that make messages, and free them.
+ghost use Rattle.std.specs.Prelude.{◌≡◌, [], ◌∷◌, Ok};
+ghost use Rattle.strm_mblk.specs.BlockCalls as blocks;
+ghost use Rattle.strm_mblk.specs.Freeing as freeing;
+ghost use Rattle.strm_pool.specs.PoolValue.{on_arena, with_arena};
+ghost use Rattle.strm_named.specs.NamedCalls.{any_message, done, on_name, one_message, outcome_of, plain};
+ghost use Rattle.strm_c.specs.Codes.{any};
+ghost use Rattle.strm_c.specs.Exports.{Asks, Does};
+ghost use Rattle.strm_c.specs.InC.{flag};
+
+use crate::answer::{coded, coded_any, number, opened, put};
+use crate::code::Code;
+use crate::handle::StrmPool;
+use std::alloc::Global;
+use strm_named::Name;
+
+/// `NamedPool::allocb`: the name of the new message goes to `msg`.
+#[unsafe(no_mangle)]
+pub extern "C" fn strm_c_allocb(
+    alloc: Global,
+    pool: &mut StrmPool,
+    size: u32,
+    msg: &mut Name,
+) -> i32
+    ensures { Does one_message Ok (λ v. outcome_of (on_arena v.pool (blocks.allocb size v.pool.arena))) [] pool.old.named pool.new.named result msg.old msg.new }
+{
+    let mut named = opened!(alloc, pool);
+    let answer = named.allocb(size);
+    pool.hold(named);
+    put(coded(answer), msg)
+}
+
+/// `NamedPool::testb`: 1 or 0 goes to `yes`.
+#[unsafe(no_mangle)]
+pub extern "C" fn strm_c_testb(alloc: Global, pool: &mut StrmPool, size: u32, yes: &mut u32) -> i32
+    ensures { Asks (λ v. Ok (flag (blocks.testb size v.pool.arena))) pool.old.named pool.new.named result yes.old yes.new }
+{
+    let named = opened!(alloc, pool);
+    let answer = named.testb(size);
+    pool.hold(named);
+    put(Ok(u32::from(answer)), yes)
+}
+
+/// `NamedPool::dupb`: the name of the duplicate goes to `copy`.
+#[unsafe(no_mangle)]
+pub extern "C" fn strm_c_dupb(alloc: Global, pool: &mut StrmPool, msg: Name, copy: &mut Name) -> i32
+    ensures { Does one_message Ok (λ v. on_name v msg (on_arena v.pool (blocks.dupb msg.head v.pool.arena))) [] pool.old.named pool.new.named result copy.old copy.new }
+{
+    let mut named = opened!(alloc, pool);
+    let answer = named.dupb(msg);
+    pool.hold(named);
+    put(coded(answer), copy)
+}
+
+/// `NamedPool::dupmsg`: the name of the duplicate goes to `copy`.
+#[unsafe(no_mangle)]
+pub extern "C" fn strm_c_dupmsg(
+    alloc: Global,
+    pool: &mut StrmPool,
+    msg: Name,
+    copy: &mut Name,
+) -> i32
+    ensures { Does one_message Ok (λ v. on_name v msg (on_arena v.pool (blocks.dupmsg msg.head v.pool.arena))) [] pool.old.named pool.new.named result copy.old copy.new }
+{
+    let mut named = opened!(alloc, pool);
+    let answer = named.dupmsg(msg);
+    pool.hold(named);
+    put(coded(answer), copy)
+}
+
+/// `NamedPool::copyb`: the name of the copy goes to `copy`.
+#[unsafe(no_mangle)]
+pub extern "C" fn strm_c_copyb(
+    alloc: Global,
+    pool: &mut StrmPool,
+    msg: Name,
+    copy: &mut Name,
+) -> i32
+    ensures { Does one_message Ok (λ v. on_name v msg (on_arena v.pool (blocks.copyb msg.head v.pool.arena))) [] pool.old.named pool.new.named result copy.old copy.new }
+{
+    let mut named = opened!(alloc, pool);
+    let answer = named.copyb(msg);
+    pool.hold(named);
+    put(coded(answer), copy)
+}
+
+/// `NamedPool::copymsg`: the name of the copy goes to `copy`.
+#[unsafe(no_mangle)]
+pub extern "C" fn strm_c_copymsg(
+    alloc: Global,
+    pool: &mut StrmPool,
+    msg: Name,
+    copy: &mut Name,
+) -> i32
+    ensures { Does one_message Ok (λ v. on_name v msg (on_arena v.pool (blocks.copymsg msg.head v.pool.arena))) [] pool.old.named pool.new.named result copy.old copy.new }
+{
+    let mut named = opened!(alloc, pool);
+    let answer = named.copymsg(msg);
+    pool.hold(named);
+    put(coded(answer), copy)
+}
+
+/// `NamedPool::freeb`: the name of the blocks behind the first goes to `rest`; `Nothing` where there are none.
+#[unsafe(no_mangle)]
+pub extern "C" fn strm_c_freeb(
+    alloc: Global,
+    pool: &mut StrmPool,
+    msg: Name,
+    rest: &mut Name,
+) -> i32
+    ensures { Does any_message any (λ v. on_name v msg (on_arena v.pool (Ok (blocks.freeb msg.head v.pool.arena)))) (msg.head ∷ []) pool.old.named pool.new.named result rest.old rest.new }
+{
+    let mut named = opened!(alloc, pool);
+    let answer = named.freeb(msg);
+    pool.hold(named);
+    put(coded_any(answer), rest)
+}
+
+/// `NamedPool::freemsg`.
+#[unsafe(no_mangle)]
+pub extern "C" fn strm_c_freemsg(alloc: Global, pool: &mut StrmPool, msg: Name) -> i32
+    ensures { Does plain Ok (λ v. on_name v msg (done (with_arena v.pool (freeing.freemsg msg.head v.pool.arena)))) (msg.head ∷ []) pool.old.named pool.new.named result tt tt }
+{
+    let mut named = opened!(alloc, pool);
+    let answer = named.freemsg(msg);
+    pool.hold(named);
+    number(coded(answer))
+}

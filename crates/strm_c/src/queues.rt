@@ -1,0 +1,130 @@
+//! The calls on the messages of queues.
+ghost use Rattle.std.specs.Prelude.{◌≡◌, [], ◌∷◌, Ok};
+ghost use Rattle.strm_mblk.specs.Given.{answer_of};
+ghost use Rattle.strm_queue.specs.QueueCalls as queues;
+ghost use Rattle.strm_pool.specs.PoolValue.{on_queues, queued};
+ghost use Rattle.strm_named.specs.NamedCalls.{any_message, on_name, one_message, outcome_of, plain};
+ghost use Rattle.strm_c.specs.Codes.{any, told_of_refused};
+ghost use Rattle.strm_c.specs.Exports.{Asks, Does, DoesOnPool, Ranged};
+ghost use Rattle.strm_c.specs.InC.{band_of, flush_of, capped};
+
+use crate::answer::{coded, coded_any, coded_refusal, number, opened, put, ranged};
+use crate::code::Code;
+use crate::handle::StrmPool;
+use crate::numbers::{band_of, capped, flush_of};
+use std::alloc::Global;
+use strm_named::Name;
+
+/// `NamedPool::putq`.
+#[unsafe(no_mangle)]
+pub extern "C" fn strm_c_putq(alloc: Global, pool: &mut StrmPool, queue: u32, msg: Name) -> i32
+    ensures { Does plain Ok (λ v. on_name v msg (on_queues v.pool (queues.putq (capped queue) msg.head (queued v.pool)))) (msg.head ∷ []) pool.old.named pool.new.named result tt tt }
+{
+    let mut named = opened!(alloc, pool);
+    let answer = named.putq(capped(queue), msg);
+    pool.hold(named);
+    number(coded(answer))
+}
+
+/// `NamedPool::putbq`.
+#[unsafe(no_mangle)]
+pub extern "C" fn strm_c_putbq(alloc: Global, pool: &mut StrmPool, queue: u32, msg: Name) -> i32
+    ensures { Does plain Ok (λ v. on_name v msg (on_queues v.pool (queues.putbq (capped queue) msg.head (queued v.pool)))) (msg.head ∷ []) pool.old.named pool.new.named result tt tt }
+{
+    let mut named = opened!(alloc, pool);
+    let answer = named.putbq(capped(queue), msg);
+    pool.hold(named);
+    number(coded(answer))
+}
+
+/// `NamedPool::insq`.
+#[unsafe(no_mangle)]
+pub extern "C" fn strm_c_insq(
+    alloc: Global,
+    pool: &mut StrmPool,
+    queue: u32,
+    place: u32,
+    msg: Name,
+) -> i32
+    ensures { Does plain Ok (λ v. on_name v msg (on_queues v.pool (queues.insq (capped queue) place msg.head (queued v.pool)))) (msg.head ∷ []) pool.old.named pool.new.named result tt tt }
+{
+    let mut named = opened!(alloc, pool);
+    let answer = named.insq(capped(queue), place, msg);
+    pool.hold(named);
+    number(coded(answer))
+}
+
+/// `NamedPool::getq`: the name of the message goes to `msg`; `Nothing` where the queue is empty.
+#[unsafe(no_mangle)]
+pub extern "C" fn strm_c_getq(alloc: Global, pool: &mut StrmPool, queue: u32, msg: &mut Name) -> i32
+    ensures { Does any_message any (λ v. outcome_of (on_queues v.pool (queues.getq (capped queue) (queued v.pool)))) [] pool.old.named pool.new.named result msg.old msg.new }
+{
+    let mut named = opened!(alloc, pool);
+    let answer = named.getq(capped(queue));
+    pool.hold(named);
+    put(coded_any(answer), msg)
+}
+
+/// `NamedPool::rmvq`: the name of the message goes to `msg`.
+#[unsafe(no_mangle)]
+pub extern "C" fn strm_c_rmvq(
+    alloc: Global,
+    pool: &mut StrmPool,
+    queue: u32,
+    place: u32,
+    msg: &mut Name,
+) -> i32
+    ensures { Does one_message Ok (λ v. outcome_of (on_queues v.pool (queues.rmvq (capped queue) place (queued v.pool)))) [] pool.old.named pool.new.named result msg.old msg.new }
+{
+    let mut named = opened!(alloc, pool);
+    let answer = named.rmvq(capped(queue), place);
+    pool.hold(named);
+    put(coded(answer), msg)
+}
+
+/// `NamedPool::qsize`: the number of messages goes to `msgs`.
+#[unsafe(no_mangle)]
+pub extern "C" fn strm_c_qsize(
+    alloc: Global,
+    pool: &mut StrmPool,
+    queue: u32,
+    msgs: &mut u32,
+) -> i32
+    ensures { Asks (λ v. told_of_refused Ok (answer_of (queues.qsize (capped queue) (queued v.pool)))) pool.old.named pool.new.named result msgs.old msgs.new }
+{
+    let named = opened!(alloc, pool);
+    let answer = named.qsize(capped(queue));
+    pool.hold(named);
+    put(coded_refusal(answer), msgs)
+}
+
+/// `NamedPool::flushq`. A number that stands for no flush is a `BadArgument`.
+#[unsafe(no_mangle)]
+pub extern "C" fn strm_c_flushq(alloc: Global, pool: &mut StrmPool, queue: u32, flush: u32) -> i32
+    ensures { Ranged (flush_of flush) (λ f. DoesOnPool Ok (λ p. on_queues p (queues.flushq (capped queue) f (queued p)))) pool.old.named pool.new.named result tt tt }
+{
+    let mut named = opened!(alloc, pool);
+    let flush = ranged!(flush_of(flush), pool, named);
+    let answer = named.flushq(capped(queue), flush);
+    pool.hold(named);
+    number(coded_refusal(answer))
+}
+
+/// `NamedPool::flushband`. A band above 255, or a number that stands for no flush, is a `BadArgument`.
+#[unsafe(no_mangle)]
+pub extern "C" fn strm_c_flushband(
+    alloc: Global,
+    pool: &mut StrmPool,
+    queue: u32,
+    band: u32,
+    flush: u32,
+) -> i32
+    ensures { Ranged (band_of band) (λ b. Ranged (flush_of flush) (λ f. DoesOnPool Ok (λ p. on_queues p (queues.flushband (capped queue) b f (queued p))))) pool.old.named pool.new.named result tt tt }
+{
+    let mut named = opened!(alloc, pool);
+    let band = ranged!(band_of(band), pool, named);
+    let flush = ranged!(flush_of(flush), pool, named);
+    let answer = named.flushband(capped(queue), band, flush);
+    pool.hold(named);
+    number(coded_refusal(answer))
+}

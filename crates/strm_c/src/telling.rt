@@ -1,0 +1,78 @@
+//! The calls that tell of a pool.
+ghost use Rattle.std.specs.Prelude.{◌≡◌, Ok, option_map, slice_get};
+ghost use Rattle.strm_data.specs.DataStore.{class_infos};
+ghost use Rattle.strm_mblk.specs.Arena.{census_of};
+ghost use Rattle.strm_mblk.specs.Given.{answer_of};
+ghost use Rattle.strm_queue.specs.QueueCalls as queues;
+ghost use Rattle.strm_pool.specs.PoolValue.{queued};
+ghost use Rattle.strm_c.specs.Codes.{any, told_of_refused};
+ghost use Rattle.strm_c.specs.Exports.{Asks, Ranged};
+ghost use Rattle.strm_c.specs.InC.{band_in_c, band_of, capped, census_in_c, class_in_c, queue_in_c};
+
+use crate::answer::{coded_refusal, opened, present, put, ranged};
+use crate::code::Code;
+use crate::handle::StrmPool;
+use crate::layout::{StrmBandInfo, StrmCensus, StrmClassInfo, StrmQueueInfo};
+use crate::numbers::{band_of, capped};
+use std::alloc::Global;
+
+/// `NamedPool::census`: the counts go to `census`.
+#[unsafe(no_mangle)]
+pub extern "C" fn strm_c_census(alloc: Global, pool: &mut StrmPool, census: &mut StrmCensus) -> i32
+    ensures { Asks (λ v. Ok (census_in_c (census_of v.pool.arena))) pool.old.named pool.new.named result census.old census.new }
+{
+    let named = opened!(alloc, pool);
+    let answer = named.census();
+    pool.hold(named);
+    put(Ok(StrmCensus::of(answer)), census)
+}
+
+/// `NamedPool::class_info`: what there is to tell goes to `info`; `Nothing` where there is no such class.
+#[unsafe(no_mangle)]
+pub extern "C" fn strm_c_class_info(
+    alloc: Global,
+    pool: &mut StrmPool,
+    place: u32,
+    info: &mut StrmClassInfo,
+) -> i32
+    ensures { Asks (λ v. any (option_map class_in_c (slice_get (class_infos v.pool.arena.store) (capped place)))) pool.old.named pool.new.named result info.old info.new }
+{
+    let named = opened!(alloc, pool);
+    let answer = named.class_info(capped(place));
+    pool.hold(named);
+    put(present(answer.map(StrmClassInfo::of)), info)
+}
+
+/// `NamedPool::queue_info`: what there is to tell goes to `info`.
+#[unsafe(no_mangle)]
+pub extern "C" fn strm_c_queue_info(
+    alloc: Global,
+    pool: &mut StrmPool,
+    queue: u32,
+    info: &mut StrmQueueInfo,
+) -> i32
+    ensures { Asks (λ v. told_of_refused (λ i. Ok (queue_in_c i)) (answer_of (queues.queue_info (capped queue) (queued v.pool)))) pool.old.named pool.new.named result info.old info.new }
+{
+    let named = opened!(alloc, pool);
+    let answer = named.queue_info(capped(queue));
+    pool.hold(named);
+    put(coded_refusal(answer).map(StrmQueueInfo::of), info)
+}
+
+/// `NamedPool::band_info`: what there is to tell goes to `info`. A band above 255 is a `BadArgument`.
+#[unsafe(no_mangle)]
+pub extern "C" fn strm_c_band_info(
+    alloc: Global,
+    pool: &mut StrmPool,
+    queue: u32,
+    band: u32,
+    info: &mut StrmBandInfo,
+) -> i32
+    ensures { Ranged (band_of band) (λ b. Asks (λ v. told_of_refused (λ i. Ok (band_in_c i)) (answer_of (queues.band_info (capped queue) b (queued v.pool))))) pool.old.named pool.new.named result info.old info.new }
+{
+    let named = opened!(alloc, pool);
+    let band = ranged!(band_of(band), pool, named);
+    let answer = named.band_info(capped(queue), band);
+    pool.hold(named);
+    put(coded_refusal(answer).map(StrmBandInfo::of), info)
+}
