@@ -13,13 +13,15 @@ BUILT := crates/strm_driver/out/strm_driver
 # The program whose rounds of calls are counted.
 ROUNDS := crates/strm_bench/out/strm_bench
 SOURCES := crates.txt HANDLES $(shell find crates -path '*/out' -prune -o \( -name '*.rt' -o -name '*.antt' \) -print)
+# The proved part of libstrm.a, which `rt lib` builds.
+PROVED := crates/strm_c/out/libstrm_c.a
 # What `rt` said when it last proved and built the program.
 LOG := build/proving.log
 
 # Ends with one line where there is no `rt`.
 NEEDS_RT = $(if $(shell command -v rt 2>/dev/null),,$(error Rattle's command rt is not on PATH, and README.md says which is wanted))
 
-.PHONY: run test soak field view-test pictures bench bench-lines bench-library bench-census strm install install-pages vendor
+.PHONY: run test soak field view-test pictures bench bench-lines bench-library bench-census strm install install-pages lib install-lib vendor
 
 # Runs the first run's script, once the program is proved.
 run: $(BUILT)
@@ -81,9 +83,40 @@ install-pages:
 	install -D -m 644 completions/strm.bash $(SHARE)/bash-completion/completions/strm
 	install -D -m 644 completions/_strm $(SHARE)/zsh/site-functions/_strm
 
+# Puts the static library for C at build/libstrm.a, and what pkg-config tells of it at build/strm.pc.
+lib: build/libstrm.a build/strm.pc
+
+# The proved part, the border in C, which tells null pointers, and the toolchain's heap over malloc.
+build/libstrm.a: $(PROVED) c/strm.c c/strm_c.h c/strm.h
+	$(NEEDS_RT)
+	@mkdir -p build
+	$(CC) -std=c89 -O2 -fPIC -Wall -Wextra -pedantic -Ic -c c/strm.c -o build/strm.o
+	cp $(PROVED) build/libstrm.a
+	cd build && $(AR) x "$$(dirname "$$(rt doc)")/c/liblibc_c.a" heap.pic.o && $(AR) r libstrm.a strm.o heap.pic.o
+
+build/strm.pc: c/strm.pc.in VERSION FORCE
+	@mkdir -p build
+	@sed 's:@PREFIX@:$(PREFIX):; s/@VERSION@/$(VERSION)/' c/strm.pc.in >build/strm.pc
+
+.PHONY: FORCE
+FORCE:
+
+# Installs the static library with its header, its pkg-config file and its pages of section 3.
+install-lib: lib
+	install -D -m 644 build/libstrm.a $(DESTDIR)$(PREFIX)/lib/libstrm.a
+	install -D -m 644 build/strm.pc $(DESTDIR)$(PREFIX)/lib/pkgconfig/strm.pc
+	install -D -m 644 c/strm.h $(DESTDIR)$(PREFIX)/include/strm.h
+	install -d $(SHARE)/man/man3
+	tools/c_pages $(SHARE)/man/man3
+
 # Puts CRATE and the crates below it into the repository whose top is TO. It needs no `rt`, and writes nothing where it refuses.
 vendor:
 	@$(if $(TO),,$(error make vendor TO=DIR wants the top of a repository))tools/vendor $(CRATE) $(TO)
+
+# Only a proved library is built.
+$(PROVED): $(SOURCES)
+	$(NEEDS_RT)
+	@cd crates/strm_c && rt lib
 
 # Only a proved program is built. `rt run` keeps its work, and runs the program once.
 $(BUILT): $(SOURCES)

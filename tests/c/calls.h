@@ -1,0 +1,54 @@
+/* Calls on a pool as data, with registers for messages, and the replies to them: those of the program strm. */
+#ifndef CALLS_H
+#define CALLS_H
+
+#include "strm.h"
+
+#include <stdio.h>
+
+#define REGISTERS 26
+#define MOST_OCTETS 64
+
+enum verb {
+	ALLOCB, TESTB, DUPB, DUPMSG, COPYB, COPYMSG, WRITE, SETTYPE, SETBAND, LINKB, UNLINKB, RMVB, ADJMSG, PULLUPMSG, MSGDSIZE, SIZE,
+	READ, BLOCK, FREEB, FREEMSG, PUTQ, PUTBQ, INSQ, GETQ, RMVQ, FLUSHQ, FLUSHBAND, BCANPUT, STRQSET, STRQGET, QSIZE, QENABLE,
+	NOENABLE, ENABLEOK, SERVICE, BUFCALL, UNBUFCALL, READY, CENSUS, VERBS
+};
+
+/* What a verb names, as letters in the order of its line: q a queue, x and z registers that it takes from, y one that it puts into,
+ * k a place, b a band, n a number, s one with a sign, t a type, f a flush, o octets, h and l water marks. */
+struct form {
+	const char *word, *names;
+};
+extern const struct form forms[VERBS];
+
+struct call {
+	enum verb verb;
+	int x, y, z;
+	uint32_t queue, place, band, number, type, flush, hiwat, lowat, length;
+	int32_t count;
+	uint8_t octets[MOST_OCTETS];
+};
+
+enum kind {
+	DONE, YES, NO, NOTHING, EMPTY, TAKEN, TOLD_SIZE, TOLD_BYTES, TOLD_BLOCK, TOLD_ID, TOLD_READY, TOLD_QUEUE, TOLD_MARKS,
+	TOLD_CENSUS, REFUSED
+};
+
+struct reply {
+	enum kind kind;
+	uint32_t numbers[5];	/* what is told, in the order of the reply's line; of bytes how many; of a refusal its code */
+	uint8_t octets[MOST_OCTETS];
+};
+
+struct reply reply_of(enum kind kind);
+struct reply refused(int code);
+struct reply told(enum kind kind, uint32_t first, uint32_t second);
+int same_reply(const struct reply *a, const struct reply *b);
+
+/* The header, a call and a reply, as lines of a script and of its text. */
+void print_header(FILE *to, const struct strm_config *config);
+void print_call(FILE *to, const struct call *call);
+void print_reply(FILE *to, const struct reply *reply);
+
+#endif

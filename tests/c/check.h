@@ -1,0 +1,33 @@
+/* Checks that are counted, for tests that go on where one fails. */
+#ifndef CHECK_H
+#define CHECK_H
+
+#include "strm.h"
+
+#include <stdio.h>
+#include <string.h>
+
+/* Counts a check, and tells one that fails. */
+void check(int holds, const char *file, int line, const char *what);
+
+#define CHECK(what) check(what, __FILE__, __LINE__, #what)
+
+/* A call answers a code. */
+#define ANSWERS(call, code) CHECK((call) == (code))
+
+/* How many message blocks are free, queued and held. */
+#define CENSUS(pool, f, q, h) CHECK(has_census(pool, f, q, h))
+int has_census(struct strm_pool *pool, uint32_t free, uint32_t queued, uint32_t held);
+
+/* Whether a message has these bytes. */
+int has_bytes(struct strm_pool *pool, struct strm_msg msg, const char *bytes);
+
+/* A message of one block with these bytes. */
+struct strm_msg message(struct strm_pool *pool, const char *bytes);
+
+int same_name(struct strm_msg a, struct strm_msg b);
+
+/* Prints 'N passed, M failed', and gives the status. */
+int summary(void);
+
+#endif

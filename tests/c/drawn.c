@@ -1,0 +1,325 @@
+/*
+ * Draws calls, has the pool of strm.h and the plain model do each, and compares their replies and, behind each call, all that there is.
+ *
+ *     drawn CALLS SEED            compares; the last line is 'N passed, M failed', which counts pools
+ *     drawn CALLS SEED SCRIPT     writes a script of the calls of one pool, and the model's replies as lines to standard output
+ */
+#include "face.h"
+#include "model.h"
+
+#include <stdlib.h>
+#include <string.h>
+
+/* How many calls one pool gets, and after how many every band is looked at. */
+#define CALLS_OF_A_POOL 20000
+#define CALLS_TO_ALL_BANDS 1000
+
+/* How often each verb comes, beside the others. */
+static const unsigned weights[VERBS] = {
+	14, 1, 2, 3, 1, 2, 16, 4, 3, 5, 2, 2, 4, 5, 1, 1, 2, 2, 2, 3, 7, 2, 3, 6, 3, 1, 1, 8, 3, 1, 1, 1, 1, 2, 3, 3, 1, 2, 1
+};
+static const uint32_t drawn_bands[] = { 0, 0, 0, 1, 2, 7, 255 };
+#define DRAWN_BANDS (sizeof drawn_bands / sizeof drawn_bands[0])
+
+/* ---- dice: the same on every run with the same seed */
+
+static uint64_t state;
+
+static uint32_t below(uint32_t bound)
+{
+	state ^= state << 13;
+	state ^= state >> 7;
+	state ^= state << 17;
+	return (uint32_t)((state >> 32) % bound);
+}
+
+static uint32_t drawn_band(void)
+{
+	return drawn_bands[below(DRAWN_BANDS)];
+}
+
+/* ---- a pool */
+
+struct setup {
+	struct strm_config config;
+	struct strm_class_spec classes[3];
+	struct strm_queue_spec queues[5];
+};
+
+static void draw_setup(struct setup *setup, uint32_t id)
+{
+	uint32_t i, size = 0;
+
+	setup->config.id = id;
+	setup->config.mblks = 1 + below(40);
+	setup->config.class_count = 1 + below(3);
+	setup->config.queue_count = 1 + below(5);
+	setup->config.bufcalls = below(5);
+	setup->config.first_id = below(8) == 0 ? 4294967290u : 1 + below(100);
+	setup->config.classes = setup->classes;
+	setup->config.queues = setup->queues;
+	for (i = 0; i < setup->config.class_count; i++) {
+		size += 1 + below(24);
+		setup->classes[i].size = size;
+		setup->classes[i].count = 1 + below(20);
+	}
+	for (i = 0; i < setup->config.queue_count; i++) {
+		setup->queues[i].hiwat = 1 + below(30);
+		setup->queues[i].lowat = below(setup->queues[i].hiwat);
+		setup->queues[i].service = below(3) > 0;
+		setup->queues[i].next = i + 1 < setup->config.queue_count && below(3) > 0 ? i + 1 : STRM_NO_QUEUE;
+	}
+}
+
+/* ---- a call */
+
+/* A register that holds a message, or mostly so; or one that holds none. */
+static int drawn_register(const struct model *model, int holding)
+{
+	int i, reg = (int)below(REGISTERS);
+
+	if (below(16) == 0)
+		return reg;
+	for (i = 0; i < REGISTERS; i++, reg = (reg + 1) % REGISTERS)
+		if ((model_blocks(model, reg) > 0) == holding)
+			return reg;
+	return reg;
+}
+
+static enum verb drawn_verb(void)
+{
+	uint32_t all = 0, at;
+	int verb;
+
+	for (verb = 0; verb < VERBS; verb++)
+		all += weights[verb];
+	at = below(all);
+	for (verb = 0; at >= weights[verb]; verb++)
+		at -= weights[verb];
+	return (enum verb)verb;
+}
+
+static struct call drawn_call(const struct model *model, const struct setup *setup)
+{
+	struct call call;
+	uint32_t i;
+
+	memset(&call, 0, sizeof call);
+	call.verb = drawn_verb();
+	call.x = drawn_register(model, 1);
+	call.y = drawn_register(model, 0);
+	call.z = drawn_register(model, 1);
+	call.queue = below(20) == 0 ? below(256) : below((uint32_t)setup->config.queue_count);
+	call.place = below(3);
+	call.band = drawn_band();
+	call.number = call.verb == UNBUFCALL ? setup->config.first_id + below(20) : below(44);
+	call.type = below(2) == 0 ? (uint32_t)STRM_M_DATA : below(STRM_TYPES);
+	call.flush = below(2);
+	call.hiwat = 1 + below(30);
+	call.lowat = below(31);
+	call.count = below(3) == 0 ? -1 : (int32_t)below(24) - 8;
+	call.length = below(4) == 0 ? below(MOST_OCTETS + 1) : below(10);
+	if (call.verb == WRITE)
+		for (i = 0; i < call.length; i++)
+			call.octets[i] = (uint8_t)below(256);
+	return call;
+}
+
+/* ---- what is compared behind each call */
+
+static int same_registers(struct face *face, const struct model *model)
+{
+	uint8_t wanted[STRM_MOST_DATA_BYTES], found[STRM_MOST_DATA_BYTES];
+	struct strm_block_info block, of_model;
+	uint32_t yes, bytes, place, blocks, length;
+	size_t count;
+	int reg;
+
+	for (reg = 0; reg < REGISTERS; reg++) {
+		struct strm_msg name = face->registers[reg];
+
+		blocks = model_blocks(model, reg);
+		if (strm_has(&face->pool, name, &yes) != STRM_OK || yes != (blocks > 0) || face->holds[reg] != (blocks > 0))
+			return 0;
+		if (blocks == 0)
+			continue;
+		if (name.head != model_head(model, reg))
+			return 0;
+		for (place = 0; place < blocks; place++) {
+			of_model = model_block(model, reg, place);
+			if (strm_block(&face->pool, name, place, &block) != STRM_OK || memcmp(&block, &of_model, sizeof block) != 0)
+				return 0;
+		}
+		if (strm_block(&face->pool, name, blocks, &block) != STRM_NO_SUCH_BLOCK)
+			return 0;
+		if (strm_size(&face->pool, name, &bytes) != STRM_OK || bytes != model_size(model, reg))
+			return 0;
+		if (strm_msgdsize(&face->pool, name, &bytes) != STRM_OK || bytes != model_msgdsize(model, reg))
+			return 0;
+		length = model_read(model, reg, 0, wanted, sizeof wanted);
+		if (strm_read(&face->pool, name, 0, found, sizeof found, &count) != STRM_OK || count != length
+		    || memcmp(wanted, found, length) != 0)
+			return 0;
+	}
+	return 1;
+}
+
+static int same_band(struct face *face, const struct model *model, uint32_t queue, uint32_t band)
+{
+	struct strm_band_info wanted = model_band(model, queue, band), found;
+	struct strm_marks of_model = model_marks(model, queue, band), marks;
+
+	return strm_band_info(&face->pool, queue, band, &found) == STRM_OK && memcmp(&wanted, &found, sizeof found) == 0
+		&& strm_strqget(&face->pool, queue, band, &marks) == STRM_OK && memcmp(&marks, &of_model, sizeof marks) == 0;
+}
+
+static int same_queues(struct face *face, const struct model *model, uint32_t queues, int all_bands)
+{
+	struct strm_queue_info wanted, found;
+	uint32_t queue, i;
+
+	for (queue = 0; queue < queues; queue++) {
+		wanted = model_queue(model, queue);
+		if (strm_queue_info(&face->pool, queue, &found) != STRM_OK || memcmp(&wanted, &found, sizeof found) != 0)
+			return 0;
+		for (i = 0; i < (all_bands ? STRM_BANDS : DRAWN_BANDS); i++)
+			if (!same_band(face, model, queue, all_bands ? i : drawn_bands[i]))
+				return 0;
+	}
+	return 1;
+}
+
+static int same_census(struct face *face, const struct model *model)
+{
+	struct strm_census wanted = model_census(model), found;
+
+	return strm_census(&face->pool, &found) == STRM_OK && memcmp(&wanted, &found, sizeof found) == 0;
+}
+
+static int same_rest(struct face *face, const struct model *model, uint32_t classes)
+{
+	struct strm_class_info of_model, info;
+	struct strm_wish wanted, wish;
+	uint32_t i, queue = 0, of_run = 0;
+
+	for (i = 0; i < classes; i++) {
+		of_model = model_class(model, i);
+		if (strm_class_info(&face->pool, i, &info) != STRM_OK || memcmp(&of_model, &info, sizeof info) != 0)
+			return 0;
+	}
+	for (i = 0; model_run_at(model, i, &of_run); i++)
+		if (strm_run_at(&face->pool, i, &queue) != STRM_OK || queue != of_run)
+			return 0;
+	if (strm_run_at(&face->pool, i, &queue) != STRM_NONE)
+		return 0;
+	for (i = 0; model_wish_at(model, i, &wanted); i++)
+		if (strm_wish_at(&face->pool, i, &wish) != STRM_OK || memcmp(&wanted, &wish, sizeof wish) != 0)
+			return 0;
+	return strm_wish_at(&face->pool, i, &wish) == STRM_NONE;
+}
+
+/* ---- runs */
+
+/* Whether pool and model answer a call alike. An empty register comes before a queue that is not there, since names are looked at first. */
+static int same_answer(struct face *face, const struct call *call, const struct reply *wanted)
+{
+	struct reply found, empty = reply_of(EMPTY);
+	int names_empty = strchr(forms[call->verb].names, 'x') != NULL && !face->holds[call->x];
+
+	found = face_apply(face, call);
+	return !face->broken && same_reply(&found, names_empty ? &empty : wanted);
+}
+
+static int tell(const struct call *call, unsigned long number, const char *what)
+{
+	printf("call %lu: %s: ", number, what);
+	print_call(stdout, call);
+	return 0;
+}
+
+static int run_calls(struct face *face, struct model *model, const struct setup *setup, unsigned long calls)
+{
+	unsigned long i;
+
+	for (i = 0; i < calls; i++) {
+		struct call call = drawn_call(model, setup);
+		struct reply wanted = model_apply(model, &call);
+
+		if (wanted.kind == TAKEN)
+			continue;
+		if (!same_answer(face, &call, &wanted))
+			return tell(&call, i, "another answer");
+		if (!same_census(face, model))
+			return tell(&call, i, "another census");
+		if (!same_registers(face, model))
+			return tell(&call, i, "other messages");
+		if (!same_queues(face, model, (uint32_t)setup->config.queue_count, i % CALLS_TO_ALL_BANDS == 0))
+			return tell(&call, i, "other queues");
+		if (!same_rest(face, model, (uint32_t)setup->config.class_count))
+			return tell(&call, i, "another pool");
+	}
+	return 1;
+}
+
+static int run_pool(uint32_t id, unsigned long calls)
+{
+	static const struct strm_pool closed = STRM_POOL_INIT;
+	struct face face;
+	struct model *model;
+	struct setup setup;
+	int passed;
+
+	memset(&face, 0, sizeof face);
+	face.pool = closed;
+	draw_setup(&setup, id);
+	model = model_open(&setup.config);
+	if (model == NULL || strm_open(&face.pool, &setup.config) != STRM_OK) {
+		printf("no memory\n");
+		return 0;
+	}
+	passed = run_calls(&face, model, &setup, calls);
+	model_close(model);
+	return strm_close(&face.pool) == STRM_OK && passed;
+}
+
+static int write_script(const char *path, unsigned long calls)
+{
+	struct setup setup;
+	struct model *model;
+	FILE *script = fopen(path, "w");
+	unsigned long i;
+
+	draw_setup(&setup, 1);
+	model = model_open(&setup.config);
+	if (script == NULL || model == NULL)
+		return EXIT_FAILURE;
+	print_header(script, &setup.config);
+	for (i = 0; i < calls; i++) {
+		struct call call = drawn_call(model, &setup);
+		struct reply reply = model_apply(model, &call);
+
+		print_call(script, &call);
+		print_reply(stdout, &reply);
+	}
+	model_close(model);
+	return fclose(script) == 0 ? EXIT_SUCCESS : EXIT_FAILURE;
+}
+
+int main(int argc, char **argv)
+{
+	unsigned long calls, done, passed = 0, failed = 0;
+
+	if (argc < 3)
+		return EXIT_FAILURE;
+	calls = strtoul(argv[1], NULL, 10);
+	state = 0x9E3779B97F4A7C15u ^ strtoul(argv[2], NULL, 10);
+	if (argc > 3)
+		return write_script(argv[3], calls);
+	for (done = 0; done < calls; done += CALLS_OF_A_POOL)
+		if (run_pool((uint32_t)(passed + 1), calls - done < CALLS_OF_A_POOL ? calls - done : CALLS_OF_A_POOL))
+			passed++;
+		else
+			failed++;
+	printf("%lu passed, %lu failed\n", passed, failed);
+	return failed == 0 ? EXIT_SUCCESS : EXIT_FAILURE;
+}

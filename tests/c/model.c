@@ -1,0 +1,993 @@
+#include "model.h"
+
+#include <stdlib.h>
+#include <string.h>
+
+/* A data block; free ones are in a list. */
+struct datum {
+	struct datum *next;
+	uint32_t class_number, type;
+	uint8_t *bytes;
+};
+
+/* A message block; a message is a list of them, and so are the free ones. */
+struct cell {
+	struct cell *next;
+	struct datum *datum;
+	uint32_t number, read, write, band;
+};
+
+/* A message on a queue. */
+struct item {
+	struct item *next;
+	struct cell *message;
+};
+
+struct line {
+	struct strm_queue_spec spec;
+	struct strm_marks marks[STRM_BANDS];
+	struct item *items;
+	int wants_to_read, enabling_is_off, wanted[STRM_BANDS];
+};
+
+struct model {
+	struct strm_class_spec classes[STRM_MOST_CLASSES];
+	uint32_t class_count, queue_count, mblks, bufcalls;
+	double next_id;		/* as a number that can be above the last id */
+	struct datum *free_data[STRM_MOST_CLASSES], *all_data;
+	struct cell *free_cells, *all_cells;
+	struct item *all_items, *free_items;
+	uint8_t *all_bytes;
+	struct line queues[STRM_MOST_QUEUES];
+	struct cell *registers[REGISTERS];
+	uint32_t run[STRM_MOST_QUEUES], run_count, wish_count;
+	struct strm_wish wishes[STRM_MOST_WISHES];
+};
+
+/* ---- lists */
+
+static uint32_t length_of(const struct cell *m)
+{
+	return m == NULL ? 0 : 1 + length_of(m->next);
+}
+
+static struct cell *cell_at(struct cell *m, uint32_t place)
+{
+	while (m != NULL && place > 0) {
+		m = m->next;
+		place--;
+	}
+	return m;
+}
+
+static struct cell *last_of(struct cell *m)
+{
+	while (m->next != NULL)
+		m = m->next;
+	return m;
+}
+
+static uint32_t bytes_in(const struct cell *m)
+{
+	return m == NULL ? 0 : m->write - m->read + bytes_in(m->next);
+}
+
+/* How many blocks of a message name a data block. */
+static uint32_t names_in(const struct cell *m, const struct datum *d)
+{
+	return m == NULL ? 0 : (m->datum == d) + names_in(m->next, d);
+}
+
+static uint32_t names_of(const struct model *v, const struct datum *d)
+{
+	const struct item *item;
+	uint32_t i, sum = 0;
+
+	for (i = 0; i < REGISTERS; i++)
+		sum += names_in(v->registers[i], d);
+	for (i = 0; i < v->queue_count; i++)
+		for (item = v->queues[i].items; item != NULL; item = item->next)
+			sum += names_in(item->message, d);
+	return sum;
+}
+
+/* ---- blocks */
+
+static uint32_t capacity(const struct model *v, const struct datum *d)
+{
+	return v->classes[d->class_number].size;
+}
+
+/* Where a free data block for a size stands first; null where there is none. */
+static struct datum **free_for(struct model *v, uint32_t size)
+{
+	uint32_t c;
+
+	for (c = 0; c < v->class_count; c++)
+		if (v->classes[c].size >= size && v->free_data[c] != NULL)
+			return &v->free_data[c];
+	return NULL;
+}
+
+static int is_too_large(const struct model *v, uint32_t size)
+{
+	return size > v->classes[v->class_count - 1].size;
+}
+
+static struct datum *datum_taken(struct model *v, uint32_t size, uint32_t type)
+{
+	struct datum **from = free_for(v, size), *d;
+
+	if (from == NULL)
+		return NULL;
+	d = *from;
+	*from = d->next;
+	d->type = type;
+	return d;
+}
+
+static void datum_freed(struct model *v, struct datum *d)
+{
+	d->next = v->free_data[d->class_number];
+	v->free_data[d->class_number] = d;
+}
+
+/* Frees the blocks of a message that stands nowhere any more, first to last, each with its data where nothing else names it. */
+static void cells_freed(struct model *v, struct cell *m)
+{
+	struct cell *rest;
+
+	if (m == NULL)
+		return;
+	rest = m->next;
+	if (names_of(v, m->datum) + names_in(rest, m->datum) == 0)
+		datum_freed(v, m->datum);
+	m->next = v->free_cells;
+	v->free_cells = m;
+	cells_freed(v, rest);
+}
+
+static struct cell *cell_taken(struct model *v, struct datum *d, uint32_t read, uint32_t write, uint32_t band)
+{
+	struct cell *cell = v->free_cells;
+
+	v->free_cells = cell->next;
+	cell->next = NULL;
+	cell->datum = d;
+	cell->read = read;
+	cell->write = write;
+	cell->band = band;
+	return cell;
+}
+
+/* ---- opening */
+
+static int has_memory(const struct model *v)
+{
+	return v->all_data != NULL && v->all_cells != NULL && v->all_items != NULL && v->all_bytes != NULL;
+}
+
+static void open_data(struct model *v)
+{
+	uint8_t *bytes = v->all_bytes;
+	struct datum *d = v->all_data, **end;
+	uint32_t c, i;
+
+	for (c = 0; c < v->class_count; c++) {
+		end = &v->free_data[c];
+		for (i = 0; i < v->classes[c].count; i++, d++) {
+			d->class_number = c;
+			d->bytes = bytes;
+			bytes += v->classes[c].size;
+			*end = d;
+			end = &d->next;
+		}
+	}
+}
+
+static void open_cells(struct model *v)
+{
+	uint32_t i;
+
+	for (i = v->mblks; i-- > 0;) {
+		v->all_cells[i].number = i;
+		v->all_cells[i].next = v->free_cells;
+		v->free_cells = &v->all_cells[i];
+		v->all_items[i].next = v->free_items;
+		v->free_items = &v->all_items[i];
+	}
+}
+
+static void open_queues(struct model *v, const struct strm_queue_spec *specs)
+{
+	uint32_t q, b;
+
+	for (q = 0; q < v->queue_count; q++) {
+		v->queues[q].spec = specs[q];
+		v->queues[q].wants_to_read = 1;
+		for (b = 0; b < STRM_BANDS; b++) {
+			v->queues[q].marks[b].hiwat = specs[q].hiwat;
+			v->queues[q].marks[b].lowat = specs[q].lowat;
+		}
+	}
+}
+
+struct model *model_open(const struct strm_config *config)
+{
+	struct model *v = (struct model *)calloc(1, sizeof *v);
+	size_t i, bytes = 0, data = 0;
+
+	if (v == NULL)
+		return NULL;
+	v->mblks = config->mblks;
+	v->class_count = (uint32_t)config->class_count;
+	v->queue_count = (uint32_t)config->queue_count;
+	v->bufcalls = config->bufcalls;
+	v->next_id = config->first_id;
+	for (i = 0; i < config->class_count; i++) {
+		v->classes[i] = config->classes[i];
+		data += config->classes[i].count;
+		bytes += (size_t)config->classes[i].size * config->classes[i].count;
+	}
+	v->all_data = (struct datum *)calloc(data, sizeof *v->all_data);
+	v->all_cells = (struct cell *)calloc(v->mblks, sizeof *v->all_cells);
+	v->all_items = (struct item *)calloc(v->mblks, sizeof *v->all_items);
+	v->all_bytes = (uint8_t *)calloc(bytes, 1);
+	if (!has_memory(v)) {
+		model_close(v);
+		return NULL;
+	}
+	open_data(v);
+	open_cells(v);
+	open_queues(v, config->queues);
+	return v;
+}
+
+void model_close(struct model *v)
+{
+	free(v->all_data);
+	free(v->all_cells);
+	free(v->all_items);
+	free(v->all_bytes);
+	free(v);
+}
+
+/* ---- told */
+
+uint32_t model_blocks(const struct model *v, int reg)
+{
+	return length_of(v->registers[reg]);
+}
+
+uint32_t model_head(const struct model *v, int reg)
+{
+	return v->registers[reg]->number;
+}
+
+struct strm_block_info model_block(const struct model *v, int reg, uint32_t place)
+{
+	const struct cell *cell = cell_at(v->registers[reg], place);
+	struct strm_block_info info;
+
+	info.type = cell->datum->type;
+	info.length = cell->write - cell->read;
+	info.band = cell->band;
+	info.room = capacity(v, cell->datum) - cell->write;
+	info.names = names_of(v, cell->datum);
+	return info;
+}
+
+uint32_t model_size(const struct model *v, int reg)
+{
+	return bytes_in(v->registers[reg]);
+}
+
+uint32_t model_msgdsize(const struct model *v, int reg)
+{
+	const struct cell *cell;
+	uint32_t sum = 0;
+
+	for (cell = v->registers[reg]; cell != NULL; cell = cell->next)
+		if (cell->datum->type == STRM_M_DATA)
+			sum += cell->write - cell->read;
+	return sum;
+}
+
+/* Byte by byte, from a place on. */
+static uint32_t bytes_read(const struct cell *m, uint32_t at, uint8_t *into, uint32_t length)
+{
+	uint32_t place = 0, count = 0, i;
+
+	for (; m != NULL; m = m->next)
+		for (i = m->read; i < m->write; i++, place++)
+			if (place >= at && count < length)
+				into[count++] = m->datum->bytes[i];
+	return count;
+}
+
+uint32_t model_read(const struct model *v, int reg, uint32_t at, uint8_t *into, uint32_t length)
+{
+	return bytes_read(v->registers[reg], at, into, length);
+}
+
+struct strm_census model_census(const struct model *v)
+{
+	const struct item *item;
+	struct strm_census census = { 0, 0, 0 };
+	uint32_t i;
+
+	census.free = length_of(v->free_cells);
+	for (i = 0; i < REGISTERS; i++)
+		census.held += length_of(v->registers[i]);
+	for (i = 0; i < v->queue_count; i++)
+		for (item = v->queues[i].items; item != NULL; item = item->next)
+			census.queued += length_of(item->message);
+	return census;
+}
+
+struct strm_class_info model_class(const struct model *v, uint32_t place)
+{
+	const struct datum *d;
+	struct strm_class_info info = { 0, 0, 0 };
+
+	info.size = v->classes[place].size;
+	info.total = v->classes[place].count;
+	for (d = v->free_data[place]; d != NULL; d = d->next)
+		info.free++;
+	return info;
+}
+
+/* ---- queues */
+
+static int is_high(const struct cell *m)
+{
+	switch (m->datum->type) {
+	case STRM_M_DATA: case STRM_M_PROTO: case STRM_M_BREAK: case STRM_M_PASSFP: case STRM_M_SIG: case STRM_M_DELAY:
+	case STRM_M_CTL: case STRM_M_IOCTL: case STRM_M_SETOPTS:
+		return 0;
+	default:
+		return 1;
+	}
+}
+
+static uint32_t rank_of(const struct cell *m)
+{
+	return is_high(m) ? 256 : m->band;
+}
+
+static int is_of_band(const struct cell *m, uint32_t band)
+{
+	return is_high(m) ? band == 0 : m->band == band;
+}
+
+static uint32_t bytes_of_band(const struct model *v, uint32_t q, uint32_t band)
+{
+	const struct item *item;
+	uint32_t sum = 0;
+
+	for (item = v->queues[q].items; item != NULL; item = item->next)
+		if (is_of_band(item->message, band))
+			sum += bytes_in(item->message);
+	return sum;
+}
+
+static int is_on_run(const struct model *v, uint32_t q)
+{
+	uint32_t i;
+
+	for (i = 0; i < v->run_count; i++)
+		if (v->run[i] == q)
+			return 1;
+	return 0;
+}
+
+struct strm_queue_info model_queue(const struct model *v, uint32_t q)
+{
+	const struct item *item;
+	struct strm_queue_info info = { 0, 0, 0, 0, 0 };
+
+	for (item = v->queues[q].items; item != NULL; item = item->next) {
+		info.msgs++;
+		info.bytes += bytes_in(item->message);
+	}
+	info.read = (uint32_t)v->queues[q].wants_to_read;
+	info.noenable = (uint32_t)v->queues[q].enabling_is_off;
+	info.enabled = (uint32_t)is_on_run(v, q);
+	return info;
+}
+
+struct strm_band_info model_band(const struct model *v, uint32_t q, uint32_t band)
+{
+	struct strm_band_info info;
+
+	info.bytes = bytes_of_band(v, q, band);
+	info.full = info.bytes >= v->queues[q].marks[band].hiwat;
+	info.wanted = (uint32_t)v->queues[q].wanted[band];
+	return info;
+}
+
+struct strm_marks model_marks(const struct model *v, uint32_t q, uint32_t band)
+{
+	return v->queues[q].marks[band];
+}
+
+int model_run_at(const struct model *v, uint32_t place, uint32_t *queue)
+{
+	if (place < v->run_count)
+		*queue = v->run[place];
+	return place < v->run_count;
+}
+
+int model_wish_at(const struct model *v, uint32_t place, struct strm_wish *wish)
+{
+	if (place < v->wish_count)
+		*wish = v->wishes[place];
+	return place < v->wish_count;
+}
+
+static void enabled(struct model *v, uint32_t q)
+{
+	if (v->queues[q].spec.service != 0 && !is_on_run(v, q))
+		v->run[v->run_count++] = q;
+}
+
+/* Enables the nearest queue behind that has a service procedure. */
+static void waker_enabled(struct model *v, uint32_t q)
+{
+	uint32_t i = 0;
+
+	while (i < v->queue_count)
+		if (v->queues[i].spec.next != q) {
+			i++;
+		} else if (v->queues[i].spec.service != 0) {
+			enabled(v, i);
+			return;
+		} else {
+			q = i;
+			i = 0;
+		}
+}
+
+static void settled(struct model *v, uint32_t q)
+{
+	uint32_t band, relieved = 0;
+
+	for (band = 0; band < STRM_BANDS; band++)
+		if (v->queues[q].wanted[band] && bytes_of_band(v, q, band) <= v->queues[q].marks[band].lowat) {
+			v->queues[q].wanted[band] = 0;
+			relieved++;
+		}
+	if (relieved > 0)
+		waker_enabled(v, q);
+}
+
+/* Where the item at a place is linked in, or the end of the list for any place behind it. */
+static struct item **link_at(struct model *v, uint32_t q, uint32_t place)
+{
+	struct item **at = &v->queues[q].items;
+
+	while (*at != NULL && place > 0) {
+		at = &(*at)->next;
+		place--;
+	}
+	return at;
+}
+
+static void item_put(struct model *v, struct item **at, struct cell *m)
+{
+	struct item *item = v->free_items;
+
+	v->free_items = item->next;
+	if (is_high(m))
+		m->band = 0;
+	item->message = m;
+	item->next = *at;
+	*at = item;
+}
+
+static struct cell *item_taken(struct model *v, struct item **at)
+{
+	struct item *item = *at;
+
+	*at = item->next;
+	item->next = v->free_items;
+	v->free_items = item;
+	return item->message;
+}
+
+/* ---- calls on messages, by the registers that hold them */
+
+/* Whether a data block would have too many names once each of the first blocks of a message has a duplicate. */
+static int exceeds_names(const struct model *v, const struct cell *m, uint32_t count)
+{
+	const struct cell *cell, *other;
+	uint32_t i, j, names;
+
+	for (i = 0, cell = m; i < count; i++, cell = cell->next) {
+		names = names_of(v, cell->datum);
+		for (j = 0, other = m; j < count; j++, other = other->next)
+			names += other->datum == cell->datum;
+		if (names > STRM_MOST_NAMES)
+			return 1;
+	}
+	return 0;
+}
+
+/* Takes a copy of the data of each of the first blocks of a message, all of them or none. */
+static int copies_taken(struct model *v, const struct cell *m, uint32_t count, struct datum **copies)
+{
+	uint32_t i;
+
+	for (i = 0; i < count; i++, m = m->next) {
+		copies[i] = datum_taken(v, capacity(v, m->datum), m->datum->type);
+		if (copies[i] == NULL) {
+			while (i-- > 0)
+				datum_freed(v, copies[i]);
+			return 0;
+		}
+		memcpy(copies[i]->bytes + m->read, m->datum->bytes + m->read, m->write - m->read);
+	}
+	return 1;
+}
+
+/* A message of as many new blocks, over the data of these or over copies. */
+static struct reply duplicated(struct model *v, const struct call *call, uint32_t count, int is_copy)
+{
+	static struct datum *copies[STRM_MOST_MBLKS];
+	const struct cell *from = v->registers[call->x];
+	struct cell *made = NULL, **end = &made;
+	uint32_t i;
+
+	if (length_of(v->free_cells) < count)
+		return refused(STRM_NO_MBLK);
+	if (!is_copy && exceeds_names(v, from, count))
+		return refused(STRM_REF_MAX);
+	if (is_copy && !copies_taken(v, from, count, copies))
+		return refused(STRM_NO_DATA);
+	for (i = 0; i < count; i++, from = from->next) {
+		*end = cell_taken(v, is_copy ? copies[i] : from->datum, from->read, from->write, from->band);
+		end = &(*end)->next;
+	}
+	v->registers[call->y] = made;
+	return reply_of(DONE);
+}
+
+static struct reply allocated(struct model *v, const struct call *call)
+{
+	struct datum *d;
+
+	if (is_too_large(v, call->number))
+		return refused(STRM_TOO_LARGE);
+	if (v->free_cells == NULL)
+		return refused(STRM_NO_MBLK);
+	d = datum_taken(v, call->number, STRM_M_DATA);
+	if (d == NULL)
+		return refused(STRM_NO_DATA);
+	v->registers[call->y] = cell_taken(v, d, 0, 0, 0);
+	return reply_of(DONE);
+}
+
+static struct reply written(struct model *v, const struct call *call)
+{
+	struct cell *cell = cell_at(v->registers[call->x], call->place);
+
+	if (cell == NULL)
+		return refused(STRM_NO_SUCH_BLOCK);
+	if (names_of(v, cell->datum) > 1)
+		return refused(STRM_SHARED);
+	if (cell->write + call->length > capacity(v, cell->datum))
+		return refused(STRM_NO_ROOM);
+	memcpy(cell->datum->bytes + cell->write, call->octets, call->length);
+	cell->write += call->length;
+	return reply_of(DONE);
+}
+
+static struct reply typed(struct model *v, const struct call *call)
+{
+	struct cell *cell = cell_at(v->registers[call->x], call->place);
+
+	if (cell == NULL)
+		return refused(STRM_NO_SUCH_BLOCK);
+	if (names_of(v, cell->datum) > 1)
+		return refused(STRM_SHARED);
+	cell->datum->type = call->type;
+	return reply_of(DONE);
+}
+
+static struct reply block_removed(struct model *v, const struct call *call)
+{
+	struct cell **at = &v->registers[call->x], *cell = cell_at(*at, call->place);
+
+	if (cell == NULL)
+		return refused(STRM_NO_SUCH_BLOCK);
+	while (*at != cell)
+		at = &(*at)->next;
+	*at = cell->next;
+	cell->next = NULL;
+	v->registers[call->y] = cell;
+	return reply_of(DONE);
+}
+
+/* The bytes of the blocks at the head that have the type of the first. */
+static uint32_t leading(const struct cell *m)
+{
+	const struct cell *first = m;
+	uint32_t sum = 0;
+
+	for (; m != NULL && m->datum->type == first->datum->type; m = m->next)
+		sum += m->write - m->read;
+	return sum;
+}
+
+static struct reply cut_head(struct cell *m, uint32_t count)
+{
+	if (leading(m) < count)
+		return refused(STRM_SHORT);
+	for (; count > 0; count--) {
+		while (m->read == m->write)
+			m = m->next;
+		m->read++;
+	}
+	return reply_of(DONE);
+}
+
+/* The last block of a message that has bytes. */
+static struct cell *last_with_bytes(struct cell *m)
+{
+	struct cell *found = NULL;
+
+	for (; m != NULL; m = m->next)
+		if (m->read < m->write)
+			found = m;
+	return found;
+}
+
+/* The bytes of the blocks at the tail that have the type of the last. */
+static uint32_t trailing(struct cell *m)
+{
+	uint32_t type = last_of(m)->datum->type, sum = 0;
+
+	for (; m != NULL; m = m->next)
+		sum = m->datum->type == type ? sum + m->write - m->read : 0;
+	return sum;
+}
+
+static struct reply cut_tail(struct cell *m, uint32_t count)
+{
+	if (trailing(m) < count)
+		return refused(STRM_SHORT);
+	for (; count > 0; count--)
+		last_with_bytes(m)->write--;
+	return reply_of(DONE);
+}
+
+static struct reply pulled_up(struct model *v, const struct call *call)
+{
+	struct cell *m = v->registers[call->x], *behind;
+	uint32_t all = leading(m), wanted = call->count == -1 ? all : (uint32_t)call->count, left;
+	struct datum *old, *d;
+
+	if (call->count < -1 || wanted > all)
+		return refused(STRM_SHORT);
+	if (wanted <= m->write - m->read)
+		return reply_of(DONE);
+	if (is_too_large(v, wanted))
+		return refused(STRM_TOO_LARGE);
+	d = datum_taken(v, wanted, m->datum->type);
+	if (d == NULL)
+		return refused(STRM_NO_DATA);
+	left = wanted - (m->write - m->read);
+	bytes_read(m, 0, d->bytes, wanted);
+	old = m->datum;
+	m->datum = d;
+	m->read = 0;
+	m->write = wanted;
+	if (names_of(v, old) == 0)
+		datum_freed(v, old);
+	while (left > 0) {
+		behind = m->next;
+		if (behind->write - behind->read > left) {
+			behind->read += left;
+			break;
+		}
+		left -= behind->write - behind->read;
+		m->next = behind->next;
+		behind->next = NULL;
+		cells_freed(v, behind);
+	}
+	return reply_of(DONE);
+}
+
+static struct reply block_told(const struct model *v, const struct call *call)
+{
+	struct reply reply = reply_of(TOLD_BLOCK);
+	struct strm_block_info info;
+
+	if (cell_at(v->registers[call->x], call->place) == NULL)
+		return refused(STRM_NO_SUCH_BLOCK);
+	info = model_block(v, call->x, call->place);
+	reply.numbers[0] = info.type;
+	reply.numbers[1] = info.length;
+	reply.numbers[2] = info.band;
+	reply.numbers[3] = info.room;
+	reply.numbers[4] = info.names;
+	return reply;
+}
+
+static struct reply bytes_told(const struct model *v, const struct call *call)
+{
+	struct reply reply = reply_of(TOLD_BYTES);
+
+	reply.numbers[0] = model_read(v, call->x, call->place, reply.octets, MOST_OCTETS);
+	return reply;
+}
+
+/* Takes the message out of a register. */
+static struct cell *picked(struct model *v, int reg)
+{
+	struct cell *m = v->registers[reg];
+
+	v->registers[reg] = NULL;
+	return m;
+}
+
+static struct reply act_on_messages(struct model *v, const struct call *call)
+{
+	struct cell *m = v->registers[call->x];
+
+	switch (call->verb) {
+	case ALLOCB:
+		return allocated(v, call);
+	case DUPB:
+		return duplicated(v, call, 1, 0);
+	case DUPMSG:
+		return duplicated(v, call, length_of(m), 0);
+	case COPYB:
+		return duplicated(v, call, 1, 1);
+	case COPYMSG:
+		return duplicated(v, call, length_of(m), 1);
+	case WRITE:
+		return written(v, call);
+	case SETTYPE:
+		return typed(v, call);
+	case SETBAND:
+		m->band = call->band;
+		return reply_of(DONE);
+	case LINKB:
+		last_of(m)->next = picked(v, call->z);
+		return reply_of(DONE);
+	case UNLINKB:
+		v->registers[call->y] = m->next;
+		m->next = NULL;
+		return reply_of(v->registers[call->y] != NULL ? DONE : NOTHING);
+	case RMVB:
+		return block_removed(v, call);
+	case ADJMSG:
+		return call->count >= 0 ? cut_head(m, (uint32_t)call->count) : cut_tail(m, 0u - (uint32_t)call->count);
+	case PULLUPMSG:
+		return pulled_up(v, call);
+	case MSGDSIZE:
+		return told(TOLD_SIZE, model_msgdsize(v, call->x), 0);
+	case SIZE:
+		return told(TOLD_SIZE, bytes_in(m), 0);
+	case READ:
+		return bytes_told(v, call);
+	case BLOCK:
+		return block_told(v, call);
+	case FREEB:
+		v->registers[call->x] = m->next;
+		m->next = NULL;
+		cells_freed(v, m);
+		return reply_of(DONE);
+	default:
+		cells_freed(v, picked(v, call->x));
+		return reply_of(DONE);
+	}
+}
+
+/* ---- calls on queues */
+
+static struct reply put(struct model *v, const struct call *call)
+{
+	struct line *line = &v->queues[call->queue];
+	struct item **at = &line->items;
+	uint32_t rank = rank_of(v->registers[call->x]);
+
+	if (call->verb == PUTQ)
+		while (*at != NULL && rank_of((*at)->message) >= rank)
+			at = &(*at)->next;
+	else
+		while (*at != NULL && rank_of((*at)->message) > rank)
+			at = &(*at)->next;
+	item_put(v, at, picked(v, call->x));
+	if (rank == 256 || (!line->enabling_is_off && (line->wants_to_read || (call->verb == PUTQ && rank > 0))))
+		enabled(v, call->queue);
+	return reply_of(DONE);
+}
+
+static struct reply inserted(struct model *v, const struct call *call)
+{
+	struct line *line = &v->queues[call->queue];
+	struct item **at = link_at(v, call->queue, call->place), **before = link_at(v, call->queue, call->place - 1);
+	uint32_t rank = rank_of(v->registers[call->x]);
+
+	if (call->place > model_queue(v, call->queue).msgs)
+		return refused(STRM_NO_SUCH_PLACE);
+	if ((*at != NULL && rank_of((*at)->message) > rank) || (call->place > 0 && rank_of((*before)->message) < rank))
+		return refused(STRM_BAD_ORDER);
+	item_put(v, at, picked(v, call->x));
+	if (!line->enabling_is_off && line->wants_to_read)
+		enabled(v, call->queue);
+	return reply_of(DONE);
+}
+
+static struct reply got(struct model *v, const struct call *call)
+{
+	struct item **at = link_at(v, call->queue, call->verb == GETQ ? 0 : call->place);
+
+	if (call->verb == GETQ)
+		v->queues[call->queue].wants_to_read = *at == NULL;
+	if (*at == NULL)
+		return call->verb == GETQ ? reply_of(NOTHING) : refused(STRM_NO_SUCH_PLACE);
+	v->registers[call->y] = item_taken(v, at);
+	settled(v, call->queue);
+	return reply_of(DONE);
+}
+
+static struct reply flushed(struct model *v, const struct call *call)
+{
+	struct item **at = &v->queues[call->queue].items;
+	const struct cell *m;
+	uint32_t type;
+
+	while (*at != NULL) {
+		m = (*at)->message;
+		type = m->datum->type;
+		if ((call->verb == FLUSHQ || is_of_band(m, call->band)) && (call->flush == STRM_FLUSHALL || type == STRM_M_DATA
+		    || type == STRM_M_PROTO || type == STRM_M_PCPROTO || type == STRM_M_DELAY))
+			cells_freed(v, item_taken(v, at));
+		else
+			at = &(*at)->next;
+	}
+	settled(v, call->queue);
+	return reply_of(DONE);
+}
+
+static struct reply asked_for_room(struct model *v, uint32_t q, uint32_t band)
+{
+	while (v->queues[q].spec.service == 0 && v->queues[q].spec.next != STRM_NO_QUEUE)
+		q = v->queues[q].spec.next;
+	if (!model_band(v, q, band).full)
+		return reply_of(YES);
+	v->queues[q].wanted[band] = 1;
+	return reply_of(NO);
+}
+
+static struct reply act_on_queue(struct model *v, const struct call *call)
+{
+	struct line *line = &v->queues[call->queue];
+
+	switch (call->verb) {
+	case PUTQ: case PUTBQ:
+		return put(v, call);
+	case INSQ:
+		return inserted(v, call);
+	case GETQ: case RMVQ:
+		return got(v, call);
+	case FLUSHQ: case FLUSHBAND:
+		return flushed(v, call);
+	case BCANPUT:
+		return asked_for_room(v, call->queue, call->band);
+	case STRQSET:
+		if (call->lowat >= call->hiwat)
+			return refused(STRM_BAD_MARKS);
+		line->marks[call->band].hiwat = call->hiwat;
+		line->marks[call->band].lowat = call->lowat;
+		settled(v, call->queue);
+		return reply_of(DONE);
+	case STRQGET:
+		return told(TOLD_MARKS, line->marks[call->band].hiwat, line->marks[call->band].lowat);
+	case QSIZE:
+		return told(TOLD_SIZE, model_queue(v, call->queue).msgs, 0);
+	case QENABLE:
+		enabled(v, call->queue);
+		return reply_of(DONE);
+	default:
+		line->enabling_is_off = call->verb == NOENABLE;
+		return reply_of(DONE);
+	}
+}
+
+/* ---- the others */
+
+static struct reply served_next(struct model *v)
+{
+	struct reply reply;
+
+	if (v->run_count == 0)
+		return reply_of(NOTHING);
+	reply = told(TOLD_QUEUE, v->run[0], 0);
+	v->run_count--;
+	memmove(v->run, v->run + 1, v->run_count * sizeof *v->run);
+	return reply;
+}
+
+static void wish_removed(struct model *v, uint32_t place)
+{
+	v->wish_count--;
+	memmove(v->wishes + place, v->wishes + place + 1, (v->wish_count - place) * sizeof *v->wishes);
+}
+
+static struct reply wished(struct model *v, const struct call *call)
+{
+	if (is_too_large(v, call->number))
+		return refused(STRM_TOO_LARGE);
+	if (v->wish_count == v->bufcalls)
+		return refused(STRM_FULL);
+	if (v->next_id > 4294967295.0)
+		return refused(STRM_IDS_SPENT);
+	v->wishes[v->wish_count].id = (uint32_t)v->next_id;
+	v->wishes[v->wish_count].size = call->number;
+	v->next_id += 1;
+	return told(TOLD_ID, v->wishes[v->wish_count++].id, 0);
+}
+
+static int can_allocate(struct model *v, uint32_t size)
+{
+	return v->free_cells != NULL && free_for(v, size) != NULL;
+}
+
+static struct reply wish_taken(struct model *v, const struct call *call)
+{
+	struct reply reply;
+	uint32_t i;
+
+	for (i = 0; i < v->wish_count; i++) {
+		if (call->verb == UNBUFCALL ? v->wishes[i].id != call->number : !can_allocate(v, v->wishes[i].size))
+			continue;
+		reply = call->verb == UNBUFCALL ? reply_of(DONE) : told(TOLD_READY, v->wishes[i].id, v->wishes[i].size);
+		wish_removed(v, i);
+		return reply;
+	}
+	return call->verb == UNBUFCALL ? refused(STRM_NOT_PENDING) : reply_of(NOTHING);
+}
+
+static struct reply act_on_pool(struct model *v, const struct call *call)
+{
+	struct strm_census census = model_census(v);
+	struct reply reply;
+
+	switch (call->verb) {
+	case TESTB:
+		return reply_of(can_allocate(v, call->number) ? YES : NO);
+	case SERVICE:
+		return served_next(v);
+	case BUFCALL:
+		return wished(v, call);
+	case UNBUFCALL: case READY:
+		return wish_taken(v, call);
+	default:
+		reply = told(TOLD_CENSUS, census.free, census.queued);
+		reply.numbers[2] = census.held;
+		return reply;
+	}
+}
+
+struct reply model_apply(struct model *v, const struct call *call)
+{
+	const char *names = forms[call->verb].names;
+
+	if (strchr(names, 'q') != NULL && call->queue >= v->queue_count)
+		return refused(STRM_NO_SUCH_QUEUE);
+	if (strchr(names, 'x') != NULL && v->registers[call->x] == NULL)
+		return reply_of(EMPTY);
+	if (strchr(names, 'z') != NULL && (v->registers[call->z] == NULL || call->x == call->z))
+		return reply_of(EMPTY);
+	if (strchr(names, 'y') != NULL && v->registers[call->y] != NULL)
+		return reply_of(TAKEN);
+	if (strchr(names, 'q') != NULL)
+		return act_on_queue(v, call);
+	if (strpbrk(names, "xy") != NULL)
+		return act_on_messages(v, call);
+	return act_on_pool(v, call);
+}

@@ -1,0 +1,37 @@
+/*
+ * A plain model of a pool and 26 registers: lists of messages, and whatever can be counted is counted over everything when it is asked
+ * for. It knows nothing of names.
+ */
+#ifndef MODEL_H
+#define MODEL_H
+
+#include "calls.h"
+
+struct model;
+
+/* The model of a lawful configuration; null where there is no memory. */
+struct model *model_open(const struct strm_config *config);
+void model_close(struct model *model);
+
+/* Does a call, in the order of refusals of a script. */
+struct reply model_apply(struct model *model, const struct call *call);
+
+/* How many blocks the message in a register has, 0 where it holds none; the number of the first; and what there is to tell. */
+uint32_t model_blocks(const struct model *model, int reg);
+uint32_t model_head(const struct model *model, int reg);
+struct strm_block_info model_block(const struct model *model, int reg, uint32_t place);
+uint32_t model_size(const struct model *model, int reg);
+uint32_t model_msgdsize(const struct model *model, int reg);
+uint32_t model_read(const struct model *model, int reg, uint32_t at, uint8_t *into, uint32_t length);
+
+struct strm_census model_census(const struct model *model);
+struct strm_class_info model_class(const struct model *model, uint32_t place);
+struct strm_queue_info model_queue(const struct model *model, uint32_t queue);
+struct strm_band_info model_band(const struct model *model, uint32_t queue, uint32_t band);
+struct strm_marks model_marks(const struct model *model, uint32_t queue, uint32_t band);
+
+/* The queue at a place of the run list, and the wish at a place; 0 where there are not so many. */
+int model_run_at(const struct model *model, uint32_t place, uint32_t *queue);
+int model_wish_at(const struct model *model, uint32_t place, struct strm_wish *wish);
+
+#endif
