@@ -21,7 +21,7 @@ LOG := build/proving.log
 # Ends with one line where there is no `rt`.
 NEEDS_RT = $(if $(shell command -v rt 2>/dev/null),,$(error Rattle's command rt is not on PATH, and README.md says which is wanted))
 
-.PHONY: run test soak field view-test pictures bench bench-lines bench-library bench-census strm install install-pages lib install-lib vendor
+.PHONY: run test soak field view-test pictures bench bench-lines bench-library bench-census bench-c strm install install-pages lib install-lib vendor
 
 # Runs the first run's script, once the program is proved.
 run: $(BUILT)
@@ -66,6 +66,10 @@ bench-library: $(ROUNDS)
 bench-census: $(BUILT)
 	$(NEEDS_RT)
 	@python3 bench/census.py $(OPTIONS)
+
+# Prints what calls of strm.h cost, beside those of a pool written by hand in C. OPTIONS are words of bench/c.py, as --write for docs/.
+bench-c: build/libstrm.a
+	@python3 bench/c.py $(OPTIONS) build/libstrm.a
 
 # Puts the proved program at build/strm.
 strm: build/strm
