@@ -77,8 +77,8 @@ strm: build/strm
 build/strm: $(BUILT)
 	@install -D -m 755 $(BUILT) build/strm
 
-# Installs the proved program as PREFIX/bin/strm, and the pages.
-install: $(BUILT) install-pages
+# Installs the proved program as PREFIX/bin/strm, the pages, and the library for C.
+install: $(BUILT) install-pages install-lib
 	install -D -m 755 $(BUILT) $(DESTDIR)$(PREFIX)/bin/strm
 
 # Installs the manual and the completions of bash and zsh, for which nothing is built.
