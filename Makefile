@@ -50,8 +50,8 @@ view-test:
 pictures:
 	@for picture in docs/pictures/*.svg; do tools/strm_view $$(sed -n 's:^<desc>\(.*\)</desc>$$:\1:p' $$picture) --output $$picture || exit 1; done
 
-# Prints what a line, a call of the libraries and a look at the census cost. OPTIONS are words of all three, as --write for docs/.
-bench: bench-lines bench-library bench-census
+# Prints what a line, a call of the libraries, a look at the census and a call from C cost. OPTIONS are words of all four, as --write for docs/.
+bench: bench-lines bench-library bench-census bench-c
 
 # Prints what a line and a call of each word cost. OPTIONS are words of bench/run.py, as --instructions, or --write for docs/.
 bench-lines: $(BUILT)
