@@ -125,7 +125,7 @@ int strm_write(struct strm_pool *pool, struct strm_msg msg, uint32_t place, cons
 
 int strm_read(struct strm_pool *pool, struct strm_msg msg, uint32_t at, void *into, size_t length, size_t *count)
 {
-	int fault = fault_of(pool, is_buffer(into, length) && count != NULL);
+	int fault = fault_of(pool, is_buffer(into, length) && count != NULL && (length == 0 || into != (void *)count));
 
 	return fault != STRM_OK ? fault : strm_c_read(pool, msg, at, length == 0 ? &nothing : (uint8_t *)into, length, count);
 }

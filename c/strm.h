@@ -14,14 +14,16 @@
  *
  *   1. STRM_NOT_OPEN: the handle is null, was never opened, or was closed.
  *   2. STRM_BAD_ARGUMENT: a pointer is null, but for one to a buffer of length 0; or a band, a type or a flush is out of range;
- *      or a length is above half of the greatest size_t, which no object has; or one place is given for two answers.
+ *      or a length is above half of the greatest size_t, which no object has; or strm_rmvb or strm_read is given one place for two
+ *      answers.
  *   3. STRM_INVALID: a name is not valid. Of two names the first is looked at first.
  *   4. The refusals that are named with the call, in the order in which they are named.
  *
  * Every call that names a queue is refused first as STRM_NO_SUCH_QUEUE where the pool has no queue of this number, whatever
  * number that is; this is not repeated with each. STRM_NONE is no refusal: the call was done, and there is nothing to give.
- * A call that answers anything but STRM_OK or STRM_NONE has changed nothing: the pool, the handle, all names, and what the
- * pointers lead to are as they were. With STRM_NONE what the pointers lead to is as it was, too.
+ * (strm_open, which wants a handle that is not open, has an order of its own.)
+ * A call that answers anything but STRM_OK or STRM_NONE has changed nothing: an open handle, its pool, all names, and what the
+ * pointers lead to are as they were, and a handle that was not open is not open. With STRM_NONE what the pointers lead to is as it was, too.
  *
  *
  * Names
@@ -31,12 +33,12 @@
  * second message of strm_linkb, or when the pool is closed. All other calls leave all names valid. A call that gives a message
  * gives it a name that was never given before by this pool, so one that is no longer valid stays so: who frees twice, links
  * twice, or goes on with a message that is on a queue is answered STRM_INVALID, and nothing is done. Any bits may be given as a
- * name. A name may be copied, kept and compared by its three fields; STRM_NO_MSG is never valid.
+ * name. A name may be copied, kept and compared by its three fields; STRM_NO_MSG is the name of no message.
  *
- * How far that reaches: stamps are counted in 64 bits for each message block, and come round after 2^64 messages that began with
- * it. Two pools that are open under one id, one opened behind another one too, can't tell their names apart: a name of one may be
- * valid in the other. Pools whose names can meet want different ids. A pool never gives back what is held under a name that the
- * caller has lost, until it is closed.
+ * How far that reaches: stamps are counted in 64 bits for each message block, from 1 on, and come round after 2^64 messages that began
+ * with it, one of which has the stamp 0 then. Two pools that are open under one id, one opened behind another one too, can't tell
+ * their names apart: a name of one may be valid in the other. Pools whose names can meet want different ids. A pool never gives back
+ * what is held under a name that the caller has lost, until it is closed.
  *
  *
  * What the caller promises
@@ -50,11 +52,11 @@
  *     threads.
  *   - A handle is zeroed, or set to STRM_POOL_INIT, before its first call. An open one may be moved to another place, and is not
  *     used at two: a copy is not told from the handle that it is of. Its fields are not written to.
- *   - malloc, realloc and free are those of one allocator.
+ *   - malloc, realloc and free are those of one allocator, and each block is aligned for any object that fits in it.
  *
  * How far a handle is told: its second word is STRM_POOL_OPEN where it is open. So a zeroed handle, STRM_POOL_INIT, a closed one,
  * and memory with anything else in that word are answered STRM_NOT_OPEN. Memory that was never set and happens to have that word is
- * taken for open, and that is undefined.
+ * taken for open, and that is undefined. That is why a handle is zeroed or set first.
  *
  *
  * As in STREAMS, and not
@@ -148,16 +150,16 @@ struct strm_pool {
 	void *at;
 	size_t state;
 };
-#define STRM_POOL_INIT { NULL, 0 }
+#define STRM_POOL_INIT { NULL, 0 }		/* an initialiser */
 #define STRM_POOL_OPEN ((size_t)0x5354524D)	/* the state of an open handle */
 
 /* The name of a message. */
 struct strm_msg {
 	uint32_t pool;			/* the id of its pool */
 	uint32_t head;			/* the number of its first block */
-	uint64_t stamp;			/* how often a message began with that block, this one among them; above 0 */
+	uint64_t stamp;			/* how often a message began with that block, this one among them */
 };
-#define STRM_NO_MSG { 0, 0, 0 }		/* the name of no message */
+#define STRM_NO_MSG { 0, 0, 0 }		/* the name of no message, as an initialiser */
 
 /* A size class of a configuration. */
 struct strm_class_spec {
@@ -244,13 +246,13 @@ struct strm_wish {
  * call takes any. What the configuration leads to is copied. More classes or queues than there may be are STRM_BAD_ARGUMENT; for no
  * classes, or no queues, the pointer may be null.
  * Refused as STRM_IS_OPEN, STRM_BAD_ARGUMENT, the first fault in the order of the codes STRM_BAD_MBLKS to STRM_BAD_FIRST_ID, or
- * STRM_NO_MEMORY; a null handle as STRM_NOT_OPEN, first. The handle is as it was then.
+ * STRM_NO_MEMORY; a null handle as STRM_NOT_OPEN, first. A handle that was open is as it was then, and any other is not open.
  */
 int strm_open(struct strm_pool *pool, const struct strm_config *config);
 
 /*
- * Closes a pool, with all messages, and gives its memory back. The handle may be opened again. No name of the pool may be given to
- * another pool that is opened with its id.
+ * Closes a pool, with all messages, and gives its memory back. The handle may be opened again. A name of the pool may be
+ * valid in a pool that is opened with its id later.
  * Refused as STRM_NOT_OPEN.
  */
 int strm_close(struct strm_pool *pool);
@@ -287,7 +289,7 @@ int strm_dupmsg(struct strm_pool *pool, struct strm_msg msg, struct strm_msg *co
 
 /*
  * Copies the first block of a message: the new block names a data block of its own, which is taken as by strm_allocb for the
- * capacity of the other one, and has its type, and its bytes at the same places.
+ * capacity of the other one, and has its type, and its bytes at the same places. The band is the same.
  * Refused as STRM_NO_MBLK, STRM_NO_DATA.
  * STREAMS: the same; own: which data block is taken.
  */
@@ -407,7 +409,8 @@ int strm_putbq(struct strm_pool *pool, uint32_t queue, struct strm_msg msg);
 
 /*
  * Puts a message on a queue before the one at a place, counted from 0, or last where place is the number of messages. Enables the
- * queue where enabling is not switched off and somebody wants to read. msg is not valid any more.
+ * queue where enabling is not switched off and somebody wants to read. The first block of high priority gets band 0. msg is not
+ * valid any more.
  * Refused as STRM_NO_SUCH_PLACE, STRM_BAD_ORDER.
  * STREAMS: own: a place for the message that it goes before.
  */
@@ -519,8 +522,8 @@ int strm_band_info(struct strm_pool *pool, uint32_t queue, uint32_t band, struct
 
 /*
  * Copies the text of a code, as "the size is above the largest class", or of any other number "no such code". As much as fits is
- * copied, and a 0 behind it, where length is not 0. Returns the length of the whole text, without the 0, as snprintf does; 0 where
- * length is not 0 and text is null.
+ * copied, and a 0 behind it, where length is not 0. Returns the length of the whole text, without the 0; 0, and nothing is written,
+ * where text is null and length is not 0, or length is above half of the greatest size_t.
  */
 size_t strm_text(int code, char *text, size_t length);
 

@@ -382,6 +382,7 @@ static void test_arguments(void)
 	ANSWERS(strm_read(pool, scene.held, 0, NULL, 1, &count), STRM_BAD_ARGUMENT);
 	ANSWERS(strm_read(pool, scene.held, 0, room, long_length, &count), STRM_BAD_ARGUMENT);
 	ANSWERS(strm_read(pool, scene.held, 0, room, sizeof room, NULL), STRM_BAD_ARGUMENT);
+	ANSWERS(strm_read(pool, scene.held, 0, &count, sizeof count, &count), STRM_BAD_ARGUMENT);
 	ANSWERS(strm_settype(pool, scene.held, 0, STRM_TYPES), STRM_BAD_ARGUMENT);
 	ANSWERS(strm_settype(pool, msg, 0, 0xFFFFFFFFu), STRM_BAD_ARGUMENT);
 	ANSWERS(strm_setband(pool, scene.held, 256), STRM_BAD_ARGUMENT);
