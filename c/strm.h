@@ -19,11 +19,11 @@
  *   3. STRM_INVALID: a name is not valid. Of two names the first is looked at first.
  *   4. The refusals that are named with the call, in the order in which they are named.
  *
- * Every call that names a queue is refused first as STRM_NO_SUCH_QUEUE where the pool has no queue of this number, whatever
- * number that is; this is not repeated with each. STRM_NONE is no refusal: the call was done, and there is nothing to give.
- * (strm_open, which wants a handle that is not open, has an order of its own.)
- * A call that answers anything but STRM_OK or STRM_NONE has changed nothing: an open handle, its pool, all names, and what the
- * pointers lead to are as they were, and a handle that was not open is not open. With STRM_NONE what the pointers lead to is as it was, too.
+ * strm_open, which wants a handle that is not open, has an order of its own. Every call that names a queue is refused first as
+ * STRM_NO_SUCH_QUEUE where the pool has no queue of this number, whatever number that is; this is not repeated with each. STRM_NONE
+ * is no refusal: the call was done, and there is nothing to give. A call that answers anything but STRM_OK or STRM_NONE has changed
+ * nothing: an open handle, its pool, all names, and what the pointers lead to are as they were, and a handle that was not open is not
+ * open. With STRM_NONE what the pointers lead to is as it was, too.
  *
  *
  * Names
