@@ -31,14 +31,17 @@ static struct strm_pool opened(uint32_t mblks)
 
 /* ---- opening */
 
-/* A configuration is refused, and the handle is as it was. */
+/* A configuration is refused, and the handle is not open, whatever it was. */
 static void refuse(const struct strm_config *config, int code)
 {
-	struct strm_pool pool = STRM_POOL_INIT;
+	struct strm_pool pool = STRM_POOL_INIT, unset;
 
 	ANSWERS(strm_open(&pool, config), code);
 	CHECK(!strm_is_open(&pool));
 	CHECK(pool.at == NULL && pool.state == 0);
+	memset(&unset, 0xA5, sizeof unset);
+	ANSWERS(strm_open(&unset, config), code);
+	CHECK(!strm_is_open(&unset));
 }
 
 static void refuse_classes(uint32_t size, uint32_t count, uint32_t size_behind, uint32_t count_behind, int code)
@@ -645,17 +648,28 @@ static void test_classes(void)
 
 static void test_texts(void)
 {
-	static const char *const names[] = {
-		"STRM_OK", "STRM_TOO_LARGE", "STRM_NO_MBLK", "STRM_NO_DATA", "STRM_REF_MAX", "STRM_NO_SUCH_BLOCK", "STRM_SHARED",
-		"STRM_NO_ROOM", "STRM_SHORT", "STRM_NO_SUCH_PLACE", "STRM_BAD_ORDER", "STRM_NO_SUCH_QUEUE", "STRM_FULL", "STRM_IDS_SPENT",
-		"STRM_NOT_PENDING"
+	/* each code, and its name as it stands in the header */
+#define CODE(code) { code, #code }
+	static const struct {
+		int code;
+		const char *name;
+	} codes[] = {
+		CODE(STRM_OK), CODE(STRM_TOO_LARGE), CODE(STRM_NO_MBLK), CODE(STRM_NO_DATA), CODE(STRM_REF_MAX), CODE(STRM_NO_SUCH_BLOCK),
+		CODE(STRM_SHARED), CODE(STRM_NO_ROOM), CODE(STRM_SHORT), CODE(STRM_NO_SUCH_PLACE), CODE(STRM_BAD_ORDER),
+		CODE(STRM_NO_SUCH_QUEUE), CODE(STRM_FULL), CODE(STRM_IDS_SPENT), CODE(STRM_NOT_PENDING), CODE(STRM_BAD_MARKS),
+		CODE(STRM_NONE), CODE(STRM_INVALID), CODE(STRM_NOT_OPEN), CODE(STRM_BAD_ARGUMENT), CODE(STRM_IS_OPEN),
+		CODE(STRM_NO_MEMORY), CODE(STRM_BAD_MBLKS), CODE(STRM_BAD_CLASSES), CODE(STRM_BAD_CLASS_SIZE),
+		CODE(STRM_BAD_CLASS_TOTAL), CODE(STRM_BAD_QUEUES), CODE(STRM_BAD_QUEUE_MARKS), CODE(STRM_BAD_NEXT),
+		CODE(STRM_BAD_BUFCALLS), CODE(STRM_BAD_FIRST_ID)
 	};
+#undef CODE
 	char text[80];
+	size_t place;
 	int code;
 
-	for (code = 0; code <= STRM_NOT_PENDING; code++) {
-		CHECK(strm_name(code, text, sizeof text) == strlen(names[code]));
-		CHECK(strcmp(text, names[code]) == 0);
+	for (place = 0; place < sizeof codes / sizeof codes[0]; place++) {
+		CHECK(strm_name(codes[place].code, text, sizeof text) == strlen(codes[place].name));
+		CHECK(strcmp(text, codes[place].name) == 0);
 	}
 	CHECK(strm_text(STRM_SHARED, text, sizeof text) == 54);
 	CHECK(strcmp(text, "the data block is named by more than one message block") == 0);
