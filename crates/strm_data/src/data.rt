@@ -1,5 +1,5 @@
 //! Data blocks by number, and the free ones of each size class.
-ghost use Rattle.std.specs.Prelude.{◌≡◌, ◌≢◌, ℕ, ◌+◌, ◌^◌, ◌<◌, ◌≤◌, ◌++◌, IfOk, IfErr, IfSome, IsTrue, OnOk, Err, None, [], length, nat_le, take, drop, replicate, slice_get, slice_set};
+ghost use Rattle.std.specs.Prelude.{◌≡◌, ◌≢◌, ℕ, ◌+◌, ◌-◌, ◌^◌, ◌<◌, ◌≤◌, ◌++◌, IfOk, IfErr, IfSome, IsTrue, OnOk, Err, None, [], length, nat_le, take, drop, replicate, slice_get, slice_set};
 ghost use Rattle.std.specs.List.{list_any, range_with_len};
 ghost use Rattle.strm_links.specs.Rows.{holder, list_at};
 ghost use Rattle.strm_data.specs.Limits.{most_classes, most_data_block_bytes, most_data_blocks, most_data_block_names};
@@ -7,7 +7,7 @@ ghost use Rattle.strm_data.specs.declared.msg_type.MsgType.TheVariants.{MData};
 ghost use Rattle.strm_data.specs.Classes.{are_lawful, fits_a_class, total_of};
 ghost use Rattle.strm_data.specs.CountedStore.{count_of, IsInUse, IsKept, IsUnused, opening_counted, after_take, with_name, without_name};
 ghost use Rattle.strm_data.specs.DataLayout.{block_at, bytes_of, class_at, region_at, start_in};
-ghost use Rattle.strm_data.specs.DataStore.{capacity_of, data_block_at, class_infos, fits, take_data, with_kind, with_bytes_copied, with_bytes_written, numbers_from, overwritten, IsTakenFrom};
+ghost use Rattle.strm_data.specs.DataStore.{capacity_of, data_block_at, class_infos, fits, take_data, with_kind, with_bytes_copied, with_bytes_written, free_of, numbers_from, overwritten, IsTakenFrom};
 
 use crate::class_info::ClassInfo;
 use crate::class_spec::ClassSpec;
@@ -128,6 +128,7 @@ fn place_of(classes: &[Class], blocks: &[DataBlock], number: DataNo, at: u32) ->
 }
 
 // Copies so many bytes from a place to another, of the same region or another.
+#[inline(always)]
 fn copy_bytes(regions: &mut [Vec<u8>], from: RegionPlace, into: RegionPlace, len: usize)
     requires from_class { from.class < length regions.old }
     requires into_class { into.class < length regions.old }
@@ -366,6 +367,7 @@ impl Data {
 
     /// Copies `len` bytes of a data block, from place `at` on, over those of another, from place `to` on, or of the same.
     /// Takes one slice copy.
+    #[inline(always)]
     pub fn copy(&mut self, from: DataNo, at: u32, into: DataNo, to: u32, len: u32)
         requires from { from < length self.old.store.blocks }
         requires into { into < length self.old.store.blocks }
@@ -403,6 +405,14 @@ impl Data {
             free: self.free.len(u32::from(class)),
             total: spec.count,
         })
+    }
+
+    /// How many data blocks of the largest class are free: as many can be taken one after the other, whatever their
+    /// sizes, where none is too large. Nothing changes.
+    pub fn free_in_largest(&self) -> u32
+        ensures { result ≡ length (free_of self.now.store (length self.now.store.classes - 1)) }
+    {
+        self.free.len(self.classes.len() as u32 - 1)
     }
 
     /// The law that every data block is accounted for. There are one to `MOST_CLASSES` size classes, and each has as

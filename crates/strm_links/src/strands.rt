@@ -163,7 +163,9 @@ fn node_behind(nodes: &[Node], from: u32, steps: u32) -> u32
     at
 }
 
-// Reverses the links of a chain: it is left from last to first, and leads on to `beyond`.
+// Reverses the links of a chain: it is left from last to first, and leads on to `beyond`. Most chains are of one node, and
+// have no loop.
+#[inline(always)]
 fn reverse_links(nodes: &mut Vec<Node>, head: u32, len: u32, beyond: Slot)
     requires few { vec_len nodes.old < 2 ^ 32 }
     requires begins { first (path nodes.old.items len (Some head)) ≡ Some head }
@@ -179,9 +181,11 @@ fn reverse_links(nodes: &mut Vec<Node>, head: u32, len: u32, beyond: Slot)
     ensures spans { (k : ℕ) → span_at nodes.new.items k ≡ span_at nodes.old.items k }
     ensures len { vec_len nodes.new ≡ vec_len nodes.old }
 {
-    let mut at = Slot::some(head);
-    let mut onto = beyond;
-    for _reversed in 0..len {
+    let node = &mut nodes[head as usize];
+    let mut at = node.next;
+    node.next = beyond;
+    let mut onto = Slot::some(head);
+    for _reversed in 1..len {
         let number = at.number();
         let node = &mut nodes[number as usize];
         at = node.next;

@@ -1,5 +1,5 @@
 -- How messages lie in strands, and their heads on shelves. No public clause cites this module.
-use Rattle.std.specs.Prelude.{◌≡◌, ℕ, List, [], ◌∷◌, length, map, Option, None, Some, IsSome, slice_set}
+use Rattle.std.specs.Prelude.{◌≡◌, ℕ, List, [], ◌∷◌, length, map, Option, None, IsSome, slice_set}
 use Rattle.strm_links.specs.Rows.{IsParting, Rows, holder, linked_nodes}
 use Rattle.strm_links.specs.Chains.{chain_in}
 use Rattle.strm_links.specs.StrandLists.{IsParted, StrandLists, strand_at}

@@ -222,11 +222,11 @@ impl Blocks {
         ensures others { LeavesOthers (head_answered result) self.old self.new }
         ensures shelves { LeavesShelves (head_answered result) self.old self.new }
     {
-        if !self.data.has_class_for(size) {
-            return Err(Refusal::TooLarge);
-        }
         if self.chains.free_len() == 0 {
-            return Err(Refusal::NoMblk);
+            if self.data.has_class_for(size) {
+                return Err(Refusal::NoMblk);
+            }
+            return Err(Refusal::TooLarge);
         }
         let data_number = self.data.take(size)?;
         let head = self.chains.begin().unwrap();

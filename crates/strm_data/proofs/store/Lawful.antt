@@ -19,10 +19,28 @@ size_within below (x ∷ xs) (suc c) within rise =
     let later = size_within x.size xs c (omega arith) (and_parts (nat_le x.size most_data_block_bytes) _ parts.1).1 in
     (omega (arith, ltb-true _ _ parts.0, later.0), later.1)
 
+-- a size is at least those of the classes before
+size_rises : (below : ℕ) (specs : List ClassSpec) (c e : ℕ) → c ≤ e → e < length specs → IsTrue (sizes_rise below specs)
+    → (get_or specs c no_class_spec).size ≤ (get_or specs e no_class_spec).size
+size_rises below [] c e before within rise = absurd (omega arith)
+size_rises below (x ∷ xs) zero zero before within rise = omega arith
+size_rises below (x ∷ xs) zero (suc e) before within rise =
+    let parts = and_parts (nat_lt below x.size) _ rise in
+    let later = size_within x.size xs e (omega arith) (and_parts (nat_le x.size most_data_block_bytes) _ parts.1).1 in
+    omega (arith, later.0)
+size_rises below (x ∷ xs) (suc c) zero before within rise = absurd (omega arith)
+size_rises below (x ∷ xs) (suc c) (suc e) before within rise =
+    let parts = and_parts (nat_lt below x.size) _ rise in
+    size_rises x.size xs c e (omega arith) (omega arith) (and_parts (nat_le x.size most_data_block_bytes) _ parts.1).1
+
 module _ (specs : List ClassSpec) (lawful : IsTrue (are_lawful specs)) where
   -- most_classes at most
   pub lawful_few : length specs ≤ most_classes
   lawful_few = leb-true _ most_classes (and_parts _ _ (and_parts (nat_le 1 (length specs)) _ lawful).1).0
+
+  -- there is one
+  pub lawful_some : 1 ≤ length specs
+  lawful_some = leb-true 1 (length specs) (and_parts (nat_le 1 (length specs)) _ lawful).0
 
   -- the sizes rise, each class has data blocks, and there are most_data_blocks at most
   rising : IsTrue (sizes_rise 0 specs && (each_has_blocks specs && nat_le (total_of specs) most_data_blocks))
@@ -36,3 +54,7 @@ module _ (specs : List ClassSpec) (lawful : IsTrue (are_lawful specs)) where
   lawful_size c within =
       let sizes = size_within 0 specs c within (and_parts (sizes_rise 0 specs) _ rising).0 in
       (omega (arith, sizes.0), sizes.1)
+
+  -- no class before another has larger data blocks
+  pub lawful_rise : (c e : ℕ) → c ≤ e → e < length specs → (get_or specs c no_class_spec).size ≤ (get_or specs e no_class_spec).size
+  lawful_rise c e before within = size_rises 0 specs c e before within (and_parts (sizes_rise 0 specs) _ rising).0

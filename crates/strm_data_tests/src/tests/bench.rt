@@ -114,6 +114,11 @@ impl Bench {
         assert!(rt; told == (has, fits));
     }
 
+    // So many data blocks of the largest class are free.
+    pub(super) fn assert_free_in_largest(&self, rt: &impl Abort, free: u32) {
+        assert!(rt; self.blocks.free_in_largest() == free);
+    }
+
     // What there is to tell of a class, if there is one.
     pub(super) fn assert_class(&self, rt: &impl Abort, class: u8, info: Option<ClassInfo>) {
         assert!(rt; self.blocks.class_info(class) == info);

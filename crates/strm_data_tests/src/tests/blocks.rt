@@ -25,6 +25,7 @@ fn takes_and_frees(rt: HostRuntime) {
     bench.assert_class(&rt, 0, info(16, 1, 1));
     bench.assert_class(&rt, 1, info(64, 0, 1));
     bench.assert_class(&rt, 2, None);
+    bench.assert_free_in_largest(&rt, 0);
 }
 
 #[test]
@@ -36,6 +37,7 @@ fn opens_with_all_free(rt: HostRuntime) {
     }
     bench.assert_class(&rt, 0, info(4, 2, 2));
     bench.assert_class(&rt, 1, info(8, 1, 1));
+    bench.assert_free_in_largest(&rt, 1);
     for number in 0..3 {
         bench.take(&rt, 4, Ok(number));
     }

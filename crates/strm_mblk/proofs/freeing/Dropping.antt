@@ -59,6 +59,10 @@ pub record IsDropping (ds : List ℕ) (i : ℕ) (old s : CountedStore) : Type 0 
   pub named : (d : ℕ) → times d (drop i ds) ≤ count_of s d
   pub many : length s.store.blocks ≡ length old.store.blocks
 
+-- before the first step
+pub start_dropping : (ds : List ℕ) (s : CountedStore) → ((d : ℕ) → times d ds ≤ count_of s d) → IsDropping ds 0 s s
+start_dropping ds s named = record { after = refl; named = named; many = refl }
+
 module _ (ds : List ℕ) (i : ℕ) (old s : CountedStore) (dropping : IsDropping ds i old s) (d : ℕ) (is : slice_get ds i ≡ Some d) where
   -- the next data block has a name
   pub next_used : 0 < count_of s d

@@ -1,5 +1,5 @@
 -- Numbers in lists: where they stand, and how often.
-use Rattle.std.proofs.Common.{◌≡◌, ℕ, ◌+◌, ◌<◌, ◌≤◌, Bool, true, false, ltb, List, [], ◌∷◌, length, Some, refl, sym, ap, inl, inr, arith, if◌then◌else◌, zero, suc, ◌==◌, ◌-◌}
+use Rattle.std.proofs.Common.{◌≡◌, ℕ, ◌+◌, ◌<◌, ◌≤◌, Bool, true, false, ltb, List, [], ◌∷◌, length, Some, refl, sym, ap, inl, inr, arith, if◌then◌else◌, zero, suc, ◌==◌}
 use Rattle.std.specs.Prelude.{count_by, slice_get, drop, take}
 use Rattle.std.proofs.lemmas.Bool.{cases_lt}
 use Rattle.strm_data.specs.DataStore.{times}

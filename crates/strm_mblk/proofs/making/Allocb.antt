@@ -1,14 +1,14 @@
 -- `allocb`: a free message block over a data block just taken is held.
-use Rattle.std.proofs.Common.{◌≡◌, ℕ, zero, suc, ◌+◌, true, cond, List, [], ◌∷◌, length, set, Some, Result, Ok, Err, sym, ap, ◌∙◌, subst, inl, inr, arith}
-use Rattle.std.specs.Prelude.{count_by, drop, take}
+use Rattle.std.proofs.Common.{◌≡◌, ℕ, zero, suc, ◌+◌, Bool, true, false, cond, List, [], ◌∷◌, length, set, Some, Result, Ok, Err, refl, sym, ap, ◌∙◌, subst, inl, inr, arith}
+use Rattle.std.specs.Prelude.{count_by, drop, ok_or, slice_get, take}
 use Rattle.std.specs.List.{All}
 use Rattle.std.proofs.lemmas.Bool.Decides.{eqb_tells}
 use Rattle.strm_links.specs.Rows.{first}
 use Rattle.strm_data.specs.declared.refusal.Refusal.{Refusal}
-use Rattle.strm_data.specs.declared.refusal.Refusal.TheVariants.{TooLarge}
+use Rattle.strm_data.specs.declared.refusal.Refusal.TheVariants.{NoData, TooLarge}
 use Rattle.strm_data.specs.Classes.{fits_a_class}
 use Rattle.strm_data.specs.CountedStore.{CountedStore, IsKept, IsUnused, count_of, after_take}
-use Rattle.strm_data.specs.DataStore.{take_data, with_data_taken}
+use Rattle.strm_data.specs.DataStore.{DataStore, fitting, take_data, with_data_taken}
 use Rattle.strm_mblk.specs.declared.blocks.Fields.{Fields}
 use Rattle.strm_mblk.specs.Arena.{Arena, with_held}
 use Rattle.strm_mblk.specs.Block.{head_of, is_naming, new_block}
@@ -28,6 +28,16 @@ allocb_done a size n d ns fits is some =
     ap (λ b. cond b (allocb_from a.free size a) (Err TooLarge)) fits
     ∙ ap (λ (free : List ℕ). allocb_from free size a) is
     ∙ ap (λ (r : Result ℕ Refusal). held_new n ns a r) some
+
+-- a size takes a data block only where some class is as large
+pub taken_fits : (size d : ℕ) (s : DataStore) → take_data size s ≡ Ok d → fits_a_class size s.classes ≡ true
+taken_fits size d s some = by_cases (fits_a_class size s.classes) refl
+  where
+    by_cases : (b : Bool) → fits_a_class size s.classes ≡ b → fits_a_class size s.classes ≡ true
+    by_cases true is = is
+    by_cases false is =
+        let wrong : Err TooLarge ≡ Ok d = sym (ap (λ b. cond b (ok_or (slice_get (fitting size s) 0) NoData) (Err TooLarge)) is) ∙ some in
+        absurd (cc)
 
 -- what is there once a message of one block n over d was allocated
 pub record IsAllocated (a : Arena) (t : CountedStore) (fields : List Fields) (w : NodeLists) (id size n d : ℕ) : Type 0 where

@@ -1,8 +1,9 @@
 -- Copies of blocks, one after the other.
-use Rattle.std.proofs.Common.{◌≡◌, ℕ, ◌+◌, ◌-◌, ◌<◌, ◌≤◌, true, false, List, [], ◌∷◌, ◌++◌, drop, take, get_or, set, length, Some, Result, Ok, Err, refl, sym, ap, ◌∙◌, subst, inl, inr, arith, get_or-set_same, get_or-set_other}
+use Rattle.std.proofs.Common.{◌≡◌, ℕ, zero, suc, ◌+◌, ◌-◌, ◌<◌, ◌≤◌, true, false, List, [], ◌∷◌, ◌++◌, drop, take, get_or, set, length, Some, Result, Ok, Err, refl, sym, ap, ◌∙◌, subst, inl, inr, arith, get_or-set_same, get_or-set_other}
 use Rattle.std.specs.Result.{is_ok}
 use Rattle.std.proofs.lemmas.Bool.{cases_Bool, cases_eq, cases_lt, false≢true, le-leb}
 use Rattle.std.proofs.lemmas.List.{append_assoc, get_or_past, length-drop, length-take}
+use Rattle.strm_data.specs.declared.class_spec.ClassSpec.{ClassSpec}
 use Rattle.strm_data.specs.declared.refusal.Refusal.{Refusal}
 use Rattle.strm_data.specs.declared.refusal.Refusal.TheVariants.{NoData}
 use Rattle.strm_data.specs.Classes.{fits_a_class}
@@ -10,6 +11,7 @@ use Rattle.std.proofs.lemmas.List.Folds.{list_any_at}
 use Rattle.strm_data.specs.CountedStore.{CountedStore, IsKept, IsUnused, after_take}
 use Rattle.strm_data.specs.DataStore.{DataStore, IsTakenFrom, capacity_of, class_of, class_spec_at, data_block_at, free_of, no_class_spec, overwritten, take_data, with_data_taken, with_kind}
 use Rattle.strm_data.proofs.store.Kept.{IsKept-altered, IsKept-take, first_unused}
+use Rattle.strm_data.proofs.store.Lawful.{lawful_rise, lawful_some}
 use Rattle.strm_data.proofs.lists.Tables.{length-overwritten}
 use Rattle.strm_mblk.specs.Block.{Block, bytes_of_block, kind_of}
 use Rattle.strm_mblk.specs.BlockCalls.{copied_into, copies}
@@ -20,7 +22,7 @@ use Rattle.strm_mblk.proofs.lists.ListParts.{drop_from}
 use Rattle.strm_mblk.proofs.layout.Shown.{slice_get-mapped}
 use Rattle.strm_mblk.proofs.making.ClassesLeft.{takes_left, takes_none}
 use Rattle.strm_mblk.proofs.layout.Rooms.{HasRooms, rooms-kind, rooms-set, rooms-taken}
-use Rattle.std.specs.Prelude.{nat_le, option_map, slice_get}
+use Rattle.std.specs.Prelude.{◌⊎◌, nat_le, option_map, slice_get}
 use Rattle.strm_mblk.specs.Copying.{AreLeft, IsLeft, with_copy}
 use Rattle.strm_mblk.specs.Given.{and_then, answer_map}
 
@@ -216,3 +218,79 @@ module _ (bs : List Block) (i : ℕ) (s t : CountedStore) (left : List ℕ) (ahe
           answer = answer_more bs i s.store t.store ahead.made ahead.answer b next d copy.taken;
         },
       )
+
+-- ---- where the largest class has enough
+
+-- the first class that serves
+pub record IsFirstLeft (size : ℕ) (classes : List ClassSpec) (left : List ℕ) (c : ℕ) : Type 0 where
+  pub is : IsLeft size classes left c
+  pub first : (k : ℕ) → k < c → IsLeft size classes left k → ⊥
+
+module _ (size : ℕ) (classes : List ClassSpec) (left : List ℕ) where
+  is_left : (c : ℕ) → IsLeft size classes left c ⊎ (IsLeft size classes left c → ⊥)
+  is_left c =
+      elim (cases_lt c (length classes)) [
+        | inr past ↦ inr (λ is. omega (arith, is.there, past))
+        | inl there ↦
+            elim (cases_lt (get_or classes c no_class_spec).size size) [
+              | inl small ↦ inr (λ is. omega (arith, is.wide, small))
+              | inr wide ↦
+                  elim (cases_eq (get_or left c 0) 0) [
+                    | inl none ↦ inr (λ is. omega (arith, is.some, none))
+                    | inr some ↦ inl (record { there = there; wide = wide; some = omega (arith, some) })
+                  ]
+            ]
+      ]
+
+  first_from : (steps c last : ℕ) → c + steps ≡ last → IsLeft size classes left last → ((k : ℕ) → k < c → IsLeft size classes left k → ⊥) → (f : ℕ) × IsFirstLeft size classes left f
+  first_from zero c last at is none = (c, record { is = subst (IsLeft size classes left) (let e : last ≡ c = omega (arith, at) in e) is; first = none })
+  first_from (suc steps) c last at is none =
+      elim (is_left c) [
+        | inl here ↦ (c, record { is = here; first = none })
+        | inr not ↦
+            first_from steps (suc c) last (omega (arith, at)) is
+            (λ k below other. elim (cases_eq k c) [
+              | inl same ↦ not (subst (IsLeft size classes left) same other)
+              | inr before ↦ none k (omega (arith, below, before)) other
+            ])
+      ]
+
+-- a class has one less at most once one was taken
+still_left : (left : List ℕ) (last c n : ℕ) → suc n ≤ get_or left last 0 → n ≤ get_or (set left c (get_or left c 0 - 1)) last 0
+still_left left last c n many =
+    elim (cases_eq last c) [
+      | inl same ↦
+          let here : get_or left last 0 ≡ get_or left c 0 = ap (λ k. get_or left k 0) same in
+          let counted : c < length left = elim (cases_lt c (length left)) [ inl inside ↦ inside | inr past ↦ absurd (omega (arith, many, here, get_or_past left c 0 past)) ] in
+          omega (arith, many, here, ap (λ k. get_or (set left c (get_or left c 0 - 1)) k 0) same, get_or-set_same left c (get_or left c 0 - 1) 0 counted)
+      | inr other ↦ omega (arith, many, get_or-set_other left c last (get_or left c 0 - 1) 0 other)
+    ]
+
+-- all can be made where the largest class has as many data blocks left
+pub enough_left : (bs : List Block) (s : CountedStore) (left : List ℕ) → IsKept s → AreLeft left s.store → ((k : ℕ) (b : Block) → slice_get bs k ≡ Some b → IsInside s.store b)
+    → length bs ≤ get_or left (length s.store.classes - 1) 0 → is_ok (copies bs s.store) ≡ true
+enough_left [] s left kept are inside many = refl
+enough_left (b ∷ bs) s left kept are inside many =
+    let classes = s.store.classes in
+    let last = length classes - 1 in
+    let size = capacity_of s.store b.data_number in
+    let here = inside 0 b refl in
+    let widest : IsLeft size classes left last = record {
+      there = omega (arith, lawful_some classes kept.lawful);
+      wide =
+          omega (
+            arith,
+            kept.sized b.data_number here.0,
+            lawful_rise classes kept.lawful (class_of s.store b.data_number) last (omega (arith, kept.classed b.data_number here.0)) (omega (arith, lawful_some classes kept.lawful)),
+          );
+      some = omega (arith, many);
+    } in
+    let found = first_from size classes left last 0 last (omega arith) widest (λ k below. absurd (omega (arith, below))) in
+    let c = found.0 in
+    let d = get_or (free_of s.store c) 0 0 in
+    let copy = has_copy b s c kept here.1 (takes_left size s.store kept.lists left are c found.1.is found.1.first) in
+    ap (λ r. is_ok (and_then (λ e. answer_map (in_front (record b { data_number = e } ∷ [])) (copies bs (copied_into b s.store e))) r)) copy.taken
+    ∙ is_ok-map (in_front (record b { data_number = d } ∷ [])) (copies bs (copied_into b s.store d))
+    ∙ enough_left bs (with_copy b s d) (set left c (get_or left c 0 - 1)) copy.kept (left_less b s d c left kept copy are found.1.is.some)
+    (λ k x at. let was = inside (suc k) x at in (omega (arith, was.0, copy.rooms.many), omega (arith, was.1, copy.rooms.room x.data_number)))
+    (still_left left last c (length bs) (omega (arith, many)))

@@ -10,7 +10,7 @@ ghost use Rattle.strm_mblk.specs.BlocksLayout.{IsPlaced, block_of, fields_at, me
 ghost use Rattle.strm_mblk.specs.Copying.{AreCopied, AreLeft, IsLeft, with_copy};
 ghost use Rattle.strm_mblk.specs.Frame.{LeavesOthers, LeavesShelves, head_answered};
 ghost use Rattle.strm_mblk.specs.Given.{value_after, answer_map, answer_of};
-ghost use Rattle.strm_mblk.specs.NodeLists.{nodes_at};
+ghost use Rattle.strm_mblk.specs.NodeLists.{IsNodesParted, nodes_at};
 
 use super::{Blocks, Fields};
 use crate::chains::Chains;
@@ -18,6 +18,7 @@ use crate::token::Token;
 use strm_data::{Data, MOST_CLASSES, Refusal};
 
 // How many data blocks of each class are free.
+#[inline(always)]
 fn free_counts(stored: &Data) -> [u32; MOST_CLASSES]
     requires { IsKept stored.now }
     ensures { AreLeft result stored.now.store }
@@ -33,6 +34,7 @@ fn free_counts(stored: &Data) -> [u32; MOST_CLASSES]
 }
 
 // The first class that fits a size and has a data block left.
+#[inline(always)]
 fn class_left(stored: &Data, left: &[u32; MOST_CLASSES], size: u32) -> Option<u8>
     requires { IsKept stored.now }
     ensures found { IfSome result (IsLeft size stored.now.store.classes left.now) }
@@ -49,9 +51,11 @@ fn class_left(stored: &Data, left: &[u32; MOST_CLASSES], size: u32) -> Option<u8
     None
 }
 
-// Whether the data blocks suffice for copies of a message's first `count` blocks. Nothing changes: taking a data block
-// would change its type.
+// Whether the data blocks suffice for copies of a message's first `count` blocks. Mostly the largest class alone has as many.
+// Nothing changes: taking a data block would change its type.
+#[inline(always)]
 fn copies_fit(chains: &Chains, blocks: &[Fields], stored: &Data, head: u32, count: u32) -> bool
+    requires parted { IsNodesParted chains.now }
     requires begun { slice_get (nodes_at chains.now head) 0 ≡ Some head }
     requires count { count ≤ length (nodes_at chains.now head) }
     requires listed { length blocks.now ≡ length chains.now.held }
@@ -60,6 +64,9 @@ fn copies_fit(chains: &Chains, blocks: &[Fields], stored: &Data, head: u32, coun
     ensures fit { result ≡ is_ok (model.copies (take count (message_of blocks.now (nodes_at chains.now head))) stored.now.store) }
     ensures refused { result ≡ false → model.copies (take count (message_of blocks.now (nodes_at chains.now head))) stored.now.store ≡ Err NoData }
 {
+    if stored.free_in_largest() >= count {
+        return true;
+    }
     let mut left = free_counts(stored);
     let mut node = head;
     for _block in 0..count {
@@ -75,6 +82,7 @@ fn copies_fit(chains: &Chains, blocks: &[Fields], stored: &Data, head: u32, coun
 
 // Takes a data block for a copy of a message block that says so, with the type and the bytes of the one that it names. The
 // answer is what the copy says.
+#[inline(always)]
 fn copy_data(stored: &mut Data, source: Fields) -> Fields
     requires placed { IsPlaced stored.old.store source }
     requires fits { IsTrue (is_ok (take_data (capacity_of stored.old.store source.data_number) stored.old.store)) }
@@ -98,6 +106,7 @@ fn copy_data(stored: &mut Data, source: Fields) -> Fields
 }
 
 // Copies the first `count` blocks of a message, data blocks too, into those of another, for which the data blocks suffice.
+#[inline(always)]
 fn copy_blocks(
     chains: &Chains,
     blocks: &mut [Fields],

@@ -125,6 +125,10 @@ impl Blocks {
         ensures others { LeavesOthers (head_answered result) self.old self.new }
         ensures shelves { LeavesShelves (head_answered result) self.old self.new }
     {
-        self.duplicate(token, token.blocks())
+        match token.blocks() {
+            // Most messages are of one block, and have no loop.
+            1 => self.duplicate(token, 1),
+            count => self.duplicate(token, count),
+        }
     }
 }

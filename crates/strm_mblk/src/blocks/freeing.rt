@@ -14,7 +14,9 @@ use crate::chains::Chains;
 use crate::token::Token;
 use strm_data::Data;
 
-// Takes the names away that the first `count` blocks of a held message have given, first to last.
+// Takes the names away that the first `count` blocks of a held message have given, first to last. Most messages are of one
+// block, and have no loop.
+#[inline(always)]
 pub(super) fn drop_names(
     chains: &Chains,
     blocks: &[Fields],
@@ -31,8 +33,12 @@ pub(super) fn drop_names(
     ensures after { stored.new ≡ with_names_dropped (take count (named_by blocks.now (nodes_at chains.now head))) stored.old }
     ensures kept { IsKept stored.new }
 {
-    let mut node = head;
-    for _block in 0..count {
+    if count == 0 {
+        return;
+    }
+    stored.drop_name(blocks[head as usize].data_number);
+    let mut node = chains.onward(head);
+    for _block in 1..count {
         stored.drop_name(blocks[node as usize].data_number);
         node = chains.onward(node);
     }

@@ -1,17 +1,33 @@
-use Rattle.std.proofs.Common.{◌≡◌, ◌<◌, length, Some, IsSome, refl, arith, sym, ◌∙◌, subst, get_or}
+use Rattle.std.proofs.Common.{◌≡◌, ◌<◌, ℕ, List, [], ◌∷◌, length, Some, IsSome, refl, arith, sym, ◌∙◌, subst, get_or}
 use Rattle.std.proofs.lemmas.Option.{same_Some}
 use Rattle.strm_links.specs.StrandLayout.{path}
+use Rattle.strm_links.specs.Rows.{first}
 use Rattle.strm_links.proofs.lists.OneList.{has_at}
 use Rattle.strm_links.proofs.chaining.ChainLinks.{has_first}
-use Rattle.strm_links.proofs.chaining.Freed.{Reverses-more, Reverses-start, reverse_at, reversed_all}
+use Rattle.strm_links.proofs.chaining.Freed.{Reverses, Reverses-more, Reverses-start, reverse_at, reversed_all}
 use Rattle.strm_links.proofs.strands.reverse_links.Goals as goal
 use Rattle.strm_links.proofs.strands.reverse_links.Goals.{After-number-number}
 
-pub some-at-requires : goal.some-at-requires
-some-at-requires c = omega (arith, c.requires.few, c.requires.within c.args.head (has_first _ c.args.head c.requires.begins))
+-- ---- the first node
+
+some : (xs : List ℕ) (h : ℕ) → first xs ≡ Some h → 0 < length xs
+some [] h is = absurd (cc)
+some (x ∷ xs) h is = omega arith
+
+pub index_mut-node-requires : goal.index_mut-node-requires
+index_mut-node-requires c = c.requires.within c.args.head (has_first _ c.args.head c.requires.begins)
+
+pub some-onto-requires : goal.some-onto-requires
+some-onto-requires c = omega (arith, c.requires.few, c.requires.within c.args.head (has_first _ c.args.head c.requires.begins))
 
 pub loop-reversed-init : goal.loop-reversed-init
-loop-reversed-init c = Reverses-start _ _ _ _ (c.some-at.ensures ∙ sym c.requires.begins)
+loop-reversed-init c =
+    let starts : Reverses c.args.nodes.now.items c.args.nodes.now.items c.args.beyond _ 0 (Some c.args.head) c.args.beyond = Reverses-start _ _ _ _ (sym c.requires.begins) in
+    let any = some _ c.args.head c.requires.begins in
+    Reverses-more _ _ _ _ _ _ _ starts any c.requires.apart c.requires.leads c.args.head (same_Some _ _ (reverse_at _ _ _ _ _ _ _ starts any))
+    (omega (arith, c.requires.within c.args.head (has_first _ c.args.head c.requires.begins))) c.index_mut-node.result.now _ _ _ c.index_mut-node.ensures.value refl refl c.some-onto.ensures
+
+-- ---- each further one
 
 pub number-number-requires : goal.number-number-requires
 number-number-requires c = subst IsSome (sym (reverse_at _ _ _ _ _ _ _ c.loop-reversed.invariant (omega (arith, c.requires.len, c.loop-reversed-test.true)))) refl
@@ -26,17 +42,17 @@ here c = same_Some _ _ (sym c.number-number.ensures ∙ reverse_at _ _ _ _ _ _ _
 low : (c : After-number-number) → c.number-number.result < length c.loop-reversed.nodes.items
 low c = omega (arith, here c, c.loop-reversed.invariant.len, c.requires.within _ (has_at _ c.loop-reversed._reversed 0 (more c)))
 
-pub index_mut-node-requires : goal.index_mut-node-requires
-index_mut-node-requires c = omega (arith, low (goal.at.index_mut-node-requires c).After-number-number)
+pub index_mut-node-requires-in-loop-reversed : goal.index_mut-node-requires-in-loop-reversed
+index_mut-node-requires-in-loop-reversed c = omega (arith, low (goal.at.index_mut-node-requires-in-loop-reversed c).After-number-number)
 
-pub some-onto-requires : goal.some-onto-requires
-some-onto-requires c = omega (arith, c.requires.few, c.loop-reversed.invariant.len, low (goal.at.some-onto-requires c).After-number-number)
+pub some-onto-requires-in-loop-reversed : goal.some-onto-requires-in-loop-reversed
+some-onto-requires-in-loop-reversed c = omega (arith, c.requires.few, c.loop-reversed.invariant.len, low (goal.at.some-onto-requires-in-loop-reversed c).After-number-number)
 
 pub loop-reversed-preserved : goal.loop-reversed-preserved
 loop-reversed-preserved c =
     let at = (goal.at.loop-reversed-preserved c).After-number-number in
-    Reverses-more _ _ _ _ _ _ _ c.loop-reversed.invariant (more at) c.requires.apart c.requires.leads c.number-number.result (here at) (low at) c.index_mut-node.result.now _ _ _ c.index_mut-node.ensures.value refl refl
-    c.some-onto.ensures
+    Reverses-more _ _ _ _ _ _ _ c.loop-reversed.invariant (more at) c.requires.apart c.requires.leads c.number-number.result (here at) (low at) c.index_mut-node-in-loop-reversed.result.now _ _ _ c.index_mut-node-in-loop-reversed.ensures.value refl refl
+    c.some-onto-in-loop-reversed.ensures
 
 pub returns-clause-reversed : goal.returns-clause-reversed
 returns-clause-reversed c = (reversed_all _ _ _ _ _ _ _ c.loop-reversed.invariant (omega (arith, c.requires.len, c.loop-reversed-test.false))).0

@@ -4,4 +4,4 @@ use Rattle.strm_links.proofs.chaining.Freed.{Reverses}
 use Rattle.strm_links.proofs.strands.reverse_links.Given as goal
 
 abbrev pub invariant-loop-reversed : goal.invariant-loop-reversed
-invariant-loop-reversed l = Reverses l.initial.nodes.items l.nodes.items l.fn.beyond (path l.initial.nodes.items l.len (Some l.head)) l._reversed l.at l.onto
+invariant-loop-reversed l = Reverses l.fn.nodes.items l.nodes.items l.fn.beyond (path l.fn.nodes.items l.len (Some l.head)) l._reversed l.at l.onto

@@ -5,7 +5,7 @@ use Rattle.strm_mblk.specs.declared.token.TokenValue.{TokenValue}
 use Rattle.strm_mblk.specs.Arena.{Arena, has, held_at, shelved_blocks, token_of}
 use Rattle.strm_mblk.specs.BlocksLayout.{arena_of}
 use Rattle.strm_mblk.specs.Given.{value_after, answer_map, answer_of}
-use Rattle.strm_mblk.proofs.making.Allocb.{IsAllocated, allocates}
+use Rattle.strm_mblk.proofs.making.Allocb.{IsAllocated, allocates, taken_fits}
 use Rattle.strm_mblk.proofs.making.BegunAll.{begin_room}
 use Rattle.strm_mblk.proofs.arena.Tokens.{token_had}
 use Rattle.strm_mblk.proofs.arena.Frame.{Leaves, leaves_allocb, leaves_given}
@@ -25,7 +25,7 @@ is_allocated c =
     subst (λ a. IsAllocated a c.take.new.self (set c.self.inside.blocks.items c.unwrap-head.result c.over.result) c.begin.new.self c.self.inside.id c.args.size c.unwrap-head.result c.in_ok-data_number.data_number) c.self.view_is
     (allocates c.self.inside.id c.self.inside.data c.self.inside.blocks.items c.self.inside.chains c.self.invariant.filled c.unwrap-head.result (sym c.begin.ensures.answer ∙ c.unwrap-head.ensures)
     c.in_ok-data_number.data_number c.take.new.self c.begin.new.self c.over.result c.in_ok-data_number.ensures.unused c.in_ok-data_number.ensures.kept (c.in_ok-data_number.ensures.after ∙ ap (after_take c.self.inside.data) (sym c.in_ok-data_number.ensures.answer)) c.begin.ensures.after c.begin.ensures.parted c.over.ensures
-    c.args.size (sym c.has_class_for.ensures ∙ c.if-not-has_class_for.false) (sym c.in_ok-data_number.ensures.answer))
+    c.args.size (taken_fits c.args.size c.in_ok-data_number.data_number c.self.inside.data.store (sym c.in_ok-data_number.ensures.answer)) (sym c.in_ok-data_number.ensures.answer))
 
 pub invariant_of-self-2 : goal.invariant_of-self-2
 invariant_of-self-2 c =

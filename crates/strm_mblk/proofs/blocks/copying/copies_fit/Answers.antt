@@ -1,17 +1,62 @@
-use Rattle.std.proofs.Common.{◌≡◌, ℕ, ◌+◌, ◌-◌, ◌<◌, ap, sym, ◌∙◌, subst, arith, List, Err, Some, length, length-set, ◌∷◌, set, get_or}
-use Rattle.std.specs.Prelude.{drop, slice_get, take}
+use Rattle.std.proofs.Common.{◌≡◌, ℕ, zero, suc, ◌+◌, ◌-◌, ◌<◌, ap, refl, sym, ◌∙◌, subst, arith, List, Err, None, Some, length, length-set, [], ◌∷◌, map, set, get_or}
+use Rattle.std.specs.Prelude.{drop, option_map, slice_get, take}
+use Rattle.std.proofs.lemmas.List.{length-map, length-take}
+use Rattle.std.proofs.lemmas.Option.{none-some, same_Some, slice_get-get_or, slice_get_within}
 use Rattle.strm_data.specs.CountedStore.{CountedStore}
-use Rattle.strm_data.specs.DataStore.{capacity_of}
+use Rattle.strm_data.specs.DataStore.{DataStore, capacity_of}
 use Rattle.strm_data.specs.declared.refusal.Refusal.TheVariants.{NoData}
 use Rattle.std.specs.Result.{is_ok}
 use Rattle.strm_mblk.specs.BlockCalls.{copies}
 use Rattle.strm_mblk.specs.Block.{Block}
-use Rattle.strm_mblk.specs.BlocksLayout.{block_at, fields_at, message_of}
+use Rattle.strm_mblk.specs.declared.blocks.Fields.{Fields}
+use Rattle.strm_mblk.specs.BlocksLayout.{IsPlaced, block_at, fields_at, message_of}
 use Rattle.strm_mblk.specs.Copying.{IsLeft}
-use Rattle.strm_mblk.specs.NodeLists.{nodes_at}
-use Rattle.strm_mblk.proofs.making.CopiesCounted.{IsAhead, IsInside, next_ahead, next_block, none_ahead}
+use Rattle.strm_mblk.specs.Messages.{blocks_of, held_in}
+use Rattle.strm_mblk.specs.NodeLists.{IsNodesParted, NodeLists, nodes_at}
+use Rattle.strm_mblk.proofs.chaining.Standing.{block_room}
+use Rattle.strm_mblk.proofs.layout.Shown.{slice_get-mapped}
+use Rattle.strm_mblk.proofs.lists.Numbers.{slice_get-take}
+use Rattle.strm_mblk.proofs.making.CopiesCounted.{IsAhead, IsInside, enough_left, next_ahead, next_block, none_ahead}
 use Rattle.strm_mblk.proofs.blocks.copying.copies_fit.Goals.{After-class_left}
 use Rattle.strm_mblk.proofs.blocks.copying.copies_fit.Goals as goal
+
+-- ---- the largest class has as many data blocks free
+
+lengths : (fs : List (List ℕ)) (c : ℕ) → get_or (map length fs) c 0 ≡ length (get_or fs c [])
+lengths [] c = refl
+lengths (f ∷ fs) zero = refl
+lengths (f ∷ fs) (suc c) = lengths fs c
+
+-- a block of a held message is one of those that there are
+node_room : (v : NodeLists) → IsNodesParted v → (h k n : ℕ) → slice_get (nodes_at v h) k ≡ Some n → n < length v.held
+node_room v parted h k n at =
+    elim (held_in v.held h) as (λ o. held_in v.held h ≡ o → n < length v.held) [
+      | None ↦ λ none. absurd (none-some n (sym (ap (λ o. slice_get (blocks_of o) k) none) ∙ at))
+      | Some ns ↦ λ some. block_room v parted h k n ns some (sym (ap (λ o. slice_get (blocks_of o) k) some) ∙ at)
+    ] refl
+
+-- the places of the blocks lie in their data blocks
+module _ (fields : List Fields) (v : NodeLists) (s : DataStore) (h count : ℕ) (parted : IsNodesParted v) (listed : length fields ≡ length v.held) (placed : (n : ℕ) → n < length fields → IsPlaced s (fields_at fields n)) where
+  each_inside : (k : ℕ) (b : Block) → slice_get (take count (message_of fields (nodes_at v h))) k ≡ Some b → IsInside s b
+  each_inside k b at =
+      let ns = nodes_at v h in
+      let within = slice_get_within (take count (message_of fields ns)) k b at in
+      let n = get_or ns k 0 in
+      let at_n : slice_get ns k ≡ Some n = slice_get-get_or ns k 0 (omega (arith, within, length-take count (message_of fields ns), length-map ns (block_at fields))) in
+      let is : block_at fields n ≡ b =
+      same_Some _ _ (ap (option_map (block_at fields)) (sym at_n) ∙ sym (slice_get-mapped (block_at fields) ns k)
+      ∙ sym (slice_get-take count k (message_of fields ns) (omega (arith, within, length-take count (message_of fields ns)))) ∙ at) in
+      let there = placed n (omega (arith, listed, node_room v parted h k n at_n)) in
+      subst (IsInside s) is (there.there, there.within)
+
+pub returns-then-free_in_largest-count-clause-fit : goal.returns-then-free_in_largest-count-clause-fit
+returns-then-free_in_largest-count-clause-fit c =
+    let ns = nodes_at c.args.chains.now c.args.head in
+    sym (enough_left (take c.args.count (message_of c.args.blocks.now ns)) c.args.stored.now (map length c.args.stored.now.store.free) c.requires.kept (lengths c.args.stored.now.store.free)
+    (each_inside c.args.blocks.now c.args.chains.now c.args.stored.now.store c.args.head c.args.count c.requires.parted c.requires.listed c.requires.placed)
+    (omega (arith, length-take c.args.count (message_of c.args.blocks.now ns), c.free_in_largest.ensures, c.if-free_in_largest-count.true, lengths c.args.stored.now.store.free (length c.args.stored.now.store.classes - 1))))
+
+-- ---- a class for each
 
 module _ (c : After-class_left) where
   abbrev bs : List Block

@@ -1,16 +1,47 @@
-use Rattle.std.proofs.Common.{◌≡◌, ℕ, ◌+◌, List, Some, arith, ◌∙◌, sym, subst}
+use Rattle.std.proofs.Common.{◌≡◌, ◌<◌, ℕ, ◌+◌, List, Some, arith, ◌∙◌, sym, subst}
+use Rattle.std.proofs.lemmas.Grind.{common_steps}
 use Rattle.std.specs.Prelude.{slice_get, take}
+use Rattle.strm_mblk.specs.declared.blocks.Fields.{Fields}
 use Rattle.strm_mblk.specs.BlocksLayout.{fields_at, named_by}
 use Rattle.strm_mblk.specs.NodeLists.{nodes_at}
 use Rattle.strm_mblk.proofs.lists.Numbers.{slice_get-take}
-use Rattle.strm_mblk.proofs.freeing.Dropping.{IsDropping, named-get, next_dropping, next_used}
+use Rattle.strm_mblk.proofs.freeing.Dropping.{IsDropping, named-get, next_dropping, next_used, start_dropping}
 use Rattle.strm_mblk.proofs.blocks.freeing.drop_names.Goals.{In-loop-block}
 use Rattle.strm_mblk.proofs.blocks.freeing.drop_names.Goals as goal
 
+-- the data blocks whose names are dropped
+abbrev names : (fields : List Fields) (ns : List ℕ) (count : ℕ) → List ℕ
+names fields ns count = take count (named_by fields ns)
+
+-- a block of the message names one of them
+at_block : (fields : List Fields) (ns : List ℕ) (count i n : ℕ) → i < count → slice_get ns i ≡ Some n → slice_get (names fields ns count) i ≡ Some (fields_at fields n).data_number
+at_block fields ns count i n within is = slice_get-take count i _ within ∙ named-get fields ns i n is
+
+-- ---- the first block
+
+pub drop_name-requires-clause-used : goal.drop_name-requires-clause-used
+drop_name-requires-clause-used c =
+    next_used _ 0 c.args.stored.now c.args.stored.now (start_dropping _ _ c.requires.named) _ (at_block c.args.blocks.now _ c.args.count 0 c.args.head (omega (arith, c.if-count-eq0.false)) c.requires.begun)
+
+pub loop-block-init : goal.loop-block-init
+loop-block-init c =
+    let ds = names c.args.blocks.now (nodes_at c.args.chains.now c.args.head) c.args.count in
+    let next : IsDropping ds 1 c.args.stored.now c.drop_name.new.self =
+    subst (IsDropping ds 1 c.args.stored.now) (sym c.drop_name.ensures.after)
+    (next_dropping ds 0 c.args.stored.now c.args.stored.now (start_dropping ds _ c.requires.named) _ (at_block c.args.blocks.now _ c.args.count 0 c.args.head (omega (arith, c.if-count-eq0.false)) c.requires.begun)) in
+    record {
+      at = c.onward-node.ensures.held c.args.head 0 (record { here = λ _. c.requires.begun; in_range = grind (arith, common_steps) });
+      after = next.after;
+      named = next.named;
+      many = next.many;
+      kept = c.drop_name.ensures.kept;
+    }
+
+-- ---- each further one
+
 module _ (c : In-loop-block) where
-  -- the data blocks whose names are dropped
   abbrev ds : List ℕ
-  ds = take c.args.count (named_by c.args.blocks.now (nodes_at c.args.chains.now c.args.head))
+  ds = names c.args.blocks.now (nodes_at c.args.chains.now c.args.head) c.args.count
 
   -- the data block of this step
   abbrev d : ℕ
@@ -22,25 +53,23 @@ module _ (c : In-loop-block) where
 
   -- the next to be dropped is that of this step
   named_at : slice_get ds c.loop-block._block ≡ Some d
-  named_at =
-      slice_get-take c.args.count c.loop-block._block _ c.loop-block-test.true
-      ∙ named-get c.args.blocks.now _ c.loop-block._block c.loop-block.node (c.loop-block.invariant.at.here (omega (arith, c.loop-block-test.true, c.requires.count)))
+  named_at = at_block c.args.blocks.now _ c.args.count c.loop-block._block c.loop-block.node c.loop-block-test.true (c.loop-block.invariant.at.here (omega (arith, c.loop-block-test.true, c.requires.count)))
 
-pub drop_name-requires-clause-used : goal.drop_name-requires-clause-used
-drop_name-requires-clause-used c =
-    let at = (goal.at.drop_name-requires-clause-used c).In-loop-block in
+pub drop_name-requires-in-loop-block-clause-used : goal.drop_name-requires-in-loop-block-clause-used
+drop_name-requires-in-loop-block-clause-used c =
+    let at = (goal.at.drop_name-requires-in-loop-block-clause-used c).In-loop-block in
     next_used (ds at) c.loop-block._block c.args.stored.now c.loop-block.stored (dropping at) (d at) (named_at at)
 
 pub loop-block-preserved : goal.loop-block-preserved
 loop-block-preserved c =
     let at = (goal.at.loop-block-preserved c).In-loop-block in
-    let next : IsDropping (ds at) (c.loop-block._block + 1) c.args.stored.now c.drop_name.new.self =
-    subst (IsDropping (ds at) (c.loop-block._block + 1) c.args.stored.now) (sym c.drop_name.ensures.after)
+    let next : IsDropping (ds at) (c.loop-block._block + 1) c.args.stored.now c.drop_name-in-loop-block.new.self =
+    subst (IsDropping (ds at) (c.loop-block._block + 1) c.args.stored.now) (sym c.drop_name-in-loop-block.ensures.after)
     (next_dropping (ds at) c.loop-block._block c.args.stored.now c.loop-block.stored (dropping at) (d at) (named_at at)) in
     record {
-      at = c.onward-node.ensures.held c.args.head c.loop-block._block c.loop-block.invariant.at;
+      at = c.onward-node-in-loop-block.ensures.held c.args.head c.loop-block._block c.loop-block.invariant.at;
       after = next.after;
       named = next.named;
       many = next.many;
-      kept = c.drop_name.ensures.kept;
+      kept = c.drop_name-in-loop-block.ensures.kept;
     }
