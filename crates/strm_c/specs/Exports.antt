@@ -1,7 +1,6 @@
 -- What a call of C does with the pool of a handle, and answers. No call is defined anew: an export cites the definition that the call
 -- of the named pool cites, and one of the forms below.
-use Rattle.std.specs.Prelude.{◌≡◌, ℕ, ◌-◌, min, ℤ, List, ◌++◌, drop, length, take, Option, None, Some, Result, Ok, Err, IfOk, if◌then◌else◌}
-use Rattle.strm_data.specs.declared.refusal.Refusal.{Refusal}
+use Rattle.std.specs.Prelude.{◌≡◌, ℕ, ◌-◌, min, ℤ, List, ◌++◌, drop, length, take, Option, None, Some, Err, IfOk, if◌then◌else◌}
 use Rattle.strm_mblk.specs.Arena.{message_at}
 use Rattle.strm_mblk.specs.Block.{bytes_of, size_of}
 use Rattle.strm_mblk.specs.Given.{Given, answer_of, value_after}

@@ -1,7 +1,7 @@
 -- Numbers and structs of strm.h, and what they stand for.
-use Rattle.std.specs.Prelude.{ℕ, Bool, true, false, ◌==◌, nat_lt, List, ◌∷◌, [], Option, None, Some, Ok, if◌then◌else◌, slice_get, unwrap_or}
+use Rattle.std.specs.Prelude.{ℕ, Bool, true, false, ◌==◌, nat_lt, Option, None, Some, Ok, if◌then◌else◌, slice_get, unwrap_or}
 use Rattle.strm_data.specs.declared.class_info.ClassInfo.{ClassInfo}
-use Rattle.strm_data.specs.declared.class_spec.ClassSpec.{ClassSpec}
+use Rattle.strm_data.specs.MsgType.{all_types}
 use Rattle.strm_data.specs.declared.msg_type.MsgType.{MsgType}
 use Rattle.strm_data.specs.declared.msg_type.MsgType.TheVariants.{MData, MProto, MBreak, MPassfp, MSig, MDelay, MCtl, MIoctl, MSetopts, MIocack, MIocnak, MPcproto, MPcsig, MRead, MFlush, MStop, MStart, MHangup, MError, MCopyin, MCopyout, MIocdata}
 use Rattle.strm_mblk.specs.declared.block_info.BlockInfo.{BlockInfo}
@@ -11,7 +11,6 @@ use Rattle.strm_queue.specs.declared.flush.Flush.{Flush}
 use Rattle.strm_queue.specs.declared.flush.Flush.TheVariants.{All, Data}
 use Rattle.strm_queue.specs.declared.marks.Marks.{Marks}
 use Rattle.strm_queue.specs.declared.queue_info.QueueInfo.{QueueInfo}
-use Rattle.strm_queue.specs.declared.queue_spec.QueueSpec.{QueueSpec}
 use Rattle.strm_pool.specs.PoolValue.{Wish}
 use Rattle.strm_named.specs.declared.name.Name.{Name}
 use Rattle.strm_c.specs.Codes.{Answer}
@@ -33,12 +32,9 @@ capped n = if nat_lt n 255 then n else 255
 abbrev pub band_of : ℕ → Option ℕ
 band_of n = if nat_lt n 256 then Some n else None
 
--- the types, by their numbers
-abbrev pub types : List MsgType
-types = MData ∷ MProto ∷ MBreak ∷ MPassfp ∷ MSig ∷ MDelay ∷ MCtl ∷ MIoctl ∷ MSetopts ∷ MIocack ∷ MIocnak ∷ MPcproto ∷ MPcsig ∷ MRead ∷ MFlush ∷ MStop ∷ MStart ∷ MHangup ∷ MError ∷ MCopyin ∷ MCopyout ∷ MIocdata ∷ []
-
+-- a type, by its number
 abbrev pub type_of : ℕ → Option MsgType
-type_of n = slice_get types n
+type_of n = slice_get all_types n
 
 -- what a flush takes
 abbrev pub flush_of : ℕ → Option Flush

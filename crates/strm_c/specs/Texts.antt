@@ -1,5 +1,5 @@
 -- The names and the texts of codes in strm.h.
-use Rattle.std.specs.Prelude.{ℕ, ℤ, pos, ◌++◌, drop, length, List, [], ◌∷◌, take, find, Option, None, Some, option_map, codes, if◌then◌else◌}
+use Rattle.std.specs.Prelude.{ℕ, ℤ, pos, ◌++◌, drop, length, List, [], ◌∷◌, take, find, Option, codes, if◌then◌else◌}
 use Rattle.std.specs.Option.{option_map_or}
 use Rattle.std.specs.Ordering.{int_eq}
 use Rattle.strm_data.specs.declared.refusal.Refusal.TheVariants.{TooLarge, NoMblk, NoData, RefMax, NoSuchBlock, Shared, NoRoom, Short, NoSuchPlace, BadOrder, NoSuchQueue, Full, IdsSpent, NotPending, Stranger, TraceFull, Worn, DeskMissing, BadMarks, BadShared}

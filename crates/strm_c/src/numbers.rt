@@ -5,32 +5,6 @@ ghost use Rattle.strm_c.specs.Opening.{next_of};
 
 use strm_pool::{Flush, MsgType};
 
-// The types, by their numbers in strm.h.
-const TYPES: [MsgType; 22] = [
-    MsgType::MData,
-    MsgType::MProto,
-    MsgType::MBreak,
-    MsgType::MPassfp,
-    MsgType::MSig,
-    MsgType::MDelay,
-    MsgType::MCtl,
-    MsgType::MIoctl,
-    MsgType::MSetopts,
-    MsgType::MIocack,
-    MsgType::MIocnak,
-    MsgType::MPcproto,
-    MsgType::MPcsig,
-    MsgType::MRead,
-    MsgType::MFlush,
-    MsgType::MStop,
-    MsgType::MStart,
-    MsgType::MHangup,
-    MsgType::MError,
-    MsgType::MCopyin,
-    MsgType::MCopyout,
-    MsgType::MIocdata,
-];
-
 // A queue, or a class. No pool has one of the number 255, which stands for all above it.
 pub(crate) fn capped(number: u32) -> u8
     ensures { result ≡ capped number }
@@ -67,7 +41,7 @@ fn item_at(types: &[MsgType], place: u32) -> Option<MsgType>
 pub(crate) fn type_of(number: u32) -> Option<MsgType>
     ensures { result ≡ type_of number }
 {
-    item_at(&TYPES, number)
+    item_at(MsgType::all(), number)
 }
 
 // What a flush takes.

@@ -1,6 +1,6 @@
--- The class and the name of each message type.
+-- The message types, and the class and the name of each.
 use denote.Enum.Bare.{sameb}
-use Rattle.std.specs.Prelude.{ℕ, Bool, true, false, List, codes}
+use Rattle.std.specs.Prelude.{ℕ, Bool, true, false, List, [], ◌∷◌, codes}
 use Rattle.strm_data.specs.contracts.msg_type.MsgType.{the_type}
 use Rattle.strm_data.specs.declared.msg_type.MsgType.{MsgType}
 use Rattle.strm_data.specs.declared.msg_type.MsgType.TheVariants.{MData, MProto, MBreak, MPassfp, MSig, MDelay, MCtl, MIoctl, MSetopts, MIocack, MIocnak, MPcproto, MPcsig, MRead, MFlush, MStop, MStart, MHangup, MError, MCopyin, MCopyout, MIocdata}
@@ -8,6 +8,12 @@ use Rattle.strm_data.specs.declared.msg_type.MsgType.TheVariants.{MData, MProto,
 -- whether two types are one: what `==` answers
 unfoldable pub same_kind : MsgType → MsgType → Bool
 same_kind = sameb the_type
+
+-- every type
+abbrev pub all_types : List MsgType
+all_types =
+    MData ∷ MProto ∷ MBreak ∷ MPassfp ∷ MSig ∷ MDelay ∷ MCtl ∷ MIoctl ∷ MSetopts ∷ MIocack ∷ MIocnak ∷ MPcproto ∷ MPcsig ∷ MRead
+    ∷ MFlush ∷ MStop ∷ MStart ∷ MHangup ∷ MError ∷ MCopyin ∷ MCopyout ∷ MIocdata ∷ []
 
 -- whether messages of the type go before all bands
 abbrev pub is_high_priority : MsgType → Bool

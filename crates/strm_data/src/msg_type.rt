@@ -1,6 +1,6 @@
 //! The type of a message.
 ghost use Rattle.std.specs.Prelude.{◌≡◌};
-ghost use Rattle.strm_data.specs.MsgType.{is_high_priority, name_of};
+ghost use Rattle.strm_data.specs.MsgType.{all_types, is_high_priority, name_of};
 
 /// The type of a data block: that of a message is its first block's.
 ///
@@ -32,7 +32,40 @@ pub enum MsgType {
     MIocdata,
 }
 
+// Every type.
+const ALL: [MsgType; 22] = [
+    MsgType::MData,
+    MsgType::MProto,
+    MsgType::MBreak,
+    MsgType::MPassfp,
+    MsgType::MSig,
+    MsgType::MDelay,
+    MsgType::MCtl,
+    MsgType::MIoctl,
+    MsgType::MSetopts,
+    MsgType::MIocack,
+    MsgType::MIocnak,
+    MsgType::MPcproto,
+    MsgType::MPcsig,
+    MsgType::MRead,
+    MsgType::MFlush,
+    MsgType::MStop,
+    MsgType::MStart,
+    MsgType::MHangup,
+    MsgType::MError,
+    MsgType::MCopyin,
+    MsgType::MCopyout,
+    MsgType::MIocdata,
+];
+
 impl MsgType {
+    /// Every type, in the order in which they are declared: the ordinary ones first.
+    pub fn all() -> &'static [MsgType]
+        ensures { result.now ≡ all_types }
+    {
+        &ALL
+    }
+
     /// Whether messages of this type go before all bands.
     pub fn is_high_priority(self) -> bool
         ensures { result ≡ is_high_priority self }

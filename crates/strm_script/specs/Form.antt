@@ -1,20 +1,13 @@
 -- What a word stands for, where a form wants a number, a register, a word or bytes.
 use Rattle.std.specs.Prelude.{ℕ, ◌+◌, ◌-◌, ◌*◌, ◌^◌, ℤ, pos, neg_ℤ, Bool, true, false, not, ◌&&◌, ◌==◌, nat_lt, nat_le, fold, find, List, [], ◌∷◌, length, Option, None, Some, Result, Ok, Err, bytes_eq, option_and_then, option_map, ok_or, if◌then◌else◌, codes}
 use Rattle.std.specs.List.{list_all}
-use Rattle.strm_data.specs.MsgType.{name_of}
+use Rattle.strm_data.specs.MsgType.{all_types, name_of}
 use Rattle.strm_data.specs.declared.msg_type.MsgType.{MsgType}
-use Rattle.strm_data.specs.declared.msg_type.MsgType.TheVariants.{MData, MProto, MBreak, MPassfp, MSig, MDelay, MCtl, MIoctl, MSetopts, MIocack, MIocnak, MPcproto, MPcsig, MRead, MFlush, MStop, MStart, MHangup, MError, MCopyin, MCopyout, MIocdata}
 use Rattle.strm_pool.specs.Limits.{most_octets}
 use Rattle.strm_queue.specs.declared.flush.Flush.{Flush}
 use Rattle.strm_queue.specs.declared.flush.Flush.TheVariants.{All, Data}
 use Rattle.strm_script.specs.declared.fault.Kind.{Kind}
 use Rattle.strm_script.specs.declared.fault.Kind.TheVariants.{Number, Register, Word, Hex}
-
--- the types of messages
-abbrev pub all_types : List MsgType
-all_types =
-    MData ∷ MProto ∷ MBreak ∷ MPassfp ∷ MSig ∷ MDelay ∷ MCtl ∷ MIoctl ∷ MSetopts ∷ MIocack ∷ MIocnak ∷ MPcproto ∷ MPcsig ∷ MRead
-    ∷ MFlush ∷ MStop ∷ MStart ∷ MHangup ∷ MError ∷ MCopyin ∷ MCopyout ∷ MIocdata ∷ []
 
 -- one of `0` to `9`
 abbrev pub is_digit : ℕ → Bool

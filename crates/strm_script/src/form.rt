@@ -20,32 +20,6 @@ pub trait Argument: Sized {
         ensures { result ≡ form word.now };
 }
 
-// All types of messages.
-const TYPES: [MsgType; 22] = [
-    MsgType::MData,
-    MsgType::MProto,
-    MsgType::MBreak,
-    MsgType::MPassfp,
-    MsgType::MSig,
-    MsgType::MDelay,
-    MsgType::MCtl,
-    MsgType::MIoctl,
-    MsgType::MSetopts,
-    MsgType::MIocack,
-    MsgType::MIocnak,
-    MsgType::MPcproto,
-    MsgType::MPcsig,
-    MsgType::MRead,
-    MsgType::MFlush,
-    MsgType::MStop,
-    MsgType::MStart,
-    MsgType::MHangup,
-    MsgType::MError,
-    MsgType::MCopyin,
-    MsgType::MCopyout,
-    MsgType::MIocdata,
-];
-
 // What each byte stands for as a lower case hexadecimal digit, and 16 for one that is none.
 const HEX_DIGITS: [u8; 256] = [
     16, 16, 16, 16, 16, 16, 16, 16, 16, 16, 16, 16, 16, 16, 16, 16, 16, 16, 16, 16, 16, 16, 16, 16,
@@ -120,7 +94,7 @@ fn is_dash(word: &[u8]) -> bool
 fn type_named(word: &[u8]) -> Option<MsgType>
     ensures { result ≡ type_named word.now }
 {
-    TYPES
+    MsgType::all()
         .iter()
         .copied()
         .find(|kind| kind.name().as_bytes() == word)
