@@ -5,7 +5,6 @@ mod fault;
 mod name;
 mod named_pool;
 mod places;
-mod slot;
 mod tokens;
 
 pub use fault::Fault;

@@ -5,10 +5,9 @@ ghost use Rattle.strm_named.specs.NamedValue.{raised};
 
 use crate::fault::Fault;
 use crate::name::Name;
-use crate::slot::Slot;
 use std::alloc::{AllocError, Global};
 use std::marker::Model;
-use strm_pool::{Refusal, Rejected, Token};
+use strm_pool::{Refusal, Rejected, Slot, Token};
 
 // For each message block a slot, for the token of the held message that begins with it, and a stamp, which counts the messages
 // that were given and begin with it.
@@ -90,13 +89,15 @@ impl Places {
         self.slots[head as usize].take().unwrap()
     }
 
-    // Puts a token at the place of its head.
+    // Puts a token at the place of its head. One that is there is given up.
     pub(crate) fn hold(&mut self, token: Token)
         requires { IsThere self.old token.head }
         ensures { self.new ≡ with_token token self.old }
     {
         let head = token.head() as usize;
-        self.slots[head].hold(token);
+        if let Some(held) = self.slots[head].replace(token) {
+            held.forget();
+        }
     }
 
     // Raises the stamp of a place.

@@ -23,6 +23,7 @@ pub use reg::Reg;
 pub use regs::Regs;
 pub use reply::Reply;
 pub use short_list::{ClassSpecs, Octets, QueueSpecs, ShortList};
+pub use slot::Slot;
 pub use strm_data::{ClassInfo, ClassSpec, MsgType, Refusal};
 pub use strm_mblk::{BlockInfo, Blocks, Census, Rejected, Token, TokenValue};
 pub use strm_queue::{BANDS, BandInfo, Flush, MOST_QUEUES, Marks, QueueInfo, QueueSpec, Queues};

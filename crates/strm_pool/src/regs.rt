@@ -130,7 +130,10 @@ impl Regs {
         requires { IsNone (register self.old reg) }
         ensures { self.new ≡ slice_set self.old reg (Some token) }
     {
-        self.slots[reg.index()].hold(token);
+        match self.slots[reg.index()].replace(token) {
+            None => (),
+            Some(_held) => unreachable!(),
+        }
     }
 
     // The token that a register holds.

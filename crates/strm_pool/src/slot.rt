@@ -1,11 +1,13 @@
-//! What a register holds.
-ghost use Rattle.std.specs.Prelude.{◌≡◌, None, Some, IsNone};
+//! A place for a token.
+ghost use Rattle.std.specs.Prelude.{◌≡◌, None, Some};
 
 use std::marker::Model;
 use strm_mblk::Token;
 
-// A token or none. The elements of an array must be such as may be dropped; dropped, a slot gives its token up.
-pub(crate) struct Slot {
+/// A token or none, for arrays and vectors, whose elements must be such as may be dropped.
+///
+/// A slot that is dropped gives its token up: the token is forgotten, and its message stays held in its pool.
+pub struct Slot {
     token: Option<Token>,
 }
 
@@ -28,41 +30,38 @@ impl Drop for Slot {
 }
 
 impl Slot {
-    // A slot that holds nothing.
-    pub(crate) fn none() -> Slot
+    /// A slot that holds nothing.
+    pub fn none() -> Slot
         ensures { result ≡ None }
     {
         Slot { token: None }
     }
 
-    // What it holds.
-    pub(crate) fn token(&self) -> &Option<Token>
+    /// What it holds. Nothing changes.
+    pub fn token(&self) -> &Option<Token>
         ensures { result.now ≡ self.now }
     {
         &self.token
     }
 
-    // Takes what it holds.
-    pub(crate) fn take(&mut self) -> Option<Token>
+    /// Takes what it holds, and leaves nothing there.
+    pub fn take(&mut self) -> Option<Token>
         ensures token { result ≡ self.old }
         ensures empty { self.new ≡ None }
     {
         self.token.take()
     }
 
-    // Puts a token where there is none.
-    pub(crate) fn hold(&mut self, token: Token)
-        requires { IsNone self.old }
-        ensures { self.new ≡ Some token }
+    /// Puts a token there, and gives back the one that it held, if there was one.
+    pub fn replace(&mut self, token: Token) -> Option<Token>
+        ensures token { result ≡ self.old }
+        ensures held { self.new ≡ Some token }
     {
-        match self.token.replace(token) {
-            None => (),
-            Some(_held) => unreachable!(),
-        }
+        self.token.replace(token)
     }
 
-    // What it held.
-    pub(crate) fn into_token(self) -> Option<Token>
+    /// Takes the slot apart: what it held.
+    pub fn into_token(self) -> Option<Token>
         ensures { result ≡ self }
     {
         let Slot { token } = self;
