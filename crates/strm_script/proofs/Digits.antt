@@ -1,5 +1,5 @@
--- The digits of bytes, of a worker and of a line.
-use Rattle.std.proofs.Common.{◌≡◌, ℕ, ◌+◌, zero-add, ◌-◌, ◌/◌, ◌%◌, ◌^◌, ◌<◌, ◌≤◌, false, List, [], ◌∷◌, ◌++◌, length, drop, get_or, set, append-nil, sym, ap, ◌∙◌, arith}
+-- The digits of bytes and of numbers.
+use Rattle.std.proofs.Common.{◌≡◌, ℕ, ◌+◌, zero-add, ◌-◌, ◌/◌, ◌%◌, ◌^◌, ◌<◌, ◌≤◌, false, List, [], ◌∷◌, ◌++◌, length, drop, get_or, set, sym, ap, ◌∙◌, arith}
 use Rattle.std.specs.Prelude.{codes, decimal}
 use Rattle.std.specs.Fmt.{digit_glyph, digits}
 use Rattle.std.proofs.lemmas.Fmt.{hex_one_digit, length-decimal-le}
@@ -22,18 +22,18 @@ pub two_digits : (b : ℕ) → b < 256 → get_or all_digits (b / 16) 0 ∷ get_
 two_digits b small =
     ap (λ ds. ds ++ get_or all_digits (b % 16) 0 ∷ []) (one_digit (b / 16) (omega arith)) ∙ ap (λ ds. digits 16 false (b / 16) ++ ds) (one_digit (b % 16) (omega arith))
 
--- ---- a worker and a line
+-- ---- numbers
 
--- a number of 32 bits, and a worker, have room
-pub length_line : (n : ℕ) → n < 2 ^ 32 → length (decimal n) ≤ 10
-length_line n small = length-decimal-le 10 n (omega arith) (omega arith) (omega arith)
+-- how many digits a number of 32 bits, and one of 8, has at most
+pub length_u32 : (n : ℕ) → n < 2 ^ 32 → length (decimal n) ≤ 10
+length_u32 n small = length-decimal-le 10 n (omega arith) (omega arith) (omega arith)
 
-pub length_worker : (n : ℕ) → n < 2 ^ 8 → length (decimal n) ≤ 3
-length_worker n small = length-decimal-le 3 n (omega arith) (omega arith) (omega arith)
+pub length_u8 : (n : ℕ) → n < 2 ^ 8 → length (decimal n) ≤ 3
+length_u8 n small = length-decimal-le 3 n (omega arith) (omega arith) (omega arith)
 
--- a colon stands between what was written last and what was written first
-pub placed : (first last worker line : List ℕ) (at start : ℕ) → 0 < at → at ≤ length first → drop at first ≡ line ++ [] → drop start last ≡ worker ++ drop (at - 1) (set first (at - 1) 58)
-    → drop start last ≡ worker ++ (58 ∷ line)
-placed first last worker line at start above within behind whole =
+-- a byte stands between what was written last and what was written first
+pub placed : (byte : ℕ) (first last before behind : List ℕ) (at start : ℕ) → 0 < at → at ≤ length first → drop at first ≡ behind → drop start last ≡ before ++ drop (at - 1) (set first (at - 1) byte)
+    → drop start last ≡ before ++ (byte ∷ behind)
+placed byte first last before behind at start above within is whole =
     let next : at - 1 + 1 ≡ at = omega arith in
-    whole ∙ ap (λ bs. worker ++ bs) (drop-set first (at - 1) 58 (omega arith) ∙ ap (λ n. 58 ∷ drop n first) next ∙ ap (λ bs. 58 ∷ bs) (behind ∙ append-nil line))
+    whole ∙ ap (λ bs. before ++ bs) (drop-set first (at - 1) byte (omega arith) ∙ ap (λ n. byte ∷ drop n first) next ∙ ap (λ bs. byte ∷ bs) is)

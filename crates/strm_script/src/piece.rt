@@ -35,8 +35,13 @@ impl Piece for &str {
 impl Piece for u8 {
     ghost bytes = { decimal };
 
+    // Most have one digit.
     fn append(self, text: &mut Vec<u8>) -> Result<(), AllocError> {
-        u32::from(self).append(text)
+        if self < 10 {
+            text.extend_from_slice(&[b'0' + self])
+        } else {
+            u32::from(self).append(text)
+        }
     }
 }
 

@@ -10,6 +10,9 @@ use strm_pool::{BlockInfo, Census, Reply};
 // How many bytes a worker, a colon and a line have at most.
 const MOST_LABEL: usize = 14;
 
+// How many bytes the three numbers of a census have at most, with a byte behind each.
+const MOST_COUNTS: usize = 33;
+
 // The digits of base 16.
 const DIGITS: [u8; 16] = *b"0123456789abcdef";
 
@@ -81,6 +84,28 @@ impl Piece for BlockInfo {
     }
 }
 
+// The numbers of a census, and the end of the line: written from the last byte to the first, and appended at once.
+#[derive(Clone, Copy)]
+struct Counts(Census);
+
+impl Piece for Counts {
+    ghost use Rattle.std.specs.Prelude.{codes, decimal};
+
+    ghost bytes = { λ counts. decimal counts.0.free
+        ++ (codes " " ++ (decimal counts.0.queued ++ (codes " " ++ (decimal counts.0.held ++ codes "\n")))) };
+
+    fn append(self, text: &mut Vec<u8>) -> Result<(), AllocError> {
+        let Counts(census) = self;
+        let mut counts = [b'\n'; MOST_COUNTS];
+        let held = write_digits(u64::from(census.held), &mut counts, MOST_COUNTS - 1);
+        counts[held - 1] = b' ';
+        let queued = write_digits(u64::from(census.queued), &mut counts, held - 1);
+        counts[queued - 1] = b' ';
+        let free = write_digits(u64::from(census.free), &mut counts, queued - 1);
+        text.extend_from_slice(&counts[free..])
+    }
+}
+
 // What a line says of its reply, and its end.
 impl Piece for &Reply {
     ghost use Rattle.std.specs.Prelude.{codes};
@@ -105,10 +130,7 @@ impl Piece for &Reply {
             Reply::Marks(hiwat, lowat) => pieces!(" marks ", *hiwat, " ", *lowat, "\n").append(
                 text,
             ),
-            Reply::Census(census) => {
-                let Census { free, queued, held } = *census;
-                pieces!(" census ", free, " ", queued, " ", held, "\n").append(text)
-            }
+            Reply::Census(census) => pieces!(" census ", Counts(*census)).append(text),
             Reply::Refused(refusal) => {
                 let (number, name) = (refusal.number(), refusal.name());
                 pieces!(" refused ", number, " ", name, "\n").append(text)
