@@ -1,5 +1,5 @@
 -- Why a worker's call may be refused.
-use Rattle.std.proofs.Common.{◌≡◌, ℕ, ◌+◌, ◌<◌, ◌≤◌, Bool, true, false, Option, Some, None, Err, inl, inr, refl, subst, sym, ap, ◌∙◌, true≢false, List, arith}
+use Rattle.std.proofs.Common.{◌≡◌, ℕ, ◌+◌, ◌<◌, ◌≤◌, Bool, true, false, Option, Some, None, Err, inl, inr, refl, subst, sym, ap, ◌∙◌, true≢false, arith}
 use Rattle.std.specs.Prelude.{IfSome, ◌==◌, ◌⊎◌, if◌then◌else◌, length}
 use Rattle.std.specs.Option.{option_map_or}
 use Rattle.std.proofs.lemmas.Bool.{eqb-true}
@@ -7,7 +7,6 @@ use Rattle.std.proofs.lemmas.Option.{none-some}
 use Rattle.strm_data.specs.declared.refusal.Refusal.{Refusal}
 use Rattle.strm_data.specs.declared.refusal.Refusal.TheVariants.{TraceFull, Worn}
 use Rattle.strm_pool.specs.declared.call.Call.{Call}
-use Rattle.strm_shared.specs.declared.entry.Entry.{Entry}
 use Rattle.strm_shared.specs.Books.{BookValue, IsAfter, IsEnd, IsLawfulBook, end_of, pair_in}
 use Rattle.strm_shared.specs.Desks.{DeskValue, shown, stamp_seen}
 use Rattle.strm_shared.specs.Limits.{most_stamp}

@@ -1,39 +1,33 @@
 -- The parts own what the handle owned.
-use Rattle.std.proofs.Common.{◌≡◌, ◌^◌, ◌<◌, ◌∙◌, ℕ, List, [], ◌∷◌, ◌++◌, refl, sym, ap, lit<, w64}
-use Rattle.std.specs.Prelude.{Bool, true, false, is_some, IsSome, Some, None}
+use Rattle.std.proofs.Common.{◌≡◌, ◌∙◌, List, [], ◌∷◌, ◌++◌, refl, sym, ap}
+use Rattle.std.specs.Prelude.{IsSome, Some}
 use mir.Syntax.{Fn}
-use mir.Val.{Val, vint, vptr}
+use mir.Val.{Val}
 use base.Logic.{SProp, emp, id⊢, never, fst∗}
-use base.Fml.{ftrue}
-use prog.Wp.{Env, WpFn}
+use prog.Wp.{WpFn}
 use types.Logic.{sem}
 use contract.Monad.{fact, fact_i}
 use contract.Running.{tables}
-use types.Kit.{‵, raw, ◌⊛◌, prop, ◌$◌, ◌∵◌, !, qed, by, move, drop, use0, use1, use2, split, join, regoal, rewrite, fsplit, fjoin, feq_i, feq_l, flt_i}
+use types.Kit.{‵, raw, ◌⊛◌, prop, ◌$◌, ◌∵◌, !, qed, by, move, drop, use0, use1, split, regoal, rewrite, fsplit, fjoin}
 use types.Part.{whole, sub, agg}
-use types.Run.{stop, fld, of_opd, lit, no_more, and_then, returns, enter}
-use types.ByLocal.{alloc_all, pass_all, free_all, look_at, get, get_in, sets, env}
+use types.Run.{stop, fld, of_opd, no_more, and_then, returns, enter}
+use types.ByLocal.{alloc_all, pass_all, free_all, look_at, get, get_in, sets}
 use denote.RattleType.{owns}
-use denote.Builtin.{usize}
-use denote.RawPtr.{Ptr, RawPtr, block_ptr, null_ptr, ptr_val, in_a_block}
+use denote.RawPtr.{Ptr, block_ptr, null_ptr, in_a_block}
 use denote.Signature.{types_at}
 use denote.Steps.{nothing, heard}
-use denote.Struct.Tuple.{Tuple}
 use denote.Triple.Entry.{alive}
 use denote.Triple.Walked.{Stays, stay_dropped, walk_of}
 use Rattle.core.proofs.alloc.Calls.{Goes-blank, token, handle_tells}
-use Rattle.std_alloc.proofs.ResultValues.{and_tt}
-use Rattle.std_alloc.proofs.Pairs.{pair_of, pair_val}
 use Rattle.std_alloc.specs.Box.Ownership.{box_owns}
-use Rattle.std_alloc.proofs.BoxSteps.Form.{D, R, B, τ, word, box_typed}
-use Rattle.std_alloc.proofs.BoxSteps.Steps.{box_out, box_in}
+use Rattle.std_alloc.proofs.BoxSteps.Form.{D, R, τ, word, box_typed}
+use Rattle.std_alloc.proofs.BoxSteps.Steps.{box_in}
 use mir.Raw.{raw as bare}
 use Rattle.std.proofs.raw_atomic.Walks.{proved_at, leaves}
-use Rattle.strm_c.specs.Holding.{held, is_open}
+use Rattle.strm_c.specs.Holding.{held}
 use Rattle.strm_c.proofs.AsBox.{E}
-use Rattle.strm_c.proofs.Words.{ptr_typed, sized_val, sized_own, sized_told, sized_made, slot_at, there_is}
+use Rattle.strm_c.proofs.Words.{sized_val, sized_told, slot_at, there_is}
 use Rattle.strm_c.specs.contracts.parts.Parts as parts
-use Rattle.strm_c.specs.contracts.handle.StrmPool as handle
 use Rattle.strm_c.specs.contracts.handle.StrmPool.into_parts.{ended, clauses}
 use Rattle.strm_c.specs.contracts.handle.StrmPool.into_parts.Key.{name as #self}
 use Rattle.strm_c.proofs.handle.StrmPool.into_parts.Statement.{statement}

@@ -1,4 +1,4 @@
-use Rattle.std.proofs.Common.{rules, ◌≡◌, ◌+◌, false, List, None, refl, sym, ap, ◌∙◌, subst, arith, length, set}
+use Rattle.std.proofs.Common.{rules, ◌≡◌, ◌+◌, false, List, None, refl, sym, ap, ◌∙◌, subst, arith, length}
 use Rattle.strm_mblk.specs.declared.census.Census.{Census}
 use Rattle.strm_pool.specs.Registers.{entries_of}
 use Rattle.strm_shared.specs.Books.{BookValue, IsServed, end_of}
