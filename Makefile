@@ -67,9 +67,10 @@ bench-census: $(BUILT)
 	$(NEEDS_RT)
 	@python3 bench/census.py $(OPTIONS)
 
-# Prints what calls of strm.h cost, beside those of a pool written by hand in C. OPTIONS are words of bench/c.py, as --write for docs/.
-bench-c: build/libstrm.a
-	@python3 bench/c.py $(OPTIONS) build/libstrm.a
+# Prints what calls of strm.h cost, beside the calls that they make and those of a pool in C. OPTIONS are words of bench/c.py, as --write for
+# docs/.
+bench-c: build/libstrm.a $(ROUNDS)
+	@python3 bench/c.py $(OPTIONS) build/libstrm.a $(ROUNDS)
 
 # Puts the proved program at build/strm.
 strm: build/strm

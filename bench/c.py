@@ -1,7 +1,8 @@
 #!/usr/bin/env python3
-"""Measures what calls of strm.h cost, beside those of a pool written by hand in C, and prints a table. bench/README.md says how.
+"""Measures what calls of strm.h cost, beside the calls of `Pool` that they make and those of a pool written by hand in C, and prints a table.
+bench/README.md says how.
 
-    bench/c.py [--rounds N] [--write] LIBRARY
+    bench/c.py [--rounds N] [--write] LIBRARY PROGRAM
 """
 import argparse
 import os
@@ -11,26 +12,39 @@ import statistics
 import subprocess
 import sys
 import tempfile
+from typing import NamedTuple
 
+import library
 from programs import rewrite
 
 TOP = os.path.dirname(os.path.dirname(os.path.abspath(__file__)))
 SOURCES = [os.path.join(TOP, "bench", "c", name) for name in ("rounds.c", "plain.c")]
-# What a round does, by its name, and how many calls it makes.
+
+
+class Round(NamedTuple):
+    """What a round does, how many calls it makes, and the rows of strm_bench that the same calls of `Pool` are in: one row, less another if
+    there is one."""
+
+    shown: str
+    calls: int
+    row: str
+    less: str = ""
+
+
 ROUNDS = {
-    "allocb": ("`strm_allocb`, `strm_freemsg`", 2),
-    "dupb": ("`strm_dupb`, `strm_freemsg` of the duplicate", 2),
-    "write": ("`strm_allocb`, `strm_write` of 64 bytes, `strm_freemsg`", 3),
-    "putq": ("`strm_putq`, `strm_getq`, of the only message of a queue", 2),
+    "allocb": Round("`strm_allocb`, `strm_freemsg`", 2, "allocb"),
+    "dupb": Round("`strm_dupb`, `strm_freemsg` of the duplicate", 2, "dupb", "allocb"),
+    "write": Round("`strm_allocb`, `strm_write` of 64 bytes, `strm_freemsg`", 3, "write"),
+    "putq": Round("`strm_putq`, `strm_getq`, of the only message of a queue", 2, "putq"),
 }
 TIMED = 20_000_000
 COUNTED = 100_000
 
 
-def built(library, room):
-    """The program of rounds, over the library."""
+def built(archive, room):
+    """The program of rounds, over the library for C."""
     program = os.path.join(room, "rounds")
-    subprocess.run([os.environ.get("CC", "cc"), "-O2", "-I" + os.path.join(TOP, "c"), *SOURCES, library, "-o", program], check=True)
+    subprocess.run([os.environ.get("CC", "cc"), "-O2", "-I" + os.path.join(TOP, "c"), *SOURCES, archive, "-o", program], check=True)
     return program
 
 
@@ -51,25 +65,42 @@ def counted(program, over, name, count):
     return int(re.search(r"Collected : (\d+)", said)[1])
 
 
-def table(program, rounds):
-    yield "| A round | plain, ns | strm.h, ns | ns more a call | plain, instructions | strm.h |"
-    yield "|---|---|---|---|---|---|"
-    for name, (shown, calls) in ROUNDS.items():
-        plain, face = (nanoseconds(program, over, name, rounds) for over in ("plain", "strm"))
+def direct(program, rounds):
+    """The nanoseconds and the instructions of each round by the calls of `Pool` themselves."""
+    measures = {row: library.Measure("direct", row, library.MIDDLE) for told in ROUNDS.values() for row in (told.row, told.less) if row}
+    counts = library.all_instructions(program, list(measures.values()))
+    times = library.nanoseconds(program, list(measures.values()), counts, rounds)
+
+    def cost(of, told):
+        return of[measures[told.row]] - (of[measures[told.less]] if told.less else 0)
+
+    return {name: (cost(times, told), cost(counts, told)) for name, told in ROUNDS.items()}
+
+
+def table(program, pools, rounds):
+    yield "| A round | plain, ns | `Pool`, ns | strm.h, ns | ns more a call | plain, instructions | `Pool` | strm.h | more a call |"
+    yield "|---|---|---|---|---|---|---|---|---|"
+    costs = direct(pools, rounds)
+    for name, told in ROUNDS.items():
+        times = [nanoseconds(program, over, name, rounds) for over in ("plain", "strm")]
         steps = [instructions(program, over, name) for over in ("plain", "strm")]
-        yield f"| {shown} | {plain:.1f} | {face:.1f} | {(face - plain) / calls:.1f} | {steps[0]:.0f} | {steps[1]:.0f} |"
+        cells = [told.shown]
+        for (plain, face), pool, places in ((times, costs[name][0], 1), (steps, costs[name][1], 0)):
+            cells += [f"{cost:.{places}f}" for cost in (plain, pool, face, (face - pool) / told.calls)]
+        yield f"| {' | '.join(cells)} |"
 
 
 def main():
     words = argparse.ArgumentParser(description=__doc__.splitlines()[0])
     words.add_argument("--rounds", type=int, default=9, help="runs for each median")
     words.add_argument("--write", action="store_true", help="puts the table into docs/COST.md")
-    words.add_argument("library", metavar="LIBRARY")
+    words.add_argument("library", metavar="LIBRARY", help="the path of the library for C")
+    words.add_argument("program", metavar="PROGRAM", help="the path of strm_bench")
     given = words.parse_args()
     if not shutil.which("valgrind"):
         sys.exit("valgrind is not there")
     with tempfile.TemporaryDirectory() as room:
-        lines = list(table(built(given.library, room), given.rounds))
+        lines = list(table(built(given.library, room), os.path.abspath(given.program), given.rounds))
     print("\n".join(lines))
     if given.write:
         rewrite("c", lines)

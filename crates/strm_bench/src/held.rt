@@ -12,6 +12,19 @@ pub(crate) struct Held {
     pub ghost had: { IsTrue (has pool.arena token) },
 }
 
+// Calls of which the compiler would else do once for all rounds what stays from round to round.
+#[inline(never)]
+fn alter_type(held: &mut Held, told: &mut u64) {
+    let answer = held.pool.settype(&held.token, 0, MsgType::MData);
+    *told = told.wrapping_add(u64::from(answer.is_ok()));
+}
+
+#[inline(never)]
+fn alter_band(held: &mut Held, told: &mut u64) {
+    held.pool.setband(&held.token, 1);
+    *told = told.wrapping_add(1);
+}
+
 impl Held {
     /// Makes the message.
     pub(crate) fn of(pool: Pool) -> Option<Held> {
@@ -66,8 +79,7 @@ impl Held {
     pub(crate) fn settype(&mut self, times: u64) -> u64 {
         let mut told = 0u64;
         for _ in 0..times {
-            let answer = self.pool.settype(&self.token, 0, MsgType::MData);
-            told = told.wrapping_add(u64::from(answer.is_ok()));
+            alter_type(self, &mut told);
         }
         told
     }
@@ -76,8 +88,7 @@ impl Held {
     pub(crate) fn setband(&mut self, times: u64) -> u64 {
         let mut told = 0u64;
         for _ in 0..times {
-            self.pool.setband(&self.token, 1);
-            told = told.wrapping_add(1);
+            alter_band(self, &mut told);
         }
         told
     }
