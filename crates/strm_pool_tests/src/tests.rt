@@ -16,6 +16,7 @@ mod pool;
 mod regs;
 mod rows;
 mod second;
+mod slots;
 mod tally;
 
 // Data blocks of two sizes, and how many.
