@@ -32,7 +32,7 @@ capped n = if nat_lt n 255 then n else 255
 abbrev pub band_of : ℕ → Option ℕ
 band_of n = if nat_lt n 256 then Some n else None
 
--- a type, by its number
+-- a type, by its number, which is its place among all types
 abbrev pub type_of : ℕ → Option MsgType
 type_of n = slice_get all_types n
 

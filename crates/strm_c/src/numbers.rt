@@ -37,7 +37,7 @@ fn item_at(types: &[MsgType], place: u32) -> Option<MsgType>
     types.get(place as usize).copied()
 }
 
-// A type of data blocks.
+// A type of data blocks, by its place in `MsgType::all`, which is its number in strm.h.
 pub(crate) fn type_of(number: u32) -> Option<MsgType>
     ensures { result ≡ type_of number }
 {
