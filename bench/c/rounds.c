@@ -22,9 +22,9 @@ static const unsigned char bytes[SIZE];
 
 static int opened(void)
 {
-	static const struct strm_class_spec classes[] = { { 16, 1365 }, { SIZE, 1365 }, { 256, 1365 } };
+	static const struct strm_class_spec classes[] = { { SIZE, BLOCKS - 40 }, { 256, 32 }, { 4096, 8 } };
 	static const struct strm_queue_spec queues[] = { { 65536, 1024, 1, STRM_NO_QUEUE } };
-	static const uint32_t plain_classes[][2] = { { 16, 1365 }, { SIZE, 1365 }, { 256, 1365 } };
+	static const uint32_t plain_classes[][2] = { { SIZE, BLOCKS - 40 }, { 256, 32 }, { 4096, 8 } };
 	struct strm_config config;
 
 	memset(&config, 0, sizeof config);
