@@ -51,6 +51,7 @@ fn refusals_have_their_numbers(rt: HostRuntime) {
 
 #[test]
 fn types_have_their_names(rt: HostRuntime) {
+    let mut place = 0usize;
     for (kind, name, high) in [
         (MsgType::MData, "M_DATA", false),
         (MsgType::MProto, "M_PROTO", false),
@@ -76,5 +77,8 @@ fn types_have_their_names(rt: HostRuntime) {
         (MsgType::MIocdata, "M_IOCDATA", true),
     ] {
         assert_type(&rt, kind, name, high);
+        assert!(rt; MsgType::all().get(place).copied() == Some(kind));
+        place = place.wrapping_add(1);
     }
+    assert!(rt; MsgType::all().len() == place);
 }
