@@ -127,6 +127,25 @@ fn place_of(classes: &[Class], blocks: &[DataBlock], number: DataNo, at: u32) ->
     }
 }
 
+// Copies so many bytes of a region from a place to another. Those of two data blocks lie apart, and are copied as those of two
+// regions are.
+#[inline(always)]
+fn copy_inside(region: &mut [u8], from: usize, into: usize, len: usize)
+    requires there { from + len ≤ length region.old }
+    requires room { into + len ≤ length region.old }
+    ensures { region.new ≡ overwritten into (take len (drop from region.old)) region.old }
+{
+    if from + len <= into {
+        let (low, high) = region.split_at_mut(into);
+        overwrite(high, 0, &low[from..from + len]);
+    } else if into + len <= from {
+        let (low, high) = region.split_at_mut(from);
+        overwrite(low, into, &high[..len]);
+    } else {
+        region.copy_within(from..from + len, into);
+    }
+}
+
 // Copies so many bytes from a place to another, of the same region or another.
 #[inline(always)]
 fn copy_bytes(regions: &mut [Vec<u8>], from: RegionPlace, into: RegionPlace, len: usize)
@@ -139,7 +158,7 @@ fn copy_bytes(regions: &mut [Vec<u8>], from: RegionPlace, into: RegionPlace, len
 {
     let bytes = from.start..from.start + len;
     if from.class == into.class {
-        regions[into.class].copy_within(bytes, into.start);
+        copy_inside(&mut regions[into.class], from.start, into.start, len);
     } else if from.class < into.class {
         let (low, high) = regions.split_at_mut(into.class);
         overwrite(&mut high[0], into.start, &low[from.class][bytes]);

@@ -209,7 +209,7 @@ impl Blocks {
 
     /// Takes the first free message block, and a data block of `size` bytes or more, for a new message of no bytes, type
     /// M_DATA and band 0. The data block is the first free one of the smallest class that fits and has one. Takes at most
-    /// three steps for each class.
+    /// two steps for each class.
     ///
     /// Refused as `TooLarge` where the size is above the largest class, then as `NoMblk` where no message block is
     /// free, then as `NoData` where no data block is that fits; nothing changes then.

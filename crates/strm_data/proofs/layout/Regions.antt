@@ -1,7 +1,5 @@
 -- Bytes that are copied from one region to another, or within one.
-use Rattle.std.proofs.Common.{◌≡◌, ℕ, ◌+◌, ◌-◌, ◌<◌, ◌≤◌, List, [], ◌++◌, Vec, Global, length, get_or, set, take, drop, sym, ap, ◌∙◌, arith, append_assoc, length-append}
-use lib.Seq.{paste}
-use Rattle.std.specs.List.{copy_within}
+use Rattle.std.proofs.Common.{◌≡◌, ℕ, ◌+◌, ◌-◌, ◌<◌, ◌≤◌, List, [], ◌++◌, Vec, Global, length, get_or, set, take, drop, sym, ap, ◌∙◌, arith, length-append}
 use Rattle.std.specs.Vec.{with_items}
 use Rattle.std.proofs.lemmas.List.{get_or-append_right, get_or-map, get_or_append_left, map-set, set-append_left, set-append_right, with_items_is}
 use Rattle.strm_data.specs.DataLayout.{bytes_of, region_at}
@@ -11,13 +9,6 @@ use Rattle.strm_data.proofs.lists.Tables.{length-overwritten, length-part}
 -- the bytes that are copied, and what stands there then
 abbrev pub part : ℕ → ℕ → List ℕ → List ℕ
 part from len bytes = take len (drop from bytes)
-
--- within a region
-pub within_one : (from into len : ℕ) (bytes : List ℕ) → from + len ≤ length bytes → copy_within bytes from (from + len) into ≡ overwritten into (part from len bytes) bytes
-within_one from into len bytes there =
-    let many : from + len - from ≡ len = omega arith in
-    ap (paste bytes into (drop from bytes)) many ∙ append_assoc (take into bytes) (part from len bytes) (drop (into + len) bytes)
-    ∙ ap (λ n. take into bytes ++ (part from len bytes ++ drop (into + n) bytes)) (sym (length-part len from bytes there))
 
 -- a region of a vector of them
 pub region_of : (regions : List (Vec ℕ Global)) (c : ℕ) (r d : Vec ℕ Global) → c < length regions → r ≡ get_or regions c d → region_at (bytes_of regions) c ≡ r.items

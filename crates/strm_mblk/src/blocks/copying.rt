@@ -51,7 +51,7 @@ fn class_left(stored: &Data, left: &[u32; MOST_CLASSES], size: u32) -> Option<u8
     None
 }
 
-// Whether the data blocks suffice for copies of a message's first `count` blocks. Mostly the largest class alone has as many.
+// Whether the data blocks suffice for copies of a message's first `count` blocks. Mostly as many of the largest class are free.
 // Nothing changes: taking a data block would change its type.
 #[inline(always)]
 fn copies_fit(chains: &Chains, blocks: &[Fields], stored: &Data, head: u32, count: u32) -> bool

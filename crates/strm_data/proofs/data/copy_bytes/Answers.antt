@@ -1,23 +1,29 @@
-use Rattle.std.proofs.Common.{◌<◌, ◌≤◌, ◌+◌, ℕ, Vec, Global, get_or, length, set, sym, ap, ◌∙◌, arith}
-use Rattle.std.specs.List.{copy_within}
+use Rattle.std.proofs.Common.{◌<◌, ◌+◌, ℕ, ◌-◌, ◌≡◌, Vec, Global, drop, get_or, length, set, sym, take, ap, ◌∙◌, arith}
 use Rattle.std.specs.Vec.{with_items}
 use Rattle.std.proofs.lemmas.List.{map-set}
 use Rattle.strm_data.specs.DataLayout.{bytes_of, region_at}
 use Rattle.strm_data.specs.DataStore.{overwritten}
-use Rattle.strm_data.proofs.layout.Regions.{high_region, high_set, low_region, low_set, over_region, part, region_of, within_one}
+use Rattle.strm_data.proofs.layout.Regions.{high_region, high_set, low_region, low_set, over_region, part, region_of}
 use Rattle.strm_data.proofs.data.copy_bytes.Goals as goal
 
 pub returns-then-from-into : goal.returns-then-from-into
 returns-then-from-into c =
-    let r = c.index-regions-into.result in
-    let region = region_of c.args.regions.now c.args.into.class r r c.requires.into_class c.index-regions-into.is in
-    let there : c.args.from.start + c.args.len ≤ length r.items = omega (arith, c.requires.there, ap length region, ap (λ k. length (region_at (bytes_of c.args.regions.now) k)) c.if-from-into.true) in
-    map-set (λ (x : Vec ℕ Global). x.items) c.args.regions.now c.args.into.class c.copy_within.new.self
+    let from = c.args.from.start in
+    let into = c.args.into.start in
+    let target = c.index-regions-into.result in
+    let whole = region_of c.args.regions.now c.args.into.class target target c.requires.into_class c.index-regions-into.is in
+    let old = c.deref_mut.ensures.value ∙ ap (λ (x : Vec ℕ Global). x.items) (sym c.index-regions-into.is) ∙ sym whole in
+    let now = c.deref_mut.result.now in
+    let many : c.args.len ≡ from + c.args.len - from = omega arith in
+    let v = with_items (get_or c.args.regions.now c.args.into.class target) c.copy_inside.new.region in
+    let same = ap (λ k. region_at (bytes_of c.args.regions.now) k) c.if-from-into.true in
+    map-set (λ (x : Vec ℕ Global). x.items) c.args.regions.now c.args.into.class v
     ∙ ap (set (bytes_of c.args.regions.now) c.args.into.class)
-    (c.copy_within.ensures.items ∙ ap (λ (x : Vec ℕ Global). copy_within x.items c.args.from.start (c.args.from.start + c.args.len) c.args.into.start) (sym c.index-regions-into.is)
-    ∙ within_one c.args.from.start c.args.into.start c.args.len r.items there
-    ∙ (λ i. overwritten c.args.into.start (part c.args.from.start c.args.len (sym region i)) (sym region i))
-    ∙ ap (λ k. overwritten c.args.into.start (part c.args.from.start c.args.len (region_at (bytes_of c.args.regions.now) k)) (region_at (bytes_of c.args.regions.now) c.args.into.class)) (sym c.if-from-into.true))
+    (over_region (get_or c.args.regions.now c.args.into.class target) from into c.args.len now now c.copy_inside.new.region
+    (omega (arith, c.requires.there, ap length old, ap length same)) (omega (arith, c.requires.room, ap length old)) c.deref_mut.ensures.len
+    (c.copy_inside.ensures ∙ ap (λ n. overwritten into (take n (drop from now)) now) many)
+    ∙ (λ i. overwritten into (part from c.args.len (old i)) (old i))
+    ∙ ap (λ bytes. overwritten into (part from c.args.len bytes) (region_at (bytes_of c.args.regions.now) c.args.into.class)) (sym same))
 
 pub returns-then-from-into-2 : goal.returns-then-from-into-2
 returns-then-from-into-2 c =
@@ -28,14 +34,14 @@ returns-then-from-into-2 c =
     let source = c.index-low-from.result in
     let whole = ap (λ rs. region_at (bytes_of rs) c.args.into.class) parts.value ∙ high_region low high c.args.into.class target parts.front_len (omega (arith, parts.back_len, c.requires.into_class)) c.index-high-0.is in
     let read = ap (λ rs. region_at (bytes_of rs) c.args.from.class) parts.value ∙ low_region low high c.args.from.class source (omega (arith, parts.front_len, c.if-from-into-2.true)) c.index-low-from.is in
-    let old = c.deref_mut.ensures.value ∙ ap (λ (x : Vec ℕ Global). x.items) (sym c.index-high-0.is) ∙ sym whole in
+    let old = c.deref_mut-then-from-into-2.ensures.value ∙ ap (λ (x : Vec ℕ Global). x.items) (sym c.index-high-0.is) ∙ sym whole in
     let bytes = c.deref.ensures.value ∙ ap (λ (x : Vec ℕ Global). x.items) (sym c.index-low-from.is) ∙ sym read in
     let v = with_items (get_or high 0 target) c.overwrite.new.old in
     high_set low high c.args.into.class v parts.front_len
     ∙ ap (λ rs. set (bytes_of rs) c.args.into.class v.items) (sym parts.value)
     ∙ ap (set (bytes_of c.args.regions.now) c.args.into.class)
-    (over_region (get_or high 0 target) c.args.from.start c.args.into.start c.args.len c.deref.result.now c.deref_mut.result.now c.overwrite.new.old
-    (omega (arith, c.requires.there, ap length bytes)) (omega (arith, c.requires.room, ap length old)) c.deref_mut.ensures.len c.overwrite.ensures
+    (over_region (get_or high 0 target) c.args.from.start c.args.into.start c.args.len c.deref.result.now c.deref_mut-then-from-into-2.result.now c.overwrite.new.old
+    (omega (arith, c.requires.there, ap length bytes)) (omega (arith, c.requires.room, ap length old)) c.deref_mut-then-from-into-2.ensures.len c.overwrite.ensures
     ∙ (λ i. overwritten c.args.into.start (part c.args.from.start c.args.len (bytes i)) (old i)))
 
 pub returns-else-from-into-2 : goal.returns-else-from-into-2
