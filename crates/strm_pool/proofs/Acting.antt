@@ -1,4 +1,4 @@
--- What each arm of a call on registers shows, by its shape and the clauses of the call that it makes.
+-- What each function on registers shows, by the shape of its call and the clauses of the call that it makes.
 use Rattle.std.proofs.Common.{◌≡◌, ℕ, zero, suc, true, List, [], ◌∷◌, set, Option, Some, None, Result, Ok, Err, refl, sym, ap, ◌∙◌, subst}
 use Rattle.std.specs.Prelude.{IfOk, MatchResult}
 use Rattle.std.proofs.lemmas.Bool.{and_from, and_parts}
@@ -32,6 +32,19 @@ owns_less v (r ∷ rs) zero owned = (and_parts _ _ owned).1
 owns_less v (r ∷ rs) (suc x) owned =
     let parts = and_parts (option_map_or (has v.arena) r true) (owns v rs) owned in
     and_from _ _ parts.0 (owns_less v rs x parts.1)
+
+-- two registers from which tokens are taken hold none
+pub emptied : (rs : List (Option TokenValue)) (x y : ℕ) → register (set (set rs x None) y None) x ≡ None
+emptied [] x y = refl
+emptied (r ∷ rs) zero zero = refl
+emptied (r ∷ rs) zero (suc y) = refl
+emptied (r ∷ rs) (suc x) zero = cleared rs x
+  where
+    cleared : (us : List (Option TokenValue)) (k : ℕ) → register (set us k None) k ≡ None
+    cleared [] k = refl
+    cleared (u ∷ us) zero = refl
+    cleared (u ∷ us) (suc k) = cleared us k
+emptied (r ∷ rs) (suc x) (suc y) = emptied rs x y
 
 -- a token is put back into the register that it was taken from
 pub put_in_place : (rs : List (Option TokenValue)) (x : ℕ) (o : Option TokenValue) {ss us : List (Option TokenValue)} → us ≡ set ss x o → ss ≡ set rs x None → us ≡ set rs x o

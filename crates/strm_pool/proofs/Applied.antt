@@ -13,11 +13,26 @@ use Rattle.strm_pool.specs.declared.reply.Reply.{Reply}
 use Rattle.strm_pool.specs.declared.reply.Reply.TheVariants.{Empty, Taken, Refused}
 use Rattle.strm_pool.specs.Names.{names_of, registers_in}
 use Rattle.strm_pool.specs.PoolValue.{PoolValue, owns}
-use Rattle.strm_pool.specs.Registers.{AreAccounted, AreDistinct, entries_of, register, table_of}
-use Rattle.strm_pool.specs.Shapes.{IsReady}
-use Rattle.strm_pool.specs.Step.{Applies, act, is_named, is_taken, misses_token, replying, step}
+use Rattle.strm_pool.specs.Registers.{AreAccounted, AreDistinct, RegisterTable, entries_of, register, table_of}
+use Rattle.strm_pool.specs.Shapes.{IsReady, refusal_of}
+use Rattle.strm_pool.specs.Step.{Applies, act, is_named, is_taken, misses_queue, misses_token, replying, step}
 use Rattle.strm_pool.proofs.Accounts.{Balanced, accounted_balanced, accounted_distinct, owned_balanced, owned_token, table-at}
 use Rattle.strm_pool.proofs.Moved.{Changes, Each, Moves, moves_balanced, moves_had, news, olds, registers_of, token-has, with_new, with_other, with_tokens}
+
+pub same_some : {X : Type 0} {x y : X} → (let o : Option X = Some x in let p : Option X = Some y in o ≡ p) → x ≡ y
+same_some is = cc
+
+-- which of three tests comes first
+first_of : {X Y : Type 0} (f : X → Y) (one two three : Bool) (x y z : X) (rest : Y) {w : X} → (if one then Some x else (if two then Some y else (if three then Some z else None))) ≡ Some w
+    → (if one then f x else (if two then f y else (if three then f z else rest))) ≡ f w
+first_of f true two three x y z rest is = ap f (same_some is)
+first_of f false true three x y z rest is = ap f (same_some is)
+first_of f false false true x y z rest is = ap f (same_some is)
+first_of f false false false x y z rest is = absurd cc
+
+-- a call that may not be made is a step by its refusal
+pub step_refused : (v : PoolValue) (t : RegisterTable) (call : Call) {reply : Reply} → refusal_of v t (names_of call) ≡ Some reply → step v t call ≡ replying v t reply
+step_refused v t call is = first_of (replying v t) (misses_queue v (names_of call)) (misses_token t (names_of call)) (is_taken t (names_of call)) (Refused NoSuchQueue) Empty Taken (act v t call) is
 
 -- a call that is ready acts
 pub step_act : {v : PoolValue} {rs : List (Option TokenValue)} {call other : Call} → call ≡ other → IsReady v rs call → step v (table_of rs) call ≡ act v (table_of rs) other

@@ -21,7 +21,7 @@ use Rattle.strm_pool.specs.Registers.{AreDistinct, register, table_of}
 use Rattle.strm_pool.specs.Shapes.{IsReady, Settled, any_given_to, given_to, parted_to, rejected_to, reply_done, reply_made}
 use Rattle.strm_pool.specs.Step.{Applies, act, answers, doing, gives, head_held, keeps, may_give, misses_token, parts, replying, spends}
 use Rattle.strm_pool.proofs.Accounts.{owned_token, table-at}
-use Rattle.strm_pool.proofs.Applied.{applies_by, applies_nothing, step_act}
+use Rattle.strm_pool.proofs.Applied.{applies_by, applies_nothing, same_some, step_act}
 use Rattle.strm_pool.proofs.Moved.{Each, Moves, held_has, news, table-set, tokens_in}
 
 pub err_not_ok : {X Y : Type 0} {e : Y} {x : X} → Err e ≡ Ok x → ⊥
@@ -32,9 +32,6 @@ same_ok is = cc
 
 pub same_err : {X Y : Type 0} {x y : Y} → (let r : Result X Y = Err x in let s : Result X Y = Err y in r ≡ s) → x ≡ y
 same_err is = cc
-
-pub same_some : {X : Type 0} {x y : X} → (let o : Option X = Some x in let p : Option X = Some y in o ≡ p) → x ≡ y
-same_some is = cc
 
 -- the head of a register that holds a token
 pub head_is : (rs : List (Option TokenValue)) (x : ℕ) (t : TokenValue) → register rs x ≡ Some t → head_held (table_of rs) x ≡ t.head

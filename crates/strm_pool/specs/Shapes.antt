@@ -1,16 +1,18 @@
 -- When a call on registers may be made, and what becomes of them when it answers. No public clause cites this module.
-use Rattle.std.specs.Prelude.{◌≡◌, ◌<◌, ℕ, false, IsTrue, List, length, Option, None, Some, Result, Ok, Err, slice_set}
+use Rattle.std.specs.Prelude.{◌≡◌, ◌<◌, ℕ, false, IsTrue, List, length, Option, None, Some, Result, Ok, Err, slice_set, if◌then◌else◌}
 use Rattle.std.specs.Option.{ForSome}
 use Rattle.strm_data.specs.declared.refusal.Refusal.{Refusal}
+use Rattle.strm_data.specs.declared.refusal.Refusal.TheVariants.{NoSuchQueue}
 use Rattle.strm_mblk.specs.declared.rejected.Rejected.{Rejected}
 use Rattle.strm_mblk.specs.declared.token.TokenValue.{TokenValue}
 use Rattle.strm_pool.specs.declared.call.Call.{Call}
+use Rattle.strm_pool.specs.declared.names.Names.{Names}
 use Rattle.strm_pool.specs.declared.reply.Reply.{Reply}
-use Rattle.strm_pool.specs.declared.reply.Reply.TheVariants.{Done, Nothing, Refused}
+use Rattle.strm_pool.specs.declared.reply.Reply.TheVariants.{Done, Empty, Nothing, Refused, Taken}
 use Rattle.strm_pool.specs.Names.{names_of}
 use Rattle.strm_pool.specs.PoolValue.{PoolValue, owns}
-use Rattle.strm_pool.specs.Registers.{table_of}
-use Rattle.strm_pool.specs.Step.{is_taken, misses_queue, misses_token}
+use Rattle.strm_pool.specs.Registers.{RegisterTable, table_of}
+use Rattle.strm_pool.specs.Step.{Applies, is_taken, misses_queue, misses_token}
 
 -- a call may be made: its queue is there, its sources hold tokens that the pool has, and its destination is there and
 -- holds none
@@ -20,6 +22,18 @@ pub record IsReady (v : PoolValue) (rs : List (Option TokenValue)) (call : Call)
   pub sources : misses_token (table_of rs) (names_of call) ≡ false
   pub free : is_taken (table_of rs) (names_of call) ≡ false
   pub there : ForSome (names_of call).destination (λ x. x < length rs)
+
+-- a call that names no register is done so, whatever registers hold
+abbrev pub Does : PoolValue → Call → PoolValue → Reply → Type 0
+Does v call w reply = (rs : List (Option TokenValue)) → IsReady v rs call → Applies v rs call w rs reply
+
+-- the reply to a call that may not be made, by what it names
+abbrev pub refusal_of : PoolValue → RegisterTable → Names → Option Reply
+refusal_of v t names =
+    if misses_queue v names then Some (Refused NoSuchQueue)
+    else (if misses_token t names then Some Empty
+    else (if is_taken t names then Some Taken
+    else None))
 
 -- registers, and the reply
 abbrev pub Settled : Type 0

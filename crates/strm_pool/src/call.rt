@@ -92,26 +92,26 @@ pub enum Call {
     Census,
 }
 
-impl Call {
-    /// The queue and the registers that the call names.
-    #[inline(always)]
-    pub fn names(&self) -> Names
-        ensures { result ≡ names_of self.now }
-    {
-        match *self {
+// What a function makes of the values given and of what a call names: its queue, the registers that it takes from, and the one
+// that it puts into.
+macro_rules! naming {
+    ($call:expr, $make:path $(, $with:expr)*) => {
+        match *$call {
             Call::Testb(_)
             | Call::Service
             | Call::Bufcall(_)
             | Call::Unbufcall(_)
             | Call::Ready
-            | Call::Census => Names::of(None, None, None, None),
-            Call::Allocb(into, _) => Names::of(None, None, None, Some(into)),
+            | Call::Census => $make($($with,)* None, None, None, None),
+            Call::Allocb(into, _) => $make($($with,)* None, None, None, Some(into)),
             Call::Dupb(from, into)
             | Call::Dupmsg(from, into)
             | Call::Copyb(from, into)
             | Call::Copymsg(from, into)
             | Call::Unlinkb(from, into)
-            | Call::Rmvb(from, _, into) => Names::of(None, Some(from), None, Some(into)),
+            | Call::Rmvb(from, _, into) => {
+                $make($($with,)* None, Some(from), None, Some(into))
+            }
             Call::Write(reg, _, _)
             | Call::Settype(reg, _, _)
             | Call::Setband(reg, _)
@@ -122,13 +122,15 @@ impl Call {
             | Call::Read(reg, _)
             | Call::Block(reg, _)
             | Call::Freeb(reg)
-            | Call::Freemsg(reg) => Names::of(None, Some(reg), None, None),
-            Call::Linkb(reg, behind) => Names::of(None, Some(reg), Some(behind), None),
+            | Call::Freemsg(reg) => $make($($with,)* None, Some(reg), None, None),
+            Call::Linkb(reg, behind) => {
+                $make($($with,)* None, Some(reg), Some(behind), None)
+            }
             Call::Putq(queue, reg) | Call::Putbq(queue, reg) | Call::Insq(queue, _, reg) => {
-                Names::of(Some(queue), Some(reg), None, None)
+                $make($($with,)* Some(queue), Some(reg), None, None)
             }
             Call::Getq(queue, into) | Call::Rmvq(queue, _, into) => {
-                Names::of(Some(queue), None, None, Some(into))
+                $make($($with,)* Some(queue), None, None, Some(into))
             }
             Call::Flushq(queue, _)
             | Call::Flushband(queue, _, _)
@@ -138,8 +140,19 @@ impl Call {
             | Call::Qsize(queue)
             | Call::Qenable(queue)
             | Call::Noenable(queue)
-            | Call::Enableok(queue) => Names::of(Some(queue), None, None, None),
+            | Call::Enableok(queue) => $make($($with,)* Some(queue), None, None, None),
         }
+    };
+}
+
+pub(crate) use naming;
+
+impl Call {
+    /// The queue and the registers that the call names.
+    pub fn names(&self) -> Names
+        ensures { result ≡ names_of self.now }
+    {
+        naming!(self, Names::of)
     }
 
     /// An equal call, with bytes of its own where this one carries bytes. It takes no memory, and nothing changes.

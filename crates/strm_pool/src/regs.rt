@@ -2,12 +2,12 @@
 ghost use Rattle.std.specs.Prelude.{◌≡◌, ◌≢◌, ◌<◌, None, Some, IsNone, IsSome, is_some, length, replicate, slice_set};
 ghost use Rattle.std.specs.Option.{ForSome};
 ghost use Rattle.strm_pool.specs.Limits.{most_registers};
+ghost use Rattle.strm_pool.specs.Names.{naming};
 ghost use Rattle.strm_pool.specs.Registers.{entries_of, register, table_of};
 ghost use Rattle.strm_pool.specs.Shapes.{any_given_to, given_to, parted_to, rejected_to};
 ghost use Rattle.strm_pool.specs.Step.{is_empty, is_taken, misses_token};
 
 use crate::limits::MOST_REGISTERS;
-use crate::names::Names;
 use crate::reg::Reg;
 use crate::reply::Reply;
 use crate::slot::Slot;
@@ -166,70 +166,76 @@ impl Regs {
         }
     }
 
-    // Puts the token that a call gave into a register that holds none.
-    pub(crate) fn give(&mut self, into: Reg, given: Result<Token, Refusal>) -> Reply
+    // Puts the token that a call gave into a register that holds none, and sets the reply.
+    pub(crate) fn give(&mut self, into: Reg, given: Result<Token, Refusal>, reply: &mut Reply)
         requires { IsNone (register self.old into) }
-        ensures { (self.new, result) ≡ given_to into given self.old }
+        ensures { (self.new, reply.new) ≡ given_to into given self.old }
     {
         match given {
             Ok(token) => {
                 self.hold(into, token);
-                Reply::Done
+                *reply = Reply::Done;
             }
-            Err(why) => Reply::Refused(why),
+            Err(why) => *reply = Reply::Refused(why),
         }
     }
 
-    // Puts the token that a call gave, if it gave one, into a register that holds none.
-    pub(crate) fn give_any(&mut self, into: Reg, given: Result<Option<Token>, Refusal>) -> Reply
+    // Puts the token that a call gave, if it gave one, into a register that holds none, and sets the reply.
+    pub(crate) fn give_any(
+        &mut self,
+        into: Reg,
+        given: Result<Option<Token>, Refusal>,
+        reply: &mut Reply,
+    )
         requires { IsNone (register self.old into) }
-        ensures { (self.new, result) ≡ any_given_to into given self.old }
+        ensures { (self.new, reply.new) ≡ any_given_to into given self.old }
     {
         match given {
             Ok(Some(token)) => {
                 self.hold(into, token);
-                Reply::Done
+                *reply = Reply::Done;
             }
-            Ok(None) => Reply::Nothing,
-            Err(why) => Reply::Refused(why),
+            Ok(None) => *reply = Reply::Nothing,
+            Err(why) => *reply = Reply::Refused(why),
         }
     }
 
-    // Puts the token that a call rejected back into a register that holds none.
-    pub(crate) fn spend(&mut self, from: Reg, spent: Result<(), Rejected>) -> Reply
+    // Puts the token that a call rejected back into a register that holds none, and sets the reply.
+    pub(crate) fn spend(&mut self, from: Reg, spent: Result<(), Rejected>, reply: &mut Reply)
         requires { IsNone (register self.old from) }
-        ensures { (self.new, result) ≡ rejected_to from spent self.old }
+        ensures { (self.new, reply.new) ≡ rejected_to from spent self.old }
     {
         match spent {
-            Ok(()) => Reply::Done,
+            Ok(()) => *reply = Reply::Done,
             Err(Rejected { why, token }) => {
                 self.hold(from, token);
-                Reply::Refused(why)
+                *reply = Reply::Refused(why);
             }
         }
     }
 
-    // Puts the two tokens that a call gave, or the one that it rejected, into registers that hold none.
+    // Puts the two tokens that a call gave, or the one that it rejected, into registers that hold none, and sets the reply.
     pub(crate) fn part(
         &mut self,
         from: Reg,
         into: Reg,
         parted: Result<(Token, Option<Token>), Rejected>,
-    ) -> Reply
+        reply: &mut Reply,
+    )
         requires from { IsNone (register self.old from) }
         requires into { IsNone (register self.old into) }
         requires apart { from ≢ into }
-        ensures { (self.new, result) ≡ parted_to from into parted self.old }
+        ensures { (self.new, reply.new) ≡ parted_to from into parted self.old }
     {
         match parted {
             Ok((first, rest)) => {
                 self.hold_any(from, rest);
                 self.hold(into, first);
-                Reply::Done
+                *reply = Reply::Done;
             }
             Err(Rejected { why, token }) => {
                 self.hold(from, token);
-                Reply::Refused(why)
+                *reply = Reply::Refused(why);
             }
         }
     }
@@ -245,24 +251,27 @@ impl Regs {
     }
 
     // Whether a source holds nothing, once those before it are empty.
-    pub(crate) fn misses_token(&self, names: &Names) -> bool
-        ensures { result ≡ misses_token (table_of self.now) names.now }
+    pub(crate) fn misses_token(&self, source: Option<Reg>, second: Option<Reg>) -> bool
+        ensures { result ≡ misses_token (table_of self.now) (naming None source second None) }
     {
-        if self.is_empty(names.source) || self.is_empty(names.second) {
+        if self.is_empty(source) || self.is_empty(second) {
             return true;
         }
-        match (names.source, names.second) {
-            (Some(first), Some(second)) => first.index() == second.index(),
-            _ => false,
+        match &source {
+            Some(first) => match &second {
+                Some(second) => first.index() == second.index(),
+                None => false,
+            },
+            None => false,
         }
     }
 
     // Whether the destination, which is one of these registers, holds a token.
-    pub(crate) fn is_taken(&self, names: &Names) -> bool
-        ensures value { result ≡ is_taken (table_of self.now) names.now }
-        ensures there { ForSome names.now.destination (λ reg. reg < length self.now) }
+    pub(crate) fn is_taken(&self, destination: Option<Reg>) -> bool
+        ensures value { result ≡ is_taken (table_of self.now) (naming None None None destination) }
+        ensures there { ForSome destination (λ reg. reg < length self.now) }
     {
-        match names.destination {
+        match destination {
             Some(reg) => self.holds(reg),
             None => false,
         }

@@ -69,89 +69,93 @@ impl Reply {
     }
 
     // `Yes` where it is true, else `No`.
-    pub(crate) fn yes_or_no(answer: bool) -> Reply
-        ensures { result ≡ yes_or_no answer }
+    pub(crate) fn set_yes_or_no(&mut self, answer: bool)
+        ensures { self.new ≡ yes_or_no answer }
     {
-        if answer { Reply::Yes } else { Reply::No }
+        if answer {
+            *self = Reply::Yes;
+        } else {
+            *self = Reply::No;
+        }
     }
 
     // Whether it is true, or the refusal.
-    pub(crate) fn truth(answer: Result<bool, Refusal>) -> Reply
-        ensures { result ≡ reply_made yes_or_no answer }
+    pub(crate) fn set_truth(&mut self, answer: Result<bool, Refusal>)
+        ensures { self.new ≡ reply_made yes_or_no answer }
     {
         match answer {
-            Ok(answer) => Reply::yes_or_no(answer),
-            Err(why) => Reply::Refused(why),
+            Ok(answer) => self.set_yes_or_no(answer),
+            Err(why) => *self = Reply::Refused(why),
         }
     }
 
     // The number of a queue, or that there is none.
-    pub(crate) fn queue(answer: Option<u8>) -> Reply
-        ensures { result ≡ queue_or_nothing answer }
+    pub(crate) fn set_queue(&mut self, answer: Option<u8>)
+        ensures { self.new ≡ queue_or_nothing answer }
     {
         match answer {
-            Some(queue) => Reply::Queue(queue),
-            None => Reply::Nothing,
+            Some(queue) => *self = Reply::Queue(queue),
+            None => *self = Reply::Nothing,
         }
     }
 
     // The water marks of a band, or the refusal.
-    pub(crate) fn marks(answer: Result<Marks, Refusal>) -> Reply
-        ensures { result ≡ reply_made marks_told answer }
+    pub(crate) fn set_marks(&mut self, answer: Result<Marks, Refusal>)
+        ensures { self.new ≡ reply_made marks_told answer }
     {
         match answer {
-            Ok(marks) => Reply::Marks(marks.hiwat, marks.lowat),
-            Err(why) => Reply::Refused(why),
+            Ok(marks) => *self = Reply::Marks(marks.hiwat, marks.lowat),
+            Err(why) => *self = Reply::Refused(why),
         }
     }
 
     // The id of a wish, or the refusal.
-    pub(crate) fn id(answer: Result<u32, Refusal>) -> Reply
-        ensures { result ≡ reply_made (λ id. replies.Id id) answer }
+    pub(crate) fn set_id(&mut self, answer: Result<u32, Refusal>)
+        ensures { self.new ≡ reply_made (λ id. replies.Id id) answer }
     {
         match answer {
-            Ok(id) => Reply::Id(id),
-            Err(why) => Reply::Refused(why),
+            Ok(id) => *self = Reply::Id(id),
+            Err(why) => *self = Reply::Refused(why),
         }
     }
 
     // A wish, or that there is none.
-    pub(crate) fn ready(answer: Option<(u32, u32)>) -> Reply
-        ensures { result ≡ ready_or_nothing answer }
+    pub(crate) fn set_ready(&mut self, answer: Option<(u32, u32)>)
+        ensures { self.new ≡ ready_or_nothing answer }
     {
         match answer {
-            Some((id, size)) => Reply::Ready(id, size),
-            None => Reply::Nothing,
+            Some((id, size)) => *self = Reply::Ready(id, size),
+            None => *self = Reply::Nothing,
         }
     }
 
     // `Done`, or the refusal.
-    pub(crate) fn done(answer: Result<(), Refusal>) -> Reply
-        ensures { result ≡ reply_done answer }
+    pub(crate) fn set_done(&mut self, answer: Result<(), Refusal>)
+        ensures { self.new ≡ reply_done answer }
     {
         match answer {
-            Ok(()) => Reply::Done,
-            Err(why) => Reply::Refused(why),
+            Ok(()) => *self = Reply::Done,
+            Err(why) => *self = Reply::Refused(why),
         }
     }
 
     // What there is to tell of a block, or the refusal.
-    pub(crate) fn block(answer: Result<BlockInfo, Refusal>) -> Reply
-        ensures { result ≡ reply_made (λ info. replies.Block info) answer }
+    pub(crate) fn set_block(&mut self, answer: Result<BlockInfo, Refusal>)
+        ensures { self.new ≡ reply_made (λ info. replies.Block info) answer }
     {
         match answer {
-            Ok(info) => Reply::Block(info),
-            Err(why) => Reply::Refused(why),
+            Ok(info) => *self = Reply::Block(info),
+            Err(why) => *self = Reply::Refused(why),
         }
     }
 
     // A size, or the refusal.
-    pub(crate) fn size(answer: Result<u32, Refusal>) -> Reply
-        ensures { result ≡ reply_made (λ size. replies.Size size) answer }
+    pub(crate) fn set_size(&mut self, answer: Result<u32, Refusal>)
+        ensures { self.new ≡ reply_made (λ size. replies.Size size) answer }
     {
         match answer {
-            Ok(size) => Reply::Size(size),
-            Err(why) => Reply::Refused(why),
+            Ok(size) => *self = Reply::Size(size),
+            Err(why) => *self = Reply::Refused(why),
         }
     }
 }

@@ -48,10 +48,12 @@ impl Bench {
         self.pool.apply(&mut self.regs, call)
     }
 
-    // Applies the calls, and compares each reply.
+    // Applies the calls, each reply into the place of the one before it, and compares each.
     fn replies(&mut self, rt: &impl Abort, rows: &[(Call, Reply)]) {
+        let mut given = Reply::Done;
         for (call, reply) in rows {
-            let given = self.reply(rt, call);
+            assert!(rt; self.pool.owns(&self.regs));
+            self.pool.apply_into(&mut self.regs, call, &mut given);
             assert_reply(rt, call, &given, reply);
         }
     }

@@ -10,6 +10,35 @@ fn there_are_registers_a_to_z(rt: HostRuntime) {
     }
 }
 
+// How a register is numbered, if one is named.
+fn place(reg: Option<Reg>) -> Option<usize> {
+    match reg {
+        Some(reg) => Some(reg.index()),
+        None => None,
+    }
+}
+
+#[test]
+fn a_call_names_a_queue_and_registers(rt: HostRuntime) {
+    let (b, c) = (reg(&rt, b'b'), reg(&rt, b'c'));
+    for (call, queue, named) in [
+        (Call::Getq(3, c), Some(3), [None, None, Some(2)]),
+        (Call::Linkb(b, c), None, [Some(1), Some(2), None]),
+        (Call::Rmvb(b, 7, c), None, [Some(1), None, Some(2)]),
+        (Call::Census, None, [None, None, None]),
+    ] {
+        let names = call.names();
+        assert!(rt; names.queue == queue);
+        assert!(rt;
+            [
+                place(names.source),
+                place(names.second),
+                place(names.destination)
+            ] == named
+        );
+    }
+}
+
 // Whether registers a and z hold tokens.
 fn assert_holds(rt: &impl Abort, regs: &Regs, a: bool, z: bool) {
     assert!(rt; regs.holds(reg(rt, b'a')) == a);
