@@ -1,5 +1,5 @@
 -- Workers: one line more, and one worker more or less.
-use Rattle.std.proofs.Common.{◌≡◌, ℕ, suc, ◌+◌, ◌<◌, List, [], ◌∷◌, ◌++◌, length, get_or, Ok, refl, sym, ap, ◌∙◌, subst, inl, inr, arith, length-append}
+use Rattle.std.proofs.Common.{◌≡◌, Bool, ℕ, suc, ◌+◌, ◌<◌, List, [], ◌∷◌, ◌++◌, length, get_or, Ok, refl, sym, ap, ◌∙◌, subst, inl, inr, arith, length-append}
 use Rattle.std.specs.Global.{Vec}
 use Rattle.std.proofs.Math.ListN.{get_or-append}
 use Rattle.std.proofs.Math.Seq.{get_or-append_seam}
@@ -11,6 +11,7 @@ use Rattle.strm_shared.specs.declared.outcome.End.{End}
 use Rattle.strm_shared.specs.declared.outcome.End.TheVariants.{NotStarted}
 use Rattle.strm_shared.specs.Books.{IsAfter}
 use Rattle.strm_shared.specs.Desks.{DeskValue, no_desk}
+use Rattle.strm_shared.specs.Keeping.{AllWorkedKeeping, WorkedKeeping}
 use Rattle.strm_shared.specs.Runs.{AllWorked, AreServed, Worked}
 use Rattle.strm_shared.specs.RunsLayout.{AreReady, IsReady}
 
@@ -22,27 +23,32 @@ served_more n (l ∷ ls) d [] e line reply f served below after = (f, subst (λ 
 served_more n (l ∷ ls) d (r ∷ rs) e line reply f served below after =
     (served.0, served.1, served_more n ls served.0 rs e line reply f served.2 (omega (arith, below)) after)
 
+-- one reply more is kept
+pub kept_more : (was now pushed : Vec Reply) (all : List Reply) (reply : Reply) → now ≡ pushed → pushed.items ≡ was.items ++ reply ∷ [] → was.items ≡ all → now.items ≡ all ++ reply ∷ []
+kept_more was now pushed all reply is items kept = ap (λ (v : Vec Reply). v.items) is ∙ items ∙ ap (λ (xs : List Reply). xs ++ reply ∷ []) kept
+
 -- ---- room for one part more or less
 
-pub ready_more : (parts : List (List Line)) (rooms : List (Vec Reply)) (lines : List Line) (room : Vec Reply) → AreReady parts rooms → IsReady lines room → AreReady (parts ++ lines ∷ []) (rooms ++ room ∷ [])
-ready_more [] [] lines room all last = (last, tt)
-ready_more [] (r ∷ rs) lines room all last = absurd all
-ready_more (p ∷ ps) [] lines room all last = absurd all
-ready_more (p ∷ ps) (r ∷ rs) lines room all last = (all.0, ready_more ps rs lines room all.1 last)
+module _ (keeps : Bool) where
+  pub ready_more : (parts : List (List Line)) (rooms : List (Vec Reply)) (lines : List Line) (room : Vec Reply) → AreReady keeps parts rooms → IsReady keeps lines room → AreReady keeps (parts ++ lines ∷ []) (rooms ++ room ∷ [])
+  ready_more [] [] lines room all last = (last, tt)
+  ready_more [] (r ∷ rs) lines room all last = absurd all
+  ready_more (p ∷ ps) [] lines room all last = absurd all
+  ready_more (p ∷ ps) (r ∷ rs) lines room all last = (all.0, ready_more ps rs lines room all.1 last)
 
-pub ready_last : (parts : List (List Line)) (rooms : List (Vec Reply)) (lines : List Line) (room : Vec Reply) → AreReady (parts ++ lines ∷ []) (rooms ++ room ∷ []) → AreReady parts rooms × IsReady lines room
-ready_last [] [] lines room all = (tt, all.0)
-ready_last [] (r ∷ []) lines room all = absurd all.1
-ready_last [] (r ∷ x ∷ xs) lines room all = absurd all.1
-ready_last (p ∷ []) [] lines room all = absurd all.1
-ready_last (p ∷ x ∷ xs) [] lines room all = absurd all.1
-ready_last (p ∷ ps) (r ∷ rs) lines room all = let rest = ready_last ps rs lines room all.1 in ((all.0, rest.0), rest.1)
+  pub ready_last : (parts : List (List Line)) (rooms : List (Vec Reply)) (lines : List Line) (room : Vec Reply) → AreReady keeps (parts ++ lines ∷ []) (rooms ++ room ∷ []) → AreReady keeps parts rooms × IsReady keeps lines room
+  ready_last [] [] lines room all = (tt, all.0)
+  ready_last [] (r ∷ []) lines room all = absurd all.1
+  ready_last [] (r ∷ x ∷ xs) lines room all = absurd all.1
+  ready_last (p ∷ []) [] lines room all = absurd all.1
+  ready_last (p ∷ x ∷ xs) [] lines room all = absurd all.1
+  ready_last (p ∷ ps) (r ∷ rs) lines room all = let rest = ready_last ps rs lines room all.1 in ((all.0, rest.0), rest.1)
 
-pub length-ready : (parts : List (List Line)) (rooms : List (Vec Reply)) → AreReady parts rooms → length rooms ≡ length parts
-length-ready [] [] all = refl
-length-ready [] (r ∷ rs) all = absurd all
-length-ready (p ∷ ps) [] all = absurd all
-length-ready (p ∷ ps) (r ∷ rs) all = ap suc (length-ready ps rs all.1)
+  pub length-ready : (parts : List (List Line)) (rooms : List (Vec Reply)) → AreReady keeps parts rooms → length rooms ≡ length parts
+  length-ready [] [] all = refl
+  length-ready [] (r ∷ rs) all = absurd all
+  length-ready (p ∷ ps) [] all = absurd all
+  length-ready (p ∷ ps) (r ∷ rs) all = ap suc (length-ready ps rs all.1)
 
 -- ---- one worker more has ended
 
@@ -68,7 +74,7 @@ module _ {N : Type 0} (n : Ghosts N) (parts earlier : List (List Line)) (lines :
     (ends ended : List End) (end : End) (all replied : List (List Reply)) (replies : List Reply) (after kept : List DeskValue) (e : DeskValue)
     (p-is : parts ≡ earlier ++ lines ∷ []) (b-is : before ≡ past ++ d ∷ []) (e-is : ends ≡ ended ++ end ∷ []) (r-is : all ≡ replied ++ replies ∷ []) (a-is : after ≡ kept ++ e ∷ [])
     (as-many : length past ≡ length earlier) (worked : AllWorked n earlier past ended replied kept) (last : Worked n lines d end replies e) where
-  pub worked_more : AllWorked n parts before ends all after
+  worked_more : AllWorked n parts before ends all after
   worked_more = record {
     ended = longer ended ends end e-is ∙ omega (arith, worked.ended, longer earlier parts lines p-is);
     replied = longer replied all replies r-is ∙ omega (arith, worked.replied, longer earlier parts lines p-is);
@@ -88,3 +94,14 @@ module _ {N : Type 0} (n : Ghosts N) (parts earlier : List (List Line)) (lines :
           (before_end kept after e a-is no_desk k (omega (arith, below, worked.kept))) (worked.each k below)
     ];
   }
+
+-- and so it is where the replies are kept or not
+pub worked_more_keeping : {N : Type 0} (keeps : Bool) (n : Ghosts N) (parts earlier : List (List Line)) (lines : List Line) (before past : List DeskValue) (d : DeskValue)
+    (ends ended : List End) (end : End) (kept were : List (List Reply)) (replies : List Reply) (after left : List DeskValue) (e : DeskValue)
+    → parts ≡ earlier ++ lines ∷ [] → before ≡ past ++ d ∷ [] → ends ≡ ended ++ end ∷ [] → kept ≡ were ++ replies ∷ [] → after ≡ left ++ e ∷ []
+    → length past ≡ length earlier → AllWorkedKeeping keeps n earlier past ended were left → WorkedKeeping keeps n lines d end replies e → AllWorkedKeeping keeps n parts before ends kept after
+worked_more_keeping keeps n parts earlier lines before past d ends ended end kept were replies after left e p-is b-is e-is r-is a-is as-many worked last = (
+  worked.0 ++ last.0 ∷ [],
+  worked_more n parts earlier lines before past d ends ended end (worked.0 ++ last.0 ∷ []) worked.0 last.0 after left e p-is b-is e-is refl a-is as-many worked.1 last.1,
+  λ keep. r-is ∙ ap (λ (all : List (List Reply)). all ++ replies ∷ []) (worked.2 keep) ∙ ap (λ (all : List Reply). worked.0 ++ all ∷ []) (last.2 keep),
+)

@@ -14,4 +14,5 @@ pub mod SeatsLayout
 pub mod Starts
 pub mod StartsLayout
 pub mod Runs
+pub mod Keeping
 pub mod RunsLayout

@@ -1,5 +1,5 @@
 -- How workers lie in memory while they work. No public clause cites this module.
-use Rattle.std.specs.Prelude.{◌≡◌, ℕ, ◌+◌, ◌≤◌, List, [], ◌∷◌, length, vec_capacity}
+use Rattle.std.specs.Prelude.{◌≡◌, Bool, true, ℕ, ◌+◌, ◌≤◌, List, [], ◌∷◌, length, vec_capacity}
 use Rattle.std.specs.Global.{Vec}
 use Rattle.strm_pool.specs.declared.reply.Reply.{Reply}
 use Rattle.strm_shared.specs.declared.line.Line.{Line}
@@ -10,23 +10,23 @@ use Rattle.strm_shared.specs.declared.workers.room.Room.{Room}
 use Rattle.strm_shared.specs.declared.workers.started.Started.{Started}
 use Rattle.strm_shared.specs.declared.workers.started.Started.TheVariants.{Running, Not}
 use Rattle.strm_shared.specs.Desks.{DeskValue}
+use Rattle.strm_shared.specs.Keeping.{WorkedKeeping}
 use Rattle.strm_shared.specs.Limits.{most_workers}
-use Rattle.strm_shared.specs.Runs.{Worked}
 
--- there is no reply yet, and room for one to each line
-abbrev pub IsReady : List Line → Vec Reply → Type 0
-IsReady lines replies = (replies.items ≡ []) × (length lines ≤ vec_capacity replies)
+-- there is no reply yet, and where replies are kept, room for one to each line
+abbrev pub IsReady : Bool → List Line → Vec Reply → Type 0
+IsReady keeps lines replies = (replies.items ≡ []) × (keeps ≡ true → length lines ≤ vec_capacity replies)
 
 -- so it is for each part
-abbrev pub AreReady : List (List Line) → List (Vec Reply) → Type 0
-AreReady [] [] = Unit {0}
-AreReady (lines ∷ parts) (replies ∷ rooms) = IsReady lines replies × AreReady parts rooms
-AreReady parts rooms = ⊥
+abbrev pub AreReady : Bool → List (List Line) → List (Vec Reply) → Type 0
+AreReady keeps [] [] = Unit {0}
+AreReady keeps (lines ∷ parts) (replies ∷ rooms) = IsReady keeps lines replies × AreReady keeps parts rooms
+AreReady keeps parts rooms = ⊥
 
 -- a thread runs that has the lines served on this desk, or the worker is done with them
-abbrev pub IsStartedFor : {N : Type 0} → Ghosts N → List Line → DeskValue → Started N → Type 0
-IsStartedFor n lines d (Running child) = (child.promise.lines.now ≡ lines) × (child.promise.desk.value ≡ d)
-IsStartedFor n lines d (Not w) = Worked n lines d w.end w.replies.items w.desk
+abbrev pub IsStartedFor : {N : Type 0} → Bool → Ghosts N → List Line → DeskValue → Started N → Type 0
+IsStartedFor keeps n lines d (Running child) = (child.promise.keeps ≡ keeps) × (child.promise.lines.now ≡ lines) × (child.promise.desk.value ≡ d)
+IsStartedFor keeps n lines d (Not w) = WorkedKeeping keeps n lines d w.end w.replies.items w.desk
 
 -- there is room for so many workers more
 abbrev pub HasRoom : {N : Type 0} → ℕ → Done N → Type 0
@@ -37,15 +37,15 @@ abbrev pub IsEmpty : {N : Type 0} → Done N → Type 0
 IsEmpty o = (o.desks ≡ []) × (o.replies.items ≡ []) × (o.ends.items ≡ [])
 
 -- there is all that serving these parts takes
-abbrev pub IsRoomFor : List (List Line) → Room → Type 0
-IsRoomFor parts r =
-    AreReady parts r.rooms.items
+abbrev pub IsRoomFor : Bool → List (List Line) → Room → Type 0
+IsRoomFor keeps parts r =
+    AreReady keeps parts r.rooms.items
     × (r.replies.items ≡ []) × (r.ends.items ≡ []) × (length parts ≤ vec_capacity r.replies) × (length parts ≤ vec_capacity r.ends)
 
 -- workers for these parts, none of whom has started
-pub record IsCarried {N : Type 0} (parts : List (List Line)) (c : Carried N) : Type 0 where
+pub record IsCarried {N : Type 0} (keeps : Bool) (parts : List (List Line)) (c : Carried N) : Type 0 where
   pub few : length parts ≤ most_workers
   pub desks : length c.crew.desks ≡ length parts
-  pub ready : AreReady parts c.crew.rooms.items
+  pub ready : AreReady keeps parts c.crew.rooms.items
   pub room : HasRoom (length parts) c.done
   pub empty : IsEmpty c.done

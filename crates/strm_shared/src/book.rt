@@ -1,5 +1,6 @@
 //! What the lock of a shared pool guards.
-ghost use Rattle.std.specs.Prelude.{◌≡◌, ◌+◌, ◌<◌, ◌≤◌, length};
+ghost use Rattle.std.specs.Prelude.{◌≡◌, ◌+◌, ◌<◌, ◌≤◌, IfErr, length};
+ghost use Rattle.strm_mblk.specs.Given.{answer_map};
 ghost use Rattle.strm_shared.specs.Books.{Answers, IsLawfulBook, end_of, pair_in};
 ghost use Rattle.strm_shared.specs.Desks.{shown};
 
@@ -96,7 +97,7 @@ impl<N: Name> Book<N> {
     ///
     /// Refused as `Worn` where the stamp is `MOST_STAMP`, and then as `TraceFull` where a trace is kept and has as many entries
     /// as it may: nothing changes but that the desk has seen the last pair. Every reply counts as served, `Refused`, `Empty` and
-    /// `Taken` too.
+    /// `Taken` too. `Shared` has its calls served by `turn_into`, of which this is made.
     pub fn turn(
         &mut self,
         shared: &Shared<N>,
@@ -105,6 +106,25 @@ impl<N: Name> Book<N> {
         call: &Call,
     ) -> Result<Reply, Refusal>
         ensures { Answers self.old desk.old line call.now self.new desk.new result }
+    {
+        let mut reply = Reply::Done;
+        match self.turn_into(shared, desk, line, call, &mut reply) {
+            Ok(()) => Ok(reply),
+            Err(why) => Err(why),
+        }
+    }
+
+    // Serves a call as `turn` does, and puts its reply into `reply`, which stays as it was where the call is refused.
+    pub(crate) fn turn_into(
+        &mut self,
+        shared: &Shared<N>,
+        desk: &mut Desk<N>,
+        line: u32,
+        call: &Call,
+        reply: &mut Reply,
+    ) -> Result<(), Refusal>
+        ensures answer { Answers self.old desk.old line call.now self.new desk.new (answer_map (λ done. reply.new) result) }
+        ensures kept { IfErr result (λ why. reply.new ≡ reply.old) }
     {
         if let Some(why) = self.end() {
             self.show(&shared.board, desk);
@@ -115,7 +135,7 @@ impl<N: Name> Book<N> {
         };
         shared.board.admit(&mut self.seat, seat);
         let before = self.pool.census().held;
-        let reply = self.pool.apply(&mut desk.regs, call);
+        self.pool.apply_into(&mut desk.regs, call, reply);
         self.pool.lawful();
         let census = self.pool.census();
         count_held(&mut self.held, &mut desk.share, before, census.held);
@@ -123,7 +143,7 @@ impl<N: Name> Book<N> {
             desk: desk.number,
             line,
             call,
-            reply: &reply,
+            reply,
         };
         self.trace.keep(told);
         self.stamp += 1;
@@ -134,7 +154,7 @@ impl<N: Name> Book<N> {
         desk.seat = Some(seat);
         desk.seen = self.stamp;
         desk.calls += 1;
-        Ok(reply)
+        Ok(())
     }
 }
 

@@ -1,4 +1,6 @@
 //! What workers leave, and how they end.
+ghost use Rattle.std.specs.Prelude.{◌≡◌};
+
 use crate::desks::Desks;
 use crate::listed::{AllReplies, Ends};
 use crate::name::Name;
@@ -21,4 +23,24 @@ pub struct Outcome<N: Name> {
     pub desks: Desks<N>,
     pub replies: AllReplies,
     pub ends: Ends,
+}
+
+/// What workers leave whose replies nobody gets: their desks, and how each ended.
+pub struct BareOutcome<N: Name> {
+    pub desks: Desks<N>,
+    pub ends: Ends,
+}
+
+impl<N: Name> Outcome<N> {
+    // Without the replies.
+    pub(crate) fn bare(self) -> BareOutcome<N>
+        ensures { (result.desks ≡ self.desks) × (result.ends ≡ self.ends) }
+    {
+        let Outcome {
+            desks,
+            replies: _,
+            ends,
+        } = self;
+        BareOutcome { desks, ends }
+    }
 }

@@ -2,6 +2,7 @@
 ghost use Rattle.std.specs.Prelude.{◌≡◌, ◌≤◌, ◌<◌, ℕ, All, IsTrue, length, map, slice_index_or, IfErr, IfOk, OnOk};
 ghost use Rattle.std.specs.List.Sorted.{IsNonDecreasingBy};
 ghost use Rattle.strm_data.specs.declared.refusal.Refusal.TheVariants.{DeskMissing};
+ghost use Rattle.strm_mblk.specs.Given.{answer_map};
 ghost use Rattle.strm_pool.specs.PoolValue.{owns};
 ghost use Rattle.strm_pool.specs.Registers.{AreAccounted, entries_of};
 ghost use Rattle.strm_shared.specs.Books.{AreShown, IsAfter, IsEnd, IsWholeUnder, TellsNewest};
@@ -50,6 +51,8 @@ impl<N: Name> Shared<N> {
     /// Refused as `Worn` and as `TraceFull` where `Book::turn` is, and for no other reason. Of the book a caller sees nothing; but
     /// refused as `Worn` the desk has seen the last stamp that there is, and as `TraceFull` the first stamp and as many more as
     /// entries may be kept.
+    // Put into its caller, so that the reply is handed on once less.
+    #[inline(always)]
     pub fn serve(
         &self,
         rt: &impl Wait,
@@ -61,10 +64,32 @@ impl<N: Name> Shared<N> {
         ensures census { TellsNewest desk.new result call.now }
         ensures refused { IfErr result (λ why. IsEnd N.Name why (stamp_seen desk.new)) }
     {
+        let mut reply = Reply::Done;
+        match self.serve_into(rt, desk, line, call, &mut reply) {
+            Ok(()) => Ok(reply),
+            Err(why) => Err(why),
+        }
+    }
+
+    /// Serves a call as `serve` does, and puts its reply into `reply`, in the place of what stands there: a reply has room for 64
+    /// bytes, and who keeps it saves copies. Where the call is refused, what stands there stays.
+    pub fn serve_into(
+        &self,
+        rt: &impl Wait,
+        desk: &mut Desk<N>,
+        line: u32,
+        call: &Call,
+        reply: &mut Reply,
+    ) -> Result<(), Refusal>
+        ensures after { IsAfter N.Name desk.old line call.now desk.new (answer_map (λ done. reply.new) result) }
+        ensures census { TellsNewest desk.new (answer_map (λ done. reply.new) result) call.now }
+        ensures refused { IfErr result (λ why. IsEnd N.Name why (stamp_seen desk.new)) }
+        ensures kept { IfErr result (λ why. reply.new ≡ reply.old) }
+    {
         let mut lock = self.wait_for_book(rt);
         let book = &mut *lock;
         book.lawful();
-        let answer = book.turn(self, desk, line, call);
+        let answer = book.turn_into(self, desk, line, call, reply);
         book.lawful();
         answer
     }

@@ -4,6 +4,7 @@ ghost use Rattle.strm_shared.specs.Starts.{IsNameOf};
 mod calls;
 mod steps;
 mod traces;
+mod without_replies;
 mod workers;
 
 use arrayvec::ArrayVec;

@@ -1,7 +1,7 @@
 //! Workers in a scope of threads.
 ghost use Rattle.std.specs.Prelude.{◌≡◌, ◌+◌, ◌≤◌, [], ℕ, length};
+ghost use Rattle.strm_shared.specs.Keeping.{AllWorkedKeeping};
 ghost use Rattle.strm_shared.specs.Limits.{most_workers};
-ghost use Rattle.strm_shared.specs.Runs.{AllWorked};
 ghost use Rattle.strm_shared.specs.RunsLayout.{AreReady, HasRoom, IsCarried, IsEmpty, IsRoomFor};
 
 use super::crew::{Crew, Done};
@@ -42,7 +42,7 @@ impl<N: Name> Carried<N> {
     // Workers at these desks, none of whom has started.
     pub(super) fn new(desks: Desks<N>, room: Room) -> Carried<N>
         ensures desks { result.crew.desks ≡ desks }
-        ensures carried { (parts : _) → length parts ≡ length desks → IsRoomFor parts room → IsCarried parts result }
+        ensures carried { (keeps : _) (parts : _) → length parts ≡ length desks → IsRoomFor keeps parts room → IsCarried keeps parts result }
     {
         let most = desks.len();
         prove!(most <= MOST_WORKERS);
@@ -70,8 +70,8 @@ impl<N: Name> Carried<N> {
     ) -> Carried<N>
     where
         N: Send + Sync,
-        requires { IsCarried parts.now self }
-        ensures worked { AllWorked N.Name parts.now self.crew.desks result.done.ends.items result.done.replies.items result.done.desks }
+        requires { IsCarried site.now.keeps parts.now self }
+        ensures worked { AllWorkedKeeping site.now.keeps N.Name parts.now self.crew.desks result.done.ends.items result.done.replies.items result.done.desks }
         ensures spent { result.crew.desks ≡ [] }
     {
         serve_all(scope, site, parts, &mut self.crew, &mut self.done);
@@ -111,10 +111,10 @@ fn serve_all<'s, E, N: Name + Send + Sync, R: Threads + Wait + Sync, G: Gate>(
 )
     requires few { length parts.now ≤ most_workers }
     requires desks { length crew.old.desks ≡ length parts.now }
-    requires ready { AreReady parts.now crew.old.rooms.items }
+    requires ready { AreReady site.now.keeps parts.now crew.old.rooms.items }
     requires room { HasRoom (length parts.now) done.old }
     requires empty { IsEmpty done.old }
-    ensures worked { AllWorked N.Name parts.now crew.old.desks done.new.ends.items done.new.replies.items done.new.desks }
+    ensures worked { AllWorkedKeeping site.now.keeps N.Name parts.now crew.old.desks done.new.ends.items done.new.replies.items done.new.desks }
     ensures room { (n : ℕ) → HasRoom (length parts.now + n) done.old → HasRoom n done.new }
     ensures spent { crew.new.desks ≡ [] }
 {

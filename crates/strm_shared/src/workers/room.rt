@@ -1,5 +1,5 @@
 //! The memory that serving takes.
-ghost use Rattle.std.specs.Prelude.{IfOk};
+ghost use Rattle.std.specs.Prelude.{◌≡◌, IfOk, length, true};
 ghost use Rattle.strm_shared.specs.RunsLayout.{AreReady, IsRoomFor};
 
 use crate::listed::{Lines, Replies};
@@ -16,25 +16,32 @@ pub(super) struct Room {
 }
 
 impl Room {
-    // For these parts.
-    pub(super) fn new(alloc: Global, parts: &[Lines]) -> Result<Room, AllocError>
-        ensures { IfOk result (λ room. IsRoomFor parts.now room) }
+    // For these parts, with replies where they are kept.
+    pub(super) fn new(alloc: Global, parts: &[Lines], keeps: bool) -> Result<Room, AllocError>
+        ensures { IfOk result (λ room. IsRoomFor keeps parts.now room) }
     {
         Ok(Room {
-            rooms: rooms_for(alloc, parts)?,
+            rooms: rooms_for(alloc, parts, keeps)?,
             replies: Vec::with_capacity(alloc, parts.len())?,
             ends: Vec::with_capacity(alloc, parts.len())?,
         })
     }
 }
 
-// Room for the replies to each worker.
-fn rooms_for(alloc: Global, parts: &[Lines]) -> Result<Vec<Vec<Reply>>, AllocError>
-    ensures { IfOk result (λ rooms. AreReady parts.now rooms.items) }
+// How many replies to these lines are kept.
+fn replies_kept(lines: &Lines, keeps: bool) -> usize
+    ensures { keeps ≡ true → result ≡ length lines.now }
+{
+    if keeps { lines.items().len() } else { 0 }
+}
+
+// Room for the replies to each worker that are kept.
+fn rooms_for(alloc: Global, parts: &[Lines], keeps: bool) -> Result<Vec<Vec<Reply>>, AllocError>
+    ensures { IfOk result (λ rooms. AreReady keeps parts.now rooms.items) }
 {
     let mut rooms = Vec::with_capacity(alloc, parts.len())?;
     for i in 0..parts.len() {
-        rooms.push_reserved(Vec::with_capacity(alloc, parts[i].items().len())?);
+        rooms.push_reserved(Vec::with_capacity(alloc, replies_kept(&parts[i], keeps))?);
     }
     Ok(rooms)
 }

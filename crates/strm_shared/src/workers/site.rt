@@ -1,13 +1,16 @@
 //! What every worker is handed.
+ghost use Rattle.std.specs.Prelude.{◌≡◌};
+
 use crate::name::Name;
 use crate::shared::Shared;
 use std::sync::atomic::{AtomicU64, Ordering};
 
-// What every worker is handed: by what it waits, the pool, the gate, and which worker had no thread.
+// What every worker is handed: by what it waits, the pool, the gate, whether replies are kept, and which worker had no thread.
 pub(super) struct Site<'s, N: Name, R, G> {
     pub(super) rt: &'s R,
     pub(super) shared: &'s Shared<N>,
     pub(super) gate: &'s G,
+    pub(super) keeps: bool,
     // The number of the last one that had none, raised by 1, or 0.
     refused: AtomicU64,
 }
@@ -18,6 +21,7 @@ impl<'s, N: Name, R, G> Drop for Site<'s, N, R, G> {
             rt: _,
             shared: _,
             gate: _,
+            keeps: _,
             refused: _,
         } = self;
     }
@@ -25,11 +29,19 @@ impl<'s, N: Name, R, G> Drop for Site<'s, N, R, G> {
 
 impl<'s, N: Name, R, G> Site<'s, N, R, G> {
     // Where no worker was refused a thread.
-    pub(super) fn new(rt: &'s R, shared: &'s Shared<N>, gate: &'s G) -> Site<'s, N, R, G> {
+    pub(super) fn new(
+        rt: &'s R,
+        shared: &'s Shared<N>,
+        gate: &'s G,
+        keeps: bool,
+    ) -> Site<'s, N, R, G>
+        ensures { result.keeps ≡ keeps }
+    {
         Site {
             rt,
             shared,
             gate,
+            keeps,
             refused: AtomicU64::new(0),
         }
     }

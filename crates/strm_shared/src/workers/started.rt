@@ -1,7 +1,7 @@
 //! A worker's thread.
 ghost use Rattle.std.specs.Prelude.{◌≡◌};
 ghost use Rattle.strm_shared.specs.declared.outcome.End.TheVariants.{NotStarted};
-ghost use Rattle.strm_shared.specs.Runs.{Worked};
+ghost use Rattle.strm_shared.specs.Keeping.{WorkedKeeping};
 ghost use Rattle.strm_shared.specs.RunsLayout.{IsReady, IsStartedFor};
 
 use super::site::Site;
@@ -14,22 +14,27 @@ use std::snapshot::Snapshot;
 use std::sync::Wait;
 use std::thread::{Promise, PromisedHandle, Scope, Threads};
 
-// What a worker's thread promises: it has these lines served on the desk as it was.
+// What a worker's thread promises: it has these lines served on the desk as it was, and keeps the replies or not.
 pub(super) struct Serves<'a, N: Name> {
+    keeps: bool,
     lines: &'a [Line],
     desk: Snapshot<Desk<N>>,
 }
 
 impl<'a, N: Name> Drop for Serves<'a, N> {
     fn drop(self) {
-        let Serves { lines: _, desk: _ } = self;
+        let Serves {
+            keeps: _,
+            lines: _,
+            desk: _,
+        } = self;
     }
 }
 
 impl<'a, N: Name> Promise<Worker<N>> for Serves<'a, N> {
-    ghost use Rattle.strm_shared.specs.Runs.{Worked};
+    ghost use Rattle.strm_shared.specs.Keeping.{WorkedKeeping};
 
-    ghost kept_by = { λ p w. Worked N.Name p.lines.now p.desk.value w.end w.replies.items w.desk };
+    ghost kept_by = { λ p w. WorkedKeeping p.keeps N.Name p.lines.now p.desk.value w.end w.replies.items w.desk };
 }
 
 // The thread of a worker, or the worker as it was.
@@ -47,17 +52,18 @@ pub(super) fn start<'s, E, N: Name + Send + Sync, R: Threads + Wait + Sync, G: G
     lines: &'s [Line],
     worker: Worker<N>,
 ) -> Started<'s, N>
-    requires ready { IsReady lines.now worker.replies }
+    requires ready { IsReady site.now.keeps lines.now worker.replies }
     requires end { worker.end ≡ NotStarted }
-    ensures { IsStartedFor N.Name lines.now worker.desk result }
+    ensures { IsStartedFor site.now.keeps N.Name lines.now worker.desk result }
 {
     let promise = Serves {
+        keeps: site.keeps,
         lines,
         desk: Snapshot::of(&worker.desk),
     };
     let job = move || -> Worker<N>
-        requires { IsReady lines.now worker.replies × (worker.end ≡ NotStarted) }
-        ensures { Worked N.Name lines.entry.now worker.desk result.end result.replies.items result.desk }
+        requires { IsReady site.now.keeps lines.now worker.replies × (worker.end ≡ NotStarted) }
+        ensures { WorkedKeeping site.entry.now.keeps N.Name lines.entry.now worker.desk result.end result.replies.items result.desk }
     {
         if site.has_refused(number) {
             return worker;
@@ -75,7 +81,7 @@ pub(super) fn start<'s, E, N: Name + Send + Sync, R: Threads + Wait + Sync, G: G
 
 // Waits for a worker's thread, if it has one.
 pub(super) fn finish<N: Name, R: Threads>(rt: &R, started: Started<N>) -> Worker<N>
-    ensures { (lines : _) (desk : _) → IsStartedFor N.Name lines desk started.entry → Worked N.Name lines desk result.end result.replies.items result.desk }
+    ensures { (keeps : _) (lines : _) (desk : _) → IsStartedFor keeps N.Name lines desk started.entry → WorkedKeeping keeps N.Name lines desk result.end result.replies.items result.desk }
 {
     match started {
         Started::Running(child) => child.join(rt),

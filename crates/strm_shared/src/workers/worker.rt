@@ -1,6 +1,6 @@
 //! A worker, with its desk and its replies.
 ghost use Rattle.std.specs.Prelude.{◌≡◌};
-ghost use Rattle.strm_shared.specs.Runs.{Worked};
+ghost use Rattle.strm_shared.specs.Keeping.{WorkedKeeping};
 ghost use Rattle.strm_shared.specs.RunsLayout.{IsReady};
 
 use super::site::Site;
@@ -12,7 +12,7 @@ use crate::outcome::End;
 use std::sync::Wait;
 use strm_pool::Reply;
 
-// A worker: its desk, its replies, with room for all that come, and how it ended. A thread takes and gives back only what
+// A worker: its desk, its replies, with room for all that are kept, and how it ended. A thread takes and gives back only what
 // may be dropped; dropped, a worker gives its desk up.
 pub(super) struct Worker<N: Name> {
     pub(super) desk: Desk<N>,
@@ -40,15 +40,15 @@ impl<N: Name> Worker<N> {
         (desk, replies, end)
     }
 
-    // Has the lines served, up to the first that is refused.
+    // Has the lines served, up to the first that is refused, and keeps the replies where the site says so.
     pub(super) fn work<R: Wait, G: Gate>(
         self,
         site: &Site<N, R, G>,
         number: u8,
         lines: &[Line],
     ) -> Worker<N>
-        requires { IsReady lines.now self.replies }
-        ensures { Worked N.Name lines.now self.desk result.end result.replies.items result.desk }
+        requires { IsReady site.now.keeps lines.now self.replies }
+        ensures { WorkedKeeping site.now.keeps N.Name lines.now self.desk result.end result.replies.items result.desk }
     {
         let Worker {
             mut desk,
@@ -58,12 +58,17 @@ impl<N: Name> Worker<N> {
         for i in 0..lines.len() {
             let line = &lines[i];
             site.gate.before(number, line.number);
+            let mut reply = Reply::Done;
             let answer = site
                 .shared
-                .serve(site.rt, &mut desk, line.number, &line.call);
+                .serve_into(site.rt, &mut desk, line.number, &line.call, &mut reply);
             site.gate.after(number, line.number);
             match answer {
-                Ok(reply) => replies.push_reserved(reply),
+                Ok(()) => {
+                    if site.keeps {
+                        replies.push_reserved(reply);
+                    }
+                }
                 Err(why) => {
                     let end = End::Refused(why);
                     return Worker { desk, replies, end };

@@ -58,7 +58,11 @@ fn expect_entry(rt: &(impl Abort + AllocGlobal), entry: &Entry, wanted: &str) {
 }
 
 // The entries read so, one after another.
-fn expect_entries(rt: &(impl Abort + AllocGlobal), trace: &TraceEntries, wanted: &[&str]) {
+pub(super) fn expect_entries(
+    rt: &(impl Abort + AllocGlobal),
+    trace: &TraceEntries,
+    wanted: &[&str],
+) {
     assert_len(rt, trace, wanted.len());
     for (entry, text) in trace.items().iter().zip(wanted) {
         expect_entry(rt, entry, text);

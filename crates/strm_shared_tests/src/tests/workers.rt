@@ -36,22 +36,22 @@ fn comes(flags: &AtomicU32, bits: u32) -> bool {
 }
 
 // The number has come to so much.
-fn assert_count(rt: &impl Abort, number: &AtomicU32, count: u32) {
+pub(super) fn assert_count(rt: &impl Abort, number: &AtomicU32, count: u32) {
     assert_eq!(rt; number.load(Ordering::SeqCst), count);
 }
 
 // Where two workers of two lines each wait for each other: which lines have come, and were answered, each as a digit of four
 // bits, how many waited in vain, and how many were answered that had not come.
 #[derive(Drop)]
-struct Meeting {
-    came: AtomicU32,
-    answered: AtomicU32,
-    missed: AtomicU32,
-    early: AtomicU32,
+pub(super) struct Meeting {
+    pub(super) came: AtomicU32,
+    pub(super) answered: AtomicU32,
+    pub(super) missed: AtomicU32,
+    pub(super) early: AtomicU32,
 }
 
 // All four lines, once each.
-const ALL: u32 = 0x1111;
+pub(super) const ALL: u32 = 0x1111;
 
 // The digit of a worker's line.
 fn digit(worker: u8, line: u32) -> u32 {
@@ -63,7 +63,7 @@ fn digit(worker: u8, line: u32) -> u32 {
 }
 
 impl Meeting {
-    fn new() -> Meeting {
+    pub(super) fn new() -> Meeting {
         Meeting {
             came: AtomicU32::new(0),
             answered: AtomicU32::new(0),
@@ -178,7 +178,7 @@ fn parts(alloc: Global, reg: Reg, workers: usize, rounds: u32) -> Result<Parts, 
 }
 
 // Such lines of register a.
-fn parts_on_a(rt: &impl Abort, alloc: Global, workers: usize, rounds: u32) -> Parts {
+pub(super) fn parts_on_a(rt: &impl Abort, alloc: Global, workers: usize, rounds: u32) -> Parts {
     parts(alloc, reg(rt, b'a'), workers, rounds).expect(rt, "memory")
 }
 
@@ -204,7 +204,7 @@ fn all_done<N: Name>(rt: &impl Abort, outcome: Outcome<N>, count: usize) -> Desk
 }
 
 // What workers leave that have these parts served, each on the desk of its place.
-fn ran<N: Name + Send + Sync, R: Threads + Wait + Abort + Sync, G: Gate>(
+pub(super) fn ran<N: Name + Send + Sync, R: Threads + Wait + Abort + Sync, G: Gate>(
     rt: &R,
     alloc: Global,
     shared: &Shared<N>,
@@ -223,12 +223,12 @@ fn ran<N: Name + Send + Sync, R: Threads + Wait + Abort + Sync, G: Gate>(
 }
 
 // A pool of four message blocks over two data blocks of 16 bytes.
-fn four(rt: &impl Abort, alloc: Global) -> Pool {
+pub(super) fn four(rt: &impl Abort, alloc: Global) -> Pool {
     opened(rt, alloc, 1, 4, &[(16, 2)])
 }
 
 // Such a pool, which so many desks share, with this trace.
-fn small(rt: &impl Abort, alloc: Global, desks: u8, trace: Trace) -> Start {
+pub(super) fn small(rt: &impl Abort, alloc: Global, desks: u8, trace: Trace) -> Start {
     start_of(rt, alloc, four(rt, alloc), setup(desks, trace, 0))
 }
 
@@ -298,7 +298,7 @@ fn two_workers_and_a_monitor(rt: HostRuntime) {
 }
 
 // The entries of a worker are those of so many lines, in order, each done.
-fn assert_lines(rt: &impl Abort, entries: &[Entry], worker: u8, count: u32) {
+pub(super) fn assert_lines(rt: &impl Abort, entries: &[Entry], worker: u8, count: u32) {
     let mut next: u32 = 0;
     for entry in entries {
         if entry.desk == worker {
@@ -454,7 +454,7 @@ fn unlike<N: Name + Send + Sync, R: Threads + Wait + Abort + Sync>(
 }
 
 // One worker's lines, with replies of four sorts.
-fn one_part(alloc: Global, reg: Reg) -> Result<Parts, AllocError> {
+pub(super) fn one_part(alloc: Global, reg: Reg) -> Result<Parts, AllocError> {
     let calls = [
         Call::Allocb(reg, 3),
         Call::Allocb(reg, 3),

@@ -11,11 +11,12 @@ loop-i-preserved c =
     let rooms = c.loop-i.rooms.items in
     let room = c.in_ok-with_capacity.field-0 in
     let lines = c.index-parts-i.result in
-    let ready : IsReady (get_or parts i lines) room = (c.in_ok-with_capacity.ensures.items, search rules) in
+    let keeps = c.args.keeps in
+    let ready : IsReady keeps (get_or parts i lines) room = (c.in_ok-with_capacity.ensures.items, λ keep. search (rules, c.replies_kept.ensures keep, c.in_ok-with_capacity.ensures.capacity)) in
     record {
       count = search rules;
       room = search rules;
-      ready = subst (λ ps. AreReady ps c.push_reserved.new.self.items) (sym (take_more parts i lines c.loop-i-test.true))
-          (subst (AreReady (take i parts ++ get_or parts i lines ∷ [])) (sym c.push_reserved.ensures.items)
-          (ready_more (take i parts) rooms (get_or parts i lines) room c.loop-i.invariant.ready ready));
+      ready = subst (λ ps. AreReady keeps ps c.push_reserved.new.self.items) (sym (take_more parts i lines c.loop-i-test.true))
+          (subst (AreReady keeps (take i parts ++ get_or parts i lines ∷ [])) (sym c.push_reserved.ensures.items)
+          (ready_more keeps (take i parts) rooms (get_or parts i lines) room c.loop-i.invariant.ready ready));
     }

@@ -6,5 +6,5 @@ abbrev pub invariant-loop-i : goal.invariant-loop-i
 invariant-loop-i l = record {
   count : length l.rooms.items ≡ l.i;
   room : length l.parts ≤ vec_capacity l.rooms;
-  ready : AreReady (take l.i l.parts) l.rooms.items;
+  ready : AreReady l.keeps (take l.i l.parts) l.rooms.items;
 }

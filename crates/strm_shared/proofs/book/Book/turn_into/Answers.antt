@@ -14,9 +14,9 @@ use Rattle.strm_shared.proofs.Telling.{told_next}
 use Rattle.strm_shared.proofs.Tracing.{trace_next}
 use Rattle.strm_shared.proofs.seats.Desks.{seat_is}
 use Rattle.strm_shared.proofs.seats.Served.{Entered, entered, few_calls, later, next, table_known}
-use Rattle.strm_shared.proofs.book.Book.turn.Given as given
-use Rattle.strm_shared.proofs.book.Book.turn.Goals as goal
-use Rattle.strm_shared.proofs.book.Book.turn.Goals.{After-census-before, After-enter-seat}
+use Rattle.strm_shared.proofs.book.Book.turn_into.Given as given
+use Rattle.strm_shared.proofs.book.Book.turn_into.Goals as goal
+use Rattle.strm_shared.proofs.book.Book.turn_into.Goals.{After-census-before, After-enter-seat}
 
 -- ---- book and desk as they were
 
@@ -41,12 +41,12 @@ unended g c = search rules
 not_full : (g : given.Over) (c : After-census-before g) → is_full c.self.inside.trace ≡ false
 not_full g c = search rules
 
-pub apply-reply-requires : goal.apply-reply-requires
-apply-reply-requires g c = owned (is_known g (goal.at.apply-reply-requires g c).After-census-before)
+pub apply_into-requires : goal.apply_into-requires
+apply_into-requires g c = owned (is_known g (goal.at.apply_into-requires g c).After-census-before)
 
 pub count_held-requires-clause-enough : goal.count_held-requires-clause-enough
 count_held-requires-clause-enough g c =
-    let moved = held_moved (is_known g (goal.at.count_held-requires-clause-enough g c).After-census-before) c.apply-reply.ensures in
+    let moved = held_moved (is_known g (goal.at.count_held-requires-clause-enough g c).After-census-before) c.apply_into.ensures in
     let before = ap (λ (census : Census). census.held) c.census-before.ensures in
     let after = ap (λ (census : Census). census.held) c.census-census.ensures in
     omega (arith, moved, before, after, c.desk.invariant.1.counted)
@@ -59,8 +59,8 @@ enter-seat-requires-clause-lock g c =
     let d = known_in c.desk.inside.seat in
     let kept = c.self.invariant.2 in
     let joined = c.admit.ensures h d kept.here (there g (goal.at.enter-seat-requires-clause-lock g c).After-census-before) in
-    let whole = c.lawful.ensures.whole ∙ c.apply-reply.ensures.size ∙ c.self.invariant.1.sized in
-    (h, d, joined.0, kept.lawful, next kept c.desk.invariant.2 joined.1 c.apply-reply.new.self whole c.census-census.result c.census-census.ensures, sym c.desk.invariant.2.number)
+    let whole = c.lawful.ensures.whole ∙ c.apply_into.ensures.size ∙ c.self.invariant.1.sized in
+    (h, d, joined.0, kept.lawful, next kept c.desk.invariant.2 joined.1 c.apply_into.new.self whole c.census-census.result c.census-census.ensures, sym c.desk.invariant.2.number)
 
 pub overflow_add-desk : goal.overflow_add-desk
 overflow_add-desk g c =
@@ -77,21 +77,21 @@ left : (g : given.Over) (c : After-enter-seat g)
     → end_of (book_with (history_at c.self.inside.seat) c.self.inside.pool c.self.inside.stamp c.self.inside.trace) ≡ None
     → Turns g.N.Name.opened.arena.id g.N.Name.desks g.N.Name.first (book_with (history_at c.self.inside.seat) c.self.inside.pool c.self.inside.stamp c.self.inside.trace)
     (desk_value c.desk.inside.number c.desk.inside.regs (known_in c.desk.inside.seat).pairs (known_in c.desk.inside.seat).served) c.args.line c.args.call.now
-    (book_with (history_at c.enter-seat.new.lock) c.apply-reply.new.self (c.self.inside.stamp + 1) c.keep.new.self)
-    (desk_value c.desk.inside.number c.apply-reply.new.regs (known_at c.enter-seat.result).pairs (known_at c.enter-seat.result).served) c.apply-reply.result
-    × Entered g.N.Name.board (pair_at g.N.Name.first g.N.Name.opened) (length g.N.Name.opened.arena.held) g.N.Name.desks (c.self.inside.stamp + 1) c.desk.inside.number (c.desk.inside.calls + 1) c.apply-reply.new.self
-    (entries_of c.apply-reply.new.regs) (entry_of c.desk.inside.number c.args.line c.args.call.now c.apply-reply.result) (history_at c.self.inside.seat) (known_in c.desk.inside.seat) c.enter-seat.new.lock c.enter-seat.result
+    (book_with (history_at c.enter-seat.new.lock) c.apply_into.new.self (c.self.inside.stamp + 1) c.keep.new.self)
+    (desk_value c.desk.inside.number c.apply_into.new.regs (known_at c.enter-seat.result).pairs (known_at c.enter-seat.result).served) c.apply_into.new.reply
+    × Entered g.N.Name.board (pair_at g.N.Name.first g.N.Name.opened) (length g.N.Name.opened.arena.held) g.N.Name.desks (c.self.inside.stamp + 1) c.desk.inside.number (c.desk.inside.calls + 1) c.apply_into.new.self
+    (entries_of c.apply_into.new.regs) (entry_of c.desk.inside.number c.args.line c.args.call.now c.apply_into.new.reply) (history_at c.self.inside.seat) (known_in c.desk.inside.seat) c.enter-seat.new.lock c.enter-seat.result
 left g c known at going =
     let h = history_at c.self.inside.seat in
     let d = known_in c.desk.inside.seat in
     let kept = c.self.invariant.2 in
     let joined = c.admit.ensures h d kept.here at in
-    let whole = c.lawful.ensures.whole ∙ c.apply-reply.ensures.size ∙ c.self.invariant.1.sized in
+    let whole = c.lawful.ensures.whole ∙ c.apply_into.ensures.size ∙ c.self.invariant.1.sized in
     let now =
-    entered kept c.desk.invariant.2 joined.1 c.apply-reply.new.self whole c.census-census.result c.census-census.ensures (entry_of c.desk.inside.number c.args.line c.args.call.now c.apply-reply.result)
-    (entries_of c.apply-reply.new.regs) c.enter-seat.new.lock c.enter-seat.result refl (c.enter-seat.ensures h d joined.0) in (
-      turns known c.apply-reply.ensures c.args.line (history_at c.enter-seat.new.lock).tables (history_at c.enter-seat.new.lock).pairs (known_at c.enter-seat.result).pairs (history_at c.enter-seat.new.lock).entries (known_at c.enter-seat.result).served c.keep.new.self now.tables
-          going now.listed now.saw joined.1.pairs (later kept c.desk.invariant.2 joined.1 c.apply-reply.new.self whole) now.entered now.served c.keep.ensures.entries,
+    entered kept c.desk.invariant.2 joined.1 c.apply_into.new.self whole c.census-census.result c.census-census.ensures (entry_of c.desk.inside.number c.args.line c.args.call.now c.apply_into.new.reply)
+    (entries_of c.apply_into.new.regs) c.enter-seat.new.lock c.enter-seat.result refl (c.enter-seat.ensures h d joined.0) in (
+      turns known c.apply_into.ensures c.args.line (history_at c.enter-seat.new.lock).tables (history_at c.enter-seat.new.lock).pairs (known_at c.enter-seat.result).pairs (history_at c.enter-seat.new.lock).entries (known_at c.enter-seat.result).served c.keep.new.self now.tables
+          going now.listed now.saw joined.1.pairs (later kept c.desk.invariant.2 joined.1 c.apply_into.new.self whole) now.entered now.served c.keep.ensures.entries,
       now,
     )
 
@@ -106,7 +106,7 @@ invariant_of-self g c =
       now.1.kept,
       told_next c.self.invariant.3 now.0.served c.desk.invariant.0.below,
       subst (λ (es : List Entry). IsTraceOf g.N.Name.kept es c.keep.new.self) (sym now.1.entered)
-          (trace_next (history_at c.self.inside.seat).entries (entry_of c.desk.inside.number c.args.line c.args.call.now c.apply-reply.result) c.self.inside.trace c.keep.new.self g.N.Name.kept
+          (trace_next (history_at c.self.inside.seat).entries (entry_of c.desk.inside.number c.args.line c.args.call.now c.apply_into.new.reply) c.self.inside.trace c.keep.new.self g.N.Name.kept
           c.self.invariant.4 (not_full g at.After-census-before) c.keep.ensures.most c.keep.ensures.entries),
     )
 
@@ -121,12 +121,12 @@ invariant_of-desk g c =
       now.1.seated,
     )
 
-pub returns : goal.returns
-returns g c =
-    let at = goal.at.returns g c in
+pub returns-clause-answer : goal.returns-clause-answer
+returns-clause-answer g c =
+    let at = goal.at.returns-clause-answer g c in
     let now = left g at.After-enter-seat (is_known g at.After-census-before) (there g at.After-census-before) (unended g at.After-census-before) in
     let d = desk_value c.desk.inside.number c.desk.inside.regs (known_in c.desk.inside.seat).pairs (known_in c.desk.inside.seat).served in
-    let b = book_with (history_at c.enter-seat.new.lock) c.apply-reply.new.self (c.self.inside.stamp + 1) c.keep.new.self in
-    let e = desk_value c.desk.inside.number c.apply-reply.new.regs (known_at c.enter-seat.result).pairs (known_at c.enter-seat.result).served in
-    subst (λ (x : DeskValue). IsServed c.args.self.now x c.args.line c.args.call.now b e c.apply-reply.result) c.desk.view_is
-    (subst (λ (x : BookValue). IsServed x d c.args.line c.args.call.now b e c.apply-reply.result) c.self.view_is now.0.served)
+    let b = book_with (history_at c.enter-seat.new.lock) c.apply_into.new.self (c.self.inside.stamp + 1) c.keep.new.self in
+    let e = desk_value c.desk.inside.number c.apply_into.new.regs (known_at c.enter-seat.result).pairs (known_at c.enter-seat.result).served in
+    subst (λ (x : DeskValue). IsServed c.args.self.now x c.args.line c.args.call.now b e c.apply_into.new.reply) c.desk.view_is
+    (subst (λ (x : BookValue). IsServed x d c.args.line c.args.call.now b e c.apply_into.new.reply) c.self.view_is now.0.served)
