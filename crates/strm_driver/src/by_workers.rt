@@ -1,8 +1,9 @@
 //! The text of a script whose sections are served by workers.
-ghost use Rattle.std.specs.Prelude.{◌≡◌, ◌≤◌, ◌++◌, ◌∷◌, [], false, IfErr, IfOk, None, OnOk, length, sum_by};
+ghost use Rattle.std.specs.Prelude.{◌≡◌, ◌≤◌, ◌++◌, ◌∷◌, [], false, IfErr, IfOk, List, None, OnOk, length, sum_by};
 ghost use Rattle.std.specs.List.{flat_map, list_any};
 ghost use Rattle.strm_pool.specs.Config.{fault_of};
 ghost use Rattle.strm_pool.specs.PoolValue.{opening};
+ghost use Rattle.strm_pool.specs.declared.reply.Reply.{Reply};
 ghost use Rattle.strm_shared.specs.Desks.{fresh};
 ghost use Rattle.strm_shared.specs.Limits.{most_workers};
 ghost use Rattle.strm_shared.specs.Pairs.{pair_at};
@@ -23,8 +24,8 @@ use std::thread::Threads;
 use strm_pool::{NewFault, Pool};
 use strm_script::{Script, reply_text, report_text};
 use strm_shared::{
-    Brand, Desks, End, Entry, Gate, Gathered, Name, Outcome, Parts, Setup, Shared, Start, Trace,
-    run_workers,
+    BareOutcome, Brand, Desks, End, Entry, Gate, Gathered, Name, Parts, Setup, Shared, Start,
+    Trace, run_workers_without_replies,
 };
 
 // Whether there was no thread for one of the workers.
@@ -83,18 +84,14 @@ fn text_of_outcome<N: Name>(
     alloc: Global,
     shared: Shared<N>,
     parts: &Parts,
-    outcome: Outcome<N>,
+    outcome: BareOutcome<N>,
 ) -> Result<Vec<u8>, AllocError>
     requires under { IsServedUnder N.Name parts.now }
-    requires worked { AllWorked N.Name parts.now (fresh N.desks (pair_at N.first N.opened ∷ [])) outcome.ends outcome.replies outcome.desks }
+    requires worked { (all : List (List Reply)) × AllWorked N.Name parts.now (fresh N.desks (pair_at N.first N.opened ∷ [])) outcome.ends all outcome.desks }
     ensures { IfOk result (λ text. (script : ScriptValue) → script.parts ≡ parts.now → N.opened ≡ opening script.config → IsTextOf Workers script text.items) }
 {
     let _ = parts;
-    let Outcome {
-        desks,
-        replies: _,
-        ends,
-    } = outcome;
+    let BareOutcome { desks, ends } = outcome;
     match shared.gather(desks) {
         Ok(
             Gathered {
@@ -124,7 +121,7 @@ fn shared_text<N: Name + Send + Sync, R: Threads + Wait + Sync, G: Gate>(
     ensures { IfOk result (λ text. (script : ScriptValue) → script.parts ≡ parts.now → N.opened ≡ opening script.config → IsTextOf Workers script text.items) }
 {
     let (shared, desks) = start.open::<N>();
-    match run_workers(rt, alloc, &shared, desks, parts, gate) {
+    match run_workers_without_replies(rt, alloc, &shared, desks, parts, gate) {
         Ok(outcome) => text_of_outcome(alloc, shared, parts, outcome),
         Err((error, desks)) => {
             desks.forget();

@@ -16,8 +16,8 @@ use strm_links::{Links, Stacks, Strands};
 use strm_pool::{Blocks, ClassSpec, Config, NewFault, Pool, QueueSpec, Queues};
 use strm_script::{ParseFault, Script, parse, reply_text, report_text};
 use strm_shared::{
-    Brand, Desks, End, Entry, Gathered, Name, OpenGate, Outcome, Parts, Setup, Shared, Start,
-    Trace, run_workers,
+    BareOutcome, Brand, Desks, End, Ends, Entry, Gathered, Name, OpenGate, Outcome, Parts, Setup,
+    Shared, Start, Trace, run_workers, run_workers_without_replies,
 };
 
 // Two sections. The second has no lines, so that the text is the same in whatever order they are served. The text grows within the
@@ -157,29 +157,62 @@ fn start(rt: &(impl Abort + Print), alloc: Global) -> Start {
     }
 }
 
-// What its workers leave. Where memory is refused their desks come back.
+// What workers leave, by this call. Where memory is refused their desks come back, and it is called once more.
+macro_rules! worked {
+    ($rt:expr, $call:path, $alloc:expr, $shared:expr, $desks:expr, $parts:expr) => {
+        match $call($rt, $alloc, $shared, $desks, $parts, &OpenGate) {
+            Ok(outcome) => outcome,
+            Err((_, desks)) => {
+                tell($rt, stringify!($call));
+                match $call($rt, $alloc, $shared, desks, $parts, &OpenGate) {
+                    Ok(outcome) => outcome,
+                    Err((_, desks)) => {
+                        desks.forget();
+                        panic!($rt; "refused again")
+                    }
+                }
+            }
+        }
+    };
+}
+
+// The desks of its workers, and how each ended, where their replies are kept.
 fn worked<N: Name + Send + Sync, R: Abort + Print + Threads + Wait + Sync>(
     rt: &R,
     alloc: Global,
     shared: &Shared<N>,
     desks: Desks<N>,
     parts: &Parts,
-) -> Outcome<N>
+) -> (Desks<N>, Ends)
     requires { length parts.now ≡ length desks }
 {
-    match run_workers(rt, alloc, shared, desks, parts, &OpenGate) {
-        Ok(outcome) => outcome,
-        Err((_, desks)) => {
-            tell(rt, "run_workers");
-            match run_workers(rt, alloc, shared, desks, parts, &OpenGate) {
-                Ok(outcome) => outcome,
-                Err((_, desks)) => {
-                    desks.forget();
-                    panic!(rt; "refused again")
-                }
-            }
-        }
-    }
+    let Outcome {
+        desks,
+        replies: _,
+        ends,
+    } = worked!(rt, run_workers, alloc, shared, desks, parts);
+    (desks, ends)
+}
+
+// The same, where nobody gets the replies.
+fn worked_without_replies<N: Name + Send + Sync, R: Abort + Print + Threads + Wait + Sync>(
+    rt: &R,
+    alloc: Global,
+    shared: &Shared<N>,
+    desks: Desks<N>,
+    parts: &Parts,
+) -> (Desks<N>, Ends)
+    requires { length parts.now ≡ length desks }
+{
+    let BareOutcome { desks, ends } = worked!(
+        rt,
+        run_workers_without_replies,
+        alloc,
+        shared,
+        desks,
+        parts
+    );
+    (desks, ends)
 }
 
 // The text that there is once two workers ended so. Where one has no thread the other runs on.
@@ -230,22 +263,23 @@ fn text_of(rt: &(impl Abort + Print), alloc: Global, pool: &Pool, entries: &[Ent
     text
 }
 
-// Has workers serve the sections, and compares the text of their trace.
+// Has workers serve the sections, whose replies are kept or not, and compares the text of their trace.
 fn serve<N: Name + Send + Sync, R: Abort + Print + Threads + Wait + Sync>(
     rt: &R,
     alloc: Global,
     start: Start,
     parts: &Parts,
+    keeps: bool,
 )
     requires { IsNameOf N.Name start }
 {
     let (shared, desks) = start.open::<N>();
     assert!(rt; parts.items().len() == desks.len());
-    let Outcome {
-        desks,
-        replies: _,
-        ends,
-    } = worked(rt, alloc, &shared, desks, parts);
+    let (desks, ends) = if keeps {
+        worked(rt, alloc, &shared, desks, parts)
+    } else {
+        worked_without_replies(rt, alloc, &shared, desks, parts)
+    };
     let wanted = text_behind(rt, ends.items());
     match shared.gather(desks) {
         Ok(Gathered { pool, trace, desks }) => {
@@ -263,7 +297,14 @@ fn serve<N: Name + Send + Sync, R: Abort + Print + Threads + Wait + Sync>(
 fn a_script_that_workers_serve(rt: HostRuntime) {
     let start = start(&rt, rt.alloc());
     let Script { config: _, parts } = script(&rt, rt.alloc());
-    serve::<Brand, _>(&rt, rt.alloc(), start, &parts);
+    serve::<Brand, _>(&rt, rt.alloc(), start, &parts, true);
+}
+
+#[test]
+fn a_script_whose_replies_nobody_gets(rt: HostRuntime) {
+    let start = start(&rt, rt.alloc());
+    let Script { config: _, parts } = script(&rt, rt.alloc());
+    serve::<Brand, _>(&rt, rt.alloc(), start, &parts, false);
 }
 
 // Runs the script once.

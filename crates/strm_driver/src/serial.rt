@@ -13,7 +13,7 @@ ghost use Rattle.strm_driver.specs.Told.{TellsNewFault};
 
 use crate::output::{lines_in, room_for};
 use std::alloc::{AllocError, Global};
-use strm_pool::{NewFault, Pool, Regs};
+use strm_pool::{NewFault, Pool, Regs, Reply};
 use strm_script::{Script, reply_text, report_text};
 use strm_shared::{Line, Lines};
 
@@ -32,7 +32,8 @@ fn serve(
         ≡ text.old.items ++ text_from pool.old (before ++ table_of regs.old ∷ behind) (by_worker worker lines.now ++ later)) }
 {
     for line in lines {
-        let reply = pool.apply(regs, &line.call);
+        let mut reply = Reply::Done;
+        pool.apply_into(regs, &line.call, &mut reply);
         reply_text(text, worker, line.number, &reply)?;
     }
     Ok(())

@@ -17,7 +17,7 @@ returns g c =
     (λ text. (list_any is_not_started c.items.result.now ≡ false) × (text.items ≡ flat_map entry_text c.items-in-Ok.result.now ++ report_text c.in-Ok.field-0.pool))
     (λ text. (script : Script) → script.parts ≡ c.args.parts.now → g.N.Name.opened ≡ opening script.config → IsTextOf Workers script text.items)
     (λ text told script same opens.
-    text_of_workers g.N.Name c.args.parts.now _ c.args.outcome.ends c.args.outcome.replies c.args.outcome.desks c.in-Ok.field-0.pool c.in-Ok.field-0.trace c.in-Ok.field-0.desks c.requires.under c.requires.worked c.in-Ok.ensures.shown
+    text_of_workers g.N.Name c.args.parts.now _ c.args.outcome.ends c.requires.worked.0 c.args.outcome.desks c.in-Ok.field-0.pool c.in-Ok.field-0.trace c.in-Ok.field-0.desks c.requires.under c.requires.worked.1 c.in-Ok.ensures.shown
     (ap (list_any is_not_started) (sym c.items.ensures) ∙ told.0) script text.items same opens
     (told.1 ∙ ap (λ (es : List Entry). flat_map entry_text es ++ report_text c.in-Ok.field-0.pool) c.items-in-Ok.ensures))
     c.text_of_trace-text.ensures

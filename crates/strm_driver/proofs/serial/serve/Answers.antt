@@ -5,13 +5,13 @@ use Rattle.strm_driver.proofs.serial.serve.Goals as goal
 
 pub loop-line-preserved : goal.loop-line-preserved
 loop-line-preserved c =
-    let held = c.apply-reply.ensures.owned c.loop-line.invariant.distinct in
+    let held = c.apply_into.ensures.owned c.loop-line.invariant.distinct in
     record {
       owned = held.0;
       distinct = held.1;
       text = λ before behind later place.
-          part_text-next c.loop-line.text.items c.reply_text.new.text.items _ before behind later c.args.worker c.loop-line.pool c.apply-reply.new.self (table_of c.loop-line.regs) (table_of c.apply-reply.new.regs)
-          c.args.lines.now c.loop-line.line-index c.line-item.result c.apply-reply.result place (omega (arith, c.loop-line-test.true)) c.line-item.is c.apply-reply.ensures.step c.in_ok-reply_text.ensures.ok
+          part_text-next c.loop-line.text.items c.reply_text.new.text.items _ before behind later c.args.worker c.loop-line.pool c.apply_into.new.self (table_of c.loop-line.regs) (table_of c.apply_into.new.regs)
+          c.args.lines.now c.loop-line.line-index c.line-item.result c.apply_into.new.reply place (omega (arith, c.loop-line-test.true)) c.line-item.is c.apply_into.ensures.step c.in_ok-reply_text.ensures.ok
           (c.loop-line.invariant.text before behind later place);
     }
 
