@@ -66,7 +66,7 @@ ROWS = {
 TOLD = {"open": lambda blocks: blocks, "census": lambda blocks: blocks, "size": lambda _: 256, "read": lambda _: 64, "block": lambda _: 64, "qsize": lambda _: 0}
 # A look at the census without the lock, by the form `serve`, and what a round of it is.
 LOOK = "look"
-# A served call from the first instruction of `serve` to its last, and the forms in which it is told.
+# A served call from the first instruction of `serve_into` to its last, and the forms in which it is told.
 SERVED, SERVING = "serve_call", {"no trace": "serve", "a trace kept": "trace"}
 
 
@@ -162,7 +162,7 @@ def rows_table(counts, times, before):
 
 def forms_table(counts, times, before):
     """Rows with registers beside those with tokens, in markdown."""
-    head = ["A round", "calls", "with tokens", *(["`apply`, before"] if before else []), "`apply`", "more a call", *(["`serve`, before"] if before else []), "`serve`", "more a call", "ns of `serve`"]
+    head = ["A round", "calls", "with tokens", *(["`apply_into`, before"] if before else []), "`apply_into`", "more a call", *(["`serve_into`, before"] if before else []), "`serve_into`", "more a call", "ns of `serve_into`"]
     yield from (f"| {' | '.join(head)} |", "|---" * len(head) + "|")
     for row, told in ROWS.items():
         if not told.calls:
@@ -177,7 +177,7 @@ def forms_table(counts, times, before):
 
 def served_table(counts, times, before):
     """A served call, in markdown."""
-    head = ["A served call", *(["before, within `serve`"] if before else []), "instructions within `serve`", "with the loop", "nanoseconds of the processor"]
+    head = ["A served call", *(["before, within `serve_into`"] if before else []), "instructions within `serve_into`", "with the loop", "nanoseconds of the processor"]
     yield from (f"| {' | '.join(head)} |", "|---" * len(head) + "|")
     for name, form in SERVING.items():
         whole, alone = Measure(form, "allocb", MIDDLE), Measure(form, "allocb", MIDDLE, SERVED)

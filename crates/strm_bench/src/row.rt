@@ -5,9 +5,9 @@
 pub(crate) enum Form {
     /// On the pool, with tokens.
     Direct,
-    /// By `apply`, with registers.
+    /// By `apply_into`, with registers.
     Apply,
-    /// By `serve`, on one desk.
+    /// By `serve_into`, on one desk.
     Serve,
     /// So too, with a trace kept.
     Trace,

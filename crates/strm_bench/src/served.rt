@@ -8,18 +8,19 @@ use std::sync::Wait;
 use strm_pool::{Call, Refusal, Reply};
 use strm_shared::{Desk, Name, Shared, Start};
 
-// Has a call served. It is a call of its own in the program, into which `serve` is put whole, so that its instructions can be told.
+// Has a call served. It is a call of its own in the program, into which `serve_into` is put whole, so that its instructions can be told.
 #[inline(never)]
 fn serve_call<N: Name>(
     rt: &impl Wait,
     shared: &Shared<N>,
     desk: &mut Desk<N>,
     call: &Call,
-) -> Result<Reply, Refusal> {
-    shared.serve(rt, desk, 1, call)
+    reply: &mut Reply,
+) -> Result<(), Refusal> {
+    shared.serve_into(rt, desk, 1, call, reply)
 }
 
-// Has calls served, so often, and tells how many were done.
+// Has calls served, so often, each reply into the place of the one before it, and tells how many were done.
 fn serve_all<N: Name>(
     rt: &impl Wait,
     shared: &Shared<N>,
@@ -28,9 +29,10 @@ fn serve_all<N: Name>(
     times: u64,
 ) -> u64 {
     let mut told = 0u64;
+    let mut reply = Reply::Done;
     for _ in 0..times {
         for call in calls {
-            if let Ok(reply) = serve_call(rt, shared, desk, call) {
+            if serve_call(rt, shared, desk, call, &mut reply).is_ok() {
                 told = told.wrapping_add(u64::from(is_done(&reply)));
             }
         }
