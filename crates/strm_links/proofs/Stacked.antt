@@ -45,7 +45,7 @@ times_free n rows free = times-unlisted n rows.lists (λ l. holder_none n l rows
 -- a linked stack is what the walk finds
 stack_is : (behind : List (Option ℕ)) (t : Top) (xs : List ℕ) → IsStack (behind_at behind) t xs → stack behind t ≡ xs
 unfolding stack
-stack_is behind t xs linked = rw (linked.len, linked.front) (walk_is (behind_at behind) xs linked.leads_on)
+stack_is behind t xs linked = rw (linked.len, linked.front) (walk_is (behind_at behind) xs None linked.leads_on)
 
 -- sound stacks are seen as the rows that they hold
 pub stacked_rows_is : (behind : List (Option ℕ)) (tops : List Top) (rows : Rows) → IsStacked behind tops rows → stacked_rows behind tops ≡ rows

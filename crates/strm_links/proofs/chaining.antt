@@ -9,4 +9,4 @@ pub mod Joined
 pub mod Divided
 pub mod TakenOut
 pub mod Freed
-pub mod SecondFreed
+pub mod BehindFreed

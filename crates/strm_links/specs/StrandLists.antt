@@ -1,5 +1,5 @@
 -- What a contract sees of `Strands`: which nodes are free, and the chains of the others.
-use Rattle.std.specs.Prelude.{◌≡◌, ℕ, nat_lt, List, [], ◌∷◌, ◌++◌, length, replicate, Option, None, Some, IfSome, slice_set, if◌then◌else◌, refl}
+use Rattle.std.specs.Prelude.{◌≡◌, ℕ, ◌+◌, nat_lt, List, [], ◌∷◌, ◌++◌, length, replicate, reverse, take, drop, Option, None, Some, IfSome, slice_set, if◌then◌else◌, refl}
 use Rattle.std.specs.List.{range_with_len}
 use Rattle.std.specs.Coded.{Coded, code_by, coded×, coded_ℕ, coded_list, coded_option}
 use Rattle.strm_links.specs.Rows.{first}
@@ -43,8 +43,9 @@ abbrev pub with_first_begun : List ℕ → StrandLists → StrandLists
 with_first_begun [] v = v
 with_first_begun (n ∷ ns) v = record v { free = ns; chains = slice_set v.chains n (Some (n ∷ [])) }
 
--- the second of these nodes, which stand at h, is free, if there is one
-abbrev pub with_second_freed : ℕ → List ℕ → StrandLists → StrandLists
-with_second_freed h [] v = v
-with_second_freed h (x ∷ []) v = v
-with_second_freed h (x ∷ y ∷ rest) v = record { free = y ∷ v.free; chains = slice_set v.chains h (Some (x ∷ rest)) }
+-- of these nodes, which stand at h, so many behind the first are free, the last in front; the others stay
+abbrev pub with_behind_freed : ℕ → ℕ → List ℕ → StrandLists → StrandLists
+with_behind_freed h count xs v = record {
+  free = reverse (take count (drop 1 xs)) ++ v.free;
+  chains = slice_set v.chains h (Some (take 1 xs ++ drop (count + 1) xs));
+}

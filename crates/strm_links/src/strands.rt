@@ -5,10 +5,10 @@
 //! its length, is this project's own choice: two chains are joined at once, however long they are.
 ghost use Rattle.std.specs.Prelude.{◌≡◌, ◌≢◌, ℕ, ◌+◌, ◌-◌, ◌^◌, ◌<◌, ◌≤◌, ◌++◌, ◌==◌, nat_lt, drop, is_none, is_some, length, map, reverse, take, false, if◌then◌else◌, IfOk, IfSome, IsSome, IsTrue, slice_get, slice_set, vec_len};
 ghost use Rattle.std.specs.List.{range_with_len};
-ghost use Rattle.strm_links.specs.Rows.{IsApart, first, has, last};
+ghost use Rattle.strm_links.specs.Rows.{IsApart, first, first_or, has, last};
 ghost use Rattle.strm_links.specs.Layout.{LeadsOn, walk};
 ghost use Rattle.strm_links.specs.Chains.{divided, chain_in, joined, taken_out};
-ghost use Rattle.strm_links.specs.StrandLists.{IsParted, opening_strands, strand_at, with_first_begun, with_second_freed};
+ghost use Rattle.strm_links.specs.StrandLists.{IsParted, opening_strands, strand_at, with_behind_freed, with_first_begun};
 ghost use Rattle.strm_links.specs.StrandLayout.{free_node, next_at, no_span, onward, path, span_at};
 
 use crate::slot::Slot;
@@ -23,7 +23,7 @@ use std::mem::size_of;
 /// free nodes stand in an order of their own, and are taken from its front.
 ///
 /// Only `new` takes memory, 12 bytes for a node. Every call takes constant time but for `new`,
-/// `begin_all`, `take_out` and `free`, which go along the nodes. Callers see `StrandLists`: the free
+/// `begin_all`, `take_out`, `free` and `free_behind`, which go along the nodes. Callers see `StrandLists`: the free
 /// nodes in order, and for each node the chain that begins with it.
 #[derive(Debug, Drop)]
 pub struct Strands {
@@ -45,6 +45,13 @@ struct Node {
 struct Span {
     last: u32,
     len: u32,
+}
+
+// The last of the nodes whose links were reversed, and what it led on to.
+#[derive(Clone, Copy, Debug)]
+struct Reversed {
+    last: Slot,
+    next: Slot,
 }
 
 const _: () = prove!(size_of::<Node>() == 12 && size_of::<Strands>() == 32);
@@ -73,11 +80,11 @@ impl Span {
         Span { last: 0, len: 0 }
     }
 
-    // What the head keeps once the node behind `ahead` has left the chain, which led on to `next`.
+    // What the head keeps once the `count` nodes behind `ahead` have left the chain, which led on to `next`.
     #[inline(always)]
-    fn without_one(self, ahead: u32, next: Slot) -> Span
-        requires { 0 < self.len }
-        ensures { result ≡ record { last = (if is_none next then ahead else self.last); len = self.len - 1 } }
+    fn without(self, count: u32, ahead: u32, next: Slot) -> Span
+        requires { count ≤ self.len }
+        ensures { result ≡ record { last = (if is_none next then ahead else self.last); len = self.len - count } }
     {
         Span {
             last: if next.get().is_none() {
@@ -85,7 +92,7 @@ impl Span {
             } else {
                 self.last
             },
-            len: self.len - 1,
+            len: self.len - count,
         }
     }
 }
@@ -163,17 +170,18 @@ fn node_behind(nodes: &[Node], from: u32, steps: u32) -> u32
     at
 }
 
-// Reverses the links of a chain: it is left from last to first, and leads on to `beyond`. Most chains are of one node, and
-// have no loop.
+// Reverses the links of so many nodes from `head` on: they lead from the last back to `head`, and that on to `beyond`. Most
+// chains are of one node, and have no loop.
 #[inline(always)]
-fn reverse_links(nodes: &mut Vec<Node>, head: u32, len: u32, beyond: Slot)
+fn reverse_links(nodes: &mut Vec<Node>, head: u32, len: u32, beyond: Slot) -> Reversed
     requires few { vec_len nodes.old < 2 ^ 32 }
     requires begins { first (path nodes.old.items len (Some head)) ≡ Some head }
-    requires leads { LeadsOn (next_at nodes.old.items) (path nodes.old.items len (Some head)) None }
     requires len { length (path nodes.old.items len (Some head)) ≡ len }
     requires apart { IsApart (path nodes.old.items len (Some head)) }
     requires within { (k : ℕ) → IsTrue (has k (path nodes.old.items len (Some head)))
         → k < vec_len nodes.old }
+    ensures last { result.last ≡ first_or beyond (reverse (path nodes.old.items len (Some head))) }
+    ensures next { result.next ≡ onward (next_at nodes.old.items) len (Some head) }
     ensures reversed { LeadsOn (next_at nodes.new.items)
         (reverse (path nodes.old.items len (Some head))) beyond }
     ensures others { (k : ℕ) → has k (path nodes.old.items len (Some head)) ≡ false
@@ -191,6 +199,10 @@ fn reverse_links(nodes: &mut Vec<Node>, head: u32, len: u32, beyond: Slot)
         at = node.next;
         node.next = onto;
         onto = Slot::some(number);
+    }
+    Reversed {
+        last: onto,
+        next: at,
     }
 }
 
@@ -389,7 +401,7 @@ impl Strands {
         let next = self.nodes[node as usize].next;
         lead(&mut self.nodes, ahead, next);
         chain_up(&mut self.nodes, node, node, 1);
-        keep(&mut self.nodes, head, span.without_one(ahead, next));
+        keep(&mut self.nodes, head, span.without(1, ahead, next));
         Some(node)
     }
 
@@ -412,25 +424,25 @@ impl Strands {
         self.free_len += span.len;
     }
 
-    /// Frees the second node of a chain, to the front of the free ones, and names it. None where the chain
-    /// has no second node, and then nothing changes.
+    /// Frees the `count` nodes behind the first of a chain, first to last, each to the front of the free ones. The
+    /// first one, and those behind these, stay the chain.
+    ///
+    /// Takes a step for each.
     #[inline(always)]
-    pub fn free_second(&mut self, head: u32) -> Option<u32>
-        requires { IsSome (chain_in self.old.chains head) }
-        ensures answer { result ≡ slice_get (strand_at self.old head) 1 }
-        ensures after { self.new ≡ with_second_freed head (strand_at self.old head) self.old }
-        ensures in_range { IfSome result (λ node. node < length self.old.chains) }
+    pub fn free_behind(&mut self, head: u32, count: u32)
+        requires { count < length (strand_at self.old head) }
+        ensures after { self.new ≡ with_behind_freed head count (strand_at self.old head) self.old }
         ensures parted { IsParted self.new }
     {
         let Node { next, span } = self.nodes[head as usize];
-        let second = next.get()?;
-        let beyond = self.nodes[second as usize].next;
-        lead(&mut self.nodes, head, beyond);
-        lead(&mut self.nodes, second, self.first_free);
-        keep(&mut self.nodes, head, span.without_one(head, beyond));
-        self.first_free = next;
-        self.free_len += 1;
-        Some(second)
+        if count == 0 {
+            return;
+        }
+        let freed = reverse_links(&mut self.nodes, next.number(), count, self.first_free);
+        lead(&mut self.nodes, head, freed.next);
+        keep(&mut self.nodes, head, span.without(count, head, freed.next));
+        self.first_free = freed.last;
+        self.free_len += count;
     }
 
     /// The law that the free nodes and the chains part the nodes: each stands once in all, and a chain

@@ -1,6 +1,6 @@
 -- `pullupmsg`.
-pub mod SecondFreed
-pub mod SecondTaken
+pub mod Taken
+pub mod BytesTaken
 pub mod FrontCopied
 pub mod FrontPulled
 pub mod Drained

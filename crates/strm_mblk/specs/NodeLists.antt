@@ -1,5 +1,5 @@
 -- Message blocks as mere numbers: the free ones, and the messages that the others make. No public clause cites this module.
-use Rattle.std.specs.Prelude.{◌≡◌, ℕ, ◌<◌, nat_lt, List, [], ◌∷◌, ◌++◌, length, map, replicate, Option, None, Some, IfSome, slice_get, slice_index_or, slice_set, if◌then◌else◌}
+use Rattle.std.specs.Prelude.{◌≡◌, ℕ, ◌+◌, ◌<◌, nat_lt, List, [], ◌∷◌, ◌++◌, length, map, replicate, reverse, take, drop, Option, None, Some, IfSome, slice_get, slice_index_or, slice_set, if◌then◌else◌}
 use Rattle.std.specs.List.{All, range_with_len}
 use Rattle.strm_links.specs.Rows.{first}
 use Rattle.strm_data.specs.DataStore.{times}
@@ -52,8 +52,9 @@ abbrev pub after_begin : NodeLists → List ℕ → NodeLists
 after_begin v [] = v
 after_begin v (n ∷ ns) = record v { free = ns; held = slice_set v.held n (Some (n ∷ [])) }
 
--- the second of these numbers, which stand at h, is free, if there is one
-abbrev pub after_second_freed : ℕ → List ℕ → NodeLists → NodeLists
-after_second_freed h [] v = v
-after_second_freed h (n ∷ []) v = v
-after_second_freed h (n ∷ m ∷ rest) v = record v { free = m ∷ v.free; held = slice_set v.held h (Some (n ∷ rest)) }
+-- of these numbers, which stand at h, so many behind the first are free, the last in front; the others stay
+abbrev pub after_behind_freed : ℕ → ℕ → List ℕ → NodeLists → NodeLists
+after_behind_freed h count ns v = record v {
+  free = reverse (take count (drop 1 ns)) ++ v.free;
+  held = slice_set v.held h (Some (take 1 ns ++ drop (count + 1) ns));
+}

@@ -1,10 +1,10 @@
 -- How bytes are pulled up into the first block of a message, step by step. No public clause cites this module.
-use Rattle.std.specs.Prelude.{ℕ, ◌+◌, ◌-◌, nat_le, List, [], ◌∷◌, take, Some, slice_set, if◌then◌else◌}
+use Rattle.std.specs.Prelude.{ℕ, List, [], ◌∷◌, take, Some, slice_set}
 use Rattle.strm_data.specs.CountedStore.{CountedStore}
 use Rattle.strm_data.specs.DataStore.{take_data, with_bytes_written}
 use Rattle.strm_mblk.specs.Arena.{Arena, message_at}
 use Rattle.strm_mblk.specs.Block.{Block, Message, bytes_of}
-use Rattle.strm_mblk.specs.Freeing.{with_name_dropped, with_block_freed, with_blocks_freed}
+use Rattle.strm_mblk.specs.Freeing.{with_name_dropped, with_blocks_freed}
 use Rattle.strm_mblk.specs.Given.{Given, answer_map}
 use Rattle.strm_mblk.specs.Trimming.{left_over, pulled_into, used_up}
 
@@ -31,30 +31,7 @@ front_pulled h n (b ∷ bs) a d =
 abbrev pub pull_front : ℕ → ℕ → Arena → Given Arena (Unit {0})
 pull_front h n a = answer_map (λ d. (tt, front_pulled h n (message_at a h) a d)) (take_data n a.store)
 
--- ---- the second block
-
--- a block without its first n bytes
-abbrev pub without_front : ℕ → Block → Block
-without_front n b = record b { offset = b.offset + n; len = b.len - n }
-
--- the second block of this message, which is held at h, is free
-abbrev pub with_second_freed : ℕ → Message → Arena → Arena
-with_second_freed h [] a = a
-with_second_freed h (b ∷ []) a = a
-with_second_freed h (b ∷ c ∷ bs) a = with_block_freed c [] (with_message h (b ∷ bs) a)
-
--- it has lost its first n bytes
-abbrev pub with_second_cut : ℕ → ℕ → Message → Arena → Arena
-with_second_cut h n [] a = a
-with_second_cut h n (b ∷ []) a = a
-with_second_cut h n (b ∷ c ∷ bs) a = with_message h (b ∷ without_front n c ∷ bs) a
-
--- n bytes are taken from it, or all that it has: how many are left to take, and the arena then
-abbrev pub second_taken : ℕ → ℕ → Message → Arena → ℕ × Arena
-second_taken h n [] a = (0, a)
-second_taken h n (b ∷ []) a = (0, a)
-second_taken h n (b ∷ c ∷ bs) a =
-    if nat_le c.len n then (n - c.len, with_second_freed h (b ∷ c ∷ bs) a) else (0, with_second_cut h n (b ∷ c ∷ bs) a)
+-- ---- the blocks behind it
 
 -- n bytes are taken from the blocks behind the first
 abbrev pub drained : ℕ → ℕ → Message → Arena → Arena

@@ -4,7 +4,7 @@ ghost use Rattle.std.specs.Option.{ForSome};
 ghost use Rattle.strm_links.specs.Rows.{IsParting, after, before, first, has, holder, last, list_at, put_in};
 ghost use Rattle.strm_links.specs.StrandLists.{strand_at};
 ghost use Rattle.strm_mblk.specs.Messages.{divided, held_in, joined, put_before_head, shelf_in, with_head, without_head};
-ghost use Rattle.strm_mblk.specs.NodeLists.{IsNodesParted, IsReached, after_begin, after_second_freed, head_node, heads_on, nodes_at, opening_nodes, shelved_nodes};
+ghost use Rattle.strm_mblk.specs.NodeLists.{IsNodesParted, IsReached, after_begin, after_behind_freed, head_node, heads_on, nodes_at, opening_nodes, shelved_nodes};
 
 #[cfg(test)]
 pub(crate) mod beside;
@@ -190,14 +190,15 @@ impl Chains {
         self.strands.free(head);
     }
 
-    // Frees the second block of a held message, to the front of the free ones. Nothing is done where it has none.
+    // Frees the `count` blocks behind the first of a held message, first to last, each to the front of the free ones.
+    // The first one, and those behind these, stay the message.
     #[inline(always)]
-    pub(crate) fn free_second(&mut self, head: u32)
-        requires { IsSome (held_in self.old.held head) }
-        ensures after { self.new ≡ after_second_freed head (nodes_at self.old head) self.old }
+    pub(crate) fn free_behind(&mut self, head: u32, count: u32)
+        requires { count < length (nodes_at self.old head) }
+        ensures after { self.new ≡ after_behind_freed head count (nodes_at self.old head) self.old }
         ensures parted { IsNodesParted self.new }
     {
-        self.strands.free_second(head);
+        self.strands.free_behind(head, count);
     }
 
     // The head of the first message on a shelf, if there is one.

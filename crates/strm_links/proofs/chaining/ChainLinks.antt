@@ -1,11 +1,12 @@
 -- The links of one chain: where they lead, ended anew, put together, reversed.
-use Rattle.std.proofs.Common.{◌≡◌, ◌≢◌, ℕ, zero, suc, ◌<◌, true, false, List, [], ◌∷◌, ◌++◌, length, get_or, take, drop, Option, Some, None, IsSome, is_some, refl, sym, ap, ◌∙◌, arith}
+use Rattle.std.proofs.Common.{◌≡◌, ◌≢◌, ℕ, zero, suc, ◌<◌, Bool, true, false, List, [], ◌∷◌, ◌++◌, length, get_or, take, drop, Option, Some, None, IsSome, is_some, if◌then◌else◌, refl, sym, ap, ◌∙◌, arith, append_assoc}
+use Rattle.std.specs.Prelude.{is_none}
 use Rattle.std.proofs.lemmas.Bool.{false≢true}
 use Rattle.std.proofs.lemmas.Option.{none-some, same_Some}
 use Rattle.strm_links.specs.Rows.{has, IsApart, first, first_or, last}
-use Rattle.strm_links.specs.Layout.{LeadsOn}
+use Rattle.strm_links.specs.Layout.{LeadsOn, walk}
 use Rattle.strm_links.specs.StrandLayout.{onward}
-use Rattle.strm_links.proofs.lists.OneList.{absent_from, differ, first_has, first_or-append, has_at, has_head, has_tail, is_some_of-same, last_has, last_or-append}
+use Rattle.strm_links.proofs.lists.OneList.{absent_from, differ, first_has, first_or-append, has_at, has_head, has_tail, is_some_of-same, last_has, last_joined, last_or-append}
 
 -- ---- the ends of a list
 
@@ -54,6 +55,22 @@ onward-at next [] b i leads within = absurd (omega arith)
 onward-at next (x ∷ xs) b zero leads within = refl
 onward-at next (x ∷ xs) b (suc i) leads within = ap (onward next i) leads.0 ∙ onward-at next xs b i leads.1 (omega arith)
 
+-- and as many as there are lead to what stands behind them
+pub onward-end : (next : ℕ → Option ℕ) (xs : List ℕ) (b : Option ℕ) → LeadsOn next xs b → onward next (length xs) (first_or b xs) ≡ b
+onward-end next [] b leads = refl
+onward-end next (x ∷ xs) b leads = ap (onward next (length xs)) leads.0 ∙ onward-end next xs b leads.1
+
+-- so many nodes, read off the links, lead on to where so many steps lead
+pub walk_from : (next : ℕ → Option ℕ) (n : ℕ) (at : Option ℕ) → at ≡ first_or (onward next n at) (walk next n at)
+walk_from next zero at = refl
+walk_from next (suc n) None = refl
+walk_from next (suc n) (Some k) = refl
+
+pub LeadsOn-walk : (next : ℕ → Option ℕ) (n : ℕ) (at : Option ℕ) → LeadsOn next (walk next n at) (onward next n at)
+LeadsOn-walk next zero at = tt
+LeadsOn-walk next (suc n) None = tt
+LeadsOn-walk next (suc n) (Some k) = (walk_from next n (next k), LeadsOn-walk next n (next k))
+
 onward-none : (next : ℕ → Option ℕ) (i : ℕ) → onward next i None ≡ None
 onward-none next zero = refl
 onward-none next (suc i) = refl
@@ -90,3 +107,14 @@ first_front h (x ∷ xs) ys is = is
 pub last_back : (t : ℕ) (xs ys : List ℕ) → last ys ≡ Some t → last (xs ++ ys) ≡ Some t
 last_back t xs [] is = absurd (none-some t is)
 last_back t xs (y ∷ ys) is = last_or-append None xs (y ∷ ys) ∙ is
+
+-- one of two numbers, in an option
+some_of_if : (b : Bool) (x y : ℕ) → (if b then Some x else Some y) ≡ Some (if b then x else y)
+some_of_if true x y = refl
+some_of_if false x y = refl
+
+-- the last of both once those between them have left: where the second part has none, that of the first
+pub last_without : (pre out post : List ℕ) (t s : ℕ) → last pre ≡ Some t → last (pre ++ (out ++ post)) ≡ Some s → last (pre ++ post) ≡ Some (if is_none (first post) then t else s)
+last_without pre out post t s ends all =
+    last_joined post (pre ++ out) pre ∙ (λ i. if is_none (first post) then ends i else (ap last (append_assoc pre out post) ∙ all) i)
+    ∙ some_of_if (is_none (first post)) t s

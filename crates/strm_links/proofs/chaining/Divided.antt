@@ -29,7 +29,7 @@ module _ (nodes : List Node) (first_free : Option ℕ) (free_len : ℕ) (v : Str
 
   module _ (c : ℕ) (on : next_at nodes h ≡ Some c) where
     -- any other chain begins with the head and what it leads on to
-    pub two : (rest : List ℕ) × (strand_at v h ≡ h ∷ c ∷ rest)
+    two : (rest : List ℕ) × (strand_at v h ≡ h ∷ c ∷ rest)
     two = let was = strand_laid nodes first_free free_len v laid h some_h in more (strand_at v h) was.head was.leads
       where
         more : (xs : List ℕ) → first xs ≡ Some h → LeadsOn (next_at nodes) xs None → (rest : List ℕ) × (xs ≡ h ∷ c ∷ rest)
@@ -44,19 +44,19 @@ module _ (nodes : List Node) (first_free : Option ℕ) (free_len : ℕ) (v : Str
     in_strand : (k : ℕ) → has k (c ∷ two.0) ≡ true → has k (strand_at v h) ≡ true
     in_strand k there = ap (has k) two.1 ∙ has_tail h k (c ∷ two.0) there
 
-    pub second_in : has c (strand_at v h) ≡ true
+    second_in : has c (strand_at v h) ≡ true
     second_in = in_strand c (has_head c c two.0 refl)
 
     pub divided_low : c < length v.chains
     divided_low = strand_low v laid.once h c second_in
 
-    pub apart : IsApart (h ∷ c ∷ two.0)
+    apart : IsApart (h ∷ c ∷ two.0)
     apart = subst IsApart two.1 (strand_apart v laid.once h)
 
-    pub other : h ≢ c
+    other : h ≢ c
     other = differ h c (c ∷ two.0) apart.0 (has_head c c two.0 refl)
 
-    pub was : IsStrand (next_at nodes) (span_at nodes h) h (h ∷ c ∷ two.0)
+    was : IsStrand (next_at nodes) (span_at nodes h) h (h ∷ c ∷ two.0)
     was = subst (IsStrand (next_at nodes) (span_at nodes h) h) two.1 (strand_laid nodes first_free free_len v laid h some_h)
 
     pub divided_len : 1 < (span_at nodes h).len

@@ -1,7 +1,7 @@
 -- The nodes of a chain become free, the last in front.
 use Rattle.std.proofs.Common.{◌≡◌, ◌≢◌, ℕ, suc, ◌+◌, ◌<◌, ◌≤◌, true, false, ◌==◌, List, [], ◌∷◌, ◌++◌, length, reverse, get_or, set, take, drop, Option, Some, None, IsSome, if◌then◌else◌, refl, sym, ap, ◌∙◌, subst, inl, inr, arith, length-append, length-set, drop-cons, get_or-set_same, get_or-set_other}
 use Rattle.std.proofs.lemmas.Bool.{cases_eq, false≢true}
-use Rattle.std.proofs.lemmas.List.{get_or_read, length-reverse, reverse-append, take_all, take_more}
+use Rattle.std.proofs.lemmas.List.{get_or_read, drop_all, length-reverse, reverse-append, take_all, take_more}
 use Rattle.std.proofs.lemmas.Option.{none-some}
 use Rattle.strm_links.specs.Rows.{has, IsApart, first, first_or, last}
 use Rattle.strm_links.specs.Layout.{LeadsOn}
@@ -71,20 +71,21 @@ module _ (nodes : List Node) (first_free : Option ℕ) (free_len : ℕ) (v : Str
 
 -- ---- the walk that reverses the links
 
-has-reverse : (k : ℕ) (xs : List ℕ) → has k (reverse xs) ≡ true → has k xs ≡ true
+pub has-reverse : (k : ℕ) (xs : List ℕ) → has k (reverse xs) ≡ true → has k xs ≡ true
 has-reverse k xs there = has_times k xs (omega (arith, times-reverse k xs, times_has k (reverse xs) there))
 
--- the first `i` of `xs` are reversed, and lead on to `beyond`; the walk is at the next one, and `onto` is the last reversed
-pub record Reverses (old now : List Node) (beyond : Option ℕ) (xs : List ℕ) (i : ℕ) (at onto : Option ℕ) : Type 0 where
-  pub at_is : at ≡ first (drop i xs)
+-- the first `i` of `xs`, the last of which led on to `end`, are reversed, and lead on to `beyond`; the walk is at the next
+-- one, and `onto` is the last reversed
+pub record Reverses (old now : List Node) (beyond end : Option ℕ) (xs : List ℕ) (i : ℕ) (at onto : Option ℕ) : Type 0 where
+  pub at_is : at ≡ first_or end (drop i xs)
   pub onto_is : onto ≡ first_or beyond (reverse (take i xs))
   pub reversed : LeadsOn (next_at now) (reverse (take i xs)) beyond
   pub others : (k : ℕ) → has k (take i xs) ≡ false → next_at now k ≡ next_at old k
   pub spans : (k : ℕ) → span_at now k ≡ span_at old k
   pub len : length now ≡ length old
 
-pub Reverses-start : (nodes : List Node) (beyond at : Option ℕ) (xs : List ℕ) → at ≡ first xs → Reverses nodes nodes beyond xs 0 at beyond
-Reverses-start nodes beyond at xs begins = record {
+pub Reverses-start : (nodes : List Node) (beyond end at : Option ℕ) (xs : List ℕ) → at ≡ first_or end xs → Reverses nodes nodes beyond end xs 0 at beyond
+Reverses-start nodes beyond end at xs begins = record {
   at_is = begins;
   onto_is = refl;
   reversed = tt;
@@ -93,24 +94,36 @@ Reverses-start nodes beyond at xs begins = record {
   len = refl;
 }
 
-module _ (old now : List Node) (beyond : Option ℕ) (xs : List ℕ) (i : ℕ) (at onto : Option ℕ) (reverses : Reverses old now beyond xs i at onto) where
-  -- at the end all are reversed
-  pub reversed_all : length xs ≤ i → (LeadsOn (next_at now) (reverse xs) beyond) × ((k : ℕ) → has k xs ≡ false → next_at now k ≡ next_at old k)
+-- all of `xs` are reversed; the walk is at what the last led on to
+pub record AreReversed (old now : List Node) (beyond end : Option ℕ) (xs : List ℕ) (at onto : Option ℕ) : Type 0 where
+  pub at_is : at ≡ end
+  pub onto_is : onto ≡ first_or beyond (reverse xs)
+  pub reversed : LeadsOn (next_at now) (reverse xs) beyond
+  pub others : (k : ℕ) → has k xs ≡ false → next_at now k ≡ next_at old k
+
+module _ (old now : List Node) (beyond end : Option ℕ) (xs : List ℕ) (i : ℕ) (at onto : Option ℕ) (reverses : Reverses old now beyond end xs i at onto) where
+  -- so they are at the end
+  pub reversed_all : length xs ≤ i → AreReversed old now beyond end xs at onto
   reversed_all all =
       let whole : take i xs ≡ xs = take_all i xs all in
-      (subst (λ ys. LeadsOn (next_at now) (reverse ys) beyond) whole reverses.reversed, λ k absent. reverses.others k (ap (has k) whole ∙ absent))
+      record {
+        at_is = reverses.at_is ∙ ap (first_or end) (drop_all i xs all);
+        onto_is = reverses.onto_is ∙ ap (λ ys. first_or beyond (reverse ys)) whole;
+        reversed = subst (λ ys. LeadsOn (next_at now) (reverse ys) beyond) whole reverses.reversed;
+        others = λ k absent. reverses.others k (ap (has k) whole ∙ absent);
+      }
 
   module _ (more : i < length xs) where
     -- before the end there is a next one
     pub reverse_at : at ≡ Some (get_or xs i 0)
-    reverse_at = reverses.at_is ∙ ap first (drop-cons xs i 0 more)
+    reverse_at = reverses.at_is ∙ ap (first_or end) (drop-cons xs i 0 more)
 
-    module _ (apart : IsApart xs) (leads : LeadsOn (next_at old) xs None) (n : ℕ) (is : n ≡ get_or xs i 0) (low : n < length now) where
+    module _ (apart : IsApart xs) (leads : LeadsOn (next_at old) xs end) (n : ℕ) (is : n ≡ get_or xs i 0) (low : n < length now) where
       off : has n (take i xs) ≡ false
       off = ap (λ j. has j (take i xs)) is ∙ absent_take xs i apart more
 
       -- and it leads on to what was reversed before it
-      pub Reverses-more : (y : Node) (later : List Node) (at' onto' : Option ℕ) → y ≡ get_or now n y → later ≡ set now n (record y { next = onto }) → at' ≡ y.next → onto' ≡ Some n → Reverses old later beyond xs (i + 1) at' onto'
+      pub Reverses-more : (y : Node) (later : List Node) (at' onto' : Option ℕ) → y ≡ get_or now n y → later ≡ set now n (record y { next = onto }) → at' ≡ y.next → onto' ≡ Some n → Reverses old later beyond end xs (i + 1) at' onto'
       Reverses-more y later at' onto' read write on last =
           let known : y ≡ node_at now n = get_or_read now n y low read no_node in
           let same : (k : ℕ) → k ≢ n → node_at later k ≡ node_at now k = λ k other. ap (λ ys. node_at ys k) write ∙ get_or-set_other now n k (record y { next = onto }) no_node other in
@@ -119,7 +132,7 @@ module _ (old now : List Node) (beyond : Option ℕ) (xs : List ℕ) (i : ℕ) (
           let behind : reverse (take (i + 1) xs) ≡ n ∷ reverse (take i xs) = ap reverse longer ∙ reverse-append (take i xs) (n ∷ []) in
           let one_more : suc i ≡ i + 1 = omega arith in
           record {
-            at_is = on ∙ ap (λ (x : Node). x.next) known ∙ reverses.others n off ∙ ap (next_at old) is ∙ link_at (next_at old) xs None i leads more ∙ ap (λ j. first (drop j xs)) one_more;
+            at_is = on ∙ ap (λ (x : Node). x.next) known ∙ reverses.others n off ∙ ap (next_at old) is ∙ link_at (next_at old) xs end i leads more ∙ ap (λ j. first_or end (drop j xs)) one_more;
             onto_is = last ∙ sym (ap (first_or beyond) behind);
             reversed = subst (λ ys. LeadsOn (next_at later) ys beyond) (sym behind)
                 ((

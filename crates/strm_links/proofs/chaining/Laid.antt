@@ -23,7 +23,7 @@ use Rattle.strm_links.proofs.chaining.Parts.{free_apart, free_low, not_in_other,
 -- the walk from a head finds its chain
 path_is : (nodes : List Node) (span : Span) (h : ℕ) (xs : List ℕ) → IsStrand (next_at nodes) span h xs → path nodes span.len (Some h) ≡ xs
 unfolding path
-path_is nodes span h xs laid = rw (laid.len, sym laid.head) (walk_is (next_at nodes) xs laid.leads)
+path_is nodes span h xs laid = rw (laid.len, sym laid.head) (walk_is (next_at nodes) xs None laid.leads)
 
 -- what is laid out at a node is seen there
 strand_is : (nodes : List Node) (h : ℕ) (m : Option (List ℕ)) → IsHeadOf (next_at nodes) (span_at nodes h) h m → strand nodes h ≡ m
@@ -36,7 +36,7 @@ strand_is nodes h (Some (x ∷ xs)) laid =
 pub strands_of_is : (nodes : List Node) (first_free : Option ℕ) (free_len : ℕ) (v : StrandLists) → IsLaid nodes first_free free_len v → strands_of nodes first_free free_len ≡ v
 unfolding path
 strands_of_is nodes first_free free_len v laid =
-    let free : walk (next_at nodes) free_len first_free ≡ v.free = rw (laid.free_count, laid.free_front) (walk_is (next_at nodes) v.free laid.free_leads) in
+    let free : walk (next_at nodes) free_len first_free ≡ v.free = rw (laid.free_count, laid.free_front) (walk_is (next_at nodes) v.free None laid.free_leads) in
     let chains : map (strand nodes) (range_with_len 0 (length nodes)) ≡ v.chains =
     sym (fill_by_all (strand nodes) v.chains (length nodes) None (sym laid.node_count) (λ h within. sym (strand_is nodes h (chain_in v.chains h) (laid.heads h)))) in
     λ i. record { free = free i; chains = chains i }
@@ -51,7 +51,7 @@ closed nodes first_free free_len v laid = subst (IsLaid nodes first_free free_le
 
 -- ---- what laid out nodes say
 
-some_items : (m : Option (List ℕ)) → IsSome m → m ≡ Some (items_of m)
+pub some_items : (m : Option (List ℕ)) → IsSome m → m ≡ Some (items_of m)
 some_items None some = absurd (false≢true some)
 some_items (Some xs) some = refl
 

@@ -1,5 +1,5 @@
 -- A node that isn't the first leaves a chain, and is one of its own.
-use Rattle.std.proofs.Common.{◌≡◌, ◌≢◌, ℕ, suc, ◌+◌, ◌-◌, ◌<◌, ◌≤◌, Bool, true, false, ◌==◌, List, [], ◌∷◌, ◌++◌, length, get_or, set, take, drop, Option, Some, None, IsSome, if◌then◌else◌, refl, sym, ap, ◌∙◌, subst, arith, append_assoc, length-append, drop-cons}
+use Rattle.std.proofs.Common.{◌≡◌, ◌≢◌, ℕ, suc, ◌+◌, ◌-◌, ◌<◌, ◌≤◌, true, false, ◌==◌, List, [], ◌∷◌, ◌++◌, length, get_or, set, take, drop, Option, Some, None, IsSome, if◌then◌else◌, refl, sym, ap, ◌∙◌, subst, arith, length-append, drop-cons}
 use Rattle.std.specs.Prelude.{is_none, slice_get}
 use Rattle.std.proofs.lemmas.List.{take-append-drop}
 use Rattle.std.proofs.lemmas.Option.{same_Some, slice_get-get_or, slice_get_past}
@@ -13,16 +13,11 @@ use Rattle.strm_links.specs.declared.strands.Node.{Node}
 use Rattle.strm_links.proofs.lists.ListLinks.{LeadsOn-kept, LeadsOn-parts}
 use Rattle.strm_links.proofs.lists.Counting.{times-append}
 use Rattle.strm_links.proofs.lists.Chains.{Changes-two, times-set_two}
-use Rattle.strm_links.proofs.lists.OneList.{ApartParts, IsApart-parts, differ, has_head, has_left, has_right, has_tail, last_joined}
+use Rattle.strm_links.proofs.lists.OneList.{ApartParts, IsApart-parts, differ, has_head, has_left, has_right, has_tail}
 use Rattle.strm_links.proofs.chaining.Laid.{behind_begins_none, head_low, strand_laid}
-use Rattle.strm_links.proofs.chaining.ChainLinks.{first-take, first_front, has_first, has_last, last-take, link_at, onward-at, LeadsOn-append, LeadsOn-end}
+use Rattle.strm_links.proofs.chaining.ChainLinks.{first-take, first_front, has_first, has_last, last-take, last_without, link_at, onward-at, LeadsOn-append, LeadsOn-end}
 use Rattle.strm_links.proofs.chaining.Moves.{IsLaid-moved, Moves, apart_from, unwritten, written}
 use Rattle.strm_links.proofs.chaining.Parts.{not_in_other, not_in_strand, strand_apart, strand_low}
-
--- one of two numbers, in an option
-some_of_if : (b : Bool) (x y : ℕ) → (if b then Some x else Some y) ≡ Some (if b then x else y)
-some_of_if true x y = refl
-some_of_if false x y = refl
 
 module _ (nodes : List Node) (first_free : Option ℕ) (free_len : ℕ) (v : StrandLists) (laid : IsLaid nodes first_free free_len v) (h : ℕ) (some_h : IsSome (chain_in v.chains h)) where
   was : IsStrand (next_at nodes) (span_at nodes h) h (strand_at v h)
@@ -60,11 +55,10 @@ module _ (nodes : List Node) (first_free : Option ℕ) (free_len : ℕ) (v : Str
     n_off_h = pre_off h n (has_first pre h begins) (has_head n n post refl)
 
     -- the last node of the others
-    pub last_left : last (pre ++ post) ≡ Some (if is_none (next_at nodes n) then t else (span_at nodes h).last)
+    last_left : last (pre ++ post) ≡ Some (if is_none (next_at nodes n) then t else (span_at nodes h).last)
     last_left =
-        let both : last ((pre ++ n ∷ []) ++ post) ≡ Some (span_at nodes h).last = ap last (append_assoc pre (n ∷ []) post ∙ sym split) ∙ was.last in
-        let next : first post ≡ next_at nodes n = sym leads.1.0 in
-        last_joined post (pre ++ n ∷ []) pre ∙ (λ i. if is_none (next i) then ends i else both i) ∙ some_of_if (is_none (next_at nodes n)) t (span_at nodes h).last
+        last_without pre (n ∷ []) post t (span_at nodes h).last ends (ap last (sym split) ∙ was.last)
+        ∙ ap (λ o. Some (if is_none o then t else (span_at nodes h).last)) (sym leads.1.0)
 
     module _ (new : List Node) (long : length new ≡ length nodes) (nexts : (k : ℕ) → next_at new k ≡ (if n == k then None else (if t == k then next_at nodes n else next_at nodes k)))
         (spans : (k : ℕ) → span_at new k

@@ -302,7 +302,7 @@ module _ (nodes : List Node) (ends : List Ends) (rows : Rows) (sound : IsSound n
   pub walked : walk (next_at nodes) e.len e.front ≡ list_at l rows
   walked =
       let list = sound.linked l within in
-      rw (e_is, list.len, list.front) (walk_is (next_at nodes) (list_at l rows) list.leads_on)
+      rw (e_is, list.len, list.front) (walk_is (next_at nodes) (list_at l rows) None list.leads_on)
 
   -- its nodes are nodes
   pub walked_within : (k : ℕ) → has k (walk (next_at nodes) e.len e.front) ≡ true → k < length nodes

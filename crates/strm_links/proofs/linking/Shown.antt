@@ -18,7 +18,7 @@ use Rattle.strm_links.proofs.lists.ListLinks.{walk_is, next_is, previous_is, Rea
 -- linked nodes are what the walk finds
 between_is : (nodes : List Node) (e : Ends) (l : ℕ) (xs : List ℕ) → IsLinked (owner_at nodes) (previous_at nodes) (next_at nodes) e l xs → nodes_between nodes e ≡ xs
 unfolding nodes_between
-between_is nodes e l xs linked = rw (linked.len, linked.front) (walk_is (next_at nodes) xs linked.leads_on)
+between_is nodes e l xs linked = rw (linked.len, linked.front) (walk_is (next_at nodes) xs None linked.leads_on)
 
 -- sound nodes and ends are seen as the rows that they hold
 pub rows_of_is : (nodes : List Node) (ends : List Ends) (rows : Rows) → IsSound nodes ends rows → rows_of nodes ends ≡ rows

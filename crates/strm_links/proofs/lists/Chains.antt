@@ -1,5 +1,5 @@
 -- Chains of numbers of which one or two are changed, and how often a number stands in them.
-use Rattle.std.proofs.Common.{◌≡◌, ◌≢◌, ℕ, zero, suc, ◌+◌, ◌<◌, ◌≤◌, true, List, [], ◌∷◌, length, replicate, set, Option, None, refl, sym, ap, ◌∙◌, arith, inl, inr, length-set, get_or-set_same, get_or-set_other}
+use Rattle.std.proofs.Common.{◌≡◌, ◌≢◌, ℕ, zero, suc, ◌+◌, ◌<◌, ◌≤◌, true, List, [], ◌∷◌, length, replicate, set, Option, Some, None, IsSome, refl, sym, ap, ◌∙◌, arith, inl, inr, length-set, get_or-set_same, get_or-set_other}
 use Rattle.std.proofs.lemmas.Bool.{cases_lt}
 use Rattle.strm_links.specs.Rows.{has}
 use Rattle.strm_links.specs.Counting.{times}
@@ -28,6 +28,11 @@ some_chain k (m ∷ chains) some =
       | inl here ↦ (0, has_times k (items_of m) here)
       | inr none ↦ let later = some_chain k chains (omega (arith, some, none, times-append k (items_of m) (items_in chains))) in (suc later.0, later.1)
     ]
+
+-- a chain with an item is there
+pub is_there : (m : Option (List ℕ)) (k : ℕ) → k < length (items_of m) → IsSome m
+is_there None k within = absurd (omega (arith, within))
+is_there (Some xs) k within = refl
 
 -- where there is no chain, nothing stands
 pub items_none : (n : ℕ) → items_in {X = ℕ} (replicate n None) ≡ []

@@ -9,9 +9,9 @@ use Rattle.strm_links.proofs.lists.OneList.{absent_around, after-at, before-at, 
 -- ---- what the links say
 
 -- the walk along the links finds the list
-pub walk_is : (next : ℕ → Option ℕ) (xs : List ℕ) → LeadsOn next xs None → walk next (length xs) (first xs) ≡ xs
-walk_is next [] leads = refl
-walk_is next (x ∷ xs) leads = ap (λ ys. x ∷ ys) (ap (walk next (length xs)) leads.0 ∙ walk_is next xs leads.1)
+pub walk_is : (next : ℕ → Option ℕ) (xs : List ℕ) (b : Option ℕ) → LeadsOn next xs b → walk next (length xs) (first_or b xs) ≡ xs
+walk_is next [] b leads = refl
+walk_is next (x ∷ xs) b leads = ap (λ ys. x ∷ ys) (ap (walk next (length xs)) leads.0 ∙ walk_is next xs b leads.1)
 
 -- the link of a node of the list is what stands behind it
 pub next_is : (next : ℕ → Option ℕ) (xs : List ℕ) (k : ℕ) → LeadsOn next xs None → has k xs ≡ true → next k ≡ after k xs

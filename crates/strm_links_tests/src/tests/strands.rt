@@ -95,12 +95,15 @@ impl Twin {
         }
     }
 
-    // Frees the second node of a chain, if there is one.
-    fn free_second(&mut self, rt: &impl Abort, head: u32) {
+    // Frees so many nodes behind the first of a chain, or all that there are.
+    fn free_behind(&mut self, rt: &impl Abort, head: u32, most: u32) {
         self.assert_chain(rt, head);
-        let freed = self.strands.free_second(head);
-        assert!(rt; freed == self.plain.remove(rt, head, 1));
-        if let Some(node) = freed {
+        let len = self.strands.len(head);
+        assert!(rt; len > 0);
+        let count = most.min(len - 1);
+        self.strands.free_behind(head, count);
+        for _ in 0..count {
+            let node = self.plain.remove(rt, head, 1).expect(rt, "a node");
             self.plain.push(rt, FREE, node);
         }
     }
@@ -161,7 +164,7 @@ impl Twin {
             0 => self.free(rt, head),
             1 => self.divide(rt, head),
             2 | 3 => self.take_out(rt, head, small),
-            4 => self.free_second(rt, head),
+            4 => self.free_behind(rt, head, small),
             _ if head != other && self.begins_chain(rt, other) => self.join(rt, head, other),
             _ => {}
         }
@@ -200,11 +203,13 @@ fn worked_rows(rt: HostRuntime) {
     // The last freed is taken first.
     twin.begin_all(&rt, 4);
     twin.compare(&rt, 4, &[4, 3, 1, 5]);
-    twin.free_second(&rt, 4);
-    twin.free_second(&rt, 4);
+    twin.free_behind(&rt, 4, 0);
+    twin.compare(&rt, 4, &[4, 3, 1, 5]);
+    twin.free_behind(&rt, 4, 2);
     twin.compare(&rt, 4, &[4, 5]);
-    twin.free_second(&rt, 4);
-    twin.free_second(&rt, 4);
+    twin.free_behind(&rt, 4, 1);
+    twin.compare(&rt, 4, &[4]);
+    twin.free_behind(&rt, 4, 1);
     twin.begin_all(&rt, 3);
     twin.compare(&rt, 5, &[5, 1, 3]);
 }

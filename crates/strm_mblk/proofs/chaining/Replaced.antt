@@ -6,11 +6,11 @@ use Rattle.std.proofs.lemmas.Bool.{false≢true}
 use Rattle.std.proofs.lemmas.List.{set-set}
 use Rattle.strm_links.specs.Rows.{Rows, first, has, holder, linked_nodes}
 use Rattle.strm_links.specs.Chains.{items_of, chain_in as held_in, joined, divided, set_apart, taken_out}
-use Rattle.strm_links.specs.StrandLists.{IsParted, StrandLists, strand_at, with_first_begun, with_second_freed}
+use Rattle.strm_links.specs.StrandLists.{IsParted, StrandLists, strand_at, with_behind_freed, with_first_begun}
 use Rattle.strm_links.proofs.lists.OneList.{absent_both}
 use Rattle.strm_data.specs.DataStore.{times}
 use Rattle.strm_mblk.specs.ChainLayout.{nodes_of, IsChained}
-use Rattle.strm_mblk.specs.NodeLists.{NodeLists, after_begin, after_second_freed, nodes_at}
+use Rattle.strm_mblk.specs.NodeLists.{NodeLists, after_begin, after_behind_freed, nodes_at}
 use Rattle.strm_mblk.proofs.chaining.Standing.{free_unheld, not_begun, not_head}
 use Rattle.strm_mblk.proofs.lists.Numbers.{at_first, times_at}
 use Rattle.strm_mblk.proofs.chaining.Parted.{alone, alone_parted}
@@ -140,6 +140,17 @@ module _ (v : StrandLists) (heads : Rows) (laid : IsChained v heads) (w : NodeLi
       one_laid new (reverse (strand_at v h) ++ v.free) h None off now parted,
     )
 
+    -- so many behind the first are
+    pub frees_behind : (h count : ℕ) → holder h heads ≡ None → new ≡ with_behind_freed h count (strand_at v h) v → IsNow (after_behind_freed h count (nodes_at w h) w)
+    frees_behind h count off now =
+        let out = reverse (take count (drop 1 (strand_at v h))) in
+        let rest = take 1 (strand_at v h) ++ drop (count + 1) (strand_at v h) in (
+          one_is new (out ++ v.free) h (Some rest) off now
+              ∙ ap (λ fs. record w { free = out ++ fs; held = set w.held h (Some rest) }) free_is
+              ∙ ap (λ ns. after_behind_freed h count ns w) (sym (nodes_are h off)),
+          one_laid new (out ++ v.free) h (Some rest) off now parted,
+        )
+
     -- what stands behind the first of a message
     set_off : (h : ℕ) (ns : List ℕ) → held_in v.chains h ≡ Some ns → holder h heads ≡ None → (k n : ℕ) → slice_get ns k ≡ Some n → 0 < k → (ms ls : List ℕ)
         → new ≡ record v { chains = set (set v.chains h (Some ms)) n (Some ls) } → IsNow (record w { held = set (set w.held h (Some ms)) n (Some ls) })
@@ -152,18 +163,6 @@ module _ (v : StrandLists) (heads : Rows) (laid : IsChained v heads) (w : NodeLi
 
     unchanged : new ≡ v → IsNow w
     unchanged same = (ap (λ u. nodes_of u heads) same ∙ is, subst (λ u. IsChained u heads) (sym same) laid)
-
-    -- the second block of a message is free
-    pub frees_second : (h : ℕ) → holder h heads ≡ None → new ≡ with_second_freed h (strand_at v h) v → IsNow (after_second_freed h (nodes_at w h) w)
-    frees_second h off now = subst (λ ns. IsNow (after_second_freed h ns w)) (sym (nodes_are h off)) (by_case (strand_at v h) now)
-      where
-        by_case : (ns : List ℕ) → new ≡ with_second_freed h ns v → IsNow (after_second_freed h ns w)
-        by_case [] same = unchanged same
-        by_case (x ∷ []) same = unchanged same
-        by_case (x ∷ y ∷ rest) same = (
-          one_is new (y ∷ v.free) h (Some (x ∷ rest)) off same ∙ ap (λ fs. record w { free = y ∷ fs; held = set w.held h (Some (x ∷ rest)) }) free_is,
-          one_laid new (y ∷ v.free) h (Some (x ∷ rest)) off same parted,
-        )
 
     -- the others are a message
     pub divides : (h : ℕ) → IsSome (held_in v.chains h) → holder h heads ≡ None → new ≡ record v { chains = divided (λ n. n) h (strand_at v h) v.chains }

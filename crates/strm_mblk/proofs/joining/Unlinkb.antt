@@ -18,7 +18,7 @@ use Rattle.strm_mblk.proofs.joining.Regrouped.{moved_filled}
 use Rattle.strm_mblk.proofs.layout.Shown.{held_at-seen, message_at-seen}
 
 -- a list with two numbers or more
-pub two_rest : (ns : List ℕ) (h g : ℕ) → first ns ≡ Some h → slice_get ns 1 ≡ Some g → ns ≡ h ∷ g ∷ drop 2 ns
+two_rest : (ns : List ℕ) (h g : ℕ) → first ns ≡ Some h → slice_get ns 1 ≡ Some g → ns ≡ h ∷ g ∷ drop 2 ns
 two_rest [] h g begins at = absurd (none-some h begins)
 two_rest (x ∷ []) h g begins at = absurd (none-some g at)
 two_rest (x ∷ y ∷ ns) h g begins at = λ i. same_Some x h begins i ∷ same_Some y g at i ∷ ns

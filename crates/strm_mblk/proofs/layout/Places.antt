@@ -1,19 +1,22 @@
 -- The blocks of a held message by their place, as the code finds them.
 use Rattle.std.proofs.Common.{◌≡◌, ℕ, ◌<◌, true, List, length, Some, None, sym, ap, ◌∙◌, inl, inr, arith, subst}
 use Rattle.std.specs.Prelude.{option_map, slice_get, take}
+use Rattle.std.specs.Option.{IsSome}
 use Rattle.std.proofs.lemmas.Bool.{cases_lt}
 use Rattle.std.proofs.lemmas.List.{get_or_past, length-map}
 use Rattle.std.proofs.lemmas.Option.{none-some}
 use Rattle.strm_data.specs.CountedStore.{CountedStore, count_of}
 use Rattle.strm_mblk.specs.declared.blocks.Fields.{Fields}
 use Rattle.strm_mblk.specs.declared.token.TokenValue.{TokenValue}
-use Rattle.strm_mblk.specs.Arena.{Arena, has, message_at, names_of}
+use Rattle.strm_mblk.specs.Arena.{Arena, has, held_at, message_at, names_of}
 use Rattle.strm_mblk.specs.BlocksLayout.{IsFilled, IsPlaced, arena_of, block_at, fields_at, message_of, named_by}
 use Rattle.strm_mblk.specs.Messages.{blocks_of, held_in}
 use Rattle.strm_mblk.specs.NodeLists.{IsReached, NodeLists, nodes_at}
 use Rattle.strm_mblk.proofs.layout.Rewriting.{held_nodes, node_room}
 use Rattle.strm_mblk.proofs.layout.Shown.{message_at-seen, slice_get-mapped}
-use Rattle.strm_mblk.proofs.arena.Tokens.{had_message}
+use Rattle.strm_mblk.proofs.arena.Tokens.{had_message, held_is}
+use Rattle.strm_mblk.proofs.chaining.Standing.{begins_with}
+use Rattle.strm_mblk.proofs.lists.Numbers.{at_first}
 use Rattle.std.proofs.Math.Seq.{take-length}
 
 -- the numbers of the message that a token names
@@ -62,7 +65,7 @@ pub record IsAt (s : CountedStore) (fields : List Fields) (v : NodeLists) (a : A
 
 module _ (id : ℕ) (s : CountedStore) (fields : List Fields) (v : NodeLists) (filled : IsFilled s fields v (arena_of id s.store fields v)) (a : Arena) (is : arena_of id s.store fields v ≡ a) (h k : ℕ) where
   -- the block at a place, if the message has so many
-  pub block-get : slice_get (message_at a h) k ≡ option_map (block_at fields) (slice_get (nodes_at v h) k)
+  block-get : slice_get (message_at a h) k ≡ option_map (block_at fields) (slice_get (nodes_at v h) k)
   block-get =
       ap (λ x. slice_get (message_at x h) k) (sym is) ∙ ap (λ m. slice_get m k) (message_at-seen id s.store fields v h) ∙ slice_get-mapped (block_at fields) (nodes_at v h) k
 
@@ -92,3 +95,17 @@ module _ (id : ℕ) (s : CountedStore) (fields : List Fields) (v : NodeLists) (f
   block_reached t head had n reached few =
       let long = (token_nodes id s fields v t (ap (λ x. has x t) is ∙ had)).1 in
       block_some t head had n (reached.here (omega (arith, few, long, ap (λ g. length (nodes_at v g)) head)))
+
+-- the message at h is held
+pub record IsHeldHead (fields : List Fields) (v : NodeLists) (h : ℕ) : Type 0 where
+  pub held : held_in v.held h ≡ Some (nodes_at v h)
+  pub first : slice_get (nodes_at v h) 0 ≡ Some h
+  pub there : h < length fields
+
+pub seen_head : (id : ℕ) (s : CountedStore) (fields : List Fields) (v : NodeLists) → IsFilled s fields v (arena_of id s.store fields v) → (h : ℕ) (a : Arena) → arena_of id s.store fields v ≡ a → IsSome (held_at a h)
+    → IsHeldHead fields v h
+seen_head id s fields v filled h a is some =
+    let nodes = held_nodes id s.store fields v h (message_at a h) (ap (λ x. held_at x h) is ∙ held_is (held_at a h) some) in
+    let held = nodes.1.held ∙ ap Some (sym (ap blocks_of nodes.1.held)) in
+    let first = at_first (nodes_at v h) h (begins_with v filled.parted h (nodes_at v h) held) in
+    record { held = held; first = first; there = node_room id s fields v filled h 0 h (nodes_at v h) held first }

@@ -56,7 +56,7 @@ pub record AreRewritten (old new : List Fields) (ns : List ℕ) : Type 0 where
   pub apart : (n : ℕ) → times n ns ≡ 0 → fields_at new n ≡ fields_at old n
 
 -- a list that has none of these is as it was
-alike_apart : (old new : List Fields) (ns : List ℕ) → ((n : ℕ) → times n ns ≡ 0 → fields_at new n ≡ fields_at old n) → (ms : List ℕ) → ((n : ℕ) → times n ms + times n ns ≤ 1) → AreAlike old new ms
+pub alike_apart : (old new : List Fields) (ns : List ℕ) → ((n : ℕ) → times n ns ≡ 0 → fields_at new n ≡ fields_at old n) → (ms : List ℕ) → ((n : ℕ) → times n ms + times n ns ≤ 1) → AreAlike old new ms
 alike_apart old new ns apart [] once = tt
 alike_apart old new ns apart (m ∷ ms) once = (apart m (omega (arith, once m, times_here m m ms refl)), alike_apart old new ns apart ms (λ n. omega (arith, once n, times-cons n m ms)))
 

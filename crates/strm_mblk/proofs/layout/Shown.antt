@@ -135,9 +135,3 @@ module _ (old new : List Fields) where
   held-alike (o ∷ held) alike =
       let parts = alike_parts old new (blocks_of o) (blocks_held held) alike in
       λ i. option-alike o parts.0 i ∷ held-alike held parts.1 i
-
--- the number of the block at a place of a message
-pub numbers-get : (fields : List Fields) (ns : List ℕ) (k : ℕ) → option_map (λ (b : Block). b.number) (slice_get (message_of fields ns) k) ≡ slice_get ns k
-numbers-get fields [] k = refl
-numbers-get fields (n ∷ ns) zero = refl
-numbers-get fields (n ∷ ns) (suc k) = numbers-get fields ns k

@@ -1,34 +1,31 @@
--- Bytes are taken from the blocks behind the first of a message, block by block.
-use Rattle.std.proofs.Common.{◌≡◌, ℕ, ◌+◌, ◌-◌, ◌<◌, ◌≤◌, true, false, ◌==◌, cond, List, [], ◌∷◌, length, set, Some, None, refl, sym, ap, ◌∙◌, subst, inl, inr, arith, if◌then◌else◌, get_or-set_same}
-use Rattle.std.specs.Prelude.{count_by}
-use Rattle.std.proofs.lemmas.Bool.{and_from, and_right, cases_Bool, cases_lt, cond-true, cond-false, le-leb, lt-leb, lt-ltb}
-use Rattle.std.proofs.lemmas.List.{set-get_or, set-set}
-use Rattle.strm_data.specs.DataStore.{with_data_freed}
-use Rattle.strm_mblk.specs.Arena.{Arena, held_at, message_at, names_of}
-use Rattle.strm_mblk.specs.Block.{Block, Message, is_naming}
+-- Bytes are taken from the blocks behind the first of a message, and those that are used up are freed.
+use Rattle.std.proofs.Common.{◌≡◌, ℕ, ◌+◌, ◌-◌, ◌<◌, ◌≤◌, false, ◌==◌, List, [], ◌∷◌, ◌++◌, length, Some, refl, sym, ap, ◌∙◌, subst, inl, inr, arith, if◌then◌else◌}
+use Rattle.std.specs.Prelude.{count_by, drop, take}
+use Rattle.std.proofs.lemmas.Bool.{cases_Bool}
+use Rattle.std.proofs.lemmas.List.{drop-drop, drop-map, map-append, set-set, take-append-drop, take-map}
+use Rattle.strm_data.specs.CountedStore.{CountedStore, IsKept}
+use Rattle.strm_data.specs.DataStore.{times, with_data_freed}
+use Rattle.strm_links.proofs.lists.Counting.{times-append, times_here}
+use Rattle.strm_mblk.specs.declared.blocks.Fields.{Fields}
+use Rattle.strm_mblk.specs.Arena.{Arena, message_at, names_of, shelved_blocks}
+use Rattle.strm_mblk.specs.Block.{Block, is_naming, size_of}
+use Rattle.strm_mblk.specs.BlocksLayout.{IsFilled, arena_of, block_at, block_of, fields_at, message_of, named_by, with_names_dropped}
+use Rattle.strm_mblk.specs.Cutting.{with_bytes_cut}
 use Rattle.strm_mblk.specs.Freeing.{with_block_freed, with_blocks_freed, with_name_dropped}
-use Rattle.strm_mblk.specs.Messages.{blocks_of}
-use Rattle.strm_mblk.specs.Pulling.{drained, second_taken, with_message, with_second_cut, with_second_freed, without_front}
-use Rattle.strm_mblk.specs.Trimming.{is_used_up, left_over, used_up}
+use Rattle.strm_mblk.specs.Messages.{held_in}
+use Rattle.strm_mblk.specs.NodeLists.{IsNodesParted, NodeLists, after_behind_freed, nodes_at}
+use Rattle.strm_mblk.specs.Pulling.{drained, with_message}
+use Rattle.strm_mblk.specs.Trimming.{cut_front, is_used_up, left_over, used_up}
 use Rattle.strm_mblk.proofs.lists.Additive.{count_adds}
+use Rattle.strm_mblk.proofs.lists.Numbers.{first_rest}
 use Rattle.strm_mblk.proofs.arena.Counts.{held_moves}
-use Rattle.strm_mblk.proofs.arena.Moves.{held_within}
-
--- ---- one block
-
--- all bytes of a block are taken where it has no more
-used_whole : (n : ℕ) (b : Block) → 0 < n → b.len ≤ n → is_used_up n b ≡ true
-used_whole n b some few = and_from _ _ (lt-ltb 0 n some) (le-leb b.len n few)
-
-used_part : (n : ℕ) (b : Block) → n < b.len → is_used_up n b ≡ false
-used_part n b many = and_right _ _ (lt-leb b.len n many)
-
--- a block that loses nothing is what it was
-without_none : (b : Block) → without_front 0 b ≡ b
-without_none b =
-    let same : b.offset + 0 ≡ b.offset = omega arith in
-    let len : b.len - 0 ≡ b.len = omega arith in
-    λ i. record b { offset = same i; len = len i }
+use Rattle.strm_mblk.proofs.chaining.Standing.{begins_with}
+use Rattle.strm_mblk.proofs.freeing.Freemsg.{IsFreed, frees_some}
+use Rattle.strm_mblk.proofs.layout.Rewriting.{AreRewritten, alike_apart, message_filled, message_shows, once_within, within_room}
+use Rattle.strm_mblk.proofs.layout.Shown.{message-alike, message_at-seen}
+use Rattle.strm_mblk.proofs.pulling.BytesTaken.{AreTaken, times-drop}
+use Rattle.strm_mblk.proofs.pulling.Taken.{left_others, used_first}
+use Rattle.strm_mblk.proofs.trimming.Cutting.{cut_apart, cut_named, cut_placed, length-cut, message_cut}
 
 -- ---- names
 
@@ -48,7 +45,7 @@ kept_names d n (b ∷ bs) =
           rw part (omega (
             arith,
             (count_adds (is_naming d)).both (b ∷ []) bs,
-            (count_adds (is_naming d)).both (without_front n b ∷ []) bs,
+            (count_adds (is_naming d)).both (record b { offset = b.offset + n; len = b.len - n } ∷ []) bs,
             (count_adds (is_naming d)).none,
           ))
     ]
@@ -72,25 +69,6 @@ module _ (h n d : ℕ) (b : Block) (bs : List Block) (a : Arena) (inside : h < l
       let held_now = set-set a.held h (Some (b ∷ bs)) (Some (b ∷ left_over n bs)) in
       λ i. record a { store = if sym names_later i == 0 then with_data_freed d a.store else a.store; held = held_now i }
 
--- ---- all that is to be taken
-
--- what a message is replaced by is what is there
-message_same : (h : ℕ) (m : Message) (a : Arena) → held_at a h ≡ Some m → with_message h m a ≡ a
-message_same h m a is =
-    ap (λ held. record a { held = held }) (ap (set a.held h) (sym is) ∙ set-get_or a.held h None)
-
--- nothing is left to take
-pub drained_nothing : (h : ℕ) (m : Message) (a : Arena) → held_at a h ≡ Some m → drained h 0 m a ≡ a
-drained_nothing h [] a is = refl
-drained_nothing h (b ∷ []) a is = message_same h (b ∷ []) a is
-drained_nothing h (b ∷ c ∷ bs) a is = ap (λ x. with_message h (b ∷ x ∷ bs) a) (without_none c) ∙ message_same h (b ∷ c ∷ bs) a is
-
--- no block is behind the first
-pub drained_alone : (h n : ℕ) (m : Message) (a : Arena) → held_at a h ≡ Some m → length m ≤ 1 → drained h n m a ≡ a
-drained_alone h n [] a is few = refl
-drained_alone h n (b ∷ []) a is few = message_same h (b ∷ []) a is
-drained_alone h n (b ∷ c ∷ bs) a is few = absurd (omega (arith, few))
-
 -- blocks that are freed leave the held messages
 pub freed_held : (bs : List Block) (a : Arena) → (with_blocks_freed bs a).held ≡ a.held
 freed_held [] a = refl
@@ -100,61 +78,139 @@ pub freed_id : (bs : List Block) (a : Arena) → (with_blocks_freed bs a).id ≡
 freed_id [] a = refl
 freed_id (b ∷ bs) a = freed_id bs (with_block_freed b bs a)
 
--- ---- one step
+-- ---- what lies behind it
 
--- `new` is the arena `a`, where m is held at h, once bytes of its second block were taken, and `left` are left to take
-pub record IsStep (h n : ℕ) (m : Message) (a : Arena) (left : ℕ) (new : Arena) : Type 0 where
-  pub held : held_at new h ≡ Some (message_at new h)
-  pub fewer : 0 < left → length (message_at new h) < length m
-  pub drains : drained h left (message_at new h) new ≡ drained h n m a
+-- the first of a list, so many behind it, and the others
+split_behind : (ns : List ℕ) (i : ℕ) → ns ≡ take 1 ns ++ (take i (drop 1 ns) ++ drop (i + 1) ns)
+split_behind ns i =
+    let one_more : 1 + i ≡ i + 1 = omega arith in
+    sym (take-append-drop 1 ns) ∙ ap (λ xs. take 1 ns ++ xs) (sym (take-append-drop i (drop 1 ns)) ∙ ap (λ xs. take i (drop 1 ns) ++ xs) (drop-drop i 1 ns ∙ ap (λ k. drop k ns) one_more))
 
--- nothing is left to take, and nothing changes
-step_none : (h n : ℕ) (m : Message) (a : Arena) → held_at a h ≡ Some m → length m ≤ 1 → IsStep h n m a 0 a
-step_none h n m a is few = record {
-  held = is ∙ ap Some (sym (ap blocks_of is));
-  fewer = λ some. absurd (omega (arith, some));
-  drains = ap (λ x. drained h 0 x a) (ap blocks_of is) ∙ drained_nothing h m a is ∙ sym (drained_alone h n m a is few);
-}
+-- blocks that name what they named
+named-same : (old new : List Fields) → ((n : ℕ) → (fields_at new n).data_number ≡ (fields_at old n).data_number) → (ns : List ℕ) → named_by new ns ≡ named_by old ns
+named-same old new same [] = refl
+named-same old new same (n ∷ ns) = λ i. same n i ∷ named-same old new same ns i
 
-module _ (h n : ℕ) (b c : Block) (bs : List Block) (a : Arena) (is : held_at a h ≡ Some (b ∷ c ∷ bs)) (some : 0 < n) where
-  inside : h < length a.held
-  inside = held_within a h (b ∷ c ∷ bs) is
+module _ (id : ℕ) (s : CountedStore) (fields : List Fields) (v : NodeLists) (filled : IsFilled s fields v (arena_of id s.store fields v)) (h : ℕ) (held : held_in v.held h ≡ Some (nodes_at v h)) (count i : ℕ) where
+  abbrev old : Arena
+  old = arena_of id s.store fields v
 
-  step_whole : c.len ≤ n → IsStep h n (b ∷ c ∷ bs) a (n - c.len) (with_second_freed h (b ∷ c ∷ bs) a)
-  step_whole few =
-      let new = with_second_freed h (b ∷ c ∷ bs) a in
-      let held : held_at new h ≡ Some (b ∷ bs) = get_or-set_same a.held h (Some (b ∷ bs)) None inside in
-      record {
-        held = held ∙ ap Some (sym (ap blocks_of held));
-        fewer = λ _. omega (arith, ap (λ o. length (blocks_of o)) held);
-        drains =
-            ap (λ m. drained h (n - c.len) m new) (ap blocks_of held)
-            ∙ ap (with_blocks_freed (used_up (n - c.len) bs)) (dropped_later h (n - c.len) c.data_number b bs (record a { free = c.number ∷ a.free }) inside)
-            ∙ sym (ap (λ t. with_blocks_freed (cond t (c ∷ used_up (n - c.len) bs) []) (with_message h (b ∷ cond t (left_over (n - c.len) bs) (without_front n c ∷ bs)) a)) (used_whole n c some few));
-      }
+  abbrev ns : List ℕ
+  ns = nodes_at v h
 
-  step_part : n < c.len → IsStep h n (b ∷ c ∷ bs) a 0 (with_second_cut h n (b ∷ c ∷ bs) a)
-  step_part many =
-      let cut = b ∷ without_front n c ∷ bs in
-      let new = with_message h cut a in
-      let held : held_at new h ≡ Some cut = get_or-set_same a.held h (Some cut) None inside in
-      record {
-        held = held ∙ ap Some (sym (ap blocks_of held));
-        fewer = λ left. absurd (omega (arith, left));
-        drains =
-            ap (λ m. drained h 0 m new) (ap blocks_of held) ∙ drained_nothing h cut new held
-            ∙ sym (ap (λ t. with_blocks_freed (cond t (c ∷ used_up (n - c.len) bs) []) (with_message h (b ∷ cond t (left_over (n - c.len) bs) (without_front n c ∷ bs)) a)) (used_part n c many));
-      }
+  -- the blocks behind the first
+  abbrev bs : List Block
+  bs = message_of fields (drop 1 ns)
 
-pub steps : (h n : ℕ) (m : Message) (a : Arena) → held_at a h ≡ Some m → 0 < n → IsStep h n m a (second_taken h n m a).0 (second_taken h n m a).1
-steps h n [] a is some = step_none h n [] a is (omega arith)
-steps h n (b ∷ []) a is some = step_none h n (b ∷ []) a is (omega arith)
-steps h n (b ∷ c ∷ bs) a is some =
-    elim (cases_lt n c.len) [
-      | inl many ↦
-          subst (λ (r : ℕ × Arena). IsStep h n (b ∷ c ∷ bs) a r.0 r.1) (sym (cond-false _ _ _ (lt-leb c.len n many)))
-          (step_part h n b c bs a is some many)
-      | inr few ↦
-          subst (λ (r : ℕ × Arena). IsStep h n (b ∷ c ∷ bs) a r.0 r.1) (sym (cond-true _ _ _ (le-leb c.len n few)))
-          (step_whole h n b c bs a is some few)
-    ]
+  -- the numbers of those that are freed, and of the others
+  abbrev out : List ℕ
+  out = take i (drop 1 ns)
+
+  abbrev rest : List ℕ
+  rest = drop (i + 1) ns
+
+  -- how many bytes the others lose, and what the message blocks say then
+  abbrev left : ℕ
+  left = count - size_of (take i bs)
+
+  abbrev now : List Fields
+  now = with_bytes_cut false left rest fields
+
+  nodes_are : ns ≡ h ∷ drop 1 ns
+  nodes_are = first_rest ns h (begins_with v filled.parted h ns held)
+
+  -- how often a number stands there
+  sums : (n : ℕ) → times n ns ≡ times n (take 1 ns) + (times n out + times n rest)
+  sums n = ap (times n) (split_behind ns i) ∙ omega (arith, times-append n (take 1 ns) (out ++ rest), times-append n out rest)
+
+  once : (n : ℕ) → times n ns ≤ 1
+  once = once_within id s fields v filled h ns held
+
+  -- ---- bytes are lost
+
+  apart : (n : ℕ) → times n rest ≡ 0 → fields_at now n ≡ fields_at fields n
+  apart n none = cut_apart false rest left fields n none
+
+  change : AreRewritten fields now ns
+  change = record {
+    many = length-cut false rest left fields;
+    named = cut_named false rest left fields;
+    apart = λ n none. apart n (omega (arith, none, times-drop n (i + 1) ns));
+  }
+
+  filled_now : IsFilled s now v (arena_of id s.store now v)
+  filled_now = message_filled id s fields v filled h ns held s now change filled.kept refl (cut_placed false s.store rest left fields filled.placed)
+
+  shows_now : arena_of id s.store now v ≡ with_message h (message_of now ns) old
+  shows_now = message_shows id s fields v filled h ns held s.store now change.apart
+
+  -- ---- of what the message has then
+
+  module _ (used : i ≡ length (used_up count bs)) where
+    first_now : block_at now h ≡ block_at fields h
+    first_now =
+        ap (block_of h)
+        (apart h (omega (arith, once h, sums h, ap (λ xs. times h (take 1 xs)) nodes_are, times_here h h [] refl)))
+
+    bytes_used : take i bs ≡ used_up count bs
+    bytes_used = ap (λ k. take k bs) used ∙ sym (used_first count bs)
+
+    out_now : message_of now out ≡ used_up count bs
+    out_now =
+        message-alike fields now out (alike_apart fields now rest apart out (λ n. omega (arith, once n, sums n)))
+        ∙ sym (take-map (block_at fields) i (drop 1 ns)) ∙ bytes_used
+
+    rest_is : message_of fields rest ≡ drop i bs
+    rest_is =
+        let one_more : 1 + i ≡ i + 1 = omega arith in
+        ap (message_of fields) (sym (drop-drop i 1 ns ∙ ap (λ k. drop k ns) one_more)) ∙ sym (drop-map (block_at fields) i (drop 1 ns))
+
+    rest_now : message_of now rest ≡ left_over count bs
+    rest_now =
+        message_cut false rest left fields (λ n. omega (arith, once n, sums n)) (λ n some. within_room id s fields v filled h ns held n (omega (arith, some, sums n)))
+        ∙ ap (cut_front left) rest_is
+        ∙ (λ k. cut_front (count - size_of (bytes_used k)) (drop (used k) bs))
+        ∙ sym (left_others count bs)
+
+    message_now : message_of now (take 1 ns ++ rest) ≡ block_at fields h ∷ left_over count bs
+    message_now = ap (λ xs. message_of now (take 1 xs ++ rest)) nodes_are ∙ (λ k. first_now k ∷ rest_now k)
+
+    -- ---- and some of its blocks are freed
+
+    parts : (d : ℕ) → times d (named_by now ns) ≡ times d (named_by now (take 1 ns ++ rest)) + times d (named_by now out)
+    parts d =
+        let data_of : ℕ → ℕ = λ n. (fields_at now n).data_number in
+        omega (
+          arith,
+          ap (λ xs. times d (named_by now xs)) (split_behind ns i),
+          ap (times d) (map-append data_of (take 1 ns) (out ++ rest)),
+          ap (times d) (map-append data_of out rest),
+          ap (times d) (map-append data_of (take 1 ns) rest),
+          times-append d (named_by now (take 1 ns)) (named_by now (out ++ rest)),
+          times-append d (named_by now out) (named_by now rest),
+          times-append d (named_by now (take 1 ns)) (named_by now rest),
+        )
+
+    drained_is : with_blocks_freed (message_of now out) (with_message h (message_of now (take 1 ns ++ rest)) (arena_of id s.store now v)) ≡ drained h count (message_at old h) old
+    drained_is =
+        ap (λ a. with_blocks_freed (message_of now out) (with_message h (message_of now (take 1 ns ++ rest)) a)) shows_now
+        ∙ ap (λ xs. with_blocks_freed (message_of now out) (record old { held = xs })) (set-set old.held h (Some (message_of now ns)) (Some (message_of now (take 1 ns ++ rest))))
+        ∙ (λ k. with_blocks_freed (out_now k) (with_message h (message_now k) old))
+        ∙ ap (λ m. drained h count m old) (sym (message_at-seen id s.store fields v h ∙ ap (message_of fields) nodes_are))
+
+    frees_now : (t : CountedStore) (w : NodeLists) → t ≡ with_names_dropped (take i (named_by fields (drop 1 ns))) s → IsKept t → w ≡ after_behind_freed h i ns v → IsNodesParted w
+        → IsFreed old (drained h count (message_at old h) old) t now w id
+    frees_now t w t_is kept w_is parted =
+        let names : take i (named_by fields (drop 1 ns)) ≡ named_by now out =
+        take-map (λ n. (fields_at fields n).data_number) i (drop 1 ns) ∙ sym (named-same fields now change.named out) in
+        let freed = frees_some id s now v filled_now h held (Some (take 1 ns ++ rest)) out parts t w (t_is ∙ ap (λ ds. with_names_dropped ds s) names) kept w_is parted in
+        record {
+          filled = freed.filled;
+          shelved = freed.shelved ∙ ap shelved_blocks shows_now;
+          after = freed.after ∙ drained_is;
+        }
+
+  pub drains : (fields' : List Fields) (t : CountedStore) (w : NodeLists) → AreTaken fields ns count s i fields' t → IsKept t → w ≡ after_behind_freed h i ns v → IsNodesParted w
+      → IsFreed old (drained h count (message_at old h) old) t fields' w id
+  drains fields' t w taken kept w_is parted =
+      subst (λ fs. IsFreed old (drained h count (message_at old h) old) t fs w id) (sym taken.cut) (frees_now taken.used t w taken.dropped kept w_is parted)

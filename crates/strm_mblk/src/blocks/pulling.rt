@@ -1,10 +1,11 @@
 //! Bytes of a message are pulled up into its first block.
-ghost use Rattle.std.specs.Prelude.{◌≡◌, [], ◌∷◌, ◌≤◌, ◌<◌, ◌-◌, ◌++◌, ℕ, List, IsSome, IsTrue, Some, drop, length, min, option_map, slice_get, take};
-ghost use Rattle.strm_data.specs.CountedStore.{IsKept};
+ghost use Rattle.std.specs.Prelude.{◌≡◌, [], ◌∷◌, ◌+◌, ◌-◌, ◌^◌, ◌<◌, ◌≤◌, ℕ, List, IsSome, IsTrue, Some, drop, false, length, slice_get, take};
+ghost use Rattle.strm_data.specs.CountedStore.{IsKept, count_of};
 ghost use Rattle.strm_data.specs.DataStore.{capacity_of, times};
 ghost use Rattle.strm_mblk.specs.Arena.{has, held_at, message_at, token_of};
 ghost use Rattle.strm_mblk.specs.Block.{Block, bytes_of, size_of};
-ghost use Rattle.strm_mblk.specs.BlocksLayout.{IsPlaced, fields_at, message_of, named_by};
+ghost use Rattle.strm_mblk.specs.BlocksLayout.{IsPlaced, fields_at, message_of, named_by, with_names_dropped};
+ghost use Rattle.strm_mblk.specs.Cutting.{with_bytes_cut};
 ghost use Rattle.strm_mblk.specs.Frame.{LeavesOthers, LeavesShelves};
 ghost use Rattle.strm_mblk.specs.Given.{value_after, answer_of};
 ghost use Rattle.strm_mblk.specs.Messages.{held_in};
@@ -67,6 +68,47 @@ fn copy_front(
     }
 }
 
+// Takes so many bytes from the blocks behind the first of a held message. Takes the names away that those have given
+// whose bytes are all taken, and says how many these are.
+fn take_bytes(
+    chains: &Chains,
+    blocks: &mut [Fields],
+    stored: &mut Data,
+    head: u32,
+    count: u32,
+) -> u32
+    requires held { IsSome (held_in chains.now.held head) }
+    requires begun { slice_get (nodes_at chains.now head) 0 ≡ Some head }
+    requires listed { length blocks.old ≡ length chains.now.held }
+    requires within { (i n : ℕ) → slice_get (nodes_at chains.now head) i ≡ Some n → n < length blocks.old }
+    requires there { (n : ℕ) → n < length blocks.old → (fields_at blocks.old n).data_number < length stored.old.store.blocks }
+    requires small { (n : ℕ) → n < length blocks.old → (fields_at blocks.old n).offset + (fields_at blocks.old n).len < 2 ^ 32 }
+    requires named { (d : ℕ) → times d (named_by blocks.old (nodes_at chains.now head)) ≤ count_of stored.old d }
+    requires kept { IsKept stored.old }
+    ensures used { result ≡ length (model.used_up count (message_of blocks.old (drop 1 (nodes_at chains.now head)))) }
+    ensures dropped { stored.new ≡ with_names_dropped (take result (named_by blocks.old (drop 1 (nodes_at chains.now head)))) stored.old }
+    ensures cut { blocks.new ≡ with_bytes_cut false (count - size_of (take result (message_of blocks.old (drop 1 (nodes_at chains.now head))))) (drop (result + 1) (nodes_at chains.now head)) blocks.old }
+    ensures kept { IsKept stored.new }
+{
+    let behind = chains.len(head) - 1;
+    let mut left = count;
+    let mut node = head;
+    for used in 0..behind {
+        if left == 0 {
+            return used;
+        }
+        node = chains.onward(node);
+        let fields = blocks[node as usize];
+        if left < fields.len {
+            blocks[node as usize] = fields.cut(left, false);
+            return used;
+        }
+        left -= fields.len;
+        stored.drop_name(fields.data_number);
+    }
+    behind
+}
+
 impl Blocks {
     // The first block of a message takes a data block for the first `count` bytes of the message, of the type of its
     // former one, which loses its name once the bytes stand in the other. The other blocks keep their bytes.
@@ -101,54 +143,13 @@ impl Blocks {
         Ok(())
     }
 
-    // Frees the second block of a held message, to the front of the free ones, and its data block where no other block
-    // names it.
-    fn free_second(&mut self, head: u32, second: u32)
-        requires { option_map (λ b. b.number) (slice_get (message_at self.old head) 1) ≡ Some second }
-        ensures { self.new ≡ pulling.with_second_freed head (message_at self.old head) self.old }
-    {
-        let data_number = self.blocks[second as usize].data_number;
-        self.chains.free_second(head);
-        self.data.drop_name(data_number);
-    }
-
-    // Takes so many bytes from the second block of a held message, or all that it has: then it is freed. Says how many
-    // are left to take, 0 where there is no such block.
-    fn take_second(&mut self, head: u32, count: u32) -> u32
+    // Takes so many bytes from the blocks behind the first of a held message: those that are used up are freed.
+    fn drain(&mut self, head: u32, count: u32)
         requires { IsSome (held_at self.old head) }
-        ensures after { self.new ≡ (pulling.second_taken head count (message_at self.old head) self.old).1 }
-        ensures left { result ≡ (pulling.second_taken head count (message_at self.old head) self.old).0 }
-    {
-        let Some(second) = self.chains.next(head) else {
-            return 0;
-        };
-        let fields = self.blocks[second as usize];
-        if fields.len <= count {
-            self.free_second(head, second);
-            return count - fields.len;
-        }
-        self.blocks[second as usize] = Fields {
-            offset: fields.offset + count,
-            len: fields.len - count,
-            ..fields
-        };
-        0
-    }
-
-    // Takes so many bytes from the blocks behind the first of a held message, of which there are fewer than `blocks`:
-    // those that are used up are freed.
-    fn drain(&mut self, head: u32, count: u32, blocks: u32)
-        requires held { IsSome (held_at self.old head) }
-        requires blocks { length (message_at self.old head) ≤ blocks }
         ensures { self.new ≡ pulling.drained head count (message_at self.old head) self.old }
     {
-        let mut left = count;
-        for _block in 0..blocks {
-            if left == 0 {
-                return;
-            }
-            left = self.take_second(head, left);
-        }
+        let used = take_bytes(&self.chains, &mut self.blocks, &mut self.data, head, count);
+        self.chains.free_behind(head, used);
     }
 
     /// Brings the first `count` bytes of a message, or with -1 all those of its leading blocks of the first block's type,
@@ -183,7 +184,7 @@ impl Blocks {
             return Ok(());
         }
         self.pull_front(token, wanted)?;
-        self.drain(head, wanted - len, token.blocks());
+        self.drain(head, wanted - len);
         token.set_blocks(self.chains.len(head));
         Ok(())
     }

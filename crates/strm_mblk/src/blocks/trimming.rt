@@ -94,7 +94,7 @@ fn run_in(
 
 impl Fields {
     // Without its first bytes, so many of them as it has, or with only those.
-    fn cut(self, bytes: u32, from_tail: bool) -> Fields
+    pub(super) fn cut(self, bytes: u32, from_tail: bool) -> Fields
         requires { self.offset + self.len < 2 ^ 32 }
         ensures { result ≡ fields_cut from_tail bytes self }
     {

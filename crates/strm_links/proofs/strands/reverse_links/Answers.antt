@@ -1,14 +1,25 @@
 use Rattle.std.proofs.Common.{◌≡◌, ◌<◌, ℕ, List, [], ◌∷◌, length, Some, IsSome, refl, arith, sym, ◌∙◌, subst, get_or}
 use Rattle.std.proofs.lemmas.Option.{same_Some}
-use Rattle.strm_links.specs.StrandLayout.{path}
-use Rattle.strm_links.specs.Rows.{first}
+use Rattle.strm_links.specs.declared.strands.Node.{Node}
+use Rattle.strm_links.specs.Layout.{LeadsOn}
+use Rattle.strm_links.specs.StrandLayout.{next_at, onward, path}
+use Rattle.strm_links.specs.Rows.{first, first_or}
 use Rattle.strm_links.proofs.lists.OneList.{has_at}
-use Rattle.strm_links.proofs.chaining.ChainLinks.{has_first}
-use Rattle.strm_links.proofs.chaining.Freed.{Reverses, Reverses-more, Reverses-start, reverse_at, reversed_all}
+use Rattle.strm_links.proofs.chaining.ChainLinks.{has_first, LeadsOn-walk, walk_from}
+use Rattle.strm_links.proofs.chaining.Freed.{AreReversed, Reverses, Reverses-more, Reverses-start, reverse_at, reversed_all}
 use Rattle.strm_links.proofs.strands.reverse_links.Goals as goal
-use Rattle.strm_links.proofs.strands.reverse_links.Goals.{After-number-number}
+use Rattle.strm_links.proofs.strands.reverse_links.Goals.{After-loop-reversed, After-number-number}
 
 -- ---- the first node
+
+-- the nodes lead to where so many steps do
+leads : (nodes : List Node) (h len : ℕ) → LeadsOn (next_at nodes) (path nodes len (Some h)) (onward (next_at nodes) len (Some h))
+unfolding path
+leads nodes h len = LeadsOn-walk (next_at nodes) len (Some h)
+
+begins : (nodes : List Node) (h len : ℕ) → Some h ≡ first_or (onward (next_at nodes) len (Some h)) (path nodes len (Some h))
+unfolding path
+begins nodes h len = walk_from (next_at nodes) len (Some h)
 
 some : (xs : List ℕ) (h : ℕ) → first xs ≡ Some h → 0 < length xs
 some [] h is = absurd (cc)
@@ -22,22 +33,22 @@ some-onto-requires c = omega (arith, c.requires.few, c.requires.within c.args.he
 
 pub loop-reversed-init : goal.loop-reversed-init
 loop-reversed-init c =
-    let starts : Reverses c.args.nodes.now.items c.args.nodes.now.items c.args.beyond _ 0 (Some c.args.head) c.args.beyond = Reverses-start _ _ _ _ (sym c.requires.begins) in
+    let starts : Reverses c.args.nodes.now.items c.args.nodes.now.items c.args.beyond _ _ 0 (Some c.args.head) c.args.beyond = Reverses-start _ _ _ _ _ (begins c.args.nodes.now.items c.args.head c.args.len) in
     let any = some _ c.args.head c.requires.begins in
-    Reverses-more _ _ _ _ _ _ _ starts any c.requires.apart c.requires.leads c.args.head (same_Some _ _ (reverse_at _ _ _ _ _ _ _ starts any))
+    Reverses-more _ _ _ _ _ _ _ _ starts any c.requires.apart (leads c.args.nodes.now.items c.args.head c.args.len) c.args.head (same_Some _ _ (reverse_at _ _ _ _ _ _ _ _ starts any))
     (omega (arith, c.requires.within c.args.head (has_first _ c.args.head c.requires.begins))) c.index_mut-node.result.now _ _ _ c.index_mut-node.ensures.value refl refl c.some-onto.ensures
 
 -- ---- each further one
 
 pub number-number-requires : goal.number-number-requires
-number-number-requires c = subst IsSome (sym (reverse_at _ _ _ _ _ _ _ c.loop-reversed.invariant (omega (arith, c.requires.len, c.loop-reversed-test.true)))) refl
+number-number-requires c = subst IsSome (sym (reverse_at _ _ _ _ _ _ _ _ c.loop-reversed.invariant (omega (arith, c.requires.len, c.loop-reversed-test.true)))) refl
 
 -- there are more, and the walk is at the first of them, which is a node
 more : (c : After-number-number) → c.loop-reversed._reversed < length (path c.args.nodes.now.items c.args.len (Some c.args.head))
 more c = omega (arith, c.requires.len, c.loop-reversed-test.true)
 
 here : (c : After-number-number) → c.number-number.result ≡ get_or (path c.args.nodes.now.items c.args.len (Some c.args.head)) c.loop-reversed._reversed 0
-here c = same_Some _ _ (sym c.number-number.ensures ∙ reverse_at _ _ _ _ _ _ _ c.loop-reversed.invariant (more c))
+here c = same_Some _ _ (sym c.number-number.ensures ∙ reverse_at _ _ _ _ _ _ _ _ c.loop-reversed.invariant (more c))
 
 low : (c : After-number-number) → c.number-number.result < length c.loop-reversed.nodes.items
 low c = omega (arith, here c, c.loop-reversed.invariant.len, c.requires.within _ (has_at _ c.loop-reversed._reversed 0 (more c)))
@@ -51,11 +62,23 @@ some-onto-requires-in-loop-reversed c = omega (arith, c.requires.few, c.loop-rev
 pub loop-reversed-preserved : goal.loop-reversed-preserved
 loop-reversed-preserved c =
     let at = (goal.at.loop-reversed-preserved c).After-number-number in
-    Reverses-more _ _ _ _ _ _ _ c.loop-reversed.invariant (more at) c.requires.apart c.requires.leads c.number-number.result (here at) (low at) c.index_mut-node-in-loop-reversed.result.now _ _ _ c.index_mut-node-in-loop-reversed.ensures.value refl refl
+    Reverses-more _ _ _ _ _ _ _ _ c.loop-reversed.invariant (more at) c.requires.apart (leads c.args.nodes.now.items c.args.head c.args.len) c.number-number.result (here at) (low at) c.index_mut-node-in-loop-reversed.result.now _ _ _ c.index_mut-node-in-loop-reversed.ensures.value refl refl
     c.some-onto-in-loop-reversed.ensures
 
+-- ---- all of them
+
+module _ (c : After-loop-reversed) where
+  all : AreReversed c.args.nodes.now.items c.loop-reversed.nodes.items c.args.beyond (onward (next_at c.args.nodes.now.items) c.args.len (Some c.args.head)) (path c.args.nodes.now.items c.args.len (Some c.args.head)) c.loop-reversed.at c.loop-reversed.onto
+  all = reversed_all _ _ _ _ _ _ _ _ c.loop-reversed.invariant (omega (arith, c.requires.len, c.loop-reversed-test.false))
+
+pub returns-clause-last : goal.returns-clause-last
+returns-clause-last c = (all (goal.at.returns-clause-last c).After-loop-reversed).onto_is
+
+pub returns-clause-next : goal.returns-clause-next
+returns-clause-next c = (all (goal.at.returns-clause-next c).After-loop-reversed).at_is
+
 pub returns-clause-reversed : goal.returns-clause-reversed
-returns-clause-reversed c = (reversed_all _ _ _ _ _ _ _ c.loop-reversed.invariant (omega (arith, c.requires.len, c.loop-reversed-test.false))).0
+returns-clause-reversed c = (all (goal.at.returns-clause-reversed c).After-loop-reversed).reversed
 
 pub returns-clause-others : goal.returns-clause-others
-returns-clause-others c = (reversed_all _ _ _ _ _ _ _ c.loop-reversed.invariant (omega (arith, c.requires.len, c.loop-reversed-test.false))).1
+returns-clause-others c = (all (goal.at.returns-clause-others c).After-loop-reversed).others

@@ -28,11 +28,6 @@ pub reverse_links-requires-clause-begins : goal.reverse_links-requires-clause-be
 reverse_links-requires-clause-begins c =
     ap first (reversed (goal.at.reverse_links-requires-clause-begins c).After-index) ∙ (strand_laid _ _ _ _ (seen _ _ _ _ c.self.view_is c.self.invariant) c.args.head c.requires).head
 
-pub reverse_links-requires-clause-leads : goal.reverse_links-requires-clause-leads
-reverse_links-requires-clause-leads c =
-    subst (λ (xs : List ℕ). LeadsOn (next_at c.self.inside.nodes.items) xs None) (sym (reversed (goal.at.reverse_links-requires-clause-leads c).After-index))
-    (strand_laid _ _ _ _ (seen _ _ _ _ c.self.view_is c.self.invariant) c.args.head c.requires).leads
-
 pub reverse_links-requires-clause-len : goal.reverse_links-requires-clause-len
 reverse_links-requires-clause-len c =
     let at = (goal.at.reverse_links-requires-clause-len c).After-index in

@@ -116,8 +116,8 @@ laid c read link low =
     let fits : c.args.place < (span_at c.self.inside.nodes.items c.args.head).len = omega (arith, ap (λ (s : Span). s.len) read, c.if-span-place.false) in
     let walked = ap (λ nodes. onward (next_at nodes) (c.args.place - 1) (Some c.args.head)) (sym c.deref.ensures.value) ∙ c.node_behind-ahead.ensures.value in
     let behind : c.index-3.result.now.next ≡ next_at nodes n = ap (λ (x : Node). x.next) (node_read _ _ _ _ was n _ low c.index-3.ensures) in
-    let less : c.without_one.result ≡ record { last = (if is_none (next_at nodes n) then t else (span_at nodes h).last); len = (span_at nodes h).len - 1 } =
-    c.without_one.ensures ∙ (λ i. record { last = (if is_none (behind i) then t else (read i).last); len = (read i).len - 1 }) in
+    let less : c.without.result ≡ record { last = (if is_none (next_at nodes n) then t else (span_at nodes h).last); len = (span_at nodes h).len - 1 } =
+    c.without.ensures ∙ (λ i. record { last = (if is_none (behind i) then t else (read i).last); len = (read i).len - 1 }) in
     IsLaid-taken_out _ _ _ _ was h c.requires.head c.args.place (c.args.place - 1) is fits t n walked (sym link ∙ c.number-node.ensures)
     c.keep.new.nodes.items (omega (arith, c.keep.ensures.len, c.chain_up.ensures.len, c.lead.ensures.len))
     (λ k. c.keep.ensures.nexts k ∙ c.chain_up.ensures.nexts k ∙ (λ i. if n == k then None else c.lead.ensures.nexts k i) ∙ (λ i. if n == k then None else (if t == k then behind i else next_at nodes k)))

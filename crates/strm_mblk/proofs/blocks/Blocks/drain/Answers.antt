@@ -1,40 +1,88 @@
-use Rattle.std.proofs.Common.{◌<◌, ap, sym, subst, ◌∙◌, inl, inr, arith}
-use Rattle.std.specs.Prelude.{is_some}
-use Rattle.std.proofs.lemmas.Bool.{cases_eq}
-use Rattle.strm_mblk.specs.Arena.{held_at, message_at}
-use Rattle.strm_mblk.specs.Pulling.{drained, second_taken}
-use Rattle.strm_mblk.proofs.pulling.Drained.{IsStep, drained_alone, drained_nothing, steps}
-use Rattle.strm_mblk.proofs.arena.Tokens.{held_is}
+use Rattle.std.proofs.Common.{◌+◌, ◌<◌, ◌≤◌, ◌^◌, ℕ, length, ap, arith, sym, subst, ◌∙◌}
+use Rattle.std.specs.Prelude.{drop}
+use Rattle.std.specs.Vec.{with_items}
+use Rattle.std.proofs.lemmas.List.{length-drop, length-map, with_items_is}
+use Rattle.strm_data.specs.CountedStore.{count_of}
+use Rattle.strm_data.specs.DataStore.{times}
+use Rattle.strm_mblk.specs.Arena.{message_at, shelved_blocks}
+use Rattle.strm_mblk.specs.BlocksLayout.{block_at, fields_at, message_of, named_by}
+use Rattle.strm_mblk.specs.NodeLists.{nodes_at}
+use Rattle.strm_mblk.specs.Pulling.{drained}
+use Rattle.strm_mblk.proofs.freeing.Freemsg.{IsFreed, enough}
+use Rattle.strm_mblk.proofs.layout.Places.{IsHeldHead, seen_head}
+use Rattle.strm_mblk.proofs.layout.Rewriting.{node_room}
+use Rattle.strm_mblk.proofs.chaining.Standing.{begins_with}
+use Rattle.strm_mblk.proofs.lists.Numbers.{nonempty}
+use Rattle.strm_mblk.proofs.pulling.BytesTaken.{AreTaken}
+use Rattle.strm_mblk.proofs.pulling.Drained.{drains}
+use Rattle.strm_mblk.proofs.pulling.Taken.{used_few}
+use Rattle.strm_mblk.proofs.trimming.Adjmsg.{ends_small}
+use Rattle.strm_mblk.proofs.blocks.Blocks.drain.Goals.{After-deref_mut, After-free_behind, After-take_bytes-used}
 use Rattle.strm_mblk.proofs.blocks.Blocks.drain.Goals as goal
 
-pub returns-then-left-eq0 : goal.returns-then-left-eq0
-returns-then-left-eq0 c =
-    let now = c.loop-block.self in
-    sym (drained_nothing c.args.head (message_at now c.args.head) now (held_is (held_at now c.args.head) c.loop-block.invariant.held))
-    ∙ ap (λ n. drained c.args.head n (message_at now c.args.head) now) (sym c.if-left-eq0.true) ∙ c.loop-block.invariant.drains
+head : (c : After-deref_mut) → IsHeldHead c.self.inside.blocks.items c.self.inside.chains c.args.head
+head c = seen_head c.self.inside.id c.self.inside.data c.self.inside.blocks.items c.self.inside.chains c.self.invariant.filled c.args.head c.args.self.now c.self.view_is c.requires
 
-pub loop-block-preserved : goal.loop-block-preserved
-loop-block-preserved c =
-    let was = c.loop-block.self in
-    let some : 0 < c.loop-block.left = omega (arith, c.if-left-eq0.false) in
-    let next : IsStep c.args.head c.loop-block.left (message_at was c.args.head) was c.take_second-left.result c.take_second-left.new.self =
-    subst (λ n. IsStep c.args.head c.loop-block.left (message_at was c.args.head) was n c.take_second-left.new.self) (sym c.take_second-left.ensures.left)
-    (subst (λ a. IsStep c.args.head c.loop-block.left (message_at was c.args.head) was (second_taken c.args.head c.loop-block.left (message_at was c.args.head) was).0 a) (sym c.take_second-left.ensures.after)
-    (steps c.args.head c.loop-block.left (message_at was c.args.head) was (held_is (held_at was c.args.head) c.loop-block.invariant.held) some)) in
-    record {
-      held = ap is_some next.held;
-      drains = next.drains ∙ c.loop-block.invariant.drains;
-      fewer = λ left. omega (arith, next.fewer left, c.loop-block.invariant.fewer some);
-    }
+pub take_bytes-used-requires-clause-within : goal.take_bytes-used-requires-clause-within
+take_bytes-used-requires-clause-within c i n at =
+    let i' = c.self.inside in
+    omega (
+      arith,
+      ap length c.deref_mut.ensures.value,
+      node_room i'.id i'.data i'.blocks.items i'.chains c.self.invariant.filled c.args.head i n (nodes_at i'.chains c.args.head) (head (goal.at.take_bytes-used-requires-clause-within c).After-deref_mut).held at,
+    )
+
+pub take_bytes-used-requires-clause-small : goal.take_bytes-used-requires-clause-small
+take_bytes-used-requires-clause-small c =
+    subst (λ fs. (n : ℕ) → n < length fs → (fields_at fs n).offset + (fields_at fs n).len < 2 ^ 32) (sym c.deref_mut.ensures.value)
+    (ends_small c.self.inside.id c.self.inside.data c.self.inside.blocks.items c.self.inside.chains c.self.invariant.filled)
+
+pub take_bytes-used-requires-clause-named : goal.take_bytes-used-requires-clause-named
+take_bytes-used-requires-clause-named c =
+    subst (λ fs. (d : ℕ) → times d (named_by fs (nodes_at c.self.inside.chains c.args.head)) ≤ count_of c.self.inside.data d) (sym c.deref_mut.ensures.value)
+    (enough c.self.inside.id c.self.inside.data c.self.inside.blocks.items c.self.inside.chains c.self.invariant.filled c.args.head (head (goal.at.take_bytes-used-requires-clause-named c).After-deref_mut).held)
+
+-- fewer blocks are used up than the message has
+pub free_behind-requires : goal.free_behind-requires
+free_behind-requires c =
+    let ns = nodes_at c.self.inside.chains c.args.head in
+    let behind = drop 1 ns in
+    omega (
+      arith,
+      c.take_bytes-used.ensures.used,
+      used_few c.args.count (message_of c.deref_mut.result.now behind),
+      length-map behind (block_at c.deref_mut.result.now),
+      length-drop 1 ns,
+      nonempty ns (begins_with c.self.inside.chains c.self.invariant.filled.parted c.args.head ns (head (goal.at.free_behind-requires c).After-deref_mut).held),
+    )
+
+taken : (c : After-take_bytes-used) → AreTaken c.self.inside.blocks.items (nodes_at c.self.inside.chains c.args.head) c.args.count c.self.inside.data c.take_bytes-used.result (with_items c.self.inside.blocks c.take_bytes-used.new.blocks).items c.take_bytes-used.new.stored
+taken c =
+    let ns = nodes_at c.self.inside.chains c.args.head in
+    let i = c.self.inside in
+    let done = c.take_bytes-used.ensures in
+    let now = c.deref_mut.result.now in
+    let is : AreTaken now ns c.args.count i.data c.take_bytes-used.result c.take_bytes-used.new.blocks c.take_bytes-used.new.stored = record { used = done.used; dropped = done.dropped; cut = done.cut } in
+    subst (λ fs. AreTaken i.blocks.items ns c.args.count i.data c.take_bytes-used.result fs c.take_bytes-used.new.stored)
+    (sym (with_items_is i.blocks c.take_bytes-used.new.blocks (c.take_bytes-used.auto.blocks ∙ c.deref_mut.ensures.len)))
+    (subst (λ fs. AreTaken fs ns c.args.count i.data c.take_bytes-used.result c.take_bytes-used.new.blocks c.take_bytes-used.new.stored) c.deref_mut.ensures.value is)
+
+is_freed : (c : After-free_behind) → IsHeldHead c.self.inside.blocks.items c.self.inside.chains c.args.head
+    → AreTaken c.self.inside.blocks.items (nodes_at c.self.inside.chains c.args.head) c.args.count c.self.inside.data c.take_bytes-used.result (with_items c.self.inside.blocks c.take_bytes-used.new.blocks).items c.take_bytes-used.new.stored
+    → IsFreed c.args.self.now (drained c.args.head c.args.count (message_at c.args.self.now c.args.head) c.args.self.now) c.take_bytes-used.new.stored (with_items c.self.inside.blocks c.take_bytes-used.new.blocks).items c.free_behind.new.self c.self.inside.id
+is_freed c is taken =
+    let i = c.self.inside in
+    subst (λ a. IsFreed a (drained c.args.head c.args.count (message_at a c.args.head) a) c.take_bytes-used.new.stored (with_items i.blocks c.take_bytes-used.new.blocks).items c.free_behind.new.self i.id) c.self.view_is
+    (drains i.id i.data i.blocks.items i.chains c.self.invariant.filled c.args.head is.held c.args.count c.take_bytes-used.result
+    (with_items i.blocks c.take_bytes-used.new.blocks).items c.take_bytes-used.new.stored c.free_behind.new.self taken c.take_bytes-used.ensures.kept c.free_behind.ensures.after c.free_behind.ensures.parted)
+
+pub invariant_of-self : goal.invariant_of-self
+invariant_of-self c =
+    let at = goal.at.invariant_of-self c in
+    let is = is_freed at.After-free_behind (head at.After-deref_mut) (taken at.After-take_bytes-used) in
+    record { filled = is.filled; queued = c.self.invariant.queued ∙ ap (λ a. length (shelved_blocks a)) c.self.view_is ∙ ap length (sym is.shelved) }
 
 pub returns : goal.returns
 returns c =
-    let now = c.loop-block.self in
-    let held = held_is (held_at now c.args.head) c.loop-block.invariant.held in
-    sym (elim (cases_eq c.loop-block.left 0) [
-      | inl none ↦ ap (λ n. drained c.args.head n (message_at now c.args.head) now) none ∙ drained_nothing c.args.head (message_at now c.args.head) now held
-      | inr some ↦
-          drained_alone c.args.head c.loop-block.left (message_at now c.args.head) now held
-          (omega (arith, c.loop-block.invariant.fewer (omega (arith, some)), c.loop-block-test.false))
-    ])
-    ∙ c.loop-block.invariant.drains
+    let at = goal.at.returns c in
+    (is_freed at.After-free_behind (head at.After-deref_mut) (taken at.After-take_bytes-used)).after

@@ -5,7 +5,7 @@ use Rattle.strm_data.specs.DataStore.{times}
 use Rattle.strm_mblk.specs.declared.blocks.Fields.{Fields}
 use Rattle.strm_mblk.specs.Arena.{shelved_blocks}
 use Rattle.strm_mblk.specs.BlocksLayout.{arena_of, named_by, with_names_dropped}
-use Rattle.strm_mblk.specs.Freeing.{spent}
+use Rattle.strm_mblk.specs.Freeing.{freemsg, spent}
 use Rattle.strm_mblk.specs.Messages.{held_in}
 use Rattle.strm_mblk.specs.NodeLists.{nodes_at}
 use Rattle.strm_mblk.proofs.arena.Tokens.{spent_had}
@@ -35,13 +35,13 @@ drop_names-requires-clause-named c d =
     (sym (ap (λ (fields : List Fields). take c.spend-token.result.blocks (named_by fields ns)) c.deref.ensures.value ∙ all at c.if-has.true))
     (enough c.self.inside.id c.self.inside.data c.self.inside.blocks.items c.self.inside.chains c.self.invariant.filled c.spend-token.result.head (held at c.if-has.true) d)
 
-is_freed : (c : After-free) → IsFreed c.args.self.now c.drop_names.new.stored c.self.inside.blocks.items c.free.new.self c.self.inside.id c.spend-token.result.head
+is_freed : (c : After-free) → IsFreed c.args.self.now (freemsg c.spend-token.result.head c.args.self.now) c.drop_names.new.stored c.self.inside.blocks.items c.free.new.self c.self.inside.id
 is_freed c =
     let ns = nodes_at c.self.inside.chains c.spend-token.result.head in
     let at = (goal.at.invariant_of-self c).After-spend-token in
     let dropped = c.drop_names.ensures.after
     ∙ ap (λ ds. with_names_dropped ds c.self.inside.data) (ap (λ (fields : List Fields). take c.spend-token.result.blocks (named_by fields ns)) c.deref.ensures.value ∙ all at c.if-has.true) in
-    subst (λ a. IsFreed a c.drop_names.new.stored c.self.inside.blocks.items c.free.new.self c.self.inside.id c.spend-token.result.head) c.self.view_is
+    subst (λ a. IsFreed a (freemsg c.spend-token.result.head a) c.drop_names.new.stored c.self.inside.blocks.items c.free.new.self c.self.inside.id) c.self.view_is
     (frees c.self.inside.id c.self.inside.data c.self.inside.blocks.items c.self.inside.chains c.self.invariant.filled c.spend-token.result.head (held at c.if-has.true)
     c.drop_names.new.stored c.free.new.self dropped c.drop_names.ensures.kept c.free.ensures.after c.free.ensures.parted)
 

@@ -14,7 +14,7 @@ use Rattle.strm_mblk.specs.Trimming.{pulled_into}
 use Rattle.strm_mblk.proofs.reading.Bytes.{length-message}
 use Rattle.strm_mblk.proofs.freeing.Freemsg.{enough}
 use Rattle.strm_mblk.proofs.pulling.FrontPulled.{IsFrontPulled, pulls_front, pulled_is, still_there, still_used}
-use Rattle.strm_mblk.proofs.pulling.SecondTaken.{IsHeldHead, seen_head}
+use Rattle.strm_mblk.proofs.layout.Places.{IsHeldHead, seen_head}
 use Rattle.strm_mblk.proofs.layout.Shown.{message_at-seen}
 use Rattle.strm_mblk.proofs.arena.Tokens.{had_message}
 use Rattle.strm_mblk.proofs.layout.Unaltered.{bytes-message, bytes-typed}

@@ -14,7 +14,7 @@ use Rattle.strm_mblk.specs.Trimming.{bytes_asked, pullupmsg, run_of}
 use Rattle.strm_mblk.proofs.pulling.Pulled.{IsPulled, pull_front_answer, pull_front_refused, front_pulled_held, pull_had, pulls, run_most}
 use Rattle.strm_mblk.proofs.pulling.FrontPulled.{head_held}
 use Rattle.strm_mblk.proofs.layout.Rewriting.{held_nodes}
-use Rattle.strm_mblk.proofs.pulling.SecondTaken.{IsHeldHead, seen_head}
+use Rattle.strm_mblk.proofs.layout.Places.{IsHeldHead, seen_head}
 use Rattle.strm_mblk.proofs.layout.Shown.{message_at-seen}
 use Rattle.strm_mblk.proofs.arena.Tokens.{had_message, token_had}
 use Rattle.strm_mblk.proofs.joining.Unlinkb.{token_is}
@@ -130,9 +130,9 @@ module _ (c : After-index) (many : c.index.result.now.len < c.in-Some.wanted) (f
       pulls (h c) c.in-Some.wanted (b c) (bs c) c.args.self.now (held c) c.args.count (asked c) (enough c) (more c many) first first_is u given new
       (is ∙ (λ i. drained (c.head-head.ensures i) (c.in-Some.wanted - len_is c i) (message_at first (c.head-head.ensures i)) first))
 
-pub drain-requires-clause-held : goal.drain-requires-clause-held
-drain-requires-clause-held c =
-    still_held (goal.at.drain-requires-clause-held c).After-index c.if-wanted-len.false c.pull_front.new.self c.pull_front.ensures.after c.in_ok-pull_front.field-0
+pub drain-requires : goal.drain-requires
+drain-requires c =
+    still_held (goal.at.drain-requires c).After-index c.if-wanted-len.false c.pull_front.new.self c.pull_front.ensures.after c.in_ok-pull_front.field-0
     (sym c.pull_front.ensures.answer ∙ c.in_ok-pull_front.was)
 
 pub len-requires : goal.len-requires

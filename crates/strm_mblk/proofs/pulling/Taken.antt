@@ -1,0 +1,123 @@
+-- Bytes are taken from blocks, one block after the other, as far as they go.
+use Rattle.std.proofs.Common.{◌≡◌, ℕ, zero, suc, ◌+◌, ◌-◌, ◌<◌, ◌≤◌, true, false, List, [], ◌∷◌, length, drop, take, Some, refl, sym, ap, ◌∙◌, inl, inr, arith}
+use Rattle.std.specs.Prelude.{min, slice_get}
+use Rattle.std.proofs.lemmas.Bool.{and_from, and_right, cases_Bool, cases_lt, cond-true, cond-false, false≢true, le-leb, lt-leb, lt-ltb}
+use Rattle.std.proofs.lemmas.List.{drop-drop, length-drop, length-take}
+use Rattle.std.proofs.lemmas.Option.{none-some, same_Some}
+use Rattle.strm_mblk.specs.Block.{Block, size_of}
+use Rattle.strm_mblk.specs.Trimming.{cut_front, is_used_up, left_over, used_up}
+use Rattle.strm_mblk.proofs.lists.ListParts.{drop_from}
+use Rattle.strm_mblk.proofs.trimming.Runs.{size_front}
+
+-- ---- one block
+
+-- all bytes of a block are taken where it has no more
+used_whole : (n : ℕ) (b : Block) → 0 < n → b.len ≤ n → is_used_up n b ≡ true
+used_whole n b some few = and_from _ _ (lt-ltb 0 n some) (le-leb b.len n few)
+
+used_part : (n : ℕ) (b : Block) → n < b.len → is_used_up n b ≡ false
+used_part n b many = and_right _ _ (lt-leb b.len n many)
+
+-- where they are not, nothing is left to take behind it
+none_more : (n : ℕ) (b : Block) → is_used_up n b ≡ false → (min n b.len ≡ n) × (n - b.len ≡ 0)
+none_more n b part =
+    elim (cases_lt n b.len) [
+      | inl many ↦ (omega (arith, many), omega (arith, many))
+      | inr few ↦
+          elim (cases_lt 0 n) [
+            | inl some ↦ absurd (false≢true (sym part ∙ used_whole n b some few))
+            | inr none ↦ (omega (arith, none), omega (arith, none))
+          ]
+    ]
+
+-- ---- all of them
+
+-- nothing is left to take
+cut_zero : (bs : List Block) → cut_front 0 bs ≡ bs
+cut_zero [] = refl
+cut_zero (b ∷ bs) =
+    let none : 0 - b.len ≡ 0 = omega arith in
+    λ i. record b { offset = (let e : b.offset + min 0 b.len ≡ b.offset = omega arith in e) i; len = (let e : b.len - 0 ≡ b.len = omega arith in e) i } ∷ (ap (λ n. cut_front n bs) none ∙ cut_zero bs) i
+
+-- the blocks that are used up are the first
+pub used_first : (n : ℕ) (bs : List Block) → used_up n bs ≡ take (length (used_up n bs)) bs
+used_first n [] = refl
+used_first n (b ∷ bs) =
+    elim (cases_Bool (is_used_up n b)) [
+      | inl used ↦ rw used (ap (λ cs. b ∷ cs) (used_first (n - b.len) bs))
+      | inr part ↦ rw part refl
+    ]
+
+pub used_few : (n : ℕ) (bs : List Block) → length (used_up n bs) ≤ length bs
+used_few n bs = omega (arith, ap length (used_first n bs), length-take (length (used_up n bs)) bs)
+
+-- and the others stay, without what is left to take
+pub left_others : (n : ℕ) (bs : List Block) → left_over n bs ≡ cut_front (n - size_of (used_up n bs)) (drop (length (used_up n bs)) bs)
+left_others n [] = refl
+left_others n (b ∷ bs) =
+    elim (cases_Bool (is_used_up n b)) [
+      | inl used ↦
+          let less : n - b.len - size_of (used_up (n - b.len) bs) ≡ n - size_of (b ∷ used_up (n - b.len) bs) = omega (arith, size_front b (used_up (n - b.len) bs)) in
+          rw used (left_others (n - b.len) bs ∙ ap (λ m. cut_front m (drop (length (used_up (n - b.len) bs)) bs)) less)
+      | inr part ↦
+          let all : n ≡ n - 0 = omega arith in
+          let none = none_more n b part in
+          rw part (
+          (λ i. record b { offset = b.offset + sym none.0 i; len = b.len - n } ∷ (sym (cut_zero bs) ∙ ap (λ m. cut_front m bs) (sym none.1)) i)
+          ∙ ap (λ m. cut_front m (b ∷ bs)) all
+          )
+    ]
+
+-- ---- one step
+
+-- the bytes of one block more
+size_next : (cs : List Block) (k : ℕ) (c : Block) → slice_get cs k ≡ Some c → size_of (take (k + 1) cs) ≡ size_of (take k cs) + c.len
+size_next [] k c at = absurd (none-some c at)
+size_next (x ∷ cs) zero c at = omega (arith, size_front x [], ap (λ (y : Block). y.len) (same_Some x c at))
+size_next (x ∷ cs) (suc k) c at =
+    let e : suc k + 1 ≡ suc (k + 1) = omega arith in
+    omega (arith, ap (λ j. size_of (take j (x ∷ cs))) e, size_front x (take (k + 1) cs), size_front x (take k cs), size_next cs k c at)
+
+-- of `count` bytes that are taken from bs those of the first i blocks are, all that these have, and `left` are left
+pub record IsTaking (count : ℕ) (bs : List Block) (i left : ℕ) : Type 0 where
+  pub rest : used_up left (drop i bs) ≡ drop i (used_up count bs)
+  pub few : i ≤ length (used_up count bs)
+  pub left_is : left ≡ count - size_of (take i bs)
+
+pub start_taking : (count : ℕ) (bs : List Block) → IsTaking count bs 0 count
+start_taking count bs = record { rest = refl; few = omega arith; left_is = omega arith }
+
+module _ (count : ℕ) (bs : List Block) (i left : ℕ) (taking : IsTaking count bs i left) where
+  all_used : used_up left (drop i bs) ≡ [] → i ≡ length (used_up count bs)
+  all_used none = omega (arith, taking.few, ap length (sym taking.rest ∙ none), length-drop i (used_up count bs))
+
+  -- nothing is left to take, or no block to take it from
+  pub done_taking : left ≡ 0 → i ≡ length (used_up count bs)
+  done_taking none = all_used (ap (λ n. used_up n (drop i bs)) none ∙ nothing (drop i bs))
+    where
+      nothing : (cs : List Block) → used_up 0 cs ≡ []
+      nothing [] = refl
+      nothing (c ∷ cs) = refl
+
+  pub end_taking : drop i bs ≡ [] → i ≡ length (used_up count bs)
+  end_taking none = all_used (ap (used_up left) none)
+
+  module _ (b : Block) (at : slice_get bs i ≡ Some b) where
+    -- the next block has more
+    pub part_taking : left < b.len → i ≡ length (used_up count bs)
+    part_taking many = all_used (ap (used_up left) (drop_from bs i b at) ∙ cond-false _ _ _ (used_part left b many))
+
+    -- or it is used up
+    module _ (some : 0 < left) (few : b.len ≤ left) where
+      used_next : drop i (used_up count bs) ≡ b ∷ used_up (left - b.len) (drop (i + 1) bs)
+      used_next = sym taking.rest ∙ ap (used_up left) (drop_from bs i b at) ∙ cond-true _ _ _ (used_whole left b some few)
+
+      pub more_used : i < length (used_up count bs)
+      more_used = omega (arith, ap length used_next, length-drop i (used_up count bs))
+
+      pub next_taking : IsTaking count bs (i + 1) (left - b.len)
+      next_taking = record {
+        rest = sym (ap (drop 1) used_next) ∙ drop-drop 1 i (used_up count bs);
+        few = omega (arith, more_used);
+        left_is = omega (arith, taking.left_is, size_next bs i b at);
+      }
