@@ -7,6 +7,7 @@ use Rattle.strm_mblk.specs.declared.blocks.Fields.{Fields}
 use Rattle.strm_mblk.specs.declared.blocks.trimming.Run.{Run}
 use Rattle.strm_mblk.specs.Block.{size_of}
 use Rattle.strm_mblk.specs.BlocksLayout.{fields_at, message_of}
+use Rattle.strm_mblk.specs.NodeLists.{NodeLists, nodes_at}
 use Rattle.strm_mblk.specs.Trimming.{along, run_of}
 
 -- a run with one block more, behind which and with which there are so many; one of another type begins a run of its own
@@ -21,6 +22,13 @@ pub record IsRun (from_tail : Bool) (s : DataStore) (fields : List Fields) (ns :
   pub begins : slice_get ns (length ns - r.blocks) ≡ Some r.first
   pub leading : from_tail ≡ false → r.blocks ≡ length ns
   pub trailing : from_tail ≡ true → size_of (message_of fields (take (length ns - r.blocks) ns)) + r.size ≡ size_of (message_of fields ns)
+
+-- from this block on there are so many to the end of a message
+pub record IsTail (v : NodeLists) (first count : ℕ) : Type 0 where
+  pub head : ℕ
+  pub place : ℕ
+  pub at : slice_get (nodes_at v head) place ≡ Some first
+  pub len : place + count ≡ length (nodes_at v head)
 
 -- what a message block says without its first n bytes, or with only those, as far as it has them
 abbrev pub fields_cut : Bool → ℕ → Fields → Fields

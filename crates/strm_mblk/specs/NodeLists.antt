@@ -16,10 +16,10 @@ pub record NodeLists : Type 0 where
 abbrev pub nodes_at : NodeLists → ℕ → List ℕ
 nodes_at v h = blocks_of (held_in v.held h)
 
--- a walk along the message held at h has come to n, its block i; once it is past the last one, n is any message block
+-- a walk along the message held at h has come to n, its block i, or is past the last one
 pub record IsReached (v : NodeLists) (h i n : ℕ) : Type 0 where
   pub here : i < length (nodes_at v h) → slice_get (nodes_at v h) i ≡ Some n
-  pub in_range : n < length v.held
+  pub in_range : i < length (nodes_at v h) → n < length v.held
 
 -- the number that a message begins with
 abbrev pub head_node : List ℕ → ℕ

@@ -111,14 +111,14 @@ impl Chains {
         self.strands.next(node)
     }
 
-    // The message block behind this one in its message, or this one again where it is the last.
+    // The message block behind this one in its message, or where it is the last `u32::MAX`, which numbers none: as that word
+    // stands for none in a link too, nothing is asked.
     #[inline(always)]
     pub(crate) fn onward(&self, node: u32) -> u32
         requires { node < length self.now.held }
-        ensures held { (h i : ℕ) → IsReached self.now h i node → IsReached self.now h (i + 1) result }
-        ensures in_range { result < length self.now.held }
+        ensures { (h i : ℕ) → IsReached self.now h i node → IsReached self.now h (i + 1) result }
     {
-        self.strands.next(node).unwrap_or(node)
+        self.strands.next(node).unwrap_or(u32::MAX)
     }
 
     // Makes the first free message block a held message, if one is free.

@@ -1,6 +1,7 @@
 -- Numbers in lists: where they stand, and how often.
-use Rattle.std.proofs.Common.{◌≡◌, ℕ, ◌+◌, ◌<◌, ◌≤◌, Bool, true, false, ltb, List, [], ◌∷◌, length, Some, refl, sym, ap, inl, inr, arith, if◌then◌else◌, zero, suc, ◌==◌}
+use Rattle.std.proofs.Common.{◌≡◌, ℕ, ◌+◌, ◌<◌, ◌≤◌, Bool, true, false, ltb, List, [], ◌∷◌, length, Option, Some, refl, sym, subst, ap, inl, inr, arith, if◌then◌else◌, zero, suc, ◌==◌}
 use Rattle.std.specs.Prelude.{count_by, slice_get, drop, take}
+use Rattle.std.specs.Option.{IfSome, unwrap_or}
 use Rattle.std.proofs.lemmas.Bool.{cases_lt}
 use Rattle.strm_data.specs.DataStore.{times}
 use Rattle.strm_links.proofs.lists.Counting.{one_if, times-cons, times_here}
@@ -82,3 +83,7 @@ count_same p (x ∷ xs) ys same =
     let rest : (n : ℕ) → times n xs ≡ times n (less x ys) =
     λ n. omega (arith, same n, times-cons n x xs, count_less (λ k. k == n) x ys here) in
     omega (arith, (count_adds p).both (x ∷ []) xs, count_same p xs (less x ys) rest, count_less p x ys here, count_one p x)
+
+-- a number that is there is below n, so what is read in its place is
+pub below : (o : Option ℕ) (d k n : ℕ) → o ≡ Some k → IfSome o (λ x. x < n) → unwrap_or o d < n
+below o d k n is some = subst (λ (p : Option ℕ). IfSome p (λ x. x < n) → unwrap_or p d < n) (sym is) (λ low. low) some

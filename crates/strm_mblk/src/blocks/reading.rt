@@ -38,7 +38,7 @@ pub(super) fn sum_of_lengths(
     let mut node = head;
     for _block in 0..count {
         sum += length_of(stored, blocks[node as usize], data_alone);
-        node = strands.next(node).unwrap_or(node);
+        node = strands.next(node).unwrap_or(u32::MAX);
     }
     sum
 }

@@ -3,7 +3,7 @@ ghost use Rattle.std.specs.Prelude.{◌≡◌, [], ◌∷◌, ◌+◌, ◌-◌, 
 ghost use Rattle.strm_mblk.specs.Arena.{has, message_at};
 ghost use Rattle.strm_mblk.specs.Block.{size_of};
 ghost use Rattle.strm_mblk.specs.BlocksLayout.{fields_at, message_of};
-ghost use Rattle.strm_mblk.specs.Cutting.{IsRun, fields_cut, run_with, with_bytes_cut};
+ghost use Rattle.strm_mblk.specs.Cutting.{IsRun, IsTail, fields_cut, run_with, with_bytes_cut};
 ghost use Rattle.strm_mblk.specs.Frame.{LeavesOthers, LeavesShelves};
 ghost use Rattle.strm_mblk.specs.Given.{value_after, answer_of};
 ghost use Rattle.strm_mblk.specs.NodeLists.{nodes_at};
@@ -114,6 +114,7 @@ impl Fields {
 // the tail on all others. Each block gives what it has.
 fn cut(chains: &Chains, blocks: &mut [Fields], first: u32, count: u32, bytes: u32, from_tail: bool)
     requires first { first < length chains.now.held }
+    requires tail { IsTail chains.now first count }
     requires blocks { length blocks.old ≡ length chains.now.held }
     requires small { (n : ℕ) → n < length blocks.old → (fields_at blocks.old n).offset + (fields_at blocks.old n).len < 2 ^ 32 }
     ensures { (h i : ℕ) → slice_get (nodes_at chains.now h) i ≡ Some first → i + count ≡ length (nodes_at chains.now h) → blocks.new ≡ with_bytes_cut from_tail bytes (drop i (nodes_at chains.now h)) blocks.old }

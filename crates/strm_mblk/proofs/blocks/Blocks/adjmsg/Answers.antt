@@ -35,6 +35,11 @@ cut-requires-clause-first c =
           c.args.token.now (sym c.head.ensures) c.requires c.run_in-run.result.first run.begins).there,
     )
 
+pub cut-requires-clause-tail : goal.cut-requires-clause-tail
+cut-requires-clause-tail c =
+    let run = c.run_in-run.ensures in
+    record { head = c.head.result; place = length (nodes_at c.self.inside.chains c.head.result) - c.run_in-run.result.blocks; at = run.begins; len = omega (arith, run.few) }
+
 pub cut-requires-clause-small : goal.cut-requires-clause-small
 cut-requires-clause-small c =
     subst (λ fs. (n : ℕ) → n < length fs → (fields_at fs n).offset + (fields_at fs n).len < 2 ^ 32) (sym c.deref_mut.ensures.value)

@@ -61,7 +61,7 @@ loop-block-preserved c =
     let on = laid_on all own rest c.args.into.now now new done count laid counted copied in
     let skipped : skip - f.len ≡ c.saturating_sub-skip.result = sym (c.saturating_sub-skip.ensures ∙ ap (λ (g : Fields). skip - g.len) (read before)) in
     record {
-      at = c.onward-node.ensures.held c.args.token.now.head k c.loop-block.invariant.at;
+      at = c.onward-node.ensures c.args.token.now.head k c.loop-block.invariant.at;
       laid =
           subst (λ n. IsLaid all (drop n (bytes_of store (drop (k + 1) m))) c.args.into.now (put_mid done (length now - done) now new) (done + count)) skipped
           (subst (λ xs. IsLaid all rest c.args.into.now xs (done + count)) (sym (put_rest done now new)) on);

@@ -73,7 +73,7 @@ module _ (c : After-class_left) where
   next = next_block c.args.blocks.now (nodes_at c.args.chains.now c.args.head) c.args.count c.loop-block._block c.loop-block.node c.loop-block-test.true at
 
   there : c.loop-block.node < length c.args.blocks.now
-  there = omega (arith, c.requires.listed, c.loop-block.invariant.at.in_range)
+  there = omega (arith, c.requires.listed, c.loop-block.invariant.at.in_range (omega (arith, c.loop-block-test.true, c.requires.count)))
 
   inside : IsInside c.args.stored.now.store b
   inside = let placed = c.requires.placed c.loop-block.node there in (placed.there, placed.within)
@@ -100,7 +100,7 @@ pub loop-block-preserved : goal.loop-block-preserved
 loop-block-preserved c =
     let before = (goal.at.loop-block-preserved c).After-class_left in
     record {
-      at = c.onward-node.ensures.held c.args.head c.loop-block._block c.loop-block.invariant.at;
+      at = c.onward-node.ensures c.args.head c.loop-block._block c.loop-block.invariant.at;
       len = length-set c.loop-block.left c.from.result _ ∙ c.loop-block.invariant.len;
       ahead =
           subst (λ j. (t : CountedStore) × IsAhead (bs before) (c.loop-block._block + 1) c.args.stored.now t (set c.loop-block.left j (get_or c.loop-block.left j 0 - 1))) (sym c.from.ensures)

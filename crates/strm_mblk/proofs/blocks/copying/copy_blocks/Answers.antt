@@ -18,8 +18,8 @@ use Rattle.strm_mblk.proofs.blocks.copying.copy_blocks.Goals as goal
 
 pub loop-block-init : goal.loop-block-init
 loop-block-init c = record {
-  read = record { here = λ _. c.requires.from; in_range = nodes_room c.args.chains.now c.args.from c.args.from c.requires.from };
-  written = record { here = λ _. c.requires.into; in_range = nodes_room c.args.chains.now c.args.into c.args.into c.requires.into };
+  read = record { here = λ _. c.requires.from; in_range = λ _. nodes_room c.args.chains.now c.args.from c.args.from c.requires.from };
+  written = record { here = λ _. c.requires.into; in_range = λ _. nodes_room c.args.chains.now c.args.into c.args.into c.requires.into };
   copying = none_copied _ _ c.args.blocks.now c.args.stored.now;
   kept = c.requires.kept;
 }
@@ -49,7 +49,7 @@ module _ (c : In-loop-block) where
       (omega (arith, c.requires.apart of, times_at of (nodes_at c.args.chains.now c.args.from) c.loop-block._block read_at))
 
   there : of < length c.args.blocks.now
-  there = omega (arith, c.requires.listed, c.loop-block.invariant.read.in_range)
+  there = omega (arith, c.requires.listed, c.loop-block.invariant.read.in_range (omega (arith, c.loop-block-test.true, c.requires.enough)))
 
   placed : IsPlaced c.loop-block.stored.store (fields_at c.args.blocks.now of)
   placed =
@@ -84,8 +84,8 @@ loop-block-preserved c =
     (omega (arith, ap (λ (f : Fields). capacity_of c.loop-block.stored.store f.data_number) (said before), c.copy_data.ensures.room))
     (placed before) (written_at before) in
     record {
-      read = c.onward-read.ensures.held c.args.from c.loop-block._block c.loop-block.invariant.read;
-      written = c.onward-written.ensures.held c.args.into c.loop-block._block c.loop-block.invariant.written;
+      read = c.onward-read.ensures c.args.from c.loop-block._block c.loop-block.invariant.read;
+      written = c.onward-written.ensures c.args.into c.loop-block._block c.loop-block.invariant.written;
       copying =
           subst (λ (p : Fields × CountedStore). IsCopying (bs before) (nodes_at c.args.chains.now c.args.into) (c.loop-block._block + 1) c.args.blocks.now (set c.loop-block.blocks c.loop-block.written p.0) c.args.stored.now p.1)
           (λ j. (sym says j, sym leaves j)) copied;

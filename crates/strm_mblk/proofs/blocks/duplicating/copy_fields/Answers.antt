@@ -13,8 +13,8 @@ loop-block-preserved c =
     let read_at : slice_get from c.loop-block._block ≡ Some c.loop-block.read = inv.read.here (omega (arith, c.loop-block-test.true, c.requires.enough)) in
     let written_at : slice_get to c.loop-block._block ≡ Some c.loop-block.written = inv.written.here (omega (arith, c.loop-block-test.true, c.requires.count)) in
     record {
-      read = c.onward-read.ensures.held c.args.from c.loop-block._block inv.read;
-      written = c.onward-written.ensures.held c.args.to c.loop-block._block inv.written;
+      read = c.onward-read.ensures c.args.from c.loop-block._block inv.read;
+      written = c.onward-written.ensures c.args.to c.loop-block._block inv.written;
       copying =
           next_copying (take c.args.count from) to c.loop-block._block c.args.blocks.now c.loop-block.blocks inv.copying c.loop-block.read c.loop-block.written
           (slice_get-take c.args.count c.loop-block._block from c.loop-block-test.true ∙ read_at) written_at

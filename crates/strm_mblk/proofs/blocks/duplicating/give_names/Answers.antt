@@ -22,7 +22,7 @@ module _ (c : In-loop-given) where
   there n within = subst (λ (s : DataStore). (fields_at c.args.blocks.now n).data_number < length s.blocks) (sym same_store) (c.requires.there n within)
 
   node_in : c.loop-given.node < length c.args.blocks.now
-  node_in = omega (arith, c.loop-given.invariant.at.in_range, c.requires.blocks)
+  node_in = omega (arith, c.loop-given.invariant.at.in_range (omega (arith, c.loop-given-test.true, c.requires.count)), c.requires.blocks)
 
 pub count-requires : goal.count-requires
 count-requires c = there c c.loop-given.node (node_in c)
@@ -60,7 +60,7 @@ pub loop-given-preserved : goal.loop-given-preserved
 loop-given-preserved c =
     let at = (goal.at.loop-given-preserved c).In-loop-given in
     record {
-      at = c.onward-node.ensures.held c.args.head c.loop-given.given c.loop-given.invariant.at;
+      at = c.onward-node.ensures c.args.head c.loop-given.given c.loop-given.invariant.at;
       after =
           c.name.ensures.after
           ∙ next_given (named_by c.args.blocks.now (nodes_at c.args.chains.now c.args.head)) c.loop-given.given c.args.stored.now c.loop-given.stored c.requires.used c.loop-given.invariant.after (d at) (named_at at);

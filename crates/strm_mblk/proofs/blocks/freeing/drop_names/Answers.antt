@@ -30,7 +30,7 @@ loop-block-init c =
     subst (IsDropping ds 1 c.args.stored.now) (sym c.drop_name.ensures.after)
     (next_dropping ds 0 c.args.stored.now c.args.stored.now (start_dropping ds _ c.requires.named) _ (at_block c.args.blocks.now _ c.args.count 0 c.args.head (omega (arith, c.if-count-eq0.false)) c.requires.begun)) in
     record {
-      at = c.onward-node.ensures.held c.args.head 0 (record { here = λ _. c.requires.begun; in_range = grind (arith, common_steps) });
+      at = c.onward-node.ensures c.args.head 0 (record { here = λ _. c.requires.begun; in_range = λ _. grind (arith, common_steps) });
       after = next.after;
       named = next.named;
       many = next.many;
@@ -67,7 +67,7 @@ loop-block-preserved c =
     subst (IsDropping (ds at) (c.loop-block._block + 1) c.args.stored.now) (sym c.drop_name-in-loop-block.ensures.after)
     (next_dropping (ds at) c.loop-block._block c.args.stored.now c.loop-block.stored (dropping at) (d at) (named_at at)) in
     record {
-      at = c.onward-node-in-loop-block.ensures.held c.args.head c.loop-block._block c.loop-block.invariant.at;
+      at = c.onward-node-in-loop-block.ensures c.args.head c.loop-block._block c.loop-block.invariant.at;
       after = next.after;
       named = next.named;
       many = next.many;

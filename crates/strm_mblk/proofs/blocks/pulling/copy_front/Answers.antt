@@ -22,9 +22,9 @@ loop-block-preserved c =
     let ns = nodes_at c.args.chains.now c.args.head in
     let blocks = c.args.blocks.now in
     let at : slice_get ns k ≡ Some n = c.loop-block.invariant.at.here (omega (arith, c.loop-block-test.true)) in
-    let there : n < length blocks = omega (arith, c.requires.listed, c.loop-block.invariant.at.in_range) in
+    let there : n < length blocks = omega (arith, c.requires.listed, c.loop-block.invariant.at.in_range (omega (arith, c.loop-block-test.true))) in
     record {
-      at = c.onward-node.ensures.held c.args.head k c.loop-block.invariant.at;
+      at = c.onward-node.ensures c.args.head k c.loop-block.invariant.at;
       copied =
           next_copied c.args.stored.now (message_of blocks ns) c.args.into c.args.count k c.loop-block.done c.loop-block.stored c.loop-block.invariant.copied c.requires.enough c.requires.there
           n (fields_at blocks n) (slice_get-mapped (block_at blocks) ns k ∙ ap (option_map (block_at blocks)) at) (c.requires.placed n there) (apart c.args.into blocks ns k n c.requires.unnamed at)

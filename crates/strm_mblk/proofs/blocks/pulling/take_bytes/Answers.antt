@@ -48,7 +48,7 @@ onward-node-requires c = omega (arith, c.requires.listed, c.requires.within c.lo
 module _ (c : After-onward-node) where
   -- it is one of the message
   next_here : slice_get (nodes_at c.args.chains.now c.args.head) (c.loop-used.used + 1) ≡ Some c.onward-node.result
-  next_here = (c.onward-node.ensures.held c.args.head c.loop-used.used c.loop-used.invariant.at).here (omega (arith, c.len-behind.ensures, c.loop-used-test.true))
+  next_here = (c.onward-node.ensures c.args.head c.loop-used.used c.loop-used.invariant.at).here (omega (arith, c.len-behind.ensures, c.loop-used-test.true))
 
   next_there : c.onward-node.result < length c.args.blocks.now
   next_there = c.requires.within (c.loop-used.used + 1) c.onward-node.result next_here
@@ -102,7 +102,7 @@ loop-used-preserved c =
     let dropped : c.drop_name.new.self ≡ without_name (fields_at c.args.blocks.now n).data_number c.loop-used.stored =
     c.drop_name.ensures.after ∙ ap (λ (f : Fields). without_name f.data_number c.loop-used.stored) (read d) in
     record {
-      at = c.onward-node.ensures.held c.args.head c.loop-used.used c.loop-used.invariant.at;
+      at = c.onward-node.ensures c.args.head c.loop-used.used c.loop-used.invariant.at;
       takes =
           subst (λ s. AreTaking c.args.blocks.now (nodes_at c.args.chains.now c.args.head) c.args.count c.args.stored.now (c.loop-used.used + 1) (c.loop-used.left - (fields_at c.loop-used.blocks n).len) s) (sym dropped)
           (subst (λ (f : Fields). AreTaking c.args.blocks.now (nodes_at c.args.chains.now c.args.head) c.args.count c.args.stored.now (c.loop-used.used + 1) (c.loop-used.left - f.len) (without_name (fields_at c.args.blocks.now n).data_number c.loop-used.stored)) (sym (read d))

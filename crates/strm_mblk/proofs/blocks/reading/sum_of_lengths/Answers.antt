@@ -1,19 +1,15 @@
-use Rattle.std.proofs.Common.{◌≡◌, ℕ, ◌+◌, ◌<◌, List, Option, None, Some, drop, ap, arith, sym, ◌∙◌}
+use Rattle.std.proofs.Common.{◌≡◌, ℕ, ◌+◌, ◌-◌, ◌^◌, List, Some, drop, ap, arith, sym, ◌∙◌}
 use Rattle.std.specs.Prelude.{option_map, slice_get, sum_by}
-use Rattle.std.specs.Option.{IfSome, unwrap_or}
+use Rattle.std.specs.Option.{unwrap_or}
 use Rattle.std.proofs.lemmas.Option.{slice_get-get_or, unwrap_or-slice_get}
 use Rattle.strm_links.specs.StrandLists.{strand_at}
 use Rattle.strm_mblk.specs.Block.{len_counted}
 use Rattle.strm_mblk.specs.BlocksLayout.{block_at, message_of}
+use Rattle.strm_mblk.proofs.lists.Numbers.{below}
 use Rattle.strm_mblk.proofs.layout.Shown.{slice_get-mapped}
 use Rattle.strm_mblk.proofs.reading.Summing.{counted_most, sum_from}
 use Rattle.strm_mblk.proofs.blocks.reading.sum_of_lengths.Goals as goal
 use Rattle.strm_mblk.proofs.blocks.reading.sum_of_lengths.Goals.{After-length_of-sum}
-
--- a number below n, where there is one, or another one
-below : (o : Option ℕ) (d n : ℕ) → IfSome o (λ x. x < n) → d < n → unwrap_or o d < n
-below None d n some other = other
-below (Some x) d n some other = some
 
 module _ (c : After-length_of-sum) where
   -- the numbers of the message
@@ -43,8 +39,8 @@ loop-block-preserved c =
     let next = c.next.ensures.value c.args.head k (at before) in
     record {
       at = λ there.
-          slice_get-get_or (ns before) (k + 1) c.loop-block.node there
-          ∙ ap Some (sym (c.unwrap_or-node.ensures ∙ ap (λ o. unwrap_or o c.loop-block.node) next ∙ unwrap_or-slice_get (ns before) (k + 1) c.loop-block.node));
-      in_range = omega (arith, c.unwrap_or-node.ensures, below c.next.result c.loop-block.node _ c.next.ensures.in_range c.loop-block.invariant.in_range);
+          slice_get-get_or (ns before) (k + 1) (2 ^ 32 - 1) there
+          ∙ ap Some (sym (c.unwrap_or-node.ensures ∙ ap (λ o. unwrap_or o (2 ^ 32 - 1)) next ∙ unwrap_or-slice_get (ns before) (k + 1) (2 ^ 32 - 1)));
+      in_range = λ there. omega (arith, c.unwrap_or-node.ensures, below c.next.result (2 ^ 32 - 1) _ _ (next ∙ slice_get-get_or (ns before) (k + 1) 0 there) c.next.ensures.in_range);
       sum = omega (arith, c.loop-block.invariant.sum, adds before);
     }

@@ -9,6 +9,6 @@ use Rattle.strm_mblk.proofs.blocks.reading.sum_of_lengths.Given as goal
 abbrev pub invariant-loop-block : goal.invariant-loop-block
 invariant-loop-block l = record {
   at : l._block < length (strand_at l.strands l.head) → slice_get (strand_at l.strands l.head) l._block ≡ Some l.node;
-  in_range : l.node < length l.strands.chains;
+  in_range : l._block < length (strand_at l.strands l.head) → l.node < length l.strands.chains;
   sum : l.sum + sum_by (len_counted l.data_alone l.stored.store) (drop l._block (message_of l.blocks (strand_at l.strands l.head))) ≡ sum_by (len_counted l.data_alone l.stored.store) (message_of l.blocks (strand_at l.strands l.head));
 }

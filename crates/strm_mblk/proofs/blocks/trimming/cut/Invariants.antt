@@ -10,7 +10,7 @@ abbrev pub invariant-loop-block : goal.invariant-loop-block
 invariant-loop-block l = record {
   at : (h i : ℕ) → slice_get (nodes_at l.chains h) i ≡ Some l.first → IsReached l.chains h (i + l._block) l.node;
   after : (h i : ℕ) → slice_get (nodes_at l.chains h) i ≡ Some l.first → i + l.count ≡ length (nodes_at l.chains h) → with_bytes_cut l.from_tail l.left (drop (i + l._block) (nodes_at l.chains h)) l.blocks ≡ with_bytes_cut l.from_tail l.bytes (drop i (nodes_at l.chains h)) l.fn.blocks;
-  in_range : l.node < length l.chains.held;
+  in_range : l._block < l.count → l.node < length l.chains.held;
   many : length l.blocks ≡ length l.fn.blocks;
   small : (n : ℕ) → n < length l.blocks → (fields_at l.blocks n).offset + (fields_at l.blocks n).len < 2 ^ 32;
 }

@@ -16,7 +16,7 @@ pub loop-block-init : goal.loop-block-init
 loop-block-init c =
     let ns = nodes_at c.args.chains.now c.args.head in
     record {
-      at = record { here = λ _. c.requires.begun; in_range = nodes_room c.args.chains.now c.args.head c.args.head c.requires.begun };
+      at = record { here = λ _. c.requires.begun; in_range = λ _. nodes_room c.args.chains.now c.args.head c.args.head c.requires.begun };
       measured =
           subst (λ n. IsMeasured c.args.from_tail c.args.stored.now.store c.args.blocks.now ns 0 (record { first = c.args.head; blocks = n; size = 0; kind = c.kind.result })) (sym c.requires.count)
           (subst (λ k. IsMeasured c.args.from_tail c.args.stored.now.store c.args.blocks.now ns 0 (record { first = c.args.head; blocks = length ns; size = 0; kind = k })) (sym c.kind.ensures)
@@ -64,7 +64,7 @@ loop-block-preserved c =
       | else-not-from_tail-via-else-not-from_tail w ↦ inl w.if-not-from_tail.false
     ] in
     record {
-      at = c.onward-node.ensures.held c.args.head c.loop-block.block inv.at;
+      at = c.onward-node.ensures c.args.head c.loop-block.block inv.at;
       measured =
           subst (IsMeasured c.args.from_tail s c.args.blocks.now ns (c.loop-block.block + 1)) (sym (c.with-run.ensures ∙ (λ i. run_with c.loop-block.node (c.requires.count i - c.loop-block.block) (c.kind-kind.ensures i) (fields_at c.args.blocks.now c.loop-block.node).len c.loop-block.run)))
           (next_measured c.args.from_tail s c.args.blocks.now ns c.loop-block.block c.loop-block.node c.loop-block.run inv.measured (here (goal.at.loop-block-preserved c).In-loop-block) goes);
