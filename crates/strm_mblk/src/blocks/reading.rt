@@ -22,7 +22,8 @@ fn length_of(stored: &Data, fields: Fields, data_alone: bool) -> u32
     if is_data { fields.len } else { 0 }
 }
 
-// The lengths of a message's blocks, of all or of those of type M_DATA alone, summed up. Takes as many steps as there are.
+// The lengths of a message's blocks, of all or of those of type M_DATA alone, summed up. Takes as many steps as there are. Most
+// messages are of one block, and have no loop.
 pub(super) fn sum_of_lengths(
     strands: &Strands,
     blocks: &[Fields],
@@ -33,12 +34,11 @@ pub(super) fn sum_of_lengths(
     requires { IsSummable strands.now blocks.now stored.now.store head }
     ensures { result ≡ sum_by (len_counted data_alone stored.now.store) (message_of blocks.now (strand_at strands.now head)) }
 {
-    let count = strands.len(head);
-    let mut sum = 0;
+    let mut sum = length_of(stored, blocks[head as usize], data_alone);
     let mut node = head;
-    for _block in 0..count {
-        sum += length_of(stored, blocks[node as usize], data_alone);
+    for _block in 1..strands.len(head) {
         node = strands.next(node).unwrap_or(u32::MAX);
+        sum += length_of(stored, blocks[node as usize], data_alone);
     }
     sum
 }

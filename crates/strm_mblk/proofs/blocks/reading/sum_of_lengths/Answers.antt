@@ -1,46 +1,82 @@
-use Rattle.std.proofs.Common.{◌≡◌, ℕ, ◌+◌, ◌-◌, ◌^◌, List, Some, drop, ap, arith, sym, ◌∙◌}
+use Rattle.std.proofs.Common.{◌≡◌, ℕ, ◌+◌, ◌-◌, ◌^◌, ◌<◌, Bool, List, Some, drop, length, ap, arith, sym, ◌∙◌}
 use Rattle.std.specs.Prelude.{option_map, slice_get, sum_by}
 use Rattle.std.specs.Option.{unwrap_or}
+use Rattle.std.proofs.lemmas.Grind.{common_steps}
 use Rattle.std.proofs.lemmas.Option.{slice_get-get_or, unwrap_or-slice_get}
+use Rattle.strm_data.specs.DataStore.{DataStore}
 use Rattle.strm_links.specs.StrandLists.{strand_at}
+use Rattle.strm_mblk.specs.declared.blocks.Fields.{Fields}
 use Rattle.strm_mblk.specs.Block.{len_counted}
 use Rattle.strm_mblk.specs.BlocksLayout.{block_at, message_of}
-use Rattle.strm_mblk.proofs.lists.Numbers.{below}
 use Rattle.strm_mblk.proofs.layout.Shown.{slice_get-mapped}
+use Rattle.strm_mblk.proofs.lists.Numbers.{below}
 use Rattle.strm_mblk.proofs.reading.Summing.{counted_most, sum_from}
 use Rattle.strm_mblk.proofs.blocks.reading.sum_of_lengths.Goals as goal
-use Rattle.strm_mblk.proofs.blocks.reading.sum_of_lengths.Goals.{After-length_of-sum}
+use Rattle.strm_mblk.proofs.blocks.reading.sum_of_lengths.Goals.{After-unwrap_or-node}
 
-module _ (c : After-length_of-sum) where
+-- from block k on there is its length and what is behind it
+adds : (data_alone : Bool) (s : DataStore) (fields : List Fields) (ns : List ℕ) (k n : ℕ) → slice_get ns k ≡ Some n → (len : ℕ) → len ≡ len_counted data_alone s (block_at fields n)
+    → sum_by (len_counted data_alone s) (drop k (message_of fields ns)) ≡ len + sum_by (len_counted data_alone s) (drop (k + 1) (message_of fields ns))
+adds data_alone s fields ns k n at len is =
+    sum_from (len_counted data_alone s) (message_of fields ns) k (block_at fields n) (slice_get-mapped (block_at fields) ns k ∙ ap (option_map (block_at fields)) at)
+    ∙ ap (λ j. j + sum_by (len_counted data_alone s) (drop (k + 1) (message_of fields ns))) (sym is)
+
+pub loop-block-init : goal.loop-block-init
+loop-block-init c = record {
+  begun = omega arith;
+  at = c.requires.begins;
+  in_range = grind (arith, common_steps);
+  sum = sym (adds c.args.data_alone c.args.stored.now.store c.args.blocks.now (strand_at c.args.strands.now c.args.head) 0 c.args.head c.requires.begins c.length_of-sum.result (c.length_of-sum.ensures c.args.head));
+}
+
+module _ (c : After-unwrap_or-node) where
   -- the numbers of the message
   abbrev ns : List ℕ
   ns = strand_at c.args.strands.now c.args.head
 
-  -- the block at this step
-  at : slice_get ns c.loop-block._block ≡ Some c.loop-block.node
-  at = c.loop-block.invariant.at (omega (arith, c.loop-block-test.true, c.len-count.ensures))
+  next : c.next.result ≡ slice_get ns c.loop-block._block
+  next = c.next.ensures.value c.args.head (c.loop-block._block - 1) c.loop-block.invariant.at ∙ ap (slice_get ns) (omega (arith, c.loop-block.invariant.begun))
 
-  -- from it on there is its length and what is behind it
-  adds : sum_by (len_counted c.args.data_alone c.args.stored.now.store) (drop c.loop-block._block (message_of c.args.blocks.now ns))
-      ≡ c.length_of-sum.result + sum_by (len_counted c.args.data_alone c.args.stored.now.store) (drop (c.loop-block._block + 1) (message_of c.args.blocks.now ns))
-  adds =
-      sum_from (len_counted c.args.data_alone c.args.stored.now.store) (message_of c.args.blocks.now ns) c.loop-block._block (block_at c.args.blocks.now c.loop-block.node)
-      (slice_get-mapped (block_at c.args.blocks.now) ns c.loop-block._block ∙ ap (option_map (block_at c.args.blocks.now)) at)
-      ∙ ap (λ k. k + sum_by (len_counted c.args.data_alone c.args.stored.now.store) (drop (c.loop-block._block + 1) (message_of c.args.blocks.now ns))) (sym (c.length_of-sum.ensures c.loop-block.node))
+  there : c.loop-block._block < length ns
+  there = omega (arith, c.loop-block-test.true, c.len-block-end.ensures)
+
+  -- the block at this step
+  at : slice_get ns c.loop-block._block ≡ Some c.unwrap_or-node.result
+  at =
+      slice_get-get_or ns c.loop-block._block (2 ^ 32 - 1) there
+      ∙ ap Some (sym (c.unwrap_or-node.ensures ∙ ap (λ o. unwrap_or o (2 ^ 32 - 1)) next ∙ unwrap_or-slice_get ns c.loop-block._block (2 ^ 32 - 1)))
+
+  low : c.unwrap_or-node.result < length c.args.strands.now.chains
+  low = omega (arith, c.unwrap_or-node.ensures, below c.next.result (2 ^ 32 - 1) _ _ (next ∙ slice_get-get_or ns c.loop-block._block 0 there) c.next.ensures.in_range)
+
+pub bounds-blocks-node : goal.bounds-blocks-node
+bounds-blocks-node c = omega (arith, c.requires.listed, low (goal.at.bounds-blocks-node c).After-unwrap_or-node)
+
+pub length_of-sum-requires-in-loop-block : goal.length_of-sum-requires-in-loop-block
+length_of-sum-requires-in-loop-block c = c.requires.named c.unwrap_or-node.result (omega (arith, c.requires.listed, low (goal.at.length_of-sum-requires-in-loop-block c).After-unwrap_or-node))
 
 pub overflow_add-sum : goal.overflow_add-sum
 overflow_add-sum c =
-    omega (arith, c.loop-block.invariant.sum, adds c, c.requires.small, counted_most c.args.data_alone c.args.stored.now.store (message_of c.args.blocks.now (ns c)))
+    let before = (goal.at.overflow_add-sum c).After-unwrap_or-node in
+    omega (
+      arith,
+      c.loop-block.invariant.sum,
+      adds c.args.data_alone c.args.stored.now.store c.args.blocks.now (ns before) c.loop-block._block c.unwrap_or-node.result (at before) c.length_of-sum-in-loop-block.result (c.length_of-sum-in-loop-block.ensures c.unwrap_or-node.result),
+      c.requires.small,
+      counted_most c.args.data_alone c.args.stored.now.store (message_of c.args.blocks.now (ns before)),
+    )
 
 pub loop-block-preserved : goal.loop-block-preserved
 loop-block-preserved c =
-    let before = (goal.at.loop-block-preserved c).After-length_of-sum in
-    let k = c.loop-block._block in
-    let next = c.next.ensures.value c.args.head k (at before) in
+    let before = (goal.at.loop-block-preserved c).After-unwrap_or-node in
     record {
-      at = λ there.
-          slice_get-get_or (ns before) (k + 1) (2 ^ 32 - 1) there
-          ∙ ap Some (sym (c.unwrap_or-node.ensures ∙ ap (λ o. unwrap_or o (2 ^ 32 - 1)) next ∙ unwrap_or-slice_get (ns before) (k + 1) (2 ^ 32 - 1)));
-      in_range = λ there. omega (arith, c.unwrap_or-node.ensures, below c.next.result (2 ^ 32 - 1) _ _ (next ∙ slice_get-get_or (ns before) (k + 1) 0 there) c.next.ensures.in_range);
-      sum = omega (arith, c.loop-block.invariant.sum, adds before);
+      begun = omega (arith, c.loop-block.invariant.begun);
+      at = ap (slice_get (ns before)) (omega arith) ∙ at before;
+      in_range = low before;
+      sum =
+          omega (
+            arith,
+            c.loop-block.invariant.sum,
+            adds c.args.data_alone c.args.stored.now.store c.args.blocks.now (ns before) c.loop-block._block c.unwrap_or-node.result (at before) c.length_of-sum-in-loop-block.result (c.length_of-sum-in-loop-block.ensures c.unwrap_or-node.result),
+          );
     }

@@ -1,14 +1,15 @@
-use Rattle.std.proofs.Common.{◌≡◌, ◌+◌, ◌<◌, Some, drop, length}
+use Rattle.std.proofs.Common.{◌≡◌, ◌+◌, ◌-◌, ◌≤◌, ◌<◌, Some, drop, length}
 use Rattle.std.specs.Prelude.{slice_get, sum_by}
 use Rattle.strm_links.specs.StrandLists.{strand_at}
 use Rattle.strm_mblk.specs.Block.{len_counted}
 use Rattle.strm_mblk.specs.BlocksLayout.{message_of}
 use Rattle.strm_mblk.proofs.blocks.reading.sum_of_lengths.Given as goal
 
--- the block at this step, if the message has so many; and what was summed up, which with what is to come is all
+-- the block before this step; and what was summed up, which with what is to come is all
 abbrev pub invariant-loop-block : goal.invariant-loop-block
 invariant-loop-block l = record {
-  at : l._block < length (strand_at l.strands l.head) → slice_get (strand_at l.strands l.head) l._block ≡ Some l.node;
-  in_range : l._block < length (strand_at l.strands l.head) → l.node < length l.strands.chains;
+  begun : 1 ≤ l._block;
+  at : slice_get (strand_at l.strands l.head) (l._block - 1) ≡ Some l.node;
+  in_range : l.node < length l.strands.chains;
   sum : l.sum + sum_by (len_counted l.data_alone l.stored.store) (drop l._block (message_of l.blocks (strand_at l.strands l.head))) ≡ sum_by (len_counted l.data_alone l.stored.store) (message_of l.blocks (strand_at l.strands l.head));
 }
