@@ -1,5 +1,7 @@
 //! A number or none, in one word.
 ghost use Rattle.std.specs.Prelude.{◌≡◌, ◌-◌, ◌^◌, ◌<◌, IsSome, is_none, if◌then◌else◌};
+ghost use Rattle.std.specs.Option.{ForSome};
+ghost use Rattle.strm_links.specs.Rows.{is_some_of};
 
 use std::marker::Model;
 
@@ -39,6 +41,25 @@ impl Slot {
         ensures { result ≡ Some number }
     {
         Slot { word: number }
+    }
+
+    /// This number, which is below `u32::MAX`, if there is one.
+    pub fn of(number: Option<u32>) -> Slot
+        requires { ForSome number (λ n. n < 2 ^ 32 - 1) }
+        ensures { result ≡ number }
+    {
+        match number {
+            Some(number) => Slot::some(number),
+            None => Slot::none(),
+        }
+    }
+
+    /// Whether it is this number, which is below `u32::MAX`.
+    pub fn is(self, number: u32) -> bool
+        requires { number < 2 ^ 32 - 1 }
+        ensures { result ≡ is_some_of number self }
+    {
+        self.word == number
     }
 
     /// The number, if there is one.

@@ -1,5 +1,6 @@
 -- What is stored of a queue's messages, and when it is true of them.
-use Rattle.std.specs.Prelude.{◌≡◌, ℕ, ◌+◌, ◌-◌, ◌<◌, ◌≤◌, Bool, true, false, nat_lt, List, length, replicate, slice_index_or, slice_set, Option, None, Some, is_some, if◌then◌else◌}
+use Rattle.std.specs.Prelude.{◌≡◌, ℕ, ◌+◌, ◌-◌, ◌^◌, ◌<◌, ◌≤◌, Bool, true, false, nat_lt, List, length, replicate, slice_index_or, slice_set, Option, None, Some, is_some, if◌then◌else◌}
+use Rattle.std.specs.Option.{ForSome}
 use Rattle.strm_data.specs.DataStore.{DataStore}
 use Rattle.strm_links.specs.Rows as rows
 use Rattle.strm_mblk.specs.Block.{Message}
@@ -64,6 +65,12 @@ pub record IsTallyOf (s : DataStore) (hiwat : ℕ → ℕ) (ms : List Message) (
   pub ends : AreEndsOf (rank_of s) ms t
 
 -- ---- one joins, one leaves
+
+-- its number and those beside it fit a word in which one value stands for none
+pub record IsNumbered (p : Placed) : Type 0 where
+  pub head : p.head < 2 ^ 32 - 1
+  pub ahead : ForSome p.ahead (λ k. k < 2 ^ 32 - 1)
+  pub behind : ForSome p.behind (λ k. k < 2 ^ 32 - 1)
 
 -- so many bytes are stored of a band, and whether it is full with them, by its high water mark
 abbrev pub with_count : ℕ → ℕ → ℕ → Tally → Tally

@@ -10,7 +10,7 @@ ghost use Rattle.strm_queue.specs.QueueSpecs.{are_lawful};
 ghost use Rattle.strm_queue.specs.QueuedBlocks.{Agrees, AreCountsTrue, AreMarksLawful, AreFullMarksTrue, opening_value, tally_at, with_tally};
 ghost use Rattle.strm_queue.specs.QueuesLayout.{new_queue};
 ghost use Rattle.strm_queue.specs.Rank.{is_ordered, rank_of};
-ghost use Rattle.strm_queue.specs.Tallies.{count_of, one_less, one_more, recounted};
+ghost use Rattle.strm_queue.specs.Tallies.{IsNumbered, count_of, one_less, one_more, recounted};
 
 mod asking;
 mod counts;
@@ -138,6 +138,7 @@ impl Queues {
     fn join(&mut self, queue: u8, placed: Placed)
         requires queue { queue < length self.old.state.specs }
         requires rank { placed.rank < ranks }
+        requires numbered { IsNumbered placed }
         requires len { (tally_at self.old queue).len + 1 < 2 ^ 32 }
         requires bytes { (tally_at self.old queue).bytes + placed.size < 2 ^ 32 }
         requires count { count_of (tally_at self.old queue) (band_of_rank placed.rank) + placed.size < 2 ^ 32 }
@@ -151,6 +152,7 @@ impl Queues {
     fn leave(&mut self, queue: u8, placed: Placed)
         requires queue { queue < length self.old.state.specs }
         requires rank { placed.rank < ranks }
+        requires numbered { IsNumbered placed }
         requires len { 1 ≤ (tally_at self.old queue).len }
         requires bytes { placed.size ≤ (tally_at self.old queue).bytes }
         requires count { placed.size ≤ count_of (tally_at self.old queue) (band_of_rank placed.rank) }

@@ -1,13 +1,14 @@
 //! What is stored of a queue's messages.
-ghost use Rattle.std.specs.Prelude.{◌≡◌, ◌+◌, ◌<◌, ◌≤◌, ◌^◌, ℕ, false, slice_set};
-ghost use Rattle.std.specs.Option.{IfNone, IfSome};
+ghost use Rattle.std.specs.Prelude.{◌≡◌, ◌+◌, ◌-◌, ◌<◌, ◌≤◌, ◌^◌, ℕ, false, slice_set};
+ghost use Rattle.std.specs.Option.{ForSome, IfNone, IfSome};
 ghost use Rattle.strm_queue.specs.Flow.{band_of_rank, has_band};
 ghost use Rattle.strm_queue.specs.Limits.{ranks};
-ghost use Rattle.strm_queue.specs.Tallies.{IsRankFrom, IsRankTo, count_of, end_joined, end_left, first_in, has_rank, last_in, no_tally, one_less, one_more, recounted, with_count, with_ends};
+ghost use Rattle.strm_queue.specs.Tallies.{IsNumbered, IsRankFrom, IsRankTo, count_of, end_joined, end_left, first_in, has_rank, last_in, no_tally, one_less, one_more, recounted, with_count, with_ends};
 
 use crate::band_set::BandSet;
 use crate::limits::{BANDS, HIGH_RANK, RANKS};
 use std::marker::Model;
+use strm_links::Slot;
 use strm_mblk::BlockNo;
 
 // A message as it stands on a queue: its head, its rank and its bytes, and the heads of the messages ahead of it and
@@ -29,8 +30,8 @@ pub(crate) struct Tally {
     bytes: u32,
     counts: [u32; BANDS],
     full: BandSet,
-    firsts: [Option<BlockNo>; RANKS],
-    lasts: [Option<BlockNo>; RANKS],
+    firsts: [Slot; RANKS],
+    lasts: [Slot; RANKS],
     used: BandSet,
 }
 
@@ -52,8 +53,8 @@ impl Tally {
             bytes: 0,
             counts: [0; BANDS],
             full: BandSet::new(),
-            firsts: [None; RANKS],
-            lasts: [None; RANKS],
+            firsts: [Slot::none(); RANKS],
+            lasts: [Slot::none(); RANKS],
             used: BandSet::new(),
         }
     }
@@ -98,7 +99,7 @@ impl Tally {
         requires { rank < ranks }
         ensures { result ≡ first_in self.now rank }
     {
-        self.firsts[usize::from(rank)]
+        self.firsts[usize::from(rank)].get()
     }
 
     // The head of the last message of a rank, if there is one.
@@ -106,7 +107,7 @@ impl Tally {
         requires { rank < ranks }
         ensures { result ≡ last_in self.now rank }
     {
-        self.lasts[usize::from(rank)]
+        self.lasts[usize::from(rank)].get()
     }
 
     // The smallest rank from this one on that has messages, if there is one.
@@ -140,6 +141,7 @@ impl Tally {
     // A message has joined.
     pub(crate) fn join(&mut self, hiwat: u32, placed: Placed)
         requires rank { placed.rank < ranks }
+        requires numbered { IsNumbered placed }
         requires len { self.old.len + 1 < 2 ^ 32 }
         requires bytes { self.old.bytes + placed.size < 2 ^ 32 }
         requires count { count_of self.old (band_of_rank placed.rank) + placed.size < 2 ^ 32 }
@@ -153,8 +155,8 @@ impl Tally {
             behind,
         } = placed;
         let band = band_of(rank);
-        let first = end_joined(self.first(rank), behind, head);
-        let last = end_joined(self.last(rank), ahead, head);
+        let first = end_joined(self.firsts[usize::from(rank)], behind, head);
+        let last = end_joined(self.lasts[usize::from(rank)], ahead, head);
         self.len += 1;
         self.bytes += size;
         self.set_count(hiwat, band, self.count(band) + size);
@@ -164,6 +166,7 @@ impl Tally {
     // A message has left.
     pub(crate) fn leave(&mut self, hiwat: u32, placed: Placed)
         requires rank { placed.rank < ranks }
+        requires numbered { IsNumbered placed }
         requires len { 1 ≤ self.old.len }
         requires bytes { placed.size ≤ self.old.bytes }
         requires count { placed.size ≤ count_of self.old (band_of_rank placed.rank) }
@@ -177,12 +180,14 @@ impl Tally {
             behind,
         } = placed;
         let band = band_of(rank);
-        let first = end_left(self.first(rank), self.last(rank), behind, head);
-        let last = end_left(self.last(rank), self.first(rank), ahead, head);
+        let first = self.firsts[usize::from(rank)];
+        let last = self.lasts[usize::from(rank)];
+        let next_first = end_left(first, last, behind, head);
+        let next_last = end_left(last, first, ahead, head);
         self.len -= 1;
         self.bytes -= size;
         self.set_count(hiwat, band, self.count(band) - size);
-        self.set_ends(rank, first, last);
+        self.set_ends(rank, next_first, next_last);
     }
 
     // A band has this high water mark.
@@ -201,7 +206,7 @@ impl Tally {
     }
 
     // Stores the first and the last message of a rank.
-    fn set_ends(&mut self, rank: u16, first: Option<BlockNo>, last: Option<BlockNo>)
+    fn set_ends(&mut self, rank: u16, first: Slot, last: Slot)
         requires { rank < ranks }
         ensures { self.new ≡ with_ends rank first last self.old }
     {
@@ -209,7 +214,7 @@ impl Tally {
         self.firsts[usize::from(rank)] = first;
         self.lasts[usize::from(rank)] = last;
         if rank < HIGH_RANK {
-            self.used.set(rank as u8, first.is_some());
+            self.used.set(rank as u8, first.get().is_some());
         }
     }
 }
@@ -222,26 +227,28 @@ pub(crate) fn band_of(rank: u16) -> u8
 }
 
 // An end of a rank once this message has joined it: it, where there was none, or where the end stands beside it.
-fn end_joined(end: Option<BlockNo>, beside: Option<BlockNo>, head: BlockNo) -> Option<BlockNo>
+fn end_joined(end: Slot, beside: Option<BlockNo>, head: BlockNo) -> Slot
+    requires { head < 2 ^ 32 - 1 }
     ensures { result ≡ end_joined end beside head }
 {
-    match end {
+    match end.get() {
         Some(at) if beside != Some(at) => end,
-        _ => Some(head),
+        _ => Slot::some(head),
     }
 }
 
 // An end of a rank, whose other end is given, once this message has left: the one beside it, where it was this end alone.
-fn end_left(
-    end: Option<BlockNo>,
-    other: Option<BlockNo>,
-    beside: Option<BlockNo>,
-    head: BlockNo,
-) -> Option<BlockNo>
+fn end_left(end: Slot, other: Slot, beside: Option<BlockNo>, head: BlockNo) -> Slot
+    requires head { head < 2 ^ 32 - 1 }
+    requires beside { ForSome beside (λ at. at < 2 ^ 32 - 1) }
     ensures { result ≡ end_left end other beside head }
 {
-    if end != Some(head) {
+    if !end.is(head) {
         return end;
     }
-    if other == Some(head) { None } else { beside }
+    if other.is(head) {
+        Slot::none()
+    } else {
+        Slot::of(beside)
+    }
 }

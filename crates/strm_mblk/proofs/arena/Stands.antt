@@ -1,8 +1,8 @@
 -- A message that stands on a shelf has one, and stands there once.
-use Rattle.std.proofs.Common.{◌≡◌, ℕ, zero, suc, ◌<◌, ◌≤◌, true, List, [], ◌∷◌, map, length, get_or, refl, ap, sym, ◌∙◌, inl, inr, arith}
-use Rattle.std.specs.Prelude.{count_by, is_some, nat_lt}
+use Rattle.std.proofs.Common.{◌≡◌, ℕ, zero, suc, ◌<◌, ◌≤◌, Bool, true, List, [], ◌∷◌, map, length, get_or, refl, ap, sym, ◌∙◌, inl, inr, arith}
+use Rattle.std.specs.Prelude.{count_by, is_some, nat_lt, if◌then◌else◌}
 use Rattle.std.specs.List.{All, flat_map, position_or_len}
-use Rattle.std.proofs.lemmas.Bool.{cases_lt, cond-true, lt-ltb, cases_eq, false_from_ne_true, false≢true}
+use Rattle.std.proofs.lemmas.Bool.{cases_lt, cond-true, le-ltb, lt-ltb, cases_eq, false_from_ne_true, false≢true}
 use Rattle.std.proofs.lemmas.List.{get_or_past}
 use Rattle.std.proofs.lemmas.List.Sums.{fails_before_first}
 use Rattle.strm_links.specs.Rows.{IsApart, has}
@@ -66,14 +66,25 @@ shelf_count (ms ∷ shelves) zero n = omega (arith, (count_adds (number_is n)).b
 shelf_count (ms ∷ shelves) (suc s) n =
     omega (arith, shelf_count shelves s n, (count_adds (number_is n)).both (flat_map (λ m. m) ms) (flat_map (flat_map (λ m. m)) shelves))
 
-pub heads_apart : (a : Arena) → IsParted a → (s : ℕ) → IsApart (heads_at a s)
-heads_apart a parted s =
-    once_apart (heads_at a s) (λ n. omega (
+-- and no number heads more messages of a shelf than it has blocks
+head_once : (a : Arena) → IsParted a → (s n : ℕ) → times n (heads_at a s) ≤ (if nat_lt n (length a.held) then 1 else 0)
+head_once a parted s n =
+    omega (
       arith,
       heads_count (shelf_at a s) n (parted.shelved s),
       shelf_count a.shelves s n,
       blocks_in_adds (count_adds (number_is n)) a,
       parted.blocks n,
       times-all n a,
-      one_most (nat_lt n (length a.held)),
-    ))
+    )
+
+pub heads_apart : (a : Arena) → IsParted a → (s : ℕ) → IsApart (heads_at a s)
+heads_apart a parted s = once_apart (heads_at a s) (λ n. omega (arith, head_once a parted s n, one_most (nat_lt n (length a.held))))
+
+-- a head on a shelf is the number of a block
+pub heads_room : (a : Arena) → IsParted a → (s n : ℕ) → has n (heads_at a s) ≡ true → n < length a.held
+heads_room a parted s n there =
+    elim (cases_lt n (length a.held)) [
+      | inl within ↦ within
+      | inr past ↦ absurd (omega (arith, times_has n (heads_at a s) there, head_once a parted s n, ap {B = ℕ} (λ (b : Bool). if b then 1 else 0) (le-ltb n (length a.held) past)))
+    ]

@@ -1,5 +1,5 @@
 -- What is stored of a queue's messages stays true where one of them joins or leaves.
-use Rattle.std.proofs.Common.{◌≡◌, ◌≢◌, ℕ, ◌+◌, ◌-◌, ◌<◌, ◌≤◌, ◌^◌, false, List, [], ◌∷◌, ◌++◌, length, get_or, set, Option, refl, sym, ap, ◌∙◌, inl, inr, arith, length-append, length-set, get_or-set_same, get_or-set_other, None, subst, true}
+use Rattle.std.proofs.Common.{◌≡◌, ◌≢◌, ℕ, ◌+◌, ◌-◌, ◌<◌, ◌≤◌, ◌^◌, false, List, [], ◌∷◌, ◌++◌, length, get_or, set, Option, refl, sym, ap, ◌∙◌, inl, inr, arith, length-append, length-set, get_or-set_same, get_or-set_other, None, Some, subst, true}
 use Rattle.std.specs.Prelude.{is_some}
 use Rattle.std.proofs.lemmas.Bool.{cases_eq, cond-false, cond-true, eq-eqb, lt-leb, ne_eqb}
 use Rattle.std.proofs.lemmas.List.{get_or-replicate, length-replicate}
@@ -9,13 +9,17 @@ use Rattle.strm_queue.specs.Flow.{band_count, band_of_rank, bytes_on, fills}
 use Rattle.strm_queue.specs.Limits.{bands, ranks}
 use Rattle.strm_queue.specs.declared.tally.Placed.{Placed}
 use Rattle.strm_queue.specs.Ends.{first_of_rank, last_of_rank, of_rank}
-use Rattle.strm_queue.specs.Tallies.{IsTallyOf, Tally, count_of, end_joined, end_left, first_in, last_in, no_tally, one_less, one_more, recounted, with_count, with_ends}
+use Rattle.strm_queue.specs.Tallies.{IsNumbered, IsTallyOf, Tally, count_of, end_joined, end_left, first_in, last_in, no_tally, one_less, one_more, recounted, with_count, with_ends}
 use Rattle.strm_queue.specs.Rank.{rank_of, is_ordered}
 use Rattle.strm_queue.proofs.Lists.{get_or-replicate_same}
 use Rattle.strm_queue.proofs.bands.Bands.{has_band_where, length-bands_where, length-every_band}
 use Rattle.strm_queue.proofs.counting.Counts.{band_count-left, band_of_rank_range, count_in, counted, bytes_on-left}
-use Rattle.strm_links.specs.Rows.{IsApart, first, last}
-use Rattle.strm_queue.proofs.shelf.OnShelf.{heads}
+use Rattle.strm_links.specs.Rows.{IsApart, first, has, last}
+use Rattle.strm_queue.proofs.shelf.OnShelf.{at_there, first_there, heads, last_there}
+use Rattle.strm_mblk.specs.Arena.{Arena, IsParted, shelf_at}
+use Rattle.strm_mblk.specs.Limits.{most_message_blocks}
+use Rattle.strm_mblk.proofs.arena.Stands.{heads_room}
+use Rattle.std.proofs.lemmas.List.{append_assoc}
 use Rattle.strm_queue.proofs.order.Ends.{first_joined, last_joined, first_left, last_left, of_rank-other}
 
 -- no message
@@ -49,6 +53,18 @@ pub record IsPlaced (s : DataStore) (pre post : List Message) (m : Message) (p :
   pub ahead : p.ahead ≡ last (heads pre)
   pub behind : p.behind ≡ first (heads post)
   pub few : p.rank < ranks
+
+-- its number and those beside it are numbers of blocks, which are few
+pub numbered : (a : Arena) → IsParted a → length a.held ≤ most_message_blocks → (q : ℕ) (s : DataStore) (pre post : List Message) (m : Message) (p : Placed) → shelf_at a q ≡ pre ++ m ∷ post → IsPlaced s pre post m p
+    → IsNumbered p
+numbered a parted few q s pre post m p is placed = record {
+  head = low p.head (at_there p.head pre post m (sym placed.head));
+  ahead = λ k at. low k (last_there k pre (m ∷ post) (sym placed.ahead ∙ at));
+  behind = λ k at. low k (ap (λ ms. has k (heads ms)) (sym (append_assoc pre (m ∷ []) post)) ∙ first_there k (pre ++ m ∷ []) post (sym placed.behind ∙ at));
+}
+  where
+    low : (k : ℕ) → has k (heads (pre ++ m ∷ post)) ≡ true → k < 2 ^ 32 - 1
+    low k there = omega (arith, few, heads_room a parted q k (ap (λ ms. has k (heads ms)) is ∙ there))
 
 -- what stands in a list where one was set
 at_set : {X : Type 0} (f : ℕ → X) (xs : List X) (k : ℕ) (v d : X) → k < length xs → v ≡ f k → (x : ℕ) → (x ≢ k → get_or xs x d ≡ f x) → get_or (set xs k v) x d ≡ f x

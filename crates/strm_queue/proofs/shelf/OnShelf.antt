@@ -4,8 +4,8 @@ use Rattle.std.specs.Prelude.{filter, slice_get}
 use Rattle.std.proofs.lemmas.Bool.{cond-true, cond-false, eq-eqb, ne_eqb, false≢true, not_from_true, not_from_false}
 use Rattle.std.proofs.lemmas.List.{map-append, append-nil}
 use Rattle.std.proofs.lemmas.Option.{none-some, same_Some}
-use Rattle.strm_links.specs.Rows.{IsApart, after, before, first, has, last, last_or}
-use Rattle.strm_links.proofs.lists.OneList.{absent_around, absent_parts, after-at, before-at, has_cases, has_head, has_right, last_some}
+use Rattle.strm_links.specs.Rows.{IsApart, after, before, first, has, is_some_of, last, last_or}
+use Rattle.strm_links.proofs.lists.OneList.{absent_around, absent_parts, after-at, before-at, has_cases, has_head, has_left, has_right, last_has, last_some}
 use Rattle.strm_mblk.specs.Arena.{Arena, shelf_at, with_held, with_shelf}
 use Rattle.strm_mblk.specs.Block.{Message, head_of}
 use Rattle.strm_mblk.specs.Messages.{put_before_head, without_head}
@@ -77,6 +77,11 @@ first_of h (x ∷ xs) is = record { at = x; post = xs; is = refl; head = same_So
 pub first_there : (h : ℕ) (pre post : List Message) → first (heads post) ≡ Some h → has h (heads (pre ++ post)) ≡ true
 first_there h pre [] is = absurd (none-some h is)
 first_there h pre (x ∷ xs) is = ap (has h) (heads-append pre (x ∷ xs)) ∙ has_right h (heads pre) (heads (x ∷ xs)) (has_head (head_of x) h (heads xs) (same_Some _ _ is))
+
+-- and so does the last before it
+pub last_there : (h : ℕ) (pre post : List Message) → last (heads pre) ≡ Some h → has h (heads (pre ++ post)) ≡ true
+last_there h pre post is =
+    ap (has h) (heads-append pre post) ∙ has_left h (heads pre) (heads post) (last_has (heads pre) h (ap (is_some_of h) is ∙ eq-eqb h h refl))
 
 -- so does a message at a place
 pub at_there : (h : ℕ) (pre post : List Message) (x : Message) → head_of x ≡ h → has h (heads (pre ++ x ∷ post)) ≡ true

@@ -14,7 +14,7 @@ use Rattle.strm_queue.proofs.agreeing.Agreeing.{in_order_put}
 use Rattle.strm_queue.proofs.counting.Counts.{bytes_fit}
 use Rattle.strm_queue.proofs.order.Ranks.{rank_of-queued, size_of-queued, head_of-queued}
 use Rattle.strm_queue.proofs.moving.Shelve.{few_on_shelf, shelve_high, shelve_low}
-use Rattle.strm_queue.proofs.counting.Tallies.{joins_all, joins_few, IsPlaced}
+use Rattle.strm_queue.proofs.counting.Tallies.{joins_all, joins_few, numbered, IsPlaced}
 use Rattle.strm_queue.proofs.queues.Queues.shelve.Goals as goal
 use Rattle.strm_queue.proofs.queues.Queues.shelve.Goals.{After-lawful-2, then-rank-eq-HIGH_RANK, else-rank-eq-HIGH_RANK}
 use Rattle.strm_links.specs.Rows.{IsApart}
@@ -75,6 +75,11 @@ placed c = record {
   behind = (sides c).at;
   few = c.requires.few;
 }
+
+pub join-requires-clause-numbered : goal.join-requires-clause-numbered
+join-requires-clause-numbered c =
+    let at = (goal.at.join-requires-clause-numbered c).After-lawful-2 in
+    numbered c.shelve.new.self c.lawful-2.ensures.parted c.lawful-2.ensures.few c.args.queue c.args.blocks.now.store (sides at).pre (sides at).post (m at) (own at) (here at) (placed at)
 
 -- what is stored is true of the queue without it
 true_of : (c : After-lawful-2) → IsTallyOf c.args.blocks.now.store (hiwat_of c.args.self.now.state c.args.queue) ((sides c).pre ++ (sides c).post) (tally_at c.args.self.now c.args.queue)

@@ -11,7 +11,7 @@ use Rattle.strm_queue.specs.Tallies.{IsTallyOf}
 use Rattle.strm_queue.proofs.shelf.Across.{shelved_message-at}
 use Rattle.strm_queue.proofs.agreeing.Agreeing.{in_order_got}
 use Rattle.strm_queue.proofs.shelf.OnShelf.{Parts, parts_of, unshelved, heads, after-head, before-head}
-use Rattle.strm_queue.proofs.counting.Tallies.{leaves_all, leaves_enough, leaves_some, IsPlaced}
+use Rattle.strm_queue.proofs.counting.Tallies.{leaves_all, leaves_enough, leaves_some, numbered, IsPlaced}
 use Rattle.strm_queue.proofs.queues.Queues.unshelve.Goals as goal
 use Rattle.strm_queue.proofs.queues.Queues.unshelve.Goals.{After-after}
 use Rattle.strm_links.specs.Rows.{IsApart, after, before}
@@ -61,6 +61,11 @@ before-requires c = shelf_of-there c.args.blocks.now c.args.queue c.args.head c.
 
 pub after-requires : goal.after-requires
 after-requires c = shelf_of-there c.args.blocks.now c.args.queue c.args.head c.requires.there
+
+pub leave-requires-clause-numbered : goal.leave-requires-clause-numbered
+leave-requires-clause-numbered c =
+    let at = (goal.at.leave-requires-clause-numbered c).After-after in
+    numbered c.args.blocks.now c.lawful.ensures.parted c.lawful.ensures.few c.args.queue c.args.blocks.now.store (parts at).pre (parts at).post (parts at).at (own at) (parts at).is (placed at)
 
 pub leave-requires-clause-len : goal.leave-requires-clause-len
 leave-requires-clause-len c =
