@@ -213,14 +213,12 @@ fn free_lists(alloc: Global, specs: &[ClassSpec]) -> Result<Stacks, AllocError>
 fn add_blocks(blocks: &mut Vec<DataBlock>, class: u8, count: u32) -> Result<(), AllocError>
     ensures { OnOk result (blocks.new.items ≡ blocks.old.items ++ replicate count (record { class = class; kind = MData; names = 0 })) }
 {
-    for _block in 0..count {
-        blocks.push(DataBlock {
-            class,
-            kind: MsgType::MData,
-            names: 0,
-        })?;
-    }
-    Ok(())
+    let block = DataBlock {
+        class,
+        kind: MsgType::MData,
+        names: 0,
+    };
+    blocks.resize(blocks.len() + count as usize, block)
 }
 
 impl Data {

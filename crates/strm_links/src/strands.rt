@@ -97,25 +97,6 @@ impl Span {
     }
 }
 
-impl Node {
-    // A free node of so many, which leads on to the node of the next number, if there is one.
-    #[inline(always)]
-    fn free(number: u32, nodes: u32) -> Node
-        requires { number < nodes }
-        ensures { result ≡ free_node nodes number }
-    {
-        let next = number + 1;
-        Node {
-            next: if next < nodes {
-                Slot::some(next)
-            } else {
-                Slot::none()
-            },
-            span: Span::none(),
-        }
-    }
-}
-
 // Lets a node lead on to `next`.
 #[inline(always)]
 fn lead(nodes: &mut Vec<Node>, at: u32, next: Slot)
@@ -210,9 +191,12 @@ fn reverse_links(nodes: &mut Vec<Node>, head: u32, len: u32, beyond: Slot) -> Re
 fn free_nodes(alloc: Global, nodes: u32) -> Result<Vec<Node>, AllocError>
     ensures { IfOk result (λ v. v.items ≡ map (free_node nodes) (range_with_len 0 nodes)) }
 {
-    let mut free = Vec::with_capacity(alloc, nodes as usize)?;
-    for number in 0..nodes {
-        free.push(Node::free(number, nodes))?;
+    let mut free = vec![in alloc; Node {
+        next: Slot::none(),
+        span: Span::none()
+    }; nodes as usize]?;
+    for number in 1..nodes {
+        free[(number - 1) as usize].next = Slot::some(number);
     }
     Ok(free)
 }
