@@ -116,7 +116,8 @@ pub(super) fn fits_before(blocks: &Blocks, queue: u8, before: Option<BlockNo>, r
 
 impl Queues {
     // The head of the message before which one of this rank stands behind its equals, or none where it is last: it is
-    // the one behind the last message of the smallest rank from this one on that has messages, or else the first.
+    // the one behind the last message of the smallest rank from this one on that has messages, or else the first. Often
+    // the queue is empty, and then no rank is looked for.
     pub(super) fn place_behind(&self, blocks: &Blocks, queue: u8, rank: u16) -> Option<BlockNo>
         requires queue { queue < length self.now.state.specs }
         requires rank { rank < ranks }
@@ -127,6 +128,9 @@ impl Queues {
     {
         blocks.lawful();
         let tally = self.tally(queue);
+        if tally.len() == 0 {
+            return None;
+        }
         match tally.rank_at_least(rank) {
             Some(found) => {
                 let Some(last) = tally.last(found) else {
