@@ -128,7 +128,7 @@ fn place_of(classes: &[Class], blocks: &[DataBlock], number: DataNo, at: u32) ->
 }
 
 // Copies so many bytes of a region from a place to another. Those of two data blocks lie apart, and are copied as those of two
-// regions are.
+// regions are, all at once: `copy_within`, which serves places that overlap too, goes byte by byte.
 #[inline(always)]
 fn copy_inside(region: &mut [u8], from: usize, into: usize, len: usize)
     requires there { from + len ≤ length region.old }

@@ -5,9 +5,9 @@ ghost use Rattle.strm_links.specs.Rows.{is_some_of};
 
 use std::marker::Model;
 
-/// The number of a node or of a list, or none.
+/// A number below `u32::MAX`, as that of a node or of a list, or none.
 ///
-/// One 32-bit word: `u32::MAX`, which numbers no node and no list, stands for none.
+/// One 32-bit word, in which `u32::MAX` stands for none.
 #[derive(Clone, Copy, Debug)]
 pub struct Slot {
     word: u32,

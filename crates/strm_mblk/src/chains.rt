@@ -111,8 +111,8 @@ impl Chains {
         self.strands.next(node)
     }
 
-    // The message block behind this one in its message, or where it is the last `u32::MAX`, which numbers none: as that word
-    // stands for none in a link too, nothing is asked.
+    // The message block behind this one in its message. Where it is the last, the number says nothing: it is `u32::MAX`, the
+    // word that stands for none in a link, so that nothing is asked.
     #[inline(always)]
     pub(crate) fn onward(&self, node: u32) -> u32
         requires { node < length self.now.held }

@@ -66,7 +66,7 @@ pub record IsTallyOf (s : DataStore) (hiwat : ℕ → ℕ) (ms : List Message) (
 
 -- ---- one joins, one leaves
 
--- its number and those beside it fit a word in which one value stands for none
+-- the heads of the message and of those beside it are numbers that a `Slot` holds
 pub record IsNumbered (p : Placed) : Type 0 where
   pub head : p.head < 2 ^ 32 - 1
   pub ahead : ForSome p.ahead (λ k. k < 2 ^ 32 - 1)

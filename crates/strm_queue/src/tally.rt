@@ -8,6 +8,7 @@ ghost use Rattle.strm_queue.specs.Tallies.{IsNumbered, IsRankFrom, IsRankTo, cou
 use crate::band_set::BandSet;
 use crate::limits::{BANDS, HIGH_RANK, RANKS};
 use std::marker::Model;
+use std::mem::size_of;
 use strm_links::Slot;
 use strm_mblk::BlockNo;
 
@@ -34,6 +35,8 @@ pub(crate) struct Tally {
     lasts: [Slot; RANKS],
     used: BandSet,
 }
+
+const _: () = prove!(size_of::<Tally>() == 3152);
 
 impl Model for Tally {
     ghost use Rattle.strm_queue.specs.Tallies.{Tally};

@@ -1,5 +1,5 @@
 -- Nodes behind the first of a chain become free, the last in front.
-use Rattle.std.proofs.Common.{◌≡◌, ◌≢◌, ℕ, suc, ◌+◌, ◌-◌, ◌<◌, ◌≤◌, true, false, ◌==◌, List, [], ◌∷◌, ◌++◌, length, reverse, set, take, drop, Option, Some, None, IsSome, if◌then◌else◌, refl, sym, ap, ◌∙◌, subst, arith, length-append}
+use Rattle.std.proofs.Common.{◌≡◌, ◌≢◌, ℕ, ◌+◌, ◌-◌, ◌<◌, ◌≤◌, true, false, ◌==◌, List, [], ◌∷◌, ◌++◌, length, reverse, set, take, drop, Option, Some, None, IsSome, if◌then◌else◌, refl, sym, ap, ◌∙◌, subst, arith, length-append}
 use Rattle.std.specs.Prelude.{is_none}
 use Rattle.std.proofs.lemmas.Bool.{false_from_ne_true, false≢true}
 use Rattle.std.proofs.lemmas.List.{length-drop, length-reverse, length-take-le, set-get_or, take-append-drop}
@@ -12,7 +12,7 @@ use Rattle.strm_links.specs.StrandLists.{StrandLists, strand_at, with_behind_fre
 use Rattle.strm_links.specs.StrandLayout.{IsLaid, IsStrand, next_at, onward, path, span_at}
 use Rattle.strm_links.specs.declared.strands.Node.{Node}
 use Rattle.strm_links.proofs.lists.ListLinks.{LeadsOn-kept, LeadsOn-parts, walk_is}
-use Rattle.strm_links.proofs.lists.Counting.{times-append, times-reverse}
+use Rattle.strm_links.proofs.lists.Counting.{split_behind, times-append, times-reverse}
 use Rattle.strm_links.proofs.lists.Chains.{Changes-one, times-set}
 use Rattle.strm_links.proofs.lists.OneList.{ApartParts, IsApart-parts, differ, first_or-append, has_left, has_right, has_tail}
 use Rattle.strm_links.proofs.chaining.ChainLinks.{last_without, onward-end, LeadsOn-append}
@@ -22,14 +22,6 @@ use Rattle.strm_links.proofs.chaining.Moves.{IsLaid-moved, Moves, apart_from, un
 use Rattle.strm_links.proofs.chaining.Parts.{not_in_other, not_in_strand, strand_apart, strand_low}
 
 -- ---- the parts of a list
-
--- the first, so many behind it, and the others
-split_behind : (xs : List ℕ) (h n : ℕ) → first xs ≡ Some h → xs ≡ h ∷ (take n (drop 1 xs) ++ drop (n + 1) xs)
-split_behind [] h n is = absurd (none-some h is)
-split_behind (x ∷ xs) h n is = λ i. same_Some x h is i ∷ (sym (take-append-drop n xs) ∙ ap (λ j. take n xs ++ drop j (x ∷ xs)) more) i
-  where
-    more : suc n ≡ n + 1
-    more = omega arith
 
 first_alone : (xs : List ℕ) (h : ℕ) → first xs ≡ Some h → take 1 xs ≡ h ∷ []
 first_alone [] h is = absurd (none-some h is)
@@ -160,7 +152,7 @@ module _ (nodes : List Node) (first_free : Option ℕ) (free_len : ℕ) (v : Str
     rest_of = drop (count + 1) (strand_at v h)
 
     split : strand_at v h ≡ h ∷ (out_of ++ rest_of)
-    split = split_behind (strand_at v h) h count begins
+    split = split_behind (strand_at v h) count ∙ ap (λ xs. xs ++ (out_of ++ rest_of)) (first_alone (strand_at v h) h begins)
 
     pub behind_count : length out_of ≡ count
     behind_count = length-take-le count (drop 1 (strand_at v h)) (omega (arith, within, length-drop 1 (strand_at v h)))

@@ -1,7 +1,7 @@
 -- The nodes of a chain become free, the last in front.
 use Rattle.std.proofs.Common.{◌≡◌, ◌≢◌, ℕ, suc, ◌+◌, ◌<◌, ◌≤◌, true, false, ◌==◌, List, [], ◌∷◌, ◌++◌, length, reverse, get_or, set, take, drop, Option, Some, None, IsSome, if◌then◌else◌, refl, sym, ap, ◌∙◌, subst, inl, inr, arith, length-append, length-set, drop-cons, get_or-set_same, get_or-set_other}
 use Rattle.std.proofs.lemmas.Bool.{cases_eq, false≢true}
-use Rattle.std.proofs.lemmas.List.{get_or_read, drop_all, length-reverse, reverse-append, take_all, take_more}
+use Rattle.std.proofs.lemmas.List.{drop_all, get_or_read, length-reverse, reverse-append, take_all, take_more}
 use Rattle.std.proofs.lemmas.Option.{none-some}
 use Rattle.strm_links.specs.Rows.{has, IsApart, first, first_or, last}
 use Rattle.strm_links.specs.Layout.{LeadsOn}

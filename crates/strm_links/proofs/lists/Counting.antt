@@ -1,10 +1,10 @@
 -- How often a number stands in a list, and what that says of the list. For callers too.
-use Rattle.std.proofs.Common.{◌≡◌, ◌≢◌, ℕ, zero, suc, ◌+◌, zero-add, ◌<◌, ◌≤◌, Bool, true, false, not, ◌&&◌, ◌==◌, List, [], ◌∷◌, ◌++◌, length, get_or, drop, map, reverse, sum_by, if◌then◌else◌, refl, sym, ap, ◌∙◌, inl, inr, arith}
+use Rattle.std.proofs.Common.{◌≡◌, ◌≢◌, ℕ, zero, suc, ◌+◌, zero-add, ◌<◌, ◌≤◌, Bool, true, false, not, ◌&&◌, ◌==◌, List, [], ◌∷◌, ◌++◌, length, get_or, drop, take, map, reverse, sum_by, if◌then◌else◌, refl, sym, ap, ◌∙◌, inl, inr, arith}
 use Rattle.std.specs.Prelude.{nat_lt, nat_le}
 use Rattle.std.specs.List.{range_with_len}
 use Rattle.std.proofs.lemmas.Bool.{cases_Bool, cases_eq, cond-true, cond-false, eq-eqb, ne_eqb, false≢true, false_from_ne_true, not_from_true, not_from_false, lt-ltb, le-ltb}
 use Rattle.std.proofs.lemmas.Bool.Decides.{nat_tests}
-use Rattle.std.proofs.lemmas.List.{reverse-append}
+use Rattle.std.proofs.lemmas.List.{drop-drop, reverse-append, take-append-drop}
 use Rattle.std.proofs.lemmas.List.FromFn.{sum_by-map-range_with_len_more}
 use Rattle.std.proofs.lemmas.List.Filters.{length-filter_both}
 use Rattle.std.proofs.lemmas.List.Sums.{length-filter, sum_by-cons, sum_by-append}
@@ -19,6 +19,19 @@ times-cons n x xs = sum_by-cons (λ y. if y == n then 1 else 0) x xs
 
 pub times-append : (n : ℕ) (xs ys : List ℕ) → times n (xs ++ ys) ≡ times n xs + times n ys
 times-append n xs ys = sum_by-append (λ y. if y == n then 1 else 0) xs ys
+
+-- a list is its first, so many behind it, and the others
+pub split_behind : (xs : List ℕ) (n : ℕ) → xs ≡ take 1 xs ++ (take n (drop 1 xs) ++ drop (n + 1) xs)
+split_behind xs n =
+    let one_more : 1 + n ≡ n + 1 = omega arith in
+    sym (take-append-drop 1 xs) ∙ ap (λ ys. take 1 xs ++ ys) (sym (take-append-drop n (drop 1 xs)) ∙ ap (λ ys. take n (drop 1 xs) ++ ys) (drop-drop n 1 xs ∙ ap (λ k. drop k xs) one_more))
+
+-- a part of a list has a number no more often
+pub times-take : (n k : ℕ) (xs : List ℕ) → times n (take k xs) ≤ times n xs
+times-take n k xs = omega (arith, times-append n (take k xs) (drop k xs), ap (times n) (take-append-drop k xs))
+
+pub times-drop : (n k : ℕ) (xs : List ℕ) → times n (drop k xs) ≤ times n xs
+times-drop n k xs = omega (arith, times-append n (take k xs) (drop k xs), ap (times n) (take-append-drop k xs))
 
 pub times_here : (n x : ℕ) (xs : List ℕ) → x ≡ n → times n (x ∷ xs) ≡ 1 + times n xs
 times_here n x xs same = times-cons n x xs ∙ ap (λ m. m + times n xs) (cond-true _ 1 0 (eq-eqb x n same))

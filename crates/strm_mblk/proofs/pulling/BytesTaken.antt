@@ -1,10 +1,10 @@
 -- Bytes are taken from the blocks behind the first of a message: what they say then, and the names that are dropped.
 use Rattle.std.proofs.Common.{◌≡◌, ℕ, suc, ◌+◌, ◌-◌, ◌<◌, ◌≤◌, false, List, [], ◌∷◌, length, set, Some, refl, sym, ap, ◌∙◌, arith}
 use Rattle.std.specs.Prelude.{drop, option_map, slice_get, take}
-use Rattle.std.proofs.lemmas.List.{drop-map, drop_all, length-drop, length-map, length-take, take-append-drop}
+use Rattle.std.proofs.lemmas.List.{drop-map, drop_all, length-drop, length-map, length-take}
 use Rattle.strm_data.specs.CountedStore.{CountedStore, count_of, without_name}
 use Rattle.strm_data.specs.DataStore.{times}
-use Rattle.strm_links.proofs.lists.Counting.{times-append}
+use Rattle.strm_links.proofs.lists.Counting.{times-drop, times-take}
 use Rattle.strm_mblk.specs.declared.blocks.Fields.{Fields}
 use Rattle.strm_mblk.specs.Block.{Block, size_of}
 use Rattle.strm_mblk.specs.BlocksLayout.{block_at, fields_at, message_of, named_by, with_names_dropped}
@@ -16,13 +16,6 @@ use Rattle.strm_mblk.proofs.lists.ListParts.{drop_from}
 use Rattle.strm_mblk.proofs.lists.Numbers.{slice_get-take}
 use Rattle.strm_mblk.proofs.pulling.Taken.{IsTaking, done_taking, end_taking, more_used, next_taking, part_taking, start_taking}
 use Rattle.strm_mblk.proofs.trimming.Cutting.{cut_none}
-
--- a number stands in the first of a list no more often than in all
-times-take : (d k : ℕ) (xs : List ℕ) → times d (take k xs) ≤ times d xs
-times-take d k xs = omega (arith, times-append d (take k xs) (drop k xs), ap (times d) (take-append-drop k xs))
-
-pub times-drop : (d k : ℕ) (xs : List ℕ) → times d (drop k xs) ≤ times d xs
-times-drop d k xs = omega (arith, times-append d (take k xs) (drop k xs), ap (times d) (take-append-drop k xs))
 
 -- what stands behind the first
 get_behind : (ns : List ℕ) (i : ℕ) → slice_get (drop 1 ns) i ≡ slice_get ns (i + 1)

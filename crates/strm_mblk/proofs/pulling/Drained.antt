@@ -2,10 +2,10 @@
 use Rattle.std.proofs.Common.{◌≡◌, ℕ, ◌+◌, ◌-◌, ◌<◌, ◌≤◌, false, ◌==◌, List, [], ◌∷◌, ◌++◌, length, Some, refl, sym, ap, ◌∙◌, subst, inl, inr, arith, if◌then◌else◌}
 use Rattle.std.specs.Prelude.{count_by, drop, take}
 use Rattle.std.proofs.lemmas.Bool.{cases_Bool}
-use Rattle.std.proofs.lemmas.List.{drop-drop, drop-map, map-append, set-set, take-append-drop, take-map}
+use Rattle.std.proofs.lemmas.List.{drop-drop, drop-map, map-append, set-set, take-map}
 use Rattle.strm_data.specs.CountedStore.{CountedStore, IsKept}
 use Rattle.strm_data.specs.DataStore.{times, with_data_freed}
-use Rattle.strm_links.proofs.lists.Counting.{times-append, times_here}
+use Rattle.strm_links.proofs.lists.Counting.{split_behind, times-append, times-drop, times_here}
 use Rattle.strm_mblk.specs.declared.blocks.Fields.{Fields}
 use Rattle.strm_mblk.specs.Arena.{Arena, message_at, names_of, shelved_blocks}
 use Rattle.strm_mblk.specs.Block.{Block, is_naming, size_of}
@@ -23,7 +23,7 @@ use Rattle.strm_mblk.proofs.chaining.Standing.{begins_with}
 use Rattle.strm_mblk.proofs.freeing.Freemsg.{IsFreed, frees_some}
 use Rattle.strm_mblk.proofs.layout.Rewriting.{AreRewritten, alike_apart, message_filled, message_shows, once_within, within_room}
 use Rattle.strm_mblk.proofs.layout.Shown.{message-alike, message_at-seen}
-use Rattle.strm_mblk.proofs.pulling.BytesTaken.{AreTaken, times-drop}
+use Rattle.strm_mblk.proofs.pulling.BytesTaken.{AreTaken}
 use Rattle.strm_mblk.proofs.pulling.Taken.{left_others, used_first}
 use Rattle.strm_mblk.proofs.trimming.Cutting.{cut_apart, cut_named, cut_placed, length-cut, message_cut}
 
@@ -79,12 +79,6 @@ freed_id [] a = refl
 freed_id (b ∷ bs) a = freed_id bs (with_block_freed b bs a)
 
 -- ---- what lies behind it
-
--- the first of a list, so many behind it, and the others
-split_behind : (ns : List ℕ) (i : ℕ) → ns ≡ take 1 ns ++ (take i (drop 1 ns) ++ drop (i + 1) ns)
-split_behind ns i =
-    let one_more : 1 + i ≡ i + 1 = omega arith in
-    sym (take-append-drop 1 ns) ∙ ap (λ xs. take 1 ns ++ xs) (sym (take-append-drop i (drop 1 ns)) ∙ ap (λ xs. take i (drop 1 ns) ++ xs) (drop-drop i 1 ns ∙ ap (λ k. drop k ns) one_more))
 
 -- blocks that name what they named
 named-same : (old new : List Fields) → ((n : ℕ) → (fields_at new n).data_number ≡ (fields_at old n).data_number) → (ns : List ℕ) → named_by new ns ≡ named_by old ns

@@ -68,8 +68,8 @@ fn copy_front(
     }
 }
 
-// Takes so many bytes from the blocks behind the first of a held message. Takes the names away that those have given
-// whose bytes are all taken, and says how many these are.
+// Takes so many bytes from the blocks behind the first of a held message. The data block of each that is used up loses a
+// name, and the answer is how many are used up: they stay in the message.
 fn take_bytes(
     chains: &Chains,
     blocks: &mut [Fields],

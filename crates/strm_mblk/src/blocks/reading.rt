@@ -34,6 +34,7 @@ pub(super) fn sum_of_lengths(
     requires { IsSummable strands.now blocks.now stored.now.store head }
     ensures { result ≡ sum_by (len_counted data_alone stored.now.store) (message_of blocks.now (strand_at strands.now head)) }
 {
+    // Each step has a block to go to, and what would stand for none is never read: so nothing is asked.
     let mut sum = length_of(stored, blocks[head as usize], data_alone);
     let mut node = head;
     for _block in 1..strands.len(head) {
