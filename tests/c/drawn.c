@@ -43,17 +43,17 @@ static uint32_t drawn_band(void)
 struct setup {
 	struct strm_config config;
 	struct strm_class_spec classes[3];
-	struct strm_queue_spec queues[5];
+	struct strm_queue_spec queues[STRM_MOST_QUEUES];
 };
 
 static void draw_setup(struct setup *setup, uint32_t id)
 {
-	uint32_t i, size = 0;
+	uint32_t i, size = 0, chained = 1 + below(8);
 
 	setup->config.id = id;
 	setup->config.mblks = 1 + below(40);
 	setup->config.class_count = 1 + below(3);
-	setup->config.queue_count = 1 + below(5);
+	setup->config.queue_count = 1 + below(below(4) > 0 ? 5 : STRM_MOST_QUEUES);
 	setup->config.bufcalls = below(5);
 	setup->config.first_id = below(8) == 0 ? 4294967290u : 1 + below(100);
 	setup->config.classes = setup->classes;
@@ -67,7 +67,7 @@ static void draw_setup(struct setup *setup, uint32_t id)
 		setup->queues[i].hiwat = 1 + below(30);
 		setup->queues[i].lowat = below(setup->queues[i].hiwat);
 		setup->queues[i].service = below(3) > 0;
-		setup->queues[i].next = i + 1 < setup->config.queue_count && below(3) > 0 ? i + 1 : STRM_NO_QUEUE;
+		setup->queues[i].next = i + 1 < setup->config.queue_count && below(chained) > 0 ? i + 1 : STRM_NO_QUEUE;
 	}
 }
 

@@ -12,16 +12,11 @@ use strm_mblk::{Blocks, Rejected, Token};
 use strm_queue::{BANDS, QueueSpec, Queues};
 
 mod bench;
-mod plain;
 mod reading;
 mod rows;
-mod runs;
 
 // The rank of high priority messages: each band is a rank, and this one is above them.
 const HIGH_RANK: u16 = BANDS as u16;
-
-// The ranks of messages, numbered from 0.
-const RANKS: usize = HIGH_RANK as usize + 1;
 
 // A queue with a service procedure, and no next one.
 const QUEUE: QueueSpec = QueueSpec {
@@ -152,17 +147,6 @@ fn duplicated(rt: &impl Abort, queues: &Queues, blocks: &mut Blocks, token: &Tok
         Ok(copy) => copy,
         Err(why) => panic!(rt; "{why:?}"),
     }
-}
-
-// Puts a message behind another.
-#[tactic(auto, using(strm_queue::proofs::agreeing::Agreeing::agrees_left))]
-fn linked(queues: &Queues, blocks: &mut Blocks, message: &mut Token, tail: Token)
-    requires agrees { Agrees queues.now blocks.old }
-    requires head { IsTrue (has blocks.old message.old) }
-    requires tail { IsTrue (has blocks.old tail) }
-    ensures { Agrees queues.now blocks.new }
-{
-    blocks.linkb(message, tail);
 }
 
 // Frees a message.

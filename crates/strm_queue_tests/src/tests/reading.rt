@@ -4,11 +4,9 @@ ghost use Rattle.std.specs.Option.{ForSome};
 ghost use Rattle.strm_mblk.specs.Shelves.{stands_on};
 ghost use Rattle.strm_queue.specs.QueuedBlocks.{Agrees};
 
-use crate::tests::HIGH_RANK;
-use crate::tests::plain::Entry;
 use std::process::Abort;
 use strm_mblk::{BlockNo, Blocks};
-use strm_queue::{BANDS, Queues};
+use strm_queue::Queues;
 
 // The head of the first message.
 fn first(blocks: &Blocks, queue: u8) -> Option<BlockNo>
@@ -45,94 +43,45 @@ fn ahead(blocks: &Blocks, queue: u8, head: BlockNo) -> Option<BlockNo>
     next
 }
 
-// The rank of the message with this head.
-fn rank(blocks: &Blocks, queue: u8, head: BlockNo) -> u16
-    requires { IsTrue (stands_on blocks.now queue head) }
-{
-    if blocks.head_kind(head).is_high_priority() {
-        HIGH_RANK
-    } else {
-        u16::from(blocks.head_band(head))
-    }
-}
-
-// How many bytes the message with this head has.
-fn size(blocks: &Blocks, queue: u8, head: BlockNo) -> u32
-    requires { IsTrue (stands_on blocks.now queue head) }
-{
-    blocks.head_size(head)
-}
-
-// How many bytes each band of a queue has, of so many messages, front to back. They stand in priority order, and read
-// alike both ways.
-pub(super) fn counted(rt: &impl Abort, blocks: &Blocks, queue: u8, messages: u32) -> [u32; BANDS]
-    requires { queue < length blocks.now.shelves }
-{
-    let mut counts = [0u32; BANDS];
-    let mut passed = (HIGH_RANK, None);
-    let mut at = first(blocks, queue);
-    for _message in 0..messages {
-        let Some(head) = at else {
-            panic!(rt; "too few messages");
-        };
-        let rank = rank(blocks, queue, head);
-        assert!(rt; rank <= passed.0);
-        assert_eq!(rt; ahead(blocks, queue, head), passed.1);
-        let band = usize::from(u8::try_from(rank).unwrap_or(0));
-        counts[band] = counts[band].wrapping_add(size(blocks, queue, head));
-        passed = (rank, at);
-        at = behind(blocks, queue, head);
-    }
-    assert!(rt; at.is_none());
-    assert_eq!(rt; last(blocks, queue), passed.1);
-    counts
-}
-
 // From the front on, the heads are these.
-fn assert_forward(rt: &impl Abort, blocks: &Blocks, queue: u8, entries: &[Entry])
+fn assert_forward(rt: &impl Abort, blocks: &Blocks, queue: u8, heads: &[u32])
     requires { queue < length blocks.now.shelves }
 {
     let mut at = first(blocks, queue);
-    for entry in entries {
+    for wanted in heads {
         let Some(head) = at else {
             panic!(rt; "too few messages");
         };
-        assert!(rt; head == entry.head);
+        assert!(rt; head == *wanted);
         at = behind(blocks, queue, head);
     }
     assert!(rt; at.is_none());
 }
 
 // From the back on, they are these from the last to the first.
-fn assert_backward(rt: &impl Abort, blocks: &Blocks, queue: u8, entries: &[Entry])
+fn assert_backward(rt: &impl Abort, blocks: &Blocks, queue: u8, heads: &[u32])
     requires { queue < length blocks.now.shelves }
 {
     let mut at = last(blocks, queue);
-    for entry in entries.iter().rev() {
+    for wanted in heads.iter().rev() {
         let Some(head) = at else {
             panic!(rt; "too few messages");
         };
-        assert!(rt; head == entry.head);
+        assert!(rt; head == *wanted);
         at = ahead(blocks, queue, head);
     }
     assert!(rt; at.is_none());
 }
 
 // A queue has these messages, read either way, and as many as is stored.
-pub(super) fn assert_on(
-    rt: &impl Abort,
-    queues: &Queues,
-    blocks: &Blocks,
-    queue: u8,
-    entries: &[Entry],
-)
+pub(super) fn assert_on(rt: &impl Abort, queues: &Queues, blocks: &Blocks, queue: u8, heads: &[u32])
     requires { Agrees queues.now blocks.now }
 {
     match queues.qsize(blocks, queue) {
         Ok(len) => {
-            assert!(rt; len as usize == entries.len());
-            assert_forward(rt, blocks, queue, entries);
-            assert_backward(rt, blocks, queue, entries);
+            assert!(rt; len as usize == heads.len());
+            assert_forward(rt, blocks, queue, heads);
+            assert_backward(rt, blocks, queue, heads);
         }
         Err(why) => panic!(rt; "{why:?}"),
     }

@@ -1,7 +1,7 @@
 //! What enables a queue, step by step.
 use crate::tests::bench::Bench;
 use crate::tests::{HIGH_RANK, QUEUE, ranked};
-use strm_data::ClassSpec;
+use strm_data::{ClassSpec, Refusal};
 use strm_queue::QueueSpec;
 
 const CLASSES: [ClassSpec; 1] = [ClassSpec { size: 8, count: 8 }];
@@ -17,24 +17,24 @@ const QUEUES: [QueueSpec; 2] = [
 
 #[test]
 fn switched_off(rt: HostRuntime) {
-    let mut bench = Bench::opened(&rt, rt.alloc(), 8, &CLASSES, &QUEUES);
-    bench.noenable(&rt, 0);
+    let mut bench = Bench::opened(&rt, rt.alloc(), &CLASSES, &QUEUES);
+    bench.noenable(&rt, 0, Ok(()));
     bench.put_new(&rt, 0, ranked(0));
     bench.put_new(&rt, 0, ranked(3));
     bench.put_back_new(&rt, 0, ranked(0));
     bench.assert_waiting(&rt, &[]);
     bench.put_new(&rt, 0, ranked(HIGH_RANK));
     bench.assert_waiting(&rt, &[0]);
-    assert_eq!(&rt; bench.next_service(&rt), Some(0));
+    bench.next_service(&rt, Some(0));
     bench.put_back_new(&rt, 0, ranked(HIGH_RANK));
     bench.assert_waiting(&rt, &[0]);
-    assert_eq!(&rt; bench.next_service(&rt), Some(0));
-    assert_eq!(&rt; bench.next_service(&rt), None);
-    bench.qenable(&rt, 0);
-    bench.qenable(&rt, 0);
+    bench.next_service(&rt, Some(0));
+    bench.next_service(&rt, None);
+    bench.qenable(&rt, 0, Ok(()));
+    bench.qenable(&rt, 0, Ok(()));
     bench.assert_waiting(&rt, &[0]);
-    assert_eq!(&rt; bench.next_service(&rt), Some(0));
-    bench.enableok(&rt, 0);
+    bench.next_service(&rt, Some(0));
+    bench.enableok(&rt, 0, Ok(()));
     bench.assert_waiting(&rt, &[]);
     bench.put_new(&rt, 0, ranked(0));
     bench.assert_waiting(&rt, &[0]);
@@ -42,16 +42,16 @@ fn switched_off(rt: HostRuntime) {
 
 #[test]
 fn nobody_wants_to_read(rt: HostRuntime) {
-    let mut bench = Bench::opened(&rt, rt.alloc(), 8, &CLASSES, &QUEUES);
+    let mut bench = Bench::opened(&rt, rt.alloc(), &CLASSES, &QUEUES);
     bench.put_new(&rt, 0, ranked(0));
-    assert_eq!(&rt; bench.next_service(&rt), Some(0));
+    bench.next_service(&rt, Some(0));
     bench.drop_first(&rt, 0);
     bench.put_new(&rt, 0, ranked(0));
     bench.put_back_new(&rt, 0, ranked(2));
     bench.assert_waiting(&rt, &[]);
     bench.put_new(&rt, 0, ranked(2));
     bench.assert_waiting(&rt, &[0]);
-    assert_eq!(&rt; bench.next_service(&rt), Some(0));
+    bench.next_service(&rt, Some(0));
     // The queue is read until it is empty, and once more.
     bench.drop_first(&rt, 0);
     bench.drop_first(&rt, 0);
@@ -59,24 +59,24 @@ fn nobody_wants_to_read(rt: HostRuntime) {
     bench.put_new(&rt, 0, ranked(0));
     bench.assert_waiting(&rt, &[]);
     bench.drop_first(&rt, 0);
-    bench.drop_first(&rt, 0);
+    bench.find_none(&rt, 0);
     bench.put_back_new(&rt, 0, ranked(2));
     bench.assert_waiting(&rt, &[0]);
 }
 
 #[test]
 fn no_service_procedure(rt: HostRuntime) {
-    let mut bench = Bench::opened(&rt, rt.alloc(), 8, &CLASSES, &QUEUES);
-    bench.qenable(&rt, 1);
+    let mut bench = Bench::opened(&rt, rt.alloc(), &CLASSES, &QUEUES);
+    bench.qenable(&rt, 1, Ok(()));
     bench.put_new(&rt, 1, ranked(0));
     bench.put_new(&rt, 1, ranked(3));
     bench.put_new(&rt, 1, ranked(HIGH_RANK));
     bench.put_back_new(&rt, 1, ranked(HIGH_RANK));
     bench.assert_waiting(&rt, &[]);
     // There is no queue 2.
-    bench.qenable(&rt, 2);
-    bench.noenable(&rt, 2);
-    bench.enableok(&rt, 2);
+    let missing = Err(Refusal::NoSuchQueue);
+    bench.qenable(&rt, 2, missing);
+    bench.noenable(&rt, 2, missing);
+    bench.enableok(&rt, 2, missing);
     bench.assert_waiting(&rt, &[]);
-    bench.assert_around(&rt, 2);
 }

@@ -45,13 +45,13 @@ fn bytes(size: u32) -> Draft {
 
 #[test]
 fn back_enabling(rt: HostRuntime) {
-    let mut bench = Bench::opened(&rt, rt.alloc(), 8, &CLASSES, &TWO);
+    let mut bench = Bench::opened(&rt, rt.alloc(), &CLASSES, &TWO);
     bench.put_new(&rt, 1, bytes(4));
     bench.put_new(&rt, 1, bytes(3));
-    assert_eq!(&rt; bench.bcanput(&rt, 1, 0), Ok(true));
+    bench.bcanput(&rt, (1, 0), Ok(true));
     bench.assert_band(&rt, (1, 0), 7, (false, false));
     bench.put_new(&rt, 1, bytes(3));
-    assert_eq!(&rt; bench.bcanput(&rt, 1, 0), Ok(false));
+    bench.bcanput(&rt, (1, 0), Ok(false));
     bench.assert_band(&rt, (1, 0), 10, (true, true));
     bench.assert_waiting(&rt, &[1]);
     // Six bytes are above the low water mark, and three are not.
@@ -74,59 +74,55 @@ fn of_band(band: u8, size: u32) -> Draft {
 
 #[test]
 fn water_marks_of_a_band(rt: HostRuntime) {
-    let mut bench = Bench::opened(&rt, rt.alloc(), 8, &CLASSES, &TWO);
+    let mut bench = Bench::opened(&rt, rt.alloc(), &CLASSES, &TWO);
     bench.put_new(&rt, 1, bytes(4));
     bench.put_new(&rt, 1, bytes(3));
     bench.put_new(&rt, 1, bytes(3));
-    assert_eq!(&rt; bench.bcanput(&rt, 1, 0), Ok(false));
+    bench.bcanput(&rt, (1, 0), Ok(false));
     // As many bytes as the new low water mark.
-    assert_eq!(&rt; bench.strqset(&rt, (1, 0), 20, 10), Ok(()));
+    bench.strqset(&rt, (1, 0), (20, 10), Ok(()));
     bench.assert_band(&rt, (1, 0), 10, (false, false));
     bench.assert_waiting(&rt, &[1, 0]);
-    assert_eq!(&rt; bench.bcanput(&rt, 1, 0), Ok(true));
+    bench.bcanput(&rt, (1, 0), Ok(true));
     let refused = Err(Refusal::BadMarks);
-    assert_eq!(&rt; bench.strqset(&rt, (1, 0), 5, 5), refused);
+    bench.strqset(&rt, (1, 0), (5, 5), refused);
     bench.assert_marks(&rt, (1, 0), 20, 10);
     bench.assert_marks(&rt, (1, 3), 10, 4);
     // Full under its messages, and nobody waits until somebody asks.
-    assert_eq!(&rt; bench.strqset(&rt, (1, 0), 10, 9), Ok(()));
+    bench.strqset(&rt, (1, 0), (10, 9), Ok(()));
     bench.assert_band(&rt, (1, 0), 10, (true, false));
-    assert_eq!(&rt; bench.bcanput(&rt, 1, 0), Ok(false));
+    bench.bcanput(&rt, (1, 0), Ok(false));
     bench.assert_band(&rt, (1, 0), 10, (true, true));
     // The queue is looked for first.
-    let missing = Err(Refusal::NoSuchQueue);
-    assert_eq!(&rt; bench.strqset(&rt, (2, 0), 5, 5), missing);
-    assert!(&rt; bench.strqget(&rt, 2, 0).is_err());
+    bench.strqset(&rt, (2, 0), (5, 5), Err(Refusal::NoSuchQueue));
+    bench.strqget(&rt, (2, 0), Err(Refusal::NoSuchQueue));
     // A band keeps its marks once its messages have gone.
     bench.flushq(&rt, 1, Flush::All);
     bench.assert_marks(&rt, (1, 0), 10, 9);
-    assert_eq!(&rt;
-        bench.strqset(&rt, (1, 255), u32::MAX, u32::MAX - 1),
-        Ok(())
-    );
+    bench.strqset(&rt, (1, 255), (u32::MAX, u32::MAX - 1), Ok(()));
     bench.assert_marks(&rt, (1, 255), u32::MAX, u32::MAX - 1);
-    assert_eq!(&rt; bench.strqset(&rt, (1, 255), 0, 0), refused);
+    bench.strqset(&rt, (1, 255), (0, 0), refused);
 }
 
 // Bands 1 and 2 of queue 1 have 8 and 10 bytes, and somebody waits for room in both.
 fn two_wanted(rt: &impl Abort, alloc: Global) -> Bench
     ensures { Agrees result.queues result.blocks }
 {
-    let mut bench = Bench::opened(rt, alloc, 8, &CLASSES, &TWO);
+    let mut bench = Bench::opened(rt, alloc, &CLASSES, &TWO);
     bench.put_new(rt, 1, of_band(1, 8));
     bench.put_new(rt, 1, of_band(2, 8));
     bench.put_new(rt, 1, of_band(2, 2));
-    assert_eq!(rt; bench.strqset(rt, (1, 1), 8, 4), Ok(()));
-    assert_eq!(rt; bench.bcanput(rt, 1, 1), Ok(false));
-    assert_eq!(rt; bench.bcanput(rt, 1, 2), Ok(false));
-    assert_eq!(rt; bench.next_service(rt), Some(1));
+    bench.strqset(rt, (1, 1), (8, 4), Ok(()));
+    bench.bcanput(rt, (1, 1), Ok(false));
+    bench.bcanput(rt, (1, 2), Ok(false));
+    bench.next_service(rt, Some(1));
     bench
 }
 
 #[test]
 fn a_third_band_clears_none(rt: HostRuntime) {
     let mut bench = two_wanted(&rt, rt.alloc());
-    assert_eq!(&rt; bench.strqset(&rt, (1, 3), 100, 50), Ok(()));
+    bench.strqset(&rt, (1, 3), (100, 50), Ok(()));
     bench.assert_band(&rt, (1, 1), 8, (true, true));
     bench.assert_band(&rt, (1, 2), 10, (true, true));
     bench.assert_waiting(&rt, &[]);
@@ -136,29 +132,29 @@ fn a_third_band_clears_none(rt: HostRuntime) {
 fn each_band_by_its_own_low_mark(rt: HostRuntime) {
     let mut bench = two_wanted(&rt, rt.alloc());
     // Full no more, and still waited for.
-    assert_eq!(&rt; bench.strqset(&rt, (1, 1), 20, 7), Ok(()));
+    bench.strqset(&rt, (1, 1), (20, 7), Ok(()));
     bench.assert_band(&rt, (1, 1), 8, (false, true));
     bench.assert_waiting(&rt, &[]);
     // The low mark is raised to what the other band has, which stays wanted.
-    assert_eq!(&rt; bench.strqset(&rt, (1, 1), 20, 10), Ok(()));
+    bench.strqset(&rt, (1, 1), (20, 10), Ok(()));
     bench.assert_band(&rt, (1, 1), 8, (false, false));
     bench.assert_band(&rt, (1, 2), 10, (true, true));
     bench.assert_waiting(&rt, &[0]);
-    assert_eq!(&rt; bench.strqset(&rt, (1, 2), 11, 10), Ok(()));
+    bench.strqset(&rt, (1, 2), (11, 10), Ok(()));
     bench.assert_band(&rt, (1, 2), 10, (false, false));
     bench.assert_waiting(&rt, &[0]);
 }
 
 #[test]
 fn looks_ahead(rt: HostRuntime) {
-    let mut bench = Bench::opened(&rt, rt.alloc(), 8, &CLASSES, &AHEAD);
+    let mut bench = Bench::opened(&rt, rt.alloc(), &CLASSES, &AHEAD);
     bench.put_new(&rt, 0, bytes(5));
     bench.put_new(&rt, 0, bytes(5));
-    assert_eq!(&rt; bench.bcanput(&rt, 0, 0), Ok(true));
+    bench.bcanput(&rt, (0, 0), Ok(true));
     bench.put_new(&rt, 2, bytes(5));
     bench.put_new(&rt, 2, bytes(5));
-    assert_eq!(&rt; bench.bcanput(&rt, 0, 0), Ok(false));
-    assert_eq!(&rt; bench.bcanput(&rt, 1, 1), Ok(true));
+    bench.bcanput(&rt, (0, 0), Ok(false));
+    bench.bcanput(&rt, (1, 1), Ok(true));
     bench.assert_band(&rt, (0, 0), 10, (true, false));
     bench.assert_band(&rt, (2, 0), 10, (true, true));
     bench.assert_band(&rt, (2, 1), 0, (false, false));

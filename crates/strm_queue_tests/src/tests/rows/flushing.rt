@@ -2,7 +2,6 @@
 use crate::tests::bench::Bench;
 use crate::tests::{Draft, QUEUE};
 use strm_data::{ClassSpec, MsgType};
-use strm_mblk::Census;
 use strm_queue::{Flush, QueueSpec};
 
 const CLASSES: [ClassSpec; 1] = [ClassSpec { size: 8, count: 8 }];
@@ -22,7 +21,7 @@ fn message(kind: MsgType, band: u8) -> Draft {
 
 #[test]
 fn data_or_all_of_a_queue_or_a_band(rt: HostRuntime) {
-    let mut bench = Bench::opened(&rt, rt.alloc(), 8, &CLASSES, &QUEUES);
+    let mut bench = Bench::opened(&rt, rt.alloc(), &CLASSES, &QUEUES);
     bench.put_new(&rt, 0, message(MsgType::MCtl, 0));
     bench.put_new(&rt, 0, message(MsgType::MDelay, 0));
     bench.put_new(&rt, 0, message(MsgType::MPcproto, 0));
@@ -41,30 +40,24 @@ fn data_or_all_of_a_queue_or_a_band(rt: HostRuntime) {
     bench.assert_heads(&rt, 0, &[2]);
     bench.flushq(&rt, 0, Flush::All);
     bench.assert_heads(&rt, 0, &[]);
-    bench.assert_around(&rt, 0);
 }
 
 #[test]
 fn data_that_two_messages_name(rt: HostRuntime) {
-    let mut bench = Bench::opened(&rt, rt.alloc(), 3, &ONE_BLOCK, &QUEUES);
-    let all_free = Census {
-        free: 3,
-        queued: 0,
-        held: 0,
-    };
+    let mut bench = Bench::opened(&rt, rt.alloc(), &ONE_BLOCK, &QUEUES);
     // The two are on one queue.
     bench.put_twice(&rt, (0, 0), message(MsgType::MData, 1));
-    assert!(&rt; !bench.has_free());
+    bench.testb(&rt, false);
     bench.assert_band(&rt, (0, 1), 4, (false, false));
     bench.flushq(&rt, 0, Flush::Data);
-    assert_eq!(&rt; bench.census(), all_free);
+    bench.assert_all_free(&rt);
     // They are on two, and what one names stays while the other is flushed.
     bench.put_twice(&rt, (0, 1), message(MsgType::MData, 1));
     bench.flushband(&rt, 0, 1, Flush::All);
-    assert!(&rt; !bench.has_free());
+    bench.testb(&rt, false);
     bench.assert_band(&rt, (1, 1), 2, (false, false));
     bench.flushq(&rt, 1, Flush::All);
-    assert_eq!(&rt; bench.census(), all_free);
+    bench.assert_all_free(&rt);
     bench.put_new(&rt, 0, message(MsgType::MData, 0));
-    assert!(&rt; !bench.has_free());
+    bench.testb(&rt, false);
 }

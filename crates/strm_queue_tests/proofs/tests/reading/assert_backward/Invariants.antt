@@ -4,5 +4,5 @@ use Rattle.strm_mblk.specs.Shelves.{stands_on}
 use Rattle.strm_queue_tests.proofs.tests.reading.assert_backward.Given as goal
 
 -- the head that was found stands on the queue
-abbrev pub invariant-loop-entry : goal.invariant-loop-entry
-invariant-loop-entry g l = ForSome l.at (λ head. stands_on l.blocks l.queue head ≡ true)
+abbrev pub invariant-loop-wanted : goal.invariant-loop-wanted
+invariant-loop-wanted g l = ForSome l.at (λ head. stands_on l.blocks l.queue head ≡ true)

@@ -1,8 +1,0 @@
-use Rattle.std.proofs.Common.{◌≡◌, true}
-use Rattle.std.specs.Option.{ForSome}
-use Rattle.strm_mblk.specs.Shelves.{stands_on}
-use Rattle.strm_queue_tests.proofs.tests.reading.counted.Given as goal
-
--- the head that was found stands on the queue
-abbrev pub invariant-loop-message : goal.invariant-loop-message
-invariant-loop-message g l = ForSome l.at (λ head. stands_on l.blocks l.queue head ≡ true)
