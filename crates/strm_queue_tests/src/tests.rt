@@ -1,17 +1,17 @@
-ghost use Rattle.std.specs.Prelude.{◌≡◌, ◌≤◌, IsTrue};
+ghost use Rattle.std.specs.Prelude.{◌≡◌, IsTrue};
 ghost use Rattle.strm_data.specs.Classes.{are_lawful};
 ghost use Rattle.strm_mblk.specs.Arena.{has};
-ghost use Rattle.strm_mblk.specs.Limits.{most_message_blocks};
 ghost use Rattle.strm_queue.specs.QueueSpecs as queue_specs;
 ghost use Rattle.strm_queue.specs.QueuedBlocks.{Agrees};
 
 use std::alloc::Global;
 use std::process::Abort;
 use strm_data::{ClassSpec, MsgType, Refusal};
-use strm_mblk::{Blocks, Rejected, Token};
+use strm_mblk::{Blocks, MOST_MESSAGE_BLOCKS, Rejected, Token};
 use strm_queue::{BANDS, QueueSpec, Queues};
 
 mod bench;
+mod drawn;
 mod reading;
 mod rows;
 
@@ -37,21 +37,22 @@ struct Draft {
 // As many bytes as a message may get.
 const BYTES: [u8; 8] = [7; 8];
 
-// New queues, and so many message blocks with a shelf for each.
+// How many message blocks there are.
+const MESSAGES: u32 = MOST_MESSAGE_BLOCKS;
+
+// New queues, and message blocks with a shelf for each.
 fn opened(
     rt: &impl Abort,
     alloc: Global,
-    mblks: u32,
     classes: &[ClassSpec],
     queues: &[QueueSpec],
 ) -> (Queues, Blocks)
-    requires few_blocks { mblks ≤ most_message_blocks }
     requires classes { IsTrue (are_lawful classes.now) }
     requires queues { IsTrue (queue_specs.are_lawful queues.now) }
     ensures { Agrees result.0 result.1 }
 {
     let shelves = queues.len() as u8;
-    let blocks = Blocks::new(alloc, 7, mblks, classes, shelves).expect(rt, "memory");
+    let blocks = Blocks::new(alloc, 7, MESSAGES, classes, shelves).expect(rt, "memory");
     (Queues::new(alloc, queues).expect(rt, "memory"), blocks)
 }
 
@@ -128,15 +129,6 @@ fn ranked(rank: u16) -> Draft {
     }
 }
 
-// A new message of no bytes and this rank.
-fn message(rt: &impl Abort, queues: &Queues, blocks: &mut Blocks, rank: u16) -> Token
-    requires { Agrees queues.now blocks.old }
-    ensures agrees { Agrees queues.now blocks.new }
-    ensures had { IsTrue (has blocks.new result) }
-{
-    drafted(rt, queues, blocks, ranked(rank))
-}
-
 // A message that names the data of another.
 fn duplicated(rt: &impl Abort, queues: &Queues, blocks: &mut Blocks, token: &Token) -> Token
     requires agrees { Agrees queues.now blocks.old }
@@ -147,6 +139,17 @@ fn duplicated(rt: &impl Abort, queues: &Queues, blocks: &mut Blocks, token: &Tok
         Ok(copy) => copy,
         Err(why) => panic!(rt; "{why:?}"),
     }
+}
+
+// Puts a message behind another.
+#[tactic(auto, using(strm_queue::proofs::agreeing::Agreeing::agrees_left))]
+fn linked(queues: &Queues, blocks: &mut Blocks, message: &mut Token, tail: Token)
+    requires agrees { Agrees queues.now blocks.old }
+    requires head { IsTrue (has blocks.old message.old) }
+    requires tail { IsTrue (has blocks.old tail) }
+    ensures { Agrees queues.now blocks.new }
+{
+    blocks.linkb(message, tail);
 }
 
 // Frees a message.

@@ -1,7 +1,7 @@
 //! Calls on registers with the replies and the heads that are expected.
 use super::bench::Bench;
 use super::{SIZES, octets, reg};
-use strm_pool::{BlockInfo, Call, Census, MsgType, Refusal, Reg, Reply};
+use strm_pool::{BlockInfo, Call, Census, Flush, MsgType, Refusal, Reg, Reply};
 
 const fn census(free: u32, queued: u32, held: u32) -> Reply {
     Reply::Census(Census { free, queued, held })
@@ -223,6 +223,29 @@ fn water_marks_of_a_band(rt: HostRuntime) {
     ];
     let bench = Bench::opened(&rt, rt.alloc(), (1, 8), &SIZES);
     bench.serve(&rt, &rows, &[None]);
+}
+
+#[test]
+fn a_queue_is_switched_off_served_and_flushed(rt: HostRuntime) {
+    let (a, b) = (reg(&rt, b'a'), reg(&rt, b'b'));
+    let rows = [
+        (Call::Allocb(a, 3), Reply::Done),
+        (Call::Write(a, 0, octets(&rt, b"abc")), Reply::Done),
+        (Call::Copymsg(a, b), Reply::Done),
+        (Call::Noenable(0), Reply::Done),
+        (Call::Putq(0, a), Reply::Done),
+        (Call::Service, Reply::Nothing),
+        (Call::Enableok(0), Reply::Done),
+        (Call::Qenable(0), Reply::Done),
+        (Call::Service, Reply::Queue(0)),
+        (Call::Flushband(0, 1, Flush::All), Reply::Done),
+        (Call::Qsize(0), Reply::Size(1)),
+        (Call::Flushq(0, Flush::Data), Reply::Done),
+        (Call::Qsize(0), Reply::Size(0)),
+        (Call::Read(b, 0), Reply::Bytes(octets(&rt, b"abc"))),
+    ];
+    let bench = Bench::opened(&rt, rt.alloc(), (1, 8), &SIZES);
+    bench.serve(&rt, &rows, &[None, Some(1)]);
 }
 
 #[test]

@@ -1,8 +1,8 @@
 //! What enables a queue, step by step.
 use crate::tests::bench::Bench;
 use crate::tests::{HIGH_RANK, QUEUE, ranked};
-use strm_data::{ClassSpec, Refusal};
-use strm_queue::QueueSpec;
+use strm_data::ClassSpec;
+use strm_queue::{QueueInfo, QueueSpec};
 
 const CLASSES: [ClassSpec; 1] = [ClassSpec { size: 8, count: 8 }];
 
@@ -15,6 +15,15 @@ const QUEUES: [QueueSpec; 2] = [
     },
 ];
 
+// What there is to tell of a queue that four messages of no bytes were put on, with enabling switched off.
+const OFF: QueueInfo = QueueInfo {
+    msgs: 4,
+    bytes: 0,
+    read: true,
+    noenable: true,
+    enabled: true,
+};
+
 #[test]
 fn switched_off(rt: HostRuntime) {
     let mut bench = Bench::opened(&rt, rt.alloc(), &CLASSES, &QUEUES);
@@ -25,6 +34,7 @@ fn switched_off(rt: HostRuntime) {
     bench.assert_waiting(&rt, &[]);
     bench.put_new(&rt, 0, ranked(HIGH_RANK));
     bench.assert_waiting(&rt, &[0]);
+    bench.queue_info(&rt, 0, Ok(OFF));
     bench.next_service(&rt, Some(0));
     bench.put_back_new(&rt, 0, ranked(HIGH_RANK));
     bench.assert_waiting(&rt, &[0]);
@@ -59,7 +69,7 @@ fn nobody_wants_to_read(rt: HostRuntime) {
     bench.put_new(&rt, 0, ranked(0));
     bench.assert_waiting(&rt, &[]);
     bench.drop_first(&rt, 0);
-    bench.find_none(&rt, 0);
+    bench.assert_none(&rt, 0, Ok(()));
     bench.put_back_new(&rt, 0, ranked(2));
     bench.assert_waiting(&rt, &[0]);
 }
@@ -72,11 +82,5 @@ fn no_service_procedure(rt: HostRuntime) {
     bench.put_new(&rt, 1, ranked(3));
     bench.put_new(&rt, 1, ranked(HIGH_RANK));
     bench.put_back_new(&rt, 1, ranked(HIGH_RANK));
-    bench.assert_waiting(&rt, &[]);
-    // There is no queue 2.
-    let missing = Err(Refusal::NoSuchQueue);
-    bench.qenable(&rt, 2, missing);
-    bench.noenable(&rt, 2, missing);
-    bench.enableok(&rt, 2, missing);
     bench.assert_waiting(&rt, &[]);
 }

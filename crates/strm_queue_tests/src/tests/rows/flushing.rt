@@ -27,18 +27,18 @@ fn data_or_all_of_a_queue_or_a_band(rt: HostRuntime) {
     bench.put_new(&rt, 0, message(MsgType::MPcproto, 0));
     bench.put_new(&rt, 0, message(MsgType::MData, 0));
     bench.assert_heads(&rt, 0, &[2, 0, 1, 3]);
-    bench.flushq(&rt, 0, Flush::Data);
+    bench.flushq(&rt, 0, Flush::Data, Ok(()));
     bench.assert_heads(&rt, 0, &[0]);
     // The block that was freed last is given first.
     bench.put_new(&rt, 0, message(MsgType::MPcproto, 0));
     bench.put_new(&rt, 0, message(MsgType::MData, 0));
     bench.put_new(&rt, 0, message(MsgType::MData, 5));
     bench.assert_heads(&rt, 0, &[3, 2, 0, 1]);
-    bench.flushband(&rt, 0, 0, Flush::All);
+    bench.flushband(&rt, (0, 0), Flush::All, Ok(()));
     bench.assert_heads(&rt, 0, &[2]);
-    bench.flushband(&rt, 0, 0, Flush::All);
+    bench.flushband(&rt, (0, 0), Flush::All, Ok(()));
     bench.assert_heads(&rt, 0, &[2]);
-    bench.flushq(&rt, 0, Flush::All);
+    bench.flushq(&rt, 0, Flush::All, Ok(()));
     bench.assert_heads(&rt, 0, &[]);
 }
 
@@ -49,14 +49,14 @@ fn data_that_two_messages_name(rt: HostRuntime) {
     bench.put_twice(&rt, (0, 0), message(MsgType::MData, 1));
     bench.testb(&rt, false);
     bench.assert_band(&rt, (0, 1), 4, (false, false));
-    bench.flushq(&rt, 0, Flush::Data);
+    bench.flushq(&rt, 0, Flush::Data, Ok(()));
     bench.assert_all_free(&rt);
     // They are on two, and what one names stays while the other is flushed.
     bench.put_twice(&rt, (0, 1), message(MsgType::MData, 1));
-    bench.flushband(&rt, 0, 1, Flush::All);
+    bench.flushband(&rt, (0, 1), Flush::All, Ok(()));
     bench.testb(&rt, false);
     bench.assert_band(&rt, (1, 1), 2, (false, false));
-    bench.flushq(&rt, 1, Flush::All);
+    bench.flushq(&rt, 1, Flush::All, Ok(()));
     bench.assert_all_free(&rt);
     bench.put_new(&rt, 0, message(MsgType::MData, 0));
     bench.testb(&rt, false);

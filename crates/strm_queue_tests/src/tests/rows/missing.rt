@@ -1,0 +1,43 @@
+//! Calls on a queue that is not there.
+use crate::tests::bench::Bench;
+use crate::tests::{QUEUE, ranked};
+use strm_data::{ClassSpec, Refusal};
+use strm_queue::{Flush, QueueSpec};
+
+const CLASSES: [ClassSpec; 1] = [ClassSpec { size: 8, count: 8 }];
+
+const QUEUES: [QueueSpec; 1] = [QUEUE];
+
+#[test]
+fn moves_nothing(rt: HostRuntime) {
+    let mut bench = Bench::opened(&rt, rt.alloc(), &CLASSES, &QUEUES);
+    bench.has_queue(&rt, 0, true);
+    bench.has_queue(&rt, 1, false);
+    let token = bench.drafted(&rt, ranked(3));
+    let token = bench.not_queued(&rt, 1, token);
+    bench.free(token);
+    bench.assert_none(&rt, 1, Err(Refusal::NoSuchQueue));
+    bench.flushq(&rt, 1, Flush::All, Err(Refusal::NoSuchQueue));
+    bench.flushband(&rt, (1, 0), Flush::All, Err(Refusal::NoSuchQueue));
+    bench.assert_all_free(&rt);
+}
+
+#[test]
+fn tells_nothing(rt: HostRuntime) {
+    let mut bench = Bench::opened(&rt, rt.alloc(), &CLASSES, &QUEUES);
+    bench.bcanput(&rt, (1, 0), Err(Refusal::NoSuchQueue));
+    bench.strqset(&rt, (1, 0), (5, 5), Err(Refusal::NoSuchQueue));
+    bench.strqget(&rt, (1, 0), Err(Refusal::NoSuchQueue));
+    bench.qsize(&rt, 1, Err(Refusal::NoSuchQueue));
+    bench.queue_info(&rt, 1, Err(Refusal::NoSuchQueue));
+    bench.band_info(&rt, (1, 0), Err(Refusal::NoSuchQueue));
+}
+
+#[test]
+fn enables_nothing(rt: HostRuntime) {
+    let mut bench = Bench::opened(&rt, rt.alloc(), &CLASSES, &QUEUES);
+    bench.qenable(&rt, 1, Err(Refusal::NoSuchQueue));
+    bench.noenable(&rt, 1, Err(Refusal::NoSuchQueue));
+    bench.enableok(&rt, 1, Err(Refusal::NoSuchQueue));
+    bench.assert_waiting(&rt, &[]);
+}
