@@ -10,14 +10,63 @@
 #include <stdlib.h>
 #include <string.h>
 
-/* How many calls one pool gets, and after how many every band is looked at. */
+/* How many calls one pool gets, after how many each band of the queue that was drawn is looked at, and after how many all queues are
+ * emptied. */
 #define CALLS_OF_A_POOL 20000
-#define CALLS_TO_ALL_BANDS 1000
+#define CALLS_TO_ALL_BANDS 16
+#define CALLS_TO_ALL_MESSAGES 1000
 
-/* How often each verb comes, beside the others. */
-static const unsigned weights[VERBS] = {
-	14, 1, 2, 3, 1, 2, 16, 4, 3, 5, 2, 2, 4, 5, 1, 1, 2, 2, 2, 3, 7, 2, 3, 6, 3, 1, 1, 8, 3, 1, 1, 1, 1, 2, 3, 3, 1, 2, 1
+/* An answer as one of 64: a kind of reply, or a refusal by its code. */
+#define IS(kind) ((uint64_t)1 << (kind))
+#define NOT(code) ((uint64_t)1 << (REFUSED + (code)))
+
+/* How often each verb comes, beside the others, and the answers that it has to have in so many calls: all that there are but RefMax. */
+#define CALLS_TO_EACH_ANSWER 1000000
+static const struct {
+	unsigned weight;
+	uint64_t answers;
+} drawn[VERBS] = {
+	/* allocb */ { 14, IS(DONE) | NOT(STRM_TOO_LARGE) | NOT(STRM_NO_MBLK) | NOT(STRM_NO_DATA) },
+	/* testb */ { 1, IS(YES) | IS(NO) },
+	/* dupb */ { 2, IS(DONE) | IS(EMPTY) | NOT(STRM_NO_MBLK) },
+	/* dupmsg */ { 3, IS(DONE) | IS(EMPTY) | NOT(STRM_NO_MBLK) },
+	/* copyb */ { 1, IS(DONE) | IS(EMPTY) | NOT(STRM_NO_MBLK) | NOT(STRM_NO_DATA) },
+	/* copymsg */ { 2, IS(DONE) | IS(EMPTY) | NOT(STRM_NO_MBLK) | NOT(STRM_NO_DATA) },
+	/* write */ { 16, IS(DONE) | IS(EMPTY) | NOT(STRM_NO_SUCH_BLOCK) | NOT(STRM_SHARED) | NOT(STRM_NO_ROOM) },
+	/* settype */ { 4, IS(DONE) | IS(EMPTY) | NOT(STRM_NO_SUCH_BLOCK) | NOT(STRM_SHARED) },
+	/* setband */ { 3, IS(DONE) | IS(EMPTY) },
+	/* linkb */ { 5, IS(DONE) | IS(EMPTY) },
+	/* unlinkb */ { 2, IS(DONE) | IS(NOTHING) | IS(EMPTY) },
+	/* rmvb */ { 2, IS(DONE) | IS(EMPTY) | NOT(STRM_NO_SUCH_BLOCK) },
+	/* adjmsg */ { 4, IS(DONE) | IS(EMPTY) | NOT(STRM_SHORT) },
+	/* pullupmsg */ { 5, IS(DONE) | IS(EMPTY) | NOT(STRM_SHORT) | NOT(STRM_TOO_LARGE) | NOT(STRM_NO_DATA) },
+	/* msgdsize */ { 1, IS(TOLD_SIZE) | IS(EMPTY) },
+	/* size */ { 1, IS(TOLD_SIZE) | IS(EMPTY) },
+	/* read */ { 2, IS(TOLD_BYTES) | IS(EMPTY) },
+	/* block */ { 2, IS(TOLD_BLOCK) | IS(EMPTY) | NOT(STRM_NO_SUCH_BLOCK) },
+	/* freeb */ { 2, IS(DONE) | IS(EMPTY) },
+	/* freemsg */ { 3, IS(DONE) | IS(EMPTY) },
+	/* putq */ { 7, IS(DONE) | IS(EMPTY) | NOT(STRM_NO_SUCH_QUEUE) },
+	/* putbq */ { 2, IS(DONE) | IS(EMPTY) | NOT(STRM_NO_SUCH_QUEUE) },
+	/* insq */ { 3, IS(DONE) | IS(EMPTY) | NOT(STRM_NO_SUCH_QUEUE) | NOT(STRM_NO_SUCH_PLACE) | NOT(STRM_BAD_ORDER) },
+	/* getq */ { 6, IS(DONE) | IS(NOTHING) | NOT(STRM_NO_SUCH_QUEUE) },
+	/* rmvq */ { 3, IS(DONE) | NOT(STRM_NO_SUCH_QUEUE) | NOT(STRM_NO_SUCH_PLACE) },
+	/* flushq */ { 1, IS(DONE) | NOT(STRM_NO_SUCH_QUEUE) },
+	/* flushband */ { 1, IS(DONE) | NOT(STRM_NO_SUCH_QUEUE) },
+	/* bcanput */ { 8, IS(YES) | IS(NO) | NOT(STRM_NO_SUCH_QUEUE) },
+	/* strqset */ { 3, IS(DONE) | NOT(STRM_NO_SUCH_QUEUE) | NOT(STRM_BAD_MARKS) },
+	/* strqget */ { 1, IS(TOLD_MARKS) | NOT(STRM_NO_SUCH_QUEUE) },
+	/* qsize */ { 1, IS(TOLD_SIZE) | NOT(STRM_NO_SUCH_QUEUE) },
+	/* qenable */ { 1, IS(DONE) | NOT(STRM_NO_SUCH_QUEUE) },
+	/* noenable */ { 1, IS(DONE) | NOT(STRM_NO_SUCH_QUEUE) },
+	/* enableok */ { 2, IS(DONE) | NOT(STRM_NO_SUCH_QUEUE) },
+	/* service */ { 3, IS(TOLD_QUEUE) | IS(NOTHING) },
+	/* bufcall */ { 3, IS(TOLD_ID) | NOT(STRM_TOO_LARGE) | NOT(STRM_FULL) | NOT(STRM_IDS_SPENT) },
+	/* unbufcall */ { 1, IS(DONE) | NOT(STRM_NOT_PENDING) },
+	/* ready */ { 2, IS(TOLD_READY) | IS(NOTHING) },
+	/* census */ { 1, IS(TOLD_CENSUS) }
 };
+
 static const uint32_t drawn_bands[] = { 0, 0, 0, 1, 2, 7, 255 };
 #define DRAWN_BANDS (sizeof drawn_bands / sizeof drawn_bands[0])
 
@@ -33,25 +82,23 @@ static uint32_t below(uint32_t bound)
 	return (uint32_t)((state >> 32) % bound);
 }
 
-static uint32_t drawn_band(void)
-{
-	return drawn_bands[below(DRAWN_BANDS)];
-}
-
 /* ---- a pool */
 
 struct setup {
 	struct strm_config config;
 	struct strm_class_spec classes[3];
 	struct strm_queue_spec queues[STRM_MOST_QUEUES];
+	uint32_t band;		/* drawn often beside those that are drawn in each pool */
 };
 
+/* Pools are small, so that each refusal comes, and now and then large. Of as many queues as `chained` says all but one feed the next. */
 static void draw_setup(struct setup *setup, uint32_t id)
 {
-	uint32_t i, size = 0, chained = 1 + below(8);
+	uint32_t i, size = 0, chained = 1 + below(8), most = below(8) > 0 ? 40 : 400;
 
+	setup->band = below(STRM_BANDS);
 	setup->config.id = id;
-	setup->config.mblks = 1 + below(40);
+	setup->config.mblks = 1 + below(most);
 	setup->config.class_count = 1 + below(3);
 	setup->config.queue_count = 1 + below(below(4) > 0 ? 5 : STRM_MOST_QUEUES);
 	setup->config.bufcalls = below(5);
@@ -61,7 +108,7 @@ static void draw_setup(struct setup *setup, uint32_t id)
 	for (i = 0; i < setup->config.class_count; i++) {
 		size += 1 + below(24);
 		setup->classes[i].size = size;
-		setup->classes[i].count = 1 + below(20);
+		setup->classes[i].count = 1 + below(most / 2);
 	}
 	for (i = 0; i < setup->config.queue_count; i++) {
 		setup->queues[i].hiwat = 1 + below(30);
@@ -72,6 +119,11 @@ static void draw_setup(struct setup *setup, uint32_t id)
 }
 
 /* ---- a call */
+
+static uint32_t drawn_band(const struct setup *setup)
+{
+	return below(4) == 0 ? setup->band : drawn_bands[below(DRAWN_BANDS)];
+}
 
 /* A register that holds a message, or mostly so; or one that holds none. */
 static int drawn_register(const struct model *model, int holding)
@@ -92,10 +144,10 @@ static enum verb drawn_verb(void)
 	int verb;
 
 	for (verb = 0; verb < VERBS; verb++)
-		all += weights[verb];
+		all += drawn[verb].weight;
 	at = below(all);
-	for (verb = 0; at >= weights[verb]; verb++)
-		at -= weights[verb];
+	for (verb = 0; at >= drawn[verb].weight; verb++)
+		at -= drawn[verb].weight;
 	return (enum verb)verb;
 }
 
@@ -110,8 +162,8 @@ static struct call drawn_call(const struct model *model, const struct setup *set
 	call.y = drawn_register(model, 0);
 	call.z = drawn_register(model, 1);
 	call.queue = below(20) == 0 ? below(256) : below((uint32_t)setup->config.queue_count);
-	call.place = below(3);
-	call.band = drawn_band();
+	call.place = below(below(4) > 0 ? 3 : 30);
+	call.band = drawn_band(setup);
 	call.number = call.verb == UNBUFCALL ? setup->config.first_id + below(20) : below(44);
 	call.type = below(2) == 0 ? (uint32_t)STRM_M_DATA : below(STRM_TYPES);
 	call.flush = below(2);
@@ -173,7 +225,8 @@ static int same_band(struct face *face, const struct model *model, uint32_t queu
 		&& strm_strqget(&face->pool, queue, band, &marks) == STRM_OK && memcmp(&marks, &of_model, sizeof marks) == 0;
 }
 
-static int same_queues(struct face *face, const struct model *model, uint32_t queues, int all_bands)
+/* What is told of each queue, of the band that was drawn, and of some others; of one queue of all bands. */
+static int same_queues(struct face *face, const struct model *model, uint32_t queues, uint32_t band, uint32_t all_of)
 {
 	struct strm_queue_info wanted, found;
 	uint32_t queue, i;
@@ -182,8 +235,10 @@ static int same_queues(struct face *face, const struct model *model, uint32_t qu
 		wanted = model_queue(model, queue);
 		if (strm_queue_info(&face->pool, queue, &found) != STRM_OK || memcmp(&wanted, &found, sizeof found) != 0)
 			return 0;
-		for (i = 0; i < (all_bands ? STRM_BANDS : DRAWN_BANDS); i++)
-			if (!same_band(face, model, queue, all_bands ? i : drawn_bands[i]))
+		if (!same_band(face, model, queue, band))
+			return 0;
+		for (i = 0; i < (queue == all_of ? STRM_BANDS : DRAWN_BANDS); i++)
+			if (!same_band(face, model, queue, queue == all_of ? i : drawn_bands[i]))
 				return 0;
 	}
 	return 1;
@@ -218,6 +273,27 @@ static int same_rest(struct face *face, const struct model *model, uint32_t clas
 	return strm_wish_at(&face->pool, i, &wish) == STRM_NONE;
 }
 
+/* ---- which answers came */
+
+static uint64_t had[VERBS];
+
+static void note_answer(const struct call *call, const struct reply *reply)
+{
+	had[call->verb] |= reply->kind == REFUSED ? NOT(reply->numbers[0]) : IS(reply->kind);
+}
+
+static int had_each_answer(void)
+{
+	int verb, lacking = 0;
+
+	for (verb = 0; verb < VERBS; verb++)
+		if ((drawn[verb].answers & ~had[verb]) != 0) {
+			printf("%s has not had each of its answers\n", forms[verb].word);
+			lacking++;
+		}
+	return lacking == 0;
+}
+
 /* ---- runs */
 
 /* Whether pool and model answer a call alike. An empty register comes before a queue that is not there, since names are looked at first. */
@@ -237,28 +313,59 @@ static int tell(const struct call *call, unsigned long number, const char *what)
 	return 0;
 }
 
+/* Has both do a call, if register y is free for what it gives, and compares all behind it. */
+static int does(struct face *face, struct model *model, const struct setup *setup, const struct call *call, unsigned long number)
+{
+	uint32_t all_of = number % CALLS_TO_ALL_BANDS == 0 ? call->queue : STRM_NO_QUEUE;
+	struct reply wanted = model_apply(model, call);
+
+	if (wanted.kind == TAKEN)
+		return 1;
+	note_answer(call, &wanted);
+	if (!same_answer(face, call, &wanted))
+		return tell(call, number, "another answer");
+	if (!same_census(face, model))
+		return tell(call, number, "another census");
+	if (!same_registers(face, model))
+		return tell(call, number, "other messages");
+	if (!same_queues(face, model, (uint32_t)setup->config.queue_count, call->band, all_of))
+		return tell(call, number, "other queues");
+	return same_rest(face, model, (uint32_t)setup->config.class_count) || tell(call, number, "another pool");
+}
+
+/* Takes all messages off all queues, so that their order and what they are is compared. Each is freed. */
+static int empties(struct face *face, struct model *model, const struct setup *setup, unsigned long number)
+{
+	struct call call;
+	struct strm_queue_info info;
+
+	memset(&call, 0, sizeof call);
+	for (; call.queue < setup->config.queue_count; call.queue++)
+		do {
+			info = model_queue(model, call.queue);
+			call.verb = FREEMSG;
+			if (!does(face, model, setup, &call, number))
+				return 0;
+			call.verb = GETQ;
+			if (!does(face, model, setup, &call, number))
+				return 0;
+		} while (info.msgs > 0);
+	return 1;
+}
+
 static int run_calls(struct face *face, struct model *model, const struct setup *setup, unsigned long calls)
 {
 	unsigned long i;
 
 	for (i = 0; i < calls; i++) {
 		struct call call = drawn_call(model, setup);
-		struct reply wanted = model_apply(model, &call);
 
-		if (wanted.kind == TAKEN)
-			continue;
-		if (!same_answer(face, &call, &wanted))
-			return tell(&call, i, "another answer");
-		if (!same_census(face, model))
-			return tell(&call, i, "another census");
-		if (!same_registers(face, model))
-			return tell(&call, i, "other messages");
-		if (!same_queues(face, model, (uint32_t)setup->config.queue_count, i % CALLS_TO_ALL_BANDS == 0))
-			return tell(&call, i, "other queues");
-		if (!same_rest(face, model, (uint32_t)setup->config.class_count))
-			return tell(&call, i, "another pool");
+		if (!does(face, model, setup, &call, i))
+			return 0;
+		if (i % CALLS_TO_ALL_MESSAGES == 0 && !empties(face, model, setup, i))
+			return 0;
 	}
-	return 1;
+	return empties(face, model, setup, calls);
 }
 
 static int run_pool(uint32_t id, unsigned long calls)
@@ -320,6 +427,8 @@ int main(int argc, char **argv)
 			passed++;
 		else
 			failed++;
+	if (calls >= CALLS_TO_EACH_ANSWER && !had_each_answer())
+		failed++;
 	printf("%lu passed, %lu failed\n", passed, failed);
 	return failed == 0 ? EXIT_SUCCESS : EXIT_FAILURE;
 }
