@@ -53,19 +53,24 @@ const fn name(head: u32, stamp: u64) -> Name {
 // A message of these bytes.
 fn message(rt: &impl Abort, pool: &mut NamedPool, bytes: &[u8]) -> Name {
     let name = pool.allocb(16).expect(rt, "a message");
-    assert!(rt; pool.write(name, 0, bytes) == Ok(()));
+    assert_is(rt, pool.write(name, 0, bytes), Ok(()));
     name
+}
+
+// What was given is what was wanted.
+fn assert_is<T: PartialEq + Drop>(rt: &impl Abort, given: T, wanted: T) {
+    assert!(rt; given == wanted);
 }
 
 // So many message blocks are free, in messages on queues and held.
 fn assert_census(rt: &impl Abort, pool: &NamedPool, wanted: (u32, u32, u32)) {
     let census = pool.census();
-    assert!(rt; (census.free, census.queued, census.held) == wanted);
+    assert_is(rt, (census.free, census.queued, census.held), wanted);
 }
 
 // So many bytes has the message of this name.
 fn assert_size(rt: &impl Abort, pool: &NamedPool, name: Name, wanted: Result<u32, Fault>) {
-    assert!(rt; pool.size(name) == wanted);
+    assert_is(rt, pool.size(name), wanted);
 }
 
 fn assert_linked(
@@ -74,22 +79,22 @@ fn assert_linked(
     names: (Name, Name),
     wanted: Result<(), Fault>,
 ) {
-    assert!(rt; pool.linkb(names.0, names.1) == wanted);
+    assert_is(rt, pool.linkb(names.0, names.1), wanted);
 }
 
 fn assert_freed(rt: &impl Abort, pool: &mut NamedPool, name: Name, wanted: Result<(), Fault>) {
-    assert!(rt; pool.freemsg(name) == wanted);
+    assert_is(rt, pool.freemsg(name), wanted);
 }
 
 #[test]
 fn tells_what_is_wrong_with_a_configuration(rt: HostRuntime) {
     let answer = NamedPool::new(rt.alloc(), config(1, 0));
-    assert!(rt; answer.err() == Some(NewFault::BadConfig(Which::Mblks)));
+    assert_is(&rt, answer.err(), Some(NewFault::BadConfig(Which::Mblks)));
 }
 
 #[test]
 fn refuses_as_the_pool_does(rt: HostRuntime) {
     let mut pool = opened(&rt, rt.alloc(), 1);
     assert!(rt; pool.testb(16) && !pool.testb(17));
-    assert!(rt; pool.allocb(17) == Err(Fault::Refused(Refusal::TooLarge)));
+    assert_is(&rt, pool.allocb(17), Err(Fault::Refused(Refusal::TooLarge)));
 }

@@ -1,11 +1,13 @@
 use super::spent::assert_invalid;
-use super::{assert_census, assert_freed, assert_linked, assert_size, message, name, opened};
+use super::{
+    assert_census, assert_freed, assert_is, assert_linked, assert_size, message, name, opened,
+};
 use std::process::Abort;
 use strm_named::{Fault, Name, NamedPool};
 use strm_pool::{MsgType, Refusal};
 
 fn assert_unlinked(rt: &impl Abort, pool: &mut NamedPool, name: Name, wanted: Option<Name>) {
-    assert!(rt; pool.unlinkb(name) == Ok(wanted));
+    assert_is(rt, pool.unlinkb(name), Ok(wanted));
 }
 
 fn assert_parted(
@@ -14,7 +16,7 @@ fn assert_parted(
     from: (Name, u32),
     wanted: Result<(Name, Option<Name>), Fault>,
 ) {
-    assert!(rt; pool.rmvb(from.0, from.1) == wanted);
+    assert_is(rt, pool.rmvb(from.0, from.1), wanted);
 }
 
 fn assert_typed(
@@ -24,7 +26,7 @@ fn assert_typed(
     kind: MsgType,
     wanted: Result<(), Fault>,
 ) {
-    assert!(rt; pool.settype(block.0, block.1, kind) == wanted);
+    assert_is(rt, pool.settype(block.0, block.1, kind), wanted);
 }
 
 fn assert_trimmed(
@@ -34,7 +36,7 @@ fn assert_trimmed(
     count: i32,
     wanted: Result<(), Fault>,
 ) {
-    assert!(rt; pool.adjmsg(name, count) == wanted);
+    assert_is(rt, pool.adjmsg(name, count), wanted);
 }
 
 #[test]
@@ -82,9 +84,9 @@ fn frees_a_first_block(rt: HostRuntime) {
     let first = message(&rt, &mut pool, b"one");
     let second = message(&rt, &mut pool, b"two");
     assert_linked(&rt, &mut pool, (first, second), Ok(()));
-    assert!(rt; pool.freeb(first) == Ok(Some(name(1, 2))));
+    assert_is(&rt, pool.freeb(first), Ok(Some(name(1, 2))));
     assert_invalid(&rt, &mut pool, first);
-    assert!(rt; pool.freeb(name(1, 2)) == Ok(None));
+    assert_is(&rt, pool.freeb(name(1, 2)), Ok(None));
     assert_census(&rt, &pool, (8, 0, 0));
 }
 
@@ -92,10 +94,10 @@ fn frees_a_first_block(rt: HostRuntime) {
 fn names_what_it_copies(rt: HostRuntime) {
     let mut pool = opened(&rt, rt.alloc(), 1);
     let source = message(&rt, &mut pool, b"one");
-    assert!(rt; pool.dupb(source) == Ok(name(1, 1)));
-    assert!(rt; pool.dupmsg(source) == Ok(name(2, 1)));
-    assert!(rt; pool.copyb(source) == Ok(name(3, 1)));
-    assert!(rt; pool.copymsg(source) == Ok(name(4, 1)));
+    assert_is(&rt, pool.dupb(source), Ok(name(1, 1)));
+    assert_is(&rt, pool.dupmsg(source), Ok(name(2, 1)));
+    assert_is(&rt, pool.copyb(source), Ok(name(3, 1)));
+    assert_is(&rt, pool.copymsg(source), Ok(name(4, 1)));
     let shared = Err(Fault::Refused(Refusal::Shared));
     assert_typed(&rt, &mut pool, (source, 0), MsgType::MProto, shared);
     assert_census(&rt, &pool, (3, 0, 5));
@@ -114,15 +116,23 @@ fn two_types(rt: &impl Abort, pool: &mut NamedPool) -> Name {
 fn changes_a_message(rt: HostRuntime) {
     let mut pool = opened(&rt, rt.alloc(), 1);
     let changed = two_types(&rt, &mut pool);
-    assert!(rt; pool.setband(changed, 9) == Ok(()));
-    assert!(rt; (pool.size(changed), pool.msgdsize(changed)) == (Ok(6), Ok(3)));
+    assert_is(&rt, pool.setband(changed, 9), Ok(()));
+    assert_is(
+        &rt,
+        (pool.size(changed), pool.msgdsize(changed)),
+        (Ok(6), Ok(3)),
+    );
     let short = Err(Fault::Refused(Refusal::Short));
     assert_trimmed(&rt, &mut pool, changed, 4, short);
     assert_trimmed(&rt, &mut pool, changed, 1, Ok(()));
     let Ok(block) = pool.block(changed, 0) else {
         panic!(&rt; "no block")
     };
-    assert!(rt; (block.kind, block.len, block.band) == (MsgType::MData, 2, 9));
+    assert_is(
+        &rt,
+        (block.kind, block.len, block.band),
+        (MsgType::MData, 2, 9),
+    );
 }
 
 // The blocks behind the first are freed, and the name is still valid.
@@ -131,10 +141,14 @@ fn pulls_a_message_up(rt: HostRuntime) {
     let mut pool = opened(&rt, rt.alloc(), 1);
     let pulled = two_types(&rt, &mut pool);
     assert_typed(&rt, &mut pool, (pulled, 1), MsgType::MData, Ok(()));
-    assert!(rt; pool.pullupmsg(pulled, -1) == Ok(()));
+    assert_is(&rt, pool.pullupmsg(pulled, -1), Ok(()));
     let mut bytes = [0; 8];
-    assert!(rt; pool.read(pulled, 1, &mut bytes) == Ok(5));
-    assert!(rt; bytes == *b"netwo\0\0\0");
-    assert!(rt; pool.block(pulled, 1) == Err(Fault::Refused(Refusal::NoSuchBlock)));
+    assert_is(&rt, pool.read(pulled, 1, &mut bytes), Ok(5));
+    assert_is(&rt, bytes, *b"netwo\0\0\0");
+    assert_is(
+        &rt,
+        pool.block(pulled, 1),
+        Err(Fault::Refused(Refusal::NoSuchBlock)),
+    );
     assert_census(&rt, &pool, (7, 0, 1));
 }

@@ -1,5 +1,5 @@
 use super::spent::assert_invalid;
-use super::{assert_census, message, name, opened};
+use super::{assert_census, assert_is, message, name, opened};
 use std::process::Abort;
 use strm_named::{Fault, Name, NamedPool};
 use strm_pool::{Flush, Refusal};
@@ -11,7 +11,7 @@ fn assert_put(
     name: Name,
     wanted: Result<(), Fault>,
 ) {
-    assert!(rt; pool.putq(queue, name) == wanted);
+    assert_is(rt, pool.putq(queue, name), wanted);
 }
 
 fn assert_inserted(
@@ -21,15 +21,15 @@ fn assert_inserted(
     name: Name,
     wanted: Result<(), Fault>,
 ) {
-    assert!(rt; pool.insq(0, place, name) == wanted);
+    assert_is(rt, pool.insq(0, place, name), wanted);
 }
 
 fn assert_got(rt: &impl Abort, pool: &mut NamedPool, wanted: Option<Name>) {
-    assert!(rt; pool.getq(0) == Ok(wanted));
+    assert_is(rt, pool.getq(0), Ok(wanted));
 }
 
 fn assert_removed(rt: &impl Abort, pool: &mut NamedPool, place: u32, wanted: Result<Name, Fault>) {
-    assert!(rt; pool.rmvq(0, place) == wanted);
+    assert_is(rt, pool.rmvq(0, place), wanted);
 }
 
 // Three messages stand on queue 0, with heads 1, 0 and 2.
@@ -46,7 +46,7 @@ fn filled(rt: &impl Abort, pool: &mut NamedPool) {
     );
     assert_put(rt, pool, 0, first, Ok(()));
     assert_invalid(rt, pool, first);
-    assert!(rt; pool.putbq(0, second) == Ok(()));
+    assert_is(rt, pool.putbq(0, second), Ok(()));
     let missing = Err(Fault::Refused(Refusal::NoSuchPlace));
     assert_inserted(rt, pool, 3, third, missing);
     assert_inserted(rt, pool, 2, third, Ok(()));
@@ -70,11 +70,11 @@ fn puts_and_gets(rt: HostRuntime) {
 fn flushes(rt: HostRuntime) {
     let mut pool = opened(&rt, rt.alloc(), 1);
     filled(&rt, &mut pool);
-    assert!(rt; pool.qsize(0) == Ok(3));
-    assert!(rt; pool.bcanput(0, 0) == Ok(false));
-    assert!(rt; pool.flushband(0, 1, Flush::All) == Ok(()));
+    assert_is(&rt, pool.qsize(0), Ok(3));
+    assert_is(&rt, pool.bcanput(0, 0), Ok(false));
+    assert_is(&rt, pool.flushband(0, 1, Flush::All), Ok(()));
     assert_census(&rt, &pool, (5, 3, 0));
-    assert!(rt; pool.flushq(0, Flush::All) == Ok(()));
+    assert_is(&rt, pool.flushq(0, Flush::All), Ok(()));
     assert_census(&rt, &pool, (8, 0, 0));
 }
 
@@ -82,19 +82,19 @@ fn flushes(rt: HostRuntime) {
 fn serves_queues(rt: HostRuntime) {
     let mut pool = opened(&rt, rt.alloc(), 1);
     assert!(rt; pool.has_queue(1) && !pool.has_queue(2));
-    assert!(rt; pool.noenable(0) == Ok(()));
-    assert!(rt; pool.enableok(0) == Ok(()));
-    assert!(rt; pool.qenable(0) == Ok(()));
-    assert!(rt; pool.qenable(2) == Err(Refusal::NoSuchQueue));
-    assert!(rt; (pool.run_at(0), pool.run_at(1)) == (Some(0), None));
-    assert!(rt; pool.next_service() == Some(0));
+    assert_is(&rt, pool.noenable(0), Ok(()));
+    assert_is(&rt, pool.enableok(0), Ok(()));
+    assert_is(&rt, pool.qenable(0), Ok(()));
+    assert_is(&rt, pool.qenable(2), Err(Refusal::NoSuchQueue));
+    assert_is(&rt, (pool.run_at(0), pool.run_at(1)), (Some(0), None));
+    assert_is(&rt, pool.next_service(), Some(0));
 }
 
 #[test]
 fn sets_water_marks(rt: HostRuntime) {
     let mut pool = opened(&rt, rt.alloc(), 1);
-    assert!(rt; pool.strqset(0, 3, 20, 20) == Err(Refusal::BadMarks));
-    assert!(rt; pool.strqset(0, 3, 21, 20) == Ok(()));
+    assert_is(&rt, pool.strqset(0, 3, 20, 20), Err(Refusal::BadMarks));
+    assert_is(&rt, pool.strqset(0, 3, 21, 20), Ok(()));
     let marks = pool.strqget(0, 3);
     assert!(rt; marks.is_ok_and(|marks| marks.hiwat == 21 && marks.lowat == 20));
 }
@@ -111,10 +111,10 @@ fn tells_of_queues_and_classes(rt: HostRuntime) {
 #[test]
 fn records_wishes(rt: HostRuntime) {
     let mut pool = opened(&rt, rt.alloc(), 1);
-    assert!(rt; pool.bufcall(16) == Ok(1));
-    assert!(rt; pool.bufcall(16) == Ok(2));
-    assert!(rt; pool.unbufcall(1) == Ok(()));
-    assert!(rt; pool.wish_at(0) == Some((2, 16)));
-    assert!(rt; pool.take_ready() == Some((2, 16)));
-    assert!(rt; pool.take_ready() == None);
+    assert_is(&rt, pool.bufcall(16), Ok(1));
+    assert_is(&rt, pool.bufcall(16), Ok(2));
+    assert_is(&rt, pool.unbufcall(1), Ok(()));
+    assert_is(&rt, pool.wish_at(0), Some((2, 16)));
+    assert_is(&rt, pool.take_ready(), Some((2, 16)));
+    assert_is(&rt, pool.take_ready(), None);
 }
