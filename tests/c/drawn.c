@@ -1,7 +1,7 @@
 /*
  * Draws calls, has the pool of strm.h and the plain model do each, and compares their replies and, behind each call, all that there is.
  *
- *     drawn CALLS SEED            compares; the last line is 'N passed, M failed', which counts pools
+ *     drawn CALLS SEED            compares; the last line is 'N passed, M failed', which counts pools, and 1 where an answer never came
  *     drawn CALLS SEED SCRIPT     writes a script of the calls of one pool, and the model's replies as lines to standard output
  */
 #include "face.h"
@@ -84,9 +84,14 @@ static uint32_t below(uint32_t bound)
 
 /* ---- a pool */
 
+/* The most message blocks and classes, and the most bytes of a data block. */
+#define MOST_BLOCKS 400
+#define MOST_CLASSES 3
+#define MOST_SIZE 72
+
 struct setup {
 	struct strm_config config;
-	struct strm_class_spec classes[3];
+	struct strm_class_spec classes[MOST_CLASSES];
 	struct strm_queue_spec queues[STRM_MOST_QUEUES];
 	uint32_t band;		/* drawn often beside those that are drawn in each pool */
 };
@@ -94,19 +99,19 @@ struct setup {
 /* Pools are small, so that each refusal comes, and now and then large. Of as many queues as `chained` says all but one feed the next. */
 static void draw_setup(struct setup *setup, uint32_t id)
 {
-	uint32_t i, size = 0, chained = 1 + below(8), most = below(8) > 0 ? 40 : 400;
+	uint32_t i, size = 0, chained = 1 + below(8), most = below(8) > 0 ? 40 : MOST_BLOCKS;
 
 	setup->band = below(STRM_BANDS);
 	setup->config.id = id;
 	setup->config.mblks = 1 + below(most);
-	setup->config.class_count = 1 + below(3);
+	setup->config.class_count = 1 + below(MOST_CLASSES);
 	setup->config.queue_count = 1 + below(below(4) > 0 ? 5 : STRM_MOST_QUEUES);
 	setup->config.bufcalls = below(5);
 	setup->config.first_id = below(8) == 0 ? 4294967290u : 1 + below(100);
 	setup->config.classes = setup->classes;
 	setup->config.queues = setup->queues;
 	for (i = 0; i < setup->config.class_count; i++) {
-		size += 1 + below(24);
+		size += 1 + below(MOST_SIZE / MOST_CLASSES);
 		setup->classes[i].size = size;
 		setup->classes[i].count = 1 + below(most / 2);
 	}
@@ -181,7 +186,7 @@ static struct call drawn_call(const struct model *model, const struct setup *set
 
 static int same_registers(struct face *face, const struct model *model)
 {
-	uint8_t wanted[STRM_MOST_DATA_BYTES], found[STRM_MOST_DATA_BYTES];
+	static uint8_t wanted[MOST_BLOCKS * MOST_SIZE], found[MOST_BLOCKS * MOST_SIZE];
 	struct strm_block_info block, of_model;
 	uint32_t yes, bytes, place, blocks, length;
 	size_t count;
@@ -303,6 +308,7 @@ static int same_answer(struct face *face, const struct call *call, const struct 
 	int names_empty = strchr(forms[call->verb].names, 'x') != NULL && !face->holds[call->x];
 
 	found = face_apply(face, call);
+	note_answer(call, &found);
 	return !face->broken && same_reply(&found, names_empty ? &empty : wanted);
 }
 
@@ -321,7 +327,6 @@ static int does(struct face *face, struct model *model, const struct setup *setu
 
 	if (wanted.kind == TAKEN)
 		return 1;
-	note_answer(call, &wanted);
 	if (!same_answer(face, call, &wanted))
 		return tell(call, number, "another answer");
 	if (!same_census(face, model))
@@ -333,7 +338,8 @@ static int does(struct face *face, struct model *model, const struct setup *setu
 	return same_rest(face, model, (uint32_t)setup->config.class_count) || tell(call, number, "another pool");
 }
 
-/* Takes all messages off all queues, so that their order and what they are is compared. Each is freed. */
+/* Takes all messages off all queues, into register a, so that their order and what they are is compared. Each is freed, and what the
+ * register held before. */
 static int empties(struct face *face, struct model *model, const struct setup *setup, unsigned long number)
 {
 	struct call call;

@@ -26,6 +26,9 @@ const QUEUE: QueueSpec = QueueSpec {
     next: None,
 };
 
+// It alone.
+const ALONE: [QueueSpec; 1] = [QUEUE];
+
 // What a message of one block is made with.
 #[derive(Clone, Copy)]
 struct Draft {
@@ -160,7 +163,7 @@ fn free(queues: &Queues, blocks: &mut Blocks, token: Token)
     blocks.freemsg(token);
 }
 
-// The rank of a message of one block.
+// The rank of a message.
 fn rank_of(rt: &impl Abort, blocks: &Blocks, token: &Token) -> u16 {
     assert!(rt; blocks.has(token));
     match blocks.block(token, 0) {

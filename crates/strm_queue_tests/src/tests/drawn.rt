@@ -4,13 +4,11 @@ ghost use Rattle.strm_data.specs.Classes.{are_lawful};
 ghost use Rattle.strm_queue.specs.QueuedBlocks.{Agrees};
 
 use super::bench::Bench;
-use super::{HIGH_RANK, MESSAGES, QUEUE, ranked};
+use super::{ALONE, HIGH_RANK, MESSAGES, ranked};
 use std::alloc::Global;
 use std::process::Abort;
 use strm_data::{ClassSpec, Refusal};
-use strm_queue::{Flush, QueueSpec};
-
-const QUEUES: [QueueSpec; 1] = [QUEUE];
+use strm_queue::Flush;
 
 // A data block for each message, and one for all.
 const MANY: [ClassSpec; 1] = [ClassSpec {
@@ -103,7 +101,7 @@ impl Drawn {
         ensures { Agrees result.bench.queues result.bench.blocks }
     {
         Drawn {
-            bench: Bench::opened(rt, alloc, classes, &QUEUES),
+            bench: Bench::opened(rt, alloc, classes, &ALONE),
             plain: Plain {
                 heads: Vec::new(alloc),
                 ranks: Vec::new(alloc),
@@ -153,17 +151,25 @@ impl Drawn {
         }
     }
 
-    // Takes the message at a place, or the first one by `getq`, if there is one.
-    fn take(&mut self, rt: &impl Abort, place: u32, is_first: bool)
+    // Takes the first message, if there is one.
+    fn getq(&mut self, rt: &impl Abort)
         requires { Agrees self.old.bench.queues self.old.bench.blocks }
         ensures { Agrees self.new.bench.queues self.new.bench.blocks }
     {
-        if is_first && self.plain.ranks.is_empty() {
+        if self.plain.ranks.is_empty() {
             self.bench.assert_none(rt, 0, Ok(()));
-        } else if is_first {
+        } else {
             let (head, rank) = self.plain.take(rt, 0);
             self.bench.assert_first(rt, 0, head, rank);
-        } else if place as usize >= self.plain.ranks.len() {
+        }
+    }
+
+    // Takes the message at a place, if there is one.
+    fn rmvq(&mut self, rt: &impl Abort, place: u32)
+        requires { Agrees self.old.bench.queues self.old.bench.blocks }
+        ensures { Agrees self.new.bench.queues self.new.bench.blocks }
+    {
+        if place as usize >= self.plain.ranks.len() {
             self.bench
                 .assert_not_at(rt, (0, place), Refusal::NoSuchPlace);
         } else {
@@ -204,20 +210,20 @@ impl Drawn {
     {
         match below(draw, 4_096) {
             0 => self.flushband(rt, below(draw, 32) as u8),
-            1..=511 => self.take(rt, 0, true),
-            512..=1_023 => self.take(rt, below(draw, 32), false),
+            1..=511 => self.getq(rt),
+            512..=1_023 => self.rmvq(rt, below(draw, 32)),
             _ => self.put_some(rt, draw, ranks),
         }
     }
 
-    // The queue reads alike both ways, and as the lists.
+    // The queue reads alike both ways, and has these heads.
     fn assert_same(&self, rt: &impl Abort)
         requires { Agrees self.now.bench.queues self.now.bench.blocks }
     {
         self.bench.assert_heads(rt, 0, &self.plain.heads);
     }
 
-    // So many drawn calls. All is compared after each eighth.
+    // So many drawn calls. The whole queue is read after each eighth.
     fn walk(&mut self, rt: &impl Abort, steps: u32, ranks: u16)
         requires { Agrees self.old.bench.queues self.old.bench.blocks }
         ensures { Agrees self.new.bench.queues self.new.bench.blocks }
@@ -260,7 +266,7 @@ impl Drawn {
         ensures { Agrees self.new.bench.queues self.new.bench.blocks }
     {
         for _message in 0..self.plain.heads.len() {
-            self.take(rt, 0, true);
+            self.getq(rt);
         }
         self.bench.assert_none(rt, 0, Ok(()));
         self.bench.assert_all_free(rt);

@@ -1,5 +1,5 @@
 //! The messages of a queue, read both ways.
-ghost use Rattle.std.specs.Prelude.{◌≡◌, ◌<◌, IsTrue, length};
+ghost use Rattle.std.specs.Prelude.{◌<◌, IsTrue, length};
 ghost use Rattle.std.specs.Option.{ForSome};
 ghost use Rattle.strm_mblk.specs.Shelves.{stands_on};
 ghost use Rattle.strm_queue.specs.QueuedBlocks.{Agrees};

@@ -4,3 +4,8 @@ mod flow;
 mod flushing;
 mod missing;
 mod places;
+
+use strm_data::ClassSpec;
+
+// Eight data blocks.
+const CLASSES: [ClassSpec; 1] = [ClassSpec { size: 8, count: 8 }];

@@ -5,8 +5,11 @@ use super::Bench;
 use crate::tests::{Draft, assert_put, came_back, drafted, duplicated, linked, rank_of};
 use std::process::Abort;
 use strm_data::Refusal;
-use strm_mblk::Token;
+use strm_mblk::{BlockInfo, Rejected, Token};
 use strm_queue::Flush;
+
+// What a message is known by where it comes back: its head and its first block.
+type Known = (u32, Result<BlockInfo, Refusal>);
 
 impl Bench {
     // Puts a message behind its equals.
@@ -63,6 +66,24 @@ impl Bench {
         assert_put(rt, &mut self.blocks, answer);
     }
 
+    fn known(&self, rt: &impl Abort, token: &Token) -> Known {
+        assert!(rt; self.blocks.has(token));
+        (token.head(), self.blocks.block(token, 0))
+    }
+
+    // A message came back for this reason, as it was.
+    fn back(
+        &self,
+        rt: &impl Abort,
+        answer: Result<(), Rejected>,
+        refusal: Refusal,
+        known: &Known,
+    ) -> Token {
+        let (why, token) = came_back(rt, answer);
+        assert!(rt; why == refusal && self.known(rt, &token) == *known);
+        token
+    }
+
     // A message that is not put on a queue at a place, and why; it comes back with its rank and its band.
     pub(in crate::tests) fn not_put(
         &mut self,
@@ -74,30 +95,24 @@ impl Bench {
         requires { Agrees self.old.queues self.old.blocks }
         ensures { Agrees self.new.queues self.new.blocks }
     {
+        let known = self.known(rt, &token);
         assert!(rt; self.blocks.has(&token));
-        let head = token.head();
-        let told = self.blocks.block(&token, 0);
         let answer = self.queues.insq(&mut self.blocks, at.0, at.1, token);
-        let (why, token) = came_back(rt, answer);
-        assert!(rt; why == refusal);
-        assert!(rt; self.blocks.has(&token));
-        assert!(rt; (token.head(), self.blocks.block(&token, 0)) == (head, told));
-        token
+        self.back(rt, answer, refusal, &known)
     }
 
-    // A message that is put neither behind nor before its equals, since there is no such queue.
+    // A message that is put neither behind nor before its equals, since there is no such queue; it comes back so too.
     pub(in crate::tests) fn not_queued(&mut self, rt: &impl Abort, queue: u8, token: Token) -> Token
         requires { Agrees self.old.queues self.old.blocks }
         ensures { Agrees self.new.queues self.new.blocks }
     {
+        let known = self.known(rt, &token);
         assert!(rt; self.blocks.has(&token));
         let answer = self.queues.putq(&mut self.blocks, queue, token);
-        let (why, token) = came_back(rt, answer);
-        assert!(rt; why == Refusal::NoSuchQueue && self.blocks.has(&token));
+        let token = self.back(rt, answer, Refusal::NoSuchQueue, &known);
+        assert!(rt; self.blocks.has(&token));
         let answer = self.queues.putbq(&mut self.blocks, queue, token);
-        let (why, token) = came_back(rt, answer);
-        assert!(rt; why == Refusal::NoSuchQueue);
-        token
+        self.back(rt, answer, Refusal::NoSuchQueue, &known)
     }
 
     // A message that was taken off has this head and this rank. It is freed.
@@ -124,7 +139,7 @@ impl Bench {
         self.assert_is(rt, token, head, rank);
     }
 
-    // The first message of a queue.
+    // Takes the first message off a queue.
     fn first(&mut self, rt: &impl Abort, queue: u8) -> Token
         requires { Agrees self.old.queues self.old.blocks }
         ensures { Agrees self.new.queues self.new.blocks }
@@ -160,7 +175,7 @@ impl Bench {
         self.free(token);
     }
 
-    // There is no message to take off a queue.
+    // No message is taken off a queue, and that is answered so.
     pub(in crate::tests) fn assert_none(
         &mut self,
         rt: &impl Abort,

@@ -1,10 +1,8 @@
 //! What enables a queue, step by step.
+use super::CLASSES;
 use crate::tests::bench::Bench;
 use crate::tests::{HIGH_RANK, QUEUE, ranked};
-use strm_data::ClassSpec;
 use strm_queue::{QueueInfo, QueueSpec};
-
-const CLASSES: [ClassSpec; 1] = [ClassSpec { size: 8, count: 8 }];
 
 // One queue with a service procedure, and one without.
 const QUEUES: [QueueSpec; 2] = [
@@ -62,7 +60,7 @@ fn nobody_wants_to_read(rt: HostRuntime) {
     bench.put_new(&rt, 0, ranked(2));
     bench.assert_waiting(&rt, &[0]);
     bench.next_service(&rt, Some(0));
-    // The queue is read until it is empty, and once more.
+    // The queue is read until it is empty.
     bench.drop_first(&rt, 0);
     bench.drop_first(&rt, 0);
     bench.drop_first(&rt, 0);
@@ -71,6 +69,19 @@ fn nobody_wants_to_read(rt: HostRuntime) {
     bench.drop_first(&rt, 0);
     bench.assert_none(&rt, 0, Ok(()));
     bench.put_back_new(&rt, 0, ranked(2));
+    bench.assert_waiting(&rt, &[0]);
+}
+
+#[test]
+fn put_at_a_place(rt: HostRuntime) {
+    let mut bench = Bench::opened(&rt, rt.alloc(), &CLASSES, &QUEUES);
+    bench.noenable(&rt, 0, Ok(()));
+    let high = bench.drafted(&rt, ranked(HIGH_RANK));
+    bench.insq(&rt, (0, 0), high);
+    bench.assert_waiting(&rt, &[]);
+    bench.enableok(&rt, 0, Ok(()));
+    let low = bench.drafted(&rt, ranked(0));
+    bench.insq(&rt, (0, 1), low);
     bench.assert_waiting(&rt, &[0]);
 }
 

@@ -1,14 +1,13 @@
 //! Flow control step by step.
 ghost use Rattle.strm_queue.specs.QueuedBlocks.{Agrees};
 
+use super::CLASSES;
 use crate::tests::bench::Bench;
 use crate::tests::{Draft, QUEUE};
 use std::alloc::Global;
 use std::process::Abort;
-use strm_data::{ClassSpec, MsgType, Refusal};
+use strm_data::{MsgType, Refusal};
 use strm_queue::{Flush, QueueSpec};
-
-const CLASSES: [ClassSpec; 1] = [ClassSpec { size: 8, count: 8 }];
 
 // Two queues with service procedures.
 const TWO: [QueueSpec; 2] = [
@@ -34,13 +33,18 @@ const AHEAD: [QueueSpec; 3] = [
     QUEUE,
 ];
 
-// A message of band 0 with so many bytes.
-fn bytes(size: u32) -> Draft {
+// A message of a band with so many bytes.
+fn of_band(band: u8, size: u32) -> Draft {
     Draft {
         kind: MsgType::MData,
-        band: 0,
+        band,
         size,
     }
+}
+
+// A message of band 0 with so many bytes.
+fn bytes(size: u32) -> Draft {
+    of_band(0, size)
 }
 
 #[test]
@@ -61,15 +65,6 @@ fn back_enabling(rt: HostRuntime) {
     bench.drop_first(&rt, 1);
     bench.assert_band(&rt, (1, 0), 3, (false, false));
     bench.assert_waiting(&rt, &[1, 0]);
-}
-
-// A message of a band with so many bytes.
-fn of_band(band: u8, size: u32) -> Draft {
-    Draft {
-        kind: MsgType::MData,
-        band,
-        size,
-    }
 }
 
 #[test]

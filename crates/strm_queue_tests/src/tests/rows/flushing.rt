@@ -1,10 +1,9 @@
 //! Flushing step by step.
+use super::CLASSES;
 use crate::tests::bench::Bench;
 use crate::tests::{Draft, QUEUE};
 use strm_data::{ClassSpec, MsgType};
 use strm_queue::{Flush, QueueSpec};
-
-const CLASSES: [ClassSpec; 1] = [ClassSpec { size: 8, count: 8 }];
 
 const ONE_BLOCK: [ClassSpec; 1] = [ClassSpec { size: 8, count: 1 }];
 
@@ -34,6 +33,8 @@ fn data_or_all_of_a_queue_or_a_band(rt: HostRuntime) {
     bench.put_new(&rt, 0, message(MsgType::MData, 0));
     bench.put_new(&rt, 0, message(MsgType::MData, 5));
     bench.assert_heads(&rt, 0, &[3, 2, 0, 1]);
+    bench.flushband(&rt, (0, 0), Flush::Data, Ok(()));
+    bench.assert_heads(&rt, 0, &[2, 0]);
     bench.flushband(&rt, (0, 0), Flush::All, Ok(()));
     bench.assert_heads(&rt, 0, &[2]);
     bench.flushband(&rt, (0, 0), Flush::All, Ok(()));

@@ -1,19 +1,17 @@
 //! Calls on a queue that is not there.
+use super::CLASSES;
 use crate::tests::bench::Bench;
-use crate::tests::{QUEUE, ranked};
-use strm_data::{ClassSpec, Refusal};
-use strm_queue::{Flush, QueueSpec};
-
-const CLASSES: [ClassSpec; 1] = [ClassSpec { size: 8, count: 8 }];
-
-const QUEUES: [QueueSpec; 1] = [QUEUE];
+use crate::tests::{ALONE, HIGH_RANK, ranked};
+use strm_data::Refusal;
+use strm_queue::Flush;
 
 #[test]
 fn moves_nothing(rt: HostRuntime) {
-    let mut bench = Bench::opened(&rt, rt.alloc(), &CLASSES, &QUEUES);
+    let mut bench = Bench::opened(&rt, rt.alloc(), &CLASSES, &ALONE);
     bench.has_queue(&rt, 0, true);
     bench.has_queue(&rt, 1, false);
-    let token = bench.drafted(&rt, ranked(3));
+    // One of high priority keeps its band.
+    let token = bench.drafted(&rt, ranked(HIGH_RANK));
     let token = bench.not_queued(&rt, 1, token);
     bench.free(token);
     bench.assert_none(&rt, 1, Err(Refusal::NoSuchQueue));
@@ -24,7 +22,7 @@ fn moves_nothing(rt: HostRuntime) {
 
 #[test]
 fn tells_nothing(rt: HostRuntime) {
-    let mut bench = Bench::opened(&rt, rt.alloc(), &CLASSES, &QUEUES);
+    let mut bench = Bench::opened(&rt, rt.alloc(), &CLASSES, &ALONE);
     bench.bcanput(&rt, (1, 0), Err(Refusal::NoSuchQueue));
     bench.strqset(&rt, (1, 0), (5, 5), Err(Refusal::NoSuchQueue));
     bench.strqget(&rt, (1, 0), Err(Refusal::NoSuchQueue));
@@ -35,7 +33,7 @@ fn tells_nothing(rt: HostRuntime) {
 
 #[test]
 fn enables_nothing(rt: HostRuntime) {
-    let mut bench = Bench::opened(&rt, rt.alloc(), &CLASSES, &QUEUES);
+    let mut bench = Bench::opened(&rt, rt.alloc(), &CLASSES, &ALONE);
     bench.qenable(&rt, 1, Err(Refusal::NoSuchQueue));
     bench.noenable(&rt, 1, Err(Refusal::NoSuchQueue));
     bench.enableok(&rt, 1, Err(Refusal::NoSuchQueue));

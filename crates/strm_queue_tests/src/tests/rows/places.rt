@@ -1,16 +1,12 @@
 //! Places of messages in a queue.
+use super::CLASSES;
 use crate::tests::bench::Bench;
-use crate::tests::{HIGH_RANK, QUEUE, ranked};
-use strm_data::{ClassSpec, Refusal};
-use strm_queue::QueueSpec;
-
-const CLASSES: [ClassSpec; 1] = [ClassSpec { size: 8, count: 8 }];
-
-const QUEUES: [QueueSpec; 1] = [QUEUE];
+use crate::tests::{ALONE, HIGH_RANK, ranked};
+use strm_data::Refusal;
 
 #[test]
 fn priority_order(rt: HostRuntime) {
-    let mut bench = Bench::opened(&rt, rt.alloc(), &CLASSES, &QUEUES);
+    let mut bench = Bench::opened(&rt, rt.alloc(), &CLASSES, &ALONE);
     bench.put_new(&rt, 0, ranked(0));
     bench.put_new(&rt, 0, ranked(3));
     bench.put_new(&rt, 0, ranked(1));
@@ -27,7 +23,7 @@ fn priority_order(rt: HostRuntime) {
 
 #[test]
 fn put_back_in_front(rt: HostRuntime) {
-    let mut bench = Bench::opened(&rt, rt.alloc(), &CLASSES, &QUEUES);
+    let mut bench = Bench::opened(&rt, rt.alloc(), &CLASSES, &ALONE);
     bench.put_new(&rt, 0, ranked(HIGH_RANK));
     bench.put_new(&rt, 0, ranked(3));
     bench.put_new(&rt, 0, ranked(3));
@@ -44,7 +40,7 @@ fn put_back_in_front(rt: HostRuntime) {
 
 #[test]
 fn insert_at_a_place(rt: HostRuntime) {
-    let mut bench = Bench::opened(&rt, rt.alloc(), &CLASSES, &QUEUES);
+    let mut bench = Bench::opened(&rt, rt.alloc(), &CLASSES, &ALONE);
     bench.put_new(&rt, 0, ranked(2));
     let lower = bench.drafted(&rt, ranked(1));
     let lower = bench.not_put(&rt, (0, 0), lower, Refusal::BadOrder);
