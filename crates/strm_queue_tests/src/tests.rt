@@ -6,7 +6,7 @@ ghost use Rattle.strm_queue.specs.QueuedBlocks.{Agrees};
 
 use std::alloc::Global;
 use std::process::Abort;
-use strm_data::{ClassSpec, MsgType, Refusal};
+use strm_data::{ClassSpec, MsgType};
 use strm_mblk::{Blocks, MOST_MESSAGE_BLOCKS, Rejected, Token};
 use strm_queue::{BANDS, QueueSpec, Queues};
 
@@ -183,13 +183,5 @@ fn assert_put(rt: &impl Abort, blocks: &mut Blocks, answer: Result<(), Rejected>
     if let Err(Rejected { why, token }) = answer {
         blocks.freemsg(token);
         panic!(rt; "{why:?}");
-    }
-}
-
-// The message that came back, and why.
-fn came_back(rt: &impl Abort, answer: Result<(), Rejected>) -> (Refusal, Token) {
-    match answer {
-        Ok(()) => panic!(rt; "the message was put"),
-        Err(Rejected { why, token }) => (why, token),
     }
 }

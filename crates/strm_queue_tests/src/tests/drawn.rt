@@ -1,14 +1,18 @@
-//! Drawn calls on a queue, beside plain lists of the heads and the ranks of its messages.
+//! Drawn calls on a queue, beside plain lists of its messages and of its bands.
 ghost use Rattle.std.specs.Prelude.{◌<◌, IsTrue};
 ghost use Rattle.strm_data.specs.Classes.{are_lawful};
 ghost use Rattle.strm_queue.specs.QueuedBlocks.{Agrees};
 
 use super::bench::Bench;
-use super::{ALONE, HIGH_RANK, MESSAGES, ranked};
+use super::{ALONE, Draft, HIGH_RANK, MESSAGES, QUEUE, ranked};
 use std::alloc::Global;
 use std::process::Abort;
 use strm_data::{ClassSpec, Refusal};
 use strm_queue::Flush;
+
+mod plain;
+
+use plain::{Band, Plain, Standing, band_of};
 
 // A data block for each message, and one for all.
 const MANY: [ClassSpec; 1] = [ClassSpec {
@@ -17,6 +21,11 @@ const MANY: [ClassSpec; 1] = [ClassSpec {
 }];
 
 const ONE: [ClassSpec; 1] = [ClassSpec { size: 8, count: 1 }];
+
+// The ranks that messages have: 16 bands, in all words of a set of bands, and high priority.
+const SPREAD: [u16; 17] = [
+    0, 1, 2, 31, 32, 33, 63, 64, 95, 96, 127, 128, 200, 223, 254, 255, HIGH_RANK,
+];
 
 // The next number below `limit` of a fixed sequence.
 fn below(draw: &mut u32, limit: u32) -> u32
@@ -27,65 +36,11 @@ fn below(draw: &mut u32, limit: u32) -> u32
     (*draw >> 8) % limit
 }
 
-// What stands on the queue, front to back, and how many stood there at most.
-#[derive(Drop)]
-struct Plain {
-    heads: Vec<u32>,
-    ranks: Vec<u16>,
-    most: usize,
-}
-
-impl Plain {
-    // How many have at least this rank.
-    fn as_high(&self, rank: u16) -> usize {
-        self.ranks.iter().filter(|other| **other >= rank).count()
-    }
-
-    // How many have a greater one.
-    fn higher(&self, rank: u16) -> usize {
-        self.ranks.iter().filter(|other| **other > rank).count()
-    }
-
-    // A message comes to a place.
-    fn put(&mut self, rt: &impl Abort, place: usize, head: u32, rank: u16) {
-        assert!(rt; place <= self.heads.len() && place <= self.ranks.len());
-        assert!(rt; self.heads.insert(place, head).is_ok());
-        assert!(rt; self.ranks.insert(place, rank).is_ok());
-        self.most = self.most.max(self.ranks.len());
-    }
-
-    // The message at a place goes, of which this gives head and rank.
-    fn take(&mut self, rt: &impl Abort, place: usize) -> (u32, u16) {
-        assert!(rt; place < self.heads.len() && place < self.ranks.len());
-        (self.heads.remove(place), self.ranks.remove(place))
-    }
-
-    // The first messages go, so many, of which this gives the head and the rank of the first.
-    fn take_first(&mut self, rt: &impl Abort, many: u32) -> (u32, u16) {
-        let first = self.take(rt, 0);
-        for _other in 1..many {
-            self.take(rt, 0);
-        }
-        first
-    }
-
-    // Whether the message at a place is of a band.
-    fn is_of_band(&self, place: usize, band: u16) -> bool {
-        self.ranks
-            .get(place)
-            .is_some_and(|rank| *rank % HIGH_RANK == band)
-    }
-
-    // The messages of a band go.
-    fn flush(&mut self, rt: &impl Abort, band: u16) {
-        let mut place = 0usize;
-        for _message in 0..self.ranks.len() {
-            if self.is_of_band(place, band) {
-                self.take(rt, place);
-            } else {
-                place = place.wrapping_add(1);
-            }
-        }
+// A message of this rank and so many bytes.
+fn sized(rank: u16, size: u32) -> Draft {
+    Draft {
+        size,
+        ..ranked(rank)
     }
 }
 
@@ -93,51 +48,71 @@ impl Plain {
 struct Drawn {
     bench: Bench,
     plain: Plain,
+    draw: u32,
+    // How many ranks messages have: so many of `SPREAD`, or all.
+    ranks: u16,
 }
 
 impl Drawn {
-    fn opened(rt: &impl Abort, alloc: Global, classes: &[ClassSpec]) -> Drawn
+    fn opened(rt: &impl Abort, alloc: Global, classes: &[ClassSpec], ranks: u16) -> Drawn
         requires { IsTrue (are_lawful classes.now) }
         ensures { Agrees result.bench.queues result.bench.blocks }
     {
+        let band = Band {
+            hiwat: QUEUE.hiwat,
+            lowat: QUEUE.lowat,
+            wanted: false,
+        };
         Drawn {
             bench: Bench::opened(rt, alloc, classes, &ALONE),
-            plain: Plain {
-                heads: Vec::new(alloc),
-                ranks: Vec::new(alloc),
-                most: 0,
-            },
+            plain: Plain::new(alloc, band),
+            draw: 1,
+            ranks,
+        }
+    }
+
+    // One of the ranks.
+    fn rank(&mut self, rt: &impl Abort) -> u16
+        requires { Agrees self.old.bench.queues self.old.bench.blocks }
+        ensures { Agrees self.new.bench.queues self.new.bench.blocks }
+    {
+        assert!(rt; self.ranks > 0);
+        let drawn = below(&mut self.draw, u32::from(self.ranks)) as u16;
+        if usize::from(self.ranks) > SPREAD.len() {
+            drawn
+        } else {
+            SPREAD.get(usize::from(drawn)).copied().unwrap_or(0)
         }
     }
 
     // Puts a new message behind its equals.
-    fn putq(&mut self, rt: &impl Abort, rank: u16)
+    fn putq(&mut self, rt: &impl Abort, rank: u16, size: u32)
         requires { Agrees self.old.bench.queues self.old.bench.blocks }
         ensures { Agrees self.new.bench.queues self.new.bench.blocks }
     {
         let place = self.plain.as_high(rank);
-        let head = self.bench.put_new(rt, 0, ranked(rank));
-        self.plain.put(rt, place, head, rank);
+        let head = self.bench.put_new(rt, 0, sized(rank, size));
+        self.plain.put(rt, place, Standing { head, rank, size });
     }
 
     // Puts a new message before its equals.
-    fn putbq(&mut self, rt: &impl Abort, rank: u16)
+    fn putbq(&mut self, rt: &impl Abort, rank: u16, size: u32)
         requires { Agrees self.old.bench.queues self.old.bench.blocks }
         ensures { Agrees self.new.bench.queues self.new.bench.blocks }
     {
         let place = self.plain.higher(rank);
-        let head = self.bench.put_back_new(rt, 0, ranked(rank));
-        self.plain.put(rt, place, head, rank);
+        let head = self.bench.put_back_new(rt, 0, sized(rank, size));
+        self.plain.put(rt, place, Standing { head, rank, size });
     }
 
     // Puts a new message at a place, if it may stand there.
-    fn insq(&mut self, rt: &impl Abort, place: u32, rank: u16)
+    fn insq(&mut self, rt: &impl Abort, place: u32, rank: u16, size: u32)
         requires { Agrees self.old.bench.queues self.old.bench.blocks }
         ensures { Agrees self.new.bench.queues self.new.bench.blocks }
     {
-        let token = self.bench.drafted(rt, ranked(rank));
+        let token = self.bench.drafted(rt, sized(rank, size));
         let at = place as usize;
-        if at > self.plain.ranks.len() {
+        if at > self.plain.len() {
             let token = self
                 .bench
                 .not_put(rt, (0, place), token, Refusal::NoSuchPlace);
@@ -146,7 +121,8 @@ impl Drawn {
             let token = self.bench.not_put(rt, (0, place), token, Refusal::BadOrder);
             self.bench.free(token);
         } else {
-            self.plain.put(rt, at, token.head(), rank);
+            let head = token.head();
+            self.plain.put(rt, at, Standing { head, rank, size });
             self.bench.insq(rt, (0, place), token);
         }
     }
@@ -156,11 +132,12 @@ impl Drawn {
         requires { Agrees self.old.bench.queues self.old.bench.blocks }
         ensures { Agrees self.new.bench.queues self.new.bench.blocks }
     {
-        if self.plain.ranks.is_empty() {
+        if self.plain.len() == 0 {
             self.bench.assert_none(rt, 0, Ok(()));
         } else {
-            let (head, rank) = self.plain.take(rt, 0);
-            self.bench.assert_first(rt, 0, head, rank);
+            let first = self.plain.take(rt, 0);
+            self.plain.settle();
+            self.bench.assert_first(rt, 0, first.head, first.rank);
         }
     }
 
@@ -169,12 +146,13 @@ impl Drawn {
         requires { Agrees self.old.bench.queues self.old.bench.blocks }
         ensures { Agrees self.new.bench.queues self.new.bench.blocks }
     {
-        if place as usize >= self.plain.ranks.len() {
+        if place as usize >= self.plain.len() {
             self.bench
                 .assert_not_at(rt, (0, place), Refusal::NoSuchPlace);
         } else {
-            let (head, rank) = self.plain.take(rt, place as usize);
-            self.bench.assert_at(rt, (0, place), head, rank);
+            let taken = self.plain.take(rt, place as usize);
+            self.plain.settle();
+            self.bench.assert_at(rt, (0, place), taken.head, taken.rank);
         }
     }
 
@@ -184,35 +162,98 @@ impl Drawn {
         ensures { Agrees self.new.bench.queues self.new.bench.blocks }
     {
         self.bench.flushband(rt, (0, band), Flush::All, Ok(()));
-        self.plain.flush(rt, u16::from(band));
+        self.plain.flush(rt, band);
+        self.plain.settle();
     }
 
-    // Puts a message of one of so many ranks, where there is a data block for it.
-    fn put_some(&mut self, rt: &impl Abort, draw: &mut u32, ranks: u16)
+    // Asks for room in a band.
+    fn bcanput(&mut self, rt: &impl Abort, band: u8)
         requires { Agrees self.old.bench.queues self.old.bench.blocks }
         ensures { Agrees self.new.bench.queues self.new.bench.blocks }
     {
-        assert!(rt; ranks > 0);
-        let rank = below(draw, u32::from(ranks)) as u16;
+        let room = self.plain.has_room(band);
+        self.bench.bcanput(rt, (0, band), Ok(room));
+    }
+
+    // Gives a band water marks, which may make it full or not under its messages.
+    fn strqset(&mut self, rt: &impl Abort, band: u8, marks: (u32, u32))
+        requires { Agrees self.old.bench.queues self.old.bench.blocks }
+        ensures { Agrees self.new.bench.queues self.new.bench.blocks }
+    {
+        let (hiwat, lowat) = marks;
+        if lowat < hiwat {
+            self.bench.strqset(rt, (0, band), marks, Ok(()));
+            self.plain.set_marks(band, hiwat, lowat);
+            self.plain.settle();
+        } else {
+            self.bench
+                .strqset(rt, (0, band), marks, Err(Refusal::BadMarks));
+        }
+    }
+
+    // Puts a message of a drawn rank and size, where there is a data block for it.
+    fn put_some(&mut self, rt: &impl Abort)
+        requires { Agrees self.old.bench.queues self.old.bench.blocks }
+        ensures { Agrees self.new.bench.queues self.new.bench.blocks }
+    {
+        let rank = self.rank(rt);
+        let size = below(&mut self.draw, 9);
         if self.bench.has_free() {
-            match below(draw, 4) {
-                0 => self.putbq(rt, rank),
-                1 => self.insq(rt, below(draw, 32), rank),
-                _ => self.putq(rt, rank),
+            match below(&mut self.draw, 4) {
+                0 => self.putbq(rt, rank, size),
+                1 => {
+                    let place = below(&mut self.draw, 32);
+                    self.insq(rt, place, rank, size);
+                }
+                _ => self.putq(rt, rank, size),
             }
         }
     }
 
-    // A drawn call. Three in four put a message.
-    fn step(&mut self, rt: &impl Abort, draw: &mut u32, ranks: u16)
+    // Asks for room in the band of a drawn rank, or gives it drawn water marks.
+    fn ask_some(&mut self, rt: &impl Abort)
         requires { Agrees self.old.bench.queues self.old.bench.blocks }
         ensures { Agrees self.new.bench.queues self.new.bench.blocks }
     {
-        match below(draw, 4_096) {
-            0 => self.flushband(rt, below(draw, 32) as u8),
-            1..=511 => self.getq(rt),
-            512..=1_023 => self.rmvq(rt, below(draw, 32)),
-            _ => self.put_some(rt, draw, ranks),
+        let band = band_of(self.rank(rt));
+        if below(&mut self.draw, 4) == 0 {
+            let marks = (below(&mut self.draw, 4_096), below(&mut self.draw, 2_048));
+            self.strqset(rt, band, marks);
+        } else {
+            self.bcanput(rt, band);
+        }
+    }
+
+    // A drawn call. Two in three put a message.
+    fn step(&mut self, rt: &impl Abort)
+        requires { Agrees self.old.bench.queues self.old.bench.blocks }
+        ensures { Agrees self.new.bench.queues self.new.bench.blocks }
+    {
+        match below(&mut self.draw, 4_096) {
+            0 => {
+                let band = below(&mut self.draw, 32) as u8;
+                self.flushband(rt, band);
+            }
+            1..=383 => self.getq(rt),
+            384..=767 => {
+                let place = below(&mut self.draw, 32);
+                self.rmvq(rt, place);
+            }
+            768..=1_279 => self.ask_some(rt),
+            _ => self.put_some(rt),
+        }
+    }
+
+    // Each band tells as many bytes as its messages have, and whether it is full and wanted.
+    fn assert_bands(&self, rt: &impl Abort)
+        requires { Agrees self.now.bench.queues self.now.bench.blocks }
+    {
+        let counts = self.plain.counts();
+        for number in 0..=u8::MAX {
+            let bytes = counts[usize::from(number)];
+            let band = self.plain.band(number);
+            let marks = (bytes >= band.hiwat, band.wanted);
+            self.bench.assert_band(rt, (0, number), bytes, marks);
         }
     }
 
@@ -220,17 +261,17 @@ impl Drawn {
     fn assert_same(&self, rt: &impl Abort)
         requires { Agrees self.now.bench.queues self.now.bench.blocks }
     {
-        self.bench.assert_heads(rt, 0, &self.plain.heads);
+        self.bench.assert_heads(rt, 0, self.plain.heads());
     }
 
-    // So many drawn calls. The whole queue is read after each eighth.
-    fn walk(&mut self, rt: &impl Abort, steps: u32, ranks: u16)
+    // So many drawn calls. All bands are compared after each, and the whole queue is read after each eighth.
+    fn walk(&mut self, rt: &impl Abort, steps: u32)
         requires { Agrees self.old.bench.queues self.old.bench.blocks }
         ensures { Agrees self.new.bench.queues self.new.bench.blocks }
     {
-        let mut draw = 1;
         for step in 0..steps {
-            self.step(rt, &mut draw, ranks);
+            self.step(rt);
+            self.assert_bands(rt);
             if step % 8 == 0 {
                 self.assert_same(rt);
             }
@@ -242,22 +283,25 @@ impl Drawn {
         requires { Agrees self.old.bench.queues self.old.bench.blocks }
         ensures { Agrees self.new.bench.queues self.new.bench.blocks }
     {
-        let (head, rank) = self.plain.take_first(rt, many);
+        let joined = self.plain.take_first(rt, many);
+        self.plain.settle();
         self.bench.join_first(rt, 0, many);
-        let place = self.plain.as_high(rank);
-        self.plain.put(rt, place, head, rank);
+        let place = self.plain.as_high(joined.rank);
+        self.plain.put(rt, place, joined);
         self.assert_same(rt);
+        self.assert_bands(rt);
     }
 
-    // Puts as many messages of a rank as there may be.
+    // Puts as many messages of a rank as there may be, of a byte each.
     fn fill(&mut self, rt: &impl Abort, rank: u16)
         requires { Agrees self.old.bench.queues self.old.bench.blocks }
         ensures { Agrees self.new.bench.queues self.new.bench.blocks }
     {
         for _message in 0..MESSAGES {
-            self.putq(rt, rank);
+            self.putq(rt, rank, 1);
         }
         self.assert_same(rt);
+        self.assert_bands(rt);
     }
 
     // All messages are taken off, and then all message blocks are free.
@@ -265,51 +309,52 @@ impl Drawn {
         requires { Agrees self.old.bench.queues self.old.bench.blocks }
         ensures { Agrees self.new.bench.queues self.new.bench.blocks }
     {
-        for _message in 0..self.plain.heads.len() {
+        for _message in 0..self.plain.len() {
             self.getq(rt);
         }
         self.bench.assert_none(rt, 0, Ok(()));
         self.bench.assert_all_free(rt);
+        self.assert_bands(rt);
     }
 
-    // So many drawn calls, on messages of so many ranks. Once there were so many at one time.
-    fn run(&mut self, rt: &impl Abort, steps: u32, ranks: u16, many: usize)
+    // So many drawn calls. Once there were so many messages at one time.
+    fn run(&mut self, rt: &impl Abort, steps: u32, many: usize)
         requires { Agrees self.old.bench.queues self.old.bench.blocks }
         ensures { Agrees self.new.bench.queues self.new.bench.blocks }
     {
-        self.walk(rt, steps, ranks);
-        assert!(rt; self.plain.most >= many);
+        self.walk(rt, steps);
+        assert!(rt; self.plain.most() >= many);
         self.end(rt);
     }
 }
 
 #[test]
 fn one_message(rt: HostRuntime) {
-    let mut drawn = Drawn::opened(&rt, rt.alloc(), &ONE);
-    drawn.run(&rt, 4_000, HIGH_RANK + 1, 1);
+    let mut drawn = Drawn::opened(&rt, rt.alloc(), &ONE, HIGH_RANK + 1);
+    drawn.run(&rt, 4_000, 1);
 }
 
 #[test]
 fn one_rank(rt: HostRuntime) {
-    let mut drawn = Drawn::opened(&rt, rt.alloc(), &MANY);
-    drawn.run(&rt, 16_000, 1, 4_095);
+    let mut drawn = Drawn::opened(&rt, rt.alloc(), &MANY, 1);
+    drawn.run(&rt, 16_000, 4_095);
 }
 
 #[test]
 fn all_ranks(rt: HostRuntime) {
-    let mut drawn = Drawn::opened(&rt, rt.alloc(), &MANY);
-    drawn.run(&rt, 16_000, HIGH_RANK + 1, 4_095);
+    let mut drawn = Drawn::opened(&rt, rt.alloc(), &MANY, HIGH_RANK + 1);
+    drawn.run(&rt, 16_000, 4_095);
 }
 
 #[test]
 fn most_messages_of_17_ranks(rt: HostRuntime) {
-    let mut drawn = Drawn::opened(&rt, rt.alloc(), &MANY);
-    drawn.run(&rt, 80_000, 17, MESSAGES as usize);
+    let mut drawn = Drawn::opened(&rt, rt.alloc(), &MANY, SPREAD.len() as u16);
+    drawn.run(&rt, 80_000, MESSAGES as usize);
 }
 
 #[test]
 fn most_messages_in_two(rt: HostRuntime) {
-    let mut drawn = Drawn::opened(&rt, rt.alloc(), &MANY);
+    let mut drawn = Drawn::opened(&rt, rt.alloc(), &MANY, 1);
     drawn.fill(&rt, 3);
     drawn.join_first(&rt, 8_192);
     drawn.join_first(&rt, 8_191);

@@ -2,7 +2,7 @@
 ghost use Rattle.strm_queue.specs.QueuedBlocks.{Agrees};
 
 use super::Bench;
-use crate::tests::{Draft, assert_put, came_back, drafted, duplicated, linked, rank_of};
+use crate::tests::{Draft, assert_put, drafted, duplicated, linked, rank_of};
 use std::process::Abort;
 use strm_data::Refusal;
 use strm_mblk::{BlockInfo, Rejected, Token};
@@ -79,9 +79,13 @@ impl Bench {
         refusal: Refusal,
         known: &Known,
     ) -> Token {
-        let (why, token) = came_back(rt, answer);
-        assert!(rt; why == refusal && self.known(rt, &token) == *known);
-        token
+        match answer {
+            Ok(()) => panic!(rt; "the message was put"),
+            Err(Rejected { why, token }) => {
+                assert!(rt; why == refusal && self.known(rt, &token) == *known);
+                token
+            }
+        }
     }
 
     // A message that is not put on a queue at a place, and why; it comes back with its rank and its band.
