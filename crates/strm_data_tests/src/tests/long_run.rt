@@ -2,18 +2,27 @@
 ghost use Rattle.std.specs.Prelude.{◌<◌};
 
 use super::bench::Bench;
-use super::{class, info};
+use super::info;
 use std::alloc::Global;
 use std::process::Abort;
-use strm_data::{MOST_DATA_BLOCK_NAMES, MsgType, Refusal};
+use strm_data::{ClassSpec, MOST_DATA_BLOCK_NAMES, MsgType, Refusal};
 
-// The size of each class, and how many data blocks it has.
-const CLASSES: [(u32, u32); 3] = [(4, 3), (16, 5), (40, 4)];
+// The most bytes that a data block has.
+const LARGEST: u32 = 40;
 
-const BLOCKS: u32 = 12;
+const CLASSES: [ClassSpec; 3] = [
+    ClassSpec { size: 4, count: 3 },
+    ClassSpec { size: 16, count: 5 },
+    ClassSpec {
+        size: LARGEST,
+        count: 4,
+    },
+];
 
-// No data block has more bytes.
-const MOST_BYTES: usize = 40;
+// How many data blocks there are.
+const BLOCKS: u32 = CLASSES[0].count + CLASSES[1].count + CLASSES[2].count;
+
+const MOST_BYTES: usize = LARGEST as usize;
 
 const KINDS: [MsgType; 4] = [
     MsgType::MData,
@@ -76,23 +85,22 @@ impl Plain {
 
 impl Twin {
     fn new(rt: &impl Abort, alloc: Global) -> Twin {
-        let classes = [class(4, 3), class(16, 5), class(40, 4)];
         let mut twin = Twin {
-            data: Bench::opened(rt, alloc, &classes),
+            data: Bench::opened(rt, alloc, &CLASSES),
             blocks: Vec::new(alloc),
             free: Vec::new(alloc),
         };
-        for (class, (size, count)) in CLASSES.iter().enumerate() {
-            twin.add_class(rt, alloc, class, (*size, *count));
+        for (class, spec) in CLASSES.iter().enumerate() {
+            twin.add_class(rt, alloc, class, *spec);
         }
         twin
     }
 
     // Adds the plain data blocks of a class, all free.
-    fn add_class(&mut self, rt: &impl Abort, alloc: Global, class: usize, spec: (u32, u32)) {
+    fn add_class(&mut self, rt: &impl Abort, alloc: Global, class: usize, spec: ClassSpec) {
         let mut list = Vec::new(alloc);
-        for _block in 0..spec.1 {
-            let plain = Plain::free(rt, alloc, class, spec.0);
+        for _block in 0..spec.count {
+            let plain = Plain::free(rt, alloc, class, spec.size);
             let number = u32::try_from(self.blocks.len()).unwrap_or(u32::MAX);
             list.push(number).expect(rt, "memory");
             self.blocks.push(plain).expect(rt, "memory");
@@ -115,13 +123,13 @@ impl Twin {
 
     // The data block that the plain vectors give for a size.
     fn plain_take(&mut self, rt: &impl Abort, size: u32) -> Result<u32, Refusal> {
-        for (class, (room, _)) in CLASSES.iter().enumerate() {
+        for (class, spec) in CLASSES.iter().enumerate() {
             let list = self.free_mut(rt, class);
-            if *room >= size && !list.is_empty() {
+            if spec.size >= size && !list.is_empty() {
                 return Ok(list.remove(0));
             }
         }
-        Err(if size > 40 {
+        Err(if size > LARGEST {
             Refusal::TooLarge
         } else {
             Refusal::NoData
@@ -131,7 +139,8 @@ impl Twin {
     // Takes a data block.
     fn take(&mut self, rt: &impl Abort, size: u32) {
         let answer = self.plain_take(rt, size);
-        self.data.assert_fits(rt, size, size <= 40, answer.is_ok());
+        self.data
+            .assert_fits(rt, size, size <= LARGEST, answer.is_ok());
         self.data.take(rt, size, answer);
         if let Ok(number) = answer {
             let plain = self.plain_mut(rt, number);
@@ -174,7 +183,7 @@ impl Twin {
     fn write(&mut self, rt: &impl Abort, number: u32, draw: &mut u32) {
         let bytes = [below(draw, 256) as u8, below(draw, 256) as u8, 255];
         let len = below(draw, 4);
-        let at = below(draw, 41);
+        let at = below(draw, LARGEST + 1);
         let plain = self.plain_mut(rt, number);
         if plain.has_room(at, len) {
             plain.write(rt, at, &bytes, len);
@@ -188,7 +197,7 @@ impl Twin {
         let into = below(draw, BLOCKS);
         let at = below(draw, 6);
         let to = below(draw, 6);
-        let len = below(draw, 40);
+        let len = below(draw, LARGEST);
         if self.plain(rt, from).has_room(at, len) && self.plain(rt, into).has_room(to, len) {
             let bytes = self.plain(rt, from).bytes_from(at);
             self.plain_mut(rt, into).write(rt, to, &bytes, len);
@@ -201,7 +210,7 @@ impl Twin {
     fn step(&mut self, rt: &impl Abort, draw: &mut u32) {
         let number = below(draw, BLOCKS);
         match below(draw, 18) {
-            0..5 => self.take(rt, below(draw, 44)),
+            0..5 => self.take(rt, below(draw, LARGEST + 4)),
             5..7 => self.name(rt, number),
             7..12 => self.drop_name(rt, number),
             12 => self.set_kind(rt, number, KINDS[below(draw, 4) as usize]),
@@ -232,11 +241,11 @@ impl Twin {
     }
 
     // A class has as many free data blocks as its plain list.
-    fn compare_class(&self, rt: &impl Abort, class: u8, spec: (u32, u32)) {
+    fn compare_class(&self, rt: &impl Abort, class: u8, spec: ClassSpec) {
         let list = self.free.get(usize::from(class)).expect(rt, "a class");
         let free = u32::try_from(list.len()).unwrap_or(u32::MAX);
         self.data
-            .assert_class(rt, class, info(spec.0, free, spec.1));
+            .assert_class(rt, class, info(spec.size, free, spec.count));
     }
 
     // So has each class, and there are no others.

@@ -85,9 +85,10 @@ impl Bench {
         Bench::over(rt, alloc, (id, 8), &CLASSES, 1)
     }
 
-    // Ends the blocks, which have been lawful.
-    pub(super) fn end(self) {
-        self.blocks.lawful();
+    // Ends the blocks: no message is held or stands on a shelf.
+    pub(super) fn end(self, rt: &impl Abort) {
+        let census = self.blocks.census();
+        assert!(rt; (census.queued, census.held) == (0, 0));
     }
 
     // Another call comes.

@@ -207,14 +207,14 @@ fn pulls_up_a_part_and_then_all(rt: HostRuntime) {
 fn pulls_up_what_is_there(rt: HostRuntime) {
     let mut bench = Bench::opened(&rt, rt.alloc(), 7);
     bench.pull_up_each(&rt, PULLED);
-    bench.end();
+    bench.end(&rt);
 }
 
 #[test]
 fn leaves_an_empty_block_behind(rt: HostRuntime) {
     let mut bench = Bench::opened(&rt, rt.alloc(), 7);
     bench.pull_up_each_empty(&rt, PULLED_EMPTY);
-    bench.end();
+    bench.end(&rt);
 }
 
 #[test]
@@ -226,7 +226,7 @@ fn pulls_up_one_type(rt: HostRuntime) {
 fn refuses_in_this_order(rt: HostRuntime) {
     let mut bench = Bench::opened(&rt, rt.alloc(), 7);
     bench.pull_up_each_long(&rt, PULLED_LONG);
-    bench.end();
+    bench.end(&rt);
 }
 
 #[test]

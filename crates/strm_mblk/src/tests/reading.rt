@@ -53,7 +53,7 @@ fn reads_across_blocks(rt: HostRuntime) {
     bench.assert_each_read(&rt, message, READ);
     bench.freemsg(message);
     bench.assert_census(&rt, 8, 0, 0);
-    bench.end();
+    bench.end(&rt);
 }
 
 #[test]
@@ -62,5 +62,5 @@ fn reads_no_bytes(rt: HostRuntime) {
     let message = bench.allocated(&rt, 16);
     bench.assert_read(&rt, message, 0, 2, 0, b"--------");
     bench.freemsg(message);
-    bench.end();
+    bench.end(&rt);
 }

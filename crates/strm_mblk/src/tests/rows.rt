@@ -313,5 +313,5 @@ pub(super) fn serve(rt: &impl Abort, bench: Bench, rows: &[Row]) {
         named: [nothing; NAMES],
     };
     served.serve(rt, rows);
-    served.bench.end();
+    served.bench.end(&rt);
 }

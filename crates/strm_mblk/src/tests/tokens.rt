@@ -106,7 +106,8 @@ fn spends_a_strange_token(rt: HostRuntime) {
     two.assert_alone(&rt, &one, b);
     two.spend_strange(&rt, a);
     one.assert_census(&rt, 7, 0, 1);
+    one.free_last(&rt, a);
     two.free_last(&rt, b);
-    one.end();
-    two.end();
+    one.end(&rt);
+    two.end(&rt);
 }

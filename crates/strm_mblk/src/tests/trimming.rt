@@ -144,7 +144,7 @@ fn cuts_several_blocks_of_one_type(rt: HostRuntime) {
     bench.cut_each(&rt, a, CUT);
     bench.write(&rt, a, 0, b"0123456", Err(Refusal::NoRoom));
     bench.freemsg(a);
-    bench.end();
+    bench.end(&rt);
 }
 
 #[test]
