@@ -7,7 +7,7 @@ use Rattle.strm_queue.specs.QueuedBlocks.{QueuedBlocks}
 use Rattle.strm_pool.specs.PoolValue.{PoolValue, on_queues}
 use Rattle.strm_named.specs.declared.fault.Fault.{Fault}
 use Rattle.strm_named.specs.NamedCalls as named
-use Rattle.strm_named.specs.NamedCalls.{Outcome, Shape, answer_told, named_after}
+use Rattle.strm_named.specs.NamedCalls.{Outcome, Shape, answer_told}
 use Rattle.strm_named.specs.NamedValue.{KeepsNames, NamedValue, with_pool}
 use Rattle.strm_c.specs.Codes.{Answer, returned, told, told_of_refused, written}
 use Rattle.strm_c.specs.Exports.{Does, DoesOnPool, Held}

@@ -1,5 +1,5 @@
 -- What opening and closing a handle does.
-use Rattle.std.specs.Prelude.{◌≡◌, ℕ, ℤ, pos, Bool, not, ◌&&◌, ◌==◌, nat_le, List, length, map, replicate, Option, None, Some, Result, Ok, Err, if◌then◌else◌}
+use Rattle.std.specs.Prelude.{◌≡◌, ℕ, ℤ, pos, Bool, not, ◌&&◌, ◌==◌, nat_le, List, length, map, Option, None, Some, Result, Ok, Err, if◌then◌else◌}
 use Rattle.std.specs.Global.{Box}
 use Rattle.strm_data.specs.declared.class_spec.ClassSpec.{ClassSpec}
 use Rattle.strm_data.specs.Limits.{most_classes}
@@ -8,8 +8,7 @@ use Rattle.strm_queue.specs.Limits.{most_queues}
 use Rattle.strm_pool.specs.declared.config.Config.{Config}
 use Rattle.strm_pool.specs.declared.config.Which.{Which}
 use Rattle.strm_pool.specs.Config.{fault_of}
-use Rattle.strm_pool.specs.PoolValue.{opening}
-use Rattle.strm_named.specs.NamedValue.{HasNoNames, NamedValue}
+use Rattle.strm_named.specs.NamedValue.{HasNoNames, NamedValue, opening_named}
 use Rattle.strm_c.specs.declared.code.Code.{Code}
 use Rattle.strm_c.specs.declared.code.Code.TheVariants.{BadArgument, BadConfig, IsOpen, NoMemory, NotOpen}
 use Rattle.strm_c.specs.declared.layout.StrmClassSpec.{StrmClassSpec}
@@ -48,14 +47,10 @@ config_of id mblks classes queues bufcalls first_id =
 
 -- ---- opening
 
--- the named pool that a lawful configuration opens
-abbrev pub opened_by : Config → NamedValue
-opened_by c = record { pool = opening c; stamps = replicate c.mblks 0 }
-
 -- a lawful one opens a pool that has no names yet, or there is not enough memory
 abbrev pub OpensLawful : Config → Held → ℤ → Type 0
 OpensLawful c None number = number ≡ number_of NoMemory
-OpensLawful c (Some v) number = (v ≡ opened_by c) × (HasNoNames v × (number ≡ pos 0))
+OpensLawful c (Some v) number = (v ≡ opening_named c) × (HasNoNames v × (number ≡ pos 0))
 
 -- one with a fault is told, before any want of memory, and the handle stays closed
 abbrev pub OpensBy : Option Which → Config → Held → ℤ → Type 0

@@ -4,8 +4,9 @@ ghost use Rattle.std.specs.Prelude.{◌≡◌};
 use strm_named::Fault;
 use strm_pool::{Refusal, Which};
 
-/// What a call returns where it does not give what it is asked for. Nothing changes then, but by a call that takes something off a
-/// queue or a list, and finds nothing there. Each has a number in strm.h; 0 is done.
+/// What a call returns where it does not give what it is asked for. Nothing changes then, but where `Nothing` is returned by a call
+/// that was done: `freeb` has freed the one block of a message, and `getq` has set the want-to-read mark of an empty queue. Each has a
+/// number in strm.h; 0 is done.
 #[derive(Clone, Copy, Debug, PartialEq, Eq)]
 pub enum Code {
     /// The pool refused the call. Its number is the refusal's.
@@ -27,7 +28,7 @@ pub enum Code {
 }
 
 impl Code {
-    ghost use Rattle.strm_c.specs.Codes.{code_of, number_of, number_of_fault};
+    ghost use Rattle.strm_c.specs.Codes.{code_of, number_of};
 
     /// The number in strm.h.
     pub fn number(self) -> i32

@@ -1,5 +1,5 @@
 //! The calls on flow control and service.
-ghost use Rattle.std.specs.Prelude.{◌≡◌, Ok, Some, None};
+ghost use Rattle.std.specs.Prelude.{Ok};
 ghost use Rattle.strm_mblk.specs.Given.{answer_of};
 ghost use Rattle.strm_queue.specs.QueueCalls as queues;
 ghost use Rattle.strm_pool.specs.PoolValue.{on_queues, queued, with_queued};

@@ -1,5 +1,5 @@
 //! The calls that join messages, part them, and trim them.
-ghost use Rattle.std.specs.Prelude.{◌≡◌, [], ◌∷◌, Ok};
+ghost use Rattle.std.specs.Prelude.{[], ◌∷◌, Ok};
 ghost use Rattle.strm_mblk.specs.BlockCalls as blocks;
 ghost use Rattle.strm_mblk.specs.Trimming as trimming;
 ghost use Rattle.strm_pool.specs.PoolValue.{on_arena, with_arena};

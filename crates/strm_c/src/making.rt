@@ -1,5 +1,5 @@
 //! The calls that make messages, and free them.
-ghost use Rattle.std.specs.Prelude.{◌≡◌, [], ◌∷◌, Ok};
+ghost use Rattle.std.specs.Prelude.{[], ◌∷◌, Ok};
 ghost use Rattle.strm_mblk.specs.BlockCalls as blocks;
 ghost use Rattle.strm_mblk.specs.Freeing as freeing;
 ghost use Rattle.strm_pool.specs.PoolValue.{on_arena, with_arena};

@@ -1,5 +1,5 @@
 //! The calls that open a pool, and close it.
-ghost use Rattle.std.specs.Prelude.{◌≡◌, ◌≤◌, None, length, map, IsOk};
+ghost use Rattle.std.specs.Prelude.{◌≡◌, ◌≤◌, None, length, map};
 ghost use Rattle.strm_data.specs.Limits.{most_classes};
 ghost use Rattle.strm_queue.specs.Limits.{most_queues};
 ghost use Rattle.strm_c.specs.Codes.{returned};

@@ -1,5 +1,5 @@
 //! The calls that tell of a pool.
-ghost use Rattle.std.specs.Prelude.{◌≡◌, Ok, option_map, slice_get};
+ghost use Rattle.std.specs.Prelude.{Ok, option_map, slice_get};
 ghost use Rattle.strm_data.specs.DataStore.{class_infos};
 ghost use Rattle.strm_mblk.specs.Arena.{census_of};
 ghost use Rattle.strm_mblk.specs.Given.{answer_of};

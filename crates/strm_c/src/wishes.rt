@@ -1,5 +1,5 @@
 //! The calls on wishes for message blocks.
-ghost use Rattle.std.specs.Prelude.{◌≡◌, Ok, option_map};
+ghost use Rattle.std.specs.Prelude.{Ok, option_map};
 ghost use Rattle.strm_pool.specs.Wishes as wishes;
 ghost use Rattle.strm_c.specs.Codes.{any};
 ghost use Rattle.strm_c.specs.Exports.{Asks, DoesOnPool, Takes};

@@ -67,7 +67,7 @@ take_data size s = if fits_a_class size s.classes then ok_or (slice_get (fitting
 abbrev pub fits : ℕ → DataStore → Bool
 fits size s = is_ok (take_data size s)
 
--- the size takes from this class, which fits and has a free block
+-- the size takes from this class, which fits and has a free block (no public clause cites it)
 pub record IsTakenFrom (size : ℕ) (s : DataStore) (c : ℕ) : Type 0 where
   pub wide : size ≤ (class_spec_at s c).size
   pub some : 0 < length (free_of s c)

@@ -1,5 +1,5 @@
 //! Data blocks by number, and the free ones of each size class.
-ghost use Rattle.std.specs.Prelude.{◌≡◌, ◌≢◌, ℕ, ◌+◌, ◌-◌, ◌^◌, ◌<◌, ◌≤◌, ◌++◌, IfOk, IfErr, IfSome, IsTrue, OnOk, Err, None, [], length, nat_le, take, drop, replicate, slice_get, slice_set};
+ghost use Rattle.std.specs.Prelude.{◌≡◌, ℕ, ◌+◌, ◌-◌, ◌^◌, ◌<◌, ◌≤◌, ◌++◌, IfOk, IfErr, IfSome, IsTrue, OnOk, Err, None, [], length, nat_le, take, drop, replicate, slice_get, slice_set};
 ghost use Rattle.std.specs.List.{list_any, range_with_len};
 ghost use Rattle.strm_links.specs.Rows.{holder, list_at};
 ghost use Rattle.strm_data.specs.Limits.{most_classes, most_data_block_bytes, most_data_blocks, most_data_block_names};
@@ -224,6 +224,9 @@ fn add_blocks(blocks: &mut Vec<DataBlock>, class: u8, count: u32) -> Result<(), 
 impl Data {
     /// The data blocks of these classes: all are free, in rising order, of type M_DATA, and their bytes are 0.
     ///
+    /// The classes are lawful: 1 to `MOST_CLASSES`, each of a greater size than the one before, of 1 to `MOST_DATA_BLOCK_BYTES`
+    /// bytes, with one block at least, and with at most `MOST_DATA_BLOCKS` in all.
+    ///
     /// Fails where the memory for them is refused, and then keeps none.
     pub fn new(alloc: Global, specs: &[ClassSpec]) -> Result<Data, AllocError>
         requires { IsTrue (are_lawful specs.now) }
@@ -301,7 +304,8 @@ impl Data {
         fits_a_class(size, &self.classes)
     }
 
-    /// One message block more names the data block, which is in use and has fewer names than there may be.
+    /// One message block more names the data block, which is in use and has fewer than `MOST_DATA_BLOCK_NAMES` names. All else
+    /// stays.
     pub fn name(&mut self, number: DataNo)
         requires there { number < length self.old.store.blocks }
         requires used { IsInUse self.old number }
@@ -313,7 +317,7 @@ impl Data {
     }
 
     /// A message block names the data block, which is in use, no more: where it was the last, the data block is
-    /// free, at the front of its class's list.
+    /// free, at the front of its class's list. All else stays, its type and bytes too.
     pub fn drop_name(&mut self, number: DataNo)
         requires there { number < length self.old.store.blocks }
         requires used { IsInUse self.old number }
@@ -361,7 +365,7 @@ impl Data {
         self.blocks[number as usize].kind
     }
 
-    /// Gives a data block another type.
+    /// Gives a data block another type. All else stays, its names and bytes too.
     pub fn set_kind(&mut self, number: DataNo, kind: MsgType)
         requires { number < length self.old.store.blocks }
         ensures after { self.new ≡ record self.old { store = with_kind number kind self.old.store } }
@@ -370,7 +374,8 @@ impl Data {
         self.blocks[number as usize].kind = kind;
     }
 
-    /// Writes bytes over those of a data block, from place `at` on. They lie in its capacity.
+    /// Writes bytes over those of a data block, from place `at` on. They lie in its capacity. All other bytes, names and types
+    /// stay.
     pub fn write(&mut self, number: DataNo, at: u32, bytes: &[u8])
         requires there { number < length self.old.store.blocks }
         requires room { at + length bytes.now ≤ capacity_of self.old.store number }
@@ -382,8 +387,9 @@ impl Data {
         overwrite(&mut self.regions[class], start, bytes);
     }
 
-    /// Copies `len` bytes of a data block, from place `at` on, over those of another, from place `to` on, or of the same.
-    /// Takes one slice copy.
+    /// Copies `len` bytes of a data block, from place `at` on, over those of another, from place `to` on, or of the same. Both
+    /// lie in their block's capacity. All other bytes, names and types stay. Takes one slice copy; within one block, where the
+    /// places may overlap, a step for each byte.
     #[inline(always)]
     pub fn copy(&mut self, from: DataNo, at: u32, into: DataNo, to: u32, len: u32)
         requires from { from < length self.old.store.blocks }

@@ -5,30 +5,54 @@ ghost use Rattle.strm_data.specs.MsgType.{all_types, is_high_priority, name_of};
 /// The type of a data block: that of a message is its first block's.
 ///
 /// The types are those of the UNIX System V Release 4 Programmer's Guide: STREAMS, each ordinary or high
-/// priority there. A queue serves a high priority message before every ordinary one, whatever its band.
+/// priority there: the first nine are ordinary. A queue serves a high priority message before every ordinary one, whatever
+/// its band. What a type is for, modules and drivers agree on; here it decides priority, what a flush of data takes and
+/// which blocks `adjmsg`, `pullupmsg` and `msgdsize` go over.
 #[derive(Clone, Copy, Debug, PartialEq, Eq)]
 pub enum MsgType {
+    /// User data.
     MData,
+    /// Protocol control information.
     MProto,
+    /// A driver is to send a break.
     MBreak,
+    /// A file pointer is passed.
     MPassfp,
+    /// A signal for the stream head, in its place among data.
     MSig,
+    /// A delay on output.
     MDelay,
+    /// From one module to another.
     MCtl,
+    /// A user asks for an `ioctl`.
     MIoctl,
+    /// Options of the stream head are set.
     MSetopts,
+    /// An `ioctl` was done.
     MIocack,
+    /// An `ioctl` failed.
     MIocnak,
+    /// Protocol control information of high priority.
     MPcproto,
+    /// A signal for the stream head, before all data.
     MPcsig,
+    /// A user reads, and nothing is there.
     MRead,
+    /// Queues are to be flushed.
     MFlush,
+    /// Output is to stop.
     MStop,
+    /// Output is to start again.
     MStart,
+    /// The line was hung up.
     MHangup,
+    /// An error for the stream head.
     MError,
+    /// An `ioctl` asks for data of the user.
     MCopyin,
+    /// An `ioctl` has data for the user.
     MCopyout,
+    /// What became of an `MCopyin` or `MCopyout`.
     MIocdata,
 }
 

@@ -16,7 +16,7 @@ pub enum TextFault {
     /// The script's configuration has a fault.
     #[error("bad config: {which}", which = .0.name())]
     Config(Which),
-    /// There is not enough memory.
+    /// There is not enough memory, or no thread for a worker.
     #[error("memory")]
     Memory,
     /// Never told: a worker's call was refused.
@@ -42,7 +42,7 @@ pub enum RunFault {
     /// The script's configuration has a fault.
     #[error("bad config: {which}", which = .0.name())]
     Config(Which),
-    /// There is not enough memory.
+    /// There is not enough memory, or no thread for a worker.
     #[error("memory")]
     Memory,
     /// Never told: a worker's call was refused.

@@ -29,6 +29,10 @@ abbrev pub set_apart : {X : Type 0} → (X → ℕ) → ℕ → List X → Optio
 set_apart number h rest None chains = chains
 set_apart number h rest (Some x) chains = slice_set (slice_set chains h (Some rest)) (number x) (Some (x ∷ []))
 
+-- the list without place k
+abbrev pub without_place : {X : Type 0} → ℕ → List X → List X
+without_place k xs = take k xs ++ drop (k + 1) xs
+
 -- item k of these, which stand at h, is a chain of its own, if there is such an item
 abbrev pub taken_out : {X : Type 0} → (X → ℕ) → ℕ → ℕ → List X → List (Option (List X)) → List (Option (List X))
-taken_out number h k xs chains = set_apart number h (take k xs ++ drop (k + 1) xs) (slice_get xs k) chains
+taken_out number h k xs chains = set_apart number h (without_place k xs) (slice_get xs k) chains

@@ -3,9 +3,9 @@
 //! UNIX System V Release 4 STREAMS queues messages in doubly linked lists, so that one can join or
 //! leave anywhere at once. That the links stand in one arena, as numbers, is this project's own
 //! choice.
-ghost use Rattle.std.specs.Prelude.{◌≡◌, ℕ, ◌+◌, ◌^◌, ◌<◌, ◌-◌, [], ◌∷◌, ◌++◌, All, length, map, reverse, replicate, if◌then◌else◌, is_none, IsSome, IsTrue, IfOk, IfSome, ◌≢◌, slice_set, vec_len};
+ghost use Rattle.std.specs.Prelude.{◌≡◌, ℕ, ◌+◌, ◌^◌, ◌<◌, ◌-◌, [], ◌∷◌, ◌++◌, length, map, reverse, replicate, if◌then◌else◌, is_none, IsSome, IsTrue, IfOk, IfSome, ◌≢◌, slice_set, vec_len};
 ghost use Rattle.std.specs.Option.{ForSome, option_map_or};
-ghost use Rattle.strm_links.specs.Rows.{has, IsApart, IsParting, first, last, without, put_before, put_in, Reads, is_some_of, list_at, holder, next_in, previous_in, linked_nodes};
+ghost use Rattle.strm_links.specs.Rows.{has, IsParting, first, last, without, put_before, put_in, Reads, is_some_of, list_at, holder, next_in, previous_in};
 ghost use Rattle.strm_links.specs.Layout.{no_node, no_ends, owner_at, previous_at, next_at, walk};
 
 use crate::slot::Slot;

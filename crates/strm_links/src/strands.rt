@@ -6,7 +6,7 @@
 ghost use Rattle.std.specs.Prelude.{◌≡◌, ◌≢◌, ℕ, ◌+◌, ◌-◌, ◌^◌, ◌<◌, ◌≤◌, ◌++◌, ◌==◌, nat_lt, drop, is_none, is_some, length, map, reverse, take, false, if◌then◌else◌, IfOk, IfSome, IsSome, IsTrue, slice_get, slice_set, vec_len};
 ghost use Rattle.std.specs.List.{range_with_len};
 ghost use Rattle.strm_links.specs.Rows.{IsApart, first, first_or, has, last};
-ghost use Rattle.strm_links.specs.Layout.{LeadsOn, walk};
+ghost use Rattle.strm_links.specs.Layout.{LeadsOn};
 ghost use Rattle.strm_links.specs.Chains.{divided, chain_in, joined, taken_out};
 ghost use Rattle.strm_links.specs.StrandLists.{IsParted, opening_strands, strand_at, with_behind_freed, with_first_begun};
 ghost use Rattle.strm_links.specs.StrandLayout.{free_node, next_at, no_span, onward, path, span_at};
@@ -291,7 +291,8 @@ impl Strands {
         Some(first)
     }
 
-    /// Makes the first `count` free nodes one chain, in their order, and names its head.
+    /// Makes the first `count` free nodes one chain, in their order, and names its head. There are so many, and the count is
+    /// 1 at least. All other chains and free nodes stay.
     ///
     /// Takes a step for each.
     pub fn begin_all(&mut self, count: u32) -> u32
@@ -313,7 +314,7 @@ impl Strands {
         head
     }
 
-    /// Puts the chain `tail` behind another, which has the nodes of both then.
+    /// Puts the chain `tail` behind another chain, which has the nodes of both then. All other chains stay.
     #[inline(always)]
     pub fn join(&mut self, head: u32, tail: u32)
         requires head { IsSome (chain_in self.old.chains head) }
@@ -337,7 +338,7 @@ impl Strands {
     }
 
     /// Leaves only the first node in a chain. The others are a chain, which is named by its first node;
-    /// none where there are no others, and then nothing changes.
+    /// none where there are no others, and then nothing changes. All other chains stay.
     #[inline(always)]
     pub fn divide(&mut self, head: u32) -> Option<u32>
         requires { IsSome (chain_in self.old.chains head) }
@@ -363,7 +364,7 @@ impl Strands {
     }
 
     /// Takes the node at `place`, counted from 0, out of a chain, and makes it a chain of its own. None
-    /// where the chain has no such place, and then nothing changes.
+    /// where the chain has no such place, and then nothing changes. All other chains stay.
     ///
     /// Takes a step for each node before it. The first node stays: `divide` parts it from the others.
     pub fn take_out(&mut self, head: u32, place: u32) -> Option<u32>
@@ -389,7 +390,7 @@ impl Strands {
         Some(node)
     }
 
-    /// Frees the nodes of a chain, first to last, each to the front of the free ones.
+    /// Frees the nodes of a chain, first to last, each to the front of the free ones. All other chains stay.
     ///
     /// Takes a step for each.
     #[inline(always)]
@@ -408,8 +409,8 @@ impl Strands {
         self.free_len += span.len;
     }
 
-    /// Frees the `count` nodes behind the first of a chain, first to last, each to the front of the free ones. The
-    /// first one, and those behind these, stay the chain.
+    /// Frees the `count` nodes behind the first of a chain, which has more than so many, first to last, each to the front of
+    /// the free ones. The first one, and those behind these, stay the chain, and all other chains stay.
     ///
     /// Takes a step for each.
     #[inline(always)]

@@ -31,13 +31,15 @@ opening_arena id mblks classes shelves = record {
 
 -- ---- what stands where
 
+-- the message held at h, if there is one
 abbrev pub held_at : Arena → ℕ → Option Message
 held_at a h = held_in a.held h
 
--- the message held at h
+-- its blocks, none where there is none
 abbrev pub message_at : Arena → ℕ → Message
 message_at a h = blocks_of (held_at a h)
 
+-- the messages on shelf s
 abbrev pub shelf_at : Arena → ℕ → List Message
 shelf_at a s = shelf_in a.shelves s
 
@@ -61,17 +63,25 @@ names_of a d = count_by (is_naming d) (blocks_in a)
 abbrev pub census_of : Arena → Census
 census_of a = record { free = length a.free; queued = length (shelved_blocks a); held = length (held_blocks a) }
 
+-- the arena once no message is held at h
 abbrev pub without_held : ℕ → Arena → Arena
 without_held h a = record a { held = slice_set a.held h None }
 
-abbrev pub with_held : Message → Arena → Arena
-with_held m a = record a { held = slice_set a.held (head_of m) (Some m) }
+-- the arena once this is the message at h
+abbrev pub with_message : ℕ → Message → Arena → Arena
+with_message h m a = record a { held = slice_set a.held h (Some m) }
 
+-- the arena once this message is held at its own head
+abbrev pub with_held : Message → Arena → Arena
+with_held m a = with_message (head_of m) m a
+
+-- the arena once these are the messages on shelf s
 abbrev pub with_shelf : ℕ → List Message → Arena → Arena
 with_shelf s ms a = record a { shelves = slice_set a.shelves s ms }
 
 -- ---- tokens
 
+-- whether there is a message, and has so many blocks
 abbrev pub is_of_length : ℕ → Option Message → Bool
 is_of_length n None = false
 is_of_length n (Some m) = length m == n

@@ -1,5 +1,5 @@
 -- What each call on the blocks of messages does to the arena. The message that a call names is given by its head.
-use Rattle.std.specs.Prelude.{ℕ, ◌+◌, ◌-◌, Bool, ◌==◌, nat_lt, List, [], ◌∷◌, ◌++◌, length, map, take, drop, Option, None, Some, Result, Ok, Err, slice_get, slice_set, count_by, if◌then◌else◌}
+use Rattle.std.specs.Prelude.{ℕ, ◌+◌, ◌-◌, Bool, ◌==◌, nat_lt, List, [], ◌∷◌, length, map, take, drop, Option, None, Some, Result, Ok, Err, slice_get, slice_set, count_by, if◌then◌else◌}
 use Rattle.std.specs.List.{list_any, zip}
 use Rattle.std.specs.Result.{is_ok}
 use Rattle.strm_data.specs.declared.msg_type.MsgType.{MsgType}
@@ -9,11 +9,11 @@ use Rattle.strm_data.specs.Classes.{fits_a_class}
 use Rattle.strm_data.specs.DataStore.{DataStore, capacity_of, take_data, with_data_taken, with_kind, with_bytes_written}
 use Rattle.strm_data.specs.Limits.{most_data_block_names}
 use Rattle.strm_mblk.specs.declared.block_info.BlockInfo.{BlockInfo}
-use Rattle.strm_mblk.specs.Arena.{Arena, message_at, names_of, with_held, without_held}
+use Rattle.strm_mblk.specs.Arena.{Arena, message_at, names_of, with_held, with_message, without_held}
 use Rattle.strm_mblk.specs.Block.{Block, Message, bytes_of_block, head_of, is_naming, kind_of, new_block}
 use Rattle.strm_mblk.specs.Freeing.{with_block_freed}
 use Rattle.strm_mblk.specs.Given.{Given, and_then, answer_map}
-use Rattle.strm_mblk.specs.Messages.{divided, joined}
+use Rattle.strm_mblk.specs.Messages.{divided, joined, without_place}
 
 -- ---- new messages
 
@@ -55,9 +55,11 @@ duplicated bs a =
     else (if exceeds_names bs a then Err RefMax
     else Ok (held_under bs a.store a))
 
+-- of the first block of the message held at h
 abbrev pub dupb : ℕ → Arena → Given Arena ℕ
 dupb h a = duplicated (take 1 (message_at a h)) a
 
+-- of all its blocks
 abbrev pub dupmsg : ℕ → Arena → Given Arena ℕ
 dupmsg h a = duplicated (message_at a h) a
 
@@ -77,9 +79,11 @@ copied bs a =
     if nat_lt (length a.free) (length bs) then Err NoMblk
     else answer_map (λ g. held_under g.0 g.1 a) (copies bs a.store)
 
+-- of the first block of the message held at h
 abbrev pub copyb : ℕ → Arena → Given Arena ℕ
 copyb h a = copied (take 1 (message_at a h)) a
 
+-- of all its blocks
 abbrev pub copymsg : ℕ → Arena → Given Arena ℕ
 copymsg h a = copied (message_at a h) a
 
@@ -103,6 +107,7 @@ write_block h k bytes a m (Some b) =
 abbrev pub write : ℕ → ℕ → List ℕ → Arena → Given Arena (Unit {0})
 write h k bytes a = write_block h k bytes a (message_at a h) (slice_get (message_at a h) k)
 
+-- this type of the data block of a block of a message, which no other block may name
 abbrev pub settype_of : MsgType → Arena → Option Block → Given Arena (Unit {0})
 settype_of kind a None = Err NoSuchBlock
 settype_of kind a (Some b) =
@@ -118,9 +123,11 @@ abbrev pub banded : ℕ → Message → Message
 banded band [] = []
 banded band (b ∷ bs) = record b { band = band } ∷ bs
 
+-- the message held at h, with this band
 abbrev pub setband : ℕ → ℕ → Arena → Arena
-setband h band a = record a { held = slice_set a.held h (Some (banded band (message_at a h))) }
+setband h band a = with_message h (banded band (message_at a h)) a
 
+-- what there is to tell of a block of a message, if there is one
 abbrev pub info_of : Arena → Option Block → Given Arena BlockInfo
 info_of a None = Err NoSuchBlock
 info_of a (Some b) = Ok (
@@ -158,14 +165,16 @@ linkb h g a = if h == g then a else record a { held = joined h g a.held }
 abbrev pub unlinkb : ℕ → Arena → Option ℕ × Arena
 unlinkb h a = (head_in (drop 1 (message_at a h)), record a { held = divided (λ b. b.number) h (message_at a h) a.held })
 
+-- this block of the message held at h is a message, and the rest is one, if there is any
 abbrev pub rmvb_of : ℕ → Arena → Message → Option Block → Given Arena (ℕ × Option ℕ)
 rmvb_of h a rest None = Err NoSuchBlock
 rmvb_of h a rest (Some b) = Ok ((b.number, head_in rest), with_held (b ∷ []) (with_rest rest (without_held h a)))
 
 -- block k is a message, and the others are one, if there are any; both are the answer
 abbrev pub rmvb : ℕ → ℕ → Arena → Given Arena (ℕ × Option ℕ)
-rmvb h k a = rmvb_of h a (take k (message_at a h) ++ drop (k + 1) (message_at a h)) (slice_get (message_at a h) k)
+rmvb h k a = rmvb_of h a (without_place k (message_at a h)) (slice_get (message_at a h) k)
 
+-- the first of the blocks of the message held at h is free, and the rest is a message, if there is any
 abbrev pub freeb_from : ℕ → Arena → Message → Option ℕ × Arena
 freeb_from h a [] = (None, a)
 freeb_from h a (b ∷ rest) = (head_in rest, with_block_freed b [] (with_rest rest (without_held h a)))

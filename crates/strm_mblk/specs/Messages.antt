@@ -2,8 +2,8 @@
 use Rattle.std.specs.Prelude.{ℕ, ◌==◌, not, List, [], ◌∷◌, ◌++◌, filter, Option, None, Some, slice_get, slice_index_or, if◌then◌else◌}
 use Rattle.std.specs.List.{flat_map}
 -- Held messages are chains of blocks, each at the number of its first block: the blocks of one, if there is one; the one at
--- a number; all blocks; and what becomes of them as one joins another, or is left with its first block alone.
-pub use Rattle.strm_links.specs.Chains.{items_of as blocks_of, chain_in as held_in, items_in as blocks_held, joined, divided}
+-- a number; all blocks; what becomes of them as one joins another, or is left with its first block alone; and a list without a place.
+pub use Rattle.strm_links.specs.Chains.{items_of as blocks_of, chain_in as held_in, items_in as blocks_held, joined, divided, without_place}
 
 -- the messages on a shelf, front to back
 abbrev pub shelf_in : {X : Type 0} → List (List (List X)) → ℕ → List (List X)

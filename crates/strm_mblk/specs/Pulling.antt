@@ -1,16 +1,12 @@
 -- How bytes are pulled up into the first block of a message, step by step. No public clause cites this module.
-use Rattle.std.specs.Prelude.{ℕ, List, [], ◌∷◌, take, Some, slice_set}
+use Rattle.std.specs.Prelude.{ℕ, List, [], ◌∷◌, take}
 use Rattle.strm_data.specs.CountedStore.{CountedStore}
 use Rattle.strm_data.specs.DataStore.{take_data, with_bytes_written}
-use Rattle.strm_mblk.specs.Arena.{Arena, message_at}
+use Rattle.strm_mblk.specs.Arena.{Arena, message_at, with_message}
 use Rattle.strm_mblk.specs.Block.{Block, Message, bytes_of}
 use Rattle.strm_mblk.specs.Freeing.{with_name_dropped, with_blocks_freed}
 use Rattle.strm_mblk.specs.Given.{Given, answer_map}
 use Rattle.strm_mblk.specs.Trimming.{left_over, pulled_into, used_up}
-
--- the arena once this is the message at h
-abbrev pub with_message : ℕ → Message → Arena → Arena
-with_message h m a = record a { held = slice_set a.held h (Some m) }
 
 -- ---- the first block
 

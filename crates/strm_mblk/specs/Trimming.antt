@@ -5,7 +5,7 @@ use Rattle.strm_data.specs.declared.refusal.Refusal.{Refusal}
 use Rattle.strm_data.specs.declared.refusal.Refusal.TheVariants.{Short}
 use Rattle.strm_data.specs.DataStore.{DataStore, take_data, with_data_taken, with_kind, with_bytes_written}
 use Rattle.strm_data.specs.MsgType.{same_kind}
-use Rattle.strm_mblk.specs.Arena.{Arena, message_at}
+use Rattle.strm_mblk.specs.Arena.{Arena, message_at, with_message}
 use Rattle.strm_mblk.specs.Block.{Block, Message, bytes_of, kind_of, size_of}
 use Rattle.strm_mblk.specs.Freeing.{with_name_dropped, with_blocks_freed}
 use Rattle.strm_mblk.specs.Given.{Given, answer_map}
@@ -37,8 +37,9 @@ cut (pos n) s m = if nat_lt (size_of (run_of s m)) n then Err Short else Ok (cut
 cut (negsuc n) s m =
     if nat_lt (size_of (run_of s (reverse m))) (suc n) then Err Short else Ok (reverse (cut_back (suc n) (reverse m)))
 
+-- the message held at h, so cut
 abbrev pub adjmsg : ℕ → ℤ → Arena → Given Arena (Unit {0})
-adjmsg h n a = answer_map (λ m. (tt, record a { held = slice_set a.held h (Some m) })) (cut n a.store (message_at a h))
+adjmsg h n a = answer_map (λ m. (tt, with_message h m a)) (cut n a.store (message_at a h))
 
 -- ---- pullupmsg
 
@@ -86,9 +87,11 @@ pull h n (b ∷ bs) a =
     else (if nat_le n b.len then Ok (tt, a)
     else answer_map (λ d. (tt, pulled h n (b ∷ bs) a d)) (take_data n a.store))
 
+-- so many of the message m, which is held at h, where some number is asked for
 abbrev pub pull_asked : ℕ → Option ℕ → Message → Arena → Given Arena (Unit {0})
 pull_asked h None m a = Err Short
 pull_asked h (Some n) m a = pull h n m a
 
+-- n bytes of the message held at h, or all of its run, are in its first block
 abbrev pub pullupmsg : ℕ → ℤ → Arena → Given Arena (Unit {0})
 pullupmsg h n a = pull_asked h (bytes_asked n (run_of a.store (message_at a h))) (message_at a h) a

@@ -3,7 +3,7 @@ ghost use Rattle.std.specs.Prelude.{◌≡◌, ◌≢◌, ℕ, ◌+◌, ◌<◌,
 ghost use Rattle.std.specs.Option.{ForSome};
 ghost use Rattle.strm_links.specs.Rows.{IsParting, after, before, first, has, holder, last, list_at, put_in};
 ghost use Rattle.strm_links.specs.StrandLists.{strand_at};
-ghost use Rattle.strm_mblk.specs.Messages.{divided, held_in, joined, put_before_head, shelf_in, with_head, without_head};
+ghost use Rattle.strm_mblk.specs.Messages.{divided, held_in, joined, put_before_head, shelf_in, with_head, without_head, without_place};
 ghost use Rattle.strm_mblk.specs.NodeLists.{IsNodesParted, IsReached, after_begin, after_behind_freed, head_node, heads_on, nodes_at, opening_nodes, shelved_nodes};
 
 #[cfg(test)]
@@ -174,7 +174,7 @@ impl Chains {
         requires behind { 0 < place }
         requires there { place < length (nodes_at self.old head) }
         ensures answer { slice_get (nodes_at self.old head) place ≡ Some result }
-        ensures after { self.new ≡ record self.old { held = slice_set (slice_set self.old.held head (Some (take place (nodes_at self.old head) ++ drop (place + 1) (nodes_at self.old head)))) result (Some (result ∷ [])) } }
+        ensures after { self.new ≡ record self.old { held = slice_set (slice_set self.old.held head (Some (without_place place (nodes_at self.old head)))) result (Some (result ∷ [])) } }
         ensures parted { IsNodesParted self.new }
     {
         self.strands.take_out(head, place).unwrap()

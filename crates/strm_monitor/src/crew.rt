@@ -12,8 +12,8 @@ use strm_shared::{Desk, Gathered, Name, Shared, Start};
 // How many rounds each worker has, of two calls each.
 const ROUNDS: u32 = 100;
 
-// The stamp when all calls have been served.
-const LAST: u64 = 400;
+// The stamp when all calls of both workers have been served.
+const LAST: u64 = 2 * 2 * ROUNDS as u64;
 
 // How often the monitor looks at most.
 const LOOKS: u32 = 10_000_000;

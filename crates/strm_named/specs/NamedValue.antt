@@ -34,9 +34,13 @@ abbrev pub stamps_given : List ℕ → List ℕ → List ℕ
 stamps_given [] stamps = stamps
 stamps_given (h ∷ hs) stamps = stamps_given hs (slice_set stamps h (raised (slice_index_or stamps h 0)))
 
--- a pool with names is what its lawful configuration opens, where no message was given yet; else it is as with any pool
+-- the named pool that a lawful configuration opens: no message was given yet
+abbrev pub opening_named : Config → NamedValue
+opening_named c = record { pool = opening c; stamps = replicate c.mblks 0 }
+
+-- a pool with names is what its lawful configuration opens; else it is as with any pool
 abbrev pub OpensNamed : Config → Result NamedValue NewFault → Type 0
-OpensNamed c (Ok v) = (fault_of c ≡ None) × (v ≡ record { pool = opening c; stamps = replicate c.mblks 0 })
+OpensNamed c (Ok v) = (fault_of c ≡ None) × (v ≡ opening_named c)
 OpensNamed c (Err fault) = Opens c (Err fault)
 
 -- ---- which names are valid after a call

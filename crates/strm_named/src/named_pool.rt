@@ -43,7 +43,8 @@ impl Model for NamedPool {
 impl NamedPool {
     /// The named pool that a configuration opens: all blocks are free, no queue has a message, and no name is valid.
     ///
-    /// `BadConfig` comes where the configuration is not lawful, with its first fault, before any want of memory.
+    /// `BadConfig` comes where the configuration is not lawful, with its first fault, before any want of memory; `Memory` where
+    /// memory was refused, and then none is kept.
     pub fn new(alloc: Global, config: Config) -> Result<NamedPool, NewFault>
         ensures opens { OpensNamed config result }
         ensures unnamed { IfOk result HasNoNames }

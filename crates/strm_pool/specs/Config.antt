@@ -20,6 +20,7 @@ name_of Next = codes "Next"
 name_of Bufcalls = codes "Bufcalls"
 name_of FirstId = codes "FirstId"
 
+-- whether there is nothing in a list
 abbrev pub is_nil : {X : Type 0} → List X → Bool
 is_nil xs = length xs == 0
 

@@ -38,7 +38,7 @@ pub enum Call {
     Rmvb(Reg, u32, Reg),
     /// `adjmsg` of the message in a register by a number of bytes: at the head, or where it is negative at the tail.
     Adjmsg(Reg, i32),
-    /// `pullupmsg` of so many bytes of the message in a register; -1 stands for all.
+    /// `pullupmsg` of so many bytes of the message in a register; -1 stands for all those of its leading blocks of one type.
     Pullupmsg(Reg, i32),
     /// How many bytes the message in a register has in its blocks of type M_DATA.
     Msgdsize(Reg),

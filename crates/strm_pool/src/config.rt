@@ -33,14 +33,23 @@ pub struct Config {
 /// What is wrong with a configuration.
 #[derive(Clone, Copy, Debug, PartialEq, Eq)]
 pub enum Which {
+    /// There are no message blocks, or more than `MOST_MESSAGE_BLOCKS`.
     Mblks,
+    /// There is no size class.
     Classes,
+    /// A size is not above the one before it, or is 0 or above `MOST_DATA_BLOCK_BYTES`.
     ClassSize,
+    /// A class has no data blocks, or all together have more than `MOST_DATA_BLOCKS`.
     ClassTotal,
+    /// There is no queue.
     Queues,
+    /// The low water mark of a queue is not below its high one.
     Marks,
+    /// A next queue has no greater number than its own queue, is not there, or is named twice.
     Next,
+    /// There may be more wishes than `MOST_WISHES`.
     Bufcalls,
+    /// The id of the first wish is 0.
     FirstId,
 }
 
@@ -50,11 +59,11 @@ pub enum NewFault {
     /// The configuration is not lawful: the first fault, in the order of `Which`.
     #[error("bad config: {which}", which = .0.name())]
     BadConfig(Which),
-    /// There are no desks, or too many, or the first stamp is too great. Told where a pool is to be shared, never where
-    /// one is made.
+    /// There are no desks, or too many; a trace is to have no entry, or too many; or the first stamp is too great. Told where a
+    /// pool is to be shared, never where one is made.
     #[error("bad shared")]
     BadShared,
-    /// There is not enough memory.
+    /// Memory was refused, and what was taken before is given back.
     #[error("out of memory")]
     Memory,
 }

@@ -1,5 +1,5 @@
 //! The pool: messages held as tokens or put on queues.
-ghost use Rattle.std.specs.Prelude.{◌≡◌, ℕ, true, IfOk, IsTrue, None, slice_get};
+ghost use Rattle.std.specs.Prelude.{◌≡◌, true, IfOk, IsTrue, None, slice_get};
 ghost use Rattle.std.specs.Option.{option_map_or};
 ghost use Rattle.strm_data.specs.DataStore.{class_infos};
 ghost use Rattle.strm_mblk.specs.Arena.{census_of, has};
@@ -46,7 +46,8 @@ impl Model for Pool {
 impl Pool {
     /// The pool that a configuration opens: all blocks are free, and no queue has a message.
     ///
-    /// `BadConfig` comes where the configuration is not lawful, with its first fault, before any want of memory.
+    /// `BadConfig` comes where the configuration is not lawful, with its first fault, before any want of memory; `Memory` where
+    /// memory was refused, and then none is kept.
     pub fn new(alloc: Global, config: Config) -> Result<Pool, NewFault>
         ensures opens { Opens config result }
         // Nothing is held in it.

@@ -14,9 +14,9 @@ use strm_queue::Marks;
 pub enum Reply {
     /// The call was done.
     Done,
-    /// It would be done.
+    /// `allocb` of this size would give a message; or the band has room.
     Yes,
-    /// It would be refused.
+    /// `allocb` would be refused; or the band is full, and is wanted from now on.
     No,
     /// The call was done, and there was nothing to give.
     Nothing,

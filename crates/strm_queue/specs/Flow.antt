@@ -138,11 +138,11 @@ has_room lowat count = nat_le count lowat
 abbrev pub is_relieved : List Bool → (ℕ → ℕ) → (ℕ → ℕ) → ℕ → Bool
 is_relieved wanted counts lowat band = has_band wanted band && has_room (lowat band) (counts band)
 
--- whether some band has
+-- whether some band is wanted and has room again
 abbrev pub some_relieved : List Bool → (ℕ → ℕ) → (ℕ → ℕ) → Bool
 some_relieved wanted counts lowat = list_any (is_relieved wanted counts lowat) every_band
 
--- the wanted bands that have not
+-- the wanted bands that have no room yet
 abbrev pub still_wanted : List Bool → (ℕ → ℕ) → (ℕ → ℕ) → List Bool
 still_wanted wanted counts lowat = bands_where (λ band. has_band wanted band && not (is_relieved wanted counts lowat band))
 
@@ -185,7 +185,7 @@ waker specs q = waker_within (length specs) specs q
 abbrev pub enabled : ℕ → QueueState → QueueState
 enabled q s = if (spec_at s.specs q).service && not (rows.has q s.run) then record s { run = s.run ++ q ∷ [] } else s
 
--- so, where it is to be
+-- it is where that is so, and else nothing is done
 abbrev pub enabled_where : Bool → ℕ → QueueState → QueueState
 enabled_where so q s = if so then enabled q s else s
 

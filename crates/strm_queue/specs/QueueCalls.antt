@@ -2,6 +2,7 @@
 use Rattle.std.specs.Prelude.{ℕ, Bool, true, false, not, nat_le, nat_lt, filter, List, [], ◌∷◌, drop, length, Option, None, Some, Ok, Err, slice_get, if◌then◌else◌}
 use Rattle.std.specs.Option.{option_map_or}
 use Rattle.strm_data.specs.declared.refusal.Refusal.TheVariants.{BadMarks, BadOrder, NoSuchPlace, NoSuchQueue}
+use Rattle.strm_links.specs.Chains.{without_place}
 use Rattle.strm_links.specs.Rows as rows
 use Rattle.strm_mblk.specs.Arena.{message_at, shelf_at, with_held, with_shelf, without_held}
 use Rattle.strm_mblk.specs.Block.{Message, head_of}
@@ -13,7 +14,7 @@ use Rattle.strm_queue.specs.declared.queue_info.QueueInfo.{QueueInfo}
 use Rattle.strm_queue.specs.Flow.{Flags, QueueState, band_count, bytes_on, enabled, enabled_where, enables_inserted, enables_put, enables_put_back, fills, flags_at, has_band, hiwat_of, lowat_of, marks_at, some_relieved, still_wanted, target, waker, with_flags, with_marks, with_noenable, with_read, with_wanted}
 use Rattle.strm_queue.specs.Flush.{is_picked, with_freed}
 use Rattle.strm_queue.specs.QueuedBlocks.{QueuedBlocks}
-use Rattle.strm_queue.specs.Rank.{as_queued, is_ordered, put_ahead, put_at, put_behind, rank_of, without_place}
+use Rattle.strm_queue.specs.Rank.{as_queued, is_ordered, put_ahead, put_at, put_behind, rank_of}
 
 -- whether there is a queue of this number
 abbrev pub has_queue : QueuedBlocks → ℕ → Bool
@@ -69,7 +70,7 @@ flags_left v q = record (flags_of v q) { wanted = still_wanted (flags_of v q).wa
 abbrev pub waker_enabled : ℕ → QueueState → QueueState
 waker_enabled q s = option_map_or (λ p. enabled p s) (waker s.specs q) s
 
--- so, where it is to be
+-- it is where that is so, and else nothing is done
 abbrev pub waker_enabled_where : Bool → ℕ → QueueState → QueueState
 waker_enabled_where so q s = if so then waker_enabled q s else s
 
@@ -79,21 +80,21 @@ settled q v = with_state (λ s. waker_enabled_where (has_relieved v q) q (with_f
 
 -- ---- onto a queue
 
--- behind its equals
+-- the message held at h is put on queue q behind its equals, and may enable it
 abbrev pub putq : ℕ → ℕ → QueuedBlocks → Given QueuedBlocks (Unit {0})
 putq q h v =
     if has_queue v q
     then Ok (tt, with_state (enabled_where (enables_put (flags_of v q) (rank_put h v)) q) (with_put q h (put_behind (rank_of v.arena.store) (message_put h v) (messages_on v q)) v))
     else Err NoSuchQueue
 
--- before its equals
+-- the message held at h is put on queue q before its equals, and may enable it
 abbrev pub putbq : ℕ → ℕ → QueuedBlocks → Given QueuedBlocks (Unit {0})
 putbq q h v =
     if has_queue v q
     then Ok (tt, with_state (enabled_where (enables_put_back (flags_of v q) (rank_put h v)) q) (with_put q h (put_ahead (rank_of v.arena.store) (message_put h v) (messages_on v q)) v))
     else Err NoSuchQueue
 
--- at place k, where ranks do not rise then
+-- the message held at h is put on queue q at place k, where ranks do not rise then, and may enable it
 abbrev pub insq : ℕ → ℕ → ℕ → QueuedBlocks → Given QueuedBlocks (Unit {0})
 insq q k h v =
     if not (has_queue v q) then Err NoSuchQueue
@@ -109,6 +110,7 @@ abbrev pub got_first : ℕ → List Message → QueuedBlocks → Given QueuedBlo
 got_first q [] v = Ok (None, with_state (with_read q true) v)
 got_first q (m ∷ ms) v = Ok (Some (head_of m), with_state (with_read q false) (settled q (with_got q m ms v)))
 
+-- the first message of queue q, if there is one, is held; the answer is its head
 abbrev pub getq : ℕ → QueuedBlocks → Given QueuedBlocks (Option ℕ)
 getq q v = if has_queue v q then got_first q (messages_on v q) v else Err NoSuchQueue
 
@@ -117,6 +119,7 @@ abbrev pub got_at : ℕ → ℕ → Option Message → QueuedBlocks → Given Qu
 got_at q k None v = Err NoSuchPlace
 got_at q k (Some m) v = Ok (head_of m, settled q (with_got q m (without_place k (messages_on v q)) v))
 
+-- the message at place k of queue q is held; the answer is its head
 abbrev pub rmvq : ℕ → ℕ → QueuedBlocks → Given QueuedBlocks ℕ
 rmvq q k v = if has_queue v q then got_at q k (slice_get (messages_on v q) k) v else Err NoSuchQueue
 
@@ -130,9 +133,11 @@ with_flushed q picked v = record v { arena = with_freed (filter picked (messages
 abbrev pub flushed : ℕ → Option ℕ → Flush → QueuedBlocks → Given QueuedBlocks (Unit {0})
 flushed q band flush v = if has_queue v q then Ok (tt, settled q (with_flushed q (is_picked v.arena.store band flush) v)) else Err NoSuchQueue
 
+-- the messages of queue q, all or those that carry data, are free
 abbrev pub flushq : ℕ → Flush → QueuedBlocks → Given QueuedBlocks (Unit {0})
 flushq q flush v = flushed q None flush v
 
+-- those of one band of it are
 abbrev pub flushband : ℕ → ℕ → Flush → QueuedBlocks → Given QueuedBlocks (Unit {0})
 flushband q band flush v = flushed q (Some band) flush v
 
@@ -142,7 +147,7 @@ flushband q band flush v = flushed q (Some band) flush v
 abbrev pub asked_for_room : ℕ → ℕ → QueuedBlocks → Bool × QueuedBlocks
 asked_for_room p band v = if is_full v p band then (false, with_state (with_wanted p band) v) else (true, v)
 
--- asked of the first queue with a service procedure from q on, or of the last one
+-- whether a message of this band may be put on the first queue with a service procedure from q on, or on the last one
 abbrev pub bcanput : ℕ → ℕ → QueuedBlocks → Given QueuedBlocks Bool
 bcanput q band v = if has_queue v q then Ok (asked_for_room (target v.queues.specs q) band v) else Err NoSuchQueue
 
@@ -161,6 +166,7 @@ strqget q band v = if has_queue v q then Ok (marks_at v.queues q band, v) else E
 
 -- ---- scheduling
 
+-- queue q waits to be served, as `enabled` has it
 abbrev pub qenable : ℕ → QueuedBlocks → Given QueuedBlocks (Unit {0})
 qenable q v = if has_queue v q then Ok (tt, with_state (enabled_where true q) v) else Err NoSuchQueue
 
@@ -168,9 +174,11 @@ qenable q v = if has_queue v q then Ok (tt, with_state (enabled_where true q) v)
 abbrev pub switched : ℕ → Bool → QueuedBlocks → Given QueuedBlocks (Unit {0})
 switched q off v = if has_queue v q then Ok (tt, with_state (with_noenable q off) v) else Err NoSuchQueue
 
+-- enabling by putting and inserting is switched off
 abbrev pub noenable : ℕ → QueuedBlocks → Given QueuedBlocks (Unit {0})
 noenable q v = switched q true v
 
+-- and on
 abbrev pub enableok : ℕ → QueuedBlocks → Given QueuedBlocks (Unit {0})
 enableok q v = switched q false v
 
@@ -194,6 +202,7 @@ info_of v q = record {
   enabled = rows.has q v.queues.run;
 }
 
+-- the messages, bytes and flags of queue q
 abbrev pub queue_info : ℕ → QueuedBlocks → Given QueuedBlocks QueueInfo
 queue_info q v = if has_queue v q then Ok (info_of v q, v) else Err NoSuchQueue
 
@@ -201,6 +210,7 @@ queue_info q v = if has_queue v q then Ok (info_of v q, v) else Err NoSuchQueue
 abbrev pub band_info_of : QueuedBlocks → ℕ → ℕ → BandInfo
 band_info_of v q band = record { bytes = count_on v q band; full = is_full v q band; wanted = has_band (flags_of v q).wanted band }
 
+-- the bytes and marks of a band of queue q
 abbrev pub band_info : ℕ → ℕ → QueuedBlocks → Given QueuedBlocks BandInfo
 band_info q band v = if has_queue v q then Ok (band_info_of v q band, v) else Err NoSuchQueue
 

@@ -22,7 +22,7 @@ pub record QueuesValue : Type 0 where
 abbrev pub tally_at : QueuesValue → ℕ → Tally
 tally_at v q = slice_index_or v.tallies q no_tally
 
--- this is stored of the messages on queue q
+-- this is stored of the messages on queue q (no public clause cites it)
 abbrev pub with_tally : ℕ → Tally → QueuesValue → QueuesValue
 with_tally q t v = record v { tallies = slice_set v.tallies q t }
 

@@ -1,5 +1,5 @@
 -- The rank of a message, and where a message goes among others by it.
-use Rattle.std.specs.Prelude.{ℕ, Bool, true, ◌&&◌, ◌+◌, nat_le, List, [], ◌∷◌, ◌++◌, take, drop, if◌then◌else◌}
+use Rattle.std.specs.Prelude.{ℕ, Bool, true, ◌&&◌, nat_le, List, [], ◌∷◌, ◌++◌, take, drop, if◌then◌else◌}
 use Rattle.std.specs.List.{list_any, list_all}
 use Rattle.strm_data.specs.MsgType.{is_high_priority}
 use Rattle.strm_data.specs.DataStore.{DataStore}
@@ -34,7 +34,3 @@ put_ahead rank m (x ∷ xs) = if nat_le (rank x) (rank m) then m ∷ x ∷ xs el
 -- m at place k, before the message that stood there
 abbrev pub put_at : ℕ → Message → List Message → List Message
 put_at k m ms = take k ms ++ (m ∷ drop k ms)
-
--- the messages without the one at place k
-abbrev pub without_place : ℕ → List Message → List Message
-without_place k ms = take k ms ++ drop (k + 1) ms

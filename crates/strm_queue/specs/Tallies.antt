@@ -64,7 +64,7 @@ pub record IsTallyOf (s : DataStore) (hiwat : ℕ → ℕ) (ms : List Message) (
   pub full : (band : ℕ) → band < bands → has_band t.full band ≡ fills (hiwat band) (band_count s band ms)
   pub ends : AreEndsOf (rank_of s) ms t
 
--- ---- one joins, one leaves
+-- ---- one joins, one leaves (no public clause cites what follows)
 
 -- the heads of the message and of those beside it are numbers that a `Slot` holds
 pub record IsNumbered (p : Placed) : Type 0 where

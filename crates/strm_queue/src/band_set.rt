@@ -12,7 +12,7 @@ use std::marker::Model;
 // The bits of a word, and the words of a set.
 const WORD_BITS: u8 = 64;
 
-const WORDS: u8 = 4;
+const WORDS: u8 = (BANDS / WORD_BITS as usize) as u8;
 
 // A set of bands, as bits: bit `band % WORD_BITS` of word `band / WORD_BITS` says whether it has the band.
 #[derive(Debug, Drop)]

@@ -5,6 +5,7 @@ use Rattle.std.specs.Option.{option_map_or}
 use Rattle.strm_data.specs.declared.class_spec.ClassSpec.{ClassSpec}
 use Rattle.strm_data.specs.Limits.{most_classes}
 use Rattle.strm_pool.specs.declared.config.Config.{Config}
+use Rattle.strm_pool.specs.Config.{is_nil}
 use Rattle.strm_queue.specs.declared.queue_spec.QueueSpec.{QueueSpec}
 use Rattle.strm_queue.specs.Limits.{most_queues}
 use Rattle.strm_script.specs.declared.fault.Fault.{Fault}
@@ -151,9 +152,6 @@ fault n kind = Err (record { line = n; kind = kind })
 abbrev pub then_lines : ℕ → Result (List Numbered) Kind → (List Numbered → Result (List Numbered) Fault) → Result (List Numbered) Fault
 then_lines n (Ok es) rest = rest es
 then_lines n (Err kind) rest = fault n kind
-
-abbrev pub is_nil : {X : Type 0} → List X → Bool
-is_nil xs = length xs == 0
 
 -- the entries of all lines, of which the first is line n; the last piece has no line end behind it
 abbrev pub entries_from : List Numbered → ℕ → List (List ℕ) → Result (List Numbered) Fault

@@ -42,8 +42,10 @@ pub struct Fault {
 /// Why a script was not read.
 #[derive(Clone, Copy, Debug, PartialEq, Eq, Error)]
 pub enum ParseFault {
+    /// The script has a fault, of which this is the first.
     #[error("{0}")]
     Script(Fault),
+    /// There is not enough memory.
     #[error("memory")]
     Memory,
 }

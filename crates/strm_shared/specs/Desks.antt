@@ -17,10 +17,6 @@ pub record DeskValue : Type 0 where
 abbrev pub desk_value : ℕ → List (Option TokenValue) → List Pair → List (ℕ × Entry) → DeskValue
 desk_value n rs ps ss = record { number = n; regs = rs; pairs = ps; served = ss }
 
--- the desk with these registers
-abbrev pub with_regs : List (Option TokenValue) → DeskValue → DeskValue
-with_regs rs d = record d { regs = rs }
-
 -- the desk, once it has seen one pair more
 abbrev pub shown : Pair → DeskValue → DeskValue
 shown p d = record d { pairs = d.pairs ++ p ∷ [] }

@@ -1,5 +1,5 @@
 //! The word of a shared pool.
-ghost use Rattle.std.specs.Prelude.{◌≡◌, ◌+◌, ◌<◌, ◌≤◌, List, [], ◌∷◌};
+ghost use Rattle.std.specs.Prelude.{◌≡◌, ◌<◌, ◌≤◌, List, [], ◌∷◌};
 ghost use Rattle.strm_pool.specs.Registers.{entries_of};
 ghost use Rattle.strm_shared.specs.Limits.{most_stamp};
 ghost use Rattle.strm_shared.specs.Pairs.{count_in, pair_at};

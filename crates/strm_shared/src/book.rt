@@ -97,7 +97,7 @@ impl<N: Name> Book<N> {
     ///
     /// Refused as `Worn` where the stamp is `MOST_STAMP`, and then as `TraceFull` where a trace is kept and has as many entries
     /// as it may: nothing changes but that the desk has seen the last pair. Every reply counts as served, `Refused`, `Empty` and
-    /// `Taken` too. `Shared` has its calls served by `turn_into`, of which this is made.
+    /// `Taken` too.
     pub fn turn(
         &mut self,
         shared: &Shared<N>,
@@ -114,8 +114,9 @@ impl<N: Name> Book<N> {
         }
     }
 
-    // Serves a call as `turn` does, and puts its reply into `reply`, which stays as it was where the call is refused.
-    pub(crate) fn turn_into(
+    /// Serves a call as `turn` does, and puts its reply into `reply`, which stays as it was where the call is refused. `Shared` has
+    /// its calls served so.
+    pub fn turn_into(
         &mut self,
         shared: &Shared<N>,
         desk: &mut Desk<N>,

@@ -1,6 +1,5 @@
 //! A worker's place at a shared pool.
 ghost use Rattle.std.specs.Prelude.{◌≡◌, ◌<◌, ◌^◌, All, length};
-ghost use Rattle.strm_pool.specs.Registers.{CarryId};
 ghost use Rattle.strm_shared.specs.Desks.{stamp_seen};
 ghost use Rattle.strm_shared.specs.Ledger.{blocks_held, entry_blocks};
 ghost use Rattle.strm_shared.specs.Pairs.{AreSeen, HasStamp};

@@ -7,14 +7,14 @@ use Rattle.strm_data.specs.CountedStore.{CountedStore, IsKept}
 use Rattle.strm_data.specs.DataStore.{times, with_data_freed}
 use Rattle.strm_links.proofs.lists.Counting.{split_behind, times-append, times-drop, times_here}
 use Rattle.strm_mblk.specs.declared.blocks.Fields.{Fields}
-use Rattle.strm_mblk.specs.Arena.{Arena, message_at, names_of, shelved_blocks}
+use Rattle.strm_mblk.specs.Arena.{Arena, message_at, names_of, shelved_blocks, with_message}
 use Rattle.strm_mblk.specs.Block.{Block, is_naming, size_of}
 use Rattle.strm_mblk.specs.BlocksLayout.{IsFilled, arena_of, block_at, block_of, fields_at, message_of, named_by, with_names_dropped}
 use Rattle.strm_mblk.specs.Cutting.{with_bytes_cut}
 use Rattle.strm_mblk.specs.Freeing.{with_block_freed, with_blocks_freed, with_name_dropped}
 use Rattle.strm_mblk.specs.Messages.{held_in}
 use Rattle.strm_mblk.specs.NodeLists.{IsNodesParted, NodeLists, after_behind_freed, nodes_at}
-use Rattle.strm_mblk.specs.Pulling.{drained, with_message}
+use Rattle.strm_mblk.specs.Pulling.{drained}
 use Rattle.strm_mblk.specs.Trimming.{cut_front, is_used_up, left_over, used_up}
 use Rattle.strm_mblk.proofs.lists.Additive.{count_adds}
 use Rattle.strm_mblk.proofs.lists.Numbers.{first_rest}

@@ -9,13 +9,13 @@ use Rattle.strm_data.specs.CountedStore.{CountedStore, IsKept, IsUnused, count_o
 use Rattle.strm_data.specs.DataStore.{DataStore, capacity_of, times, with_bytes_written, with_data_freed, with_data_taken, with_kind}
 use Rattle.strm_links.proofs.lists.Counting.{one_if, times_here}
 use Rattle.strm_mblk.specs.declared.blocks.Fields.{Fields}
-use Rattle.strm_mblk.specs.Arena.{Arena, held_at, message_at, names_of, shelved_blocks}
+use Rattle.strm_mblk.specs.Arena.{Arena, held_at, message_at, names_of, shelved_blocks, with_message}
 use Rattle.strm_mblk.specs.Block.{Block, bytes_of, is_naming, kind_of}
 use Rattle.strm_mblk.specs.BlocksLayout.{IsFilled, IsPlaced, arena_of, block_at, block_of, fields_at, message_of, named_by, no_fields}
 use Rattle.strm_mblk.specs.Freeing.{with_name_dropped}
 use Rattle.strm_mblk.specs.Messages.{blocks_of}
 use Rattle.strm_mblk.specs.NodeLists.{NodeLists, nodes_at}
-use Rattle.strm_mblk.specs.Pulling.{front_pulled, over_data, with_front_copied, with_message}
+use Rattle.strm_mblk.specs.Pulling.{front_pulled, over_data, with_front_copied}
 use Rattle.strm_mblk.specs.Trimming.{pulled_into}
 use Rattle.strm_mblk.proofs.lists.Numbers.{first_rest}
 use Rattle.strm_mblk.proofs.lists.Additive.{count_adds}

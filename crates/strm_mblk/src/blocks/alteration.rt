@@ -63,7 +63,8 @@ impl Blocks {
         Ok(())
     }
 
-    /// Gives a message's first block another band.
+    /// Gives a message's first block another band. All else stays: its other blocks keep their bands, and its data block its
+    /// type and bytes.
     pub fn setband(&mut self, token: &Token, band: u8)
         requires { IsTrue (has self.old token.now) }
         ensures after { self.new ≡ model.setband token.now.head band self.old }

@@ -191,7 +191,8 @@ impl Blocks {
     /// A message of new blocks, the first free ones in their order, one for each block of this message, over a copy of its
     /// data block, with its places and its band. The copies are the data blocks that `allocb` would take for the capacities
     /// of the others, in order; they have their types, and their bytes between the places, which are copied once. All or
-    /// nothing. Takes a step for each block and class.
+    /// nothing. Takes at most a step for each block and class; where fewer data blocks of the largest class are free than the
+    /// message has blocks, as many again, and one for each class.
     ///
     /// Refused as `NoMblk` where fewer message blocks are free than the message has, then as `NoData` where the data
     /// blocks do not suffice; nothing changes then.

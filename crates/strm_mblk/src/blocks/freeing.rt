@@ -68,7 +68,8 @@ impl Blocks {
     }
 
     /// Frees the first block of a message, to the front of the free ones, and its data block, to the front of the free
-    /// ones of its class, where no other message block names it. The others are a message of their own, if there are any.
+    /// ones of its class, where no other message block names it. The others are a message of their own, whose token is the
+    /// answer; none where there are no others. What they say stays. Takes constant time.
     pub fn freeb(&mut self, token: Token) -> Option<Token>
         requires { IsTrue (has self.old token) }
         ensures after { self.new ≡ (model.freeb token.head self.old).1 }

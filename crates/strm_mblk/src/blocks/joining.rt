@@ -11,7 +11,8 @@ use crate::token::Token;
 use strm_data::Refusal;
 
 impl Blocks {
-    /// Puts a message behind another, which then has the blocks of both.
+    /// Puts a message behind another, which keeps its token and then has the blocks of both, in order. What the blocks say
+    /// stays. Takes constant time.
     ///
     /// Two tokens of one message can come only from two pools of one id: then the second is spent, and nothing else is
     /// done.
@@ -31,7 +32,8 @@ impl Blocks {
         }
     }
 
-    /// Leaves only the first block in a message. The others are a message of their own, if there are any.
+    /// Leaves only the first block in a message. The others are a message of their own, whose token is the answer; none
+    /// where there are no others, and then nothing changes. What the blocks say stays. Takes constant time.
     pub fn unlinkb(&mut self, token: &mut Token) -> Option<Token>
         requires { IsTrue (has self.old token.old) }
         ensures after { self.new ≡ (model.unlinkb token.old.head self.old).1 }

@@ -12,7 +12,7 @@ ghost use Rattle.strm_mblk.specs.Messages.{held_in};
 ghost use Rattle.strm_mblk.specs.NodeLists.{nodes_at};
 ghost use Rattle.strm_mblk.specs.Pulling as pulling;
 ghost use Rattle.strm_mblk.specs.Trimming as model;
-ghost use Rattle.strm_mblk.specs.Trimming.{along, bytes_asked, run_of};
+ghost use Rattle.strm_mblk.specs.Trimming.{bytes_asked};
 
 use super::{Blocks, Fields};
 use crate::chains::Chains;
@@ -158,7 +158,7 @@ impl Blocks {
     /// Else the first block names a data block that takes so many bytes, from place 0 on, of the same type, and its former
     /// one loses its name. The blocks behind it lose what it did not have: up to place `count` each whose bytes are all
     /// taken, an empty one too, is freed, and the read place of the last one rises. Empty blocks behind that place stay.
-    /// Takes as many steps as the message has blocks, and copies the bytes once.
+    /// Takes as many steps as the message has blocks, and one for each class, and copies the bytes once.
     ///
     /// Refused as `Short` where the count is below -1, or the leading blocks have fewer bytes, then as `TooLarge` where the
     /// count is above the largest class, then as `NoData` where no data block is that fits; nothing changes then.

@@ -2,7 +2,7 @@
 ghost use Rattle.std.specs.Prelude.{◌≡◌, ◌<◌, ℕ, IsSome, IsTrue, None, Some, [], ◌∷◌, length, option_map, reverse};
 ghost use Rattle.std.specs.Option.{ForSome};
 ghost use Rattle.strm_links.specs.Rows as rows;
-ghost use Rattle.strm_mblk.specs.Arena.{has, held_at, message_at, token_of};
+ghost use Rattle.strm_mblk.specs.Arena.{has, held_at, token_of};
 ghost use Rattle.strm_mblk.specs.Block.{kind_of, size_of};
 ghost use Rattle.strm_mblk.specs.Frame.{LeavesOthers};
 ghost use Rattle.strm_mblk.specs.Shelves as model;
@@ -58,8 +58,8 @@ impl Blocks {
         let _ = &self.chains;
     }
 
-    /// Puts a message on a shelf, before the one with the head that is given, which stands there, or last. Takes
-    /// constant time.
+    /// Puts a message on a shelf, before the one with the head that is given, which stands there, or last. The others on the
+    /// shelf keep their order, and what the blocks say stays. Takes constant time.
     pub fn shelve(&mut self, shelf: u8, before: Option<BlockNo>, token: Token)
         requires shelf { shelf < length self.old.shelves }
         requires had { IsTrue (has self.old token) }
@@ -73,7 +73,8 @@ impl Blocks {
         self.chains.shelve(u32::from(shelf), before, head);
     }
 
-    /// Takes the message with this head off the shelf that it stands on, and holds it. Takes constant time.
+    /// Takes the message with this head off the shelf that it stands on, and holds it. The others on the shelf keep their
+    /// order, and what the blocks say stays. Takes constant time.
     pub fn unshelve(&mut self, shelf: u8, head: BlockNo) -> Token
         requires shelf { shelf < length self.old.shelves }
         requires there { IsTrue (stands_on self.old shelf head) }

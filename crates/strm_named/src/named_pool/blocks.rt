@@ -56,7 +56,7 @@ impl NamedPool {
         Ok(())
     }
 
-    /// Puts a message behind another, which then has the blocks of both and keeps its name. The name of the first is spent.
+    /// Puts the message `tail` behind the other, which then has the blocks of both and keeps its name. The name `tail` is spent.
     ///
     /// `Invalid` comes where a name is not valid, or both are of one message; nothing changes then.
     pub fn linkb(&mut self, name: Name, tail: Name) -> Result<(), Fault>

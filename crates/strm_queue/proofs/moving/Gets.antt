@@ -4,6 +4,7 @@ use Rattle.std.specs.Prelude.{nat_lt, option_map, slice_get}
 use Rattle.std.proofs.lemmas.Bool.{cond-true}
 use Rattle.std.proofs.lemmas.List.{take-append-drop}
 use Rattle.std.proofs.lemmas.Option.{none-some, same_Some, slice_get-map}
+use Rattle.strm_links.specs.Chains.{without_place}
 use Rattle.strm_links.specs.Rows.{first}
 use Rattle.strm_mblk.specs.Arena.{Arena, IsParted, shelf_at, with_held, with_shelf}
 use Rattle.strm_mblk.specs.Block.{Message, head_of}
@@ -14,7 +15,6 @@ use Rattle.strm_mblk.proofs.arena.Stands.{heads_apart}
 use Rattle.strm_queue.specs.Flow.{with_read}
 use Rattle.strm_queue.specs.QueueCalls.{getq, got_at, got_first, rmvq, settled, with_got, with_state}
 use Rattle.strm_queue.specs.QueuedBlocks.{Agrees, AreMarksLawful, QueuedBlocks, QueuesValue, together}
-use Rattle.strm_queue.specs.Rank.{without_place}
 use Rattle.strm_queue.proofs.agreeing.Agreeing.{marks_other}
 use Rattle.strm_queue.proofs.shelf.OnShelf.{FirstParts, first_of, unshelved}
 use Rattle.strm_mblk.specs.Messages.{without_head}

@@ -1,11 +1,8 @@
 //! How many messages a queue has, and the bytes of these, by band.
-ghost use Rattle.std.specs.Prelude.{◌≡◌, ◌<◌, ◌∷◌, ◌++◌, ◌^◌, ℕ, IsSome, List, length, sum};
+ghost use Rattle.std.specs.Prelude.{◌≡◌, ◌<◌, length};
 ghost use Rattle.strm_mblk.specs.Arena.{Arena, shelf_at};
-ghost use Rattle.strm_mblk.specs.Block.{Message, head_of};
-ghost use Rattle.strm_mblk.specs.Shelves.{shelf_of};
-ghost use Rattle.strm_queue.specs.Flow.{band_count, band_of_rank, bytes_on, fills, hiwat_of};
+ghost use Rattle.strm_queue.specs.Flow.{band_count, bytes_on, fills, hiwat_of};
 ghost use Rattle.strm_queue.specs.QueuedBlocks.{AreInOrder};
-ghost use Rattle.strm_queue.specs.Rank.{rank_of};
 
 use super::Queues;
 

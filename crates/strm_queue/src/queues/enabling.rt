@@ -3,7 +3,7 @@ ghost use Rattle.std.specs.Prelude.{◌≡◌, ◌<◌, drop, length};
 ghost use Rattle.std.specs.Option.{ForSome};
 ghost use Rattle.strm_links.specs.Rows as rows;
 ghost use Rattle.strm_queue.specs.Flow as flow;
-ghost use Rattle.strm_queue.specs.Flow.{enabled, enabled_where, flags_at, spec_at};
+ghost use Rattle.strm_queue.specs.Flow.{enabled, enabled_where, flags_at};
 
 use super::Queues;
 use crate::limits::HIGH_RANK;

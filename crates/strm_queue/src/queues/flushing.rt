@@ -46,7 +46,7 @@ impl Queues {
     /// Frees the messages of a queue front to back: all, or those that carry data. What stays keeps its place and enables
     /// nothing. Then the queue is settled, as by `getq`: a wanted band that has at most as many bytes as its low water mark
     /// loses its wanted mark, and the nearest queue behind with a service procedure is enabled. Takes a step for each
-    /// message, two for each block that is freed, and one for each wanted band of the queue.
+    /// message, two for each block that is freed, and those to settle, as of `getq`.
     ///
     /// Refused as `NoSuchQueue` where there is no such queue; nothing changes then.
     pub fn flushq(&mut self, blocks: &mut Blocks, queue: u8, flush: Flush) -> Result<(), Refusal>
@@ -63,7 +63,7 @@ impl Queues {
     /// messages are of band 0. What stays keeps its place and enables nothing. Then the queue is settled, as by `getq`: a
     /// wanted band that has at most as many bytes as its low water mark loses its wanted mark, and the nearest queue behind
     /// with a service procedure is enabled. Takes a step for each message of the band, two for each block that is freed, and
-    /// one for each wanted band of the queue.
+    /// those to settle, as of `getq`.
     ///
     /// Refused as `NoSuchQueue` where there is no such queue; nothing changes then.
     pub fn flushband(

@@ -14,7 +14,8 @@ use strm_mblk::{Blocks, Token};
 impl Queues {
     /// Takes the first message off a queue, clears its want-to-read mark, and settles it: each wanted band that has at most
     /// as many bytes as its low water mark loses its wanted mark, and where one does, the nearest queue behind with a
-    /// service procedure is enabled. Takes a step for each block of the message, and for each wanted band of the queue.
+    /// service procedure is enabled. Takes a step for each block of the message, and to settle one for each wanted band of the
+    /// queue, and where one of them has room again one for each pair of queues behind at most.
     ///
     /// Where the queue is empty, it gives nothing and sets the want-to-read mark: somebody wants to read from it.
     ///
@@ -47,8 +48,8 @@ impl Queues {
 
     /// Takes the message at `place`, counted from 0, off a queue, and settles it, as `getq` does: a wanted band that has at
     /// most as many bytes as its low water mark loses its wanted mark, and the nearest queue behind with a service procedure
-    /// is enabled. The want-to-read mark stays. Takes `place` steps, and one for each block of the message and for each wanted
-    /// band of the queue.
+    /// is enabled. The want-to-read mark stays. Takes `place` steps, one for each block of the message, and those to settle, as
+    /// of `getq`.
     ///
     /// Refused as `NoSuchQueue` where there is no such queue, then as `NoSuchPlace` where it has no such message; nothing
     /// changes then.

@@ -17,7 +17,7 @@ impl Queues {
     /// The band is full from now on where it has at least `hiwat` bytes; then nobody waits for room yet, since `bcanput`
     /// alone sets a wanted mark. Then the queue is settled, as by `getq`: a wanted band, this one or another, that has at most
     /// as many bytes as its low water mark loses its wanted mark, and the nearest queue behind with a service procedure is
-    /// enabled. Takes a step for each wanted band of the queue.
+    /// enabled. Takes the steps to settle, as of `getq`.
     ///
     /// STREAMS' `strqset` sets one of many fields; of these there are the two water marks here. That both are set at once, that
     /// `lowat` must be below `hiwat`, that the band is full or not at once, and that the queue is settled, is this project's own choice.

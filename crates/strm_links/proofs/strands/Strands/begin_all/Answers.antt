@@ -5,7 +5,7 @@ use Rattle.strm_links.specs.StrandLayout.{IsLaid, next_at, onward}
 use Rattle.strm_links.proofs.chaining.Begun.{IsLaid-begun_several, one_low, several_low, several_there}
 use Rattle.strm_links.proofs.chaining.Laid.{closed, next_within, node_read, parted, seen, strands_of_is}
 use Rattle.strm_links.proofs.strands.Strands.begin_all.Goals as goal
-use Rattle.strm_links.proofs.strands.Strands.begin_all.Goals.{After-chain_up, After-deref, After-number-head}
+use Rattle.strm_links.proofs.strands.Strands.begin_all.Goals.{After-chain_up, After-number-head}
 
 -- the first free one is a node
 low : (c : After-number-head) → c.number-head.result < length c.args.self.now.chains

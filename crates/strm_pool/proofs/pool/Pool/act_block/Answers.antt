@@ -4,7 +4,6 @@ use Rattle.strm_mblk.specs.Arena.{message_at}
 use Rattle.strm_mblk.specs.Block.{Block as MessageBlock}
 use Rattle.strm_mblk.specs.BlockCalls as blocks
 use Rattle.strm_mblk.specs.Given.{value_after}
-use Rattle.strm_pool.specs.declared.reply.Reply.TheVariants.{Done}
 use Rattle.strm_pool.specs.declared.reply.Reply.TheVariants as replies
 use Rattle.strm_pool.specs.PoolValue.{PoolValue, on_arena}
 use Rattle.strm_pool.specs.Registers.{table_of}

@@ -1,5 +1,4 @@
 use Rattle.std.proofs.Common.{refl}
-use Rattle.strm_pool.specs.declared.reply.Reply.TheVariants.{Done}
 use Rattle.strm_pool.specs.declared.reply.Reply.TheVariants as replies
 use Rattle.strm_pool.proofs.Acting.{all_stays}
 use Rattle.strm_pool.proofs.Shaped.{tells}

@@ -13,7 +13,7 @@ use Rattle.strm_queue.specs.Tallies.{AreEndsOf}
 use Rattle.strm_queue.proofs.order.Ends.{first_of_rank-none, last_of_rank-has}
 use Rattle.strm_queue.proofs.order.Places.{after_there, none_beyond, none_told, placed_behind-none, placed_behind-some, some_told}
 use Rattle.strm_queue.proofs.queues.Queues.place_behind.Goals as goal
-use Rattle.strm_queue.proofs.queues.Queues.place_behind.Goals.{After-last, After-rank_at_least, In-Some-last}
+use Rattle.strm_queue.proofs.queues.Queues.place_behind.Goals.{After-rank_at_least, In-Some-last}
 
 -- what is stored for ranks is true
 ends : (c : After-rank_at_least) → AreEndsOf (rank_of c.args.blocks.now.store) (shelf_at c.args.blocks.now c.args.queue) c.tally-tally.result.now
