@@ -1,4 +1,4 @@
-# Builds, runs and tests the program strm. All that it needs is Rattle's command `rt` on PATH, and `cc` for the tests.
+# Builds, runs and tests the program strm. All that it needs is Rattle's command `rt` on PATH, and `cc` for the tests and the library for C.
 
 SHELL := bash
 .SHELLFLAGS := -o pipefail -c
@@ -27,7 +27,7 @@ NEEDS_RT = $(if $(shell command -v rt 2>/dev/null),,$(error Rattle's command rt 
 run: $(BUILT)
 	@$(BUILT) --serial <examples/first_run.strm
 
-# The whole gate: all proofs, the edits that must be refused, all tests and cases.
+# The whole gate: all proofs, the edits that must be refused, the tests and cases.
 test:
 	$(NEEDS_RT)
 	@.ci/run
@@ -126,7 +126,7 @@ $(PROVED): $(SOURCES)
 # Only a proved program is built. `rt run` keeps its work, and runs the program once.
 $(BUILT): $(SOURCES)
 	$(NEEDS_RT)
-	@echo "proving and building strm: some 30 minutes of processor time at first, and seconds to minutes after a change; what is said of it goes to $(LOG)" >&2
+	@echo "proving and building strm: 30 to 50 minutes of processor time at first, and seconds to minutes after a change; what is said of it goes to $(LOG)" >&2
 	@mkdir -p $(dir $(LOG))
 	@cd crates/strm_driver && rt run -- --help </dev/null 2>&1 | tee $(CURDIR)/$(LOG) | awk '/^crate /{ name = $$2 } /^logic=proved/{ print name, "proved"; fflush() }' >&2 || { echo "not proved, for the reason in $(LOG)" >&2; exit 1; }
 	@touch $(BUILT)
