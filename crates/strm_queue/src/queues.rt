@@ -36,11 +36,11 @@ use strm_mblk::Blocks;
 
 /// Queues of messages, numbered from 0, over message blocks: shelf q of the `Blocks` has the messages of queue q.
 ///
-/// High priority messages come first, then those of greater bands. Of equal ones `putq` puts a message behind all, `putbq`
-/// in front, and `insq` where it is told. Beside its messages a queue has flags: that somebody wants to read from it (at first, and after `getq` found it empty), that
-/// enabling is switched off, and for each band that it is wanted, since `bcanput` found it full. Each of its bands has water
-/// marks, at first those that the queue was made with. A queue that is enabled stands on the run list until
-/// `next_service` takes it off.
+/// High priority messages come first, then those of greater bands. Of equal ones `putq` puts a message behind all,
+/// `putbq` in front, and `insq` where it is told. Beside its messages a queue has flags: that somebody wants to read from
+/// it (at first, and after `getq` found it empty), that enabling is switched off, and for each band that it is wanted,
+/// since `bcanput` found it full. Each of its bands has water marks, at first those that the queue was made with. A queue
+/// that is enabled stands on the run list until `next_service` takes it off.
 ///
 /// Each call that touches messages takes the `Blocks` too, and asks that the two agree (`Agrees`): that there is a shelf
 /// for each queue, that each is in priority order, that what is stored of it is true, and that a wanted mark stands only
