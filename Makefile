@@ -1,4 +1,5 @@
-# Builds, runs and tests the program strm. All that it needs is Rattle's command `rt` on PATH, and `cc` for the tests and the library for C.
+# Builds, runs and tests the program strm, which needs Rattle's command `rt` on PATH. The library for C needs `cc` too, and Python where it is
+# installed; docs/GATE.md says what the tests need.
 
 SHELL := bash
 .SHELLFLAGS := -o pipefail -c

@@ -388,8 +388,8 @@ impl Data {
     }
 
     /// Copies `len` bytes of a data block, from place `at` on, over those of another, from place `to` on, or of the same. Both
-    /// lie in their block's capacity. All other bytes, names and types stay. Takes one slice copy; within one block, where the
-    /// places may overlap, a step for each byte.
+    /// lie in their block's capacity. All other bytes, names and types stay. Takes one slice copy; where the
+    /// places overlap in one block, a step for each byte.
     #[inline(always)]
     pub fn copy(&mut self, from: DataNo, at: u32, into: DataNo, to: u32, len: u32)
         requires from { from < length self.old.store.blocks }

@@ -4,8 +4,8 @@ ghost use Rattle.strm_data.specs.Refusal.{number_of, name_of};
 
 use thiserror::Error;
 
-/// Why a call is refused. A refused call changes nothing and gives its tokens back; but a desk of a shared pool that is
-/// refused as `Worn` or `TraceFull` has seen the stamp that shows it.
+/// Why a call is refused. A refused call changes nothing and gives its tokens back; but where a call at a shared pool is
+/// refused as `Worn` or `TraceFull`, its desk has seen the stamp that shows it.
 ///
 /// Each refusal has a number, which is its discriminant and is what a transcript shows beside its name.
 /// 15 stands for no refusal. The numbers are this project's own choice.
@@ -32,10 +32,11 @@ pub enum Refusal {
     /// `write` has more bytes than fit behind the write place.
     #[error("the bytes do not fit behind the write place")]
     NoRoom = 7,
-    /// `adjmsg` or `pullupmsg` asks for more bytes than the blocks of one type at that end have, or `pullupmsg` for fewer than -1.
+    /// `adjmsg` asks for more bytes than the blocks of one type at the head have, or for a negative number at the tail; or
+    /// `pullupmsg` for more than those at the head have, or for fewer than -1.
     #[error("the message has too few bytes of one type")]
     Short = 8,
-    /// `insq` or `rmvq` names a place, counted from 0, that the queue has not.
+    /// `insq` names a place behind the end of the queue, or `rmvq` one where no message stands, counted from 0.
     #[error("the queue has no such place")]
     NoSuchPlace = 9,
     /// `insq` would have a message stand before one of a greater rank, or behind one of a lesser.

@@ -37,7 +37,7 @@ cut (pos n) s m = if nat_lt (size_of (run_of s m)) n then Err Short else Ok (cut
 cut (negsuc n) s m =
     if nat_lt (size_of (run_of s (reverse m))) (suc n) then Err Short else Ok (reverse (cut_back (suc n) (reverse m)))
 
--- the message held at h, so cut
+-- the message held at h, cut by n
 abbrev pub adjmsg : ℕ → ℤ → Arena → Given Arena (Unit {0})
 adjmsg h n a = answer_map (λ m. (tt, with_message h m a)) (cut n a.store (message_at a h))
 
@@ -87,7 +87,7 @@ pull h n (b ∷ bs) a =
     else (if nat_le n b.len then Ok (tt, a)
     else answer_map (λ d. (tt, pulled h n (b ∷ bs) a d)) (take_data n a.store))
 
--- so many of the message m, which is held at h, where some number is asked for
+-- so many bytes of the message m, which is held at h, are in its first block; `Short` where no number is given
 abbrev pub pull_asked : ℕ → Option ℕ → Message → Arena → Given Arena (Unit {0})
 pull_asked h None m a = Err Short
 pull_asked h (Some n) m a = pull h n m a

@@ -14,9 +14,9 @@ use strm_queue::Marks;
 pub enum Reply {
     /// The call was done.
     Done,
-    /// `allocb` of this size would give a message; or the band has room.
+    /// To `testb`: `allocb` of this size would give a message. To `bcanput`: the band has room.
     Yes,
-    /// `allocb` would be refused; or the band is full, and is wanted from now on.
+    /// To `testb`: `allocb` of this size would be refused. To `bcanput`: the band is full, and is wanted from now on.
     No,
     /// The call was done, and there was nothing to give.
     Nothing,

@@ -185,7 +185,7 @@ waker specs q = waker_within (length specs) specs q
 abbrev pub enabled : ℕ → QueueState → QueueState
 enabled q s = if (spec_at s.specs q).service && not (rows.has q s.run) then record s { run = s.run ++ q ∷ [] } else s
 
--- it is where that is so, and else nothing is done
+-- queue q is enabled where the first argument is true; else nothing changes
 abbrev pub enabled_where : Bool → ℕ → QueueState → QueueState
 enabled_where so q s = if so then enabled q s else s
 

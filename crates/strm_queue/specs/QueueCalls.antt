@@ -70,7 +70,7 @@ flags_left v q = record (flags_of v q) { wanted = still_wanted (flags_of v q).wa
 abbrev pub waker_enabled : ℕ → QueueState → QueueState
 waker_enabled q s = option_map_or (λ p. enabled p s) (waker s.specs q) s
 
--- it is where that is so, and else nothing is done
+-- it is enabled where the first argument is true; else nothing changes
 abbrev pub waker_enabled_where : Bool → ℕ → QueueState → QueueState
 waker_enabled_where so q s = if so then waker_enabled q s else s
 
@@ -137,7 +137,7 @@ flushed q band flush v = if has_queue v q then Ok (tt, settled q (with_flushed q
 abbrev pub flushq : ℕ → Flush → QueuedBlocks → Given QueuedBlocks (Unit {0})
 flushq q flush v = flushed q None flush v
 
--- those of one band of it are
+-- the messages of one band of queue q, all or those that carry data, are free
 abbrev pub flushband : ℕ → ℕ → Flush → QueuedBlocks → Given QueuedBlocks (Unit {0})
 flushband q band flush v = flushed q (Some band) flush v
 
@@ -174,11 +174,11 @@ qenable q v = if has_queue v q then Ok (tt, with_state (enabled_where true q) v)
 abbrev pub switched : ℕ → Bool → QueuedBlocks → Given QueuedBlocks (Unit {0})
 switched q off v = if has_queue v q then Ok (tt, with_state (with_noenable q off) v) else Err NoSuchQueue
 
--- enabling by putting and inserting is switched off
+-- putting and inserting enable queue q no more, save as `switched` says
 abbrev pub noenable : ℕ → QueuedBlocks → Given QueuedBlocks (Unit {0})
 noenable q v = switched q true v
 
--- and on
+-- they enable it again
 abbrev pub enableok : ℕ → QueuedBlocks → Given QueuedBlocks (Unit {0})
 enableok q v = switched q false v
 

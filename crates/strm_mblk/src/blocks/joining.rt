@@ -11,8 +11,8 @@ use crate::token::Token;
 use strm_data::Refusal;
 
 impl Blocks {
-    /// Puts a message behind another, which keeps its token and then has the blocks of both, in order. What the blocks say
-    /// stays. Takes constant time.
+    /// Puts the message `tail` behind the other, which keeps its token and then has the blocks of both, in order. What the
+    /// blocks say stays. Takes constant time.
     ///
     /// Two tokens of one message can come only from two pools of one id: then the second is spent, and nothing else is
     /// done.

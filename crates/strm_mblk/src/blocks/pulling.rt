@@ -158,7 +158,7 @@ impl Blocks {
     /// Else the first block names a data block that takes so many bytes, from place 0 on, of the same type, and its former
     /// one loses its name. The blocks behind it lose what it did not have: up to place `count` each whose bytes are all
     /// taken, an empty one too, is freed, and the read place of the last one rises. Empty blocks behind that place stay.
-    /// Takes as many steps as the message has blocks, and one for each class, and copies the bytes once.
+    /// Takes as many steps as the message has blocks, and at most two for each class, and copies the bytes once.
     ///
     /// Refused as `Short` where the count is below -1, or the leading blocks have fewer bytes, then as `TooLarge` where the
     /// count is above the largest class, then as `NoData` where no data block is that fits; nothing changes then.

@@ -161,7 +161,7 @@ impl Pool {
         self.blocks.setband(token, band);
     }
 
-    /// Puts a message behind another, which then has the blocks of both.
+    /// Puts the message `tail` behind the other, which keeps its token and then has the blocks of both, in order.
     ///
     /// Two tokens of one message can come only from two pools of one id: then the second is spent, and nothing else is
     /// done.
@@ -177,7 +177,8 @@ impl Pool {
         self.blocks.linkb(token, tail);
     }
 
-    /// Leaves only the first block in a message. The others are a message of their own, if there are any.
+    /// Leaves only the first block in a message. The others are a message of their own, whose token is the answer; none
+    /// where there are no others, and then nothing changes.
     pub fn unlinkb(&mut self, token: &mut Token) -> Option<Token>
         requires { IsTrue (has self.old.arena token.old) }
         ensures pool { self.new ≡ with_arena self.old (blocks.unlinkb token.old.head self.old.arena).1 }
@@ -287,7 +288,7 @@ impl Pool {
     }
 
     /// Frees the first block of a message, and its data block where no other message block names it. The others are a
-    /// message of their own, if there are any.
+    /// message of their own, whose token is the answer; none where there are no others.
     pub fn freeb(&mut self, token: Token) -> Option<Token>
         requires { IsTrue (has self.old.arena token) }
         ensures pool { self.new ≡ with_arena self.old (blocks.freeb token.head self.old.arena).1 }

@@ -8,7 +8,8 @@ use super::Queues;
 
 impl Queues {
     // Takes away the wanted mark of each band that has room again, and enables the nearest queue behind with a service
-    // procedure where there was one. Takes a step for each wanted band.
+    // procedure where there was one. Takes a step for each wanted band, and where one has room again one for each pair of
+    // queues behind at most.
     pub(super) fn settle(&mut self, queue: u8)
         requires queue { queue < length self.old.state.specs }
         ensures state { (arena : Arena) → AreInOrder self.old arena → together self.new arena ≡ settled queue (together self.old arena) }

@@ -224,7 +224,7 @@ impl Drawn {
         }
     }
 
-    // A drawn call. Two in three put a message.
+    // A drawn call. Some two in three try to put a message.
     fn step(&mut self, rt: &impl Abort)
         requires { Agrees self.old.bench.queues self.old.bench.blocks }
         ensures { Agrees self.new.bench.queues self.new.bench.blocks }
@@ -311,10 +311,10 @@ impl Drawn {
     {
         for _message in 0..self.plain.len() {
             self.getq(rt);
+            self.assert_bands(rt);
         }
         self.bench.assert_none(rt, 0, Ok(()));
         self.bench.assert_all_free(rt);
-        self.assert_bands(rt);
     }
 
     // So many drawn calls. Once there were so many messages at one time.

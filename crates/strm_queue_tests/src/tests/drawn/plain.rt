@@ -11,7 +11,7 @@ pub(super) struct Standing {
     pub(super) size: u32,
 }
 
-// The water marks of a band, and whether it was found full and has had no room since.
+// The water marks of a band, and whether it was found full and has had more bytes than its low one since.
 #[derive(Clone, Copy)]
 pub(super) struct Band {
     pub(super) hiwat: u32,
