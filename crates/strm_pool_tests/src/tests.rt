@@ -6,13 +6,18 @@ use strm_pool::{
 };
 
 mod bench;
+mod beside;
 mod config;
 mod copies;
+mod flow;
+mod long_run;
 mod names;
 mod pool;
 mod regs;
 mod rows;
+mod second;
 mod slots;
+mod tally;
 
 // Data blocks of two sizes, and how many.
 const SIZES: [(u32, u32); 2] = [(16, 4), (64, 2)];

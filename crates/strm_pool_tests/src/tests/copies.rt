@@ -1,4 +1,4 @@
-//! Copies of calls and replies that are gone.
+//! Copies of calls and replies that are gone. Drawn calls are copied beside their second doing.
 use super::{octets, reg};
 use std::process::Abort;
 use strm_pool::{Call, MOST_OCTETS, Reply};

@@ -1,0 +1,131 @@
+//! A pool beside its calls done a second time: both answer alike, and have the same afterwards.
+use super::second::{QUEUES, REGISTERS, Second};
+use super::{assert_reply, register};
+use std::process::Abort;
+use strm_mblk::Blocks;
+use strm_pool::{Call, MOST_OCTETS, MOST_REGISTERS, Pool, Refusal, Reg, Regs, Reply, Token};
+
+// The first block of a message, and those behind it: one more place than there are blocks.
+fn assert_blocks(rt: &impl Abort, pool: &Pool, blocks: &Blocks, token: &Token, other: &Token) {
+    assert!(rt; pool.has(token) && blocks.has(other));
+    for place in 0..=token.blocks() {
+        assert!(rt; pool.block(token, place) == blocks.block(other, place));
+    }
+}
+
+// The first bytes of a message, as far as a reply carries them.
+fn assert_bytes(rt: &impl Abort, pool: &Pool, blocks: &Blocks, token: &Token, other: &Token) {
+    assert!(rt; pool.has(token) && blocks.has(other));
+    let (mut bytes, mut others) = ([0; MOST_OCTETS], [0; MOST_OCTETS]);
+    let count = pool.read(token, 0, &mut bytes);
+    assert!(rt; count == blocks.read(other, 0, &mut others));
+    assert!(rt; bytes == others);
+}
+
+// A token tells the same.
+fn assert_tokens(rt: &impl Abort, token: &Token, other: &Token) {
+    assert!(rt; token.pool() == other.pool() && token.head() == other.head());
+    assert!(rt; token.blocks() == other.blocks());
+}
+
+// A message has the same blocks, and the same bytes, as far as a reply carries them.
+fn assert_message(rt: &impl Abort, pool: &Pool, blocks: &Blocks, token: &Token, other: &Token) {
+    assert_tokens(rt, token, other);
+    assert_blocks(rt, pool, blocks, token, other);
+    assert_bytes(rt, pool, blocks, token, other);
+}
+
+// Puts a token back into the register that it was taken from.
+fn put_back(rt: &impl Abort, regs: &mut Regs, reg: Reg, token: Token) {
+    if let Some(token) = regs.put(reg, token) {
+        token.forget();
+        panic!(rt; "the register holds a message");
+    }
+}
+
+// A register of the pool and that of the second have the same message, or hold nothing.
+fn assert_place(rt: &impl Abort, pool: &Pool, regs: &mut Regs, second: &mut Second, reg: Reg) {
+    assert!(rt; regs.holds(reg) == second.places().holds(reg));
+    if let Some(token) = regs.take(reg) {
+        if let Some(other) = second.places().take(reg) {
+            assert_message(rt, pool, second.blocks(), &token, &other);
+            put_back(rt, second.places(), reg, other);
+        }
+        put_back(rt, regs, reg, token);
+    }
+}
+
+// The pool has no message that stands on a queue, which a place behind the registers has.
+fn assert_queued(rt: &impl Abort, pool: &Pool, second: &mut Second, reg: Reg) {
+    if let Some(token) = second.places().take(reg) {
+        assert!(rt; !pool.has(&token));
+        put_back(rt, second.places(), reg, token);
+    }
+}
+
+// Each register of the pool has the message of its place. The pool has no message that stands on a queue.
+fn assert_places(rt: &impl Abort, pool: &Pool, regs: &mut Regs, second: &mut Second) {
+    for place in 0..MOST_REGISTERS as u8 {
+        let reg = register(rt, place);
+        if place < REGISTERS {
+            assert_place(rt, pool, regs, second, reg);
+        } else {
+            assert_queued(rt, pool, second, reg);
+        }
+    }
+}
+
+// The size classes are the same, and the queues are as long.
+fn assert_counts(rt: &impl Abort, pool: &Pool, second: &Second) {
+    for class in 0..4 {
+        assert!(rt; pool.class_info(class) == second.blocks().class_info(class));
+    }
+    for queue in 0..=QUEUES as u8 {
+        let len = second.queue_len(queue);
+        assert!(rt; pool.qsize(queue) == len.ok_or(Refusal::NoSuchQueue));
+    }
+}
+
+// A queue has the same counts and marks, and so has each band that messages are put into.
+fn assert_queue(rt: &impl Abort, pool: &Pool, second: &Second, queue: u8) {
+    let info = second.queue_info(rt, usize::from(queue));
+    assert!(rt; pool.queue_info(queue) == Ok(info));
+    for band in 0..4 {
+        let info = second.band_info(rt, usize::from(queue), band);
+        assert!(rt; pool.band_info(queue, band) == Ok(info));
+    }
+}
+
+// So has each queue, and the same ones wait to be served. Wishes are the same.
+fn assert_queues(rt: &impl Abort, pool: &Pool, second: &Second) {
+    for queue in 0..QUEUES as u8 {
+        assert_queue(rt, pool, second, queue);
+    }
+    for place in 0..=QUEUES as u32 {
+        assert!(rt; pool.run_at(place) == second.run().get(place as usize).copied());
+    }
+    for place in 0..3 {
+        assert!(rt; pool.wish_at(place) == second.wish_at(place as usize));
+    }
+}
+
+// Does a call on both, on the pool by a copy of it, and answers a copy of its reply.
+pub(super) fn serve(
+    rt: &impl Abort,
+    pool: &mut Pool,
+    regs: &mut Regs,
+    second: &mut Second,
+    call: &Call,
+) -> Reply {
+    assert!(rt; pool.owns(regs));
+    let reply = pool.apply(regs, &call.copy());
+    assert_reply(rt, call, &reply, &second.serve(rt, call));
+    let census = Reply::Census(pool.census());
+    assert_reply(rt, &Call::Census, &census, &second.serve(rt, &Call::Census));
+    assert_places(rt, pool, regs, second);
+    assert_counts(rt, pool, second);
+    assert_queues(rt, pool, second);
+    let copy = reply.copy();
+    assert_reply(rt, call, &copy, &reply);
+    copy
+}
