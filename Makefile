@@ -22,7 +22,7 @@ LOG := build/proving.log
 # Ends with one line where there is no `rt`.
 NEEDS_RT = $(if $(shell command -v rt 2>/dev/null),,$(error Rattle's command rt is not on PATH, and README.md says which is wanted))
 
-.PHONY: run test soak field view-test pictures bench bench-lines bench-library bench-census bench-c strm install install-pages lib install-lib vendor
+.PHONY: run test cases planted lint soak field view-test pictures bench bench-lines bench-library bench-census bench-c strm install install-pages lib install-lib vendor
 
 # Runs the first run's script, once the program is proved.
 run: $(BUILT)
@@ -32,6 +32,19 @@ run: $(BUILT)
 test:
 	$(NEEDS_RT)
 	@.ci/run
+
+# Runs cases of tests/cases on the proved program: all, or those that CASES names. Trying a new case takes seconds.
+cases: $(BUILT)
+	@tests/run_cases $(BUILT) $(CASES)
+
+# Plants each wrong body of tests/planted in a copy of the crates, and requires its test to fail. Nothing is proved for it.
+planted:
+	$(NEEDS_RT)
+	@tests/planted --all
+
+# Checks the shell scripts with shellcheck and the Python programs with a linter.
+lint:
+	@tests/lint
 
 # Has workers serve drawn scripts for a minute, and replays what they write. OPTIONS are words of tests/soak, as --seconds N.
 soak: $(BUILT)
