@@ -1,16 +1,17 @@
 /*
- * The border between C and the crate strm_c: it tells null pointers, and lengths that no object has, before the crate is called,
- * which takes references. A reference is never null, and a slice of length 0 has an address too. All else the crate tells itself.
+ * The border between C and the crate strm_c, which takes references and slices. The functions here reject what those cannot be:
+ * null pointers, lengths that no object has, and one place for two answers. The crate checks everything else. Whether the handle
+ * is open is checked here too, because that answer comes first.
  */
 #include "strm_c.h"
 
 /* The greatest length of an object. */
 #define MOST_LENGTH ((size_t)-1 / 2)
 
-/* What stands for a buffer of length 0 whose pointer is null. It is neither read nor written. */
+/* Used for every buffer of length 0, since a slice needs an address. It is neither read nor written. */
 static uint8_t nothing;
 
-/* A code, where the handle is not open, or an argument does not fit; else STRM_OK. */
+/* STRM_NOT_OPEN if the handle is not open, else STRM_BAD_ARGUMENT if an argument does not fit, else STRM_OK. */
 static int fault_of(const struct strm_pool *pool, int fits)
 {
 	if (!strm_is_open(pool))
@@ -18,13 +19,13 @@ static int fault_of(const struct strm_pool *pool, int fits)
 	return fits ? STRM_OK : STRM_BAD_ARGUMENT;
 }
 
-/* Whether this can be a buffer. */
+/* Whether a pointer and a length can be a buffer. */
 static int is_buffer(const void *bytes, size_t length)
 {
 	return length <= MOST_LENGTH && (bytes != NULL || length == 0);
 }
 
-/* Puts a 0 behind as much of a text as was copied, where there is room for one. */
+/* Puts a 0 after what was copied of a text, or over the last byte of a full buffer. Returns the length of the whole text. */
 static size_t ended(char *text, size_t length, size_t whole)
 {
 	if (length > 0)
@@ -39,7 +40,7 @@ int strm_is_open(const struct strm_pool *pool)
 
 int strm_open(struct strm_pool *pool, const struct strm_config *config)
 {
-	/* where there are none, the address of something else serves */
+	/* addresses for slices without items */
 	static const struct strm_class_spec no_class = { 0, 0 };
 	static const struct strm_queue_spec no_queue = { 0, 0, 0, 0 };
 

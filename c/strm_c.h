@@ -1,7 +1,7 @@
 /*
- * What the crate strm_c exports, for strm.c alone. Each is the call of strm.h with its name less the `c_`, and requires what strm.h
- * has the caller promise, and besides that no pointer is null and no length above half of the greatest size_t. It tells all other
- * misuse itself.
+ * What the crate strm_c exports, for strm.c only. Each export is the call of strm.h whose name lacks the `c_`. Its caller keeps the
+ * promises of strm.h, and passes no null pointer, no length above half of the greatest size_t, and no place for two answers. The
+ * export checks all other misuse.
  */
 #ifndef STRM_C_H
 #define STRM_C_H
@@ -64,7 +64,7 @@ int32_t strm_c_class_info(struct strm_pool *pool, uint32_t place, struct strm_cl
 int32_t strm_c_queue_info(struct strm_pool *pool, uint32_t queue, struct strm_queue_info *info);
 int32_t strm_c_band_info(struct strm_pool *pool, uint32_t queue, uint32_t band, struct strm_band_info *info);
 
-/* Copies as much of a text as fits, without a 0, and returns the length of the whole. */
+/* Each copies as much of a text as fits, without a 0, and returns the length of the whole text. */
 size_t strm_c_text(int32_t code, uint8_t *text, size_t length);
 size_t strm_c_name(int32_t code, uint8_t *text, size_t length);
 size_t strm_c_version(uint8_t *text, size_t length);

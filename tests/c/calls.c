@@ -17,7 +17,7 @@ static const char *const types[STRM_TYPES] = {
 	"M_PCPROTO", "M_PCSIG", "M_READ", "M_FLUSH", "M_STOP", "M_START", "M_HANGUP", "M_ERROR", "M_COPYIN", "M_COPYOUT", "M_IOCDATA"
 };
 
-/* The names of refusals by number, as the program tells them. */
+/* The names of refusals by number, as the program prints them. */
 static const char *const refusals[] = {
 	"", "TooLarge", "NoMblk", "NoData", "RefMax", "NoSuchBlock", "Shared", "NoRoom", "Short", "NoSuchPlace", "BadOrder",
 	"NoSuchQueue", "Full", "IdsSpent", "NotPending", "", "", "", "", "", "BadMarks"

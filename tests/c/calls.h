@@ -1,4 +1,4 @@
-/* Calls on a pool as data, with registers for messages, and the replies to them: those of the program strm. */
+/* Calls on a pool as data, with registers for messages, and their replies, as in the program strm. */
 #ifndef CALLS_H
 #define CALLS_H
 
@@ -15,8 +15,8 @@ enum verb {
 	NOENABLE, ENABLEOK, SERVICE, BUFCALL, UNBUFCALL, READY, CENSUS, VERBS
 };
 
-/* What a verb names, as letters in the order of its line: q a queue, x and z registers that it takes from, y one that it puts into,
- * k a place, b a band, n a number, s one with a sign, t a type, f a flush, o octets, h and l water marks. */
+/* What a verb names, as letters in the order of its line. x and z are registers that it takes from, y is one that it puts into. q is a
+ * queue, k a place, b a band, n a number, s a signed number, t a type, f a flush, o octets. h and l are water marks. */
 struct form {
 	const char *word, *names;
 };
@@ -37,7 +37,7 @@ enum kind {
 
 struct reply {
 	enum kind kind;
-	uint32_t numbers[5];	/* what is told, in the order of the reply's line; of bytes how many; of a refusal its code */
+	uint32_t numbers[5];	/* those of the reply's line, in order; of bytes their number, of a refusal its code */
 	uint8_t octets[MOST_OCTETS];
 };
 
@@ -46,7 +46,7 @@ struct reply refused(int code);
 struct reply told(enum kind kind, uint32_t first, uint32_t second);
 int same_reply(const struct reply *a, const struct reply *b);
 
-/* The header, a call and a reply, as lines of a script and of its text. */
+/* Print the header of a script, a call as its line, and what a text says of a reply. */
 void print_header(FILE *to, const struct strm_config *config);
 void print_call(FILE *to, const struct call *call);
 void print_reply(FILE *to, const struct reply *reply);

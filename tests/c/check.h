@@ -1,4 +1,4 @@
-/* Checks that are counted, for tests that go on where one fails. */
+/* Counted checks, for tests that go on after a failed one. */
 #ifndef CHECK_H
 #define CHECK_H
 
@@ -7,15 +7,15 @@
 #include <stdio.h>
 #include <string.h>
 
-/* Counts a check, and tells one that fails. */
+/* Counts a check, and prints one that fails. */
 void check(int holds, const char *file, int line, const char *what);
 
 #define CHECK(what) check(what, __FILE__, __LINE__, #what)
 
-/* A call answers a code. */
+/* A call returns a code. */
 #define ANSWERS(call, code) CHECK((call) == (code))
 
-/* How many message blocks are free, queued and held. */
+/* The numbers of message blocks that are free, queued and held. */
 #define CENSUS(pool, f, q, h) CHECK(has_census(pool, f, q, h))
 int has_census(struct strm_pool *pool, uint32_t free, uint32_t queued, uint32_t held);
 
@@ -27,7 +27,7 @@ struct strm_msg message(struct strm_pool *pool, const char *bytes);
 
 int same_name(struct strm_msg a, struct strm_msg b);
 
-/* Prints 'N passed, M failed', and gives the status. */
+/* Prints 'N passed, M failed', and returns the exit status. */
 int summary(void);
 
 #endif

@@ -1,8 +1,9 @@
 /*
- * Draws calls, has the pool of strm.h and the plain model do each, and compares their replies and, behind each call, all that there is.
+ * Draws calls, and has the pool of strm.h and the plain model do each. Compares their replies, and after each call all that both report.
  *
- *     drawn CALLS SEED            compares; the last line is 'N passed, M failed', which counts pools, and 1 where an answer never came
- *     drawn CALLS SEED SCRIPT     writes a script of the calls of one pool, and the model's replies as lines to standard output
+ *     drawn CALLS SEED            compares. The last line is 'N passed, M failed', which counts pools. One more fails if an answer never
+ *                                 came in a million calls.
+ *     drawn CALLS SEED SCRIPT     writes a script of calls on one pool, and prints the model's replies, a line each.
  */
 #include "face.h"
 #include "model.h"
@@ -10,61 +11,62 @@
 #include <stdlib.h>
 #include <string.h>
 
-/* How many calls one pool gets, after how many each band of the queue that was drawn is looked at, and after how many all queues are
- * emptied. */
+/* The number of calls on one pool. After every CALLS_TO_ALL_BANDS of them all bands of the drawn queue are compared, and after every
+ * CALLS_TO_ALL_MESSAGES all queues are emptied. */
 #define CALLS_OF_A_POOL 20000
 #define CALLS_TO_ALL_BANDS 16
 #define CALLS_TO_ALL_MESSAGES 1000
 
-/* An answer as one of 64: a kind of reply, or a refusal by its code. */
+/* An answer as one of 64 bits: a kind of reply, or a refusal by its code. */
 #define IS(kind) ((uint64_t)1 << (kind))
 #define NOT(code) ((uint64_t)1 << (REFUSED + (code)))
 
-/* How often each verb comes, beside the others, and the answers that it has to have in so many calls: all that there are but RefMax. */
+/* How often each verb is drawn, compared with the others, and the answers that must come in CALLS_TO_EACH_ANSWER calls. These are all
+ * but RefMax and `taken`. */
 #define CALLS_TO_EACH_ANSWER 1000000
 static const struct {
 	unsigned weight;
 	uint64_t answers;
 } drawn[VERBS] = {
-	/* allocb */ { 14, IS(DONE) | NOT(STRM_TOO_LARGE) | NOT(STRM_NO_MBLK) | NOT(STRM_NO_DATA) },
-	/* testb */ { 1, IS(YES) | IS(NO) },
-	/* dupb */ { 2, IS(DONE) | IS(EMPTY) | NOT(STRM_NO_MBLK) },
-	/* dupmsg */ { 3, IS(DONE) | IS(EMPTY) | NOT(STRM_NO_MBLK) },
-	/* copyb */ { 1, IS(DONE) | IS(EMPTY) | NOT(STRM_NO_MBLK) | NOT(STRM_NO_DATA) },
-	/* copymsg */ { 2, IS(DONE) | IS(EMPTY) | NOT(STRM_NO_MBLK) | NOT(STRM_NO_DATA) },
-	/* write */ { 16, IS(DONE) | IS(EMPTY) | NOT(STRM_NO_SUCH_BLOCK) | NOT(STRM_SHARED) | NOT(STRM_NO_ROOM) },
-	/* settype */ { 4, IS(DONE) | IS(EMPTY) | NOT(STRM_NO_SUCH_BLOCK) | NOT(STRM_SHARED) },
-	/* setband */ { 3, IS(DONE) | IS(EMPTY) },
-	/* linkb */ { 5, IS(DONE) | IS(EMPTY) },
-	/* unlinkb */ { 2, IS(DONE) | IS(NOTHING) | IS(EMPTY) },
-	/* rmvb */ { 2, IS(DONE) | IS(EMPTY) | NOT(STRM_NO_SUCH_BLOCK) },
-	/* adjmsg */ { 4, IS(DONE) | IS(EMPTY) | NOT(STRM_SHORT) },
-	/* pullupmsg */ { 5, IS(DONE) | IS(EMPTY) | NOT(STRM_SHORT) | NOT(STRM_TOO_LARGE) | NOT(STRM_NO_DATA) },
-	/* msgdsize */ { 1, IS(TOLD_SIZE) | IS(EMPTY) },
-	/* size */ { 1, IS(TOLD_SIZE) | IS(EMPTY) },
-	/* read */ { 2, IS(TOLD_BYTES) | IS(EMPTY) },
-	/* block */ { 2, IS(TOLD_BLOCK) | IS(EMPTY) | NOT(STRM_NO_SUCH_BLOCK) },
-	/* freeb */ { 2, IS(DONE) | IS(EMPTY) },
-	/* freemsg */ { 3, IS(DONE) | IS(EMPTY) },
-	/* putq */ { 7, IS(DONE) | IS(EMPTY) | NOT(STRM_NO_SUCH_QUEUE) },
-	/* putbq */ { 2, IS(DONE) | IS(EMPTY) | NOT(STRM_NO_SUCH_QUEUE) },
-	/* insq */ { 3, IS(DONE) | IS(EMPTY) | NOT(STRM_NO_SUCH_QUEUE) | NOT(STRM_NO_SUCH_PLACE) | NOT(STRM_BAD_ORDER) },
-	/* getq */ { 6, IS(DONE) | IS(NOTHING) | NOT(STRM_NO_SUCH_QUEUE) },
-	/* rmvq */ { 3, IS(DONE) | NOT(STRM_NO_SUCH_QUEUE) | NOT(STRM_NO_SUCH_PLACE) },
-	/* flushq */ { 1, IS(DONE) | NOT(STRM_NO_SUCH_QUEUE) },
-	/* flushband */ { 1, IS(DONE) | NOT(STRM_NO_SUCH_QUEUE) },
-	/* bcanput */ { 8, IS(YES) | IS(NO) | NOT(STRM_NO_SUCH_QUEUE) },
-	/* strqset */ { 3, IS(DONE) | NOT(STRM_NO_SUCH_QUEUE) | NOT(STRM_BAD_MARKS) },
-	/* strqget */ { 1, IS(TOLD_MARKS) | NOT(STRM_NO_SUCH_QUEUE) },
-	/* qsize */ { 1, IS(TOLD_SIZE) | NOT(STRM_NO_SUCH_QUEUE) },
-	/* qenable */ { 1, IS(DONE) | NOT(STRM_NO_SUCH_QUEUE) },
-	/* noenable */ { 1, IS(DONE) | NOT(STRM_NO_SUCH_QUEUE) },
-	/* enableok */ { 2, IS(DONE) | NOT(STRM_NO_SUCH_QUEUE) },
-	/* service */ { 3, IS(TOLD_QUEUE) | IS(NOTHING) },
-	/* bufcall */ { 3, IS(TOLD_ID) | NOT(STRM_TOO_LARGE) | NOT(STRM_FULL) | NOT(STRM_IDS_SPENT) },
-	/* unbufcall */ { 1, IS(DONE) | NOT(STRM_NOT_PENDING) },
-	/* ready */ { 2, IS(TOLD_READY) | IS(NOTHING) },
-	/* census */ { 1, IS(TOLD_CENSUS) }
+	{ 14, IS(DONE) | NOT(STRM_TOO_LARGE) | NOT(STRM_NO_MBLK) | NOT(STRM_NO_DATA) }, /* allocb */
+	{ 1, IS(YES) | IS(NO) }, /* testb */
+	{ 2, IS(DONE) | IS(EMPTY) | NOT(STRM_NO_MBLK) }, /* dupb */
+	{ 3, IS(DONE) | IS(EMPTY) | NOT(STRM_NO_MBLK) }, /* dupmsg */
+	{ 1, IS(DONE) | IS(EMPTY) | NOT(STRM_NO_MBLK) | NOT(STRM_NO_DATA) }, /* copyb */
+	{ 2, IS(DONE) | IS(EMPTY) | NOT(STRM_NO_MBLK) | NOT(STRM_NO_DATA) }, /* copymsg */
+	{ 16, IS(DONE) | IS(EMPTY) | NOT(STRM_NO_SUCH_BLOCK) | NOT(STRM_SHARED) | NOT(STRM_NO_ROOM) }, /* write */
+	{ 4, IS(DONE) | IS(EMPTY) | NOT(STRM_NO_SUCH_BLOCK) | NOT(STRM_SHARED) }, /* settype */
+	{ 3, IS(DONE) | IS(EMPTY) }, /* setband */
+	{ 5, IS(DONE) | IS(EMPTY) }, /* linkb */
+	{ 2, IS(DONE) | IS(NOTHING) | IS(EMPTY) }, /* unlinkb */
+	{ 2, IS(DONE) | IS(EMPTY) | NOT(STRM_NO_SUCH_BLOCK) }, /* rmvb */
+	{ 4, IS(DONE) | IS(EMPTY) | NOT(STRM_SHORT) }, /* adjmsg */
+	{ 5, IS(DONE) | IS(EMPTY) | NOT(STRM_SHORT) | NOT(STRM_TOO_LARGE) | NOT(STRM_NO_DATA) }, /* pullupmsg */
+	{ 1, IS(TOLD_SIZE) | IS(EMPTY) }, /* msgdsize */
+	{ 1, IS(TOLD_SIZE) | IS(EMPTY) }, /* size */
+	{ 2, IS(TOLD_BYTES) | IS(EMPTY) }, /* read */
+	{ 2, IS(TOLD_BLOCK) | IS(EMPTY) | NOT(STRM_NO_SUCH_BLOCK) }, /* block */
+	{ 2, IS(DONE) | IS(EMPTY) }, /* freeb */
+	{ 3, IS(DONE) | IS(EMPTY) }, /* freemsg */
+	{ 7, IS(DONE) | IS(EMPTY) | NOT(STRM_NO_SUCH_QUEUE) }, /* putq */
+	{ 2, IS(DONE) | IS(EMPTY) | NOT(STRM_NO_SUCH_QUEUE) }, /* putbq */
+	{ 3, IS(DONE) | IS(EMPTY) | NOT(STRM_NO_SUCH_QUEUE) | NOT(STRM_NO_SUCH_PLACE) | NOT(STRM_BAD_ORDER) }, /* insq */
+	{ 6, IS(DONE) | IS(NOTHING) | NOT(STRM_NO_SUCH_QUEUE) }, /* getq */
+	{ 3, IS(DONE) | NOT(STRM_NO_SUCH_QUEUE) | NOT(STRM_NO_SUCH_PLACE) }, /* rmvq */
+	{ 1, IS(DONE) | NOT(STRM_NO_SUCH_QUEUE) }, /* flushq */
+	{ 1, IS(DONE) | NOT(STRM_NO_SUCH_QUEUE) }, /* flushband */
+	{ 8, IS(YES) | IS(NO) | NOT(STRM_NO_SUCH_QUEUE) }, /* bcanput */
+	{ 3, IS(DONE) | NOT(STRM_NO_SUCH_QUEUE) | NOT(STRM_BAD_MARKS) }, /* strqset */
+	{ 1, IS(TOLD_MARKS) | NOT(STRM_NO_SUCH_QUEUE) }, /* strqget */
+	{ 1, IS(TOLD_SIZE) | NOT(STRM_NO_SUCH_QUEUE) }, /* qsize */
+	{ 1, IS(DONE) | NOT(STRM_NO_SUCH_QUEUE) }, /* qenable */
+	{ 1, IS(DONE) | NOT(STRM_NO_SUCH_QUEUE) }, /* noenable */
+	{ 2, IS(DONE) | NOT(STRM_NO_SUCH_QUEUE) }, /* enableok */
+	{ 3, IS(TOLD_QUEUE) | IS(NOTHING) }, /* service */
+	{ 3, IS(TOLD_ID) | NOT(STRM_TOO_LARGE) | NOT(STRM_FULL) | NOT(STRM_IDS_SPENT) }, /* bufcall */
+	{ 1, IS(DONE) | NOT(STRM_NOT_PENDING) }, /* unbufcall */
+	{ 2, IS(TOLD_READY) | IS(NOTHING) }, /* ready */
+	{ 1, IS(TOLD_CENSUS) } /* census */
 };
 
 static const uint32_t drawn_bands[] = { 0, 0, 0, 1, 2, 7, 255 };
@@ -93,10 +95,10 @@ struct setup {
 	struct strm_config config;
 	struct strm_class_spec classes[MOST_CLASSES];
 	struct strm_queue_spec queues[STRM_MOST_QUEUES];
-	uint32_t band;		/* drawn often beside those that are drawn in each pool */
+	uint32_t band;		/* drawn often, besides drawn_bands */
 };
 
-/* Pools are small, so that each refusal comes, and now and then large. Of as many queues as `chained` says all but one feed the next. */
+/* Pools are small, so that each refusal comes, and now and then large. One queue in `chained`, on average, has no next queue. */
 static void draw_setup(struct setup *setup, uint32_t id)
 {
 	uint32_t i, size = 0, chained = 1 + below(8), most = below(8) > 0 ? 40 : MOST_BLOCKS;
@@ -130,7 +132,7 @@ static uint32_t drawn_band(const struct setup *setup)
 	return below(4) == 0 ? setup->band : drawn_bands[below(DRAWN_BANDS)];
 }
 
-/* A register that holds a message, or mostly so; or one that holds none. */
+/* Mostly a register that holds a message or none, as `holding` says; at times any. */
 static int drawn_register(const struct model *model, int holding)
 {
 	int i, reg = (int)below(REGISTERS);
@@ -182,7 +184,7 @@ static struct call drawn_call(const struct model *model, const struct setup *set
 	return call;
 }
 
-/* ---- what is compared behind each call */
+/* ---- what is compared after each call */
 
 static int same_registers(struct face *face, const struct model *model)
 {
@@ -230,7 +232,7 @@ static int same_band(struct face *face, const struct model *model, uint32_t queu
 		&& strm_strqget(&face->pool, queue, band, &marks) == STRM_OK && memcmp(&marks, &of_model, sizeof marks) == 0;
 }
 
-/* What is told of each queue, of the band that was drawn, and of some others; of one queue of all bands. */
+/* Compares what is reported of each queue, of the drawn band and of some others. For one queue it compares all bands. */
 static int same_queues(struct face *face, const struct model *model, uint32_t queues, uint32_t band, uint32_t all_of)
 {
 	struct strm_queue_info wanted, found;
@@ -301,7 +303,7 @@ static int had_each_answer(void)
 
 /* ---- runs */
 
-/* Whether pool and model answer a call alike. An empty register comes before a queue that is not there, since names are looked at first. */
+/* Whether pool and model answer a call alike. The pool looks at names first, so an empty register comes before a missing queue. */
 static int same_answer(struct face *face, const struct call *call, const struct reply *wanted)
 {
 	struct reply found, empty = reply_of(EMPTY);
@@ -319,7 +321,7 @@ static int tell(const struct call *call, unsigned long number, const char *what)
 	return 0;
 }
 
-/* Has both do a call, if register y is free for what it gives, and compares all behind it. */
+/* Has both do a call, unless register y is taken, and compares everything after it. */
 static int does(struct face *face, struct model *model, const struct setup *setup, const struct call *call, unsigned long number)
 {
 	uint32_t all_of = number % CALLS_TO_ALL_BANDS == 0 ? call->queue : STRM_NO_QUEUE;
@@ -338,8 +340,8 @@ static int does(struct face *face, struct model *model, const struct setup *setu
 	return same_rest(face, model, (uint32_t)setup->config.class_count) || tell(call, number, "another pool");
 }
 
-/* Takes all messages off all queues, into register a, so that their order and what they are is compared. Each is freed, and what the
- * register held before. */
+/* Takes each message off each queue into register a, which compares their order and content, and frees it. What the register held is
+ * freed first. */
 static int empties(struct face *face, struct model *model, const struct setup *setup, unsigned long number)
 {
 	struct call call;

@@ -1,7 +1,7 @@
 /* Each call of strm.h with each of its answers, and what it leaves. The last line is 'N passed, M failed'. */
 #include "check.h"
 
-/* Queue 0 leads over queue 1, which has no service procedure, to queue 2. */
+/* The next of queue 0 is queue 1, which has no service procedure, and the next of that is queue 2. */
 static const struct strm_class_spec classes[] = { { 16, 6 }, { 64, 2 } };
 static const struct strm_queue_spec queues[] = { { 10, 4, 1, 1 }, { 10, 4, 0, 2 }, { 10, 4, 1, STRM_NO_QUEUE } };
 
@@ -31,7 +31,7 @@ static struct strm_pool opened(uint32_t mblks)
 
 /* ---- opening */
 
-/* A configuration is refused, and the handle is not open, whatever it was. */
+/* A configuration is refused, and the handle is not open then, whatever it was before. */
 static void refuse(const struct strm_config *config, int code)
 {
 	struct strm_pool pool = STRM_POOL_INIT, unset;
@@ -105,7 +105,7 @@ static void test_faults(void)
 	config.bufcalls = STRM_MOST_WISHES;
 	config.first_id = 0;
 	refuse(&config, STRM_BAD_FIRST_ID);
-	/* of several faults the first is told */
+	/* of several faults the first is reported */
 	config.mblks = 0;
 	refuse(&config, STRM_BAD_MBLKS);
 }
@@ -129,7 +129,7 @@ static void test_open(void)
 	ANSWERS(strm_close(&pool), STRM_OK);
 }
 
-/* As many of all as there may be, and messages held and queued where it is closed. */
+/* A pool at all its limits is closed with messages held and queued. */
 static void test_largest(void)
 {
 	struct strm_class_spec eight[STRM_MOST_CLASSES];
@@ -194,7 +194,7 @@ static void test_allocb(void)
 	ANSWERS(strm_allocb(&pool, 0, &c), STRM_OK);
 	ANSWERS(strm_block(&pool, c, 0, &block), STRM_OK);
 	CHECK(block.room == 16);
-	/* a wanting message block comes before wanting data, and the largest class before both */
+	/* NO_MBLK comes before NO_DATA, and TOO_LARGE before both */
 	ANSWERS(strm_allocb(&pool, 64, &kept), STRM_NO_MBLK);
 	ANSWERS(strm_allocb(&pool, 65, &kept), STRM_TOO_LARGE);
 	CHECK(same_name(kept, none));
@@ -243,7 +243,7 @@ static void test_most_names(void)
 	ANSWERS(strm_block(&pool, a, 0, &block), STRM_OK);
 	CHECK(block.names == 255);
 	ANSWERS(strm_dupb(&pool, a, &kept), STRM_REF_MAX);
-	/* all or nothing: another block's data gets no name then */
+	/* all or nothing: the other block's data gets no reference */
 	b = message(&pool, "de");
 	ANSWERS(strm_linkb(&pool, b, copy), STRM_OK);
 	ANSWERS(strm_dupmsg(&pool, b, &kept), STRM_REF_MAX);
@@ -273,7 +273,7 @@ static void test_copies(void)
 	ANSWERS(strm_linkb(&pool, a, b), STRM_OK);
 	ANSWERS(strm_copymsg(&pool, a, &copy), STRM_OK);
 	CHECK(has_bytes(&pool, copy, "cdefgh"));
-	/* six data blocks of 16 bytes, of which one is free, and two of 64 */
+	/* one of the six data blocks of 16 bytes is free, and both of 64 bytes are */
 	ANSWERS(strm_copymsg(&pool, a, &copy), STRM_OK);
 	ANSWERS(strm_copymsg(&pool, a, &kept), STRM_NO_DATA);
 	ANSWERS(strm_class_info(&pool, 1, &info), STRM_OK);
@@ -356,7 +356,7 @@ static void test_types(void)
 		ANSWERS(strm_block(&pool, a, 0, &block), STRM_OK);
 		CHECK(block.type == type);
 	}
-	/* of an ordinary type the band counts, and of a high priority one it is gone on a queue */
+	/* on a queue, an ordinary message keeps its band, and a high priority one loses it */
 	for (type = 0; type < STRM_TYPES; type++) {
 		ANSWERS(strm_settype(&pool, a, 0, type), STRM_OK);
 		ANSWERS(strm_setband(&pool, a, 255), STRM_OK);
@@ -545,7 +545,7 @@ static void test_flow_control(void)
 	queue = 9;
 	ANSWERS(strm_next_service(&pool, &queue), STRM_NONE);
 	CHECK(queue == 9);
-	/* asked of queue 1, which has no service procedure, queue 2 is looked at */
+	/* queue 1 has no service procedure, so queue 2 is looked at */
 	ANSWERS(strm_bcanput(&pool, 1, 0, &yes), STRM_OK);
 	CHECK(yes == 0);
 	ANSWERS(strm_bcanput(&pool, 1, 1, &yes), STRM_OK);
@@ -554,7 +554,7 @@ static void test_flow_control(void)
 	CHECK(band.bytes == 10 && band.full == 1 && band.wanted == 1);
 	ANSWERS(strm_band_info(&pool, 3, 0, &band), STRM_NO_SUCH_QUEUE);
 	ANSWERS(strm_queue_info(&pool, 3, &info), STRM_NO_SUCH_QUEUE);
-	/* back-enabled is queue 0, since queue 1 has no service procedure */
+	/* queue 0 is back-enabled, because queue 1 has no service procedure */
 	ANSWERS(strm_getq(&pool, 2, &out), STRM_OK);
 	ANSWERS(strm_band_info(&pool, 2, 0, &band), STRM_OK);
 	CHECK(band.bytes == 0 && band.full == 0 && band.wanted == 0);
@@ -648,7 +648,7 @@ static void test_classes(void)
 
 static void test_texts(void)
 {
-	/* each code, and its name as it stands in the header */
+	/* each code, and its name as the header has it */
 #define CODE(code) { code, #code }
 	static const struct {
 		int code;

@@ -2,7 +2,7 @@
 
 #include <string.h>
 
-/* What stands in a place that a call may write to, before it does. */
+/* Each byte of a place that a call may write to, before the call. */
 #define UNTOUCHED 0xA5
 
 /* A code as a reply. */
@@ -30,7 +30,7 @@ static int is_untouched(const void *place, size_t length)
 	return 1;
 }
 
-/* Where a call did not give, the place is as it was; a name that was given is another one than the register ever had. */
+/* A call that gave no message must not touch the place. A new name must differ from the last one of the register. */
 static struct reply given(struct face *face, int code, int reg, const struct strm_msg *name)
 {
 	if (code != STRM_OK) {
@@ -45,7 +45,7 @@ static struct reply given(struct face *face, int code, int reg, const struct str
 	return reply_of(DONE);
 }
 
-/* The register is empty where its message was handed over. */
+/* Empties a register whose message was handed over. */
 static struct reply spent(struct face *face, int code, int reg)
 {
 	if (code == STRM_OK || code == STRM_NONE)
@@ -53,7 +53,7 @@ static struct reply spent(struct face *face, int code, int reg)
 	return coded(face, code);
 }
 
-/* A number, where the call was done. */
+/* The number that a call gave. A call that gave none must not touch the place. */
 static struct reply counted(struct face *face, int code, enum kind kind, const uint32_t *number)
 {
 	if (code == STRM_OK)
@@ -175,7 +175,7 @@ static struct reply ready_told(struct face *face)
 	return code == STRM_OK ? told(TOLD_READY, wish.id, wish.size) : coded(face, code);
 }
 
-/* A call that gives a message. */
+/* Does a call that gives a message. */
 static struct reply apply_giving(struct face *face, const struct call *call, struct strm_msg x)
 {
 	struct strm_pool *pool = &face->pool;
@@ -196,7 +196,7 @@ static struct reply apply_giving(struct face *face, const struct call *call, str
 	return given(face, code, call->y, &name);
 }
 
-/* A call that answers a number. */
+/* Does a call that gives a number. */
 static struct reply apply_counting(struct face *face, const struct call *call, struct strm_msg x)
 {
 	struct strm_pool *pool = &face->pool;

@@ -1,4 +1,4 @@
-/* Calls as data, done through strm.h: a register is a name, and what a call must leave is looked at beside its answer. */
+/* Calls as data, done through strm.h. A register is a name. What a call must not touch is checked too. */
 #ifndef FACE_H
 #define FACE_H
 
@@ -8,10 +8,10 @@ struct face {
 	struct strm_pool pool;
 	struct strm_msg registers[REGISTERS];	/* the last name that the register had */
 	int holds[REGISTERS];
-	int broken;				/* something changed that may not, or an answer is none that there is */
+	int broken;				/* a call touched what it must not, or answered what it cannot */
 };
 
-/* Does a call that the model does not answer with TAKEN. A register that holds nothing gives a name that is no longer valid. */
+/* Does a call, which the model must not have answered with TAKEN. For an empty register it passes a name that is not valid. */
 struct reply face_apply(struct face *face, const struct call *call);
 
 #endif

@@ -1,6 +1,6 @@
 /*
- * Misuse of every kind that the library tells: names that are not valid, handles that are not open, arguments that are none. Each is
- * answered as strm.h says, and all that the pool has is as it was. The last line is 'N passed, M failed'.
+ * Misuse of every kind that the library detects: names that are not valid, handles that are not open, bad arguments. Each is answered as
+ * strm.h says, and changes nothing in the pool. The last line is 'N passed, M failed'.
  */
 #include "check.h"
 
@@ -24,7 +24,7 @@ static struct strm_pool opened(uint32_t id)
 	return pool;
 }
 
-/* ---- all that a pool tells */
+/* ---- all that a pool reports */
 
 #define MOST_SEEN 4096
 
@@ -40,7 +40,7 @@ static void see(struct seen *seen, const void *from, size_t size)
 	seen->count += size / 4;
 }
 
-/* What is told of everything but messages, and of the messages of these names. */
+/* Reads what the pool reports of everything but messages, and of the messages with these names. */
 static void look(struct strm_pool *pool, const struct strm_msg *names, size_t count, struct seen *seen)
 {
 	struct strm_census census;
@@ -73,7 +73,7 @@ static void look(struct strm_pool *pool, const struct strm_msg *names, size_t co
 
 /* ---- a name that is not valid, in each call that takes one */
 
-/* A message that is held, and one on a queue, beside which nothing may change. */
+/* A pool with a held message and one on a queue. Misuse must change nothing in it. */
 struct scene {
 	struct strm_pool pool;
 	struct strm_msg held;
@@ -130,7 +130,7 @@ static void try_name(struct scene *scene, struct strm_msg bad)
 	ANSWERS(strm_putq(pool, 0, bad), STRM_INVALID);
 	ANSWERS(strm_putbq(pool, 0, bad), STRM_INVALID);
 	ANSWERS(strm_insq(pool, 0, 0, bad), STRM_INVALID);
-	/* a name comes before a queue that is not there */
+	/* a name comes before a missing queue */
 	ANSWERS(strm_putq(pool, 2, bad), STRM_INVALID);
 	CHECK(out.stamp == 0 && rest.stamp == 0 && number == 77 && count == 77);
 	look(pool, &scene->held, 1, &after);
@@ -158,7 +158,7 @@ static void test_forged(void)
 	bad = scene.held;
 	bad.head = 5;		/* a block that is free */
 	try_name(&scene, bad);
-	bad.head = 8;		/* one behind the last */
+	bad.head = 8;		/* one past the last */
 	try_name(&scene, bad);
 	bad.head = 0xFFFFFFFFu;
 	try_name(&scene, bad);
@@ -167,7 +167,7 @@ static void test_forged(void)
 	ANSWERS(strm_close(&scene.pool), STRM_OK);
 }
 
-/* Names that were valid, once their message was handed over. */
+/* Names whose message was handed over. */
 static void test_spent(void)
 {
 	struct scene scene = scene_of(7);
@@ -194,9 +194,9 @@ static void test_spent(void)
 	CHECK(rest.head == b.head);
 	try_name(&scene, b);
 	ANSWERS(strm_linkb(pool, a, rest), STRM_OK);
-	/* the rest that was linked again */
+	/* the rest, once it is linked again */
 	try_name(&scene, rest);
-	/* a block taken out of the middle of a name's message */
+	/* a block was taken out of the name's message */
 	ANSWERS(strm_rmvb(pool, a, 1, &block, &rest), STRM_OK);
 	try_name(&scene, a);
 	ANSWERS(strm_linkb(pool, rest, block), STRM_OK);
@@ -231,7 +231,7 @@ static void test_queued(void)
 	ANSWERS(strm_close(pool), STRM_OK);
 }
 
-/* Whatever a name hands over leaves the other names valid, and so does each call that is lent it. */
+/* A call that takes over a message leaves all other names valid, and a call that takes over none leaves all. */
 static void test_others(void)
 {
 	struct scene scene = scene_of(7);
@@ -267,7 +267,7 @@ static void test_foreign(void)
 	ANSWERS(strm_close(&other.pool), STRM_OK);
 }
 
-/* ---- a handle that is not open, in each call; null pointers come behind it */
+/* ---- a handle that is not open, in each call; null pointers come after it */
 
 static void try_handle(struct strm_pool *bad)
 {
@@ -353,7 +353,7 @@ static void test_handles(void)
 	ANSWERS(strm_close(&moved), STRM_OK);
 }
 
-/* ---- null pointers, and numbers that are out of range, of an open pool; names come behind them */
+/* ---- null pointers, and numbers that are out of range, on an open pool; names come after them */
 
 static void test_arguments(void)
 {

@@ -98,7 +98,7 @@ static uint32_t capacity(const struct model *v, const struct datum *d)
 	return v->classes[d->class_number].size;
 }
 
-/* Where a free data block for a size stands first; null where there is none. */
+/* The free list whose first data block a size gets; null if there is none. */
 static struct datum **free_for(struct model *v, uint32_t size)
 {
 	uint32_t c;
@@ -132,7 +132,7 @@ static void datum_freed(struct model *v, struct datum *d)
 	v->free_data[d->class_number] = d;
 }
 
-/* Frees the blocks of a message that stands nowhere any more, first to last, each with its data where nothing else names it. */
+/* Frees the blocks of a message that is in no register or queue, first to last, and each data block with its last reference. */
 static void cells_freed(struct model *v, struct cell *m)
 {
 	struct cell *rest;
@@ -252,7 +252,7 @@ void model_close(struct model *v)
 	free(v);
 }
 
-/* ---- told */
+/* ---- what there is to report */
 
 uint32_t model_blocks(const struct model *v, int reg)
 {
@@ -293,7 +293,7 @@ uint32_t model_msgdsize(const struct model *v, int reg)
 	return sum;
 }
 
-/* Byte by byte, from a place on. */
+/* Reads byte by byte, from a place on. */
 static uint32_t bytes_read(const struct cell *m, uint32_t at, uint8_t *into, uint32_t length)
 {
 	uint32_t place = 0, count = 0, i;
@@ -461,7 +461,7 @@ static void settled(struct model *v, uint32_t q)
 		waker_enabled(v, q);
 }
 
-/* Where the item at a place is linked in, or the end of the list for any place behind it. */
+/* The link to the item at a place, or to the end of the list for any place past it. */
 static struct item **link_at(struct model *v, uint32_t q, uint32_t place)
 {
 	struct item **at = &v->queues[q].items;
@@ -497,7 +497,7 @@ static struct cell *item_taken(struct model *v, struct item **at)
 
 /* ---- calls on messages, by the registers that hold them */
 
-/* Whether a data block would have too many names once each of the first blocks of a message has a duplicate. */
+/* Whether some data block would have too many references once the first `count` blocks of a message have duplicates. */
 static int exceeds_names(const struct model *v, const struct cell *m, uint32_t count)
 {
 	const struct cell *cell, *other;
@@ -513,7 +513,7 @@ static int exceeds_names(const struct model *v, const struct cell *m, uint32_t c
 	return 0;
 }
 
-/* Takes a copy of the data of each of the first blocks of a message, all of them or none. */
+/* Copies the data of the first `count` blocks of a message, all or none. */
 static int copies_taken(struct model *v, const struct cell *m, uint32_t count, struct datum **copies)
 {
 	uint32_t i;
@@ -530,7 +530,7 @@ static int copies_taken(struct model *v, const struct cell *m, uint32_t count, s
 	return 1;
 }
 
-/* A message of as many new blocks, over the data of these or over copies. */
+/* Makes a message of `count` new blocks, over the same data or over copies. */
 static struct reply duplicated(struct model *v, const struct call *call, uint32_t count, int is_copy)
 {
 	static struct datum *copies[STRM_MOST_MBLKS];

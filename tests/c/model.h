@@ -1,6 +1,6 @@
 /*
- * A plain model of a pool and 26 registers: lists of messages, and whatever can be counted is counted over everything when it is asked
- * for. It knows nothing of names.
+ * A plain model of a pool and 26 registers, with lists of messages. Bytes, references and blocks are counted over everything when they
+ * are asked for. The model knows nothing of names.
  */
 #ifndef MODEL_H
 #define MODEL_H
@@ -9,14 +9,14 @@
 
 struct model;
 
-/* The model of a lawful configuration; null where there is no memory. */
+/* The model of a lawful configuration; null if out of memory. */
 struct model *model_open(const struct strm_config *config);
 void model_close(struct model *model);
 
-/* Does a call, in the order of refusals of a script. */
+/* Does a call. Refusals come in the order that a script has. */
 struct reply model_apply(struct model *model, const struct call *call);
 
-/* How many blocks the message in a register has, 0 where it holds none; the number of the first; and what there is to tell. */
+/* The number of blocks of the message in a register (0 if it holds none), the number of its first block, and what calls report of it. */
 uint32_t model_blocks(const struct model *model, int reg);
 uint32_t model_head(const struct model *model, int reg);
 struct strm_block_info model_block(const struct model *model, int reg, uint32_t place);
@@ -30,7 +30,7 @@ struct strm_queue_info model_queue(const struct model *model, uint32_t queue);
 struct strm_band_info model_band(const struct model *model, uint32_t queue, uint32_t band);
 struct strm_marks model_marks(const struct model *model, uint32_t queue, uint32_t band);
 
-/* The queue at a place of the run list, and the wish at a place; 0 where there are not so many. */
+/* The queue at a place of the run list, and the wish at a place; both return 0 if there is none. */
 int model_run_at(const struct model *model, uint32_t place, uint32_t *queue);
 int model_wish_at(const struct model *model, uint32_t place, struct strm_wish *wish);
 

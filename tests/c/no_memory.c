@@ -1,4 +1,4 @@
-/* Where the program may have little memory the largest pool is refused, and a small one is opened. The last line is as in each.c. */
+/* With little memory, strm_open refuses the largest pool and opens a small one. The last line is as in each.c. */
 #include "check.h"
 
 int main(void)

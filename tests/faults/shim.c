@@ -1,9 +1,9 @@
-/* Fails one call that a program makes to the C library, and counts its calls. It is loaded by LD_PRELOAD, takes its orders from the
- * file that FAULTS names, and leaves there what it counted, however the program ends.
+/* Fails one call that a program makes to the C library, and counts its calls. It is loaded by LD_PRELOAD. It reads its orders from the
+ * file that FAULTS names, and leaves its counts there, however the program ends.
  *
- * A growth is a call of malloc or of realloc: what Rattle builds asks for no other function that takes memory (`nm -D` lists all
- * that a program asks for). It makes threads by pthread_create, reads by read, and writes by write, which has a second name. Only
- * calls in the program's own code are meant, and not what the loader and the C library take for themselves, as a thread's stack. */
+ * A growth is a call of malloc or realloc. A program that Rattle builds imports no other function that allocates (`nm -D` lists its
+ * imports). It creates threads by pthread_create, reads by read, and writes by write, which has a second name. Only calls from the
+ * program's own code count, not what the loader and the C library allocate for themselves, such as a thread's stack. */
 #define _GNU_SOURCE
 #include <dlfcn.h>
 #include <errno.h>
@@ -19,7 +19,7 @@
 #include <sys/syscall.h>
 #include <unistd.h>
 
-/* Where a function was called. */
+/* The address from which a function was called. */
 #define CALLER ((uintptr_t)__builtin_return_address(0))
 
 /* Calls of one kind: how many were made, and which of them fails, counted from 1, or 0 for none. */
@@ -69,7 +69,7 @@ __attribute__((constructor)) static void take_orders(void)
     dl_iterate_phdr(find_code, NULL);
 }
 
-/* Counts a call, and tells whether it is the one that fails, by this error. */
+/* Counts a call, and returns whether it is the one that fails, with errno set to this error. */
 static bool fails(struct calls *calls, int error, uintptr_t caller)
 {
     if (caller < code || code_end <= caller || atomic_fetch_add(&calls->made, 1) + 1 != calls->failing)
