@@ -1,6 +1,6 @@
 /*
- * A pool as one is written by hand in C: pointers, and no test of what it is given. It does what a round asks for of message blocks,
- * data blocks in size classes, and one queue with water marks by band, and nothing else.
+ * A pool as one is written by hand in C, with pointers and without checks of its arguments. It has only what the rounds need: message
+ * blocks, data blocks in size classes, and one queue with flow control for each band.
  */
 #ifndef PLAIN_H
 #define PLAIN_H

@@ -114,7 +114,7 @@ static const struct {
 	{ "putq", strm_queues, plain_queues },
 };
 
-/* The round of a name, over the pool of a name, or NULL. */
+/* The round with this name, over one of the two pools, or NULL. */
 static int (*round_of(const char *over, const char *name))(void)
 {
 	size_t k;

@@ -1,6 +1,6 @@
-/* What `census_now` does, by hand: loads the word, unpacks it with the total, and keeps the stamp. For each line of standard
- * input it does so as often as the line says, and then writes a line, which begins with the stamp. Each count of a word lies below
- * COUNT_RANGE, which the compiler's words give. */
+/* `census_now` written by hand: loads the word, unpacks it with the total, and keeps the stamp. Each line of standard input is a number
+ * of looks. The program takes them, and then prints a line that begins with the stamp. Each count in a word is below COUNT_RANGE, which
+ * the compiler's command line defines. */
 #include <inttypes.h>
 #include <stdatomic.h>
 #include <stdint.h>

@@ -1,5 +1,5 @@
-/* How lwIP is built here: its buffers alone. What it takes from its heap comes from pools of a few sizes, of which a larger one is
- * tried where the smallest that is large enough is empty. */
+/* Builds lwIP's buffers only. Its heap is made of pools of a few sizes. If the smallest pool that fits is empty, a larger one is
+ * tried. */
 #define NO_SYS 1
 #define SYS_LIGHTWEIGHT_PROT 0
 #define LWIP_NETCONN 0

@@ -1,4 +1,4 @@
-/* The pools of the heap: how many pieces each has, and their bytes, of which a pbuf takes 24. */
+/* The pools of the heap: the number of pieces, and the bytes of each, 24 of which are a pbuf's header. */
 LWIP_MALLOC_MEMPOOL_START
 LWIP_MALLOC_MEMPOOL(24, 88)
 LWIP_MALLOC_MEMPOOL(16, 280)

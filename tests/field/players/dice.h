@@ -4,6 +4,6 @@
 void seed_dice(unsigned long seed);
 /* A number from 0 on, below the bound. */
 int below(int bound);
-/* Whether the dice say so, once in so many times. */
+/* 1 once in `times` calls, on average, else 0. */
 int once_in(int times);
 #endif

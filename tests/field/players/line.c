@@ -4,7 +4,7 @@
 #include <stdlib.h>
 #include <string.h>
 
-/* What the modules give, and the clock that they ask for. */
+/* What the modules export, and the clock that they read. */
 extern struct streamtab pppinfo, pcmpinfo, phdlinfo;
 time_t kernel_time;
 
@@ -26,7 +26,7 @@ void kmem_free(void *memory, size_t size)
 
 /* The ends */
 
-/* Flushes what a message asks for, and sends it back where the other side is to be flushed too. */
+/* Flushes what a message asks for. The terminal sends it back if the other side is to be flushed too. */
 static void flush_at_end(queue_t *q, mblk_t *mp, int own, int other)
 {
     if (*mp->b_rptr & own)
@@ -77,7 +77,7 @@ static int put_at_terminal(queue_t *q, mblk_t *mp)
     return 0;
 }
 
-/* Puts what is sent over the line where it can be received again. */
+/* Puts what is sent onto the line, from which it can be received again. */
 static void send(const mblk_t *mp)
 {
     for (; mp; mp = mp->b_cont)
@@ -132,7 +132,7 @@ static void set_sides(struct part *part, struct qinit *read_side, struct qinit *
     part->write_side = write_side;
 }
 
-/* Makes all queues, each in front of the one that is its next. */
+/* Makes all queues, each before its next one, so next queues have greater numbers. */
 void make_streams(void)
 {
     struct part *control_parts[] = {&control_head, &control}, *network_parts[] = {&network_head, &network};

@@ -1,5 +1,5 @@
-/* The streams over ppp's driver: a control stream and one of the network layer above it, and below it a line with ppp_comp, ppp_ahdlc
- * and a terminal. What the two stream heads and the terminal do is done here. */
+/* The streams around ppp's driver. Above it are a control stream and a stream of the network layer. Below it is a line with ppp_comp,
+ * ppp_ahdlc and a terminal. line.c is the two stream heads and the terminal. */
 #ifndef FIELD_LINE_H
 #define FIELD_LINE_H
 #include "field.h"
@@ -7,7 +7,7 @@
 
 #define FRAMES 64
 
-/* A module or driver, or an end, with its two queues. */
+/* A module, a driver or an end of a stream, with its two queues. */
 struct part {
     struct qinit *read_side, *write_side;
     queue_t *read, *write;
@@ -25,6 +25,6 @@ extern int is_stopped;
 void make_streams(void);
 void open_part(struct part *part, int flag);
 void close_part(struct part *part);
-/* Takes the next queue off the run list, and has its service procedure run. */
+/* Takes the next queue off the run list, if there is one, and runs its service procedure. */
 void serve_next(void);
 #endif

@@ -1,5 +1,5 @@
-/* Makes drawn calls of lwIP's pbufs, and tells beside each the calls of STREAMS that have the same meaning, with the replies that lwIP's
- * memory gives. A register stands for a reference that the caller has to a chain of pbufs.
+/* Makes drawn calls on lwIP's pbufs. For each it prints the lines of a script that mean the same, with replies read from lwIP's memory.
+ * A register is a reference that the caller has to a chain of pbufs.
  *
  *     lwip SEED ACTIONS
  */
@@ -13,7 +13,7 @@
 #include <stdio.h>
 #include <stdlib.h>
 
-/* The registers of references, a to y; the last one, z, is for what a line needs on the way. */
+/* The registers of references, a to y. Register z is for the lines in between. */
 #define REGISTERS 25
 #define BLOCKS 4095
 #define MOST_BYTES 60000
@@ -72,7 +72,7 @@ static int is_of_pool(void)
     return source == PBUF_POOL;
 }
 
-/* The pools that are classes of data blocks, and the bytes that a pbuf has in one. */
+/* The pools that are size classes in the script, and the bytes that a pbuf has in one. */
 static int first_class(void)
 {
     return is_of_pool() ? MEMP_PBUF_POOL : MEMP_POOL_FIRST;
@@ -98,7 +98,7 @@ static int greatest(void)
     return capacity_in(memp_pools[last_class()]);
 }
 
-/* The bytes that the smallest class has into which so many fit. */
+/* The capacity of the smallest class that fits a size. */
 static int capacity_for(int size)
 {
     int class = first_class();
@@ -142,7 +142,7 @@ static const struct pbuf *last_of(const struct pbuf *p)
     return p;
 }
 
-/* Whether no other reference leads to any pbuf of a chain: what leads to one leads to the last one too. */
+/* Whether no other reference leads to any pbuf of a chain. A reference to any of them leads to the last one too. */
 static int is_alone(int place)
 {
     return names_of(last_of(held[place])) == 1;
@@ -158,7 +158,7 @@ static int blocks_held(void)
 
 /* Drawn values */
 
-/* A register that holds a reference, or is free; none where there is no such. */
+/* A drawn register that holds a reference, or is free; -1 if there is none. */
 static int draw_place(int is_held)
 {
     int begin = below(REGISTERS);
@@ -183,7 +183,7 @@ static void draw_bytes(u8_t *bytes, int size)
 
 /* Taking memory */
 
-/* Tells how a chain comes to a register, block by block with its bytes. */
+/* Prints the lines that make a chain in a register, block by block with its bytes. */
 static void tell_chain(int place, const struct pbuf *p)
 {
     char first = name(place);
@@ -196,7 +196,7 @@ static void tell_chain(int place, const struct pbuf *p)
     }
 }
 
-/* Tells that memory is wanting: as many blocks as are there are taken for the chain, and freed again. */
+/* Prints the lines for a chain that lwIP had no memory for: the blocks that are there are taken, one more is refused, and all are freed. */
 static void tell_want(int place, int size, int blocks_there)
 {
     char first = name(place);
@@ -210,7 +210,7 @@ static void tell_want(int place, int size, int blocks_there)
         tell("ok", "freemsg %c", first);
 }
 
-/* Tells of a chain that lwIP has made for so many bytes, or found no memory for, of whose pool so many were free. */
+/* Prints the lines for a chain that lwIP made for `size` bytes, or had no memory for. Its pool had `free_before` free pbufs. */
 static void tell_made(int place, struct pbuf *p, int size, int free_before)
 {
     held[place] = p;
@@ -233,8 +233,8 @@ static void allocate(int place)
     tell_made(place, p, size, free_before);
 }
 
-/* Whether a copy has its blocks as the original has: each at the beginning of memory of the class that its bytes would get, and in a
- * pool each but the last one full. */
+/* Whether a copy is split into blocks as the original is. Each pbuf's bytes must begin where its memory does. From the pool of pbufs, each
+ * but the last must be full. From the heap there must be one, in the class that a copy would get. */
 static int is_split_alike(const struct pbuf *p)
 {
     for (const struct pbuf *q = p; q; q = q->next)
@@ -243,7 +243,7 @@ static int is_split_alike(const struct pbuf *p)
     return is_of_pool() || capacity_for(p->tot_len) == capacity_in(class_of(p));
 }
 
-/* lwIP takes a pbuf that has all the bytes that are left of a chain for the last one of its packet. */
+/* Whether lwIP sees one packet in a chain. To lwIP, a pbuf with all the bytes that are left is the last one of its packet. */
 static int is_packet(const struct pbuf *p)
 {
     return !p->next || last_of(p)->len > 0;
@@ -262,7 +262,7 @@ static void clone(int place, int to)
         tell_made(to, held[to], p->tot_len, free_before);
 }
 
-/* The bytes of all pbufs come together in a new one from the heap. */
+/* Brings the bytes of all pbufs into a new one from the heap. */
 static void coalesce(int place)
 {
     struct pbuf *p = held[place];
@@ -304,7 +304,7 @@ static void concatenate(int place, int tail)
     tell("ok", "linkb %c %c", name(place), name(tail));
 }
 
-/* What is chained keeps the reference that the caller has. */
+/* The caller keeps its reference to what is chained. */
 static void chain(int place, int tail)
 {
     if (!can_join(place, tail) || held[tail]->ref == 255 || names_of(last_of(held[tail])) == 255)
@@ -314,7 +314,7 @@ static void chain(int place, int tail)
     tell("ok", "linkb %c z", name(place));
 }
 
-/* The first pbuf alone is left, and what was behind it loses the reference that it had by it. */
+/* Leaves only the first pbuf. The others lose the reference that they had from it. */
 static void dechain(int place)
 {
     int is_single = !held[place]->next;
@@ -338,7 +338,7 @@ static void remove_header(int place)
     tell(pbuf_remove_header(p, size) ? "refused 8 Short" : "ok", "adjmsg %c %d", name(place), size);
 }
 
-/* Takes bytes off the beginning, with the pbufs that have no others. */
+/* Takes bytes off the beginning, and frees the pbufs that have none left. */
 static void free_header(int place)
 {
     struct pbuf *p = held[place];
@@ -354,7 +354,7 @@ static void free_header(int place)
     held[place] = pbuf_free_header(held[place], size);
 }
 
-/* Takes bytes off the end, with the pbufs behind the one that is the last then. */
+/* Takes bytes off the end, and frees the pbufs after the one that is the last then. */
 static void shrink(int place)
 {
     struct pbuf *p = held[place];
@@ -371,7 +371,7 @@ static void shrink(int place)
     }
 }
 
-/* Writes anew over the last bytes. */
+/* Overwrites the last bytes. */
 static void overwrite(int place)
 {
     struct pbuf *p = held[place];

@@ -86,7 +86,7 @@ int draw_network_packet(unsigned char *bytes)
     return once_in(4) ? draw_udp_packet(bytes) : draw_tcp_packet(bytes);
 }
 
-/* The header of a packet, whole or with what may be left out left out. */
+/* The header of a packet, whole or without what may be left out. */
 static unsigned char *write_ppp_header(unsigned char *at, int protocol, int whole)
 {
     if (whole || !once_in(4))
@@ -137,7 +137,7 @@ static unsigned char *write_escaped(unsigned char *at, int byte)
     return at;
 }
 
-/* The check sequence of a frame goes on over one byte more. */
+/* The check sequence of a frame after one more byte. */
 static unsigned int checked(unsigned int sequence, int byte)
 {
     sequence ^= byte;

@@ -1,4 +1,4 @@
-/* Plays on ppp's STREAMS modules as drawn.
+/* Has ppp's STREAMS modules do drawn work.
  *
  *     ppp SEED ACTIONS
  */
@@ -22,7 +22,7 @@ static mblk_t *kept[KEPT];
 
 /* Messages */
 
-/* A message of these bytes over one block or a few, or none. */
+/* A message with these bytes, in one block or a few; null if out of memory. */
 static mblk_t *message(const void *from, int size)
 {
     const u_char *bytes = from;
@@ -46,7 +46,7 @@ static mblk_t *message(const void *from, int size)
     return first;
 }
 
-/* A message whose first block has a structure and a type, with another message behind it. */
+/* A message whose first block has a structure and a type, followed by another message; null if out of memory. */
 static mblk_t *headed(int type, const void *head, int size, mblk_t *behind)
 {
     mblk_t *mp = allocb(size, BPRI_MED);
@@ -150,7 +150,7 @@ static void draw_frame(void)
         line.size += framed(line.bytes + line.size, packet, draw_packet_of_peer(packet));
 }
 
-/* Has some bytes of the line received, as far as they can be passed on. */
+/* Receives some bytes of the line, if they can be passed on. */
 static void receive(void)
 {
     int size = 1 + below(200);
@@ -234,8 +234,8 @@ static void set_mode(void)
     ioctl_pair(&control_head, PPPIO_NPMODE, PPP_IP, once_in(3) ? below(4) : NPMODE_PASS);
 }
 
-/* Has both directions take memory for compression, and agrees on it as a peer would: the driver sees its own word come back. Once in a
- * script: bsd-comp.c would go on with memory that was taken anew and not made ready. */
+/* Has both directions allocate memory for compression, and agrees to it as a peer would: the driver sees its own message come back.
+ * This is done once in a script: the second time, bsd-comp.c would use new memory that it has not initialized. */
 static void begin_compression(void)
 {
     static const u_char option[] = {CI_BSD_COMPRESS, CILEN_BSD_COMPRESS, BSD_MAKE_OPT(BSD_CURRENT_VERSION, 12)};
@@ -261,7 +261,7 @@ static void reset_header_compression(void)
     ioctl(&control_head, PPPIO_VJINIT, slots, sizeof slots);
 }
 
-/* Primitives that the network layer asks for, in an order that may be wrong. */
+/* Sends a primitive of the network layer, in an order that may be wrong. */
 static void change_state(void)
 {
     static const int primitives[] = {DL_INFO_REQ, DL_ATTACH_REQ, DL_BIND_REQ, DL_UNBIND_REQ, DL_CONNECT_REQ, DL_RESET_REQ, DL_NONE};
@@ -307,7 +307,7 @@ static int is_linked(void)
     return lower.write->q_ptr != NULL;
 }
 
-/* ppp_ahdlc never frees the message by which it is told its unit, so there are few links. */
+/* ppp_ahdlc never frees the message with its unit number, so there are few links. */
 static void relink(void)
 {
     if (links_left == 0)

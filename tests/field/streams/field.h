@@ -1,4 +1,4 @@
-/* What the parts of this STREAMS tell each other, and who plays on them. */
+/* What the parts of this STREAMS offer each other and the players. */
 #ifndef FIELD_H
 #define FIELD_H
 #include "streams.h"
@@ -9,7 +9,7 @@
 #define MOST_QUEUES 16
 #define MOST_NAMES 255
 
-/* What a pool is made with: so many message blocks, and of each size class its bytes and its number of data blocks. */
+/* What a pool is made with: the number of message blocks, and for each size class the bytes and the number of data blocks. */
 struct pool {
     int blocks, classes;
     int size[MOST_CLASSES], count[MOST_CLASSES];
@@ -36,12 +36,12 @@ int is_full(const queue_t *q, int band);
 queue_t *waiting_queue(void);
 queue_t *next_service(void);
 
-/* trace.c: a call is told between begin_call and end_call. First come the blocks that a module has changed by pointers, then the call
- * with its reply, then what it left. In the format stand %f for a message that the call takes, %t for one that it gives or none, %q
- * for a queue, and %d, %l and %s. */
+/* trace.c: a call is made between begin_call and end_call. They print the blocks that a module has changed by pointers, then the call
+ * with its reply, then what it left. In the format, %f is a message that the call takes, %t one that it gives, or none, and %q a queue;
+ * %d, %l and %s are an int, a long and a text. */
 void begin_call(void);
 void end_call(const char *reply, const char *format, ...);
-/* Whose procedure runs from here on: that of a queue's module. Returns whose ran before, for leave. */
+/* From here on a procedure of the queue's module runs. Returns the name of the module that ran before, for leave. */
 const char *enter(const queue_t *q);
 void leave(const char *before);
 const char *type_name(int type);

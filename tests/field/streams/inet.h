@@ -1,4 +1,4 @@
-/* Headers of IP and TCP, as ppp's header compression reads them on a machine whose least significant byte comes first. */
+/* Headers of IP and TCP, as ppp's header compression reads them on a little-endian machine. */
 #ifndef FIELD_INET_H
 #define FIELD_INET_H
 #include "streams.h"

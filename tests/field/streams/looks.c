@@ -1,4 +1,4 @@
-/* Calls that only look, with replies read off memory, and the header and the report of the script. */
+/* Calls that change nothing, with replies read from memory, and the header and the report of the script. */
 #include "field.h"
 
 #include <stdio.h>

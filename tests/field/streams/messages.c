@@ -147,7 +147,7 @@ static size_t data_size_of(const mblk_t *mp)
     return size;
 }
 
-/* Whether a held block other than this one has what is behind it behind itself too, as a caller leaves it that is about to free one. */
+/* Whether another held block has the same b_cont. A caller leaves it so that links the rest elsewhere and then frees this block. */
 static int is_named_twice(const mblk_t *mp)
 {
     for (int k = 0; k < pool.blocks; k++)
@@ -195,7 +195,7 @@ void freemsg(mblk_t *mp)
     end_call("ok", "freemsg %f", mp);
 }
 
-/* A message of one block for each of another, made one by one; none where one can't be made. */
+/* A message with a new block for each block of another, made one by one; null if one can't be made. */
 static mblk_t *each(mblk_t *mp, mblk_t *(*made)(mblk_t *))
 {
     mblk_t *first = NULL, **last = &first;

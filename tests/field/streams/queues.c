@@ -110,7 +110,7 @@ int is_full(const queue_t *q, int band)
     return q->q_band[band].count >= q->q_band[band].hiwat;
 }
 
-/* Ends the wait for each band that has as much room as is waited for, and enables who waited. */
+/* Clears the wanted marks of the bands that have room again. If there are any, enables the nearest queue behind. */
 static void settle(queue_t *q)
 {
     int ended = 0;
@@ -190,7 +190,7 @@ static void take_out(queue_t *q, mblk_t *mp)
     move(mp, HELD);
 }
 
-/* The first message of a queue whose rank is below one, or equal to it where `equal` is set. */
+/* The first message of a queue whose rank is below `rank`, or equal to it if `equal` is set. */
 static mblk_t *first_below(queue_t *q, int rank, int equal)
 {
     mblk_t *mp = q->q_first;

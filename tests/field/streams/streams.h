@@ -1,5 +1,5 @@
-/* STREAMS as modules see it: what <sys/stream.h> and other headers of a kernel have, as far as ppp's modules ask for it. What they
- * include of a kernel is this file, under any name. */
+/* STREAMS as modules see it: what ppp's modules need of <sys/stream.h> and other headers of a kernel. Each such header that they include
+ * is this file. */
 #ifndef FIELD_STREAMS_H
 #define FIELD_STREAMS_H
 
@@ -19,8 +19,8 @@ typedef struct cred cred_t;
 /* Errors of open and of ioctl. */
 enum { EPERM = 1, ENXIO = 6, EINVAL = 22, ENOSR = 63 };
 
-/* A data block: how many message blocks name it is db_ref. What stands behind db_type is no module's: where the block belongs, its
- * number, and its bytes as they were told last. */
+/* A data block. db_ref is the number of message blocks that refer to it. Modules do not use what follows db_type: the class, the number,
+ * and the bytes as they were recorded last. */
 typedef struct datab {
     struct datab *db_freep;
     u_char *db_base, *db_lim;
@@ -29,7 +29,7 @@ typedef struct datab {
     u_char *db_told;
 } dblk_t;
 
-/* A message block. What stands behind b_band is no module's: its number, where it is, and what was told of it last. */
+/* A message block. Modules do not use what follows b_band: the number, where the block is, and what was recorded of it last. */
 typedef struct msgb {
     struct msgb *b_next, *b_prev, *b_cont;
     u_char *b_rptr, *b_wptr;
@@ -102,7 +102,7 @@ struct queue {
 /* Fields of a queue for strqset. */
 typedef enum { QHIWAT, QLOWAT } qfields_t;
 
-/* How urgently memory is wanted, which changes nothing here. */
+/* Priorities of allocb, which change nothing here. */
 enum { BPRI_LO, BPRI_MED, BPRI_HI };
 enum { FLUSHALL, FLUSHDATA };
 #define FLUSHR 1
@@ -110,7 +110,7 @@ enum { FLUSHALL, FLUSHDATA };
 #define FLUSHRW 3
 enum { MODOPEN = 1, CLONEOPEN };
 
-/* The head of an M_IOCTL message, and what I_LINK has behind it. */
+/* The first block of an M_IOCTL message, and what follows it for I_LINK. */
 struct iocblk {
     int ioc_cmd;
     cred_t *ioc_cr;

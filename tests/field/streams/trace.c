@@ -1,15 +1,15 @@
-/* Tells what happens to message blocks, a line for each thing. A player's trace has these lines:
+/* Prints what happens to message blocks. A player's trace has these lines:
  *
- *     h LINE                                       a line of the script's header (looks.c)
- *     c DATA BYTES                                 how many bytes a data block has (looks.c)
- *     b DATA PLACE BYTES                           bytes of a data block that changed, in hexadecimal
- *     ~ BLOCK NEXT DATA READ WRITE TYPE BAND       a held message block that was changed by pointers
- *     ! WHO CALL | REPLY                           a call: <N is the message that begins with block N, which it takes, >N one that it
- *                                                  gives, > none
- *     = BLOCK NEXT DATA READ WRITE TYPE BAND       a block that the call changed, or that is held since
- *     - BLOCK                                      a block that is held no longer
- *     . WHO LINE | REPLY                           a line of the script as it is (lwip.c)
- *     r LINE                                       a line of the report (looks.c)
+ *     h LINE                                       a line of the script's header (looks.c).
+ *     c DATA BYTES                                 the number of bytes of a data block (looks.c).
+ *     b DATA PLACE BYTES                           bytes of a data block that changed, in hexadecimal.
+ *     ~ BLOCK NEXT DATA READ WRITE TYPE BAND       a held message block that was changed by pointers.
+ *     ! WHO CALL | REPLY                           a call. <N is the message that begins with block N, which the call takes. >N is one
+ *                                                  that it gives, and > is none.
+ *     = BLOCK NEXT DATA READ WRITE TYPE BAND       a block that the call changed, or that is held since.
+ *     - BLOCK                                      a block that is held no longer.
+ *     . WHO LINE | REPLY                           a line of the script as it is (lwip.c).
+ *     r LINE                                       a line of the report (looks.c).
  */
 #include "field.h"
 
@@ -53,7 +53,7 @@ void leave(const char *before)
     who = before;
 }
 
-/* What there is to tell of a block now. */
+/* What a line has of a block, as it is now. */
 static struct told now(const mblk_t *mp)
 {
     struct told told;
@@ -68,7 +68,7 @@ static struct told now(const mblk_t *mp)
     return told;
 }
 
-/* Whether the bytes of a block, up to its write place, are other ones than those that were told. */
+/* Whether the bytes of a block, up to its write place, differ from those that were recorded last. */
 static int has_new_bytes(const mblk_t *mp)
 {
     const dblk_t *data = mp->b_datap;
@@ -106,7 +106,7 @@ static void tell_block(char mark, mblk_t *mp)
     mp->b_told = now(mp);
 }
 
-/* Where several blocks name a data block, strm has no word that changes its bytes. */
+/* Stops if a module changed a data block that several blocks refer to, since no word of strm does that. */
 static void check_alone(const mblk_t *mp)
 {
     const struct told *told = &mp->b_told;
@@ -127,7 +127,7 @@ void begin_call(void)
     }
 }
 
-/* A block that is held no longer is behind no other one, whatever a pointer says. */
+/* Prints that a block is held no longer. It follows no other block then, whatever a pointer says. */
 static void tell_end(mblk_t *mp)
 {
     printf("- %d\n", mp->b_number);

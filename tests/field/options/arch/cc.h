@@ -1,1 +1,1 @@
-/* What lwIP asks of a compiler is what it takes by itself. */
+/* lwIP's own defaults fit the compiler. */
