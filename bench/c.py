@@ -1,5 +1,5 @@
 #!/usr/bin/env python3
-"""Measures what calls of strm.h cost, beside the calls of `Pool` that they make and those of a pool written by hand in C, and prints a table.
+"""Measures calls of strm.h, beside the calls of `Pool` that they make and those of a pool written by hand in C, and prints a table.
 bench/README.md says how.
 
     bench/c.py [--rounds N] [--write] LIBRARY PROGRAM
@@ -22,8 +22,8 @@ SOURCES = [os.path.join(TOP, "bench", "c", name) for name in ("rounds.c", "plain
 
 
 class Round(NamedTuple):
-    """What a round does, how many calls it makes, and the rows of strm_bench that the same calls of `Pool` are in: one row, less another if
-    there is one."""
+    """What a round does, how many calls it makes, and the row of strm_bench with the same calls of `Pool`, less another row if one is
+    named."""
 
     shown: str
     calls: int
@@ -33,29 +33,29 @@ class Round(NamedTuple):
 
 ROUNDS = {
     "allocb": Round("`strm_allocb`, `strm_freemsg`", 2, "allocb"),
-    "dupb": Round("`strm_dupb`, `strm_freemsg` of the duplicate", 2, "dupb", "allocb"),
-    "write": Round("`strm_allocb`, `strm_write` of 64 bytes, `strm_freemsg`", 3, "write"),
-    "putq": Round("`strm_putq`, `strm_getq`, of the only message of a queue", 2, "putq"),
+    "dupb": Round("`strm_dupb`, `strm_freemsg`", 2, "dupb", "allocb"),
+    "write": Round("`strm_allocb`, `strm_write` 64 bytes, `strm_freemsg`", 3, "write"),
+    "putq": Round("`strm_putq`, `strm_getq`, the queue's only message", 2, "putq"),
 }
 TIMED = 20_000_000
 COUNTED = 100_000
 
 
 def built(archive, room):
-    """The program of rounds, over the library for C."""
+    """Compiles the program of rounds over the library for C, and returns its path."""
     program = os.path.join(room, "rounds")
     subprocess.run([os.environ.get("CC", "cc"), "-O2", "-I" + os.path.join(TOP, "c"), *SOURCES, archive, "-o", program], check=True)
     return program
 
 
 def nanoseconds(program, over, name, rounds):
-    """What a round takes, the median of some runs."""
+    """The nanoseconds of a round, as the median of some runs."""
     runs = [float(subprocess.run([program, over, name, str(TIMED)], check=True, capture_output=True, text=True).stdout) for _ in range(rounds)]
     return statistics.median(runs) / TIMED
 
 
 def instructions(program, over, name):
-    """The instructions of a round: those of twice as many rounds, less those of as many."""
+    """The instructions of a round: how many more twice the rounds take, per round."""
     return (counted(program, over, name, 2 * COUNTED) - counted(program, over, name, COUNTED)) / COUNTED
 
 
@@ -93,12 +93,12 @@ def table(program, pools, rounds):
 def main():
     words = argparse.ArgumentParser(description=__doc__.splitlines()[0])
     words.add_argument("--rounds", type=int, default=9, help="runs for each median")
-    words.add_argument("--write", action="store_true", help="puts the table into docs/COST.md")
+    words.add_argument("--write", action="store_true", help="put the table into docs/COST.md")
     words.add_argument("library", metavar="LIBRARY", help="the path of the library for C")
     words.add_argument("program", metavar="PROGRAM", help="the path of strm_bench")
     given = words.parse_args()
     if not shutil.which("valgrind"):
-        sys.exit("valgrind is not there")
+        sys.exit("valgrind is not installed")
     with tempfile.TemporaryDirectory() as room:
         lines = list(table(built(given.library, room), os.path.abspath(given.program), given.rounds))
     print("\n".join(lines))

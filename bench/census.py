@@ -14,13 +14,13 @@ HERE = os.path.dirname(os.path.abspath(__file__))
 TOP = os.path.dirname(HERE)
 # The program's crate, and the libraries that it uses.
 CRATE, USES = "bench_look", ["arrayvec", "strm_pool", "strm_shared"]
-# How many looks one line asks for where instructions are counted, and where time is taken.
+# How many looks one line asks for, to count instructions and to take time.
 COUNTED, LOOKS = 1_000, 5_000_000
 WORKERS = (4, 15)
 
 
 def libraries(crates, name):
-    """A library of the repository and those below it, by what crates.txt says of each."""
+    """A library of the repository and all that it uses."""
     found = {name}
     for below in crates[name]:
         if below in crates:
@@ -29,14 +29,14 @@ def libraries(crates, name):
 
 
 def listed(tree):
-    """What crates.txt of a tree says: for each crate the libraries that it uses."""
+    """The libraries that each crate uses, by crates.txt of a tree."""
     with open(os.path.join(tree, "crates.txt")) as text:
         lines = (line.split("#")[0].partition(":") for line in text)
         return {name.strip(): uses.split() for name, _, uses in lines if name.strip()}
 
 
 def fresh_copy(source, to):
-    """Copies a folder over what stood there, without what only a check of its crate wants."""
+    """Copies a folder over an older copy, without the files that only a check of its crate needs."""
     shutil.rmtree(to, ignore_errors=True)
     shutil.copytree(source, to, ignore=shutil.ignore_patterns("incremental", "must-fail"))
 
@@ -53,7 +53,7 @@ def tree_of_work(room):
 
 
 def add_program(tree):
-    """Adds the crate of the program to a tree, and names it in its crates.txt, with those that it needs and no more."""
+    """Adds the crate of the program to a tree. crates.txt then has that crate and those that it needs, no others."""
     crates = listed(tree)
     kept = libraries(crates, "strm_shared")
     with open(os.path.join(tree, "crates.txt"), "w") as text:
@@ -66,7 +66,7 @@ def add_program(tree):
 
 
 def proved(tree, crate):
-    """Proves and builds a program of a tree, and gives its path."""
+    """Proves and builds a program of a tree, and returns its path."""
     folder = os.path.join(tree, "crates", crate)
     said = subprocess.run(["rt", "run"], cwd=folder, stdin=subprocess.DEVNULL, stdout=subprocess.PIPE, stderr=subprocess.STDOUT, text=True)
     program = os.path.join(folder, "out", crate)
@@ -76,7 +76,7 @@ def proved(tree, crate):
 
 
 def compiled(room):
-    """Compiles the C program, and gives its path."""
+    """Compiles the C program, and returns its path."""
     program = os.path.join(room, "plain")
     words = [os.environ.get("CC", "cc"), "-O2", f"-DCOUNT_RANGE=UINT64_C({MESSAGE_BLOCKS + 1})", "-o", program]
     subprocess.run([*words, os.path.join(HERE, "census", "plain.c")], check=True)
@@ -84,7 +84,7 @@ def compiled(room):
 
 
 def instructions(program, first):
-    """The instructions of a look, by how many more twice as many take."""
+    """The instructions of a look: how many more twice the looks take, per look."""
 
     def counted(looks):
         return collected(program, [*first, looks])[0]
@@ -93,15 +93,15 @@ def instructions(program, first):
 
 
 def begin(running, first):
-    """Has a program read its first lines, and look once. Gives the number that its answer begins with."""
+    """Has a program read its first lines, and look once. Returns the number that its answer begins with."""
     for line in first:
         running.say(line)
     return running.turn(1)[2]
 
 
 def costs_in_turns(programs, rounds):
-    """For each program, which comes with its first lines, medians for a look: processor time, time, and by how much the stamp rose.
-    They take turns one after the other."""
+    """For each program with its first lines, medians for a look: processor time, elapsed time, and by how much the stamp rose. The
+    programs take turns."""
     running = [Running(program) for program, _ in programs]
     stamps = [begin(one, first) for one, (_, first) in zip(running, programs)]
     turns = [[] for _ in running]
@@ -116,33 +116,33 @@ def costs_in_turns(programs, rounds):
 
 
 def look_costs(plain, look, rounds):
-    """For each row its name, the costs of a look (instructions, processor time, time), and how many calls were served meanwhile."""
+    """For each row its name, the costs of a look (instructions, processor time, elapsed time), and how many calls were served meanwhile."""
     alone = costs_in_turns([(plain, []), (look, [0])], rounds)
     yield "the C function", instructions(plain, []), *alone[0]
-    yield "`census_now`, no worker", instructions(look, [0]), *alone[1]
+    yield "`census_now`, no workers", instructions(look, [0]), *alone[1]
     for workers in WORKERS:
         [crowded] = costs_in_turns([(look, [workers])], rounds)
-        yield f"`census_now`, {workers} workers served meanwhile", None, *crowded
+        yield f"`census_now` beside {workers} workers", None, *crowded
 
 
 def table(looks):
-    """The table, in markdown. Its first two rows are those that are compared."""
-    yield from ("| A look | Instructions | Nanoseconds of the processor | Nanoseconds | Calls served in that time |", "|---|---|---|---|---|")
+    """The table, in markdown. The last line compares its first two rows."""
+    yield from ("| A look | Instructions | ns, processor | ns, elapsed | Calls served meanwhile |", "|---|---|---|---|---|")
     for name, counted, had, went, served in looks:
         yield f"| {name} | {'' if counted is None else f'{counted:,.1f}'} | {had:,.2f} | {went:,.2f} | {served:,.4f} |"
     plain, alone = (had for _, _, had, _, _ in looks[:2])
-    yield from ("", f"With no worker `census_now` has {alone / plain:.2f} times the C function's time of the processor.")
+    yield from ("", f"Without workers `census_now` takes {alone / plain:.2f} times as much processor time as the C function.")
 
 
 def main():
-    """Builds, measures, prints, and rewrites docs/ where that was asked for."""
+    """Builds, measures, prints, and with --write rewrites docs/COST.md."""
     words = argparse.ArgumentParser(description=__doc__)
     words.add_argument("--rounds", type=int, default=41, help="turns for each median")
-    words.add_argument("--room", default=os.path.join(tempfile.gettempdir(), "strm_census"), help="where the programs are built, and kept")
-    words.add_argument("--write", action="store_true", help="put the tables into docs/")
+    words.add_argument("--room", default=os.path.join(tempfile.gettempdir(), "strm_census"), help="where to build the programs and keep them")
+    words.add_argument("--write", action="store_true", help="put the table into docs/COST.md")
     given = words.parse_args()
     if not shutil.which("valgrind"):
-        sys.exit("valgrind is not there")
+        sys.exit("valgrind is not installed")
     now = tree_of_work(given.room)
     add_program(now)
     lines = list(table(list(look_costs(compiled(given.room), proved(now, CRATE), given.rounds))))

@@ -18,8 +18,8 @@ TURN = 20_000_000
 
 
 class Row(NamedTuple):
-    """A row: what a round does, the instructions that a plain program takes for it or what it has to touch, how many calls it makes with
-    registers, if it has such a form, and the function whose instructions alone are told, if one's are."""
+    """A row: what a round does; the instructions that a plain program takes for it, if measured; how many calls it makes with registers, if
+    it has that form; and the only function whose instructions count, if there is one."""
 
     shown: str
     beside: str
@@ -27,51 +27,51 @@ class Row(NamedTuple):
     within: str = ""
 
 
-# The rows by their names. The plain program's instructions are those of the section on message blocks in docs/COST.md.
+# The rows by their names. The plain program is not in this repository.
 ROWS = {
     "allocb": Row("`allocb`, `freemsg`", "123", 2),
-    "dupb": Row("`allocb`, `dupb`, both freed", "234", 4),
-    "dupmsg": Row("`allocb`, `dupmsg`, both freed", "287", 4),
-    "write": Row("`allocb`, `write` of 64 bytes, `freemsg`", "198", 3),
-    "queued": Row("`allocb`, `write` of 64 bytes, `setband`, `putq`, `getq`, `freemsg`", "513"),
-    "copymsg_four": Row("`copymsg` of four blocks of 64 bytes, and the copy freed", "717", 2),
-    "dupmsg_four": Row("`dupmsg` of four blocks, and the duplicate freed", "395", 2),
-    "build": Row("a message of four blocks of 64 bytes built and freed", "853"),
+    "dupb": Row("`allocb`, `dupb`, free both", "234", 4),
+    "dupmsg": Row("`allocb`, `dupmsg`, free both", "287", 4),
+    "write": Row("`allocb`, `write` 64 bytes, `freemsg`", "198", 3),
+    "queued": Row("`allocb`, `write` 64 bytes, `setband`, `putq`, `getq`, `freemsg`", "513"),
+    "copymsg_four": Row("`copymsg` of four blocks of 64 bytes, free the copy", "717", 2),
+    "dupmsg_four": Row("`dupmsg` of four blocks, free the duplicate", "395", 2),
+    "build": Row("build a message of four blocks of 64 bytes, free it", "853"),
     "pullup": Row("`pullupmsg` of four blocks of 64 bytes into one", "509", within="pull_up"),
     "unlinkb": Row("`unlinkb`, `linkb`, of four blocks", "83", 2),
-    "settype": Row("`settype`", "a block, its data block's names and type", 1),
-    "setband": Row("`setband`", "a block", 1),
+    "settype": Row("`settype`", "", 1),
+    "setband": Row("`setband`", "", 1),
     "has": Row("`has`", "18"),
     "size": Row("`size` of four blocks", "52", 1),
-    "read": Row("`read` of the 64 bytes of the last of four blocks", "147", 1),
-    "block": Row("`block` of the first of four blocks", "a block, its data block's type, class and names", 1),
+    "read": Row("`read` 64 bytes, the last of four blocks", "147", 1),
+    "block": Row("`block`, the first of four", "", 1),
     "census": Row("`census`", "12", 1),
-    "testb": Row("`testb`", "the free blocks, and a class", 1),
-    "open": Row("a pool made and given up", "all that it has"),
-    "putq": Row("`getq`, `putq`, of the only message of a queue", "317", 2),
-    "putq_ranked": Row("so too, of the first of 1,000 messages of 17 ranks", "a message's links and size, and the count, bytes and ends of its rank, twice"),
-    "putq_full": Row("so too, of ten messages in a band that is full and wanted", "the same, and the band's marks"),
-    "putbq": Row("`getq`, `putbq`, of the only message", "as `putq`", 2),
-    "putbq_ranked": Row("so too, of the first of 1,000 messages of 17 ranks", "as `putq`"),
-    "rmvq": Row("`rmvq` in front, `putbq`", "as `putq`", 2),
-    "insq": Row("`rmvq` in front, `insq` in front", "as `putq`, and the rank of what stands there", 2),
-    "bcanput": Row("`bcanput` on the first of eight queues without service procedures", "eight queues, and a band's mark", 1),
-    "flushband": Row("`flushband` of 100 messages, of 4,000", "the links, size and data of each of the 100", within="flush_hundred"),
-    "strqset": Row("`strqset`", "a band's marks, bytes and wanted mark", 1),
-    "qsize": Row("`qsize`", "a queue's count", 1),
-    "qenable": Row("`qenable`, and the queue served", "the run list, twice", 2),
-    "bufcall": Row("`bufcall`, and the wish served", "the wishes, twice, and a class", 2),
+    "testb": Row("`testb`", "", 1),
+    "open": Row("open a pool, drop it", ""),
+    "putq": Row("`getq`, `putq`, the queue's only message", "317", 2),
+    "putq_ranked": Row("`getq`, `putq`, the first of 1,000 messages of 17 ranks", ""),
+    "putq_full": Row("`getq`, `putq`, one of ten messages; the band is full and wanted", ""),
+    "putbq": Row("`getq`, `putbq`, the queue's only message", "", 2),
+    "putbq_ranked": Row("`getq`, `putbq`, the first of 1,000 messages of 17 ranks", ""),
+    "rmvq": Row("`rmvq` at place 0, `putbq`", "", 2),
+    "insq": Row("`rmvq` at place 0, `insq` there", "", 2),
+    "bcanput": Row("`bcanput`, the first of eight queues without service procedure", "", 1),
+    "flushband": Row("`flushband` frees 100 of 4,000 messages", "", within="flush_hundred"),
+    "strqset": Row("`strqset`", "", 1),
+    "qsize": Row("`qsize`", "", 1),
+    "qenable": Row("`qenable`, `next_service`", "", 2),
+    "bufcall": Row("`bufcall`, `take_ready`", "", 2),
 }
-# What a round tells where it is not 1, over so many message blocks.
+# What a round adds to the sum where that is not 1, by the number of message blocks.
 TOLD = {"open": lambda blocks: blocks, "census": lambda blocks: blocks, "size": lambda _: 256, "read": lambda _: 64, "block": lambda _: 64, "qsize": lambda _: 0}
-# A look at the census without the lock, by the form `serve`, and what a round of it is.
+# A look at the census without the lock: a row that only the form `serve` has.
 LOOK = "look"
-# A served call from the first instruction of `serve_into` to its last, and the forms in which it is told.
-SERVED, SERVING = "serve_call", {"no trace": "serve", "a trace kept": "trace"}
+# The function that is one served call, and the forms in which it is measured.
+SERVED, SERVING = "serve_call", {"without a trace": "serve", "with a trace": "trace"}
 
 
 class Measure(NamedTuple):
-    """A row in a form over a pool of so many message blocks."""
+    """A row in a form, over a pool of this number of message blocks."""
 
     form: str
     row: str
@@ -79,15 +79,15 @@ class Measure(NamedTuple):
     within: str = ""
 
     def line(self, times):
-        """The line that asks for so many rounds."""
+        """The line that asks for this number of rounds."""
         return f"{self.form} {self.row} {self.blocks} {times}"
 
     def calls(self):
-        """How many calls a round makes, where it tells how many were done."""
+        """How many calls a round makes, or 1 in the form `direct`, which counts rounds."""
         return 1 if self.form == "direct" else ROWS[self.row].calls
 
     def check(self, times, answer):
-        """Ends where not each call was done, and so was not measured."""
+        """Exits if a call was not done, so that nothing else is measured."""
         if self.row == LOOK:
             return
         each = TOLD.get(self.row, lambda _: 1)(self.blocks) if self.form == "direct" else self.calls()
@@ -101,7 +101,7 @@ def rounds_counted(measure):
 
 
 def instructions(program, measure):
-    """The instructions of a round, by how many more twice as many take."""
+    """The instructions of a round: how many more twice the rounds take, per round."""
     times = rounds_counted(measure)
     within = f"*{measure.within}*" if measure.within else None
 
@@ -114,13 +114,13 @@ def instructions(program, measure):
 
 
 def all_instructions(program, measures):
-    """The instructions of a round of each, counted side by side: how many there are does not hang on what else runs."""
+    """The instructions of a round of each, counted in parallel, since a count does not depend on what else runs."""
     with ThreadPoolExecutor(os.cpu_count()) as pool:
         return dict(zip(measures, pool.map(lambda measure: instructions(program, measure), measures)))
 
 
 def nanoseconds(program, measures, counts, turns):
-    """The nanoseconds of processor time of a round of each: medians of turns, less those of turns with no round."""
+    """The nanoseconds of processor time of a round of each: medians of turns, less turns without rounds."""
     costs = {}
     with Running(program) as running:
         for measure in measures:
@@ -137,7 +137,7 @@ def nanoseconds(program, measures, counts, turns):
 
 
 def wanted():
-    """All that is measured: rows on the pool, those with registers, a look, and a served call alone."""
+    """Everything to measure: rows on the pool, rows with registers, a look, and one served call."""
     direct = [Measure("direct", row, blocks, told.within) for row, told in ROWS.items() for blocks in POOLS]
     registers = [Measure(form, row, MIDDLE) for row, told in ROWS.items() if told.calls for form in ("apply", "serve")]
     looks = [Measure("serve", LOOK, blocks) for blocks in POOLS]
@@ -147,10 +147,10 @@ def wanted():
 
 def rows_table(counts, times, before):
     """Rows on the pool, in markdown."""
-    head = ["A round", "A plain program, or what it has to touch", *([f"before, {MIDDLE:,}"] if before else []), *(f"{blocks:,}" for blocks in POOLS), f"ns, {MIDDLE:,}"]
+    head = ["A round", "Plain", *([f"before, {MIDDLE:,}"] if before else []), *(f"{blocks:,}" for blocks in POOLS), f"ns, {MIDDLE:,}"]
     yield from (f"| {' | '.join(head)} |", "|---" * len(head) + "|")
     every = [("direct", row, told.shown, told.beside, told.within) for row, told in ROWS.items()]
-    for form, row, shown, beside, within in [*every, ("serve", LOOK, "`census_now`", "18, of a function in C", "")]:
+    for form, row, shown, beside, within in [*every, ("serve", LOOK, "`census_now`", "", "")]:
         cells = [shown, beside]
         middle = Measure(form, row, MIDDLE, within)
         if before:
@@ -162,7 +162,7 @@ def rows_table(counts, times, before):
 
 def forms_table(counts, times, before):
     """Rows with registers beside those with tokens, in markdown."""
-    head = ["A round", "calls", "with tokens", *(["`apply_into`, before"] if before else []), "`apply_into`", "more a call", *(["`serve_into`, before"] if before else []), "`serve_into`", "more a call", "ns of `serve_into`"]
+    head = ["A round", "Calls", "Tokens", *(["`apply_into`, before"] if before else []), "`apply_into`", "more a call", *(["`serve_into`, before"] if before else []), "`serve_into`", "more a call", "ns"]
     yield from (f"| {' | '.join(head)} |", "|---" * len(head) + "|")
     for row, told in ROWS.items():
         if not told.calls:
@@ -177,7 +177,7 @@ def forms_table(counts, times, before):
 
 def served_table(counts, times, before):
     """A served call, in markdown."""
-    head = ["A served call", *(["before, within `serve_into`"] if before else []), "instructions within `serve_into`", "with the loop", "nanoseconds of the processor"]
+    head = ["A served call", *(["before, in `serve_into`"] if before else []), "Instructions in `serve_into`", "With the loop", "ns"]
     yield from (f"| {' | '.join(head)} |", "|---" * len(head) + "|")
     for name, form in SERVING.items():
         whole, alone = Measure(form, "allocb", MIDDLE), Measure(form, "allocb", MIDDLE, SERVED)
@@ -187,21 +187,21 @@ def served_table(counts, times, before):
 
 def tables(counts, times, before):
     """All tables, in markdown."""
-    yield from (f"Instructions of a round, at so many message blocks, and nanoseconds of the processor at {MIDDLE:,}:", "", *rows_table(counts, times, before))
-    yield from ("", f"Instructions of a round over {MIDDLE:,} message blocks, with tokens, with registers, and at a shared pool:", "", *forms_table(counts, times, before))
-    yield from ("", "One of the served calls `allocb b 64` and `freemsg b`, in turn:", "", *served_table(counts, times, before))
+    yield from ("Instructions of a round, by the message blocks of the pool; nanoseconds of processor time:", "", *rows_table(counts, times, before))
+    yield from ("", f"Instructions of a round over {MIDDLE:,} message blocks, by how its calls are made:", "", *forms_table(counts, times, before))
+    yield from ("", "A served call, of `allocb b 64` and `freemsg b` in turn:", "", *served_table(counts, times, before))
 
 
 def main():
-    """Measures, prints, and rewrites docs/ where that was asked for."""
+    """Measures, prints, and with --write rewrites docs/COST.md."""
     words = argparse.ArgumentParser(description=__doc__)
     words.add_argument("program", help="the path of strm_bench")
     words.add_argument("--turns", type=int, default=21, help="turns for each median")
-    words.add_argument("--before", metavar="PROGRAM", help="tell the instructions of another build too")
-    words.add_argument("--write", action="store_true", help="put the tables into docs/")
+    words.add_argument("--before", metavar="PROGRAM", help="also count the instructions of another build")
+    words.add_argument("--write", action="store_true", help="put the tables into docs/COST.md")
     given = words.parse_args()
     if not shutil.which("valgrind"):
-        sys.exit("valgrind is not there")
+        sys.exit("valgrind is not installed")
     measures = wanted()
     counts = all_instructions(os.path.abspath(given.program), measures)
     before = all_instructions(os.path.abspath(given.before), measures) if given.before else {}

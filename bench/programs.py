@@ -1,4 +1,4 @@
-"""Runs the small programs that are measured, and puts tables into docs/. `library.py` and `census.py` use it."""
+"""Runs the small programs that are measured, and puts tables into docs/COST.md. library.py, census.py and c.py use it."""
 import os
 import re
 import statistics
@@ -10,7 +10,7 @@ PAGE = os.path.join(os.path.dirname(os.path.abspath(__file__)), "..", "docs", "C
 
 
 class Running:
-    """A program that answers each line, which says what it is to do and how often, by a line."""
+    """A program that reads a line with work to do, does it, and answers by a line."""
 
     def __init__(self, program):
         self.child = subprocess.Popen([program], stdin=subprocess.PIPE, stdout=subprocess.PIPE, text=True, bufsize=1)
@@ -24,33 +24,33 @@ class Running:
         self.child.stdout.close()
 
     def say(self, line):
-        """Has it read a line that it does not answer."""
+        """Sends it a line that it does not answer."""
         self.child.stdin.write(f"{line}\n")
 
     def processor_time(self):
-        """The nanoseconds of processor time that the first thread has had."""
+        """The nanoseconds of processor time that its first thread has used."""
         with open(f"/proc/{self.child.pid}/task/{self.child.pid}/schedstat") as told:
             return int(told.read().split()[0])
 
     def turn(self, line):
-        """The nanoseconds of processor time of the first thread, and those that went by, until it has answered the line; and the
-        number that its answer begins with."""
+        """Sends a line and waits for the answer. Returns the nanoseconds of the first thread's processor time, the nanoseconds that went
+        by, and the number that the answer begins with."""
         had, begun = self.processor_time(), time.perf_counter_ns()
         self.say(line)
         answer = self.child.stdout.readline()
         if not answer:
-            sys.exit(f"{self.child.args[0]} ended")
+            sys.exit(f"{self.child.args[0]} ended without an answer")
         return self.processor_time() - had, time.perf_counter_ns() - begun, int(answer.split()[0])
 
 
 def medians(turns):
-    """The medians of what turns give, each a tuple."""
+    """The median of each column of turns, which are tuples."""
     return [statistics.median(column) for column in zip(*turns)]
 
 
 def collected(program, lines, within=None):
-    """The instructions of a program that reads these lines, all of them or those within a function, by valgrind; and what it
-    answered."""
+    """Counts by valgrind the instructions of a program that reads these lines, all or those within one function. Returns the count and
+    the answers."""
     words = ["valgrind", "--tool=callgrind", "--callgrind-out-file=/dev/null", *([f"--toggle-collect={within}"] if within else []), program]
     ran = subprocess.run(words, input="".join(f"{line}\n" for line in lines), capture_output=True, text=True, check=True)
     return int(re.search(r"Collected : (\d+)", ran.stderr)[1]), ran.stdout.split()

@@ -21,7 +21,7 @@ POOLS = (16, 255, 4_095, MESSAGE_BLOCKS)
 QUEUED = (16, 255, 4_000, 12_000)
 DOCS = os.path.join(os.path.dirname(os.path.abspath(__file__)), "..", "docs")
 BEGIN, END = "<!-- bench: begin -->\n", "<!-- bench: end -->\n"
-# Runs a program, and then tells its peak memory in KiB. Without the shell between, that would be Python's at least.
+# Runs a program, then prints its peak memory in KiB. Without a shell in between, Python's own peak would be the least.
 TELL_PEAK = """"$@" && exec "$0" -c 'import resource, sys
 print(resource.getrusage(resource.RUSAGE_CHILDREN).ru_maxrss, file=sys.stderr)'"""
 
@@ -40,7 +40,7 @@ def run(words, script):
 
 
 class Meter:
-    """Measures a program, by processor time or by instructions, so many times for a median."""
+    """Measures a program by processor time or by instructions, with several runs for a median."""
 
     def __init__(self, program, rounds, instructions, folder):
         self.words = [program, "--serial", "--max", str(SCRIPT_BYTES)]
@@ -65,7 +65,7 @@ class Meter:
         return (used.ru_utime + used.ru_stime) * 1e9
 
     def more(self, short, long):
-        """How much more a script costs than another: the median of so many runs of each, one after the other."""
+        """How much more one script costs than another: the median of runs in pairs."""
         return statistics.median(self.cost(long) - self.cost(short) for _ in range(self.rounds))
 
     def peak(self, script):
@@ -74,7 +74,7 @@ class Meter:
         return statistics.median(int(run(words, script)[1]) / 1024 for _ in range(self.rounds))
 
     def check(self, script):
-        """Ends where a call in a script was not done, and so was not measured."""
+        """Exits if a call in a script was not done, so that nothing else is measured."""
         with open(script, "rb") as given:
             text = subprocess.run(self.words, stdin=given, stdout=subprocess.PIPE, text=True, check=True).stdout
         failed = re.search(r"^0:(\d+) (refused|empty|taken|none).*", text, re.MULTILINE)
@@ -94,7 +94,7 @@ def line_costs(meter):
 
 
 def numbers(blocks):
-    """The numbers that measured lines may name, over a pool of so many message blocks."""
+    """The numbers that measured lines may name, over a pool of this number of message blocks."""
     half = (blocks - 4) // 2
     pulled = min(2 * half, DATA_BLOCK_BYTES)
     return {"blocks": half, "last": half - 1, "bytes": 2 * half, "end": 2 * half - 1, "middle": half, "pulled": pulled}
@@ -109,13 +109,13 @@ def ranks():
 
 
 def every_round(blocks):
-    """The numbers that the lines of each round may name, over a pool of so many message blocks."""
+    """The numbers that the lines of each round may name, over a pool of this number of message blocks."""
     for place in count(1):
         yield {"round": place, **numbers(blocks)}
 
 
 def every_ranked_round(messages):
-    """The names of each round over a queue of so many messages: band by band, what is put again, one message a round."""
+    """The names of each round over a queue of this length: band by band, one message is put again in each round."""
     while True:
         emptied = None
         for kind, band in sorted(islice(ranks(), messages), key=lambda rank: rank[1]):
@@ -139,7 +139,7 @@ def lines_to_fill(filled, blocks):
 
 
 def lines_to_rank(messages):
-    """The lines up to one queue of so many messages of 17 ranks in drawn order, and one message more in register b."""
+    """The lines that fill one queue with messages of 17 ranks in drawn order, and register b with one message more."""
     yield from (f"pool 1 {messages + 1}", f"class 16 {messages + 1}", "queue 65536 0 s -", "bufcalls 0 1", "worker")
     for kind, band in islice(ranks(), messages):
         yield from ("allocb b 16", "write b 0 61", f"settype b 0 {kind}", f"setband b {band}", "putq 0 b")
@@ -147,7 +147,7 @@ def lines_to_rank(messages):
 
 
 def round_cost(meter, fill, lines, names, rounds):
-    """The cost of one round of the lines, those in parentheses not counted. Most take some 50 milliseconds together."""
+    """The cost of one round of the lines, without those in parentheses. Most take some 50 milliseconds together."""
 
     def scripts(rounds):
         every = "; ".join(lines.format(**named) for named in islice(names(), rounds)).split("; ")
@@ -201,9 +201,9 @@ def tables(meter, by_line, by_call, by_rank):
     yield from (f"| Lines | {unit} a line | Peak memory, MiB |", "|---|---|---|")
     for size, (cost, peak) in by_line.items():
         yield f"| {size:,} | {cost:,.0f} | {peak:,.1f} |"
-    yield from ("", f"{unit} of a round of lines, at so many message blocks:", "")
+    yield from ("", f"{unit} of a round of lines, by the message blocks of the pool:", "")
     yield from call_table(POOLS, by_call)
-    yield from ("", f"{unit} of a round of lines, at so many messages of 17 ranks on one queue:", "")
+    yield from ("", f"{unit} of a round of lines, by the messages on one queue, which have 17 ranks:", "")
     yield from call_table(QUEUED, by_rank)
 
 
@@ -236,7 +236,7 @@ def panel(left, top, width, height, title, xs, curves):
 
 
 def plot(meter, by_line, by_call):
-    """Both tables as a picture. Only words are named that cost four times as much in the largest pool as in the smallest."""
+    """Both tables as a picture. It names only words that cost four times as much in the largest pool as in the smallest."""
     unit = "Instructions" if meter.instructions else "Nanoseconds"
     costs, peaks = zip(*by_line.values())
     growing = [(", ".join(words) if costs[-1] > 4 * costs[0] else "", costs) for words, _, costs in by_call]
@@ -261,15 +261,15 @@ def rewrite(lines, picture):
 
 
 def main():
-    """Measures, prints, and rewrites docs/ where that was asked for."""
+    """Measures, prints, and with --write rewrites docs/COST.md and docs/cost.svg."""
     words = argparse.ArgumentParser(description=__doc__)
     words.add_argument("program", help="the path of strm")
     words.add_argument("--rounds", type=int, default=5, help="runs for each median")
-    words.add_argument("--instructions", action="store_true", help="instructions in place of time, by valgrind")
-    words.add_argument("--write", action="store_true", help="put tables and plot into docs/")
+    words.add_argument("--instructions", action="store_true", help="count instructions by valgrind instead of time")
+    words.add_argument("--write", action="store_true", help="put the tables into docs/COST.md and the plot into docs/cost.svg")
     given = words.parse_args()
     if given.instructions and not shutil.which("valgrind"):
-        sys.exit("valgrind is not there")
+        sys.exit("valgrind is not installed")
     rounds = 1 if given.instructions else given.rounds
     with tempfile.TemporaryDirectory() as folder:
         meter = Meter(os.path.abspath(given.program), rounds, given.instructions, folder)

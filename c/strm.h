@@ -1,69 +1,83 @@
 /*
- * strm.h: message blocks and queues as in UNIX System V Release 4 STREAMS, for programs in C and C++.
+ * strm.h: message blocks and queues as in UNIX System V Release 4 STREAMS, for programs in C and
+ * C++.
  *
- * A pool has message blocks over data blocks in size classes, and queues. All its memory is taken by strm_open. A message is a
- * chain of message blocks, and is held by the caller, who knows it by a name, or stands on a queue. Names are values: there is
- * no pointer into a pool, so none can dangle, and bytes are copied in and out.
+ * A pool has message blocks, data blocks in size classes, and queues. strm_open allocates all of
+ * its memory. A message is a chain of message blocks; the caller holds it by a name, or it is on a
+ * queue. Names are values, so no pointer into a pool can dangle. Bytes are copied in and out.
+ *
+ *     strm_allocb(&pool, 4, &msg);
+ *     strm_write(&pool, msg, 0, "lion", 4);
+ *     strm_putq(&pool, 0, msg);
  *
  *
- * What calls answer
+ * Results
  *
- * Each call that can be refused returns a code, and what it gives goes through pointers. STRM_OK is 0. Codes above 0 are
- * refusals of the pool, with the numbers that the program strm shows. Codes below 0 are answers of this header. Where several
- * apply, the first of these comes:
+ * A call that can fail returns a code, and stores its results through pointers. STRM_OK is 0. Codes
+ * above 0 are refusals of the pool, with the numbers that the program strm shows. Codes below 0 are
+ * of this header. If several apply, the first of these is returned; strm_open lists its own:
  *
  *   1. STRM_NOT_OPEN: the handle is null, was never opened, or was closed.
- *   2. STRM_BAD_ARGUMENT: a pointer is null, but for one to a buffer of length 0; or a band, a type or a flush is out of range;
- *      or a length is above half of the greatest size_t, which no object has; or strm_rmvb or strm_read is given one place for two
- *      answers.
- *   3. STRM_INVALID: a name is not valid. Of two names the first is looked at first.
- *   4. The refusals that are named with the call, in the order in which they are named.
+ *   2. STRM_BAD_ARGUMENT: a pointer is null, except one to a buffer of length 0. Or a band, a type,
+ *      a flush or a length is out of range; a length is at most SIZE_MAX / 2. Or strm_rmvb or
+ *      strm_read got one place for two results.
+ *   3. STRM_INVALID: a name is not valid. Of two names the first is checked first.
+ *   4. STRM_NO_SUCH_QUEUE: the call names a queue that the pool does not have.
+ *   5. The refusals that the call's comment lists, in that order.
  *
- * strm_open, which wants a handle that is not open, has an order of its own. Every call that names a queue is refused first as
- * STRM_NO_SUCH_QUEUE where the pool has no queue of this number, whatever number that is; this is not repeated with each. STRM_NONE
- * is no refusal: the call was done, and there is nothing to give. A call that answers anything but STRM_OK or STRM_NONE has changed
- * nothing: an open handle, its pool, all names, and what the pointers lead to are as they were, and a handle that was not open is not
- * open. With STRM_NONE what the pointers lead to is as it was, too.
+ * STRM_NONE is no failure: the call was done, and there is nothing to return. Any code but STRM_OK
+ * and STRM_NONE means that nothing changed: not the pool, no name, and nothing that a pointer leads
+ * to. With STRM_NONE, too, nothing is stored through pointers.
+ *
+ * Calls take constant time, unless they go along a message, to a place, or over messages of a
+ * queue. Then time grows with the blocks, messages or bytes that they pass. Only strm_open
+ * allocates.
  *
  *
  * Names
  *
- * A name has the id of its pool, the number of the message's first block (its head), and a stamp. It is valid from the call that
- * gives it until its message is handed over: by strm_freemsg, strm_freeb, strm_rmvb, strm_putq, strm_putbq and strm_insq, as the
- * second message of strm_linkb, or when the pool is closed. All other calls leave all names valid. A call that gives a message
- * gives it a name that was never given before by this pool, so one that is no longer valid stays so: who frees twice, links
- * twice, or goes on with a message that is on a queue is answered STRM_INVALID, and nothing is done. Any bits may be given as a
- * name. A name may be copied, kept and compared by its three fields; STRM_NO_MSG is the name of no message.
+ * A name has the id of its pool, the number of the message's first block (its head), and a stamp.
+ * It is valid from the call that returns it until the message is handed over, by strm_freemsg,
+ * strm_freeb, strm_rmvb, strm_putq, strm_putbq, strm_insq, as the tail of strm_linkb, or by closing
+ * the pool. All other calls leave it valid.
  *
- * How far that reaches: stamps are counted in 64 bits for each message block, from 1 on, and come round after 2^64 messages that began
- * with it, one of which has the stamp 0 then. Two pools that are open under one id, one opened behind another one too, can't tell
- * their names apart: a name of one may be valid in the other. Pools whose names can meet want different ids. A pool never gives back
- * what is held under a name that the caller has lost, until it is closed.
+ * A pool never returns a name twice. So a caller that frees twice, links twice, or uses a message
+ * that is on a queue gets STRM_INVALID, and nothing is done. Any bits may be passed as a name.
+ * Names may be copied, kept, and compared by their three fields. STRM_NO_MSG is the name of no
+ * message.
+ *
+ * There are two limits to this. Stamps have 64 bits for each message block, and start again after
+ * 2^64 messages that began with it. And pools that are open under the same id, at the same time or
+ * one after the other, can't tell their names apart: give pools whose names can meet different ids.
+ *
+ * A message whose name the caller lost stays held until the pool is closed.
  *
  *
  * What the caller promises
  *
- * Nothing below is checked, and to break it is undefined, as it is for any function of C.
+ * The library does not check what follows. To break it is undefined behaviour.
  *
- *   - A pointer that is not null leads to as many objects as the call says, which nothing else reads or writes meanwhile, and
- *     what a call writes to overlaps nothing else that the call is given.
- *   - One handle is given to one call at a time. Threads that share a pool share a lock, and hold it during each call, those that
- *     only ask among them. No call is made from a signal handler, or on a pool of the parent in a forked child of a process with
- *     threads.
- *   - A handle is zeroed, or set to STRM_POOL_INIT, before its first call. An open one may be moved to another place, and is not
- *     used at two: a copy is not told from the handle that it is of. Its fields are not written to.
- *   - malloc, realloc and free are those of one allocator, and each block is aligned for any object that fits in it.
+ *   - A pointer that is not null leads to as many objects as the call says. Nothing else uses them
+ *     during the call, and what a call writes overlaps nothing else that it is given.
+ *   - A handle is passed to one call at a time. Threads that share a pool hold a lock of theirs
+ *     during each call, also one that only looks. No call is made from a signal handler, or in a
+ *     forked child of a process with threads on a pool of the parent.
+ *   - A handle is zeroed, or set to STRM_POOL_INIT, before its first call. An open handle may be
+ *     moved, but not used at two places: the library can't tell a copy from the handle. The caller
+ *     does not write to its fields.
+ *   - malloc, realloc and free are of one allocator, and align each block for any object that fits.
  *
- * How far a handle is told: its second word is STRM_POOL_OPEN where it is open. So a zeroed handle, STRM_POOL_INIT, a closed one,
- * and memory with anything else in that word are answered STRM_NOT_OPEN. Memory that was never set and happens to have that word is
- * taken for open, and that is undefined. That is why a handle is zeroed or set first.
+ * The library takes a handle for open if its second word is STRM_POOL_OPEN. Memory that was never
+ * set may have that word by chance, and that is undefined behaviour. Zeroed handles,
+ * STRM_POOL_INIT, closed handles and memory with any other word return STRM_NOT_OPEN.
  *
  *
  * As in STREAMS, and not
  *
- * A call named strm_NAME is the routine NAME of the UNIX System V Release 4 Programmer's Guide: STREAMS where that has one, with
- * these differences in all of them: names for pointers, numbers counted from 0 for queues and places, codes for 0, -1 and null
- * pointers. What else differs stands with the call. No call waits, calls back, or runs a service procedure.
+ * A call strm_NAME is the routine NAME of the UNIX System V Release 4 Programmer's Guide: STREAMS,
+ * if that has one. In all of them names replace pointers, queues and places are numbers from 0 on,
+ * and codes replace 0, -1 and null pointers. The text on each call ends with what else differs;
+ * "own" marks rules of this library. No call waits, calls back, or runs a service procedure.
  */
 #ifndef STRM_H
 #define STRM_H
@@ -75,10 +89,10 @@
 extern "C" {
 #endif
 
-/* The version of this header. strm_version tells that of the library. */
+/* The version of this header. strm_version returns that of the library. */
 #define STRM_VERSION "0.1.0"
 
-/* What calls answer. */
+/* What calls return. */
 enum {
 	STRM_OK = 0,			/* done */
 
@@ -99,7 +113,7 @@ enum {
 	STRM_NOT_PENDING = 14,		/* no wish has this id */
 	STRM_BAD_MARKS = 20,		/* the low water mark is not below the high one */
 
-	/* answers of this header */
+	/* codes of this header */
 	STRM_NONE = -1,			/* done, and there is nothing to give */
 	STRM_INVALID = -2,		/* a name is not valid */
 	STRM_NOT_OPEN = -3,		/* the handle is not open */
@@ -124,28 +138,28 @@ enum {
 #define STRM_MOST_CLASSES 8		/* size classes */
 #define STRM_MOST_DATA_BLOCKS 16383	/* data blocks of all classes */
 #define STRM_MOST_DATA_BYTES 4096	/* bytes of a data block */
-#define STRM_MOST_NAMES 255		/* message blocks that name one data block */
+#define STRM_MOST_NAMES 255		/* message blocks that refer to one data block */
 #define STRM_MOST_QUEUES 16		/* queues */
 #define STRM_BANDS 256			/* bands of a queue, from 0 on */
-#define STRM_MOST_WISHES 64		/* wishes that are recorded at one time */
+#define STRM_MOST_WISHES 64		/* wishes at one time */
 
-/* Types of data blocks, with the names that they have in STREAMS. A message has the type of its first block. */
+/* Types of data blocks, named as in STREAMS. A message has the type of its first block. */
 enum {
 	/* ordinary */
 	STRM_M_DATA, STRM_M_PROTO, STRM_M_BREAK, STRM_M_PASSFP, STRM_M_SIG, STRM_M_DELAY, STRM_M_CTL, STRM_M_IOCTL, STRM_M_SETOPTS,
-	/* high priority, which goes before all bands */
+	/* high priority, ahead of all bands */
 	STRM_M_IOCACK, STRM_M_IOCNAK, STRM_M_PCPROTO, STRM_M_PCSIG, STRM_M_READ, STRM_M_FLUSH, STRM_M_STOP, STRM_M_START,
 	STRM_M_HANGUP, STRM_M_ERROR, STRM_M_COPYIN, STRM_M_COPYOUT, STRM_M_IOCDATA
 };
-#define STRM_TYPES 22			/* how many types there are */
+#define STRM_TYPES 22			/* the number of types */
 
-/* What a flush takes. */
+/* What a flush frees. */
 enum {
 	STRM_FLUSHALL,			/* all messages */
 	STRM_FLUSHDATA			/* those of type M_DATA, M_PROTO, M_PCPROTO or M_DELAY */
 };
 
-/* A pool's handle, in the caller's memory. The fields are the library's own. */
+/* A pool's handle, in the caller's memory. Its fields belong to the library. */
 struct strm_pool {
 	void *at;
 	size_t state;
@@ -157,74 +171,74 @@ struct strm_pool {
 struct strm_msg {
 	uint32_t pool;			/* the id of its pool */
 	uint32_t head;			/* the number of its first block */
-	uint64_t stamp;			/* how often a message began with that block, this one among them */
+	uint64_t stamp;			/* how many messages began with that block, this one included */
 };
 #define STRM_NO_MSG { 0, 0, 0 }		/* the name of no message, as an initialiser */
 
 /* A size class of a configuration. */
 struct strm_class_spec {
-	uint32_t size;			/* bytes of a data block, 1 to STRM_MOST_DATA_BYTES, more than in the class before */
-	uint32_t count;			/* data blocks, 1 or more, STRM_MOST_DATA_BLOCKS at most in all classes */
+	uint32_t size;			/* bytes of a data block, 1 to STRM_MOST_DATA_BYTES, rising by class */
+	uint32_t count;			/* data blocks, 1 or more; STRM_MOST_DATA_BLOCKS at most in all classes */
 };
 
 /* A queue of a configuration. */
 struct strm_queue_spec {
-	uint32_t hiwat;			/* the high water mark that each band has at first, in bytes */
-	uint32_t lowat;			/* the low one, in bytes, below the high one */
-	uint32_t service;		/* whether it has a service procedure: 0 for none */
-	uint32_t next;			/* the next queue, of a greater number, which no other queue names; or STRM_NO_QUEUE */
+	uint32_t hiwat;			/* the high water mark of each band at first, in bytes */
+	uint32_t lowat;			/* the low water mark, in bytes, below hiwat */
+	uint32_t service;		/* 0 if it has no service procedure, else any other number */
+	uint32_t next;			/* the next queue, of a greater number, next of no other; or STRM_NO_QUEUE */
 };
 #define STRM_NO_QUEUE 0xFFFFFFFFu
 
-/* What a pool is made with. */
+/* What strm_open opens. */
 struct strm_config {
-	uint32_t id;			/* the pool's id, free to choose */
+	uint32_t id;			/* any id for the pool */
 	uint32_t mblks;			/* message blocks, 1 to STRM_MOST_MBLKS */
 	const struct strm_class_spec *classes;	/* the size classes, by rising size */
-	size_t class_count;		/* how many, 1 to STRM_MOST_CLASSES */
+	size_t class_count;		/* their number, 1 to STRM_MOST_CLASSES */
 	const struct strm_queue_spec *queues;	/* the queues, numbered from 0 */
-	size_t queue_count;		/* how many, 1 to STRM_MOST_QUEUES */
-	uint32_t bufcalls;		/* how many wishes may be recorded at one time, STRM_MOST_WISHES at most */
+	size_t queue_count;		/* their number, 1 to STRM_MOST_QUEUES */
+	uint32_t bufcalls;		/* wishes at one time, 0 to STRM_MOST_WISHES */
 	uint32_t first_id;		/* the id of the first wish, above 0 */
 };
 
-/* Where the message blocks are. */
+/* The numbers of message blocks. */
 struct strm_census {
 	uint32_t free;
 	uint32_t queued;		/* in messages on queues */
-	uint32_t held;			/* in messages that are held */
+	uint32_t held;			/* in messages that the caller holds */
 };
 
-/* What is free of a size class. */
+/* A size class. */
 struct strm_class_info {
 	uint32_t size;			/* bytes of each data block */
-	uint32_t free;			/* data blocks that nothing names */
+	uint32_t free;			/* data blocks that no message block refers to */
 	uint32_t total;			/* all data blocks */
 };
 
-/* What there is to tell of a block of a message. */
+/* A block of a message. */
 struct strm_block_info {
-	uint32_t type;			/* the type of its data block, as STRM_M_DATA */
+	uint32_t type;			/* the type of its data block, STRM_M_DATA to STRM_M_IOCDATA */
 	uint32_t length;		/* bytes between its read place and its write place */
 	uint32_t band;			/* 0 to 255 */
-	uint32_t room;			/* bytes behind the write place */
-	uint32_t names;			/* message blocks that name its data block, 1 to STRM_MOST_NAMES */
+	uint32_t room;			/* bytes after the write place */
+	uint32_t names;			/* message blocks that refer to its data block, 1 to STRM_MOST_NAMES */
 };
 
-/* What there is to tell of a queue. */
+/* A queue. */
 struct strm_queue_info {
 	uint32_t msgs;			/* messages on it */
-	uint32_t bytes;			/* bytes that these have */
-	uint32_t read;			/* 1 where somebody wants to read: it was empty when it was last read, or never was read */
-	uint32_t noenable;		/* 1 where enabling is switched off */
-	uint32_t enabled;		/* 1 where it is on the run list */
+	uint32_t bytes;			/* bytes of these messages */
+	uint32_t read;			/* the want-to-read mark: 1 if the last strm_getq found none, or at first */
+	uint32_t noenable;		/* 1 if enabling is off */
+	uint32_t enabled;		/* 1 if it is on the run list */
 };
 
-/* What there is to tell of a band of a queue. */
+/* A band of a queue. */
 struct strm_band_info {
 	uint32_t bytes;			/* bytes of its messages; those of high priority count with band 0 */
-	uint32_t full;			/* 1 where it has as many bytes as its high water mark, or more */
-	uint32_t wanted;		/* 1 where somebody found it full, and it has had more than its low water mark since */
+	uint32_t full;			/* 1 if bytes is at the high water mark or above */
+	uint32_t wanted;		/* 1 if strm_bcanput found it full, and it has not settled since */
 };
 
 /* The water marks of a band, in bytes. */
@@ -242,190 +256,216 @@ struct strm_wish {
 /* ---- opening and closing: strm_open(3) */
 
 /*
- * Opens a pool: all blocks are free, and no queue has a message. All memory is taken here, 68 MB for the largest pool, and no later
- * call takes any. What the configuration leads to is copied. More classes or queues than there may be are STRM_BAD_ARGUMENT; for no
- * classes, or no queues, the pointer may be null.
- * Refused as STRM_IS_OPEN, STRM_BAD_ARGUMENT, the first fault in the order of the codes STRM_BAD_MBLKS to STRM_BAD_FIRST_ID, or
- * STRM_NO_MEMORY; a null handle as STRM_NOT_OPEN, first. A handle that was open is as it was then, and any other is not open.
+ * Opens a pool, with all blocks free and all queues empty. It allocates all memory, 68 MB for the
+ * largest pool, and copies the configuration. A pointer to no classes, or to no queues, may be
+ * null; more than the limit are STRM_BAD_ARGUMENT.
+ * Refused as STRM_NOT_OPEN for a null handle, STRM_IS_OPEN, STRM_BAD_ARGUMENT, the first fault from
+ * STRM_BAD_MBLKS to STRM_BAD_FIRST_ID, or STRM_NO_MEMORY, in this order. A handle that was open
+ * stays as it was, and any other is not open.
  */
 int strm_open(struct strm_pool *pool, const struct strm_config *config);
 
 /*
- * Closes a pool, with all messages, and gives its memory back. The handle may be opened again. A name of the pool may be
- * valid in a pool that is opened with its id later.
+ * Closes a pool, with all messages, and frees its memory. The handle may be opened again.
  * Refused as STRM_NOT_OPEN.
  */
 int strm_close(struct strm_pool *pool);
 
-/* Whether the handle is open: 1, or 0, for a null one too. */
+/* Returns 1 if the handle is open, else 0, also for a null one. */
 int strm_is_open(const struct strm_pool *pool);
 
 /* ---- messages, made and freed: strm_allocb(3) */
 
 /*
- * Takes a message block and a data block of size bytes or more, the first free one of the smallest class that fits and has one, for
- * a new message: it has no bytes, type STRM_M_DATA and band 0.
+ * Allocates a message of one message block over a data block of size bytes or more. The data block
+ * is the first free one of the smallest class that fits and has one. The message has no bytes, type
+ * STRM_M_DATA and band 0.
  * Refused as STRM_TOO_LARGE, STRM_NO_MBLK, STRM_NO_DATA.
- * STREAMS: without the priority; own: size classes, and that the code says what is wanting.
+ * STREAMS: without the priority; own: size classes, and a code for each refusal.
  */
 int strm_allocb(struct strm_pool *pool, uint32_t size, struct strm_msg *msg);
 
 /*
- * Whether strm_allocb of this size would give a message now: *yes is 1 or 0.
- * STREAMS: own: exactly then.
+ * Sets *yes to 1 if strm_allocb of this size would succeed now, else to 0.
+ * STREAMS: the same; own: the answer is exact.
  */
 int strm_testb(struct strm_pool *pool, uint32_t size, uint32_t *yes);
 
 /*
- * Duplicates the first block of a message: the new message has one block, which names the same data block, with the same places and
- * band. While several message blocks name a data block, strm_write and strm_settype are refused.
+ * Duplicates the first block of a message: the new message has one block, which refers to the same
+ * data block, with the same places and band. While several message blocks refer to a data block,
+ * strm_write and strm_settype are refused.
  * Refused as STRM_NO_MBLK, STRM_REF_MAX.
- * STREAMS: the same; own: STRM_MOST_NAMES names at most.
+ * STREAMS: the same; own: STRM_MOST_NAMES as the limit.
  */
 int strm_dupb(struct strm_pool *pool, struct strm_msg msg, struct strm_msg *copy);
 
-/* Duplicates all blocks of a message, as strm_dupb does one: all of them, or none. Refused in the same way. STREAMS: the same. */
+/*
+ * Duplicates all blocks of a message as strm_dupb does, or none.
+ * Refused as by strm_dupb.
+ * STREAMS: the same.
+ */
 int strm_dupmsg(struct strm_pool *pool, struct strm_msg msg, struct strm_msg *copy);
 
 /*
- * Copies the first block of a message: the new block names a data block of its own, which is taken as by strm_allocb for the
- * capacity of the other one, and has its type, and its bytes at the same places. The band is the same.
+ * Copies the first block of a message. The new block has a data block of its own, allocated as by
+ * strm_allocb for the capacity of the old one. Type, band, and bytes with their places are the
+ * same.
  * Refused as STRM_NO_MBLK, STRM_NO_DATA.
  * STREAMS: the same; own: which data block is taken.
  */
 int strm_copyb(struct strm_pool *pool, struct strm_msg msg, struct strm_msg *copy);
 
-/* Copies all blocks of a message, as strm_copyb does one: all of them, or none. Refused in the same way. STREAMS: the same. */
+/*
+ * Copies all blocks of a message as strm_copyb does, or none.
+ * Refused as by strm_copyb.
+ * STREAMS: the same.
+ */
 int strm_copymsg(struct strm_pool *pool, struct strm_msg msg, struct strm_msg *copy);
 
 /*
- * Frees the first block of a message, and its data block where nothing else names that. msg is not valid any more; the blocks
- * behind are a message, *rest. STRM_NONE where there are none.
+ * Frees the first block of a message, and its data block if no other block refers to that. The
+ * blocks after it become the message *rest; if there are none, returns STRM_NONE. msg is no longer
+ * valid.
  * STREAMS: b_cont need not be saved before.
  */
 int strm_freeb(struct strm_pool *pool, struct strm_msg msg, struct strm_msg *rest);
 
-/* Frees a message, first block to last, each with its data block where nothing else names that. STREAMS: the same. */
+/*
+ * Frees all blocks of a message, first to last, as strm_freeb does. msg is no longer valid.
+ * STREAMS: the same.
+ */
 int strm_freemsg(struct strm_pool *pool, struct strm_msg msg);
 
 /* ---- bytes and fields of a message: strm_write(3) */
 
 /*
- * Copies length bytes behind the write place of block place of a message, counted from 0, and raises the write place.
- * Refused as STRM_NO_SUCH_BLOCK, STRM_SHARED, STRM_NO_ROOM; the first two for a length of 0 too.
+ * Appends length bytes at the write place of block place, counted from 0, and raises the write
+ * place.
+ * Refused as STRM_NO_SUCH_BLOCK, STRM_SHARED, STRM_NO_ROOM; the first two also for a length of 0.
  * STREAMS: writing through b_wptr.
  */
 int strm_write(struct strm_pool *pool, struct strm_msg msg, uint32_t place, const void *bytes, size_t length);
 
 /*
- * Copies the bytes of a message from byte at on, counted from 0 over all its blocks: as many as there are, and at most length.
- * *count is how many; bytes of the buffer behind them are as they were.
+ * Copies bytes of a message from byte at on, counted from 0 over all blocks, into a buffer of
+ * length bytes. *count is how many were copied: as many as there are, length at most. The rest of
+ * the buffer is unchanged.
  * STREAMS: reading through b_rptr, block by block.
  */
 int strm_read(struct strm_pool *pool, struct strm_msg msg, uint32_t at, void *into, size_t length, size_t *count);
 
 /*
- * Gives the data block of block place, counted from 0, another type, STRM_M_DATA to STRM_M_IOCDATA.
- * Refused as STRM_NO_SUCH_BLOCK, STRM_SHARED, also where the type stands already.
+ * Sets the type of the data block of block place, counted from 0, to STRM_M_DATA to STRM_M_IOCDATA.
+ * Refused as STRM_NO_SUCH_BLOCK, STRM_SHARED, even if the type is the same.
  * STREAMS: db_type.
  */
 int strm_settype(struct strm_pool *pool, struct strm_msg msg, uint32_t place, uint32_t type);
 
-/* Gives the first block of a message another band, 0 to 255. STREAMS: b_band. */
+/* Sets the band of the first block of a message, 0 to 255. STREAMS: b_band. */
 int strm_setband(struct strm_pool *pool, struct strm_msg msg, uint32_t band);
 
 /* Counts the bytes of a message. Own. */
 int strm_size(struct strm_pool *pool, struct strm_msg msg, uint32_t *bytes);
 
-/* Counts the bytes of its blocks of type STRM_M_DATA. STREAMS: the same. */
+/* Counts the bytes in blocks of type STRM_M_DATA. STREAMS: the same. */
 int strm_msgdsize(struct strm_pool *pool, struct strm_msg msg, uint32_t *bytes);
 
 /*
- * Tells of block place of a message, counted from 0.
+ * Returns the fields of block place of a message, counted from 0.
  * Refused as STRM_NO_SUCH_BLOCK.
  * STREAMS: the fields of msgb and datab.
  */
 int strm_block(struct strm_pool *pool, struct strm_msg msg, uint32_t place, struct strm_block_info *block);
 
-/* Whether the pool has a message of this name: *yes is 1 or 0. Never STRM_INVALID. Own. */
+/* Sets *yes to 1 if the name is valid, else to 0. It never returns STRM_INVALID. Own. */
 int strm_has(struct strm_pool *pool, struct strm_msg msg, uint32_t *yes);
 
 /* ---- messages joined, parted and trimmed: strm_linkb(3) */
 
 /*
- * Puts a message behind another. msg has the blocks of both, and tail is not valid any more. STRM_INVALID where both names are
- * one.
+ * Appends the blocks of tail to msg. tail is no longer valid. If both are the same name, returns
+ * STRM_INVALID.
  * STREAMS: the same.
  */
 int strm_linkb(struct strm_pool *pool, struct strm_msg msg, struct strm_msg tail);
 
 /*
- * Leaves only the first block in a message. The blocks behind are a message, *rest. STRM_NONE where there are none.
+ * Leaves only the first block in a message. The blocks after it become the message *rest; if there
+ * are none, returns STRM_NONE.
  * STREAMS: the same.
  */
 int strm_unlinkb(struct strm_pool *pool, struct strm_msg msg, struct strm_msg *rest);
 
 /*
- * Takes block place out of a message, counted from 0. msg is not valid any more; the block is a message, *block, and the other
- * blocks are one, *rest, which is STRM_NO_MSG where there are none.
+ * Takes block place, counted from 0, out of a message. The block becomes the message *block, and
+ * the others become *rest, or STRM_NO_MSG if there are none. msg is no longer valid.
  * Refused as STRM_NO_SUCH_BLOCK.
  * STREAMS: own: by place, and both parts are kept.
  */
 int strm_rmvb(struct strm_pool *pool, struct strm_msg msg, uint32_t place, struct strm_msg *block, struct strm_msg *rest);
 
 /*
- * Takes count bytes off the head of a message, over its leading blocks of the first one's type; or, where count is below 0, -count
- * bytes off its tail, over its trailing blocks of the last one's type. A block that becomes empty stays.
- * Refused as STRM_SHORT where these blocks have fewer bytes.
- * STREAMS: the same; own: that empty blocks stay.
+ * Trims count bytes from the head of a message, over its leading blocks of the first block's type.
+ * If count is negative, trims -count bytes from its tail, over its trailing blocks of the last
+ * block's type.
+ * Refused as STRM_SHORT if these blocks have fewer bytes.
+ * STREAMS: the same; own: which blocks are trimmed at the tail, and blocks that become empty stay.
  */
 int strm_adjmsg(struct strm_pool *pool, struct strm_msg msg, int32_t count);
 
 /*
- * Brings the first count bytes of a message into its first block, for -1 all of its leading blocks of the first one's type. Where
- * the first block has them already nothing is done; else it names a new data block, taken as by strm_allocb, and blocks behind it
- * whose bytes are all taken are freed.
- * Refused as STRM_SHORT where count is below -1 or these blocks have fewer bytes, STRM_TOO_LARGE, STRM_NO_DATA.
- * STREAMS: the same.
+ * Gathers the first count bytes of a message in its first block, from its leading blocks of the
+ * first one's type; -1 means all of these. If the first block has them already, nothing is done.
+ * Otherwise it gets a new data block, allocated as by strm_allocb, and blocks that gave all their
+ * bytes are freed.
+ * Refused as STRM_SHORT if count is below -1 or these blocks have fewer bytes, STRM_TOO_LARGE,
+ * STRM_NO_DATA.
+ * STREAMS: the same; own: bytes are not aligned, so a first block that has them keeps its data
+ * block.
  */
 int strm_pullupmsg(struct strm_pool *pool, struct strm_msg msg, int32_t count);
 
 /* ---- queues: strm_putq(3) */
 
 /*
- * Puts a message on a queue, behind those of its rank or a greater one. The rank is the band of the first block, or above all bands
- * for high priority, whose first block gets band 0. msg is not valid any more.
- * Enables the queue for high priority; else, unless enabling is switched off, for a band above 0 or where somebody wants to read.
+ * Puts a message on a queue, after those of its rank or a greater one. msg is no longer valid. The
+ * rank is the band of the first block; high priority ranks above all bands, and its first block
+ * gets band 0. A high priority message enables the queue. If enabling is on, a want-to-read mark or
+ * a band above 0 does too.
  * STREAMS: the same.
  */
 int strm_putq(struct strm_pool *pool, uint32_t queue, struct strm_msg msg);
 
 /*
- * Puts a message back on a queue, before those of its rank or a smaller one, and enables as strm_putq does, but for the band.
- * msg is not valid any more.
- * STREAMS: the same.
+ * Puts a message back on a queue, before those of its rank or a smaller one. It enables as
+ * strm_putq does, but not for a band above 0. msg is no longer valid.
+ * STREAMS: the same; own: high priority enables even if enabling is off.
  */
 int strm_putbq(struct strm_pool *pool, uint32_t queue, struct strm_msg msg);
 
 /*
- * Puts a message on a queue before the one at a place, counted from 0, or last where place is the number of messages. Enables the
- * queue where enabling is not switched off and somebody wants to read. The first block of high priority gets band 0. msg is not
- * valid any more.
+ * Puts a message on a queue before the one at a place, counted from 0, or last if place is the
+ * number of messages. msg is no longer valid. If enabling is on, a want-to-read mark enables the
+ * queue. High priority gets band 0.
  * Refused as STRM_NO_SUCH_PLACE, STRM_BAD_ORDER.
- * STREAMS: own: a place for the message that it goes before.
+ * STREAMS: own: by place, and high priority alone does not enable.
  */
 int strm_insq(struct strm_pool *pool, uint32_t queue, uint32_t place, struct strm_msg msg);
 
 /*
- * Takes the first message off a queue, which settles: each wanted band with at most its low water mark is wanted no more, and where
- * there was one, the nearest queue behind that has a service procedure is enabled (back-enabling). Nobody wants to read any more.
- * STRM_NONE where the queue is empty: then somebody wants to read from it.
- * STREAMS: the same.
+ * Takes the first message off a queue, clears the want-to-read mark (QWANTR), and settles the
+ * queue: each band at its low water mark or below loses its wanted mark. If one did, the nearest
+ * queue that leads here and has a service procedure is enabled (back-enabling). If the queue is
+ * empty, sets the want-to-read mark and returns STRM_NONE.
+ * STREAMS: the same; own: a new queue has the want-to-read mark, and a band settles at its low
+ * water mark, not only below.
  */
 int strm_getq(struct strm_pool *pool, uint32_t queue, struct strm_msg *msg);
 
 /*
- * Takes the message at a place off a queue, counted from 0; the queue settles as with strm_getq.
+ * Takes the message at a place, counted from 0, off a queue, and settles the queue as strm_getq
+ * does.
  * Refused as STRM_NO_SUCH_PLACE.
  * STREAMS: own: by place.
  */
@@ -435,99 +475,130 @@ int strm_rmvq(struct strm_pool *pool, uint32_t queue, uint32_t place, struct str
 int strm_qsize(struct strm_pool *pool, uint32_t queue, uint32_t *msgs);
 
 /*
- * Frees the messages of a queue, front to back: those that flush says, STRM_FLUSHALL or STRM_FLUSHDATA. The queue settles as with
- * strm_getq.
- * STREAMS: the same.
+ * Frees messages of a queue, front to back: STRM_FLUSHALL or STRM_FLUSHDATA says which. Then it
+ * settles the queue as strm_getq does.
+ * STREAMS: the same; own: messages that stay keep their places, and the queue itself is not
+ * enabled. It settles as by strm_getq.
  */
 int strm_flushq(struct strm_pool *pool, uint32_t queue, uint32_t flush);
 
-/* So with the messages of one band, 0 to 255, of which those of high priority are in band 0. STREAMS: the same. */
+/*
+ * Frees such messages of one band, 0 to 255, as strm_flushq does. High priority is in band 0.
+ * STREAMS: the same; own: as of strm_flushq, and high priority in band 0.
+ */
 int strm_flushband(struct strm_pool *pool, uint32_t queue, uint32_t band, uint32_t flush);
 
 /* ---- flow control and service: strm_bcanput(3) */
 
 /*
- * Whether a message of a band, 0 to 255, may be put: *yes is 1 or 0. Asked is the first queue with a service procedure from this one
- * on, or the last one there. Where its band is full, the answer is 0, and the band is wanted.
+ * Asks whether a message of a band, 0 to 255, may be sent: *yes is 1 or 0. The first queue from
+ * this one on with a service procedure decides, or the last one if none has any. If its band is
+ * full, *yes is 0 and the band is marked wanted.
  * STREAMS: the same; canput is band 0.
  */
 int strm_bcanput(struct strm_pool *pool, uint32_t queue, uint32_t band, uint32_t *yes);
 
 /*
- * Gives a band, 0 to 255, of a queue other water marks, in bytes. The queue settles by them as with strm_getq.
- * Refused as STRM_BAD_MARKS where lowat is not below hiwat.
- * STREAMS: QHIWAT and QLOWAT; own: both at once.
+ * Sets the water marks of a band, 0 to 255, in bytes, and settles the queue by them as strm_getq
+ * does.
+ * Refused as STRM_BAD_MARKS if lowat is not below hiwat.
+ * STREAMS: QHIWAT and QLOWAT; own: both at once, and the queue settles.
  */
 int strm_strqset(struct strm_pool *pool, uint32_t queue, uint32_t band, uint32_t hiwat, uint32_t lowat);
 
-/* Tells the water marks of a band, 0 to 255. STREAMS: QHIWAT and QLOWAT; own: both at once. */
+/* Returns the water marks of a band, 0 to 255. STREAMS: QHIWAT and QLOWAT; own: both at once. */
 int strm_strqget(struct strm_pool *pool, uint32_t queue, uint32_t band, struct strm_marks *marks);
 
 /*
- * Enables a queue: it waits on the run list, behind those that do, unless it does already or has no service procedure.
+ * Enables a queue: appends it to the run list, unless it is there already or has no service
+ * procedure.
  * STREAMS: the same.
  */
 int strm_qenable(struct strm_pool *pool, uint32_t queue);
 
-/* Switches enabling off, for all but high priority that is put or put back, strm_qenable and back-enabling. STREAMS: the same. */
+/*
+ * Switches enabling off. High priority by strm_putq and strm_putbq, strm_qenable and back-enabling
+ * still enable.
+ * STREAMS: the same; own: high priority by strm_putbq.
+ */
 int strm_noenable(struct strm_pool *pool, uint32_t queue);
 
-/* Switches enabling on. Enables nothing by itself. STREAMS: the same. */
+/* Switches enabling on. It enables nothing by itself. STREAMS: the same. */
 int strm_enableok(struct strm_pool *pool, uint32_t queue);
 
-/* Takes the first queue off the run list, to be served. STRM_NONE where none waits. Own: in the place of the scheduler. */
+/* Takes the first queue off the run list. If the list is empty, returns STRM_NONE. Own. */
 int strm_next_service(struct strm_pool *pool, uint32_t *queue);
 
-/* Tells the queue at a place of the run list, counted from 0. STRM_NONE where there are not so many. Own. */
+/*
+ * Returns the queue at a place of the run list, counted from 0, or STRM_NONE if there is none.
+ * Own.
+ */
 int strm_run_at(struct strm_pool *pool, uint32_t place, uint32_t *queue);
 
 /* ---- wishes: strm_bufcall(3) */
 
 /*
- * Records a wish for a message block over a data block of size bytes or more, behind all others. Ids rise by 1 from the first one of
- * the configuration, to 4294967295.
- * Refused as STRM_TOO_LARGE, STRM_FULL, STRM_IDS_SPENT; an id is not spent then.
- * STREAMS: own: no function is called; strm_take_ready asks.
+ * Records a wish for a message block over a data block of size bytes or more, after all others. Ids
+ * rise by 1 from first_id of the configuration to 4294967295. A refused call uses up no id.
+ * Refused as STRM_TOO_LARGE, STRM_FULL, STRM_IDS_SPENT.
+ * STREAMS: own: no function is called back; strm_take_ready asks.
  */
 int strm_bufcall(struct strm_pool *pool, uint32_t size, uint32_t *id);
 
-/* Takes a wish back. Refused as STRM_NOT_PENDING where no wish has this id. STREAMS: the same; own: that it is refused. */
+/*
+ * Withdraws a wish.
+ * Refused as STRM_NOT_PENDING if no wish has this id.
+ * STREAMS: the same; own: the refusal.
+ */
 int strm_unbufcall(struct strm_pool *pool, uint32_t id);
 
 /*
- * Takes the wish that was recorded first of those for which strm_allocb would give a message now. Nothing is kept for it. STRM_NONE
- * where there is none.
+ * Removes the oldest wish for which strm_allocb would succeed now, and returns it. It reserves no
+ * block. If there is no such wish, returns STRM_NONE.
  * Own.
  */
 int strm_take_ready(struct strm_pool *pool, struct strm_wish *wish);
 
-/* Tells the wish at a place, counted from 0 in the order of recording. STRM_NONE where there are not so many. Own. */
+/*
+ * Returns the wish at a place, counted from 0, the oldest first, or STRM_NONE if there is none.
+ * Own.
+ */
 int strm_wish_at(struct strm_pool *pool, uint32_t place, struct strm_wish *wish);
 
 /* ---- what there is: strm_census(3) */
 
-/* Counts the message blocks that are free, in messages on queues, and in messages that are held. Own. */
+/* Counts the message blocks: free, in messages on queues, and in held messages. Own. */
 int strm_census(struct strm_pool *pool, struct strm_census *census);
 
-/* Tells of a size class, counted from 0, the smallest first. STRM_NONE where there is no such class. Own. */
+/*
+ * Returns a size class, counted from 0, the smallest first, or STRM_NONE if there is no such class.
+ * Own.
+ */
 int strm_class_info(struct strm_pool *pool, uint32_t place, struct strm_class_info *info);
 
-/* Tells of a queue. STREAMS: q_count, and QWANTR, QNOENB and QENAB of q_flag; own: the bytes of all bands. */
+/*
+ * Returns the state of a queue.
+ * STREAMS: q_count, and QWANTR, QNOENB and QENAB of q_flag; own: the bytes of all bands.
+ */
 int strm_queue_info(struct strm_pool *pool, uint32_t queue, struct strm_queue_info *info);
 
-/* Tells of a band of a queue, 0 to 255. STREAMS: qb_count, and QB_FULL and QB_WANTW of qb_flag. */
+/*
+ * Returns the state of a band of a queue, 0 to 255.
+ * STREAMS: qb_count, and QB_FULL and QB_WANTW of qb_flag.
+ */
 int strm_band_info(struct strm_pool *pool, uint32_t queue, uint32_t band, struct strm_band_info *info);
 
 /* ---- texts: strm_text(3) */
 
 /*
- * Copies the text of a code, as "the size is above the largest class", or of any other number "no such code". As much as fits is
- * copied, and a 0 behind it, where length is not 0. Returns the length of the whole text, without the 0; 0, and nothing is written,
- * where text is null and length is not 0, or length is above half of the greatest size_t.
+ * Copies the text of a code, as "the size is above the largest class", or "no such code" for
+ * another number. If length is not 0, copies as much as fits, with a 0 at the end. Returns the
+ * length of the whole text without the 0. Returns 0, and writes nothing, if text is null and length
+ * is not 0, or length is above SIZE_MAX / 2.
  */
 size_t strm_text(int code, char *text, size_t length);
 
-/* Copies the name of a code in the same way, as "STRM_TOO_LARGE", or of any other number "". */
+/* Copies the name of a code in the same way, as "STRM_TOO_LARGE", or "" for another number. */
 size_t strm_name(int code, char *text, size_t length);
 
 /* Copies the version of the library in the same way. */

@@ -1,10 +1,10 @@
 """What a page shows of a run: the pool as it opens, and what each line of the printed order changes.
 
-The state of the pool is a table of lists by name, so that a change of any is told alike: the name, a place in the list, how many
-items go there, and which come.
+The state of the pool is a table of lists by name, so every change has one form: the name, a place in the list, how many items
+go there, and which come.
 
     messages Q      the messages of queue Q, front to back
-    flags Q         of queue Q: somebody wants to read, enabling is off, the wanted bands, the bands with water marks of their own
+    flags Q         of queue Q: the want-to-read mark, whether enabling is off, the wanted bands, the bands that strqset set
     register W R    the blocks of the message in register R of worker W
     data            how many data blocks of each class are free
     run             the queues that wait to be served
@@ -21,7 +21,7 @@ KINDS = ORDINARY + HIGH_PRIORITY
 
 
 def alike(pairs):
-    """How many pairs from the first on are of equals."""
+    """How many pairs at the beginning are equal."""
     return sum(1 for _ in takewhile(lambda pair: pair[0] == pair[1], pairs))
 
 
@@ -51,7 +51,7 @@ class Film(Replay):
         return [self.block(block) for block in message]
 
     def of_the_pool(self):
-        """The parts that are no messages."""
+        """The parts that are not messages."""
         for number, queue in enumerate(self.model.queues):
             own = [(band, *marks) for band, marks in sorted(queue.marks.items())]
             yield f"flags {number}", [int(queue.wants_to_read), int(queue.enabling_is_off), sorted(queue.wanted), own]

@@ -1,6 +1,6 @@
 "use strict";
 
-// What the page shows, as film.py tells it. Frame 0 is the pool as it opens, and frame k that behind the k-th line.
+// What the page shows, from film.py. Frame 0 is the pool as it opens, frame k the pool after the k-th line.
 const run = JSON.parse(document.getElementById("run").textContent);
 const LAST = run.lines.length;
 const byId = (id) => document.getElementById(id);
@@ -8,7 +8,7 @@ const sum = (numbers) => numbers.reduce((before, number) => before + number, 0);
 
 // ---- The pool at a frame -----------------------------------------------------------------------------------------------------
 
-// How many lines apart copies of the parts are kept, so that none is far from a frame.
+// Copies of the parts are kept this many lines apart, so that one is near each frame.
 const APART = 256;
 const kept = [new Map(Object.entries(run.opening))];
 const copied = (parts) => new Map(Array.from(parts, ([name, list]) => [name, [...list]]));
@@ -158,7 +158,7 @@ function chip(text) {
     return {...size, drawn: element("g", {class: "chip"}, element("rect", {...size, rx: 4}), element("text", {x: 4, y: 12}, text))};
 }
 
-// So many of the most, side by side, each of a kind; and strokes at some numbers, the last one over the whole height.
+// A bar of parts side by side, each of a kind, out of a maximum; strokes at some numbers, the last one over the whole height.
 function bar(width, most, shares, strokes = []) {
     const height = 8;
     const at = (number) => (Math.min(number, most) / most) * width;
@@ -177,8 +177,8 @@ function bar(width, most, shares, strokes = []) {
 
 // ---- The picture of a pool -------------------------------------------------------------------------------------------------
 
-// How many blocks are in use at most. Where they are many, all frames have them small; where they are many for each panel, columns
-// are wide.
+// The most blocks that are in use. If there are many, all frames draw them small; if there are many for each panel, columns are
+// wide.
 const PEAK = run.lines.reduce((most, [, , , , [, queued, held]]) => Math.max(most, queued + held), 0);
 const PANELS = 1 + run.queues.length + run.workers;
 const SMALL = PEAK > 40;
@@ -203,7 +203,7 @@ function blockPiece(block, names) {
     const width = Math.max(text.width, SMALL ? 44 : 100);
     const bytes = bar(width, capacity, [[read, "gone"], [length, "used"]]);
     const piece = boxed(stack([text, bytes], 2), count > 1 ? "block shared" : "block", 4);
-    const told = `${kind}, ${length} of ${capacity} bytes, room ${room}, band ${band}, data block ${data} with ${count} names`;
+    const told = `${kind}, ${length} of ${capacity} bytes, room ${room}, band ${band}, data block ${data} with ${count > 1 ? `${count} references` : "one reference"}`;
     piece.drawn.append(element("title", {}, told));
     return piece;
 }
@@ -309,7 +309,7 @@ function draw(frame, pool) {
 
 const SERIES = ["free", "queued", "held"];
 const counts = [[run.mblks, 0, 0], ...run.lines.map((line) => line[4])];
-// How many points a curve has at most; of several frames at one point it shows the least and the most.
+// The most points of a curve; a point for several frames shows the least and the most of them.
 const POINTS = 1000;
 const CHART = {height: 150, left: 44, right: 12, top: 10, bottom: 22};
 

@@ -1,4 +1,4 @@
-"""The page of a run: one file, with style, program and run in it."""
+"""The page of a run: one file, with its style, its program and the run."""
 import html
 import json
 import os
@@ -13,7 +13,7 @@ def source(name):
 
 
 def page(title, told):
-    """The page of what a film tells. In the run, nothing may end the element that it stands in."""
+    """The page of what a film has. The run must not contain the end of its own element."""
     parts = {
         "title": html.escape(title),
         "style": source("page.css"),

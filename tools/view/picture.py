@@ -1,4 +1,4 @@
-"""A picture of one frame of a run, as SVG: what the page's program draws in Chromium, below a line that tells the frame."""
+"""A picture of one frame of a run, as SVG: what the page's program draws in Chromium, below the line of the frame."""
 import html
 import os
 import re
@@ -7,9 +7,9 @@ import tempfile
 from browser import Browser
 from page import page, source
 
-# How wide the page's body is, so that there are three columns, and how much of it is left free at each side.
+# The width of the page's body, which makes three columns; its margin at each side; the height of the line above.
 WIDTH, SIDE, HEAD = 1046, 16, 36
-# Leaves the frame that is asked for in the page, as text, without what only shows where a pointer is.
+# Leaves the drawing of the frame in the page, as text, without tooltips.
 DRAWN = """<script>
 document.body.style.width = "WIDTHpx";
 redraw();
@@ -36,13 +36,13 @@ SVG = """<svg xmlns="http://www.w3.org/2000/svg" width="{width}" height="{height
 
 
 def style():
-    """The page's colours, and what its style says of pictures."""
+    """The page's colours, and its style for pictures."""
     css = source("page.css")
     return "\n".join([*re.findall(r"^(?::root|@media).*?^}", css, re.MULTILINE | re.DOTALL), css.split("\n\n")[1].strip()])
 
 
 def line_of(film, frame):
-    """What a frame is of: the line behind which it is, with its reply."""
+    """The line of a frame, with its reply."""
     if frame == 0:
         return "before the first line"
     worker, number, command, reply, *_ = film.lines[frame - 1]
@@ -50,7 +50,7 @@ def line_of(film, frame):
 
 
 def drawn(program, title, film, frame):
-    """The drawing of a frame, and how high it is."""
+    """The drawing of a frame, and its height."""
     script = DRAWN.replace("WIDTH", str(WIDTH)).replace("FRAME", str(frame))
     with tempfile.TemporaryDirectory() as room:
         path = os.path.join(room, "page.html")

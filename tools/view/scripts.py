@@ -1,4 +1,4 @@
-"""Whether strm serves a script: which lines may stand in one, in which order, and which pool they may ask for."""
+"""Whether strm runs a script: which lines it may have, in which order, and which pools they may describe."""
 import re
 
 from limits import DATA_BLOCK_BYTES, DATA_BLOCKS, MESSAGE_BLOCKS, WISHES
@@ -23,7 +23,7 @@ def either(first, second):
 
 
 NUMBER, OCTET, REGISTER = number(2**32 - 1), number(255), pattern("[a-z]")
-# What a word that stands behind the first one has to be.
+# What each word after the first has to be.
 FITS = {
     **dict.fromkeys(["size", "block", "at", "place", "id", "high", "low"], NUMBER),
     **dict.fromkeys(["band", "marked", "queue"], OCTET),
@@ -36,7 +36,7 @@ FITS = {
     "next": either(one_of("-"), OCTET),
 }
 HEADER = {"pool": "id size", "class": "size size", "queue": "high low service next", "bufcalls": "size id", "worker": ""}
-# What stands behind each first word.
+# The words after each first word.
 FORMS = {word: items.split() for word, items in [*HEADER.items(), *((word, items) for word, (items, _) in WORDS.items())]}
 ORDER = re.compile("pool (class ){1,8}(queue ){1,16}bufcalls (worker (command )*){1,16}")
 
@@ -47,15 +47,15 @@ def is_line(word, *rest):
 
 
 def fault_of(script):
-    """Why strm reads no script here, or none."""
+    """Why strm does not read this script, or None."""
     lines = [(at, line.split(" ")) for at, line in enumerate(script.split("\n"), 1) if line and not line.startswith("#")]
     for at, words in lines:
         if not is_line(*words):
-            return f"line {at}: strm reads no such line"
+            return f"line {at}: strm has no such line"
     if not script.endswith("\n"):
-        return f"line {script.count(chr(10)) + 1}: there is no line end"
+        return f"line {script.count(chr(10)) + 1}: the last line does not end with a line feed"
     if not ORDER.fullmatch("".join(f"{word} " if word in HEADER else "command " for _, (word, *_) in lines)):
-        return "its lines stand in an order that strm does not read"
+        return "its lines are in an order that strm does not read"
     return None
 
 
@@ -65,7 +65,7 @@ def is_bad_next(pool):
     return not behind or len(named) > len(set(named))
 
 
-# The faults of a configuration, in the order in which strm looks for them.
+# The faults of a configuration, in the order in which strm checks them.
 CONFIG_FAULTS = {
     "Mblks": lambda pool: not 1 <= pool.mblks <= MESSAGE_BLOCKS,
     "ClassSize": lambda pool: not all(
@@ -81,5 +81,5 @@ CONFIG_FAULTS = {
 
 
 def config_fault_of(pool):
-    """Why strm opens no such pool, or none."""
+    """Why strm does not open this pool, or None."""
     return next((f"bad config: {name}" for name, is_bad in CONFIG_FAULTS.items() if is_bad(pool)), None)
