@@ -1,6 +1,6 @@
 /*
- * A pool that two threads share under a mutex of their own, held during each call. One sends numbers until its queue is full, and waits
- * for room; the other takes them off, and tells when there is room again, which the pool says by back-enabling queue 0.
+ * Two threads share a pool under a mutex of their own, which each holds during a call. One sends numbers until the queue is full, and
+ * then waits for room. The other takes them off. When the pool back-enables queue 0, it signals that there is room again.
  *
  *     cc -pthread locked.c $(pkg-config --cflags --libs strm) -o locked
  */
@@ -14,7 +14,7 @@
 
 enum { SENDER, WAY };
 
-/* The pool, and what stands under its lock. */
+/* The pool and its lock. */
 struct shared {
 	pthread_mutex_t lock;
 	pthread_cond_t has_room, has_message;
@@ -32,7 +32,7 @@ static void must(int code)
 	exit(EXIT_FAILURE);
 }
 
-/* Sends a number, once there is room for it. The lock is held. */
+/* Waits for room, and sends a number. The caller holds the lock. */
 static void send_number(struct shared *shared, uint32_t number)
 {
 	struct strm_msg msg;
@@ -62,7 +62,7 @@ static void *send_all(void *given)
 	return NULL;
 }
 
-/* Takes a number, once there is one. The lock is held. */
+/* Waits for a number, and takes it. The caller holds the lock. */
 static uint32_t take_number(struct shared *shared)
 {
 	struct strm_msg msg;

@@ -1,6 +1,6 @@
 /*
- * A service procedure with flow control and back-enabling. Messages go from queue 0, whose service procedure hands them on, to queue 1,
- * which is full with 8 bytes. What finds it full puts the message back and stops, and is enabled again once 4 bytes or fewer are
+ * A put procedure and a service procedure, with flow control and back-enabling. Messages go from queue 0 to queue 1, which is full at
+ * 8 bytes. A service procedure that finds it full puts its message back and stops. The pool enables it again once 4 bytes or fewer are
  * left there.
  *
  *     cc service.c $(pkg-config --cflags --libs strm) -o service
@@ -18,7 +18,7 @@ static const struct strm_queue_spec queues[] = {
 	{ 8, 4, 1, STRM_NO_QUEUE }
 };
 
-/* Ends the program where a call is refused that this one makes sure of. */
+/* Ends the program if a call is refused that cannot be refused here. */
 static void must(int code)
 {
 	char text[80];
@@ -30,30 +30,46 @@ static void must(int code)
 	exit(EXIT_FAILURE);
 }
 
-/* Puts a message of 4 bytes on the inner queue. Its name is not valid then, whatever becomes of the message. */
+/* The put procedure of the inner queue: a message of high priority goes on at once, and any other waits for the service procedure. */
+static void put_inner(struct strm_pool *pool, struct strm_msg msg)
+{
+	struct strm_block_info first;
+
+	must(strm_block(pool, msg, 0, &first));
+	if (first.type >= STRM_M_IOCACK)
+		must(strm_putq(pool, OUTER, msg));
+	else
+		must(strm_putq(pool, INNER, msg));
+}
+
+/* Makes a message of 4 bytes, and hands it to the put procedure. Its name is not valid after that. */
 static void post(struct strm_pool *pool, const char *bytes)
 {
 	struct strm_msg msg;
 
 	must(strm_allocb(pool, 4, &msg));
 	must(strm_write(pool, msg, 0, bytes, 4));
-	must(strm_putq(pool, INNER, msg));
+	put_inner(pool, msg);
 }
 
-/*
- * The service procedure of the inner queue: it hands messages on until there are none, or until there is no room for one, which it puts
- * back. A message of high priority goes on in any case.
- */
-static void serve_inner(struct strm_pool *pool)
+/* Whether the outer queue has room for this message. */
+static uint32_t has_room(struct strm_pool *pool, struct strm_msg msg)
 {
 	struct strm_block_info first;
-	struct strm_msg msg;
 	uint32_t room;
 
+	must(strm_block(pool, msg, 0, &first));
+	must(strm_bcanput(pool, OUTER, first.band, &room));
+	return room;
+}
+
+/* The service procedure of the inner queue: it hands messages on until there are none, or until there is no room for one. */
+static void serve_inner(struct strm_pool *pool)
+{
+	struct strm_msg msg;
+
 	while (strm_getq(pool, INNER, &msg) == STRM_OK) {
-		must(strm_block(pool, msg, 0, &first));
-		must(strm_bcanput(pool, OUTER, first.band, &room));
-		if (first.type < STRM_M_IOCACK && !room) {
+		if (!has_room(pool, msg)) {
 			must(strm_putbq(pool, INNER, msg));
 			printf("  no room: one goes back\n");
 			return;
@@ -63,7 +79,7 @@ static void serve_inner(struct strm_pool *pool)
 	}
 }
 
-/* That of the outer queue takes one message, and waits to be asked again. */
+/* The service procedure of the outer queue takes one message, and enables its queue again if there are more. */
 static void serve_outer(struct strm_pool *pool)
 {
 	char bytes[16];
@@ -95,7 +111,7 @@ int main(void)
 	post(&pool, "wolf");
 	post(&pool, "hare");
 	post(&pool, "crow");
-	/* in the place of the scheduler of STREAMS */
+	/* this loop is the scheduler, which STREAMS has in the kernel */
 	while (strm_next_service(&pool, &queue) == STRM_OK) {
 		printf("queue %lu is served\n", (unsigned long)queue);
 		if (queue == INNER)
