@@ -1,8 +1,8 @@
 /* Fails one call that a program makes to the C library, and counts its calls. It is loaded by LD_PRELOAD. It reads its orders from the
  * file that FAULTS names, and leaves its counts there, however the program ends.
  *
- * A growth is a call of malloc or realloc. A program that Rattle builds imports no other function that allocates (`nm -D` lists its
- * imports). It creates threads by pthread_create, reads by read, and writes by write, which has a second name. Only calls from the
+ * A growth is a call of malloc or realloc. A program that Rattle builds imports no other function that allocates, and shim.py refuses one
+ * that does. It creates threads by pthread_create, reads by read, and writes by write, which has a second name. Only calls from the
  * program's own code count, not what the loader and the C library allocate for themselves, such as a thread's stack. */
 #define _GNU_SOURCE
 #include <dlfcn.h>

@@ -6,6 +6,8 @@ import sys
 import tempfile
 from typing import NamedTuple
 
+from imports import Unreadable, imports_of
+
 SOURCE = os.path.join(os.path.dirname(os.path.abspath(__file__)), "shim.c")
 # How long a run may take.
 SECONDS = 20
@@ -15,6 +17,23 @@ KINDS_OF_CALLS = GROWTHS, THREADS, READS, OUTPUTS, ERRORS = range(5)
 CALLS = struct.Struct("2Q")
 MOST = struct.Struct("Q")
 NO_LIMIT = 2**64 - 1
+# Other functions of the C library that take memory, make a thread, read or write. The shim fails none of them, so no program may ask for one.
+OTHERS = {
+    *"aligned_alloc calloc memalign posix_memalign pvalloc reallocarray valloc".split(),
+    *"asprintf brk getdelim getline mmap mmap64 mremap sbrk strdup strndup vasprintf".split(),
+    *"clone fork posix_spawn thrd_create vfork".split(),
+    *"fgetc fgets fread getc getchar pread pread64 preadv readv recv __read".split(),
+    *"fprintf fputc fputs fwrite printf putc putchar puts pwrite pwrite64 pwritev send sendfile sendfile64 writev".split(),
+}
+
+
+def unfit(program):
+    """Why the shim can't fail all that a program asks for, or none."""
+    try:
+        others = sorted(OTHERS.intersection(imports_of(program)))
+    except (OSError, Unreadable) as why:
+        return str(why)
+    return f"it asks the C library for {', '.join(others)}, which the shim does not fail" if others else None
 
 
 class Answer(NamedTuple):
@@ -33,6 +52,9 @@ class Shim:
 
     def __init__(self, program, room):
         self.program = os.path.abspath(program)
+        why = unfit(self.program)
+        if why:
+            sys.exit(f"nothing is tried on {program}: {why}")
         self.room = room
         self.library = os.path.join(room, "shim.so")
         words = ["cc", "-Wall", "-Wextra", "-Werror", "-shared", "-fPIC", "-o", self.library, SOURCE, "-ldl"]

@@ -1,0 +1,46 @@
+/*
+ * Puts messages on a queue, of which the second one has more bytes than a data block may have. It is refused, and leaves nothing behind.
+ *
+ *     cc post.c $(pkg-config --cflags --libs strm) -o post
+ */
+#include <stdio.h>
+#include <stdlib.h>
+#include <strm.h>
+
+static const struct strm_class_spec classes[] = { { 16, 32 }, { 256, 8 } };
+static const struct strm_queue_spec queues[] = { { 64, 16, 1, STRM_NO_QUEUE } };
+
+/* Puts a message with these bytes on queue 0. Where a call is refused, it frees the message, and returns the code. */
+int post(struct strm_pool *pool, const void *bytes, size_t length)
+{
+	struct strm_msg msg;
+	int code = strm_allocb(pool, length, &msg);
+
+	if (code != STRM_OK)
+		return code;
+	code = strm_write(pool, msg, 0, bytes, length);
+	if (code == STRM_OK)
+		code = strm_putq(pool, 0, msg);
+	if (code != STRM_OK)
+		strm_freemsg(pool, msg);
+	return code;
+}
+
+int main(void)
+{
+	static const char bytes[300] = "lion";
+	struct strm_pool pool = STRM_POOL_INIT;
+	struct strm_config config = { 1, 40, NULL, 2, NULL, 1, 0, 1 };
+	struct strm_census census;
+
+	config.classes = classes;
+	config.queues = queues;
+	if (strm_open(&pool, &config) != STRM_OK)
+		return EXIT_FAILURE;
+	printf("4 bytes: code %d\n", post(&pool, bytes, 4));
+	printf("300 bytes: code %d\n", post(&pool, bytes, sizeof bytes));
+	if (strm_census(&pool, &census) != STRM_OK)
+		return EXIT_FAILURE;
+	printf("free %lu queued %lu held %lu\n", (unsigned long)census.free, (unsigned long)census.queued, (unsigned long)census.held);
+	return strm_close(&pool) == STRM_OK ? EXIT_SUCCESS : EXIT_FAILURE;
+}
