@@ -1,9 +1,8 @@
-"""Reads from a program, a file of ELF, which functions it asks other objects for."""
+"""Reads from a program, an ELF file, which functions it imports."""
 import struct
 
-# The beginning of a file of 64 bits whose numbers begin with their lowest byte, and what is read of it: of the file where its sections
-# begin, how large each is and how many there are; of a section its kind, where it begins, its size and the section that belongs to it; of
-# a symbol where its name begins and the section that has it, which is 0 for one of another object.
+# How a file of 64 bits with the lowest byte first begins, and what is read of it: where its section headers begin, the size of one and their
+# number; of a section its kind, offset, size and linked section; of a symbol the offset of its name and its section, 0 for an import.
 MAGIC = b"\x7fELF\x02\x01"
 HEADER = struct.Struct("<40xQ10xHH2x")
 SECTION = struct.Struct("<4xI16xQQI20x")
@@ -12,11 +11,11 @@ DYNAMIC_SYMBOLS = 11
 
 
 class Unreadable(Exception):
-    """Why a program does not say what it asks for."""
+    """Why the imports of a program can't be read."""
 
 
 def imports_of(path):
-    """The names of the functions and variables that a program has from other objects."""
+    """The names of the functions and variables that a program imports."""
     with open(path, "rb") as file:
         octets = file.read()
     if not octets.startswith(MAGIC):
@@ -26,7 +25,7 @@ def imports_of(path):
     except (struct.error, IndexError, ValueError):
         raise Unreadable("its symbols can't be read") from None
     if not names:
-        raise Unreadable("it has no symbols of other objects")
+        raise Unreadable("it imports nothing")
     return names
 
 

@@ -17,7 +17,7 @@ KINDS_OF_CALLS = GROWTHS, THREADS, READS, OUTPUTS, ERRORS = range(5)
 CALLS = struct.Struct("2Q")
 MOST = struct.Struct("Q")
 NO_LIMIT = 2**64 - 1
-# Other functions of the C library that take memory, make a thread, read or write. The shim fails none of them, so no program may ask for one.
+# Other functions of the C library that allocate, create a thread, read or write. The shim fails none of them, so no program may import one.
 OTHERS = {
     *"aligned_alloc calloc memalign posix_memalign pvalloc reallocarray valloc".split(),
     *"asprintf brk getdelim getline mmap mmap64 mremap sbrk strdup strndup vasprintf".split(),
@@ -28,12 +28,12 @@ OTHERS = {
 
 
 def unfit(program):
-    """Why the shim can't fail all that a program asks for, or none."""
+    """Why the shim can't fail each call that a program makes, or None."""
     try:
         others = sorted(OTHERS.intersection(imports_of(program)))
     except (OSError, Unreadable) as why:
         return str(why)
-    return f"it asks the C library for {', '.join(others)}, which the shim does not fail" if others else None
+    return f"it imports {', '.join(others)}, which the shim does not fail" if others else None
 
 
 class Answer(NamedTuple):
@@ -54,7 +54,7 @@ class Shim:
         self.program = os.path.abspath(program)
         why = unfit(self.program)
         if why:
-            sys.exit(f"nothing is tried on {program}: {why}")
+            sys.exit(f"{program} is not tried: {why}")
         self.room = room
         self.library = os.path.join(room, "shim.so")
         words = ["cc", "-Wall", "-Wextra", "-Werror", "-shared", "-fPIC", "-o", self.library, SOURCE, "-ldl"]
