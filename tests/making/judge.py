@@ -2,8 +2,8 @@
 that ends early is judged too, as far as it goes."""
 import copy
 import functools
+import itertools
 import re
-from itertools import zip_longest
 
 from mixed import WORDS
 from model import Model, Pool
@@ -103,7 +103,7 @@ class Replay:
         begin = len(self.order) + 1
         if self.waiting():
             raise Wrong(f"line {begin}: a line was not served, or the report comes too early: {self.served}")
-        for number, (line, wanted) in enumerate(zip_longest(rest, self.model.report()), begin):
+        for number, (line, wanted) in enumerate(itertools.zip_longest(rest, self.model.report()), begin):
             if line != wanted:
                 raise Wrong(f"line {number}: in the report it is {wanted!r}, and not {line!r}")
 
@@ -125,6 +125,11 @@ def judge(script, text):
 
 def is_serial(order):
     return order == sorted(order)
+
+
+def takes_turns(order):
+    """Whether a worker's lines come before and after another's. In the serial order none do, and in no order of whole sections."""
+    return len(list(itertools.groupby(order))) > len(set(order))
 
 
 def judge_beginning(script, text):

@@ -41,6 +41,17 @@ def drawn_script(dice, workers, lines):
     return "".join(f"{line}\n" for line, _ in numbered(model.pool.header(), sections))
 
 
+def slow_script(workers):
+    """A script whose first and last worker take long: each asks 2,000 times for the last block of a message of 4,096, which takes tens of
+    milliseconds. So others get a turn before it ends, in whatever order workers start, and on one processor too."""
+    slow = ["allocb a 1", *["copymsg a b", "linkb a b"] * 12, *["block a 4095"] * 2_000]
+    quick = ["allocb a 1", "freemsg a"] * 10
+    lines = ["pool 1 16383", "class 1 16383", "queue 10 4 s -", "bufcalls 0 1"]
+    for worker in range(workers):
+        lines += ["worker", *(slow if worker in (0, workers - 1) else quick)]
+    return "".join(f"{line}\n" for line in lines)
+
+
 def serve(program, script, *words):
     """How the program ends on a script, which workers serve where no word says otherwise, and what it writes."""
     command = ["timeout", str(SECONDS), program, *words, "--max", str(BYTES)]
