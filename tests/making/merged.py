@@ -2,7 +2,7 @@
 import subprocess
 
 from judge import Wrong, judge
-from mixed import drawn
+from mixed import WORDS, drawn
 from model import Model, Pool
 from served import numbered
 
@@ -28,25 +28,62 @@ def drawn_pool(dice):
     )
 
 
-def drawn_script(dice, workers, lines):
-    """A script of so many lines in the sections of so many workers. Each is drawn as it stands in one merge of them."""
-    model = Model(drawn_pool(dice))
+class LongMessage:
+    """A message that each worker has in register y, so long that to ask for its last block takes some microseconds. Lines that do so make
+    a section last longer than it takes to start a thread, and longer than one thread has a processor for itself. No drawn line names
+    registers x and y."""
+
+    def __init__(self, workers):
+        # As many as there is room for in a pool, as a power of two.
+        self.blocks = 8_192 >> (workers.bit_length() - 1)
+        self.workers = workers
+
+    def pool(self, pool):
+        """A pool that has, beside what this one has, the blocks of these messages."""
+        count = self.workers * self.blocks
+        return pool._replace(mblks=pool.mblks + count, classes=[*pool.classes, (65, count)])
+
+    def made(self):
+        """The lines that make it: it is doubled until it is long."""
+        return ["allocb y 65", *["copymsg y x", "linkb y x"] * (self.blocks.bit_length() - 1)]
+
+    def asked(self):
+        """Lines that ask for its last block. They take as long for short messages as for long ones."""
+        return [f"block y {self.blocks - 1}"] * (4_096 // self.blocks)
+
+
+def serve_line(model, line):
+    """Has the model serve a line, which is a command, and returns it with the reply."""
+    word, *rest = line.split(" ")
+    items = WORDS[word][0].split()
+    return line, model.answer(word, items, [int(value) if value.isdigit() else value for value in rest])
+
+
+def drawn_script(dice, workers, lines, message=None):
+    """A script of so many lines in the sections of so many workers. Each is drawn as it stands in one merge of them. Workers with a long
+    message ask for its last block after each line."""
+    pool = drawn_pool(dice)
+    model = Model(message.pool(pool) if message else pool)
     sections = [[] for _ in range(workers)]
-    for _ in sections:
+    for section in sections:
         model.begin()
+        if message:
+            section += [serve_line(model, line) for line in message.made()]
+    asked = [(line, "") for line in message.asked()] if message else []
     for _ in range(lines):
         worker = dice.below(workers)
         model.turn_to(worker)
-        sections[worker].append(drawn(model, dice))
+        sections[worker] += [drawn(model, dice), *asked]
     return "".join(f"{line}\n" for line, _ in numbered(model.pool.header(), sections))
 
 
 def slow_script(workers):
-    """A script whose first and last worker take long: each asks 2,000 times for the last block of a message of 4,096, which takes tens of
-    milliseconds. So others get a turn before it ends, in whatever order workers start, and on one processor too."""
-    slow = ["allocb a 1", *["copymsg a b", "linkb a b"] * 12, *["block a 4095"] * 2_000]
+    """A script whose first and last worker take tens of milliseconds, so that others get a turn before they end, in whatever order workers
+    start, and on one processor too."""
+    message = LongMessage(2)
+    slow = [*message.made(), *message.asked() * 2_000]
     quick = ["allocb a 1", "freemsg a"] * 10
-    lines = ["pool 1 16383", "class 1 16383", "queue 10 4 s -", "bufcalls 0 1"]
+    lines = message.pool(Pool(1, [(16, 1)], [(10, 4, "s", "-")], 0, 1)).header()
     for worker in range(workers):
         lines += ["worker", *(slow if worker in (0, workers - 1) else quick)]
     return "".join(f"{line}\n" for line in lines)
