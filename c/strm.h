@@ -2,9 +2,10 @@
  * strm.h: message blocks and queues as in UNIX System V Release 4 STREAMS, for programs in C and
  * C++.
  *
- * A pool has message blocks, data blocks in size classes, and queues. strm_open allocates all of
- * its memory. A message is a chain of message blocks; the caller holds it by a name, or it is on a
+ * A pool has message blocks, data blocks in size classes, and queues. Only strm_open allocates
+ * memory. A message is a chain of message blocks; the caller holds it by a name, or it is on a
  * queue. Names are values, so no pointer into a pool can dangle. Bytes are copied in and out.
+ * Queues, and places of blocks, messages and bytes, are numbered from 0.
  *
  *     strm_allocb(&pool, 4, &msg);
  *     strm_write(&pool, msg, 0, "lion", 4);
@@ -14,8 +15,8 @@
  * Results
  *
  * A call that can fail returns a code, and stores its results through pointers. STRM_OK is 0. Codes
- * above 0 are refusals of the pool, with the numbers that the program strm shows. Codes below 0 are
- * of this header. If several apply, the first of these is returned; strm_open lists its own:
+ * above 0 are refusals of the pool, numbered as by the program strm. Codes below 0 are of this
+ * header. If several apply, the first of these is returned; strm_open lists its own:
  *
  *   1. STRM_NOT_OPEN: the handle is null, was never opened, or was closed.
  *   2. STRM_BAD_ARGUMENT: a pointer is null, except one to a buffer of length 0. Or a band, a type,
@@ -25,13 +26,12 @@
  *   4. STRM_NO_SUCH_QUEUE: the call names a queue that the pool does not have.
  *   5. The refusals that the call's comment lists, in that order.
  *
- * STRM_NONE is no failure: the call was done, and there is nothing to return. Any code but STRM_OK
- * and STRM_NONE means that nothing changed: not the pool, no name, and nothing that a pointer leads
- * to. With STRM_NONE, too, nothing is stored through pointers.
+ * STRM_NONE is no failure: the call was done, there is nothing to return, and nothing is stored
+ * through pointers. Any other code but STRM_OK means that nothing changed: not the pool, no name,
+ * and nothing that a pointer leads to.
  *
  * Calls take constant time, unless they go along a message, to a place, or over messages of a
- * queue. Then time grows with the blocks, messages or bytes that they pass. Only strm_open
- * allocates.
+ * queue. Then time grows with the blocks, messages or bytes that they pass.
  *
  *
  * Names
@@ -39,16 +39,15 @@
  * A name has the id of its pool, the number of the message's first block (its head), and a stamp.
  * It is valid from the call that returns it until the message is handed over, by strm_freemsg,
  * strm_freeb, strm_rmvb, strm_putq, strm_putbq, strm_insq, as the tail of strm_linkb, or by closing
- * the pool. All other calls leave it valid.
+ * the pool.
  *
  * A pool never returns a name twice. So a caller that frees twice, links twice, or uses a message
- * that is on a queue gets STRM_INVALID, and nothing is done. Any bits may be passed as a name.
- * Names may be copied, kept, and compared by their three fields. STRM_NO_MSG is the name of no
- * message.
+ * that is on a queue gets STRM_INVALID. Any bits may be passed as a name. Names may be copied,
+ * kept, and compared by their three fields. STRM_NO_MSG is the name of no message.
  *
  * There are two limits to this. Stamps have 64 bits for each message block, and start again after
- * 2^64 messages that began with it. And pools that are open under the same id, at the same time or
- * one after the other, can't tell their names apart: give pools whose names can meet different ids.
+ * 2^64 messages that began with it. And pools that are open under the same id, at once or one after
+ * the other, can't tell their names apart: give pools whose names can meet different ids.
  *
  * A message whose name the caller lost stays held until the pool is closed.
  *
@@ -67,17 +66,17 @@
  *     does not write to its fields.
  *   - malloc, realloc and free are of one allocator, and align each block for any object that fits.
  *
- * The library takes a handle for open if its second word is STRM_POOL_OPEN. Memory that was never
- * set may have that word by chance, and that is undefined behaviour. Zeroed handles,
- * STRM_POOL_INIT, closed handles and memory with any other word return STRM_NOT_OPEN.
+ * The library takes a handle for open if its second word is STRM_POOL_OPEN, which memory that was
+ * never set may have by chance. With any other word, as zeroed and closed handles have, calls
+ * return STRM_NOT_OPEN.
  *
  *
  * As in STREAMS, and not
  *
  * A call strm_NAME is the routine NAME of the UNIX System V Release 4 Programmer's Guide: STREAMS,
- * if that has one. In all of them names replace pointers, queues and places are numbers from 0 on,
- * and codes replace 0, -1 and null pointers. The text on each call ends with what else differs;
- * "own" marks rules of this library. No call waits, calls back, or runs a service procedure.
+ * if that has one. In all of them names and numbers replace pointers, and codes replace 0, -1 and
+ * null pointers. The text on each call ends with what else differs; "own" marks rules of this
+ * library. No call waits, calls back, or runs a service procedure.
  */
 #ifndef STRM_H
 #define STRM_H
@@ -89,10 +88,9 @@
 extern "C" {
 #endif
 
-/* The version of this header. strm_version returns that of the library. */
+/* The version of this header. */
 #define STRM_VERSION "0.1.0"
 
-/* What calls return. */
 enum {
 	STRM_OK = 0,			/* done */
 
@@ -159,7 +157,7 @@ enum {
 	STRM_FLUSHDATA			/* those of type M_DATA, M_PROTO, M_PCPROTO or M_DELAY */
 };
 
-/* A pool's handle, in the caller's memory. Its fields belong to the library. */
+/* A pool's handle, in the caller's memory. */
 struct strm_pool {
 	void *at;
 	size_t state;
@@ -209,14 +207,12 @@ struct strm_census {
 	uint32_t held;			/* in messages that the caller holds */
 };
 
-/* A size class. */
 struct strm_class_info {
 	uint32_t size;			/* bytes of each data block */
 	uint32_t free;			/* data blocks that no message block refers to */
 	uint32_t total;			/* all data blocks */
 };
 
-/* A block of a message. */
 struct strm_block_info {
 	uint32_t type;			/* the type of its data block, STRM_M_DATA to STRM_M_IOCDATA */
 	uint32_t length;		/* bytes between its read place and its write place */
@@ -225,7 +221,6 @@ struct strm_block_info {
 	uint32_t names;			/* message blocks that refer to its data block, 1 to STRM_MOST_NAMES */
 };
 
-/* A queue. */
 struct strm_queue_info {
 	uint32_t msgs;			/* messages on it */
 	uint32_t bytes;			/* bytes of these messages */
@@ -234,7 +229,6 @@ struct strm_queue_info {
 	uint32_t enabled;		/* 1 if it is on the run list */
 };
 
-/* A band of a queue. */
 struct strm_band_info {
 	uint32_t bytes;			/* bytes of its messages; those of high priority count with band 0 */
 	uint32_t full;			/* 1 if bytes is at the high water mark or above */
@@ -265,10 +259,7 @@ struct strm_wish {
  */
 int strm_open(struct strm_pool *pool, const struct strm_config *config);
 
-/*
- * Closes a pool, with all messages, and frees its memory. The handle may be opened again.
- * Refused as STRM_NOT_OPEN.
- */
+/* Closes a pool, with all messages, and frees its memory. The handle may be opened again. */
 int strm_close(struct strm_pool *pool);
 
 /* Returns 1 if the handle is open, else 0, also for a null one. */
@@ -281,7 +272,7 @@ int strm_is_open(const struct strm_pool *pool);
  * is the first free one of the smallest class that fits and has one. The message has no bytes, type
  * STRM_M_DATA and band 0.
  * Refused as STRM_TOO_LARGE, STRM_NO_MBLK, STRM_NO_DATA.
- * STREAMS: without the priority; own: size classes, and a code for each refusal.
+ * STREAMS: without the priority; own: size classes.
  */
 int strm_allocb(struct strm_pool *pool, uint32_t size, struct strm_msg *msg);
 
@@ -292,9 +283,8 @@ int strm_allocb(struct strm_pool *pool, uint32_t size, struct strm_msg *msg);
 int strm_testb(struct strm_pool *pool, uint32_t size, uint32_t *yes);
 
 /*
- * Duplicates the first block of a message: the new message has one block, which refers to the same
- * data block, with the same places and band. While several message blocks refer to a data block,
- * strm_write and strm_settype are refused.
+ * Duplicates the first block of a message: the new message has one block over the same data block,
+ * with the same places and band.
  * Refused as STRM_NO_MBLK, STRM_REF_MAX.
  * STREAMS: the same; own: STRM_MOST_NAMES as the limit.
  */
@@ -340,23 +330,22 @@ int strm_freemsg(struct strm_pool *pool, struct strm_msg msg);
 /* ---- bytes and fields of a message: strm_write(3) */
 
 /*
- * Appends length bytes at the write place of block place, counted from 0, and raises the write
- * place.
+ * Appends length bytes at the write place of block place, and raises it.
  * Refused as STRM_NO_SUCH_BLOCK, STRM_SHARED, STRM_NO_ROOM; the first two also for a length of 0.
  * STREAMS: writing through b_wptr.
  */
 int strm_write(struct strm_pool *pool, struct strm_msg msg, uint32_t place, const void *bytes, size_t length);
 
 /*
- * Copies bytes of a message from byte at on, counted from 0 over all blocks, into a buffer of
- * length bytes. *count is how many were copied: as many as there are, length at most. The rest of
- * the buffer is unchanged.
+ * Copies bytes of a message from byte at on, counted over all blocks, into a buffer of length
+ * bytes. *count is how many were copied: as many as there are, length at most. The rest of the
+ * buffer is unchanged.
  * STREAMS: reading through b_rptr, block by block.
  */
 int strm_read(struct strm_pool *pool, struct strm_msg msg, uint32_t at, void *into, size_t length, size_t *count);
 
 /*
- * Sets the type of the data block of block place, counted from 0, to STRM_M_DATA to STRM_M_IOCDATA.
+ * Sets the type of block place's data block to type, STRM_M_DATA to STRM_M_IOCDATA.
  * Refused as STRM_NO_SUCH_BLOCK, STRM_SHARED, even if the type is the same.
  * STREAMS: db_type.
  */
@@ -372,7 +361,7 @@ int strm_size(struct strm_pool *pool, struct strm_msg msg, uint32_t *bytes);
 int strm_msgdsize(struct strm_pool *pool, struct strm_msg msg, uint32_t *bytes);
 
 /*
- * Returns the fields of block place of a message, counted from 0.
+ * Returns the fields of block place of a message.
  * Refused as STRM_NO_SUCH_BLOCK.
  * STREAMS: the fields of msgb and datab.
  */
@@ -398,8 +387,8 @@ int strm_linkb(struct strm_pool *pool, struct strm_msg msg, struct strm_msg tail
 int strm_unlinkb(struct strm_pool *pool, struct strm_msg msg, struct strm_msg *rest);
 
 /*
- * Takes block place, counted from 0, out of a message. The block becomes the message *block, and
- * the others become *rest, or STRM_NO_MSG if there are none. msg is no longer valid.
+ * Takes block place out of a message. The block becomes the message *block, and the others become
+ * *rest, or STRM_NO_MSG if there are none. msg is no longer valid.
  * Refused as STRM_NO_SUCH_BLOCK.
  * STREAMS: own: by place, and both parts are kept.
  */
@@ -416,13 +405,12 @@ int strm_adjmsg(struct strm_pool *pool, struct strm_msg msg, int32_t count);
 
 /*
  * Gathers the first count bytes of a message in its first block, from its leading blocks of the
- * first one's type; -1 means all of these. If the first block has them already, nothing is done.
+ * first one's type; -1 means all their bytes. If the first block has them already, nothing is done.
  * Otherwise it gets a new data block, allocated as by strm_allocb, and blocks that gave all their
  * bytes are freed.
  * Refused as STRM_SHORT if count is below -1 or these blocks have fewer bytes, STRM_TOO_LARGE,
  * STRM_NO_DATA.
- * STREAMS: the same; own: bytes are not aligned, so a first block that has them keeps its data
- * block.
+ * STREAMS: the same; own: bytes are not aligned.
  */
 int strm_pullupmsg(struct strm_pool *pool, struct strm_msg msg, int32_t count);
 
@@ -445,9 +433,9 @@ int strm_putq(struct strm_pool *pool, uint32_t queue, struct strm_msg msg);
 int strm_putbq(struct strm_pool *pool, uint32_t queue, struct strm_msg msg);
 
 /*
- * Puts a message on a queue before the one at a place, counted from 0, or last if place is the
- * number of messages. msg is no longer valid. If enabling is on, a want-to-read mark enables the
- * queue. High priority gets band 0.
+ * Puts a message on a queue before the one at a place, or last if place is the number of messages.
+ * msg is no longer valid. If enabling is on, a want-to-read mark enables the queue. High priority
+ * gets band 0.
  * Refused as STRM_NO_SUCH_PLACE, STRM_BAD_ORDER.
  * STREAMS: own: by place, and high priority alone does not enable.
  */
@@ -464,8 +452,7 @@ int strm_insq(struct strm_pool *pool, uint32_t queue, uint32_t place, struct str
 int strm_getq(struct strm_pool *pool, uint32_t queue, struct strm_msg *msg);
 
 /*
- * Takes the message at a place, counted from 0, off a queue, and settles the queue as strm_getq
- * does.
+ * Takes the message at a place off a queue, and settles the queue as strm_getq does.
  * Refused as STRM_NO_SUCH_PLACE.
  * STREAMS: own: by place.
  */
@@ -477,14 +464,14 @@ int strm_qsize(struct strm_pool *pool, uint32_t queue, uint32_t *msgs);
 /*
  * Frees messages of a queue, front to back: STRM_FLUSHALL or STRM_FLUSHDATA says which. Then it
  * settles the queue as strm_getq does.
- * STREAMS: the same; own: messages that stay keep their places, and the queue itself is not
- * enabled. It settles as by strm_getq.
+ * STREAMS: the same; own: as of strm_getq; messages that stay keep their places, and the queue
+ * itself is not enabled.
  */
 int strm_flushq(struct strm_pool *pool, uint32_t queue, uint32_t flush);
 
 /*
- * Frees such messages of one band, 0 to 255, as strm_flushq does. High priority is in band 0.
- * STREAMS: the same; own: as of strm_flushq, and high priority in band 0.
+ * Frees messages of one band, 0 to 255, as strm_flushq does.
+ * STREAMS: the same; own: as of strm_flushq, and high priority is in band 0.
  */
 int strm_flushband(struct strm_pool *pool, uint32_t queue, uint32_t band, uint32_t flush);
 
@@ -499,14 +486,13 @@ int strm_flushband(struct strm_pool *pool, uint32_t queue, uint32_t band, uint32
 int strm_bcanput(struct strm_pool *pool, uint32_t queue, uint32_t band, uint32_t *yes);
 
 /*
- * Sets the water marks of a band, 0 to 255, in bytes, and settles the queue by them as strm_getq
- * does.
- * Refused as STRM_BAD_MARKS if lowat is not below hiwat.
+ * Sets the water marks of a band, in bytes, and settles the queue by them as strm_getq does.
+ * Refused as STRM_BAD_MARKS.
  * STREAMS: QHIWAT and QLOWAT; own: both at once, and the queue settles.
  */
 int strm_strqset(struct strm_pool *pool, uint32_t queue, uint32_t band, uint32_t hiwat, uint32_t lowat);
 
-/* Returns the water marks of a band, 0 to 255. STREAMS: QHIWAT and QLOWAT; own: both at once. */
+/* Returns the water marks of a band. STREAMS: QHIWAT and QLOWAT; own: both at once. */
 int strm_strqget(struct strm_pool *pool, uint32_t queue, uint32_t band, struct strm_marks *marks);
 
 /*
@@ -517,7 +503,7 @@ int strm_strqget(struct strm_pool *pool, uint32_t queue, uint32_t band, struct s
 int strm_qenable(struct strm_pool *pool, uint32_t queue);
 
 /*
- * Switches enabling off. High priority by strm_putq and strm_putbq, strm_qenable and back-enabling
+ * Switches enabling off. strm_qenable, back-enabling, and high priority by strm_putq or strm_putbq
  * still enable.
  * STREAMS: the same; own: high priority by strm_putbq.
  */
@@ -529,10 +515,7 @@ int strm_enableok(struct strm_pool *pool, uint32_t queue);
 /* Takes the first queue off the run list. If the list is empty, returns STRM_NONE. Own. */
 int strm_next_service(struct strm_pool *pool, uint32_t *queue);
 
-/*
- * Returns the queue at a place of the run list, counted from 0, or STRM_NONE if there is none.
- * Own.
- */
+/* Returns the queue at a place of the run list, or STRM_NONE if there is none. Own. */
 int strm_run_at(struct strm_pool *pool, uint32_t place, uint32_t *queue);
 
 /* ---- wishes: strm_bufcall(3) */
@@ -547,33 +530,27 @@ int strm_bufcall(struct strm_pool *pool, uint32_t size, uint32_t *id);
 
 /*
  * Withdraws a wish.
- * Refused as STRM_NOT_PENDING if no wish has this id.
+ * Refused as STRM_NOT_PENDING.
  * STREAMS: the same; own: the refusal.
  */
 int strm_unbufcall(struct strm_pool *pool, uint32_t id);
 
 /*
  * Removes the oldest wish for which strm_allocb would succeed now, and returns it. It reserves no
- * block. If there is no such wish, returns STRM_NONE.
+ * block. If there is none, returns STRM_NONE.
  * Own.
  */
 int strm_take_ready(struct strm_pool *pool, struct strm_wish *wish);
 
-/*
- * Returns the wish at a place, counted from 0, the oldest first, or STRM_NONE if there is none.
- * Own.
- */
+/* Returns the wish at a place, the oldest first, or STRM_NONE if there is none. Own. */
 int strm_wish_at(struct strm_pool *pool, uint32_t place, struct strm_wish *wish);
 
 /* ---- what there is: strm_census(3) */
 
-/* Counts the message blocks: free, in messages on queues, and in held messages. Own. */
+/* Counts the message blocks: free, on queues, and held. Own. */
 int strm_census(struct strm_pool *pool, struct strm_census *census);
 
-/*
- * Returns a size class, counted from 0, the smallest first, or STRM_NONE if there is no such class.
- * Own.
- */
+/* Returns the size class at a place, the smallest first, or STRM_NONE if there is none. Own. */
 int strm_class_info(struct strm_pool *pool, uint32_t place, struct strm_class_info *info);
 
 /*
