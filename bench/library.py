@@ -4,6 +4,7 @@ import argparse
 import os
 import shutil
 import sys
+import textwrap
 from concurrent.futures import ThreadPoolExecutor
 from typing import NamedTuple
 
@@ -145,34 +146,36 @@ def wanted():
     return list(dict.fromkeys([*direct, *registers, *looks, *alone]))
 
 
+def rows_shown():
+    """Each row by what is shown of it: its measures over each pool, and those with registers, if it has such."""
+    for row, told in ROWS.items():
+        registers = [Measure(form, row, MIDDLE) for form in ("apply", "serve")] if told.calls else []
+        yield told.shown, [Measure("direct", row, blocks, told.within) for blocks in POOLS], registers
+    yield "`census_now`", [Measure("serve", LOOK, blocks) for blocks in POOLS], []
+
+
 def rows_table(counts, times, before):
-    """Rows on the pool, in markdown."""
-    head = ["A round", "Plain", *([f"before, {MIDDLE:,}"] if before else []), *(f"{blocks:,}" for blocks in POOLS), f"ns, {MIDDLE:,}"]
+    """Each round over the pool of the middle size, in each form that it has, in markdown."""
+    head = ["A round", "Plain", "Direct", "ns", "`apply_into`", "`serve_into`", "ns", *(["before", "`apply_into`", "`serve_into`"] if before else [])]
     yield from (f"| {' | '.join(head)} |", "|---" * len(head) + "|")
-    every = [("direct", row, told.shown, told.beside, told.within) for row, told in ROWS.items()]
-    for form, row, shown, beside, within in [*every, ("serve", LOOK, "`census_now`", "", "")]:
-        cells = [shown, beside]
-        middle = Measure(form, row, MIDDLE, within)
+    for shown, over, registers in rows_shown():
+        middle = over[POOLS.index(MIDDLE)]
+        cells = [shown, ROWS[middle.row].beside if middle.row in ROWS else "", f"{counts[middle]:,.0f}"]
+        cells.append("" if middle.within else f"{times[middle]:,.1f}")
+        cells += [*(f"{counts[measure]:,.0f}" for measure in registers), f"{times[registers[1]]:,.1f}"] if registers else ["", "", ""]
         if before:
-            cells.append(f"{before[middle]:,.0f}")
-        cells += [f"{counts[Measure(form, row, blocks, within)]:,.0f}" for blocks in POOLS]
-        cells.append("" if within else f"{times[middle]:,.1f}")
+            cells += [f"{before[middle]:,.0f}", *([f"{before[measure]:,.0f}" for measure in registers] or ["", ""])]
         yield f"| {' | '.join(cells)} |"
 
 
-def forms_table(counts, times, before):
-    """Rows with registers beside those with tokens, in markdown."""
-    head = ["A round", "Calls", "Tokens", *(["`apply_into`, before"] if before else []), "`apply_into`", "more a call", *(["`serve_into`, before"] if before else []), "`serve_into`", "more a call", "ns"]
-    yield from (f"| {' | '.join(head)} |", "|---" * len(head) + "|")
-    for row, told in ROWS.items():
-        if not told.calls:
-            continue
-        direct, apply, serve = (Measure(form, row, MIDDLE) for form in ("direct", "apply", "serve"))
-        cells = [told.shown, str(told.calls), f"{counts[direct]:,.0f}"]
-        for form, less in ((apply, direct), (serve, apply)):
-            cells += [f"{before[form]:,.0f}"] if before else []
-            cells += [f"{counts[form]:,.0f}", f"{(counts[form] - counts[less]) / told.calls:,.0f}"]
-        yield f"| {' | '.join([*cells, f'{times[serve]:,.1f}'])} |"
+def other_pools(counts):
+    """Which rounds take another number over the other pools, in lines of a page."""
+    same = f"The same over {' and '.join(f'{blocks:,}' for blocks in POOLS if blocks != MIDDLE)} message blocks"
+    apart = []
+    for shown, over, _ in rows_shown():
+        if len({f"{counts[measure]:,.0f}" for measure in over}) > 1:
+            apart.append(f"{shown} ({' and '.join(f'{counts[measure]:,.0f}' for measure in over if measure.blocks != MIDDLE)})")
+    return textwrap.wrap(f"{same}, except: {', '.join(apart)}." if apart else f"{same}.", 100)
 
 
 def served_table(counts, times, before):
@@ -187,8 +190,8 @@ def served_table(counts, times, before):
 
 def tables(counts, times, before):
     """All tables, in markdown."""
-    yield from ("Instructions of a round, by the message blocks of the pool; nanoseconds of processor time:", "", *rows_table(counts, times, before))
-    yield from ("", f"Instructions of a round over {MIDDLE:,} message blocks, by how its calls are made:", "", *forms_table(counts, times, before))
+    yield from (f"Instructions of a round over {MIDDLE:,} message blocks, and nanoseconds of processor time:", "", *rows_table(counts, times, before))
+    yield from ("", *other_pools(counts))
     yield from ("", "A served call, of `allocb b 64` and `freemsg b` in turn:", "", *served_table(counts, times, before))
 
 
