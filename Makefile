@@ -40,7 +40,7 @@ cases: $(BUILT)
 # Plants each wrong body of tests/planted in a copy of the crates, and requires its test to fail. Nothing is proved for it.
 planted:
 	$(NEEDS_RT)
-	@tests/planted --all
+	@tests/planted
 
 # Checks the shell scripts with shellcheck and the Python programs with a linter.
 lint:

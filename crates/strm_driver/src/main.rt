@@ -14,6 +14,8 @@ mod output;
 mod refused;
 mod run;
 mod serial;
+#[cfg(test)]
+mod tests;
 mod watched;
 mod words;
 

@@ -1,6 +1,8 @@
 ghost use Rattle.std.specs.Prelude.{◌≤◌};
 ghost use Rattle.strm_script.specs.Limits.{most_script_bytes};
 
+mod sizes;
+
 use super::{Mode, run};
 use crate::fault::RunFault;
 use crate::faulty::{Choppy, Slow, choppy_writer, slow_reader};

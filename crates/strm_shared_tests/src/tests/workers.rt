@@ -150,7 +150,7 @@ impl Gate for Watch {
 }
 
 // A line of a worker: an `allocb` into a register where its number is even, and else a `freemsg` of it.
-fn line(reg: Reg, number: u32) -> Line {
+pub(super) fn line(reg: Reg, number: u32) -> Line {
     let call = if number % 2 == 0 {
         Call::Allocb(reg, 16)
     } else {
