@@ -137,9 +137,15 @@ pub record Shows (o p : Pair) (v : View) : Type 0 where
 abbrev pub Loaded : Pair → Step (Unit {0}) → Me (Unit {0}) View → ℕ → Me (Unit {0}) View → Type 0
 Loaded o s m w m' = (m' ≡ (view_with_pair (pair_of (count_in o.1) w) m.0, m.1)) × Shows o (pair_of (count_in o.1) w) m'.0
 
--- the load that changes no view
+-- the lock's view
+abbrev pub IsLockView : View → Type 0
+IsLockView (Lock h gs) = Unit {0}
+IsLockView (At d) = ⊥
+IsLockView Spent = ⊥
+
+-- the load of the lock's seat that changes no view; no other seat can take it
 abbrev pub Read : Pair → Step (Unit {0}) → Me (Unit {0}) View → ℕ → Me (Unit {0}) View → Type 0
-Read o s m w m' = (m' ≡ m) × Shows o (pair_of (count_in o.1) w) m.0
+Read o s m w m' = IsLockView m.0 × (m' ≡ m) × Shows o (pair_of (count_in o.1) w) m.0
 
 -- join: the desk becomes the lock's guest
 abbrev pub with_guest : View → View → View

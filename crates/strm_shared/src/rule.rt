@@ -59,7 +59,7 @@ impl<N: Name> Play<(), View> for Loads<N> {
     ghost then = { Loaded (pair_at N.first N.opened) };
 }
 
-// A load, by the lock's seat, which changes no view.
+// A load, by the lock's seat and no other, which changes no view.
 pub(crate) struct Reads<N> {
     of: PhantomData<N>,
 }

@@ -19,7 +19,7 @@ use Rattle.strm_shared.specs.declared.views.View.{View}
 use Rattle.strm_shared.specs.declared.views.View.TheVariants.{Lock, At, Spent}
 use Rattle.strm_shared.specs.Pairs.{Pair, count_in, last_pair}
 use Rattle.strm_shared.specs.Words.{pair_of, word_of}
-use Rattle.strm_shared.specs.Seats.{IsRuled, IsLocks, IsOf, IsViewOf, Loaded, Read, Shows, Stored, desks_of, first_view, guest_of, history_after, history_with_desk, known_after, new_desk_of, new_known, numbers_in, opening_history, view_after, view_with_pair, with_desk, with_guest, with_pair, without_guest}
+use Rattle.strm_shared.specs.Seats.{IsRuled, IsLockView, IsLocks, IsOf, IsViewOf, Loaded, Read, Shows, Stored, desks_of, first_view, guest_of, history_after, history_with_desk, known_after, new_desk_of, new_known, numbers_in, opening_history, view_after, view_with_pair, with_desk, with_guest, with_pair, without_guest}
 use Rattle.strm_shared.specs.SeatsLayout.{IsNextOf}
 use Rattle.strm_shared.proofs.seats.Histories.{has_last, history_begins, history_more, history_wider, last_after, last_pair-push, of_new, of_other, of_pair, of_served, of_wider, pair_of-word_of}
 use Rattle.strm_shared.proofs.seats.Numbers.{below_more, none_numbered, numbers-with_pair, once_at_most, standing-push, standing-set, standing_one, standing_two}
@@ -103,11 +103,11 @@ module _ (o : Pair) (slots id : ℕ) (me : Me (Unit {0}) View) where
     apart = λ n. omega (arith, standing_one n s.views id v at, k.each n, once_at_most n k.history.desks);
   }
 
-  -- the load that changes no view
-  pub reads : Allows (IsRuled o) slots id me 0 (λ n. n) (Read o (step slots 0 0 0 none) me)
-  reads s k long at fits =
+  -- the load of the lock's seat that changes no view
+  pub reads : IsLockView me.0 → Allows (IsRuled o) slots id me 0 (λ n. n) (Read o (step slots 0 0 0 none) me)
+  reads lock s k long at fits =
       let same : stepped s 0 (get_or s.words 0 0) id me.1 me.0 keeps ≡ s = λ i. record { words = set-get_or s.words 0 0 i; homes = s.homes; views = set_again s.views id me.0 at i } in
-      (me.0, keeps, tt, subst (IsRuled o) (sym same) k, (refl, subst (λ p. Shows o p me.0) (sym (found s k)) (shown s k me.0 at)))
+      (me.0, keeps, tt, subst (IsRuled o) (sym same) k, (lock, refl, subst (λ p. Shows o p me.0) (sym (found s k)) (shown s k me.0 at)))
 
   -- a load by which desks see the pair
   pub loads : Allows (IsRuled o) slots id me 0 (λ n. n) (Loaded o (step slots 0 0 0 none) me)
@@ -286,8 +286,9 @@ module _ (o : Pair) (id : ℕ) (v : View) (h : History) where
   opens_as gs is = subst (λ (x : View). Splits (IsRuled o) id x (with_desk x) (new_desk_of x)) (sym is) (opens o id h gs)
 
 module _ (key o : Pair) (slots id : ℕ) (me : Me (Unit {0}) View) (opened : key ≡ o) where
-  pub reads_as : Allows (IsRuled key) slots id me 0 (λ n. n) (Read o (step slots 0 0 0 none) me)
-  reads_as = subst (λ x. Allows (IsRuled key) slots id me 0 (λ n. n) (Read x (step slots 0 0 0 none) me)) opened (reads key slots id me)
+  pub reads_as : (h : History) (gs : List Known) → me ≡ (Lock h gs, []) → Allows (IsRuled key) slots id me 0 (λ n. n) (Read o (step slots 0 0 0 none) me)
+  reads_as h gs is = subst (λ x. Allows (IsRuled key) slots id me 0 (λ n. n) (Read x (step slots 0 0 0 none) me)) opened
+      (reads key slots id me (subst (λ (x : Me (Unit {0}) View). IsLockView x.0) (sym is) tt))
 
   pub loads_as : Allows (IsRuled key) slots id me 0 (λ n. n) (Loaded o (step slots 0 0 0 none) me)
   loads_as = subst (λ x. Allows (IsRuled key) slots id me 0 (λ n. n) (Loaded x (step slots 0 0 0 none) me)) opened (loads key slots id me)

@@ -15,12 +15,13 @@ load-requires g c =
     let b = c.args.self.now in
     let l = c.requires.lock in
     let d = c.requires.desk in
-    ((c.join.ensures.joined l.0 [] d.0 l.1 d.1).0 ∙ sym b.named, omega (arith, b.one_word), reads_as _ (pair_at g.N.Name.first g.N.Name.opened) _ _ _ b.opened)
+    let there = c.join.ensures.joined l.0 [] d.0 l.1 d.1 in
+    (there.0 ∙ sym b.named, omega (arith, b.one_word), reads_as _ (pair_at g.N.Name.first g.N.Name.opened) _ _ _ b.opened l.0 (d.0 ∷ []) there.1)
 
 pub returns : goal.returns
 returns g c h d lock desk =
     let o = pair_at g.N.Name.first g.N.Name.opened in
     let there = c.join.ensures.joined h [] d lock desk in
     let s = c.load.ensures in
-    let shown = lock_shown c.join.new.lock.me h (d ∷ []) there.1 o (pair_of (count_in o.1) c.load.result) s.2.1 in
-    ((s.0 ∙ there.0, s.2.0 ∙ there.1), All-head (IsOf o.0 h) d [] shown.2)
+    let shown = lock_shown c.join.new.lock.me h (d ∷ []) there.1 o (pair_of (count_in o.1) c.load.result) s.2.2 in
+    ((s.0 ∙ there.0, s.2.1 ∙ there.1), All-head (IsOf o.0 h) d [] shown.2)
