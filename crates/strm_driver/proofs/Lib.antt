@@ -1,7 +1,9 @@
 mod Faults
+mod Stopping
 mod Merges
 mod Texts
 mod Totals
+mod Holding
 mod Working
 mod Serving
 mod Rows

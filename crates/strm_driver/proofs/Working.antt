@@ -1,6 +1,6 @@
 -- Workers who all have a thread are all served, and what is written for their trace is the text of their script.
 use Rattle.std.proofs.Common.{◌≡◌, ℕ, zero, suc, ◌+◌, ◌-◌, ◌<◌, ◌≤◌, false, List, [], ◌∷◌, ◌++◌, length, map, get_or, refl, sym, ap, ◌∙◌, subst, inl, inr, arith, append-nil, append_assoc, true≢false}
-use Rattle.std.specs.Prelude.{Contains, filter, ◌==◌}
+use Rattle.std.specs.Prelude.{Contains, filter, max, sum_by, ◌==◌}
 use Rattle.std.specs.List.{All, flat_map, list_any}
 use Rattle.std.proofs.Math.ListN.{get_or-append}
 use Rattle.std.proofs.lemmas.Bool.{cases_eq, or_parts}
@@ -30,7 +30,7 @@ use Rattle.strm_script.specs.Text.{entry_text, report_text, text_from}
 use Rattle.strm_driver.specs.declared.run.Mode.TheVariants.{Workers}
 use Rattle.strm_driver.specs.Outcome.{IsMergedText, IsTextOf}
 use Rattle.strm_driver.specs.Told.{is_not_started}
-use Rattle.strm_driver.specs.Working.{IsServedUnder}
+use Rattle.strm_driver.specs.Working.{IsServedUnder, IsTextAsServed}
 use Rattle.strm_driver.proofs.Merges.{IsMerge-merge_of, entries_for, length-entries_for, line_of, lines_of-entries_for, served_from-entries}
 use Rattle.strm_driver.proofs.Texts.{one_text, text_from-merge_of}
 use Rattle.strm_driver.proofs.Totals.{fewer_entries}
@@ -92,10 +92,10 @@ module _ {N : Type 0} (n : Ghosts N) (lines : List Line) (d : DeskValue) (none :
 
   -- where it was refused, it was served fewer, and has seen the stamp of a full trace
   refused_fewer : (parts : List (List Line)) (under : IsServedUnder n parts) (why : Refusal) (replies : List Reply) (e : DeskValue) → Worked n lines d (Refused why) replies e
-      → (length e.served < length lines) × (p : Pair) × Contains e.pairs p × (p.0 ≡ n.first + under.most)
+      → (length e.served < length lines) × (p : Pair) × Contains e.pairs p × (p.0 ≡ n.first + max (sum_by length parts) 1)
   refused_fewer parts under why replies e worked =
       let more = served_more n lines d replies worked.1 worked.2 in
-      let full = full_shown n under.most under.kept under.few worked.1 worked.3.number worked.3.call e why worked.4 in (
+      let full = full_shown n (max (sum_by length parts) 1) under.kept (omega (arith, under.begun, under.few)) worked.1 worked.3.number worked.3.call e why worked.4 in (
         omega (arith, worked.0, length-more lines replies d worked.1 none (omega (arith, worked.0)) more, ap (λ (x : DeskValue). length x.served) full.1),
         full.0,
         subst (λ (x : DeskValue). Contains x.pairs full.0) (sym full.1) (Contains-push worked.1.pairs full.0),
@@ -179,7 +179,7 @@ module _ {N : Type 0} (n : Ghosts N) (parts : List (List Line)) (ps : List Pair)
       let before = pair_before (pair_at n.first n.opened) left.stamp v left.pairs left.lawful fewer.1 in_pool in
       let less : length (served_from (n.first + 1) k left.entries) < length (get_or parts k []) = omega (arith, fewer.0, ap length (served_at k within)) in
       let short = fewer_entries (n.first + 1) k parts left.entries below (λ j inside. omega (arith, ap length (served_at j inside), (few j inside).1)) within less in
-      omega (arith, before, fewer.3, left.told.stamped, short, under.room)
+      omega (arith, before, fewer.3, left.told.stamped, short)
 
   module _ (started : list_any is_not_started ends ≡ false) where
     done : (k : ℕ) → k < length parts → get_or ends k NotStarted ≡ Done
@@ -197,9 +197,9 @@ module _ {N : Type 0} (n : Ghosts N) (parts : List (List Line)) (ps : List Pair)
         ap (λ (ss : List (ℕ × Entry)). map (λ s. s.1) ss) (served_at k within ∙ more.served) ∙ more.entries in
         ap (map line_of) (sym (served_from-entries (n.first + 1) k left.entries) ∙ entries) ∙ lines_of-entries_for k lines replies was.0
 
-    -- and the text of the trace is that of the script
-    pub text_of_workers : (script : Script) (text : List ℕ) → script.parts ≡ parts → n.opened ≡ opening script.config → text ≡ flat_map entry_text trace ++ report_text v → IsTextOf Workers script text
-    text_of_workers script text same opens written =
+    -- and the text of the trace is that of the script, in the order of serving
+    pub as_served : (script : Script) (text : List ℕ) → script.parts ≡ parts → n.opened ≡ opening script.config → text ≡ flat_map entry_text trace ++ report_text v → IsTextAsServed script n.first came text
+    as_served script text same opens written =
         let es : List Entry = left.entries in
         let merge = merge_of es in
         let traced : trace ≡ es = left.kept ∙ ap (λ o. entries_kept o es) under.kept in
@@ -213,5 +213,14 @@ module _ {N : Type 0} (n : Ghosts N) (parts : List (List Line)) (ps : List Pair)
         ∙ told
         ∙ ap (λ (w : PoolValue). text_from w (empty_tables n.desks) merge) opens
         ∙ ap (λ (k : ℕ). text_from (opening script.config) (empty_tables k) merge) (under.desks ∙ ap length (sym same)) in
-        let merged : IsMergedText script text = (merge, (merges, is)) in
-        (merged, λ one. one_text script text one merged)
+        record {
+          entries = es;
+          under = (merges, is);
+          served = λ k within. served_at k (omega (arith, within, ap length same));
+        }
+
+-- such a text is one of workers
+pub text_of_workers : (script : Script) (first : ℕ) (desks : List DeskValue) (text : List ℕ) → IsTextAsServed script first desks text → IsTextOf Workers script text
+text_of_workers script first desks text served =
+    let merged : IsMergedText script text = (merge_of served.entries, served.under) in
+    (merged, λ one. one_text script text one merged)

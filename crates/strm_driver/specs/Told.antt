@@ -1,5 +1,5 @@
 -- What a fault tells.
-use Rattle.std.specs.Prelude.{◌≡◌, Bool, true, false, Option, None, Some, Result, Ok, Err}
+use Rattle.std.specs.Prelude.{◌≡◌, ℕ, Bool, true, false, Option, None, Some, Result, Ok, Err}
 use Rattle.strm_data.specs.declared.refusal.Refusal.TheVariants.{BadShared}
 use Rattle.strm_pool.specs.declared.config.NewFault.{NewFault}
 use Rattle.strm_pool.specs.declared.config.NewFault.TheVariants as new_faults
@@ -92,3 +92,13 @@ abbrev pub is_not_started : End → Bool
 is_not_started ends.Done = false
 is_not_started (ends.Refused why) = false
 is_not_started ends.NotStarted = true
+
+-- the exit status of the program: 0 where it is Ok, and else that of the fault
+abbrev pub status_of : RunFault → ℕ
+status_of Read = 1
+status_of TooLong = 1
+status_of Write = 1
+status_of (Script found) = 2
+status_of (Config which) = 2
+status_of Memory = 3
+status_of (Refused why) = 4

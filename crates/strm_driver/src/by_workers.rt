@@ -1,10 +1,11 @@
 //! The text of a script whose sections are served by workers.
-ghost use Rattle.std.specs.Prelude.{◌≡◌, ◌≤◌, ◌++◌, ◌∷◌, [], false, IfErr, IfOk, List, None, OnOk, length, sum_by};
+ghost use Rattle.std.specs.Prelude.{◌≡◌, ◌≤◌, ◌++◌, ◌∷◌, [], false, IfErr, IfOk, List, None, OnOk, length, map, sum_by};
 ghost use Rattle.std.specs.List.{flat_map, list_any};
 ghost use Rattle.strm_pool.specs.Config.{fault_of};
 ghost use Rattle.strm_pool.specs.PoolValue.{opening};
+ghost use Rattle.strm_pool.specs.Registers.{entries_of};
 ghost use Rattle.strm_pool.specs.declared.reply.Reply.{Reply};
-ghost use Rattle.strm_shared.specs.Desks.{fresh};
+ghost use Rattle.strm_shared.specs.Desks.{DeskValue, fresh};
 ghost use Rattle.strm_shared.specs.Limits.{most_workers};
 ghost use Rattle.strm_shared.specs.Pairs.{pair_at};
 ghost use Rattle.strm_shared.specs.Runs.{AllWorked};
@@ -12,9 +13,10 @@ ghost use Rattle.strm_shared.specs.Starts.{IsNameOf};
 ghost use Rattle.strm_script.specs.declared.script.Script.{Script as ScriptValue};
 ghost use Rattle.strm_script.specs.Limits.{most_command_lines};
 ghost use Rattle.strm_script.specs.Text.{entry_text, report_text};
+ghost use Rattle.strm_driver.specs.Holding.{AreHeldAlike, IsIdle};
 ghost use Rattle.strm_driver.specs.Outcome.{IsTextOf};
 ghost use Rattle.strm_driver.specs.Told.{TellsNewFault, is_not_started};
-ghost use Rattle.strm_driver.specs.Working.{IsServedUnder};
+ghost use Rattle.strm_driver.specs.Working.{IsServedUnder, IsTextAsServed};
 ghost use Rattle.strm_driver.specs.declared.run.Mode.TheVariants.{Workers};
 
 use crate::output::{lines_in, room_for};
@@ -71,24 +73,32 @@ fn text_of_trace(
 }
 
 // Frees what desks hold.
-fn drain<N: Name>(pool: &mut Pool, desks: Desks<N>) {
+fn drain<N: Name>(pool: &mut Pool, desks: Desks<N>)
+    requires { pool.old.arena.id ≡ N.opened.arena.id }
+    ensures { AreHeldAlike pool.old (map (λ (d : DeskValue). entries_of d.regs) desks) pool.new [] }
+{
     let mut desks = desks;
     while !desks.is_empty() {
-        pool.drain(desks.take_last().into_regs());
+        let desk = desks.take_last();
+        desk.lawful();
+        pool.drain(desk.into_regs());
     }
     desks.end();
 }
 
-// The text of the script whose sections these workers have served.
+// The text of the script whose sections these workers have served, in the order in which they were served; and the pool,
+// in which no message is held.
 fn text_of_outcome<N: Name>(
     alloc: Global,
     shared: Shared<N>,
     parts: &Parts,
     outcome: BareOutcome<N>,
-) -> Result<Vec<u8>, AllocError>
+) -> (Result<Vec<u8>, AllocError>, Pool)
     requires under { IsServedUnder N.Name parts.now }
     requires worked { (all : List (List Reply)) × AllWorked N.Name parts.now (fresh N.desks (pair_at N.first N.opened ∷ [])) outcome.ends all outcome.desks }
-    ensures { IfOk result (λ text. (script : ScriptValue) → script.parts ≡ parts.now → N.opened ≡ opening script.config → IsTextOf Workers script text.items) }
+    ensures text { IfOk result.0 (λ text. (script : ScriptValue) → script.parts ≡ parts.now → N.opened ≡ opening script.config → IsTextOf Workers script text.items) }
+    ensures ordered { IfOk result.0 (λ text. (script : ScriptValue) → script.parts ≡ parts.now → N.opened ≡ opening script.config → IsTextAsServed script N.first outcome.desks text.items) }
+    ensures freed { IsIdle result.1 }
 {
     let _ = parts;
     let BareOutcome { desks, ends } = outcome;
@@ -102,7 +112,7 @@ fn text_of_outcome<N: Name>(
         ) => {
             let text = text_of_trace(alloc, ends.items(), &pool, trace.items());
             drain(&mut pool, desks);
-            text
+            (text, pool)
         }
         Err(_) => unreachable!(),
     }
@@ -122,7 +132,10 @@ fn shared_text<N: Name + Send + Sync, R: Threads + Wait + Sync, G: Gate>(
 {
     let (shared, desks) = start.open::<N>();
     match run_workers_without_replies(rt, alloc, &shared, desks, parts, gate) {
-        Ok(outcome) => text_of_outcome(alloc, shared, parts, outcome),
+        Ok(outcome) => {
+            let (text, _) = text_of_outcome(alloc, shared, parts, outcome);
+            text
+        }
         Err((error, desks)) => {
             desks.forget();
             Err(error)

@@ -3,6 +3,7 @@ ghost use Rattle.std.specs.Prelude.{◌≡◌, ◌||◌, ◌≤◌, ◌<◌, ◌
 ghost use Rattle.std.specs.Io.KnownBytes.{Consumes};
 ghost use Rattle.strm_script.specs.Limits.{most_script_bytes};
 ghost use Rattle.strm_driver.specs.Told.{errs, is_read, run_fault_of_read};
+ghost use Rattle.strm_driver.specs.Watched.{Stops};
 
 use crate::watched::Watched;
 use std::alloc::{AllocError, Global};
@@ -38,7 +39,7 @@ impl From<AllocError> for ReadFault {
 
 /// Reads the whole input, which may have at most `max` bytes. It is `Read` where the reader fails, `TooLong`
 /// where the input has more bytes, and `Memory` where there is no room for them. At most one byte more than
-/// `max` is taken from the reader, and no more than `max` before a read that fails.
+/// `max` is taken from the reader, and no more than `max` before a read that fails. A read that fails, or finds the end, is the last.
 pub fn read_input<R: Read>(
     alloc: Global,
     max: u32,
@@ -49,6 +50,7 @@ pub fn read_input<R: Read>(
     ensures ok { IfOk result (λ v. (length v.items ≤ max) × IfSome (R.remaining reader.old.inner) (λ input. v.items ≡ input)) }
     ensures too_long { result ≡ Err ReadFault.TooLong → IfSome (R.remaining reader.old.inner) (λ input. max < length input) }
     ensures reader { reader.new.failed ≡ (reader.old.failed || errs (λ fault. is_read (run_fault_of_read fault)) result) }
+    ensures stops { Stops reader.old reader.new }
     ensures taken { (bytes : List ℕ) × Consumes (R.remaining reader.old.inner) (R.remaining reader.new.inner) bytes × (length bytes ≤ max + 1) × (result ≡ Err ReadFault.Read → length bytes ≤ max) }
 {
     let most = max as usize;

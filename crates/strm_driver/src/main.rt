@@ -1,8 +1,10 @@
 //! The program `strm`: a script on standard input, its transcript and report on standard output.
 #![tactic(auto)]
 
-ghost use Rattle.std.specs.Prelude.{◌≤◌};
+ghost use Rattle.std.specs.Prelude.{◌≡◌, ◌≤◌};
+ghost use Rattle.std.specs.Process.{exit_status};
 ghost use Rattle.strm_script.specs.Limits.{most_script_bytes};
+ghost use Rattle.strm_driver.specs.Told.{status_of};
 
 mod by_workers;
 mod fault;
@@ -35,7 +37,9 @@ use words::{Options, options_of};
 const USAGE: u8 = 64;
 
 // The exit status after a fault.
-fn status_of(fault: RunFault) -> u8 {
+fn status_of(fault: RunFault) -> u8
+    ensures { result ≡ status_of fault }
+{
     match fault {
         RunFault::Read | RunFault::Write | RunFault::TooLong => 1,
         RunFault::Script(_) | RunFault::Config(_) => 2,
@@ -45,7 +49,9 @@ fn status_of(fault: RunFault) -> u8 {
 }
 
 // Says what went wrong. There is nobody to tell where that fails.
-fn failed(rt: &impl Eprint, fault: RunFault) -> ExitCode {
+fn failed(rt: &impl Eprint, fault: RunFault) -> ExitCode
+    ensures { exit_status result ≡ status_of fault }
+{
     let _ = eprintln!(rt; "strm: {fault}");
     ExitCode::from(status_of(fault))
 }
@@ -65,13 +71,14 @@ fn answered(rt: &(impl Print + Eprint), error: &clap::Error) -> ExitCode {
     }
 }
 
-// Runs the script on standard input.
+// Runs the script on standard input. The status is 0 to 3: no run ends with that of a refusal.
 fn served(
     rt: &(impl AllocGlobal + Input + Print + Eprint + Threads + Wait + Sync),
     options: Options,
 ) -> ExitCode
     requires least { 1 ≤ options.max }
     requires most { options.max ≤ most_script_bytes }
+    ensures { exit_status result ≤ 3 }
 {
     let mut reader = Watched::new(rt.reader());
     let mut writer = Watched::new(io::writer(rt));

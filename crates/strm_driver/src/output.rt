@@ -2,6 +2,7 @@
 ghost use Rattle.std.specs.Prelude.{◌≡◌, ◌≤◌, ◌||◌, ℕ, take, OnOk, OnErr, is_err, length, sum_by};
 ghost use Rattle.std.specs.Io.KnownBytes.{Appends};
 ghost use Rattle.strm_script.specs.Limits.{most_command_lines};
+ghost use Rattle.strm_driver.specs.Watched.{Stops};
 
 use crate::watched::Watched;
 use std::io::Write;
@@ -33,11 +34,13 @@ pub fn room_for(lines: usize) -> usize {
 #[error("write fault")]
 pub struct WriteFault;
 
-/// Writes a text and flushes the writer. After a fault a prefix of the text was written.
+/// Writes a text and flushes the writer. After a fault a prefix of the text was written, and no other call
+/// is made.
 pub fn write_text<W: Write>(writer: &mut Watched<W>, text: &[u8]) -> Result<(), WriteFault>
     ensures ok { OnOk result (Appends (W.contents writer.old.inner) (W.contents writer.new.inner) text.now) }
     ensures cut { OnErr result ((n : ℕ) × Appends (W.contents writer.old.inner) (W.contents writer.new.inner) (take n text.now)) }
     ensures writer { writer.new.failed ≡ (writer.old.failed || is_err result) }
+    ensures stops { Stops writer.old writer.new }
 {
     let mut written = 0;
     while written < text.len() {

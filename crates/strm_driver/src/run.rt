@@ -5,6 +5,7 @@ ghost use Rattle.strm_script.specs.Limits.{most_script_bytes};
 ghost use Rattle.strm_script.specs.Script.{script_of};
 ghost use Rattle.strm_driver.specs.Outcome.{fault_of_script, fault_of_input, IsTextOf, IsTextOfInput};
 ghost use Rattle.strm_driver.specs.Told.{IsMet, TellsFault, run_fault_of_text, errs, is_read, is_write};
+ghost use Rattle.strm_driver.specs.Watched.{Stops};
 
 use crate::by_workers::workers_text;
 use crate::fault::{RunFault, TextFault};
@@ -82,6 +83,8 @@ pub fn run<E: AllocGlobal + Threads + Wait + Sync, G: Gate, R: Read, W: Write>(
     // A read fault comes where the reader failed, and nowhere else, and a write fault where the writer did.
     ensures reader { reader.new.failed ≡ (reader.old.failed || errs is_read result) }
     ensures writer { writer.new.failed ≡ (writer.old.failed || errs is_write result) }
+    // A read that fails or finds the end is the last one, and so is a write that fails.
+    ensures stops { Stops reader.old reader.new × Stops writer.old writer.new }
     // At most one byte more than `max` is taken from the reader; where more than `max` were, no read fault is told.
     ensures taken { (bytes : List ℕ) × Consumes (R.remaining reader.old.inner) (R.remaining reader.new.inner) bytes
         × (length bytes ≤ max + 1) × (result ≡ Err RunFault.Read → length bytes ≤ max) }

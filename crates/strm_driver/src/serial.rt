@@ -1,13 +1,14 @@
 //! The text of a script whose sections are served one after another on one thread.
-ghost use Rattle.std.specs.Prelude.{◌≡◌, ◌≤◌, ◌+◌, ◌++◌, ◌∷◌, List, length, sum_by, OnOk, IfOk, IfErr, IsTrue, None};
+ghost use Rattle.std.specs.Prelude.{◌≡◌, ◌≤◌, ◌+◌, ◌++◌, ◌∷◌, [], List, length, sum_by, OnOk, IfOk, IfErr, IsTrue, None};
 ghost use Rattle.strm_pool.specs.Config.{fault_of};
 ghost use Rattle.strm_pool.specs.PoolValue.{owns};
-ghost use Rattle.strm_pool.specs.Registers.{RegisterTable, table_of, AreDistinct};
+ghost use Rattle.strm_pool.specs.Registers.{RegisterTable, table_of, entries_of, AreDistinct};
 ghost use Rattle.strm_pool.specs.Step.{empty_tables};
 ghost use Rattle.strm_shared.specs.Limits.{most_workers};
 ghost use Rattle.strm_script.specs.Limits.{most_command_lines};
 ghost use Rattle.strm_script.specs.Merge.{Served, by_worker, serial_from};
 ghost use Rattle.strm_script.specs.Text.{text_from};
+ghost use Rattle.strm_driver.specs.Holding.{AreHeldAlike};
 ghost use Rattle.strm_driver.specs.Outcome.{IsSerialText};
 ghost use Rattle.strm_driver.specs.Told.{TellsNewFault};
 
@@ -27,9 +28,11 @@ fn serve(
 ) -> Result<(), AllocError>
     requires owned { IsTrue (owns pool.old regs.old) }
     requires distinct { AreDistinct (table_of regs.old) }
-    ensures { OnOk result ((before behind : List RegisterTable) (later : List Served) → length before ≡ worker
+    ensures text { OnOk result ((before behind : List RegisterTable) (later : List Served) → length before ≡ worker
         → text.new.items ++ text_from pool.new (before ++ table_of regs.new ∷ behind) later
         ≡ text.old.items ++ text_from pool.old (before ++ table_of regs.old ∷ behind) (by_worker worker lines.now ++ later)) }
+    ensures owned { IsTrue (owns pool.new regs.new) }
+    ensures held { AreHeldAlike pool.old (entries_of regs.old ∷ []) pool.new (entries_of regs.new ∷ []) }
 {
     for line in lines {
         let mut reply = Reply::Done;
@@ -48,8 +51,9 @@ fn serve_parts(
     text: &mut Vec<u8>,
 ) -> Result<(), AllocError>
     requires { worker + length parts.now ≤ most_workers }
-    ensures { OnOk result ((before : List RegisterTable) → length before ≡ worker
+    ensures text { OnOk result ((before : List RegisterTable) → length before ≡ worker
         → text.new.items ≡ text.old.items ++ text_from pool.old (before ++ empty_tables (length parts.now)) (serial_from worker parts.now)) }
+    ensures freed { AreHeldAlike pool.old [] pool.new [] }
 {
     let [lines, others @ ..] = parts else {
         return report_text(text, pool);

@@ -252,29 +252,57 @@ const TURNS_TEXT: &[u8] =
       blocks free=7 queued=0 held=1 total=8\ndata size=16 free=3 total=4\n\
       queue 0 msgs=0 bytes=0 read=0 noenable=0 enabled=1\nrun 0\nwishes -\n";
 
-// Which turn a worker's line has.
-fn turn_of(worker: u8, line: u32) -> u32 {
-    match (worker, line) {
-        (1, 10) => 0,
-        (0, 6) => 1,
-        (1, 11) => 2,
-        (0, 7) => 3,
-        (1, 12) => 4,
-        (0, 8) => 5,
-        _ => 6,
+// In which order lines are served: the worker and the number of each.
+const TURNS_ORDER: &[(u8, u32)] = &[(1, 10), (0, 6), (1, 11), (0, 7), (1, 12), (0, 8), (1, 13)];
+
+// Three sections at one queue, each with registers of its own.
+const THREE: &[u8] =
+    b"pool 1 8\nclass 16 4\nqueue 10 4 s -\nbufcalls 2 1\nworker\ncensus\nallocb a 3\nputq 0 a\n\
+      worker\ncensus\ngetq 0 a\nfreemsg a\nworker\ncensus\nqsize 0\ngetq 0 b\n";
+
+// All three look at the pool before they do anything, worker 2 first. It looks at the queue before the message is put, and takes it
+// after that, so that worker 1 finds nothing.
+const THREE_ORDER: &[(u8, u32)] = &[
+    (2, 14),
+    (0, 6),
+    (1, 10),
+    (0, 7),
+    (2, 15),
+    (0, 8),
+    (2, 16),
+    (1, 11),
+    (1, 12),
+];
+
+const THREE_TEXT: &[u8] =
+    b"2:14 census 8 0 0\n0:6 census 8 0 0\n1:10 census 8 0 0\n0:7 ok\n2:15 size 0\n0:8 ok\n2:16 ok\n1:11 none\n1:12 empty\n\
+      blocks free=7 queued=0 held=1 total=8\ndata size=16 free=3 total=4\n\
+      queue 0 msgs=0 bytes=0 read=1 noenable=0 enabled=1\nrun 0\nwishes -\n";
+
+// Which turn a worker's line has in an order, the number of its lines if it isn't one of them.
+fn turn_of(order: &[(u8, u32)], worker: u8, line: u32) -> u32 {
+    let mut turn = 0u32;
+    for place in order {
+        if *place == (worker, line) {
+            return turn;
+        }
+        turn = turn.saturating_add(1);
     }
+    turn
 }
 
-// A gate that lets lines pass by turns: whose turn it is, and how many waited for theirs in vain.
+// A gate that lets lines pass by turns, in an order: whose turn it is, and how many waited for theirs in vain.
 #[derive(Drop)]
 struct Turns {
+    order: &'static [(u8, u32)],
     turn: AtomicU32,
     missed: AtomicU32,
 }
 
 impl Turns {
-    fn new() -> Turns {
+    fn new(order: &'static [(u8, u32)]) -> Turns {
         Turns {
+            order,
             turn: AtomicU32::new(0),
             missed: AtomicU32::new(0),
         }
@@ -293,7 +321,7 @@ impl Turns {
 
 impl Gate for Turns {
     fn before(&self, worker: u8, line: u32) {
-        if !self.comes(turn_of(worker, line)) {
+        if !self.comes(turn_of(self.order, worker, line)) {
             self.missed.fetch_add(1, Ordering::SeqCst);
         }
     }
@@ -303,12 +331,27 @@ impl Gate for Turns {
     }
 }
 
+// The text of a script whose lines are served in this order is the one that is wanted, and the gate was told of each line.
+fn expect_order(
+    rt: &(impl Abort + AllocGlobal + Threads + Wait + Sync),
+    script: &[u8],
+    order: &'static [(u8, u32)],
+    wanted: &[u8],
+) {
+    let gate = Turns::new(order);
+    expect_text(rt, &written(rt, Mode::Workers, &gate, script), wanted);
+    assert!(rt; gate.turn.load(Ordering::SeqCst) as usize == order.len());
+    expect_count(rt, &gate.missed, 0);
+}
+
 #[test]
 fn writes_the_order_in_which_workers_were_served(rt: HostRuntime) {
-    let gate = Turns::new();
-    let text = written(&rt, Mode::Workers, &gate, TURNS);
-    expect_text(&rt, &text, TURNS_TEXT);
-    expect_count(&rt, &gate.missed, 0);
+    expect_order(&rt, TURNS, TURNS_ORDER, TURNS_TEXT);
+}
+
+#[test]
+fn writes_the_order_in_which_three_workers_were_served(rt: HostRuntime) {
+    expect_order(&rt, THREE, THREE_ORDER, THREE_TEXT);
 }
 
 // A run from this reader has this fault, and writes nothing.
@@ -369,7 +412,7 @@ fn a_failing_writer_has_the_beginning(rt: HostRuntime) {
 #[test]
 fn a_failing_writer_has_the_beginning_of_what_two_workers_were_served(rt: HostRuntime) {
     for cut in [0, 7, 21] {
-        let gate = Turns::new();
+        let gate = Turns::new(TURNS_ORDER);
         expect_beginning(&rt, Mode::Workers, &gate, TURNS, 7, &TURNS_TEXT[..cut]);
         expect_count(&rt, &gate.missed, 0);
     }

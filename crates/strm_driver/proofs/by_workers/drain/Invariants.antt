@@ -1,6 +1,14 @@
--- The desks that are left.
-use Rattle.std.proofs.Common.{length}
+-- The desks that are left, and what is left of the pool.
+use Rattle.std.proofs.Common.{◌≡◌, length}
+use Rattle.strm_driver.specs.Holding.{AreHeldAlike}
+use Rattle.strm_driver.proofs.Holding.{entries_at}
 use Rattle.strm_driver.proofs.by_workers.drain.Given as goal
 
-abbrev pub decreases-loop-pool : goal.decreases-loop-pool
-decreases-loop-pool g l = length l.desks
+abbrev pub invariant-loop-desks : goal.invariant-loop-desks
+invariant-loop-desks g l = record {
+  id : l.pool.arena.id ≡ g.N.Name.opened.arena.id;
+  alike : AreHeldAlike l.fn.pool (entries_at l.fn.desks) l.pool (entries_at l.desks);
+}
+
+abbrev pub decreases-loop-desks : goal.decreases-loop-desks
+decreases-loop-desks g l = length l.desks

@@ -10,8 +10,8 @@ run_workers_without_replies-requires-after_bounds g c κs within = (
   (omega arith, sym c.requires.under.desks ∙ sym (length-fresh g.N.Name.desks _) ∙ sym (ap length c.open-shared.ensures)),
 )
 
-pub text_of_outcome-requires : goal.text_of_outcome-requires
-text_of_outcome-requires g c =
+pub text_of_outcome-text-requires : goal.text_of_outcome-text-requires
+text_of_outcome-text-requires g c =
     let worked = c.in-Ok.ensures.worked in (
       omega arith,
       (
