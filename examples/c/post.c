@@ -1,5 +1,5 @@
 /*
- * Puts messages on a queue, of which the second one has more bytes than a data block may have. It is refused, and leaves nothing behind.
+ * Puts two messages on a queue. The second is larger than the largest size class, so it is refused and leaves nothing behind.
  *
  *     cc post.c $(pkg-config --cflags --libs strm) -o post
  */
@@ -10,12 +10,15 @@
 static const struct strm_class_spec classes[] = { { 16, 32 }, { 256, 8 } };
 static const struct strm_queue_spec queues[] = { { 64, 16, 1, STRM_NO_QUEUE } };
 
-/* Puts a message with these bytes on queue 0. Where a call is refused, it frees the message, and returns the code. */
+/* Puts a message with these bytes on queue 0. If a call is refused, frees the message and returns the code. */
 int post(struct strm_pool *pool, const void *bytes, size_t length)
 {
 	struct strm_msg msg;
-	int code = strm_allocb(pool, length, &msg);
+	int code;
 
+	if (length > STRM_MOST_DATA_BYTES)
+		return STRM_TOO_LARGE;
+	code = strm_allocb(pool, (uint32_t)length, &msg);
 	if (code != STRM_OK)
 		return code;
 	code = strm_write(pool, msg, 0, bytes, length);
