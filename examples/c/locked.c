@@ -75,9 +75,11 @@ static uint32_t take_number(struct shared *shared)
 	must(code);
 	must(strm_read(&shared->pool, msg, 0, &number, sizeof number, &count));
 	must(strm_freemsg(&shared->pool, msg));
-	while (strm_next_service(&shared->pool, &queue) == STRM_OK)
+	while ((code = strm_next_service(&shared->pool, &queue)) != STRM_NONE) {
+		must(code);
 		if (queue == SENDER)
 			pthread_cond_signal(&shared->has_room);
+	}
 	return number;
 }
 

@@ -67,8 +67,10 @@ static uint32_t has_room(struct strm_pool *pool, struct strm_msg msg)
 static void serve_inner(struct strm_pool *pool)
 {
 	struct strm_msg msg;
+	int code;
 
-	while (strm_getq(pool, INNER, &msg) == STRM_OK) {
+	while ((code = strm_getq(pool, INNER, &msg)) != STRM_NONE) {
+		must(code);
 		if (!has_room(pool, msg)) {
 			must(strm_putbq(pool, INNER, msg));
 			printf("  no room: one goes back\n");
@@ -86,9 +88,11 @@ static void serve_outer(struct strm_pool *pool)
 	struct strm_msg msg;
 	size_t count;
 	uint32_t left;
+	int code = strm_getq(pool, OUTER, &msg);
 
-	if (strm_getq(pool, OUTER, &msg) != STRM_OK)
+	if (code == STRM_NONE)
 		return;
+	must(code);
 	must(strm_read(pool, msg, 0, bytes, sizeof bytes, &count));
 	printf("  out: %.*s\n", (int)count, bytes);
 	must(strm_freemsg(pool, msg));
@@ -103,6 +107,7 @@ int main(void)
 	struct strm_config config = { 1, 16, NULL, 1, NULL, 2, 0, 1 };
 	struct strm_census census;
 	uint32_t queue;
+	int code;
 
 	config.classes = classes;
 	config.queues = queues;
@@ -112,7 +117,8 @@ int main(void)
 	post(&pool, "hare");
 	post(&pool, "crow");
 	/* this loop is the scheduler, which STREAMS has in the kernel */
-	while (strm_next_service(&pool, &queue) == STRM_OK) {
+	while ((code = strm_next_service(&pool, &queue)) != STRM_NONE) {
+		must(code);
 		printf("queue %lu is served\n", (unsigned long)queue);
 		if (queue == INNER)
 			serve_inner(&pool);
