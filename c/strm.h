@@ -12,16 +12,32 @@
  *     strm_putq(&pool, 0, msg);
  *
  *
+ * Terms
+ *
+ *   - reference: a message block that uses a data block; the field "names" counts them.
+ *   - high priority: messages of type STRM_M_IOCACK or a later one.
+ *   - rank: a message's band; high priority ranks above all bands.
+ *   - full: a band of a queue with the bytes of its high water mark, or more.
+ *   - wanted: the mark of a band that strm_bcanput found full.
+ *   - settle: to clear the wanted mark of each band at its low water mark or below. If one is
+ *     cleared, the nearest queue before this one with a service procedure is enabled
+ *     (back-enabling).
+ *   - run list: the queues whose service procedures are due.
+ *   - enable: to append a queue to the run list, unless it is there or has no service procedure.
+ *   - want-to-read: the mark of a new queue, and of one that strm_getq found empty.
+ *   - wish (bufcall): a request for a message block, kept until strm_take_ready returns it.
+ *
+ *
  * Results
  *
  * A call that can fail returns a code, and stores its results through pointers. STRM_OK is 0. Codes
  * above 0 are refusals of the pool, numbered as by the program strm. Codes below 0 are of this
- * header. If several apply, the first of these is returned; strm_open lists its own:
+ * header. If several apply, the first in this list is returned; strm_open has its own order:
  *
  *   1. STRM_NOT_OPEN: the handle is null, was never opened, or was closed.
  *   2. STRM_BAD_ARGUMENT: a pointer is null, except one to a buffer of length 0. Or a band, a type,
- *      a flush or a length is out of range; a length is at most SIZE_MAX / 2. Or strm_rmvb or
- *      strm_read got one place for two results.
+ *      a flush or a length is out of range; a length is at most SIZE_MAX / 2. Or both result
+ *      pointers of strm_rmvb, or of strm_read with a length above 0, are equal.
  *   3. STRM_INVALID: a name is not valid. Of two names the first is checked first.
  *   4. STRM_NO_SUCH_QUEUE: the call names a queue that the pool does not have.
  *   5. The refusals that the call's comment lists, in that order.
@@ -30,8 +46,7 @@
  * through pointers. Any other code but STRM_OK means that nothing changed: not the pool, no name,
  * and nothing that a pointer leads to.
  *
- * Calls take constant time, unless they go along a message, to a place, or over messages of a
- * queue. Then time grows with the blocks, messages or bytes that they pass.
+ * A call takes constant time, plus time for each block, message or byte that it passes.
  *
  *
  * Names
@@ -45,38 +60,35 @@
  * that is on a queue gets STRM_INVALID. Any bits may be passed as a name. Names may be copied,
  * kept, and compared by their three fields. STRM_NO_MSG is the name of no message.
  *
- * There are two limits to this. Stamps have 64 bits for each message block, and start again after
- * 2^64 messages that began with it. And pools that are open under the same id, at once or one after
- * the other, can't tell their names apart: give pools whose names can meet different ids.
+ * Two limits: stamps start again after 2^64 messages that began with the same block. And pools
+ * opened under the same id, at once or one after the other, can't tell their names apart: give
+ * pools whose names can meet different ids.
  *
- * A message whose name the caller lost stays held until the pool is closed.
+ * A message whose name is lost stays held until the pool is closed.
  *
  *
  * What the caller promises
  *
- * The library does not check what follows. To break it is undefined behaviour.
+ * The library does not check these rules; breaking one is undefined behaviour.
  *
  *   - A pointer that is not null leads to as many objects as the call says. Nothing else uses them
  *     during the call, and what a call writes overlaps nothing else that it is given.
- *   - A handle is passed to one call at a time. Threads that share a pool hold a lock of theirs
- *     during each call, also one that only looks. No call is made from a signal handler, or in a
+ *   - A handle is passed to one call at a time. Threads that share a pool guard each call with a
+ *     lock of their own, also one that only looks. No call is made from a signal handler, or in a
  *     forked child of a process with threads on a pool of the parent.
- *   - A handle is zeroed, or set to STRM_POOL_INIT, before its first call. An open handle may be
- *     moved, but not used at two places: the library can't tell a copy from the handle. The caller
- *     does not write to its fields.
+ *   - A handle is zeroed, or set to STRM_POOL_INIT, before its first call. One whose second word is
+ *     STRM_POOL_OPEN is taken for open, even by chance; any other is not open.
+ *   - An open handle may be moved, but not used at two places: the library can't tell a copy from
+ *     the handle. The caller does not write to its fields.
  *   - malloc, realloc and free are of one allocator, and align each block for any object that fits.
- *
- * The library takes a handle for open if its second word is STRM_POOL_OPEN, which memory that was
- * never set may have by chance. With any other word, as zeroed and closed handles have, calls
- * return STRM_NOT_OPEN.
  *
  *
  * As in STREAMS, and not
  *
  * A call strm_NAME is the routine NAME of the UNIX System V Release 4 Programmer's Guide: STREAMS,
  * if that has one. In all of them names and numbers replace pointers, and codes replace 0, -1 and
- * null pointers. The text on each call ends with what else differs; "own" marks rules of this
- * library. No call waits, calls back, or runs a service procedure.
+ * null pointers. The text on each call ends with what else differs. No call waits, calls back, or
+ * runs a service procedure.
  */
 #ifndef STRM_H
 #define STRM_H
@@ -98,21 +110,21 @@ enum {
 	STRM_TOO_LARGE = 1,		/* the size is above the largest class */
 	STRM_NO_MBLK = 2,		/* fewer message blocks are free than the call needs */
 	STRM_NO_DATA = 3,		/* no data block is free of a class that fits */
-	STRM_REF_MAX = 4,		/* a data block would be named by more than STRM_MOST_NAMES message blocks */
+	STRM_REF_MAX = 4,		/* a data block would have more than STRM_MOST_NAMES references */
 	STRM_NO_SUCH_BLOCK = 5,		/* the message has no such block */
-	STRM_SHARED = 6,		/* the data block is named by more than one message block */
+	STRM_SHARED = 6,		/* the data block has more than one reference */
 	STRM_NO_ROOM = 7,		/* the bytes do not fit behind the write place */
 	STRM_SHORT = 8,			/* the message has too few bytes of one type */
 	STRM_NO_SUCH_PLACE = 9,		/* the queue has no such place */
 	STRM_BAD_ORDER = 10,		/* the ranks would rise from front to back */
 	STRM_NO_SUCH_QUEUE = 11,	/* there is no such queue */
-	STRM_FULL = 12,			/* as many wishes are recorded as there may be */
+	STRM_FULL = 12,			/* no room for another bufcall wish (never returned for a full queue) */
 	STRM_IDS_SPENT = 13,		/* the last id was given */
 	STRM_NOT_PENDING = 14,		/* no wish has this id */
 	STRM_BAD_MARKS = 20,		/* the low water mark is not below the high one */
 
 	/* codes of this header */
-	STRM_NONE = -1,			/* done, and there is nothing to give */
+	STRM_NONE = -1,			/* done, and there is nothing to return */
 	STRM_INVALID = -2,		/* a name is not valid */
 	STRM_NOT_OPEN = -3,		/* the handle is not open */
 	STRM_BAD_ARGUMENT = -4,		/* a pointer is null, or a number is out of range */
@@ -126,7 +138,7 @@ enum {
 	STRM_BAD_CLASS_TOTAL = -14,	/* a class has no data block, or all have more than STRM_MOST_DATA_BLOCKS */
 	STRM_BAD_QUEUES = -15,		/* there is no queue */
 	STRM_BAD_QUEUE_MARKS = -16,	/* a queue's low water mark is not below the high one */
-	STRM_BAD_NEXT = -17,		/* a next queue is not there, has no greater number, or is named twice */
+	STRM_BAD_NEXT = -17,		/* a next queue does not exist, is not numbered above its queue, or is next of two queues */
 	STRM_BAD_BUFCALLS = -18,	/* there are more than STRM_MOST_WISHES wishes */
 	STRM_BAD_FIRST_ID = -19		/* the first id is 0 */
 };
@@ -136,7 +148,7 @@ enum {
 #define STRM_MOST_CLASSES 8		/* size classes */
 #define STRM_MOST_DATA_BLOCKS 16383	/* data blocks of all classes */
 #define STRM_MOST_DATA_BYTES 4096	/* bytes of a data block */
-#define STRM_MOST_NAMES 255		/* message blocks that refer to one data block */
+#define STRM_MOST_NAMES 255		/* references to one data block */
 #define STRM_MOST_QUEUES 16		/* queues */
 #define STRM_BANDS 256			/* bands of a queue, from 0 on */
 #define STRM_MOST_WISHES 64		/* wishes at one time */
@@ -184,7 +196,7 @@ struct strm_queue_spec {
 	uint32_t hiwat;			/* the high water mark of each band at first, in bytes */
 	uint32_t lowat;			/* the low water mark, in bytes, below hiwat */
 	uint32_t service;		/* 0 if it has no service procedure, else any other number */
-	uint32_t next;			/* the next queue, of a greater number, next of no other; or STRM_NO_QUEUE */
+	uint32_t next;			/* the next queue, numbered above this one and next of no other; or STRM_NO_QUEUE */
 };
 #define STRM_NO_QUEUE 0xFFFFFFFFu
 
@@ -209,7 +221,7 @@ struct strm_census {
 
 struct strm_class_info {
 	uint32_t size;			/* bytes of each data block */
-	uint32_t free;			/* data blocks that no message block refers to */
+	uint32_t free;			/* data blocks without a reference */
 	uint32_t total;			/* all data blocks */
 };
 
@@ -218,13 +230,13 @@ struct strm_block_info {
 	uint32_t length;		/* bytes between its read place and its write place */
 	uint32_t band;			/* 0 to 255 */
 	uint32_t room;			/* bytes after the write place */
-	uint32_t names;			/* message blocks that refer to its data block, 1 to STRM_MOST_NAMES */
+	uint32_t names;			/* references to its data block, 1 to STRM_MOST_NAMES */
 };
 
 struct strm_queue_info {
 	uint32_t msgs;			/* messages on it */
 	uint32_t bytes;			/* bytes of these messages */
-	uint32_t read;			/* the want-to-read mark: 1 if the last strm_getq found none, or at first */
+	uint32_t read;			/* the want-to-read mark: 1 if the last strm_getq found the queue empty, or none was made yet */
 	uint32_t noenable;		/* 1 if enabling is off */
 	uint32_t enabled;		/* 1 if it is on the run list */
 };
@@ -232,7 +244,7 @@ struct strm_queue_info {
 struct strm_band_info {
 	uint32_t bytes;			/* bytes of its messages; those of high priority count with band 0 */
 	uint32_t full;			/* 1 if bytes is at the high water mark or above */
-	uint32_t wanted;		/* 1 if strm_bcanput found it full, and it has not settled since */
+	uint32_t wanted;		/* 1 if strm_bcanput found it full, and bytes stayed above the low water mark since */
 };
 
 /* The water marks of a band, in bytes. */
@@ -251,11 +263,11 @@ struct strm_wish {
 
 /*
  * Opens a pool, with all blocks free and all queues empty. It allocates all memory, 68 MB for the
- * largest pool, and copies the configuration. A pointer to no classes, or to no queues, may be
- * null; more than the limit are STRM_BAD_ARGUMENT.
+ * largest pool, and copies the configuration. classes and queues may be null if their count is 0,
+ * which is STRM_BAD_CLASSES or STRM_BAD_QUEUES; a count above its limit is STRM_BAD_ARGUMENT.
  * Refused as STRM_NOT_OPEN for a null handle, STRM_IS_OPEN, STRM_BAD_ARGUMENT, the first fault from
- * STRM_BAD_MBLKS to STRM_BAD_FIRST_ID, or STRM_NO_MEMORY, in this order. A handle that was open
- * stays as it was, and any other is not open.
+ * STRM_BAD_MBLKS to STRM_BAD_FIRST_ID, or STRM_NO_MEMORY, in this order. If it fails, an open
+ * handle is unchanged, and any other stays closed.
  */
 int strm_open(struct strm_pool *pool, const struct strm_config *config);
 
@@ -272,13 +284,13 @@ int strm_is_open(const struct strm_pool *pool);
  * is the first free one of the smallest class that fits and has one. The message has no bytes, type
  * STRM_M_DATA and band 0.
  * Refused as STRM_TOO_LARGE, STRM_NO_MBLK, STRM_NO_DATA.
- * STREAMS: without the priority; own: size classes.
+ * Differs from STREAMS: no priority, and size classes.
  */
 int strm_allocb(struct strm_pool *pool, uint32_t size, struct strm_msg *msg);
 
 /*
  * Sets *yes to 1 if strm_allocb of this size would succeed now, else to 0.
- * STREAMS: the same; own: the answer is exact.
+ * Differs from STREAMS: the answer is exact.
  */
 int strm_testb(struct strm_pool *pool, uint32_t size, uint32_t *yes);
 
@@ -286,14 +298,14 @@ int strm_testb(struct strm_pool *pool, uint32_t size, uint32_t *yes);
  * Duplicates the first block of a message: the new message has one block over the same data block,
  * with the same places and band.
  * Refused as STRM_NO_MBLK, STRM_REF_MAX.
- * STREAMS: the same; own: STRM_MOST_NAMES as the limit.
+ * Differs from STREAMS: the limit is STRM_MOST_NAMES.
  */
 int strm_dupb(struct strm_pool *pool, struct strm_msg msg, struct strm_msg *copy);
 
 /*
  * Duplicates all blocks of a message as strm_dupb does, or none.
  * Refused as by strm_dupb.
- * STREAMS: the same.
+ * As in STREAMS.
  */
 int strm_dupmsg(struct strm_pool *pool, struct strm_msg msg, struct strm_msg *copy);
 
@@ -302,14 +314,14 @@ int strm_dupmsg(struct strm_pool *pool, struct strm_msg msg, struct strm_msg *co
  * strm_allocb for the capacity of the old one. Type, band, and bytes with their places are the
  * same.
  * Refused as STRM_NO_MBLK, STRM_NO_DATA.
- * STREAMS: the same; own: which data block is taken.
+ * Differs from STREAMS: which data block is taken.
  */
 int strm_copyb(struct strm_pool *pool, struct strm_msg msg, struct strm_msg *copy);
 
 /*
  * Copies all blocks of a message as strm_copyb does, or none.
  * Refused as by strm_copyb.
- * STREAMS: the same.
+ * As in STREAMS.
  */
 int strm_copymsg(struct strm_pool *pool, struct strm_msg msg, struct strm_msg *copy);
 
@@ -317,20 +329,20 @@ int strm_copymsg(struct strm_pool *pool, struct strm_msg msg, struct strm_msg *c
  * Frees the first block of a message, and its data block if no other block refers to that. The
  * blocks after it become the message *rest; if there are none, returns STRM_NONE. msg is no longer
  * valid.
- * STREAMS: b_cont need not be saved before.
+ * Differs from STREAMS: b_cont need not be saved before.
  */
 int strm_freeb(struct strm_pool *pool, struct strm_msg msg, struct strm_msg *rest);
 
 /*
  * Frees all blocks of a message, first to last, as strm_freeb does. msg is no longer valid.
- * STREAMS: the same.
+ * As in STREAMS.
  */
 int strm_freemsg(struct strm_pool *pool, struct strm_msg msg);
 
 /* ---- bytes and fields of a message: strm_write(3) */
 
 /*
- * Appends length bytes at the write place of block place, and raises it.
+ * Appends length bytes at the write place of the block numbered place, and moves it past them.
  * Refused as STRM_NO_SUCH_BLOCK, STRM_SHARED, STRM_NO_ROOM; the first two also for a length of 0.
  * STREAMS: writing through b_wptr.
  */
@@ -338,14 +350,14 @@ int strm_write(struct strm_pool *pool, struct strm_msg msg, uint32_t place, cons
 
 /*
  * Copies bytes of a message from byte at on, counted over all blocks, into a buffer of length
- * bytes. *count is how many were copied: as many as there are, length at most. The rest of the
- * buffer is unchanged.
+ * bytes. *count is how many were copied: as many as there are, length at most; 0, with STRM_OK, if
+ * at is past the end. The rest of the buffer is unchanged.
  * STREAMS: reading through b_rptr, block by block.
  */
 int strm_read(struct strm_pool *pool, struct strm_msg msg, uint32_t at, void *into, size_t length, size_t *count);
 
 /*
- * Sets the type of block place's data block to type, STRM_M_DATA to STRM_M_IOCDATA.
+ * Sets the type of the data block of the block numbered place, STRM_M_DATA to STRM_M_IOCDATA.
  * Refused as STRM_NO_SUCH_BLOCK, STRM_SHARED, even if the type is the same.
  * STREAMS: db_type.
  */
@@ -354,20 +366,20 @@ int strm_settype(struct strm_pool *pool, struct strm_msg msg, uint32_t place, ui
 /* Sets the band of the first block of a message, 0 to 255. STREAMS: b_band. */
 int strm_setband(struct strm_pool *pool, struct strm_msg msg, uint32_t band);
 
-/* Counts the bytes of a message. Own. */
+/* Counts the bytes of a message. Not in STREAMS. */
 int strm_size(struct strm_pool *pool, struct strm_msg msg, uint32_t *bytes);
 
-/* Counts the bytes in blocks of type STRM_M_DATA. STREAMS: the same. */
+/* Counts the bytes in blocks of type STRM_M_DATA. As in STREAMS. */
 int strm_msgdsize(struct strm_pool *pool, struct strm_msg msg, uint32_t *bytes);
 
 /*
- * Returns the fields of block place of a message.
+ * Returns the fields of the block numbered place.
  * Refused as STRM_NO_SUCH_BLOCK.
  * STREAMS: the fields of msgb and datab.
  */
 int strm_block(struct strm_pool *pool, struct strm_msg msg, uint32_t place, struct strm_block_info *block);
 
-/* Sets *yes to 1 if the name is valid, else to 0. It never returns STRM_INVALID. Own. */
+/* Sets *yes to 1 if the name is valid, else to 0. It never returns STRM_INVALID. Not in STREAMS. */
 int strm_has(struct strm_pool *pool, struct strm_msg msg, uint32_t *yes);
 
 /* ---- messages joined, parted and trimmed: strm_linkb(3) */
@@ -375,22 +387,22 @@ int strm_has(struct strm_pool *pool, struct strm_msg msg, uint32_t *yes);
 /*
  * Appends the blocks of tail to msg. tail is no longer valid. If both are the same name, returns
  * STRM_INVALID.
- * STREAMS: the same.
+ * As in STREAMS.
  */
 int strm_linkb(struct strm_pool *pool, struct strm_msg msg, struct strm_msg tail);
 
 /*
  * Leaves only the first block in a message. The blocks after it become the message *rest; if there
  * are none, returns STRM_NONE.
- * STREAMS: the same.
+ * As in STREAMS.
  */
 int strm_unlinkb(struct strm_pool *pool, struct strm_msg msg, struct strm_msg *rest);
 
 /*
- * Takes block place out of a message. The block becomes the message *block, and the others become
- * *rest, or STRM_NO_MSG if there are none. msg is no longer valid.
+ * Takes the block numbered place out of a message. It becomes the message *block, and the others
+ * become *rest, or STRM_NO_MSG if there are none. msg is no longer valid.
  * Refused as STRM_NO_SUCH_BLOCK.
- * STREAMS: own: by place, and both parts are kept.
+ * Differs from STREAMS: by place, and both parts are kept.
  */
 int strm_rmvb(struct strm_pool *pool, struct strm_msg msg, uint32_t place, struct strm_msg *block, struct strm_msg *rest);
 
@@ -399,7 +411,7 @@ int strm_rmvb(struct strm_pool *pool, struct strm_msg msg, uint32_t place, struc
  * If count is negative, trims -count bytes from its tail, over its trailing blocks of the last
  * block's type.
  * Refused as STRM_SHORT if these blocks have fewer bytes.
- * STREAMS: the same; own: which blocks are trimmed at the tail, and blocks that become empty stay.
+ * Differs from STREAMS: which blocks are trimmed at the tail, and blocks that become empty stay.
  */
 int strm_adjmsg(struct strm_pool *pool, struct strm_msg msg, int32_t count);
 
@@ -410,25 +422,24 @@ int strm_adjmsg(struct strm_pool *pool, struct strm_msg msg, int32_t count);
  * bytes are freed.
  * Refused as STRM_SHORT if count is below -1 or these blocks have fewer bytes, STRM_TOO_LARGE,
  * STRM_NO_DATA.
- * STREAMS: the same; own: bytes are not aligned.
+ * Differs from STREAMS: bytes are not aligned.
  */
 int strm_pullupmsg(struct strm_pool *pool, struct strm_msg msg, int32_t count);
 
 /* ---- queues: strm_putq(3) */
 
 /*
- * Puts a message on a queue, after those of its rank or a greater one. msg is no longer valid. The
- * rank is the band of the first block; high priority ranks above all bands, and its first block
- * gets band 0. A high priority message enables the queue. If enabling is on, a want-to-read mark or
- * a band above 0 does too.
- * STREAMS: the same.
+ * Puts a message on a queue, after those of its rank or a greater one. It never checks for room:
+ * ask strm_bcanput first. msg is no longer valid. A high priority message gets band 0, and enables
+ * the queue. If enabling is on, a want-to-read mark or a band above 0 enables it too.
+ * As in STREAMS.
  */
 int strm_putq(struct strm_pool *pool, uint32_t queue, struct strm_msg msg);
 
 /*
  * Puts a message back on a queue, before those of its rank or a smaller one. It enables as
  * strm_putq does, but not for a band above 0. msg is no longer valid.
- * STREAMS: the same; own: high priority enables even if enabling is off.
+ * Differs from STREAMS: high priority enables even if enabling is off.
  */
 int strm_putbq(struct strm_pool *pool, uint32_t queue, struct strm_msg msg);
 
@@ -437,85 +448,86 @@ int strm_putbq(struct strm_pool *pool, uint32_t queue, struct strm_msg msg);
  * msg is no longer valid. If enabling is on, a want-to-read mark enables the queue. High priority
  * gets band 0.
  * Refused as STRM_NO_SUCH_PLACE, STRM_BAD_ORDER.
- * STREAMS: own: by place, and high priority alone does not enable.
+ * Differs from STREAMS: by place, and high priority alone does not enable.
  */
 int strm_insq(struct strm_pool *pool, uint32_t queue, uint32_t place, struct strm_msg msg);
 
 /*
  * Takes the first message off a queue, clears the want-to-read mark (QWANTR), and settles the
- * queue: each band at its low water mark or below loses its wanted mark. If one did, the nearest
- * queue that leads here and has a service procedure is enabled (back-enabling). If the queue is
- * empty, sets the want-to-read mark and returns STRM_NONE.
- * STREAMS: the same; own: a new queue has the want-to-read mark, and a band settles at its low
- * water mark, not only below.
+ * queue. If the queue is empty, sets the want-to-read mark and returns STRM_NONE.
+ * Differs from STREAMS: a new queue has the want-to-read mark, and a band settles at its low water
+ * mark, not only below.
  */
 int strm_getq(struct strm_pool *pool, uint32_t queue, struct strm_msg *msg);
 
 /*
- * Takes the message at a place off a queue, and settles the queue as strm_getq does.
+ * Takes the message at a place off a queue, and settles the queue.
  * Refused as STRM_NO_SUCH_PLACE.
- * STREAMS: own: by place.
+ * Differs from STREAMS: by place.
  */
 int strm_rmvq(struct strm_pool *pool, uint32_t queue, uint32_t place, struct strm_msg *msg);
 
-/* Counts the messages on a queue. STREAMS: the same. */
+/* Counts the messages on a queue. As in STREAMS. */
 int strm_qsize(struct strm_pool *pool, uint32_t queue, uint32_t *msgs);
 
 /*
  * Frees messages of a queue, front to back: STRM_FLUSHALL or STRM_FLUSHDATA says which. Then it
- * settles the queue as strm_getq does.
- * STREAMS: the same; own: as of strm_getq; messages that stay keep their places, and the queue
- * itself is not enabled.
+ * settles the queue.
+ * Differs from STREAMS: settling, as of strm_getq; messages that stay keep their places, and the
+ * queue itself is not enabled.
  */
 int strm_flushq(struct strm_pool *pool, uint32_t queue, uint32_t flush);
 
 /*
  * Frees messages of one band, 0 to 255, as strm_flushq does.
- * STREAMS: the same; own: as of strm_flushq, and high priority is in band 0.
+ * Differs from STREAMS: as strm_flushq does, and high priority is in band 0.
  */
 int strm_flushband(struct strm_pool *pool, uint32_t queue, uint32_t band, uint32_t flush);
 
 /* ---- flow control and service: strm_bcanput(3) */
 
 /*
- * Asks whether a message of a band, 0 to 255, may be sent: *yes is 1 or 0. The first queue from
- * this one on with a service procedure decides, or the last one if none has any. If its band is
- * full, *yes is 0 and the band is marked wanted.
- * STREAMS: the same; canput is band 0.
+ * Asks whether a message of a band, 0 to 255, may be sent: *yes is 1 or 0. From this queue on,
+ * along next, the first one with a service procedure decides, or the last one if none has any. If
+ * the band is full there, *yes is 0 and the band is marked wanted. A service procedure passes its
+ * next queue, not its own, which would decide itself.
+ * As in STREAMS; canput asks for band 0.
  */
 int strm_bcanput(struct strm_pool *pool, uint32_t queue, uint32_t band, uint32_t *yes);
 
 /*
- * Sets the water marks of a band, in bytes, and settles the queue by them as strm_getq does.
+ * Sets the water marks of a band, in bytes, and settles the queue by them.
  * Refused as STRM_BAD_MARKS.
- * STREAMS: QHIWAT and QLOWAT; own: both at once, and the queue settles.
+ * Differs from STREAMS (QHIWAT, QLOWAT): both at once, and the queue settles.
  */
 int strm_strqset(struct strm_pool *pool, uint32_t queue, uint32_t band, uint32_t hiwat, uint32_t lowat);
 
-/* Returns the water marks of a band. STREAMS: QHIWAT and QLOWAT; own: both at once. */
+/* Returns the water marks of a band. Differs from STREAMS (QHIWAT, QLOWAT): both at once. */
 int strm_strqget(struct strm_pool *pool, uint32_t queue, uint32_t band, struct strm_marks *marks);
 
 /*
- * Enables a queue: appends it to the run list, unless it is there already or has no service
- * procedure.
- * STREAMS: the same.
+ * Enables a queue, even if enabling is off.
+ * As in STREAMS.
  */
 int strm_qenable(struct strm_pool *pool, uint32_t queue);
 
 /*
  * Switches enabling off. strm_qenable, back-enabling, and high priority by strm_putq or strm_putbq
  * still enable.
- * STREAMS: the same; own: high priority by strm_putbq.
+ * Differs from STREAMS: high priority by strm_putbq.
  */
 int strm_noenable(struct strm_pool *pool, uint32_t queue);
 
-/* Switches enabling on. It enables nothing by itself. STREAMS: the same. */
+/* Switches enabling on. It enables nothing by itself. As in STREAMS. */
 int strm_enableok(struct strm_pool *pool, uint32_t queue);
 
-/* Takes the first queue off the run list. If the list is empty, returns STRM_NONE. Own. */
+/*
+ * Takes the first queue off the run list. If the list is empty, returns STRM_NONE.
+ * Not in STREAMS.
+ */
 int strm_next_service(struct strm_pool *pool, uint32_t *queue);
 
-/* Returns the queue at a place of the run list, or STRM_NONE if there is none. Own. */
+/* Returns the queue at a place of the run list, or STRM_NONE if there is none. Not in STREAMS. */
 int strm_run_at(struct strm_pool *pool, uint32_t place, uint32_t *queue);
 
 /* ---- wishes: strm_bufcall(3) */
@@ -524,38 +536,41 @@ int strm_run_at(struct strm_pool *pool, uint32_t place, uint32_t *queue);
  * Records a wish for a message block over a data block of size bytes or more, after all others. Ids
  * rise by 1 from first_id of the configuration to 4294967295. A refused call uses up no id.
  * Refused as STRM_TOO_LARGE, STRM_FULL, STRM_IDS_SPENT.
- * STREAMS: own: no function is called back; strm_take_ready asks.
+ * Differs from STREAMS: no function is called back; strm_take_ready asks.
  */
 int strm_bufcall(struct strm_pool *pool, uint32_t size, uint32_t *id);
 
 /*
  * Withdraws a wish.
  * Refused as STRM_NOT_PENDING.
- * STREAMS: the same; own: the refusal.
+ * Differs from STREAMS: the refusal.
  */
 int strm_unbufcall(struct strm_pool *pool, uint32_t id);
 
 /*
  * Removes the oldest wish for which strm_allocb would succeed now, and returns it. It reserves no
  * block. If there is none, returns STRM_NONE.
- * Own.
+ * Not in STREAMS.
  */
 int strm_take_ready(struct strm_pool *pool, struct strm_wish *wish);
 
-/* Returns the wish at a place, the oldest first, or STRM_NONE if there is none. Own. */
+/* Returns the wish at a place, the oldest first, or STRM_NONE if there is none. Not in STREAMS. */
 int strm_wish_at(struct strm_pool *pool, uint32_t place, struct strm_wish *wish);
 
 /* ---- what there is: strm_census(3) */
 
-/* Counts the message blocks: free, on queues, and held. Own. */
+/* Counts the message blocks: free, on queues, and held. Not in STREAMS. */
 int strm_census(struct strm_pool *pool, struct strm_census *census);
 
-/* Returns the size class at a place, the smallest first, or STRM_NONE if there is none. Own. */
+/*
+ * Returns the size class at a place, the smallest first, or STRM_NONE if there is none.
+ * Not in STREAMS.
+ */
 int strm_class_info(struct strm_pool *pool, uint32_t place, struct strm_class_info *info);
 
 /*
  * Returns the state of a queue.
- * STREAMS: q_count, and QWANTR, QNOENB and QENAB of q_flag; own: the bytes of all bands.
+ * STREAMS: q_count, and QWANTR, QNOENB and QENAB of q_flag; here bytes are of all bands.
  */
 int strm_queue_info(struct strm_pool *pool, uint32_t queue, struct strm_queue_info *info);
 
@@ -568,10 +583,9 @@ int strm_band_info(struct strm_pool *pool, uint32_t queue, uint32_t band, struct
 /* ---- texts: strm_text(3) */
 
 /*
- * Copies the text of a code, as "the size is above the largest class", or "no such code" for
- * another number. If length is not 0, copies as much as fits, with a 0 at the end. Returns the
- * length of the whole text without the 0. Returns 0, and writes nothing, if text is null and length
- * is not 0, or length is above SIZE_MAX / 2.
+ * Copies the text of a code, or "no such code" for another number: as much as fits, with a 0 at the
+ * end if length is not 0. Returns the length of the whole text without the 0. Returns 0, and writes
+ * nothing, if text is null and length is not 0, or length is above SIZE_MAX / 2.
  */
 size_t strm_text(int code, char *text, size_t length);
 
