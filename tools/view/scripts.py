@@ -1,7 +1,8 @@
-"""Whether strm runs a script: which lines it may have, in which order, and which pools they may describe."""
+"""Which fault strm reports of a script, if any: in a line, by its words and its place, or in the pool that the header describes."""
 import re
+from collections import Counter
 
-from limits import DATA_BLOCK_BYTES, DATA_BLOCKS, MESSAGE_BLOCKS, WISHES
+from limits import CLASSES, COMMAND_LINES, DATA_BLOCK_BYTES, DATA_BLOCKS, MESSAGE_BLOCKS, QUEUES, WISHES, WORKERS
 from mixed import WORDS
 from model import HIGH_PRIORITY, ORDINARY
 
@@ -22,41 +23,67 @@ def either(first, second):
     return lambda word: first(word) or second(word)
 
 
-NUMBER, OCTET, REGISTER = number(2**32 - 1), number(255), pattern("[a-z]")
-# What each word after the first has to be.
+REGISTER, NUMBER, OCTET = pattern("[a-z]"), number(2**32 - 1), number(255)
+# What each word after the first has to be, and the fault of one that is not.
 FITS = {
-    **dict.fromkeys(["size", "block", "at", "place", "id", "high", "low"], NUMBER),
-    **dict.fromkeys(["band", "marked", "queue"], OCTET),
-    **dict.fromkeys(["from", "to"], REGISTER),
-    "count": either(number(2**31 - 1), lambda word: word[:1] == "-" and word != "-0" and number(2**31)(word[1:])),
-    "octets": pattern("-|([0-9a-f]{2}){1,64}"),
-    "kind": one_of(*ORDINARY, *HIGH_PRIORITY),
-    "flag": one_of("all", "data"),
-    "service": one_of("s", "n"),
-    "next": either(one_of("-"), OCTET),
+    **dict.fromkeys(["size", "block", "at", "place", "id", "high", "low"], (NUMBER, "number")),
+    **dict.fromkeys(["band", "marked", "queue"], (OCTET, "number")),
+    **dict.fromkeys(["from", "to"], (REGISTER, "register")),
+    "count": (either(number(2**31 - 1), lambda word: word[:1] == "-" and word != "-0" and number(2**31)(word[1:])), "number"),
+    "octets": (pattern("-|([0-9a-f]{2}){1,64}"), "hex"),
+    "kind": (one_of(*ORDINARY, *HIGH_PRIORITY), "word"),
+    "flag": (one_of("all", "data"), "word"),
+    "service": (one_of("s", "n"), "word"),
+    "next": (either(one_of("-"), OCTET), "number"),
 }
 HEADER = {"pool": "id size", "class": "size size", "queue": "high low service next", "bufcalls": "size id", "worker": ""}
 # The words after each first word.
 FORMS = {word: items.split() for word, items in [*HEADER.items(), *((word, items) for word, (items, _) in WORDS.items())]}
-ORDER = re.compile("pool (class ){1,8}(queue ){1,16}bufcalls (worker (command )*){1,16}")
+# Which lines may follow each line, and how many there may be.
+AFTER = {
+    "nothing": ["pool"],
+    "pool": ["class"],
+    "class": ["class", "queue"],
+    "queue": ["queue", "bufcalls"],
+    "bufcalls": ["worker"],
+    "worker": ["worker", "command"],
+    "command": ["worker", "command"],
+}
+MOST = {"class": CLASSES, "queue": QUEUES, "worker": WORKERS, "command": COMMAND_LINES}
 
 
-def is_line(word, *rest):
-    items = FORMS.get(word)
-    return items is not None and len(items) == len(rest) and all(FITS[item](text) for item, text in zip(items, rest))
+def line_kind(word):
+    return word if word in HEADER else "command"
+
+
+def fault_in(first, rest, before, counts):
+    """The first fault of a line after such a line, where there are this many of each kind, or None."""
+    if first not in FORMS:
+        return "unknown"
+    if line_kind(first) not in AFTER[before]:
+        return "order"
+    if counts[line_kind(first)] == MOST.get(line_kind(first)):
+        return "toomany"
+    if len(FORMS[first]) != len(rest):
+        return "shape"
+    return next((fault for (fits, fault), word in zip(map(FITS.get, FORMS[first]), rest) if not fits(word)), None)
 
 
 def fault_of(script):
-    """Why strm does not read this script, or None."""
-    lines = [(at, line.split(" ")) for at, line in enumerate(script.split("\n"), 1) if line and not line.startswith("#")]
-    for at, words in lines:
-        if not is_line(*words):
-            return f"line {at}: strm has no such line"
-    if not script.endswith("\n"):
-        return f"line {script.count(chr(10)) + 1}: the last line does not end with a line feed"
-    if not ORDER.fullmatch("".join(f"{word} " if word in HEADER else "command " for _, (word, *_) in lines)):
-        return "its lines are in an order that strm does not read"
-    return None
+    """The line and the kind of the first fault of a script, as strm reports them, or None."""
+    *lines, end = script.split("\n")
+    before, counts = "nothing", Counter()
+    for at, line in enumerate(lines, 1):
+        if not line or line.startswith("#"):
+            continue
+        first, *rest = line.split(" ")
+        fault = fault_in(first, rest, before, counts)
+        if fault:
+            return f"line {at}: {fault}"
+        before = line_kind(first)
+        counts[before] += 1
+    last = "cut" if end else None if counts["worker"] else "missing"
+    return last and f"line {len(lines) + 1}: {last}"
 
 
 def is_bad_next(pool):
