@@ -86,9 +86,9 @@
  * As in STREAMS, and not
  *
  * A call strm_NAME is the routine NAME of the UNIX System V Release 4 Programmer's Guide: STREAMS,
- * if that has one. In all of them names and numbers replace pointers, and codes replace 0, -1 and
- * null pointers. The text on each call ends with what else differs. No call waits, calls back, or
- * runs a service procedure.
+ * if that has one; strm_open, strm_close, strm_read and strm_write are no system calls. In all of
+ * them names and numbers replace pointers, and codes replace 0, -1 and null pointers. The text
+ * on each call ends with what else differs. No call waits, calls back, or runs a service procedure.
  */
 #ifndef STRM_H
 #define STRM_H
@@ -439,7 +439,7 @@ int strm_putq(struct strm_pool *pool, uint32_t queue, struct strm_msg msg);
 /*
  * Puts a message back on a queue, before those of its rank or a smaller one. It enables as
  * strm_putq does, but not for a band above 0. msg is no longer valid.
- * Differs from STREAMS: high priority enables even if enabling is off.
+ * As in STREAMS: a service procedure that puts high priority back is enabled again for ever.
  */
 int strm_putbq(struct strm_pool *pool, uint32_t queue, struct strm_msg msg);
 
@@ -448,15 +448,14 @@ int strm_putbq(struct strm_pool *pool, uint32_t queue, struct strm_msg msg);
  * msg is no longer valid. If enabling is on, a want-to-read mark enables the queue. High priority
  * gets band 0.
  * Refused as STRM_NO_SUCH_PLACE, STRM_BAD_ORDER.
- * Differs from STREAMS: by place, and high priority alone does not enable.
+ * Differs from STREAMS: by place.
  */
 int strm_insq(struct strm_pool *pool, uint32_t queue, uint32_t place, struct strm_msg msg);
 
 /*
  * Takes the first message off a queue, clears the want-to-read mark (QWANTR), and settles the
  * queue. If the queue is empty, sets the want-to-read mark and returns STRM_NONE.
- * Differs from STREAMS: a new queue has the want-to-read mark, and a band settles at its low water
- * mark, not only below.
+ * Differs from STREAMS: a band settles at its low water mark, not only below.
  */
 int strm_getq(struct strm_pool *pool, uint32_t queue, struct strm_msg *msg);
 
@@ -479,8 +478,8 @@ int strm_qsize(struct strm_pool *pool, uint32_t queue, uint32_t *msgs);
 int strm_flushq(struct strm_pool *pool, uint32_t queue, uint32_t flush);
 
 /*
- * Frees messages of one band, 0 to 255, as strm_flushq does.
- * Differs from STREAMS: as strm_flushq does, and high priority is in band 0.
+ * Frees messages of one band, 0 to 255, as strm_flushq does. High priority is in band 0.
+ * Differs from STREAMS: as strm_flushq does.
  */
 int strm_flushband(struct strm_pool *pool, uint32_t queue, uint32_t band, uint32_t flush);
 
@@ -514,7 +513,7 @@ int strm_qenable(struct strm_pool *pool, uint32_t queue);
 /*
  * Switches enabling off. strm_qenable, back-enabling, and high priority by strm_putq or strm_putbq
  * still enable.
- * Differs from STREAMS: high priority by strm_putbq.
+ * As in STREAMS.
  */
 int strm_noenable(struct strm_pool *pool, uint32_t queue);
 
