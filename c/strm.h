@@ -472,8 +472,7 @@ int strm_qsize(struct strm_pool *pool, uint32_t queue, uint32_t *msgs);
 /*
  * Frees messages of a queue, front to back: STRM_FLUSHALL or STRM_FLUSHDATA says which. Then it
  * settles the queue.
- * Differs from STREAMS: settling, as of strm_getq; messages that stay keep their places, and the
- * queue itself is not enabled.
+ * Differs from STREAMS: settling, as of strm_getq; the queue itself is not enabled.
  */
 int strm_flushq(struct strm_pool *pool, uint32_t queue, uint32_t flush);
 
