@@ -20,8 +20,8 @@
  *   - full: a band of a queue with the bytes of its high water mark, or more.
  *   - wanted: the mark of a band that strm_bcanput found full.
  *   - settle: to clear the wanted mark of each band at its low water mark or below. If one is
- *     cleared, the nearest queue before this one with a service procedure is enabled
- *     (back-enabling).
+ *     cleared, the nearest queue that leads to this one along next, and has a service procedure,
+ *     is enabled (back-enabling).
  *   - run list: the queues whose service procedures are due.
  *   - enable: to append a queue to the run list, unless it is there or has no service procedure.
  *   - want-to-read: the mark of a new queue, and of one that strm_getq found empty.
@@ -400,7 +400,7 @@ int strm_unlinkb(struct strm_pool *pool, struct strm_msg msg, struct strm_msg *r
 
 /*
  * Takes the block numbered place out of a message. It becomes the message *block, and the others
- * become *rest, or STRM_NO_MSG if there are none. msg is no longer valid.
+ * become *rest, all zeros (STRM_NO_MSG) if there are none. msg is no longer valid.
  * Refused as STRM_NO_SUCH_BLOCK.
  * Differs from STREAMS: by place, and both parts are kept.
  */

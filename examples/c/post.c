@@ -1,5 +1,5 @@
 /*
- * Puts two messages on a queue. The second is larger than the largest size class, so it is refused and leaves nothing behind.
+ * Posts two messages. The first goes on the queue. The second is larger than the largest size class, so it is refused and leaves nothing.
  *
  *     cc post.c $(pkg-config --cflags --libs strm) -o post
  */
