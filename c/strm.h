@@ -298,7 +298,7 @@ int strm_testb(struct strm_pool *pool, uint32_t size, uint32_t *yes);
  * Duplicates the first block of a message: the new message has one block over the same data block,
  * with the same places and band.
  * Refused as STRM_NO_MBLK, STRM_REF_MAX.
- * Differs from STREAMS: the limit is STRM_MOST_NAMES.
+ * As in STREAMS.
  */
 int strm_dupb(struct strm_pool *pool, struct strm_msg msg, struct strm_msg *copy);
 
@@ -402,7 +402,7 @@ int strm_unlinkb(struct strm_pool *pool, struct strm_msg msg, struct strm_msg *r
  * Takes the block numbered place out of a message. It becomes the message *block, and the others
  * become *rest, all zeros (STRM_NO_MSG) if there are none. msg is no longer valid.
  * Refused as STRM_NO_SUCH_BLOCK.
- * Differs from STREAMS: by place, and both parts are kept.
+ * Differs from STREAMS: by place.
  */
 int strm_rmvb(struct strm_pool *pool, struct strm_msg msg, uint32_t place, struct strm_msg *block, struct strm_msg *rest);
 
@@ -462,7 +462,7 @@ int strm_getq(struct strm_pool *pool, uint32_t queue, struct strm_msg *msg);
 /*
  * Takes the message at a place off a queue, and settles the queue.
  * Refused as STRM_NO_SUCH_PLACE.
- * Differs from STREAMS: by place.
+ * Differs from STREAMS: by place, and settling as of strm_getq.
  */
 int strm_rmvq(struct strm_pool *pool, uint32_t queue, uint32_t place, struct strm_msg *msg);
 
