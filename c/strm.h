@@ -14,7 +14,10 @@
  *
  * Terms
  *
- *   - reference: a message block that uses a data block; the field "names" counts them.
+ *   - read place, write place: where the bytes of a message block begin and end in its data block.
+ *     Each message block has its own.
+ *   - reference: a message block that uses a data block. The field "names" counts these; they are
+ *     not the names of messages.
  *   - high priority: messages of type STRM_M_IOCACK or a later one.
  *   - rank: a message's band; high priority ranks above all bands.
  *   - full: a band of a queue with the bytes of its high water mark, or more.
@@ -32,12 +35,13 @@
  *
  * A call that can fail returns a code, and stores its results through pointers. STRM_OK is 0. Codes
  * above 0 are refusals of the pool, numbered as by the program strm. Codes below 0 are of this
- * header. If several apply, the first in this list is returned; strm_open has its own order:
+ * header. strm_open has its own order; otherwise, if several apply, the first in this list is
+ * returned:
  *
  *   1. STRM_NOT_OPEN: the handle is null, was never opened, or was closed.
  *   2. STRM_BAD_ARGUMENT: a pointer is null, except one to a buffer of length 0. Or a band, a type,
- *      a flush or a length is out of range; a length is at most SIZE_MAX / 2. Or both result
- *      pointers of strm_rmvb, or of strm_read with a length above 0, are equal.
+ *      a flush or a length is out of range; a length is at most SIZE_MAX / 2. Or block and rest of
+ *      strm_rmvb are equal, or into and count of strm_read (with a length above 0).
  *   3. STRM_INVALID: a name is not valid. Of two names the first is checked first.
  *   4. STRM_NO_SUCH_QUEUE: the call names a queue that the pool does not have.
  *   5. The refusals that the call's comment lists, in that order.
@@ -296,7 +300,7 @@ int strm_testb(struct strm_pool *pool, uint32_t size, uint32_t *yes);
 
 /*
  * Duplicates the first block of a message: the new message has one block over the same data block,
- * with the same places and band.
+ * with the same read place, write place and band. Trimming one does not move those of the other.
  * Refused as STRM_NO_MBLK, STRM_REF_MAX.
  * As in STREAMS.
  */
@@ -342,16 +346,17 @@ int strm_freemsg(struct strm_pool *pool, struct strm_msg msg);
 /* ---- bytes and fields of a message: strm_write(3) */
 
 /*
- * Appends length bytes at the write place of the block numbered place, and moves it past them.
+ * Appends length bytes at the write place of the block numbered `place`, and moves the write place
+ * past them.
  * Refused as STRM_NO_SUCH_BLOCK, STRM_SHARED, STRM_NO_ROOM; the first two also for a length of 0.
  * STREAMS: writing through b_wptr.
  */
 int strm_write(struct strm_pool *pool, struct strm_msg msg, uint32_t place, const void *bytes, size_t length);
 
 /*
- * Copies bytes of a message from byte at on, counted over all blocks, into a buffer of length
- * bytes. *count is how many were copied: as many as there are, length at most; 0, with STRM_OK, if
- * at is past the end. The rest of the buffer is unchanged.
+ * Copies bytes of a message into a buffer of length bytes, from the byte numbered `at` on, counted
+ * over all blocks. *count is how many were copied: as many as there are, length at most; 0, with
+ * STRM_OK, if `at` is past the end. The rest of the buffer is unchanged.
  * STREAMS: reading through b_rptr, block by block.
  */
 int strm_read(struct strm_pool *pool, struct strm_msg msg, uint32_t at, void *into, size_t length, size_t *count);
