@@ -14,6 +14,9 @@
  *
  * Terms
  *
+ *   - next: the queue to which a queue leads, if any.
+ *   - service procedure: your code that takes messages off a queue. The library only says when: call
+ *     strm_next_service in a loop, and serve the queue that it returns (examples/c/service.c).
  *   - read place, write place: where the bytes of a message block begin and end in its data block.
  *     Each message block has its own.
  *   - reference: a message block that uses a data block. The field "names" counts these; they are
@@ -493,7 +496,8 @@ int strm_flushband(struct strm_pool *pool, uint32_t queue, uint32_t band, uint32
  * Asks whether a message of a band, 0 to 255, may be sent: *yes is 1 or 0. From this queue on,
  * along next, the first one with a service procedure decides, or the last one if none has any. If
  * the band is full there, *yes is 0 and the band is marked wanted. A service procedure passes its
- * next queue, not its own, which would decide itself.
+ * next queue, not its own, which would decide itself. It does not ask for a message of high
+ * priority, and hands that on even if the next queue is full.
  * As in STREAMS; canput asks for band 0.
  */
 int strm_bcanput(struct strm_pool *pool, uint32_t queue, uint32_t band, uint32_t *yes);

@@ -63,7 +63,8 @@ static uint32_t has_room(struct strm_pool *pool, struct strm_msg msg)
 	return room;
 }
 
-/* The service procedure of the inner queue: it hands messages on until there are none, or until there is no room for one. */
+/* The service procedure of the inner queue: it hands messages on until there are none, or until there is no room for one. None of high
+ * priority comes here (put_inner); one that did would be handed on without asking for room. */
 static void serve_inner(struct strm_pool *pool)
 {
 	struct strm_msg msg;
