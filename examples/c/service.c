@@ -30,7 +30,8 @@ static void must(int code)
 	exit(EXIT_FAILURE);
 }
 
-/* The put procedure of the inner queue: a message of high priority goes on at once, and any other waits for the service procedure. */
+/* The put procedure of the inner queue: a message of high priority goes on at once, and any other waits for the service procedure. The outer
+ * queue's put procedure would only call strm_putq, so that is called instead. */
 static void put_inner(struct strm_pool *pool, struct strm_msg msg)
 {
 	struct strm_block_info first;
