@@ -25,9 +25,9 @@
  *   - rank: a message's band; high priority ranks above all bands.
  *   - full: a band of a queue with the bytes of its high water mark, or more.
  *   - wanted: the mark of a band that strm_bcanput found full.
- *   - settle: to clear the wanted mark of each band at its low water mark or below. If one is
- *     cleared, the nearest queue that leads to this one along next, and has a service procedure,
- *     is enabled (back-enabling).
+ *   - settle: to clear the wanted mark of each band of a queue whose bytes are at its low water mark
+ *     or below. If one is cleared, the pool goes back from this queue, against next, to the first
+ *     queue with a service procedure, and enables it (back-enabling).
  *   - run list: the queues whose service procedures are due.
  *   - enable: to append a queue to the run list, unless it is there or has no service procedure.
  *   - want-to-read: the mark of a new queue, and of one that strm_getq found empty.
