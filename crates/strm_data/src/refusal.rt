@@ -21,16 +21,16 @@ pub enum Refusal {
     #[error("no data block is free of a class that fits")]
     NoData = 3,
     /// `dupb` or `dupmsg` would have more than `MOST_DATA_BLOCK_NAMES` message blocks name a data block.
-    #[error("a data block would be named by more message blocks than it may be")]
+    #[error("too many message blocks would refer to one data block")]
     RefMax = 4,
     /// `write`, `settype`, `block` or `rmvb` names a block, counted from 0, that the message has not.
     #[error("the message has no such block")]
     NoSuchBlock = 5,
     /// `write` or `settype` would change a data block that another message block names.
-    #[error("the data block is named by more than one message block")]
+    #[error("more than one message block refers to the data block")]
     Shared = 6,
     /// `write` has more bytes than fit behind the write place.
-    #[error("the bytes do not fit behind the write place")]
+    #[error("the bytes do not fit after the write place")]
     NoRoom = 7,
     /// `adjmsg` asks for more bytes than the blocks of one type at the head have, or for a negative number at the tail; or
     /// `pullupmsg` for more than those at the head have, or for fewer than -1.
@@ -46,7 +46,7 @@ pub enum Refusal {
     #[error("there is no such queue")]
     NoSuchQueue = 11,
     /// `bufcall` finds as many wishes as there may be.
-    #[error("as many wishes are recorded as there may be")]
+    #[error("no more wishes can be recorded")]
     Full = 12,
     /// `bufcall` finds that the last id was given.
     #[error("the last id was given")]
@@ -55,7 +55,7 @@ pub enum Refusal {
     #[error("no wish has this id")]
     NotPending = 14,
     /// Never answered: a token is of the pool that gave it, and is spent once.
-    #[error("a token is a stranger's, which is never answered")]
+    #[error("reserved: no call returns this refusal")]
     Stranger = 16,
     /// A call at a shared pool finds as many calls in its trace as that keeps.
     #[error("the trace is full")]
