@@ -57,7 +57,7 @@ module _ (v w : PoolValue) (q : ℕ) (there : has_queue v q ≡ true) (after : w
   taken_after = after ∙ ap (λ g. value_after v (on_queues v g)) (cond-true _ _ _ there)
 
   module _ (t : TokenValue) where
-    by_first : (ms : List Message) → shelf_at v.arena q ≡ ms → first_taken ms → Ok (Some t) ≡ answer_map (option_map (token_of w.arena)) (answer_of (got_first q ms (queued v))) → IsGot q t v w
+    by_first : (ms : List Message) → shelf_at v.arena q ≡ ms → first_taken ms → Ok (Some t) ≡ answer_map (option_map (token_of w.arena)) (answer_of (on_queues v (got_first q ms (queued v)))) → IsGot q t v w
     by_first [] is after given = absurd (cc)
     by_first (m ∷ ms) is after given =
         let given_is : t ≡ token_of w.arena (head_of m) = cc in
@@ -75,11 +75,11 @@ module _ (v w : PoolValue) (q : ℕ) (there : has_queue v q ≡ true) (after : w
           };
         }
 
-    pub got : Ok (Some t) ≡ answer_map (option_map (token_of w.arena)) (answer_of (getq q (queued v))) → IsGot q t v w
-    got given = by_first (shelf_at v.arena q) refl taken_after (given ∙ ap (λ g. answer_map (option_map (token_of w.arena)) (answer_of g)) (cond-true _ _ _ there))
+    pub got : Ok (Some t) ≡ answer_map (option_map (token_of w.arena)) (answer_of (on_queues v (getq q (queued v)))) → IsGot q t v w
+    got given = by_first (shelf_at v.arena q) refl taken_after (given ∙ ap (λ g. answer_map (option_map (token_of w.arena)) (answer_of (on_queues v g))) (cond-true _ _ _ there))
 
   module _ (to : ℕ) (flagged : q < length v.queues.flags) where
-    none_first : (ms : List Message) → shelf_at v.arena q ≡ ms → first_taken ms → Ok None ≡ answer_map (option_map (token_of w.arena)) (answer_of (got_first q ms (queued v))) → Stays q to v w
+    none_first : (ms : List Message) → shelf_at v.arena q ≡ ms → first_taken ms → Ok None ≡ answer_map (option_map (token_of w.arena)) (answer_of (on_queues v (got_first q ms (queued v)))) → Stays q to v w
     none_first [] is after given = record {
       leave = λ some. absurd (omega (arith, some, ap length is));
       reads = λ none. ap (λ (x : PoolValue). (flags_at x.queues q).read) after ∙ ap (λ (f : Flags). f.read) (get_or-set_same v.queues.flags q _ opening_flags flagged);
@@ -92,8 +92,8 @@ module _ (v w : PoolValue) (q : ℕ) (there : has_queue v q ≡ true) (after : w
     }
     none_first (m ∷ ms) is after given = absurd (cc)
 
-    pub none_got : Ok None ≡ answer_map (option_map (token_of w.arena)) (answer_of (getq q (queued v))) → Stays q to v w
-    none_got given = none_first (shelf_at v.arena q) refl taken_after (given ∙ ap (λ g. answer_map (option_map (token_of w.arena)) (answer_of g)) (cond-true _ _ _ there))
+    pub none_got : Ok None ≡ answer_map (option_map (token_of w.arena)) (answer_of (on_queues v (getq q (queued v)))) → Stays q to v w
+    none_got given = none_first (shelf_at v.arena q) refl taken_after (given ∙ ap (λ g. answer_map (option_map (token_of w.arena)) (answer_of (on_queues v g))) (cond-true _ _ _ there))
 
 -- ---- held
 

@@ -4,5 +4,6 @@ pub mod Moves
 pub mod Heads
 pub mod Tokens
 pub mod Frame
+pub mod Calls
 pub mod Stands
 pub mod PlainSteps

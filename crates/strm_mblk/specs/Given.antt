@@ -8,6 +8,10 @@ use Rattle.strm_mblk.specs.declared.token.TokenValue.{TokenValue}
 abbrev pub Given : Type 0 → Type 0 → Type 0
 Given V X = Result (X × V) Refusal
 
+-- a call that answers nothing and is never refused
+abbrev pub done : {V : Type 0} → V → Given V (Unit {0})
+done v = Ok (tt, v)
+
 -- what the call answers
 abbrev pub answer_of : {V X : Type 0} → Given V X → Result X Refusal
 answer_of (Ok given) = Ok given.0

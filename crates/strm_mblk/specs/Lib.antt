@@ -4,6 +4,7 @@ pub mod Block
 pub mod Arena
 pub mod Given
 pub mod Frame
+pub mod Calls
 pub mod Freeing
 pub mod BlockCalls
 pub mod Trimming

@@ -5,9 +5,9 @@ ghost use Rattle.strm_data.specs.Classes.{are_lawful, fits_a_class};
 ghost use Rattle.strm_data.specs.DataStore.{class_infos};
 ghost use Rattle.strm_data.specs.CountedStore.{IsKept};
 ghost use Rattle.strm_mblk.specs.Arena.{IsParted, IsWithin, blocks_in, census_of, counted_in, has, held_at, opening_arena, token_of};
-ghost use Rattle.strm_mblk.specs.Frame.{LeavesOthers, LeavesShelves, head_answered};
+ghost use Rattle.strm_mblk.specs.Calls.{Gives, itself};
 ghost use Rattle.strm_mblk.specs.NodeLists.{nodes_at};
-ghost use Rattle.strm_mblk.specs.Given.{value_after, answer_of, answer_map};
+ghost use Rattle.strm_mblk.specs.Given.{answer_of};
 ghost use Rattle.strm_mblk.specs.Limits.{most_message_blocks};
 
 mod alteration;
@@ -214,13 +214,7 @@ impl Blocks {
     /// Refused as `TooLarge` where the size is above the largest class, then as `NoMblk` where no message block is
     /// free, then as `NoData` where no data block is that fits; nothing changes then.
     pub fn allocb(&mut self, size: u32) -> Result<Token, Refusal>
-        ensures after { self.new ≡ value_after self.old (model.allocb size self.old) }
-        ensures token { result ≡ answer_map (token_of self.new) (answer_of (model.allocb size self.old)) }
-        // The token is of these blocks, and no held message had its head.
-        ensures had { IfOk result (λ token. IsTrue (has self.new token)) }
-        ensures unheld { IfOk result (λ token. held_at self.old token.head ≡ None) }
-        ensures others { LeavesOthers (head_answered result) self.old self.new }
-        ensures shelves { LeavesShelves (head_answered result) self.old self.new }
+        ensures { Gives itself None (model.allocb size self.old) self.old self.new result }
     {
         if self.chains.free_len() == 0 {
             if self.data.has_class_for(size) {

@@ -131,62 +131,62 @@ pub record AreAsLong (p q : PlacesValue) : Type 0 where
 pub as_long : (p : PlacesValue) → AreAsLong p p
 as_long p = record { slots = refl; stamps = refl }
 
-pub as_long_without : (p q r : PlacesValue) (h : ℕ) → r ≡ without_token h q → AreAsLong p q → AreAsLong p r
-as_long_without p q r h is long = record {
+pub as_long_without : {p q r : PlacesValue} (h : ℕ) → r ≡ without_token h q → AreAsLong p q → AreAsLong p r
+as_long_without {p} {q} {r} h is long = record {
   slots = ap (λ (s : PlacesValue). length s.slots) is ∙ length-set q.slots h None ∙ long.slots;
   stamps = ap (λ (s : PlacesValue). length s.stamps) is ∙ long.stamps;
 }
 
-pub as_long_with : (p q r : PlacesValue) (t : TokenValue) → r ≡ with_token t q → AreAsLong p q → AreAsLong p r
-as_long_with p q r t is long = record {
+pub as_long_with : {p q r : PlacesValue} (t : TokenValue) → r ≡ with_token t q → AreAsLong p q → AreAsLong p r
+as_long_with {p} {q} {r} t is long = record {
   slots = ap (λ (s : PlacesValue). length s.slots) is ∙ length-set q.slots t.head (Some t) ∙ long.slots;
   stamps = ap (λ (s : PlacesValue). length s.stamps) is ∙ long.stamps;
 }
 
 -- there is a place for each message that is held, before a call or after it
-pub there_some : (a b : Arena) (p q : PlacesValue) (h : ℕ) → Fits a p → length b.held ≡ length a.held → is_some (held_at b h) ≡ true → AreAsLong p q → IsThere q h
-there_some a b p q h fits size is long =
+pub there_some : {a : Arena} (b : Arena) {p q : PlacesValue} (h : ℕ) → Fits a p → length b.held ≡ length a.held → is_some (held_at b h) ≡ true → AreAsLong p q → IsThere q h
+there_some {a} b {p} {q} h fits size is long =
     let within = within_some b h is in
     record {
       slot = omega (arith, within, size, fits.slots, long.slots);
       stamp = omega (arith, within, size, fits.stamps, long.stamps);
     }
 
-pub there_had : (a b : Arena) (p q : PlacesValue) (t : TokenValue) → Fits a p → length b.held ≡ length a.held → has b t ≡ true → AreAsLong p q → IsThere q t.head
-there_had a b p q t fits size had long = there_some a b p q t.head fits size (stands_had b t had) long
+pub there_had : {a : Arena} (b : Arena) {p q : PlacesValue} (t : TokenValue) → Fits a p → length b.held ≡ length a.held → has b t ≡ true → AreAsLong p q → IsThere q t.head
+there_had b t fits size had long = there_some b t.head fits size (stands_had b t had) long
 
 -- so it is for what a call gives
-pub there_answer : (a b : Arena) (p : PlacesValue) (given : Result TokenValue Refusal) → Fits a p → IfOk given (λ t. has b t ≡ true) → length b.held ≡ length a.held → IfOk given (λ t. IsThere p t.head)
-there_answer a b p (Ok t) fits had size = there_had a b p p t fits size had (as_long p)
-there_answer a b p (Err why) fits had size = tt
+pub there_answer : {a : Arena} (b : Arena) {p : PlacesValue} (given : Result TokenValue Refusal) → Fits a p → IfOk given (λ t. has b t ≡ true) → length b.held ≡ length a.held → IfOk given (λ t. IsThere p t.head)
+there_answer b {p} (Ok t) fits had size = there_had b t fits size had (as_long p)
+there_answer b (Err why) fits had size = tt
 
-pub there_rest : (a b : Arena) (p q : PlacesValue) (rest : Option TokenValue) → Fits a p → IfSome rest (λ t. has b t ≡ true) → length b.held ≡ length a.held → AreAsLong p q → IfSome rest (λ t. IsThere q t.head)
-there_rest a b p q (Some t) fits had size long = there_had a b p q t fits size had long
-there_rest a b p q None fits had size long = tt
+pub there_rest : {a : Arena} (b : Arena) {p q : PlacesValue} (rest : Option TokenValue) → Fits a p → IfSome rest (λ t. has b t ≡ true) → length b.held ≡ length a.held → AreAsLong p q → IfSome rest (λ t. IsThere q t.head)
+there_rest b (Some t) fits had size long = there_had b t fits size had long
+there_rest b None fits had size long = tt
 
-pub there_any : (a b : Arena) (p : PlacesValue) (given : Result (Option TokenValue) Refusal) → Fits a p → IfOk given (λ o. IfSome o (λ t. has b t ≡ true)) → length b.held ≡ length a.held
+pub there_any : {a : Arena} (b : Arena) {p : PlacesValue} (given : Result (Option TokenValue) Refusal) → Fits a p → IfOk given (λ o. IfSome o (λ t. has b t ≡ true)) → length b.held ≡ length a.held
     → IfOk given (λ o. IfSome o (λ t. IsThere p t.head))
-there_any a b p (Ok o) fits had size = there_rest a b p p o fits had size (as_long p)
-there_any a b p (Err why) fits had size = tt
+there_any b {p} (Ok o) fits had size = there_rest b o fits had size (as_long p)
+there_any b (Err why) fits had size = tt
 
 -- and for the two that a message is taken apart into
-pub there_first : (a b : Arena) (p q : PlacesValue) (parted : Result (TokenValue × Option TokenValue) Rejected) → Fits a p → IfOk parted (λ ts. has b ts.0 ≡ true) → length b.held ≡ length a.held → AreAsLong p q
+pub there_first : {a : Arena} (b : Arena) {p q : PlacesValue} (parted : Result (TokenValue × Option TokenValue) Rejected) → Fits a p → IfOk parted (λ ts. has b ts.0 ≡ true) → length b.held ≡ length a.held → AreAsLong p q
     → IfOk parted (λ ts. IsThere q ts.0.head)
-there_first a b p q (Ok ts) fits had size long = there_had a b p q ts.0 fits size had long
-there_first a b p q (Err r) fits had size long = tt
+there_first b (Ok ts) fits had size long = there_had b ts.0 fits size had long
+there_first b (Err r) fits had size long = tt
 
-pub there_second : (a b : Arena) (p q : PlacesValue) (parted : Result (TokenValue × Option TokenValue) Rejected) → Fits a p → IfOk parted (λ ts. IfSome ts.1 (λ t. has b t ≡ true)) → length b.held ≡ length a.held → AreAsLong p q
+pub there_second : {a : Arena} (b : Arena) {p q : PlacesValue} (parted : Result (TokenValue × Option TokenValue) Rejected) → Fits a p → IfOk parted (λ ts. IfSome ts.1 (λ t. has b t ≡ true)) → length b.held ≡ length a.held → AreAsLong p q
     → IfOk parted (λ ts. IfSome ts.1 (λ t. IsThere q t.head))
-there_second a b p q (Ok ts) fits had size long = there_rest a b p q ts.1 fits had size long
-there_second a b p q (Err r) fits had size long = tt
+there_second b (Ok ts) fits had size long = there_rest b ts.1 fits had size long
+there_second b (Err r) fits had size long = tt
 
 -- and for one that comes back
-pub there_back : {X : Type 0} (a : Arena) (p q : PlacesValue) (t : TokenValue) (back : Result X Rejected) (x : Result X Refusal) → Fits a p → has a t ≡ true → AreAsLong p q → back ≡ or_rejected t x → IfErr back (λ r. IsThere q r.token.head)
-there_back {X} a p q t (Ok given) x fits had long is = tt
-there_back {X} a p q t (Err r) (Ok given) fits had long is = absurd cc
-there_back {X} a p q t (Err r) (Err why) fits had long is =
+pub there_back : {X : Type 0} {a : Arena} {p q : PlacesValue} (t : TokenValue) (back : Result X Rejected) (x : Result X Refusal) → Fits a p → has a t ≡ true → AreAsLong p q → back ≡ or_rejected t x → IfErr back (λ r. IsThere q r.token.head)
+there_back t (Ok given) x fits had long is = tt
+there_back t (Err r) (Ok given) fits had long is = absurd cc
+there_back {X} {a} {p} {q} t (Err r) (Err why) fits had long is =
     let token : r.token ≡ t = ap token_in_error is in
-    subst (λ (y : TokenValue). IsThere q y.head) (sym token) (there_had a a p q t fits refl had long)
+    subst (λ (y : TokenValue). IsThere q y.head) (sym token) (there_had a t fits refl had long)
   where
     token_in_error : Result X Rejected → TokenValue
     token_in_error (Ok given) = t
@@ -208,7 +208,7 @@ module _ (p : PoolValue) (s : PlacesValue) (n : Name) (fits : Fits p.arena s) (v
   valid_held = (and_parts _ _ (and_parts (eqb n.pool p.arena.id) _ valid).1).0
 
   pub valid_there : IsThere s n.head
-  valid_there = there_some p.arena p.arena s s n.head fits refl valid_held (as_long s)
+  valid_there = there_some p.arena n.head fits refl valid_held (as_long s)
 
   pub valid_token : token_in s n.head ≡ Some (token_of p.arena n.head)
   valid_token = fits.tokens n.head ∙ ap (option_map (λ (m : Message). token_of p.arena n.head)) (held_is (held_at p.arena n.head) valid_held)

@@ -1,6 +1,6 @@
 -- The shapes of calls: what a call of the pool does to tokens, that of the named pool does to names.
-use Rattle.std.proofs.Common.{◌≡◌, ℕ, ◌<◌, Bool, true, false, ◌||◌, eqb, List, [], ◌∷◌, length, get_or, Option, Some, None, Result, Ok, Err, refl, sym, ap, ◌∙◌, subst}
-use Rattle.std.specs.Prelude.{IfOk, IfSome, MatchResult, is_some, option_map}
+use Rattle.std.proofs.Common.{◌≡◌, ℕ, ◌<◌, Bool, true, false, ◌||◌, ◌&&◌, ◌==◌, eqb, List, [], ◌∷◌, length, get_or, Option, Some, None, Result, Ok, Err, refl, sym, ap, ◌∙◌, subst}
+use Rattle.std.specs.Prelude.{IfSome, is_some, option_map}
 use Rattle.std.proofs.lemmas.Bool.{cond-false, cond-true, eq-eqb, eqb-true, false≢true, or_from, or_left, or_parts}
 use Rattle.strm_data.specs.declared.refusal.Refusal.{Refusal}
 use Rattle.strm_links.specs.Rows.{IsApart}
@@ -8,16 +8,17 @@ use Rattle.strm_links.specs.Rows as rows
 use Rattle.strm_mblk.specs.declared.rejected.Rejected.{Rejected}
 use Rattle.strm_mblk.specs.declared.token.TokenValue.{TokenValue}
 use Rattle.strm_mblk.specs.Arena.{Arena, has, held_at, token_of}
-use Rattle.strm_mblk.specs.Frame.{LeavesOthers, head_answered, head_given, heads_answered}
-use Rattle.strm_mblk.specs.Given.{Given, answer_map, answer_of, or_rejected, value_after}
+use Rattle.strm_mblk.specs.Calls.{Alters, Frees, Gives, Puts, Takes, TakesAny, Unlinks}
+use Rattle.strm_mblk.specs.Frame.{LeavesOthers, head_given}
+use Rattle.strm_mblk.specs.Given.{Given, answer_of, value_after}
+use Rattle.strm_mblk.proofs.arena.Frame.{leaves_same}
 use Rattle.strm_mblk.proofs.arena.Tokens.{had_message}
-use Rattle.strm_pool.specs.PoolValue.{PoolValue, on_arena, on_queues, with_arena}
-use Rattle.strm_queue.specs.QueuedBlocks.{QueuedBlocks}
+use Rattle.strm_pool.specs.PoolValue.{PoolValue, arena, on_arena, with_arena}
 use Rattle.strm_named.specs.declared.fault.Fault.{Fault}
 use Rattle.strm_named.specs.declared.fault.Fault.TheVariants.{Invalid, Refused}
 use Rattle.strm_named.specs.declared.name.Name.{Name}
 use Rattle.strm_named.specs.Fitting.{Fits, IsTokenOf, named}
-use Rattle.strm_named.specs.NamedCalls.{Does, Outcome, Shape, any_message, on_name, one_message, outcome_of, plain}
+use Rattle.strm_named.specs.NamedCalls.{Does, LeavesNames, Outcome, Shape, any_message, on_name, one_message, outcome_of, plain}
 use Rattle.strm_named.specs.NamedValue.{NamedValue, is_valid, name_of, raised, stamp_at, stamps_given}
 use Rattle.strm_named.specs.PlacesValue.{PlacesValue, answer_given, answer_spent, any_answer_given, any_given, name_given, refusing, stamp_in, with_answer, with_any, with_any_answer, with_rejected, with_token, without_token}
 use Rattle.strm_named.proofs.Fitted.{AreRight, Each, Updates, as_long, fits_with, heads_of, put_back, stands_had, there_had, token_at-had, token_at-none, with_slots}
@@ -40,26 +41,6 @@ same_some is = cc
 pub some_not_none : {X : Type 0} {x : X} → Some x ≡ None → ⊥
 some_not_none is = cc
 
-pub arena_answer : {X : Type 0} (v : PoolValue) (g : Given Arena X) → answer_of (on_arena v g) ≡ answer_of g
-arena_answer v (Ok given) = refl
-arena_answer v (Err why) = refl
-
-pub queues_answer : {X : Type 0} (v : PoolValue) (g : Given QueuedBlocks X) → answer_of (on_queues v g) ≡ answer_of g
-queues_answer v (Ok given) = refl
-queues_answer v (Err why) = refl
-
--- a call on the arena answered, and so did the one on the pool
-pub on_arena_is : {X : Type 0} (v u : PoolValue) (g : Given Arena X) (x : X) → on_arena v g ≡ Ok (x, u) → g ≡ Ok (x, u.arena)
-on_arena_is {X} v u (Ok given) x is =
-    let both : ◌≡◌ {A = X × PoolValue} (given.0, with_arena v given.1) (x, u) = same_ok is in
-    ap (λ (q : X × PoolValue). Ok (q.0, q.1.arena)) both
-on_arena_is v u (Err why) x is = absurd (err_not_ok is)
-
--- a message that was put is held no more
-pub put_gone : (b : Arena) (t : TokenValue) (put : Result (Unit {0}) Rejected) → MatchResult put (λ u. held_at b t.head ≡ None) (λ r. has b t ≡ true) → IfOk put (λ u. held_at b t.head ≡ None)
-put_gone b t (Ok u) gone = gone
-put_gone b t (Err r) had = tt
-
 -- ---- heads
 
 pub has_here : (h : ℕ) (hs : List ℕ) → rows.has h (h ∷ hs) ≡ true
@@ -74,20 +55,20 @@ not_both is not = false≢true (sym not ∙ is)
 -- ---- calls on names
 
 -- on a name that is valid, of the named pool as it lies in memory
-pub on_valid : {X Y : Type 0} (s : Shape X Y) (n : Name) (call : NamedValue → Given PoolValue X) (spent : List ℕ) (u v w : NamedValue) (answer : Result Y Fault)
+pub on_valid : {X Y : Type 0} {s : Shape X Y} (n : Name) {spent : List ℕ} {u v w : NamedValue} {answer : Result Y Fault} (call : NamedValue → Given PoolValue X)
     → u ≡ v → is_valid u n ≡ true → Does s (outcome_of (call u)) spent u w answer → Does s (on_name v n (call v)) spent v w answer
-on_valid {X} s n call spent u v w answer view valid does =
+on_valid {X} {Y} {s} n {spent} {u} {v} {w} {answer} call view valid does =
     subst (λ x. Does s (on_name x n (call x)) spent x w answer) view
     (subst (λ (o : Outcome X). Does s o spent u w answer) (sym (cond-true (is_valid u n) (outcome_of (call u)) (Err Invalid) valid)) does)
 
 -- with no name
-pub on_any : {X Y : Type 0} (s : Shape X Y) (call : NamedValue → Given PoolValue X) (spent : List ℕ) (u v w : NamedValue) (answer : Result Y Fault)
+pub on_any : {X Y : Type 0} {s : Shape X Y} {spent : List ℕ} {u v w : NamedValue} {answer : Result Y Fault} (call : NamedValue → Given PoolValue X)
     → u ≡ v → Does s (outcome_of (call u)) spent u w answer → Does s (outcome_of (call v)) spent v w answer
-on_any s call spent u v w answer view does = subst (λ x. Does s (outcome_of (call x)) spent x w answer) view does
+on_any {X} {Y} {s} {spent} {u} {v} {w} {answer} call view does = subst (λ x. Does s (outcome_of (call x)) spent x w answer) view does
 
 -- on one that is not
-pub on_invalid : {X Y : Type 0} (s : Shape X Y) (n : Name) (given : Given PoolValue X) (spent : List ℕ) (v : NamedValue) → is_valid v n ≡ false → Does s (on_name v n given) spent v v (Err Invalid)
-on_invalid {X} s n given spent v invalid =
+pub on_invalid : {X Y : Type 0} {s : Shape X Y} (n : Name) {spent : List ℕ} {v : NamedValue} (given : Given PoolValue X) → is_valid v n ≡ false → Does s (on_name v n given) spent v v (Err Invalid)
+on_invalid {X} {Y} {s} n {spent} {v} given invalid =
     subst (λ (o : Outcome X). Does s o spent v v (Err Invalid)) (sym (cond-false (is_valid v n) (outcome_of given) (Err Invalid) invalid))
     (let d : Does s (Err Invalid) spent v v (Err Invalid) = record { after = refl; told = refl; names = tt } in d)
 
@@ -164,7 +145,7 @@ module _ (p r : PoolValue) (ps qs : PlacesValue) (fits : Fits p.arena ps) where
 
   -- there is a stamp for each
   pub stamped : (t : TokenValue) → length r.arena.held ≡ length p.arena.held → has r.arena t ≡ true → t.head < length ps.stamps
-  stamped t size had = (there_had p.arena r.arena ps ps t fits size had (as_long ps)).stamp
+  stamped t size had = (there_had r.arena t fits size had (as_long ps)).stamp
 
   -- of one that is given alone
   name_alone : (t : TokenValue) → length r.arena.held ≡ length p.arena.held → has r.arena t ≡ true → qs.stamps ≡ stamps_given (t.head ∷ []) ps.stamps → name_given t ps ≡ name_of (named r qs) t.head
@@ -172,104 +153,101 @@ module _ (p r : PoolValue) (ps qs : PlacesValue) (fits : Fits p.arena ps) where
 
   -- ---- a message is given, and no name is spent
 
-  pub gives_one : (g : Given PoolValue ℕ) (a : Result ℕ Refusal) (given : Result TokenValue Refusal) (answer : Result Name Fault) → r ≡ value_after p g → answer_of g ≡ a → given ≡ answer_map (token_of r.arena) a
-      → IfOk given (λ t. has r.arena t ≡ true) → LeavesOthers (head_answered given) p.arena r.arena → qs ≡ with_answer given ps → answer ≡ answer_given given ps
+  pub gives_one : {g : Given PoolValue ℕ} {given : Result TokenValue Refusal} {answer : Result Name Fault} → Takes arena g p r given → qs ≡ with_answer given ps → answer ≡ answer_given given ps
       → Called one_message (outcome_of g) [] p r ps qs answer
-  gives_one g a given answer after same is = each g given after (is ∙ ap (answer_map (token_of r.arena)) (sym same))
+  gives_one {g} {given} {answer} = each g given
     where
-      each : (g : Given PoolValue ℕ) (given : Result TokenValue Refusal) → r ≡ value_after p g → given ≡ answer_map (token_of r.arena) (answer_of g)
-          → IfOk given (λ t. has r.arena t ≡ true) → LeavesOthers (head_answered given) p.arena r.arena → qs ≡ with_answer given ps → answer ≡ answer_given given ps
-          → Called one_message (outcome_of g) [] p r ps qs answer
-      each (Ok (n, u)) (Ok t) after is had left places told =
-          let head : n ≡ t.head = sym (ap (λ (y : TokenValue). y.head) (same_ok is)) in
-          let pool : u ≡ r = sym after in
+      each : (g : Given PoolValue ℕ) (given : Result TokenValue Refusal) → Takes arena g p r given → qs ≡ with_answer given ps → answer ≡ answer_given given ps → Called one_message (outcome_of g) [] p r ps qs answer
+      each (Ok (n, u)) (Ok t) is places told =
+          let head : n ≡ t.head = sym (ap (λ (y : TokenValue). y.head) (same_ok is.token)) in
+          let pool : u ≡ r = sym is.after in
           let stamps : qs.stamps ≡ stamps_given (t.head ∷ []) ps.stamps = ap (λ (x : PlacesValue). x.stamps) places in
-          made one_message (Ok (n, u)) answer t.head ((t.head, Some t) ∷ []) (t.head ∷ []) [] [] (λ i. Ok (head i, pool i)) left (λ h none. none)
-          ((λ absent. token_at-had r.arena t had), tt) (ap (λ (x : PlacesValue). x.slots) places) stamps (told ∙ ap (λ (n : Name). Ok n) (name_alone t left.size had stamps)) (refl, tt)
-          (λ h stay spent given. given) tt (λ h spent given. absurd (false≢true spent)) (stands_had r.arena t had, tt)
-      each (Ok given) (Err why) after is had left places told = absurd (err_not_ok is)
-      each (Err why) (Ok t) after is had left places told = absurd (err_not_ok (sym is))
-      each (Err why) (Err other) after is had left places told =
-          refused one_message (Err (Refused why)) answer [] (Refused why) refl after places (told ∙ ap (λ (w : Refusal). Err (Refused w)) (same_err is))
+          made one_message (Ok (n, u)) answer t.head ((t.head, Some t) ∷ []) (t.head ∷ []) [] [] (λ i. Ok (head i, pool i)) is.others (λ h none. none)
+          ((λ absent. token_at-had r.arena t is.had), tt) (ap (λ (x : PlacesValue). x.slots) places) stamps (told ∙ ap (λ (n : Name). Ok n) (name_alone t is.others.size is.had stamps)) (refl, tt)
+          (λ h stay spent given. given) tt (λ h spent given. absurd (false≢true spent)) (stands_had r.arena t is.had, tt)
+      each (Ok given) (Err why) is places told = absurd (err_not_ok is.token)
+      each (Err why) (Ok t) is places told = absurd (err_not_ok (sym is.token))
+      each (Err why) (Err other) is places told =
+          refused one_message (Err (Refused why)) answer [] (Refused why) refl is.after places (told ∙ ap (λ (w : Refusal). Err (Refused w)) (same_err is.token))
 
   -- one, if there is one
-  pub gives_any : (g : Given PoolValue (Option ℕ)) (a : Result (Option ℕ) Refusal) (given : Result (Option TokenValue) Refusal) (answer : Result (Option Name) Fault) → r ≡ value_after p g → answer_of g ≡ a
-      → given ≡ answer_map (option_map (token_of r.arena)) a → IfOk given (λ o. IfSome o (λ t. has r.arena t ≡ true)) → LeavesOthers (heads_answered given) p.arena r.arena
-      → qs ≡ with_any_answer given ps → answer ≡ any_answer_given given ps → Called any_message (outcome_of g) [] p r ps qs answer
-  gives_any g a given answer after same is = each g given after (is ∙ ap (answer_map (option_map (token_of r.arena))) (sym same))
+  pub gives_any : {g : Given PoolValue (Option ℕ)} {given : Result (Option TokenValue) Refusal} {answer : Result (Option Name) Fault} → TakesAny arena g p r given → qs ≡ with_any_answer given ps → answer ≡ any_answer_given given ps
+      → Called any_message (outcome_of g) [] p r ps qs answer
+  gives_any {g} {given} {answer} = each g given
     where
-      each : (g : Given PoolValue (Option ℕ)) (given : Result (Option TokenValue) Refusal) → r ≡ value_after p g → given ≡ answer_map (option_map (token_of r.arena)) (answer_of g)
-          → IfOk given (λ o. IfSome o (λ t. has r.arena t ≡ true)) → LeavesOthers (heads_answered given) p.arena r.arena
-          → qs ≡ with_any_answer given ps → answer ≡ any_answer_given given ps → Called any_message (outcome_of g) [] p r ps qs answer
-      each (Ok (Some n, u)) (Ok (Some t)) after is had left places told =
-          let head : n ≡ t.head = sym (ap (λ (y : TokenValue). y.head) (same_some (same_ok is))) in
-          let pool : u ≡ r = sym after in
+      each : (g : Given PoolValue (Option ℕ)) (given : Result (Option TokenValue) Refusal) → TakesAny arena g p r given → qs ≡ with_any_answer given ps → answer ≡ any_answer_given given ps
+          → Called any_message (outcome_of g) [] p r ps qs answer
+      each (Ok (Some n, u)) (Ok (Some t)) is places told =
+          let head : n ≡ t.head = sym (ap (λ (y : TokenValue). y.head) (same_some (same_ok is.token))) in
+          let pool : u ≡ r = sym is.after in
           let stamps : qs.stamps ≡ stamps_given (t.head ∷ []) ps.stamps = ap (λ (x : PlacesValue). x.stamps) places in
-          made any_message (Ok (Some n, u)) answer (Some t.head) ((t.head, Some t) ∷ []) (t.head ∷ []) [] [] (λ i. Ok (Some (head i), pool i)) left (λ h none. none)
-          ((λ absent. token_at-had r.arena t had), tt) (ap (λ (x : PlacesValue). x.slots) places) stamps (told ∙ ap (λ (n : Name). Ok (Some n)) (name_alone t left.size had stamps)) (refl, tt)
-          (λ h stay spent given. given) tt (λ h spent given. absurd (false≢true spent)) (stands_had r.arena t had, tt)
-      each (Ok (Some n, u)) (Ok None) after is had left places told = absurd (some_not_none (sym (same_ok is)))
-      each (Ok (None, u)) (Ok (Some t)) after is had left places told = absurd (some_not_none (same_ok is))
-      each (Ok (None, u)) (Ok None) after is had left places told =
-          let pool : u ≡ r = sym after in
-          made any_message (Ok (None, u)) answer None [] [] [] [] (λ i. Ok (None, pool i)) left (λ h none. none) tt
+          made any_message (Ok (Some n, u)) answer (Some t.head) ((t.head, Some t) ∷ []) (t.head ∷ []) [] [] (λ i. Ok (Some (head i), pool i)) is.others (λ h none. none)
+          ((λ absent. token_at-had r.arena t is.had), tt) (ap (λ (x : PlacesValue). x.slots) places) stamps (told ∙ ap (λ (n : Name). Ok (Some n)) (name_alone t is.others.size is.had stamps)) (refl, tt)
+          (λ h stay spent given. given) tt (λ h spent given. absurd (false≢true spent)) (stands_had r.arena t is.had, tt)
+      each (Ok (Some n, u)) (Ok None) is places told = absurd (some_not_none (sym (same_ok is.token)))
+      each (Ok (None, u)) (Ok (Some t)) is places told = absurd (some_not_none (same_ok is.token))
+      each (Ok (None, u)) (Ok None) is places told =
+          let pool : u ≡ r = sym is.after in
+          made any_message (Ok (None, u)) answer None [] [] [] [] (λ i. Ok (None, pool i)) is.others (λ h none. none) tt
           (ap (λ (x : PlacesValue). x.slots) places) (ap (λ (x : PlacesValue). x.stamps) places) told tt (λ h stay spent given. refl) tt (λ h spent given. absurd (false≢true spent)) tt
-      each (Ok given) (Err why) after is had left places told = absurd (err_not_ok is)
-      each (Err why) (Ok o) after is had left places told = absurd (err_not_ok (sym is))
-      each (Err why) (Err other) after is had left places told =
-          refused any_message (Err (Refused why)) answer [] (Refused why) refl after places (told ∙ ap (λ (w : Refusal). Err (Refused w)) (same_err is))
+      each (Ok given) (Err why) is places told = absurd (err_not_ok is.token)
+      each (Err why) (Ok o) is places told = absurd (err_not_ok (sym is.token))
+      each (Err why) (Err other) is places told =
+          refused any_message (Err (Refused why)) answer [] (Refused why) refl is.after places (told ∙ ap (λ (w : Refusal). Err (Refused w)) (same_err is.token))
+
+  -- a message is made, out of another one or of none
+  pub gives_new : {source : Option TokenValue} {g : Given PoolValue ℕ} {given : Result TokenValue Refusal} {answer : Result Name Fault} → Gives arena source g p r given → qs ≡ with_answer given ps → answer ≡ answer_given given ps
+      → Called one_message (outcome_of g) [] p r ps qs answer
+  gives_new is = gives_one (record { after = is.after; token = is.token; had = is.had; unheld = is.unheld; others = is.others })
 
   -- ---- the message of a name changes, and stays held at its head
 
-  module _ (n : Name) (t : TokenValue) (of : IsTokenOf n p.arena t) where
+  module _ {n : Name} {t : TokenValue} (of : IsTokenOf n p.arena t) where
     -- so it is, and another message is given
-    pub gives_beside : (f : ℕ → Given PoolValue ℕ) (a : Result ℕ Refusal) (given : Result TokenValue Refusal) (answer : Result Name Fault) → r ≡ value_after p (f t.head) → answer_of (f t.head) ≡ a
-        → given ≡ answer_map (token_of r.arena) a → IfOk given (λ s. has r.arena s ≡ true) → LeavesOthers (head_answered given) p.arena r.arena → qs ≡ with_answer given ps → answer ≡ answer_given given ps
+    pub gives_beside : {source : Option TokenValue} (f : ℕ → Given PoolValue ℕ) {given : Result TokenValue Refusal} {answer : Result Name Fault} → Gives arena source (f t.head) p r given → qs ≡ with_answer given ps → answer ≡ answer_given given ps
         → Called one_message (outcome_of (f n.head)) [] p r ps qs answer
-    gives_beside f a given answer after same is had left places told =
-        subst (λ h. Called one_message (outcome_of (f h)) [] p r ps qs answer) of.head (gives_one (f t.head) a given answer after same is had left places told)
+    gives_beside f {given} {answer} is places told = subst (λ h. Called one_message (outcome_of (f h)) [] p r ps qs answer) of.head (gives_new is places told)
 
     -- its token is as it was, at its place
-    pub stays : {X : Type 0} (f : ℕ → Given PoolValue X) (a given : Result X Refusal) (answer : Result X Fault) → r ≡ value_after p (f t.head) → answer_of (f t.head) ≡ a → given ≡ a → has r.arena t ≡ true
-        → LeavesOthers (t.head ∷ []) p.arena r.arena → qs ≡ ps → answer ≡ refusing given → Called plain (outcome_of (f n.head)) [] p r ps qs answer
-    stays {X} f a given answer after same is had left places told =
-        subst (λ h. Called plain (outcome_of (f h)) [] p r ps qs answer) of.head (each (f t.head) after (told ∙ ap refusing (is ∙ sym same)))
+    pub stays : (f : ℕ → Given PoolValue (Unit {0})) {given : Result (Unit {0}) Refusal} {answer : Result (Unit {0}) Fault} → Alters arena t t (f t.head) p r given → qs ≡ ps → answer ≡ refusing given
+        → Called plain (outcome_of (f n.head)) [] p r ps qs answer
+    stays f {given} {answer} is places told =
+        subst (λ h. Called plain (outcome_of (f h)) [] p r ps qs answer) of.head (each (f t.head) is.after (told ∙ ap refusing is.answer))
       where
-        each : (g : Given PoolValue X) → r ≡ value_after p g → answer ≡ refusing (answer_of g) → Called plain (outcome_of g) [] p r ps qs answer
+        each : (g : Given PoolValue (Unit {0})) → r ≡ value_after p g → answer ≡ refusing (answer_of g) → Called plain (outcome_of g) [] p r ps qs answer
         each (Ok (x, u)) after told =
             let pool : u ≡ r = sym after in
-            made plain (Ok (x, u)) answer x ((t.head, Some t) ∷ []) (t.head ∷ []) (t.head ∷ []) [] (λ i. Ok (x, pool i)) left (λ h none. none)
-            ((λ absent. token_at-had r.arena t had), tt) (ap (λ (y : PlacesValue). y.slots) places ∙ sym (put_back p.arena ps t fits of.had)) (ap (λ (y : PlacesValue). y.stamps) places) told tt
-            (λ h stay spent given. stay) ((stands_had p.arena t of.had, stands_had r.arena t had), tt) (λ h spent given. absurd (false≢true spent)) tt
+            made plain (Ok (x, u)) answer x ((t.head, Some t) ∷ []) (t.head ∷ []) (t.head ∷ []) [] (λ i. Ok (x, pool i)) is.others (λ h none. none)
+            ((λ absent. token_at-had r.arena t is.had), tt) (ap (λ (y : PlacesValue). y.slots) places ∙ sym (put_back p.arena ps t fits of.had)) (ap (λ (y : PlacesValue). y.stamps) places) told tt
+            (λ h stay spent given. stay) ((stands_had p.arena t of.had, stands_had r.arena t is.had), tt) (λ h spent given. absurd (false≢true spent)) tt
         each (Err why) after told = refused plain (Err (Refused why)) answer [] (Refused why) refl after places told
 
     -- its token may tell of another number of blocks
-    pub alters : (f : ℕ → Given PoolValue (Unit {0})) (s : TokenValue) (a given : Result (Unit {0}) Refusal) (answer : Result (Unit {0}) Fault) → r ≡ value_after p (f t.head) → answer_of (f t.head) ≡ a → given ≡ a
-        → s ≡ token_of r.arena t.head → has r.arena s ≡ true → LeavesOthers (t.head ∷ []) p.arena r.arena → qs ≡ with_token s (without_token n.head ps) → answer ≡ refusing given
-        → Called plain (outcome_of (f n.head)) [] p r ps qs answer
-    alters f s a given answer after same is token had left places told =
-        subst (λ h. Called plain (outcome_of (f h)) [] p r ps qs answer) of.head (each (f t.head) after (told ∙ ap refusing (is ∙ sym same)))
+    pub alters : (f : ℕ → Given PoolValue (Unit {0})) {s : TokenValue} {given : Result (Unit {0}) Refusal} {answer : Result (Unit {0}) Fault} → Alters arena t s (f t.head) p r given
+        → qs ≡ with_token s (without_token n.head ps) → answer ≡ refusing given → Called plain (outcome_of (f n.head)) [] p r ps qs answer
+    alters f {s} {given} {answer} is places told =
+        subst (λ h. Called plain (outcome_of (f h)) [] p r ps qs answer) of.head (each (f t.head) is.after (told ∙ ap refusing is.answer))
       where
         head : s.head ≡ t.head
-        head = ap (λ (y : TokenValue). y.head) token
+        head = ap (λ (y : TokenValue). y.head) is.token
 
         at : qs ≡ with_token s (without_token t.head ps)
         at = places ∙ ap (λ h. with_token s (without_token h ps)) (sym of.head)
 
         now_fits : Fits r.arena qs
         now_fits =
-            fits_with p.arena r.arena ps qs (t.head ∷ []) ((t.head, None) ∷ (s.head, Some s) ∷ []) fits left
+            fits_with p.arena r.arena ps qs (t.head ∷ []) ((t.head, None) ∷ (s.head, Some s) ∷ []) fits is.others
             (λ h none. or_from (eqb t.head h) false (or_parts (eqb t.head h) (rows.has h (s.head ∷ [])) none).0 refl)
-            ((λ absent. absurd (not_both (or_left (eqb s.head t.head) false (eq-eqb s.head t.head head)) absent)), ((λ absent. token_at-had r.arena s had), tt))
+            ((λ absent. absurd (not_both (or_left (eqb s.head t.head) false (eq-eqb s.head t.head head)) absent)), ((λ absent. token_at-had r.arena s is.had), tt))
             (ap (λ (x : PlacesValue). x.slots) at) (ap (λ (x : PlacesValue). length x.stamps) at)
 
         each : (g : Given PoolValue (Unit {0})) → r ≡ value_after p g → answer ≡ refusing (answer_of g) → Called plain (outcome_of g) [] p r ps qs answer
         each (Ok (x, u)) after told =
             let pool : u ≡ r = sym after in
-            let stands : is_some (held_at r.arena t.head) ≡ true = subst (λ h. is_some (held_at r.arena h) ≡ true) head (stands_had r.arena s had) in
-            made plain (Ok (x, u)) answer x ((t.head, None) ∷ (s.head, Some s) ∷ []) (t.head ∷ []) (t.head ∷ []) [] (λ i. Ok (x, pool i)) left
+            let stands : is_some (held_at r.arena t.head) ≡ true = subst (λ h. is_some (held_at r.arena h) ≡ true) head (stands_had r.arena s is.had) in
+            made plain (Ok (x, u)) answer x ((t.head, None) ∷ (s.head, Some s) ∷ []) (t.head ∷ []) (t.head ∷ []) [] (λ i. Ok (x, pool i)) is.others
             (λ h none. or_from (eqb t.head h) false (or_parts (eqb t.head h) (rows.has h (s.head ∷ [])) none).0 refl)
-            ((λ absent. absurd (not_both (or_left (eqb s.head t.head) false (eq-eqb s.head t.head head)) absent)), ((λ absent. token_at-had r.arena s had), tt))
+            ((λ absent. absurd (not_both (or_left (eqb s.head t.head) false (eq-eqb s.head t.head head)) absent)), ((λ absent. token_at-had r.arena s is.had), tt))
             (ap (λ (y : PlacesValue). y.slots) at) (ap (λ (y : PlacesValue). y.stamps) at) told tt
             (λ h stay spent given. stay) ((stands_had p.arena t of.had, stands), tt) (λ h spent given. absurd (false≢true spent)) tt
         each (Err why) after told = record {
@@ -279,92 +257,107 @@ module _ (p r : PoolValue) (ps qs : PlacesValue) (fits : Fits p.arena ps) where
 
     -- ---- it goes
 
-    pub spends : (f : ℕ → Given PoolValue (Unit {0})) (a : Result (Unit {0}) Refusal) (put : Result (Unit {0}) Rejected) (answer : Result (Unit {0}) Fault) → r ≡ value_after p (f t.head) → answer_of (f t.head) ≡ a
-        → put ≡ or_rejected t a → IfOk put (λ u. held_at r.arena t.head ≡ None) → LeavesOthers (t.head ∷ []) p.arena r.arena → qs ≡ with_rejected put (without_token n.head ps) → answer ≡ answer_spent put
+    pub spends : (f : ℕ → Given PoolValue (Unit {0})) {put : Result (Unit {0}) Rejected} {answer : Result (Unit {0}) Fault} → Puts arena t (f t.head) p r put → qs ≡ with_rejected put (without_token n.head ps) → answer ≡ answer_spent put
         → Called plain (outcome_of (f n.head)) (n.head ∷ []) p r ps qs answer
-    spends f a put answer after same is gone left places told =
-        subst (λ h. Called plain (outcome_of (f h)) (h ∷ []) p r ps qs answer) of.head
-        (each (f t.head) put after (is ∙ ap (or_rejected t) (sym same)) gone (places ∙ ap (λ h. with_rejected put (without_token h ps)) (sym of.head)) told)
+    spends f {put} {answer} is places told =
+        subst (λ h. Called plain (outcome_of (f h)) (h ∷ []) p r ps qs answer) of.head (each (f t.head) put is (places ∙ ap (λ h. with_rejected put (without_token h ps)) (sym of.head)) told)
       where
-        each : (g : Given PoolValue (Unit {0})) (put : Result (Unit {0}) Rejected) → r ≡ value_after p g → put ≡ or_rejected t (answer_of g) → IfOk put (λ u. held_at r.arena t.head ≡ None)
-            → qs ≡ with_rejected put (without_token t.head ps) → answer ≡ answer_spent put → Called plain (outcome_of g) (t.head ∷ []) p r ps qs answer
-        each (Ok (x, u)) (Ok y) after is gone places told =
-            let pool : u ≡ r = sym after in
-            made plain (Ok (x, u)) answer x ((t.head, None) ∷ []) (t.head ∷ []) [] (t.head ∷ []) (λ i. Ok (x, pool i)) left (λ h none. none)
-            ((λ absent. token_at-none r.arena t.head gone), tt) (ap (λ (z : PlacesValue). z.slots) places) (ap (λ (z : PlacesValue). z.stamps) places)
-            (told ∙ ap (λ (z : Unit {0}). let q : Result (Unit {0}) Fault = Ok z in q) (same_ok is)) tt
-            (λ h stay spent given. spent) tt (λ h spent given. subst (λ k. held_at r.arena k ≡ None) (lone h t.head spent) gone) tt
-        each (Ok given) (Err rejected) after is gone places told = absurd (err_not_ok is)
-        each (Err why) (Ok y) after is gone places told = absurd (err_not_ok (sym is))
-        each (Err why) (Err rejected) after is gone places told =
-            refused_back plain (Err (Refused why)) answer (t.head ∷ []) (Refused why) t of.had left refl after
-            (places ∙ ap (λ (x : Rejected). with_token x.token (without_token t.head ps)) (same_err is)) (told ∙ ap (λ (x : Rejected). Err (Refused x.why)) (same_err is))
+        each : (g : Given PoolValue (Unit {0})) (put : Result (Unit {0}) Rejected) → Puts arena t g p r put → qs ≡ with_rejected put (without_token t.head ps) → answer ≡ answer_spent put
+            → Called plain (outcome_of g) (t.head ∷ []) p r ps qs answer
+        each (Ok (x, u)) (Ok y) is places told =
+            let pool : u ≡ r = sym is.after in
+            made plain (Ok (x, u)) answer x ((t.head, None) ∷ []) (t.head ∷ []) [] (t.head ∷ []) (λ i. Ok (x, pool i)) is.others (λ h none. none)
+            ((λ absent. token_at-none r.arena t.head is.gone), tt) (ap (λ (z : PlacesValue). z.slots) places) (ap (λ (z : PlacesValue). z.stamps) places)
+            (told ∙ ap (λ (z : Unit {0}). let q : Result (Unit {0}) Fault = Ok z in q) (same_ok is.answer)) tt
+            (λ h stay spent given. spent) tt (λ h spent given. subst (λ k. held_at r.arena k ≡ None) (lone h t.head spent) is.gone) tt
+        each (Ok given) (Err rejected) is places told = absurd (err_not_ok is.answer)
+        each (Err why) (Ok y) is places told = absurd (err_not_ok (sym is.answer))
+        each (Err why) (Err rejected) is places told =
+            refused_back plain (Err (Refused why)) answer (t.head ∷ []) (Refused why) t of.had is.others refl is.after
+            (places ∙ ap (λ (x : Rejected). with_token x.token (without_token t.head ps)) (same_err is.answer)) (told ∙ ap (λ (x : Rejected). Err (Refused x.why)) (same_err is.answer))
 
     -- and what is left is a message, if anything is
-    pub leaves_rest : (f : ℕ → Option ℕ × Arena) (rest : Option TokenValue) (answer : Result (Option Name) Fault) → r ≡ with_arena p (f t.head).1 → rest ≡ option_map (token_of r.arena) (f t.head).0
-        → IfSome rest (λ s. has r.arena s ≡ true) → held_at r.arena t.head ≡ None → LeavesOthers (t.head ∷ head_given rest) p.arena r.arena
+    pub leaves_rest : (f : ℕ → Option ℕ × Arena) {rest : Option TokenValue} {answer : Result (Option Name) Fault} → Frees arena t (on_arena p (Ok (f t.head))) p r (Ok rest)
         → qs ≡ with_any rest (without_token n.head ps) → answer ≡ Ok (any_given rest (without_token n.head ps)) → Called any_message (outcome_of (on_arena p (Ok (f n.head)))) (n.head ∷ []) p r ps qs answer
-    leaves_rest f rest answer after is had gone left places told =
-        let pool : with_arena p (f t.head).1 ≡ r = sym after in
+    leaves_rest f {rest} {answer} is places told =
+        let pool : with_arena p (f t.head).1 ≡ r = sym is.after in
         subst (λ h. Called any_message (outcome_of (on_arena p (Ok (f h)))) (h ∷ []) p r ps qs answer) of.head
-        (each rest (f t.head).0 (outcome_of (on_arena p (Ok (f t.head)))) (λ i. Ok ((f t.head).0, pool i)) is had left
+        (each rest (f t.head).0 (outcome_of (on_arena p (Ok (f t.head)))) (λ i. Ok ((f t.head).0, pool i)) (same_ok is.rest) is.had is.others
         (places ∙ ap (λ h. with_any rest (without_token h ps)) (sym of.head)) (told ∙ ap (λ h. Ok (any_given rest (without_token h ps))) (sym of.head)))
       where
         each : (rest : Option TokenValue) (o : Option ℕ) (outcome : Outcome (Option ℕ)) → outcome ≡ Ok (o, r) → rest ≡ option_map (token_of r.arena) o → IfSome rest (λ s. has r.arena s ≡ true)
             → LeavesOthers (t.head ∷ head_given rest) p.arena r.arena → qs ≡ with_any rest (without_token t.head ps) → answer ≡ Ok (any_given rest (without_token t.head ps))
             → Called any_message outcome (t.head ∷ []) p r ps qs answer
-        each (Some s) (Some k) outcome gives is had left places told =
-            let head : k ≡ s.head = sym (ap (λ (y : TokenValue). y.head) (same_some is)) in
+        each (Some s) (Some k) outcome gives same had left places told =
+            let head : k ≡ s.head = sym (ap (λ (y : TokenValue). y.head) (same_some same)) in
             let stamps : qs.stamps ≡ stamps_given (s.head ∷ []) ps.stamps = ap (λ (x : PlacesValue). x.stamps) places in
             made any_message outcome answer (Some s.head) ((t.head, None) ∷ (s.head, Some s) ∷ []) (t.head ∷ s.head ∷ []) [] (t.head ∷ []) (gives ∙ (λ i. Ok (Some (head i), r))) left (λ h none. none)
-            ((λ absent. token_at-none r.arena t.head gone), ((λ absent. token_at-had r.arena s had), tt)) (ap (λ (x : PlacesValue). x.slots) places) stamps
+            ((λ absent. token_at-none r.arena t.head is.gone), ((λ absent. token_at-had r.arena s had), tt)) (ap (λ (x : PlacesValue). x.slots) places) stamps
             (told ∙ ap (λ (y : Name). Ok (Some y)) (name_alone s left.size had stamps)) (refl, tt)
             (λ h stay spent given. or_from (eqb t.head h) (rows.has h (s.head ∷ [])) (or_parts (eqb t.head h) false spent).0 given) tt
-            (λ h spent given. subst (λ k. held_at r.arena k ≡ None) (lone h t.head spent) gone) (stands_had r.arena s had, tt)
-        each (Some s) None outcome gives is had left places told = absurd (some_not_none is)
-        each None (Some k) outcome gives is had left places told = absurd (some_not_none (sym is))
-        each None None outcome gives is had left places told =
+            (λ h spent given. subst (λ k. held_at r.arena k ≡ None) (lone h t.head spent) is.gone) (stands_had r.arena s had, tt)
+        each (Some s) None outcome gives same had left places told = absurd (some_not_none same)
+        each None (Some k) outcome gives same had left places told = absurd (some_not_none (sym same))
+        each None None outcome gives same had left places told =
             made any_message outcome answer None ((t.head, None) ∷ []) (t.head ∷ []) [] (t.head ∷ []) gives left (λ h none. none)
-            ((λ absent. token_at-none r.arena t.head gone), tt) (ap (λ (x : PlacesValue). x.slots) places) (ap (λ (x : PlacesValue). x.stamps) places) told tt
-            (λ h stay spent given. spent) tt (λ h spent given. subst (λ k. held_at r.arena k ≡ None) (lone h t.head spent) gone) tt
+            ((λ absent. token_at-none r.arena t.head is.gone), tt) (ap (λ (x : PlacesValue). x.slots) places) (ap (λ (x : PlacesValue). x.stamps) places) told tt
+            (λ h stay spent given. spent) tt (λ h spent given. subst (λ k. held_at r.arena k ≡ None) (lone h t.head spent) is.gone) tt
 
     -- ---- it keeps its first block, and what is left is a message, if anything is
 
-    pub unlinks : (f : ℕ → Option ℕ × Arena) (s : TokenValue) (rest : Option TokenValue) (bs : PlacesValue) (answer : Result (Option Name) Fault) → r ≡ with_arena p (f t.head).1 → rest ≡ option_map (token_of r.arena) (f t.head).0
-        → s ≡ token_of r.arena t.head → has r.arena s ≡ true → IfSome rest (λ k. has r.arena k ≡ true) → LeavesOthers (t.head ∷ head_given rest) p.arena r.arena
+    pub unlinks : (f : ℕ → Option ℕ × Arena) {s : TokenValue} {rest : Option TokenValue} {bs : PlacesValue} {answer : Result (Option Name) Fault} → Unlinks arena t s (on_arena p (Ok (f t.head))) p r (Ok rest)
         → bs ≡ with_token s (without_token n.head ps) → qs ≡ with_any rest bs → answer ≡ Ok (any_given rest bs) → Called any_message (outcome_of (on_arena p (Ok (f n.head)))) [] p r ps qs answer
-    unlinks f s rest bs answer after is token kept had left base places told =
-        let pool : with_arena p (f t.head).1 ≡ r = sym after in
+    unlinks f {s} {rest} {bs} {answer} is base places told =
+        let pool : with_arena p (f t.head).1 ≡ r = sym is.after in
         let at : bs ≡ with_token s (without_token t.head ps) = base ∙ ap (λ h. with_token s (without_token h ps)) (sym of.head) in
         subst (λ h. Called any_message (outcome_of (on_arena p (Ok (f h)))) [] p r ps qs answer) of.head
-        (each rest (f t.head).0 (outcome_of (on_arena p (Ok (f t.head)))) (λ i. Ok ((f t.head).0, pool i)) is had left (places ∙ ap (with_any rest) at) (told ∙ ap (λ (x : PlacesValue). Ok (any_given rest x)) at))
+        (each rest (f t.head).0 (outcome_of (on_arena p (Ok (f t.head)))) (λ i. Ok ((f t.head).0, pool i)) (same_ok is.rest) is.rest_had is.others (places ∙ ap (with_any rest) at)
+        (told ∙ ap (λ (x : PlacesValue). Ok (any_given rest x)) at))
       where
         head : s.head ≡ t.head
-        head = ap (λ (y : TokenValue). y.head) token
+        head = ap (λ (y : TokenValue). y.head) is.token
 
         stands : is_some (held_at r.arena t.head) ≡ true
-        stands = subst (λ h. is_some (held_at r.arena h) ≡ true) head (stands_had r.arena s kept)
+        stands = subst (λ h. is_some (held_at r.arena h) ≡ true) head (stands_had r.arena s is.had)
 
         each : (rest : Option TokenValue) (o : Option ℕ) (outcome : Outcome (Option ℕ)) → outcome ≡ Ok (o, r) → rest ≡ option_map (token_of r.arena) o → IfSome rest (λ k. has r.arena k ≡ true)
             → LeavesOthers (t.head ∷ head_given rest) p.arena r.arena → qs ≡ with_any rest (with_token s (without_token t.head ps)) → answer ≡ Ok (any_given rest (with_token s (without_token t.head ps)))
             → Called any_message outcome [] p r ps qs answer
-        each (Some k) (Some j) outcome gives is had left places told =
-            let first : j ≡ k.head = sym (ap (λ (y : TokenValue). y.head) (same_some is)) in
+        each (Some k) (Some j) outcome gives same had left places told =
+            let first : j ≡ k.head = sym (ap (λ (y : TokenValue). y.head) (same_some same)) in
             let stamps : qs.stamps ≡ stamps_given (k.head ∷ []) ps.stamps = ap (λ (x : PlacesValue). x.stamps) places in
             made any_message outcome answer (Some k.head) ((t.head, None) ∷ (s.head, Some s) ∷ (k.head, Some k) ∷ []) (t.head ∷ k.head ∷ []) (t.head ∷ []) [] (gives ∙ (λ i. Ok (Some (first i), r))) left
             (λ h none.
             let parts = or_parts (eqb t.head h) (rows.has h (s.head ∷ k.head ∷ [])) none in
             or_from (eqb t.head h) (rows.has h (k.head ∷ [])) parts.0 (or_parts (eqb s.head h) (rows.has h (k.head ∷ [])) parts.1).1) (
               (λ absent. absurd (not_both (or_left (eqb s.head t.head) (rows.has t.head (k.head ∷ [])) (eq-eqb s.head t.head head)) absent)),
-              ((λ absent. token_at-had r.arena s kept), ((λ absent. token_at-had r.arena k had), tt)),
+              ((λ absent. token_at-had r.arena s is.had), ((λ absent. token_at-had r.arena k had), tt)),
             )
             (ap (λ (x : PlacesValue). x.slots) places) stamps (told ∙ ap (λ (y : Name). Ok (Some y)) (name_alone k left.size had stamps)) (refl, tt)
             (λ h stay spent given. or_from (eqb t.head h) (rows.has h (k.head ∷ [])) (or_parts (eqb t.head h) false stay).0 given)
             ((stands_had p.arena t of.had, stands), tt) (λ h spent given. absurd (false≢true spent)) (stands_had r.arena k had, tt)
-        each (Some k) None outcome gives is had left places told = absurd (some_not_none is)
-        each None (Some j) outcome gives is had left places told = absurd (some_not_none (sym is))
-        each None None outcome gives is had left places told =
+        each (Some k) None outcome gives same had left places told = absurd (some_not_none same)
+        each None (Some j) outcome gives same had left places told = absurd (some_not_none (sym same))
+        each None None outcome gives same had left places told =
             made any_message outcome answer None ((t.head, None) ∷ (s.head, Some s) ∷ []) (t.head ∷ []) (t.head ∷ []) [] gives left
             (λ h none. or_from (eqb t.head h) false (or_parts (eqb t.head h) (rows.has h (s.head ∷ [])) none).0 refl)
-            ((λ absent. absurd (not_both (or_left (eqb s.head t.head) false (eq-eqb s.head t.head head)) absent)), ((λ absent. token_at-had r.arena s kept), tt))
+            ((λ absent. absurd (not_both (or_left (eqb s.head t.head) false (eq-eqb s.head t.head head)) absent)), ((λ absent. token_at-had r.arena s is.had), tt))
             (ap (λ (x : PlacesValue). x.slots) places) (ap (λ (x : PlacesValue). x.stamps) places) told tt (λ h stay spent given. stay) ((stands_had p.arena t of.had, stands), tt) (λ h spent given. absurd (false≢true spent)) tt
+
+-- ---- a call that leaves the held messages
+
+pub still_fits : {a b : Arena} {ps : PlacesValue} → LeavesOthers [] a b → Fits a ps → Fits b ps
+still_fits {a} {b} {ps} left fits = fits_with a b ps ps [] [] fits left (λ h none. refl) tt refl refl
+
+pub leaves_names : {X : Type 0} {v : NamedValue} {p r : PoolValue} (ps : PlacesValue) {result : Result X Refusal} (call : PoolValue → Given PoolValue X) → named p ps ≡ v → r ≡ value_after p (call p) → result ≡ answer_of (call p)
+    → LeavesOthers [] p.arena r.arena → LeavesNames (call v.pool) v (named r ps) result
+leaves_names {X} {v} {p} {r} ps {result} call view after answer left =
+    subst (λ w. LeavesNames (call w.pool) w (named r ps) result) view
+    (record {
+      pool = ap (λ (x : PoolValue). named x ps) after;
+      answer = answer;
+      names = λ n i. n.pool == left.id i && (is_some (left.held n.head refl i) && n.stamp == stamp_in ps n.head);
+    })
+
+pub leaves_all : {a b : Arena} → b ≡ a → LeavesOthers [] a b
+leaves_all {a} same = subst (LeavesOthers [] a) (sym same) (leaves_same a []).others

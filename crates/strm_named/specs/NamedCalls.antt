@@ -1,11 +1,12 @@
 -- Calls of a pool, as those of one whose messages are known by names. No call is defined anew.
 use Rattle.std.specs.Prelude.{◌≡◌, ℕ, ◌&&◌, not, ◌==◌, List, [], ◌∷◌, option_map, Option, None, Some, Result, Ok, Err, IfOk, if◌then◌else◌}
-use Rattle.strm_mblk.specs.Given.{Given}
+use Rattle.strm_data.specs.declared.refusal.Refusal.{Refusal}
+use Rattle.strm_mblk.specs.Given.{Given, answer_of, value_after}
 use Rattle.strm_pool.specs.PoolValue.{PoolValue}
 use Rattle.strm_named.specs.declared.fault.Fault.{Fault}
 use Rattle.strm_named.specs.declared.fault.Fault.TheVariants.{Invalid, Refused}
 use Rattle.strm_named.specs.declared.name.Name.{Name}
-use Rattle.strm_named.specs.NamedValue.{NamedValue, Renames, is_valid, name_of, stamps_given}
+use Rattle.strm_named.specs.NamedValue.{KeepsNames, NamedValue, Renames, is_valid, name_of, stamps_given, with_pool}
 
 -- ---- what comes of a call
 
@@ -17,10 +18,6 @@ Outcome X = Result (X × PoolValue) Fault
 abbrev pub outcome_of : {X : Type 0} → Given PoolValue X → Outcome X
 outcome_of (Ok given) = Ok given
 outcome_of (Err why) = Err (Refused why)
-
--- of one that answers nothing, and is never refused
-abbrev pub done : PoolValue → Given PoolValue (Unit {0})
-done p = Ok (tt, p)
 
 -- of one on the message of a name, where that is valid
 abbrev pub on_name : {X : Type 0} → NamedValue → Name → Given PoolValue X → Outcome X
@@ -77,3 +74,9 @@ pub record Does {X Y : Type 0} (s : Shape X Y) (outcome : Outcome X) (spent : Li
   pub after : new ≡ named_after s old outcome
   pub told : answer ≡ answer_told s new outcome
   pub names : IfOk outcome (λ given. Renames spent (s.heads given.0) old new)
+
+-- A call that leaves the names: the pool after it, as a call of the pool has it, and what it answers.
+pub record LeavesNames {X : Type 0} (call : Given PoolValue X) (old new : NamedValue) (result : Result X Refusal) : Type 0 where
+  pub pool : new ≡ with_pool old (value_after old.pool call)
+  pub answer : result ≡ answer_of call
+  pub names : KeepsNames old new

@@ -7,5 +7,4 @@ mod Applied
 mod Shaped
 mod Wishing
 mod Acting
-mod Kept
 pub mod Replays

@@ -1,6 +1,6 @@
 -- The shapes of calls on registers: what a call on tokens that answers so does to registers is its step.
-use Rattle.std.proofs.Common.{◌≡◌, ◌≢◌, ℕ, zero, suc, ◌<◌, Bool, true, false, eqb, ◌||◌, arith, List, [], ◌∷◌, ◌++◌, length, set, Option, Some, None, Result, Ok, Err, refl, sym, ap, ◌∙◌, subst, inl, inr, get_or-set_other}
-use Rattle.std.specs.Prelude.{IfOk, IfSome, is_none, is_some, option_map, unwrap_or}
+use Rattle.std.proofs.Common.{◌≡◌, ◌≢◌, ℕ, zero, suc, ◌<◌, Bool, true, false, eqb, ◌||◌, arith, ◌⊎◌, List, [], ◌∷◌, ◌++◌, length, set, Option, Some, None, Result, Ok, Err, refl, sym, ap, ◌∙◌, subst, inl, inr, get_or-set_other}
+use Rattle.std.specs.Prelude.{IfSome, is_none, is_some, option_map, unwrap_or}
 use Rattle.std.specs.Option.{option_map_or}
 use Rattle.std.proofs.lemmas.Bool.{cases_Bool, cases_eq, eq-eqb, eqb-true, false≢true, ne_eqb, or_parts}
 use Rattle.std.proofs.lemmas.List.{set-get_or, set-set}
@@ -10,16 +10,17 @@ use Rattle.strm_links.specs.Rows as rows
 use Rattle.strm_mblk.specs.declared.rejected.Rejected.{Rejected}
 use Rattle.strm_mblk.specs.declared.token.TokenValue.{TokenValue}
 use Rattle.strm_mblk.specs.Arena.{Arena, has, held_at, token_of}
-use Rattle.strm_mblk.specs.Frame.{LeavesOthers, head_answered, head_given, heads_answered, heads_parted}
-use Rattle.strm_mblk.specs.Given.{Given, answer_map, answer_of, or_rejected, value_after}
+use Rattle.strm_mblk.specs.Calls.{Alters, Flushes, Frees, Gives, Joins, LeavesBlocks, Parts, Puts, Takes, TakesAny, Unlinks}
+use Rattle.strm_mblk.specs.Frame.{LeavesOthers, head_given}
+use Rattle.strm_mblk.specs.Given.{Given, answer_of, value_after}
 use Rattle.strm_pool.specs.declared.call.Call.{Call}
 use Rattle.strm_pool.specs.declared.reply.Reply.{Reply}
 use Rattle.strm_pool.specs.declared.reply.Reply.TheVariants.{Done, Nothing, Refused}
 use Rattle.strm_pool.specs.Names.{names_of, naming, registers_in}
-use Rattle.strm_pool.specs.PoolValue.{PoolValue, on_arena, with_arena}
+use Rattle.strm_pool.specs.PoolValue.{PoolValue, arena, on_arena}
 use Rattle.strm_pool.specs.Registers.{AreDistinct, register, table_of}
 use Rattle.strm_pool.specs.Shapes.{IsReady, Settled, any_given_to, given_to, parted_to, rejected_to, reply_done, reply_made}
-use Rattle.strm_pool.specs.Step.{Applies, act, answers, doing, gives, head_held, keeps, may_give, misses_token, parts, replying, spends}
+use Rattle.strm_pool.specs.Step.{Applies, act, answers, doing, gives, head_held, keeps, leaves, may_give, misses_token, parts, replying, spends}
 use Rattle.strm_pool.proofs.Accounts.{owned_token, table-at}
 use Rattle.strm_pool.proofs.Applied.{applies_by, applies_nothing, same_some, step_act}
 use Rattle.strm_pool.proofs.Moved.{Each, Moves, held_has, news, table-set, tokens_in}
@@ -98,6 +99,10 @@ moves_beside {a} {b} {t} {s} {r} head had kept given unheld others = record {
       (lone h r.head (ap (λ b. b || rows.has h (r.head ∷ [])) (sym (ap (λ k. eqb k h) head ∙ (or_parts (eqb t.head h) false before).0)) ∙ after)) unheld;
 }
 
+-- a call that leaves the arena leaves all messages
+all_stays : {a b : Arena} → b ≡ a → LeavesOthers [] a b
+all_stays {a} same = subst (LeavesOthers [] a) (sym same) (record { id = refl; size = refl; held = λ h none. refl })
+
 module _ {v : PoolValue} {rs : List (Option TokenValue)} {call other : Call} (called : call ≡ other) (ready : IsReady v rs call) where
   -- its destination is there, and holds nothing
   destination : (source second : Option ℕ) (y : ℕ) → IsNaming other source second (Some y) → (register rs y ≡ None) × (y < length rs)
@@ -137,32 +142,49 @@ module _ {v w : PoolValue} {rs : List (Option TokenValue)} {call other : Call} (
       does
 
   -- the reply is made of the answer
-  pub tells : {X : Type 0} (made : X → Reply) (g : Given PoolValue X) {a answer : Result X Refusal} {reply : Reply} → [] ≡ registers_in (names_of other) → LeavesOthers [] v.arena w.arena
-      → act v (table_of rs) other ≡ doing v (table_of rs) (answers made) g → w ≡ value_after v g → answer_of g ≡ a → answer ≡ a → reply ≡ reply_made made answer → Applies v rs call w rs reply
-  tells {X} made g named left does after same answered told = leaves_held named left (does ∙ telling g after ∙ ap (replying w (table_of rs)) (ap (reply_made made) (same ∙ sym answered) ∙ sym told))
+  tells : {X : Type 0} (made : X → Reply) (g : Given PoolValue X) {answer : Result X Refusal} {reply : Reply} → [] ≡ registers_in (names_of other) → LeavesOthers [] v.arena w.arena
+      → act v (table_of rs) other ≡ doing v (table_of rs) (answers made) g → w ≡ value_after v g → answer ≡ answer_of g → reply ≡ reply_made made answer → Applies v rs call w rs reply
+  tells {X} made g named left does after answered told = leaves_held named left (does ∙ telling g after ∙ ap (replying w (table_of rs)) (ap (reply_made made) (sym answered) ∙ sym told))
     where
       telling : (g : Given PoolValue X) → w ≡ value_after v g → doing v (table_of rs) (answers made) g ≡ replying w (table_of rs) (reply_made made (answer_of g))
       telling (Ok given) after = ap (λ u. replying u (table_of rs) (made given.0)) (sym after)
       telling (Err why) after = ap (λ u. replying u (table_of rs) (Refused why)) (sym after)
 
+  pub tells_stay : {X : Type 0} (made : X → Reply) (g : Given PoolValue X) {answer : Result X Refusal} {reply : Reply} → [] ≡ registers_in (names_of other) → act v (table_of rs) other ≡ doing v (table_of rs) (answers made) g
+      → LeavesBlocks arena g v w answer → reply ≡ reply_made made answer → Applies v rs call w rs reply
+  tells_stay made g named does is told = tells made g named (all_stays is.arena_stays) does is.after is.answer told
+
+  pub flushes : (g : Given PoolValue (Unit {0})) {answer : Result (Unit {0}) Refusal} {reply : Reply} → [] ≡ registers_in (names_of other) → act v (table_of rs) other ≡ doing v (table_of rs) (answers (λ done. Done)) g
+      → Flushes arena g v w answer → reply ≡ reply_done answer → Applies v rs call w rs reply
+  flushes g named does is told = tells (λ done. Done) g named is.others does is.after is.answer told
+
   -- ---- one register takes part
 
-  -- its token changes, and its message stays held at its head
-  module _ (x : ℕ) {t : TokenValue} (s : TokenValue) (named : x ∷ [] ≡ registers_in (names_of other)) (was : register rs x ≡ Some t) (head : s.head ≡ t.head) (had : has w.arena s ≡ true)
-      (left : LeavesOthers (t.head ∷ []) v.arena w.arena) where
-    pub keeps_one : (g : Given PoolValue (Unit {0})) {done : Result (Unit {0}) Refusal} → act v (table_of rs) other ≡ doing v (table_of rs) keeps g → w ≡ value_after v g → done ≡ answer_of g
-        → Applies v rs call w (set rs x (Some s)) (reply_done done)
-    keeps_one g {done} does after answered =
-        applies_by ((x, Some s) ∷ []) called ready named (refl, tt) (within_list rs x t was, tt) (had, tt) left
-        (λ distinct. subst (λ o. Moves v.arena w.arena (tokens_in o ++ []) (s ∷ [])) (sym was) (moves_stay head (owned_token v rs x t ready.owned was) had left))
-        (does ∙ kept g after ∙ ap (λ a. replying w (table_of rs) (reply_done a)) (sym answered) ∙ ap (λ table. replying w table (reply_done done)) same)
-      where
-        kept : (g : Given PoolValue (Unit {0})) → w ≡ value_after v g → doing v (table_of rs) keeps g ≡ replying w (table_of rs) (reply_done (answer_of g))
-        kept (Ok given) after = ap (λ u. replying u (table_of rs) Done) (sym after)
-        kept (Err why) after = ap (λ u. replying u (table_of rs) (Refused why)) (sym after)
+  -- its message is altered, and its token may tell of another number of blocks
+  pub alters : (f : ℕ → Given Arena (Unit {0})) (x : ℕ) {t s : TokenValue} {done : Result (Unit {0}) Refusal} {ss : List (Option TokenValue)} {reply : Reply} → x ∷ [] ≡ registers_in (names_of other) → register rs x ≡ Some t
+      → act v (table_of rs) other ≡ doing v (table_of rs) keeps (on_arena v (f (head_held (table_of rs) x))) → Alters arena t s (on_arena v (f t.head)) v w done
+      → ss ≡ set rs x (Some s) → reply ≡ reply_done done → Applies v rs call w ss reply
+  alters f x {t} {s} {done} {ss} {reply} named was does is now told =
+      subst (λ (p : Settled). Applies v rs call w p.0 p.1) (λ i. (sym now i, sym told i))
+      (applies_by ((x, Some s) ∷ []) called ready named (refl, tt) (within_list rs x t was, tt) (is.had, tt) is.others
+      (λ distinct. subst (λ o. Moves v.arena w.arena (tokens_in o ++ []) (s ∷ [])) (sym was) (moves_stay head (owned_token v rs x t ready.owned was) is.had is.others))
+      (does ∙ ap (λ h. doing v (table_of rs) keeps (on_arena v (f h))) (head_is rs x t was) ∙ kept (on_arena v (f t.head)) is.after
+      ∙ ap (λ a. replying w (table_of rs) (reply_done a)) (sym is.answer) ∙ ap (λ table. replying w table (reply_done done)) same))
+    where
+      head : s.head ≡ t.head
+      head = ap (λ (y : TokenValue). y.head) is.token
 
-        same : table_of rs ≡ table_of (set rs x (Some s))
-        same = sym (table-set rs x (Some s) ∙ kept_head rs x t s was head)
+      kept : (g : Given PoolValue (Unit {0})) → w ≡ value_after v g → doing v (table_of rs) keeps g ≡ replying w (table_of rs) (reply_done (answer_of g))
+      kept (Ok given) after = ap (λ u. replying u (table_of rs) Done) (sym after)
+      kept (Err why) after = ap (λ u. replying u (table_of rs) (Refused why)) (sym after)
+
+      same : table_of rs ≡ table_of (set rs x (Some s))
+      same = sym (table-set rs x (Some s) ∙ kept_head rs x t s was head)
+
+  -- and tells of as many as before
+  pub alters_kept : (f : ℕ → Given Arena (Unit {0})) (x : ℕ) {t : TokenValue} {done : Result (Unit {0}) Refusal} {reply : Reply} → x ∷ [] ≡ registers_in (names_of other) → register rs x ≡ Some t
+      → act v (table_of rs) other ≡ doing v (table_of rs) keeps (on_arena v (f (head_held (table_of rs) x))) → Alters arena t t (on_arena v (f t.head)) v w done → reply ≡ reply_done done → Applies v rs call w rs reply
+  alters_kept f x {t} named was does is told = alters f x named was does is (sym (put_back rs x t was)) told
 
   -- its message goes, and none is held at its head
   spent_one : (x : ℕ) {t : TokenValue} {heads : List ℕ} → x ∷ [] ≡ registers_in (names_of other) → register rs x ≡ Some t → LeavesOthers heads v.arena w.arena
@@ -181,40 +203,46 @@ module _ {v w : PoolValue} {rs : List (Option TokenValue)} {call other : Call} (
       (does ∙ ap (λ table. replying w table Done) (sym (table-set rs x None)))
 
   -- a call that spends a token, or gives it back
-  pub spends_one : (x : ℕ) {t : TokenValue} (g : Given PoolValue (Unit {0})) {done : Result (Unit {0}) Rejected} {a : Result (Unit {0}) Refusal} {settled : Settled} → x ∷ [] ≡ registers_in (names_of other) → register rs x ≡ Some t
-      → act v (table_of rs) other ≡ doing v (table_of rs) (spends x) g → w ≡ value_after v g → answer_of g ≡ a → done ≡ or_rejected t a
-      → IfOk done (λ u. held_at w.arena t.head ≡ None) → LeavesOthers (t.head ∷ []) v.arena w.arena → settled ≡ rejected_to x done (set rs x None) → Applies v rs call w settled.0 settled.1
-  spends_one x {t} g {done} named was does after same answered gone left settled =
-      subst (λ (p : Settled). Applies v rs call w p.0 p.1) (sym settled) (each g done does after (answered ∙ ap (or_rejected t) (sym same)) gone)
+  pub spends_one : (f : ℕ → Given PoolValue (Unit {0})) (x : ℕ) {t : TokenValue} {done : Result (Unit {0}) Rejected} {settled : Settled} {ss : List (Option TokenValue)} → x ∷ [] ≡ registers_in (names_of other) → register rs x ≡ Some t
+      → ss ≡ set rs x None → act v (table_of rs) other ≡ doing v (table_of rs) (spends x) (f (head_held (table_of rs) x)) → Puts arena t (f t.head) v w done → settled ≡ rejected_to x done ss → Applies v rs call w settled.0 settled.1
+  spends_one f x {t} {done} named was empty does is settled =
+      subst (λ (p : Settled). Applies v rs call w p.0 p.1) (sym (settled ∙ ap (rejected_to x done) empty))
+      (each (f t.head) done (does ∙ ap (λ h. doing v (table_of rs) (spends x) (f h)) (head_is rs x t was)) is)
     where
-      each : (g : Given PoolValue (Unit {0})) (done : Result (Unit {0}) Rejected) → act v (table_of rs) other ≡ doing v (table_of rs) (spends x) g → w ≡ value_after v g → done ≡ or_rejected t (answer_of g)
-          → IfOk done (λ u. held_at w.arena t.head ≡ None) → let settled = rejected_to x done (set rs x None) in Applies v rs call w settled.0 settled.1
-      each (Ok given) (Ok u) does after answered gone = spent_one x named was left (λ h none. none) gone (does ∙ ap (λ p. replying p (set (table_of rs) x None) Done) (sym after))
-      each (Ok given) (Err rejected) does after answered gone = absurd (err_not_ok answered)
-      each (Err why) (Ok u) does after answered gone = absurd (err_not_ok (sym answered))
-      each (Err why) (Err rejected) does after answered gone =
-          subst (λ ss. Applies v rs call w ss (Refused rejected.why)) (sym (set-set rs x None (Some rejected.token) ∙ ap (λ (r : Rejected). set rs x (Some r.token)) (same_err answered) ∙ put_back rs x t was))
-          (refused (spends x) rejected.why (does ∙ ap (λ (r : Rejected). doing v (table_of rs) (spends x) (Err r.why)) (sym (same_err answered))) after)
+      each : (g : Given PoolValue (Unit {0})) (done : Result (Unit {0}) Rejected) → act v (table_of rs) other ≡ doing v (table_of rs) (spends x) g → Puts arena t g v w done
+          → let settled = rejected_to x done (set rs x None) in Applies v rs call w settled.0 settled.1
+      each (Ok given) (Ok u) does is = spent_one x named was is.others (λ h none. none) is.gone (does ∙ ap (λ p. replying p (set (table_of rs) x None) Done) (sym is.after))
+      each (Ok given) (Err rejected) does is = absurd (err_not_ok is.answer)
+      each (Err why) (Ok u) does is = absurd (err_not_ok (sym is.answer))
+      each (Err why) (Err rejected) does is =
+          subst (λ ss. Applies v rs call w ss (Refused rejected.why)) (sym (set-set rs x None (Some rejected.token) ∙ ap (λ (r : Rejected). set rs x (Some r.token)) (same_err is.answer) ∙ put_back rs x t was))
+          (refused (spends x) rejected.why (does ∙ ap (λ (r : Rejected). doing v (table_of rs) (spends x) (Err r.why)) (sym (same_err is.answer))) is.after)
 
-  -- its message is another one now, if there is one, whose head no held message had
-  pub leaves_one : (x : ℕ) {t : TokenValue} (rest : Option TokenValue) (o : Option ℕ) → x ∷ [] ≡ registers_in (names_of other) → register rs x ≡ Some t
-      → act v (table_of rs) other ≡ replying w (set (table_of rs) x o) Done → rest ≡ option_map (token_of w.arena) o
-      → IfSome rest (λ s. has w.arena s ≡ true) → IfSome rest (λ s. held_at v.arena s.head ≡ None) → LeavesOthers (t.head ∷ head_given rest) v.arena w.arena → held_at w.arena t.head ≡ None
-      → Applies v rs call w (set rs x rest) Done
-  leaves_one x None None named was does is had unheld left gone = spent_one x named was left (λ h none. none) gone does
-  leaves_one x None (Some n) named was does is had unheld left gone = absurd (let e : None ≡ Some (token_of w.arena n) = is in cc)
-  leaves_one x (Some s) None named was does is had unheld left gone = absurd (let e : Some s ≡ None = is in cc)
-  leaves_one x {t} (Some s) (Some n) named was does is had unheld left gone =
-      applies_by ((x, Some s) ∷ []) called ready named (refl, tt) (within_list rs x t was, tt) (had, tt) left
-      (λ distinct. subst (λ o. Moves v.arena w.arena (tokens_in o ++ []) (s ∷ [])) (sym was) (record {
-        others = λ h before after. left.held h (ap (λ b. b || rows.has h (s.head ∷ [])) (or_parts (eqb t.head h) false before).0 ∙ after);
-        had = (owned_token v rs x t ready.owned was, tt);
-        has_now = (had, tt);
-        apart = (refl, tt);
-        gone = λ h before after. subst (λ k. held_at w.arena k ≡ None) (lone h t.head before) gone;
-        new = λ h before after. subst (λ k. held_at v.arena k ≡ None) (lone h s.head after) unheld;
-      }))
-      (does ∙ ap (λ table. replying w table Done) (ap (λ (y : TokenValue). set (table_of rs) x (Some y.head)) (sym (same_some is)) ∙ sym (table-set rs x (Some s))))
+  -- its first block is freed, and the rest is its message, if there is one
+  pub leaves_one : (made : ℕ → Arena → Option ℕ × Arena) (x : ℕ) {t : TokenValue} {rest : Option TokenValue} {ss : List (Option TokenValue)} → x ∷ [] ≡ registers_in (names_of other) → register rs x ≡ Some t
+      → act v (table_of rs) other ≡ doing v (table_of rs) (leaves x) (on_arena v (Ok (made (head_held (table_of rs) x) v.arena))) → Frees arena t (on_arena v (Ok (made t.head v.arena))) v w (Ok rest)
+      → ss ≡ set rs x rest → Applies v rs call w ss Done
+  leaves_one made x {t} {rest} named was does is now =
+      subst (λ l. Applies v rs call w l Done) (sym now)
+      (each rest (made t.head v.arena).0 (same_ok is.rest) is.had is.unheld is.others
+      (does ∙ ap (λ h. doing v (table_of rs) (leaves x) (on_arena v (Ok (made h v.arena)))) (head_is rs x t was) ∙ ap (λ p. replying p (set (table_of rs) x (made t.head v.arena).0) Done) (sym is.after)))
+    where
+      each : (rest : Option TokenValue) (o : Option ℕ) → rest ≡ option_map (token_of w.arena) o → IfSome rest (λ s. has w.arena s ≡ true) → IfSome rest (λ s. held_at v.arena s.head ≡ None)
+          → LeavesOthers (t.head ∷ head_given rest) v.arena w.arena → act v (table_of rs) other ≡ replying w (set (table_of rs) x o) Done → Applies v rs call w (set rs x rest) Done
+      each None None same had unheld left does = spent_one x named was left (λ h none. none) is.gone does
+      each None (Some n) same had unheld left does = absurd (let e : None ≡ Some (token_of w.arena n) = same in cc)
+      each (Some s) None same had unheld left does = absurd (let e : Some s ≡ None = same in cc)
+      each (Some s) (Some n) same had unheld left does =
+          applies_by ((x, Some s) ∷ []) called ready named (refl, tt) (within_list rs x t was, tt) (had, tt) left
+          (λ distinct. subst (λ o. Moves v.arena w.arena (tokens_in o ++ []) (s ∷ [])) (sym was) (record {
+            others = λ h before after. left.held h (ap (λ b. b || rows.has h (s.head ∷ [])) (or_parts (eqb t.head h) false before).0 ∙ after);
+            had = (owned_token v rs x t ready.owned was, tt);
+            has_now = (had, tt);
+            apart = (refl, tt);
+            gone = λ h before after. subst (λ k. held_at w.arena k ≡ None) (lone h t.head before) is.gone;
+            new = λ h before after. subst (λ k. held_at v.arena k ≡ None) (lone h s.head after) unheld;
+          }))
+          (does ∙ ap (λ table. replying w table Done) (ap (λ (y : TokenValue). set (table_of rs) x (Some y.head)) (sym (same_some same)) ∙ sym (table-set rs x (Some s))))
 
   -- ---- a register is given a token
 
@@ -250,41 +278,39 @@ module _ {v w : PoolValue} {rs : List (Option TokenValue)} {call other : Call} (
         }))
         (does ∙ ap (λ l. replying w (table_of l) Nothing) (sym same)))
 
-    pub gives_one : (g : Given PoolValue ℕ) {given : Result TokenValue Refusal} {a : Result ℕ Refusal} {settled : Settled} → act v (table_of rs) other ≡ doing v (table_of rs) (gives y) g → w ≡ value_after v g
-        → answer_of g ≡ a → given ≡ answer_map (token_of w.arena) a → IfOk given (λ s. has w.arena s ≡ true) → IfOk given (λ s. held_at v.arena s.head ≡ None)
-        → LeavesOthers (head_answered given) v.arena w.arena → settled ≡ given_to y given rs → Applies v rs call w settled.0 settled.1
-    gives_one g {given} does after same answered had unheld left settled =
-        subst (λ (p : Settled). Applies v rs call w p.0 p.1) (sym settled) (each g given does after (answered ∙ ap (answer_map (token_of w.arena)) (sym same)) had unheld left)
+    pub gives_one : (g : Given PoolValue ℕ) {given : Result TokenValue Refusal} {settled : Settled} → act v (table_of rs) other ≡ doing v (table_of rs) (gives y) g → Takes arena g v w given
+        → settled ≡ given_to y given rs → Applies v rs call w settled.0 settled.1
+    gives_one g {given} does is settled = subst (λ (p : Settled). Applies v rs call w p.0 p.1) (sym settled) (each g given does is)
       where
-        each : (g : Given PoolValue ℕ) (given : Result TokenValue Refusal) → act v (table_of rs) other ≡ doing v (table_of rs) (gives y) g → w ≡ value_after v g
-            → given ≡ answer_map (token_of w.arena) (answer_of g) → IfOk given (λ s. has w.arena s ≡ true) → IfOk given (λ s. held_at v.arena s.head ≡ None)
-            → LeavesOthers (head_answered given) v.arena w.arena → let settled = given_to y given rs in Applies v rs call w settled.0 settled.1
-        each (Ok given) (Ok s) does after is had unheld left =
-            given_one s had unheld left
-            (does ∙ ap (λ p. replying p (set (table_of rs) y (Some given.0)) Done) (sym after) ∙ ap (λ (t : TokenValue). replying w (set (table_of rs) y (Some t.head)) Done) (sym (same_ok is)))
-        each (Ok given) (Err why) does after is had unheld left = absurd (err_not_ok is)
-        each (Err why) (Ok s) does after is had unheld left = absurd (err_not_ok (sym is))
-        each (Err why) (Err other) does after is had unheld left = refused (gives y) other (does ∙ ap (λ e. replying v (table_of rs) (Refused e)) (sym (same_err is))) after
+        each : (g : Given PoolValue ℕ) (given : Result TokenValue Refusal) → act v (table_of rs) other ≡ doing v (table_of rs) (gives y) g → Takes arena g v w given
+            → let settled = given_to y given rs in Applies v rs call w settled.0 settled.1
+        each (Ok given) (Ok s) does is =
+            given_one s is.had is.unheld is.others
+            (does ∙ ap (λ p. replying p (set (table_of rs) y (Some given.0)) Done) (sym is.after) ∙ ap (λ (t : TokenValue). replying w (set (table_of rs) y (Some t.head)) Done) (sym (same_ok is.token)))
+        each (Ok given) (Err why) does is = absurd (err_not_ok is.token)
+        each (Err why) (Ok s) does is = absurd (err_not_ok (sym is.token))
+        each (Err why) (Err other) does is = refused (gives y) other (does ∙ ap (λ e. replying v (table_of rs) (Refused e)) (sym (same_err is.token))) is.after
 
-    pub may_give_one : (g : Given PoolValue (Option ℕ)) {given : Result (Option TokenValue) Refusal} {a : Result (Option ℕ) Refusal} {settled : Settled} → act v (table_of rs) other ≡ doing v (table_of rs) (may_give y) g
-        → w ≡ value_after v g → answer_of g ≡ a → given ≡ answer_map (option_map (token_of w.arena)) a
-        → IfOk given (λ o. IfSome o (λ s. has w.arena s ≡ true)) → IfOk given (λ o. IfSome o (λ s. held_at v.arena s.head ≡ None))
-        → LeavesOthers (heads_answered given) v.arena w.arena → settled ≡ any_given_to y given rs → Applies v rs call w settled.0 settled.1
-    may_give_one g {given} does after same answered had unheld left settled =
-        subst (λ (p : Settled). Applies v rs call w p.0 p.1) (sym settled) (each g given does after (answered ∙ ap (answer_map (option_map (token_of w.arena))) (sym same)) had unheld left)
+    -- out of nothing that is held
+    pub gives_new : (g : Given PoolValue ℕ) {given : Result TokenValue Refusal} {settled : Settled} → act v (table_of rs) other ≡ doing v (table_of rs) (gives y) g → Gives arena None g v w given
+        → settled ≡ given_to y given rs → Applies v rs call w settled.0 settled.1
+    gives_new g does is settled = gives_one g does (record { after = is.after; token = is.token; had = is.had; unheld = is.unheld; others = is.others }) settled
+
+    pub may_give_one : (g : Given PoolValue (Option ℕ)) {given : Result (Option TokenValue) Refusal} {settled : Settled} → act v (table_of rs) other ≡ doing v (table_of rs) (may_give y) g → TakesAny arena g v w given
+        → settled ≡ any_given_to y given rs → Applies v rs call w settled.0 settled.1
+    may_give_one g {given} does is settled = subst (λ (p : Settled). Applies v rs call w p.0 p.1) (sym settled) (each g given does is)
       where
-        each : (g : Given PoolValue (Option ℕ)) (given : Result (Option TokenValue) Refusal) → act v (table_of rs) other ≡ doing v (table_of rs) (may_give y) g → w ≡ value_after v g
-            → given ≡ answer_map (option_map (token_of w.arena)) (answer_of g) → IfOk given (λ o. IfSome o (λ s. has w.arena s ≡ true)) → IfOk given (λ o. IfSome o (λ s. held_at v.arena s.head ≡ None))
-            → LeavesOthers (heads_answered given) v.arena w.arena → let settled = any_given_to y given rs in Applies v rs call w settled.0 settled.1
-        each (Ok (Some n, u)) (Ok (Some s)) does after is had unheld left =
-            given_one s had unheld left
-            (does ∙ ap (λ p. replying p (set (table_of rs) y (Some n)) Done) (sym after) ∙ ap (λ (t : TokenValue). replying w (set (table_of rs) y (Some t.head)) Done) (sym (same_some (same_ok is))))
-        each (Ok (Some n, u)) (Ok None) does after is had unheld left = absurd (let e : None ≡ Some (token_of w.arena n) = same_ok is in cc)
-        each (Ok (None, u)) (Ok (Some s)) does after is had unheld left = absurd (let e : Some s ≡ None = same_ok is in cc)
-        each (Ok (None, u)) (Ok None) does after is had unheld left = given_none left (does ∙ ap (λ p. replying p (table_of rs) Nothing) (sym after))
-        each (Ok given) (Err why) does after is had unheld left = absurd (err_not_ok is)
-        each (Err why) (Ok o) does after is had unheld left = absurd (err_not_ok (sym is))
-        each (Err why) (Err other) does after is had unheld left = refused (may_give y) other (does ∙ ap (λ e. replying v (table_of rs) (Refused e)) (sym (same_err is))) after
+        each : (g : Given PoolValue (Option ℕ)) (given : Result (Option TokenValue) Refusal) → act v (table_of rs) other ≡ doing v (table_of rs) (may_give y) g → TakesAny arena g v w given
+            → let settled = any_given_to y given rs in Applies v rs call w settled.0 settled.1
+        each (Ok (Some n, u)) (Ok (Some s)) does is =
+            given_one s is.had is.unheld is.others
+            (does ∙ ap (λ p. replying p (set (table_of rs) y (Some n)) Done) (sym is.after) ∙ ap (λ (t : TokenValue). replying w (set (table_of rs) y (Some t.head)) Done) (sym (same_some (same_ok is.token))))
+        each (Ok (Some n, u)) (Ok None) does is = absurd (let e : None ≡ Some (token_of w.arena n) = same_ok is.token in cc)
+        each (Ok (None, u)) (Ok (Some s)) does is = absurd (let e : Some s ≡ None = same_ok is.token in cc)
+        each (Ok (None, u)) (Ok None) does is = given_none is.others (does ∙ ap (λ p. replying p (table_of rs) Nothing) (sym is.after))
+        each (Ok given) (Err why) does is = absurd (err_not_ok is.token)
+        each (Err why) (Ok o) does is = absurd (err_not_ok (sym is.token))
+        each (Err why) (Err other) does is = refused (may_give y) other (does ∙ ap (λ e. replying v (table_of rs) (Refused e)) (sym (same_err is.token))) is.after
 
   -- ---- a register is given a token beside one that keeps its own, or has another one of the same head
 
@@ -303,32 +329,37 @@ module _ {v w : PoolValue} {rs : List (Option TokenValue)} {call other : Call} (
         ∙ ap (λ table. replying w table reply) (ap (λ table. set table y (option_map (λ s. s.head) p)) (sym (table-set rs x o)) ∙ sym (table-set (set rs x o) y p)))
 
     -- the first register keeps its message, the other is given one that no held message had the head of
-    pub gives_beside : (g : Given PoolValue ℕ) (given : Result TokenValue Refusal) → act v (table_of rs) other ≡ doing v (table_of rs) (gives y) g → w ≡ value_after v g
-        → given ≡ answer_map (token_of w.arena) (answer_of g) → has w.arena t ≡ true → IfOk given (λ s. has w.arena s ≡ true) → IfOk given (λ s. held_at v.arena s.head ≡ None)
-        → LeavesOthers (head_answered given) v.arena w.arena → let settled = given_to y given rs in Applies v rs call w settled.0 settled.1
-    gives_beside (Ok given) (Ok r) does after is kept had unheld left =
-        subst (λ l. Applies v rs call w (set l y (Some r)) Done) (put_back rs x t was)
-        (two (Some t) (Some r) left (kept, (had, tt))
-        (moves_beside refl (owned_token v rs x t ready.owned was) kept had unheld (λ h none. left.held h (or_parts (eqb t.head h) (rows.has h (r.head ∷ [])) none).1))
-        (does ∙ ap (λ p. replying p (set (table_of rs) y (Some given.0)) Done) (sym after) ∙ ap (λ (s : TokenValue). replying w (set (table_of rs) y (Some s.head)) Done) (sym (same_ok is))
-        ∙ ap (λ table. replying w (set table y (Some r.head)) Done) (sym (kept_head rs x t t was refl))))
-    gives_beside (Ok given) (Err why) does after is kept had unheld left = absurd (err_not_ok is)
-    gives_beside (Err why) (Ok s) does after is kept had unheld left = absurd (err_not_ok (sym is))
-    gives_beside (Err why) (Err other) does after is kept had unheld left =
-        refused (gives y) other (does ∙ ap (λ e. replying v (table_of rs) (Refused e)) (sym (same_err is))) after
+    pub gives_beside : (f : ℕ → Given Arena ℕ) {given : Result TokenValue Refusal} {settled : Settled} → act v (table_of rs) other ≡ doing v (table_of rs) (gives y) (on_arena v (f (head_held (table_of rs) x)))
+        → Gives arena (Some t) (on_arena v (f t.head)) v w given → settled ≡ given_to y given rs → Applies v rs call w settled.0 settled.1
+    gives_beside f {given} does is settled =
+        subst (λ (p : Settled). Applies v rs call w p.0 p.1) (sym settled)
+        (each (on_arena v (f t.head)) given (does ∙ ap (λ h. doing v (table_of rs) (gives y) (on_arena v (f h))) (head_is rs x t was)) is)
+      where
+        each : (g : Given PoolValue ℕ) (given : Result TokenValue Refusal) → act v (table_of rs) other ≡ doing v (table_of rs) (gives y) g → Gives arena (Some t) g v w given
+            → let settled = given_to y given rs in Applies v rs call w settled.0 settled.1
+        each (Ok given) (Ok r) does is =
+            subst (λ l. Applies v rs call w (set l y (Some r)) Done) (put_back rs x t was)
+            (two (Some t) (Some r) is.others (is.kept, (is.had, tt))
+            (moves_beside refl (owned_token v rs x t ready.owned was) is.kept is.had is.unheld (λ h none. is.others.held h (or_parts (eqb t.head h) (rows.has h (r.head ∷ [])) none).1))
+            (does ∙ ap (λ p. replying p (set (table_of rs) y (Some given.0)) Done) (sym is.after) ∙ ap (λ (s : TokenValue). replying w (set (table_of rs) y (Some s.head)) Done) (sym (same_ok is.token))
+            ∙ ap (λ table. replying w (set table y (Some r.head)) Done) (sym (kept_head rs x t t was refl))))
+        each (Ok given) (Err why) does is = absurd (err_not_ok is.token)
+        each (Err why) (Ok s) does is = absurd (err_not_ok (sym is.token))
+        each (Err why) (Err other) does is = refused (gives y) other (does ∙ ap (λ e. replying v (table_of rs) (Refused e)) (sym (same_err is.token))) is.after
 
     -- the first register keeps the first block, and the other is given the rest, if there is one
-    pub unlinks : {s : TokenValue} (rest : Option TokenValue) (made : ℕ → Arena → Option ℕ × Arena) {settled : Settled} → act v (table_of rs) other ≡ doing v (table_of rs) (may_give y) (on_arena v (Ok (made (head_held (table_of rs) x) v.arena)))
-        → w ≡ with_arena v (made t.head v.arena).1 → rest ≡ option_map (token_of w.arena) (made t.head v.arena).0
-        → s ≡ token_of w.arena t.head → has w.arena s ≡ true → IfSome rest (λ r. has w.arena r ≡ true) → IfSome rest (λ r. held_at v.arena r.head ≡ None)
-        → LeavesOthers (t.head ∷ head_given rest) v.arena w.arena → settled ≡ any_given_to y (Ok rest) (set rs x (Some s)) → Applies v rs call w settled.0 settled.1
-    unlinks {s} rest made does after is token kept had unheld left settled =
+    pub unlinks : (made : ℕ → Arena → Option ℕ × Arena) {s : TokenValue} {rest : Option TokenValue} {settled : Settled} → act v (table_of rs) other ≡ doing v (table_of rs) (may_give y) (on_arena v (Ok (made (head_held (table_of rs) x) v.arena)))
+        → Unlinks arena t s (on_arena v (Ok (made t.head v.arena))) v w (Ok rest) → settled ≡ any_given_to y (Ok rest) (set rs x (Some s)) → Applies v rs call w settled.0 settled.1
+    unlinks made {s} {rest} does unlinked settled =
         subst (λ (p : Settled). Applies v rs call w p.0 p.1) (sym settled)
         (each rest (made t.head v.arena).0 (does ∙ ap (λ h. doing v (table_of rs) (may_give y) (on_arena v (Ok (made h v.arena)))) (head_is rs x t was)
-        ∙ ap (λ u. doing v (table_of rs) (may_give y) (Ok ((made t.head v.arena).0, u))) (sym after)) is had unheld left)
+        ∙ ap (λ u. doing v (table_of rs) (may_give y) (Ok ((made t.head v.arena).0, u))) (sym unlinked.after)) (same_ok unlinked.rest) unlinked.rest_had unlinked.unheld unlinked.others)
       where
         head : s.head ≡ t.head
-        head = ap (λ (q : TokenValue). q.head) token
+        head = ap (λ (q : TokenValue). q.head) unlinked.token
+
+        kept : has w.arena s ≡ true
+        kept = unlinked.had
 
         free_still : register (set rs x (Some s)) y ≡ None
         free_still = get_or-set_other rs x y (Some s) None (λ e. free_other rs x y t was (destination called ready (Some x) None y named).0 (sym e)) ∙ (destination called ready (Some x) None y named).0
@@ -351,26 +382,21 @@ module _ {v w : PoolValue} {rs : List (Option TokenValue)} {call other : Call} (
             subst (λ ss. Applies v rs call w ss Nothing) same (two (Some s) None left (kept, tt) (moves_stay head (owned_token v rs x t ready.owned was) kept left) (does ∙ ap (λ table. replying w table Nothing) table))
 
     -- the token that comes first goes to the other register, and the first has the other one, if there is one
-    pub parts_two : (g : Given PoolValue (ℕ × Option ℕ)) (parted : Result (TokenValue × Option TokenValue) Rejected) → act v (table_of rs) other ≡ doing v (table_of rs) (parts x y) g → w ≡ value_after v g
-        → parted ≡ or_rejected t (answer_map (λ heads. (token_of w.arena heads.0, option_map (token_of w.arena) heads.1)) (answer_of g))
-        → IfOk parted (λ ts. has w.arena ts.0 ≡ true) → IfOk parted (λ ts. IfSome ts.1 (λ r. has w.arena r ≡ true))
-        → IfOk parted (λ ts. ts.0.head ≢ t.head → held_at v.arena ts.0.head ≡ None) → IfOk parted (λ ts. IfSome ts.1 (λ r. r.head ≢ t.head → held_at v.arena r.head ≡ None))
-        → IfOk parted (λ ts. IfSome ts.1 (λ r. r.head ≢ ts.0.head)) → LeavesOthers (t.head ∷ heads_parted parted) v.arena w.arena
-        → ((n : ℕ) (o : Option ℕ) (u : PoolValue) → g ≡ Ok ((n, o), u) → n ≢ t.head → (o ≡ Some t.head → ⊥) → held_at u.arena t.head ≡ None)
+    parts_each : (g : Given PoolValue (ℕ × Option ℕ)) (parted : Result (TokenValue × Option TokenValue) Rejected) → act v (table_of rs) other ≡ doing v (table_of rs) (parts x y) g → Parts arena t g v w parted
         → let settled = parted_to x y parted (set rs x None) in Applies v rs call w settled.0 settled.1
-    parts_two (Ok given) (Err rejected) does after is had rest_had unheld rest_unheld apart left gone = absurd (err_not_ok is)
-    parts_two (Err why) (Ok ts) does after is had rest_had unheld rest_unheld apart left gone = absurd (err_not_ok (sym is))
-    parts_two (Err why) (Err rejected) does after is had rest_had unheld rest_unheld apart left gone =
-        subst (λ ss. Applies v rs call w ss (Refused rejected.why)) (sym (set-set rs x None (Some rejected.token) ∙ ap (λ (r : Rejected). set rs x (Some r.token)) (same_err is) ∙ put_back rs x t was))
-        (refused (parts x y) rejected.why (does ∙ ap (λ (r : Rejected). doing v (table_of rs) (parts x y) (Err r.why)) (sym (same_err is))) after)
-    parts_two (Ok ((n, o), u)) (Ok (f, rest)) does now is had rest_had unheld rest_unheld apart left gone =
+    parts_each (Ok given) (Err rejected) does is = absurd (err_not_ok is.answer)
+    parts_each (Err why) (Ok ts) does is = absurd (err_not_ok (sym is.answer))
+    parts_each (Err why) (Err rejected) does is =
+        subst (λ ss. Applies v rs call w ss (Refused rejected.why)) (sym (set-set rs x None (Some rejected.token) ∙ ap (λ (r : Rejected). set rs x (Some r.token)) (same_err is.answer) ∙ put_back rs x t was))
+        (refused (parts x y) rejected.why (does ∙ ap (λ (r : Rejected). doing v (table_of rs) (parts x y) (Err r.why)) (sym (same_err is.answer))) is.after)
+    parts_each (Ok ((n, o), u)) (Ok (f, rest)) does is =
         subst (λ l. Applies v rs call w (set l y (Some f)) Done) (sym (set-set rs x None rest))
-        (two rest (Some f) left (each rest rest_had) (moves rest o (ap (λ p. p.1) both) rest_had rest_unheld apart left.held (gone n o u refl))
-        (does ∙ ap (λ p. replying p (set (set (table_of rs) x o) y (Some n)) Done) (sym now)
+        (two rest (Some f) is.others (each rest is.rest_had) (moves rest is.rest_had is.rest_unheld is.apart is.others.held is.kept)
+        (does ∙ ap (λ p. replying p (set (set (table_of rs) x o) y (Some n)) Done) (sym is.after)
         ∙ (λ i. replying w (set (set (table_of rs) x (heads_same i)) y (Some (first_same i))) Done)))
       where
         both : ◌≡◌ {A = TokenValue × Option TokenValue} (f, rest) (token_of w.arena n, option_map (token_of w.arena) o)
-        both = same_ok is
+        both = same_ok is.answer
 
         heads_of_rest : (p : Option ℕ) → option_map (λ (s : TokenValue). s.head) (option_map (token_of w.arena) p) ≡ p
         heads_of_rest None = refl
@@ -383,51 +409,57 @@ module _ {v w : PoolValue} {rs : List (Option TokenValue)} {call other : Call} (
         first_same = sym (ap (λ (p : TokenValue × Option TokenValue). p.0.head) both)
 
         each : (r : Option TokenValue) → IfSome r (λ s. has w.arena s ≡ true) → Each (λ s. has w.arena s ≡ true) (tokens_in r ++ (f ∷ []))
-        each None rest_had = (had, tt)
-        each (Some r) rest_had = (rest_had, (had, tt))
+        each None rest_had = (is.had, tt)
+        each (Some r) rest_had = (rest_had, (is.had, tt))
 
-        moves : (r : Option TokenValue) (p : Option ℕ) → r ≡ option_map (token_of w.arena) p → IfSome r (λ s. has w.arena s ≡ true) → IfSome r (λ s. s.head ≢ t.head → held_at v.arena s.head ≡ None)
+        moves : (r : Option TokenValue) → IfSome r (λ s. has w.arena s ≡ true) → IfSome r (λ s. s.head ≢ t.head → held_at v.arena s.head ≡ None)
             → IfSome r (λ s. s.head ≢ f.head) → ((h : ℕ) → rows.has h (t.head ∷ f.head ∷ head_given r) ≡ false → held_at w.arena h ≡ held_at v.arena h)
-            → (n ≢ t.head → (p ≡ Some t.head → ⊥) → held_at u.arena t.head ≡ None) → Moves v.arena w.arena (t ∷ []) (tokens_in r ++ (f ∷ []))
-        moves None None is rest_had rest_unheld apart others gone = record {
+            → (f.head ≡ t.head) ⊎ (option_map (λ (s : TokenValue). s.head) r ≡ Some t.head) → Moves v.arena w.arena (t ∷ []) (tokens_in r ++ (f ∷ []))
+        moves None rest_had rest_unheld apart others kept = record {
           others = λ h before after. others h (ap (λ b. b || rows.has h (f.head ∷ [])) (or_parts (eqb t.head h) false before).0 ∙ after);
           had = (owned_token v rs x t ready.owned was, tt);
-          has_now = (had, tt);
+          has_now = (is.had, tt);
           apart = (refl, tt);
           gone = λ h before after.
-              subst (λ k. held_at w.arena k ≡ None) (lone h t.head before)
-              (ap (λ (q : PoolValue). held_at q.arena t.head) now
-              ∙ gone (λ same. not_both (ap (λ b. b || false) (eq-eqb f.head h (sym first_same ∙ same ∙ lone h t.head before))) after) (λ e. absurd cc));
+              elim kept [
+                | inl same ↦ absurd (not_both (ap (λ k. rows.has h (k ∷ [])) same ∙ before) after)
+                | inr none ↦ absurd cc
+              ];
           new = λ h before after.
               subst (λ k. held_at v.arena k ≡ None) (lone h f.head after)
-              (unheld (λ same. not_both (eq-eqb t.head h (sym same ∙ lone h f.head after)) (or_parts (eqb t.head h) false before).0));
+              (is.unheld (λ same. not_both (eq-eqb t.head h (sym same ∙ lone h f.head after)) (or_parts (eqb t.head h) false before).0));
         }
-        moves None (Some k) is rest_had rest_unheld apart others gone = absurd (let e : None ≡ Some (token_of w.arena k) = is in cc)
-        moves (Some r) None is rest_had rest_unheld apart others gone = absurd (let e : Some r ≡ None = is in cc)
-        moves (Some r) (Some k) is rest_had rest_unheld apart others gone = record {
+        moves (Some r) rest_had rest_unheld apart others kept = record {
           others = λ h before after.
               let parts = or_parts (eqb r.head h) (rows.has h (f.head ∷ [])) after in
               others h
               (ap (λ b. b || rows.has h (f.head ∷ r.head ∷ [])) (or_parts (eqb t.head h) false before).0
               ∙ ap (λ b. b || rows.has h (r.head ∷ [])) (or_parts (eqb f.head h) false parts.1).0 ∙ ap (λ b. b || false) parts.0);
           had = (owned_token v rs x t ready.owned was, tt);
-          has_now = (rest_had, (had, tt));
+          has_now = (rest_had, (is.had, tt));
           apart = (ap (λ b. b || false) (ne_eqb f.head r.head (λ same. apart (sym same))), (refl, tt));
           gone = λ h before after.
               let parts = or_parts (eqb r.head h) (rows.has h (f.head ∷ [])) after in
-              subst (λ k. held_at w.arena k ≡ None) (lone h t.head before)
-              (ap (λ (q : PoolValue). held_at q.arena t.head) now
-              ∙ gone (λ same. not_both (ap (λ b. b || false) (eq-eqb f.head h (sym first_same ∙ same ∙ lone h t.head before))) parts.1)
-              (λ same. not_both (eq-eqb r.head h (ap (λ (q : TokenValue). q.head) (same_some is) ∙ same_some same ∙ lone h t.head before)) parts.0));
+              elim kept [
+                | inl same ↦ absurd (not_both (ap (λ k. rows.has h (k ∷ [])) same ∙ before) parts.1)
+                | inr some ↦ absurd (not_both (eq-eqb r.head h (same_some some ∙ lone h t.head before)) parts.0)
+              ];
           new = λ h before after.
               let other : h ≢ t.head = λ same. not_both (eq-eqb t.head h (sym same)) (or_parts (eqb t.head h) false before).0 in
               elim (cases_eq r.head h) [
                 | inl same ↦ subst (λ k. held_at v.arena k ≡ None) same (rest_unheld (λ e. other (sym same ∙ e)))
                 | inr not ↦
                     let same : f.head ≡ h = lone h f.head (ap (λ b. b || rows.has h (f.head ∷ [])) (sym (ne_eqb r.head h not)) ∙ after) in
-                    subst (λ k. held_at v.arena k ≡ None) same (unheld (λ e. other (sym same ∙ e)))
+                    subst (λ k. held_at v.arena k ≡ None) same (is.unheld (λ e. other (sym same ∙ e)))
               ];
         }
+
+    pub parts_two : (f : ℕ → Given Arena (ℕ × Option ℕ)) {parted : Result (TokenValue × Option TokenValue) Rejected} {settled : Settled} → act v (table_of rs) other ≡ doing v (table_of rs) (parts x y) (on_arena v (f (head_held (table_of rs) x)))
+        → Parts arena t (on_arena v (f t.head)) v w parted
+        → settled ≡ parted_to x y parted (set rs x None) → Applies v rs call w settled.0 settled.1
+    parts_two f {parted} does is settled =
+        subst (λ (p : Settled). Applies v rs call w p.0 p.1) (sym settled)
+        (parts_each (on_arena v (f t.head)) parted (does ∙ ap (λ h. doing v (table_of rs) (parts x y) (on_arena v (f h))) (head_is rs x t was)) is)
 
 -- ---- two messages are joined
 
@@ -451,14 +483,13 @@ sources_apart {v} {rs} called ready x y named was same =
     none_at (k ∷ ks) zero = refl
     none_at (k ∷ ks) (suc i) = none_at ks i
 
-module _ {v w : PoolValue} {rs : List (Option TokenValue)} {call other : Call} (called : call ≡ other) (ready : IsReady v rs call) (x y : ℕ) {t u : TokenValue} (s : TokenValue) (named : x ∷ y ∷ [] ≡ registers_in (names_of other))
-    (was : register rs x ≡ Some t) (tail : register rs y ≡ Some u) (apart : x ≢ y) (head : s.head ≡ t.head) (had : has w.arena s ≡ true)
-    (left : LeavesOthers (t.head ∷ u.head ∷ []) v.arena w.arena) (gone : t.head ≢ u.head → held_at w.arena u.head ≡ None) where
+module _ {v w : PoolValue} {rs : List (Option TokenValue)} {call other : Call} (called : call ≡ other) (ready : IsReady v rs call) (x y : ℕ) {t u s : TokenValue} (named : x ∷ y ∷ [] ≡ registers_in (names_of other))
+    (was : register rs x ≡ Some t) (tail : register rs y ≡ Some u) (apart : x ≢ y) {next : PoolValue} (is : Joins arena t s u next v w) where
   pub links : act v (table_of rs) other ≡ replying w (set (table_of rs) y None) Done → Applies v rs call w (set (set (set rs x None) y None) x (Some s)) Done
   links does =
       subst (λ l. Applies v rs call w l Done) (sym (set-comm (set rs x None) y x None (Some s) (λ same. apart (sym same)) ∙ ap (λ l. set l y None) (set-set rs x None (Some s))))
       (applies_by ((x, Some s) ∷ (y, None) ∷ []) called ready named (ap (λ b. b || false) (ne_eqb y x (λ same. apart (sym same))), (refl, tt))
-      (within_list rs x t was, (within_list rs y u tail, tt)) (had, tt) left
+      (within_list rs x t was, (within_list rs y u tail, tt)) (is.had, tt) is.others
       (λ distinct. subst (λ q. Moves v.arena w.arena (tokens_in q ++ (tokens_in (register rs y) ++ [])) (s ∷ [])) (sym was)
       (subst (λ q. Moves v.arena w.arena (t ∷ (tokens_in q ++ [])) (s ∷ [])) (sym tail) (moves distinct)))
       (does ∙ ap (λ table. replying w table Done) table))
@@ -468,18 +499,18 @@ module _ {v w : PoolValue} {rs : List (Option TokenValue)} {call other : Call} (
 
       table : set (table_of rs) y None ≡ table_of (set (set rs x (Some s)) y None)
       table =
-          ap (λ l. set l y None) (sym (set-get_or (table_of rs) x None) ∙ ap (set (table_of rs) x) (shown x t was ∙ ap (λ k. Some k) (sym head)) ∙ sym (table-set rs x (Some s)))
+          ap (λ l. set l y None) (sym (set-get_or (table_of rs) x None) ∙ ap (set (table_of rs) x) (shown x t was ∙ ap (λ k. Some k) (sym (ap (λ (r : TokenValue). r.head) is.token))) ∙ sym (table-set rs x (Some s)))
           ∙ sym (table-set (set rs x (Some s)) y None)
 
       moves : AreDistinct (table_of rs) → Moves v.arena w.arena (t ∷ u ∷ []) (s ∷ [])
       moves distinct = record {
-        others = λ h before after. left.held h before;
+        others = λ h before after. is.others.held h before;
         had = (owned_token v rs x t ready.owned was, (owned_token v rs y u ready.owned tail, tt));
-        has_now = (had, tt);
+        has_now = (is.had, tt);
         apart = (refl, tt);
         gone = λ h before after.
-            let not : eqb t.head h ≡ false = ap (λ k. eqb k h) (sym head) ∙ (or_parts (eqb s.head h) false after).0 in
+            let not : eqb t.head h ≡ false = ap (λ k. eqb k h) (sym (ap (λ (r : TokenValue). r.head) is.token)) ∙ (or_parts (eqb s.head h) false after).0 in
             let same : u.head ≡ h = lone h u.head (ap (λ b. b || rows.has h (u.head ∷ [])) (sym not) ∙ before) in
-            subst (λ k. held_at w.arena k ≡ None) same (gone (λ e. apart (distinct x y u.head (shown x t was ∙ ap (λ k. Some k) e) (shown y u tail))));
-        new = λ h before after. absurd (not_both (ap (λ k. rows.has h (k ∷ [])) (sym head) ∙ after) (ap (λ b. b || false) (or_parts (eqb t.head h) (rows.has h (u.head ∷ [])) before).0));
+            subst (λ k. held_at w.arena k ≡ None) same (is.gone (λ e. apart (distinct x y u.head (shown x t was ∙ ap (λ k. Some k) e) (shown y u tail))));
+        new = λ h before after. absurd (not_both (ap (λ k. rows.has h (k ∷ [])) (sym (ap (λ (r : TokenValue). r.head) is.token)) ∙ after) (ap (λ b. b || false) (or_parts (eqb t.head h) (rows.has h (u.head ∷ [])) before).0));
       }

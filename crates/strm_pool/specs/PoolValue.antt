@@ -32,6 +32,10 @@ pub record PoolValue : Type 0 where
   pub queues : QueueState
   pub wishes : WishState
 
+-- its message blocks
+abbrev pub arena : PoolValue → Arena
+arena v = v.arena
+
 -- the pool that a configuration opens
 abbrev pub opening : Config → PoolValue
 opening c = record {

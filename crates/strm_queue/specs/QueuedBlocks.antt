@@ -12,6 +12,10 @@ pub record QueuedBlocks : Type 0 where
   pub queues : QueueState
   pub arena : Arena
 
+-- the message blocks
+abbrev pub arena : QueuedBlocks → Arena
+arena v = v.arena
+
 -- ---- what `Queues` holds
 
 -- the state of the queues, and what is stored of the messages on each

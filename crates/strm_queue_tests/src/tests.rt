@@ -145,7 +145,6 @@ fn duplicated(rt: &impl Abort, queues: &Queues, blocks: &mut Blocks, token: &Tok
 }
 
 // Puts a message behind another.
-#[tactic(auto, using(strm_queue::proofs::agreeing::Agreeing::agrees_left))]
 fn linked(queues: &Queues, blocks: &mut Blocks, message: &mut Token, tail: Token)
     requires agrees { Agrees queues.now blocks.old }
     requires head { IsTrue (has blocks.old message.old) }

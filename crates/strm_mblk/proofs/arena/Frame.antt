@@ -267,11 +267,11 @@ leaves_after a heads (Ok g) left = left
 leaves_after a heads (Err why) left = leaves_same a heads
 
 -- a call that gives a message leaves all others
-abbrev pub Gives : Arena → Given Arena ℕ → Type 0
-Gives a r = IfOk r (λ g. Leaves (g.0 ∷ []) a g.1)
+abbrev pub Making : Arena → Given Arena ℕ → Type 0
+Making a r = IfOk r (λ g. Leaves (g.0 ∷ []) a g.1)
 
-pub leaves_given : (a b : Arena) (t : TokenValue) (n : ℕ) (r : Given Arena ℕ) → Gives a r → r ≡ Ok (n, b) → t ≡ token_of b n → Leaves (t.head ∷ []) a b
-leaves_given a b t n r gives is token = subst (λ h. Leaves (h ∷ []) a b) (ap (λ (x : TokenValue). x.head) (sym token)) (subst (Gives a) is gives)
+pub leaves_given : (a b : Arena) (t : TokenValue) (n : ℕ) (r : Given Arena ℕ) → Making a r → r ≡ Ok (n, b) → t ≡ token_of b n → Leaves (t.head ∷ []) a b
+leaves_given a b t n r gives is token = subst (λ h. Leaves (h ∷ []) a b) (ap (λ (x : TokenValue). x.head) (sym token)) (subst (Making a) is gives)
 
 module _ (a : Arena) where
   -- only what is held at some heads changes
@@ -404,25 +404,6 @@ linkb_gone a h g other =
     ap (λ (x : Arena). held_at x g) (cond-false (h == g) a (record a { held = joined h g a.held }) (ne_eqb h g other))
     ∙ get_or-set_other (set a.held g None) h g _ None (λ same. other (sym same)) ∙ none_at a.held g
 
--- a message of which a block is taken out, where neither has its head
-pub rmvb_gone : (a b : Arena) (h k n : ℕ) (o : Option ℕ) → rmvb h k a ≡ Ok ((n, o), b) → n ≢ h → (o ≡ Some h → ⊥) → held_at b h ≡ None
-rmvb_gone a b h k n o is first second = parted (slice_get (message_at a h) k) is
-  where
-    rest : Message
-    rest = take k (message_at a h) ++ drop (k + 1) (message_at a h)
-
-    left : (m : Message) → (head_in m ≡ Some h → ⊥) → held_at (with_rest m (without_held h a)) h ≡ None
-    left [] other = none_at a.held h
-    left (c ∷ cs) other = get_or-set_other (set a.held h None) c.number h (Some (c ∷ cs)) None (λ same. other (ap (λ i. Some i) (sym same))) ∙ none_at a.held h
-
-    parted : (block : Option Block) → rmvb_of h a rest block ≡ Ok ((n, o), b) → held_at b h ≡ None
-    parted None is = absurd cc
-    parted (Some c) is =
-        let made : ((c.number, head_in rest), with_held (c ∷ []) (with_rest rest (without_held h a))) ≡ ((n, o), b) = cc in
-        subst (λ (x : Arena). held_at x h ≡ None) (ap (λ (p : (ℕ × Option ℕ) × Arena). p.1) made)
-        (get_or-set_other (with_rest rest (without_held h a)).held c.number h (Some (c ∷ [])) None (λ same. first (sym (ap (λ (p : (ℕ × Option ℕ) × Arena). p.0.0) made) ∙ sym same))
-        ∙ left rest (λ at. second (sym (ap (λ (p : (ℕ × Option ℕ) × Arena). p.0.1) made) ∙ at)))
-
 -- ---- calls that take data blocks, or alter one
 
 module _ (a : Arena) (parted : IsParted a) where
@@ -438,17 +419,17 @@ module _ (a : Arena) (parted : IsParted a) where
       neither true false = refl
       neither false c = refl
 
-  pub leaves_allocb : (size : ℕ) → Gives a (allocb size a)
+  pub leaves_allocb : (size : ℕ) → Making a (allocb size a)
   leaves_allocb size =
-      elim (fits_a_class size a.store.classes) as (λ b. Gives a (if b then allocb_from a.free size a else Err TooLarge)) [
+      elim (fits_a_class size a.store.classes) as (λ b. Making a (if b then allocb_from a.free size a else Err TooLarge)) [
         | true ↦ from a.free
         | false ↦ tt
       ]
     where
-      from : (ns : List ℕ) → Gives a (allocb_from ns size a)
+      from : (ns : List ℕ) → Making a (allocb_from ns size a)
       from [] = tt
       from (n ∷ ns) =
-          elim (take_data size a.store) as (λ r. take_data size a.store ≡ r → Gives a (held_new n ns a r)) [
+          elim (take_data size a.store) as (λ r. take_data size a.store ≡ r → Making a (held_new n ns a r)) [
             | Err why ↦ λ is. tt
             | Ok d ↦ λ is.
                 let b = with_held (new_block n d ∷ []) (record a { free = ns; store = with_data_taken d a.store }) in
@@ -460,26 +441,26 @@ module _ (a : Arena) (parted : IsParted a) where
   under_leaves bs s same =
       leaves_named a (held_under bs s a).1 ((held_under bs s a).0 ∷ []) (others_one a (held_under bs s a).1 (held_under bs s a).0 _ refl refl) refl same
 
-  pub leaves_duplicated : (bs : List Block) → Gives a (duplicated bs a)
+  pub leaves_duplicated : (bs : List Block) → Making a (duplicated bs a)
   leaves_duplicated bs =
-      elim (nat_lt (length a.free) (length bs)) as (λ b. Gives a (if b then Err NoMblk else (if exceeds_names bs a then Err RefMax else Ok (held_under bs a.store a)))) [
+      elim (nat_lt (length a.free) (length bs)) as (λ b. Making a (if b then Err NoMblk else (if exceeds_names bs a then Err RefMax else Ok (held_under bs a.store a)))) [
         | true ↦ tt
         | false ↦
-            elim (exceeds_names bs a) as (λ b. Gives a (if b then Err RefMax else Ok (held_under bs a.store a))) [
+            elim (exceeds_names bs a) as (λ b. Making a (if b then Err RefMax else Ok (held_under bs a.store a))) [
               | true ↦ tt
               | false ↦ under_leaves bs a.store (λ d some. refl)
             ]
       ]
 
-  pub leaves_copied : (bs : List Block) → Gives a (copied bs a)
+  pub leaves_copied : (bs : List Block) → Making a (copied bs a)
   leaves_copied bs =
-      elim (nat_lt (length a.free) (length bs)) as (λ b. Gives a (if b then Err NoMblk else answer_map (λ g. held_under g.0 g.1 a) (copies bs a.store))) [
+      elim (nat_lt (length a.free) (length bs)) as (λ b. Making a (if b then Err NoMblk else answer_map (λ g. held_under g.0 g.1 a) (copies bs a.store))) [
         | true ↦ tt
         | false ↦ of_copies (copies bs a.store) (λ d some. copies_leave bs a.store d (named_taken d some))
       ]
     where
       of_copies : (r : Given DataStore (List Block)) → ((d : ℕ) → 0 < names_of a d → IfOk r (λ g. data_block_at g.1 d ≡ data_block_at a.store d))
-          → Gives a (answer_map (λ g. held_under g.0 g.1 a) r)
+          → Making a (answer_map (λ g. held_under g.0 g.1 a) r)
       of_copies (Ok g) same = under_leaves g.0 g.1 same
       of_copies (Err why) same = tt
 

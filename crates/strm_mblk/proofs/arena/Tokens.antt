@@ -1,9 +1,11 @@
 -- Tokens of held messages, and what a call leaves and answers.
-use Rattle.std.proofs.Common.{◌≡◌, ℕ, ◌==◌, true, List, length, Option, Some, None, refl, sym, ap, ◌∙◌, Bool, if◌then◌else◌}
+use Rattle.std.proofs.Common.{◌≡◌, ℕ, ◌==◌, arith, true, List, length, Option, Some, None, refl, sym, ap, ◌∙◌, Bool, if◌then◌else◌}
+use Rattle.std.specs.Prelude.{take}
 use Rattle.std.specs.Option.{IsSome}
+use Rattle.std.proofs.lemmas.List.{take_all}
 use Rattle.std.proofs.lemmas.Bool.{and_from, eq-eqb, eqb-true, and_parts, false≢true}
 use Rattle.strm_mblk.specs.declared.token.TokenValue.{TokenValue}
-use Rattle.strm_mblk.specs.Arena.{Arena, has, held_at, is_of_length, token_of}
+use Rattle.strm_mblk.specs.Arena.{Arena, has, held_at, is_of_length, message_at, token_of}
 use Rattle.strm_mblk.specs.Block.{Message}
 use Rattle.strm_mblk.specs.Messages.{blocks_of}
 use Rattle.strm_mblk.specs.Freeing.{freemsg, spent}
@@ -43,3 +45,15 @@ had_again a b t m n had held same id =
 -- a token that is had is spent on its message
 pub spent_had : (a : Arena) (t u : TokenValue) → u ≡ t → has a t ≡ true → freemsg u.head a ≡ spent a t
 spent_had a t u same had = ap (λ (x : TokenValue). freemsg x.head a) same ∙ ap (λ (b : Bool). if b then freemsg t.head a else a) (sym had)
+
+-- as many blocks as it says are all of its message
+pub all_taken : (a : Arena) (t : TokenValue) (n : ℕ) → has a t ≡ true → n ≡ t.blocks → take n (message_at a t.head) ≡ message_at a t.head
+all_taken a t n had all =
+    let message = had_message a t had in
+    take_all n (message_at a t.head) (omega (arith, all, ap (λ (o : Option Message). length (blocks_of o)) message.1.held, message.1.blocks))
+
+-- a token that is had is that of its message
+pub had_is : (a : Arena) (t : TokenValue) → has a t ≡ true → t ≡ token_of a t.head
+had_is a t had =
+    let message = had_message a t had in
+    λ i. record { pool = message.1.pool i; head = t.head; blocks = (sym message.1.blocks ∙ sym (ap (λ (o : Option Message). length (blocks_of o)) message.1.held)) i }

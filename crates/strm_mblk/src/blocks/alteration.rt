@@ -1,9 +1,9 @@
 //! What a block of a held message says is altered: bytes behind its write place, its type, its band.
-ghost use Rattle.std.specs.Prelude.{◌≡◌, [], ◌∷◌, IsTrue};
+ghost use Rattle.std.specs.Prelude.{Ok, IsTrue};
 ghost use Rattle.strm_mblk.specs.Arena.{has};
 ghost use Rattle.strm_mblk.specs.BlockCalls as model;
-ghost use Rattle.strm_mblk.specs.Frame.{LeavesOthers, LeavesShelves};
-ghost use Rattle.strm_mblk.specs.Given.{value_after, answer_of};
+ghost use Rattle.strm_mblk.specs.Calls.{Alters, itself};
+ghost use Rattle.strm_mblk.specs.Given.{done};
 
 use super::{Blocks, node_at};
 use crate::token::Token;
@@ -17,11 +17,7 @@ impl Blocks {
     /// its data block, then as `NoRoom` where the bytes do not fit; nothing changes then.
     pub fn write(&mut self, token: &Token, place: u32, bytes: &[u8]) -> Result<(), Refusal>
         requires { IsTrue (has self.old token.now) }
-        ensures after { self.new ≡ value_after self.old (model.write token.now.head place bytes.now self.old) }
-        ensures answer { result ≡ answer_of (model.write token.now.head place bytes.now self.old) }
-        ensures had { IsTrue (has self.new token.now) }
-        ensures others { LeavesOthers (token.now.head ∷ []) self.old self.new }
-        ensures shelves { LeavesShelves (token.now.head ∷ []) self.old self.new }
+        ensures { Alters itself token.now token.now (model.write token.now.head place bytes.now self.old) self.old self.new result }
     {
         let Some(node) = node_at(&self.chains, token.head(), place) else {
             return Err(Refusal::NoSuchBlock);
@@ -46,11 +42,7 @@ impl Blocks {
     /// the data block; nothing changes then.
     pub fn settype(&mut self, token: &Token, place: u32, kind: MsgType) -> Result<(), Refusal>
         requires { IsTrue (has self.old token.now) }
-        ensures after { self.new ≡ value_after self.old (model.settype token.now.head place kind self.old) }
-        ensures answer { result ≡ answer_of (model.settype token.now.head place kind self.old) }
-        ensures had { IsTrue (has self.new token.now) }
-        ensures others { LeavesOthers (token.now.head ∷ []) self.old self.new }
-        ensures shelves { LeavesShelves (token.now.head ∷ []) self.old self.new }
+        ensures { Alters itself token.now token.now (model.settype token.now.head place kind self.old) self.old self.new result }
     {
         let Some(node) = node_at(&self.chains, token.head(), place) else {
             return Err(Refusal::NoSuchBlock);
@@ -67,10 +59,7 @@ impl Blocks {
     /// type and bytes.
     pub fn setband(&mut self, token: &Token, band: u8)
         requires { IsTrue (has self.old token.now) }
-        ensures after { self.new ≡ model.setband token.now.head band self.old }
-        ensures had { IsTrue (has self.new token.now) }
-        ensures others { LeavesOthers (token.now.head ∷ []) self.old self.new }
-        ensures shelves { LeavesShelves (token.now.head ∷ []) self.old self.new }
+        ensures { Alters itself token.now token.now (done (model.setband token.now.head band self.old)) self.old self.new (Ok tt) }
     {
         self.blocks[token.head() as usize].band = band;
     }

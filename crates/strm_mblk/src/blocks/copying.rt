@@ -1,15 +1,14 @@
 //! Copies: new messages of new blocks over data blocks of their own.
-ghost use Rattle.std.specs.Prelude.{◌≡◌, ◌⊎◌, ◌≤◌, ◌<◌, ◌+◌, ℕ, Err, IfOk, IfSome, IsTrue, None, Ok, Some, false, length, slice_get, take};
+ghost use Rattle.std.specs.Prelude.{◌≡◌, ◌⊎◌, ◌≤◌, ◌<◌, ◌+◌, ℕ, Err, IfSome, IsTrue, None, Ok, Some, false, length, slice_get, take};
 ghost use Rattle.std.specs.Result.{is_ok};
 ghost use Rattle.strm_data.specs.declared.refusal.Refusal.TheVariants.{NoData};
 ghost use Rattle.strm_data.specs.CountedStore.{IsKept, IsUnused};
 ghost use Rattle.strm_data.specs.DataStore.{capacity_of, take_data, times};
-ghost use Rattle.strm_mblk.specs.Arena.{has, held_at, message_at, token_of};
+ghost use Rattle.strm_mblk.specs.Arena.{has, message_at};
 ghost use Rattle.strm_mblk.specs.BlockCalls as model;
 ghost use Rattle.strm_mblk.specs.BlocksLayout.{IsPlaced, block_of, fields_at, message_of};
 ghost use Rattle.strm_mblk.specs.Copying.{AreCopied, AreLeft, IsLeft, with_copy};
-ghost use Rattle.strm_mblk.specs.Frame.{LeavesOthers, LeavesShelves, head_answered};
-ghost use Rattle.strm_mblk.specs.Given.{value_after, answer_map, answer_of};
+ghost use Rattle.strm_mblk.specs.Calls.{Gives, itself};
 ghost use Rattle.strm_mblk.specs.NodeLists.{IsNodesParted, nodes_at};
 
 use super::{Blocks, Fields};
@@ -141,13 +140,7 @@ impl Blocks {
     fn copy(&mut self, token: &Token, count: u32) -> Result<Token, Refusal>
         requires had { IsTrue (has self.old token.now) }
         requires count { (count ≡ 1) ⊎ (count ≡ token.now.blocks) }
-        ensures after { self.new ≡ value_after self.old (model.copied (take count (message_at self.old token.now.head)) self.old) }
-        ensures token { result ≡ answer_map (token_of self.new) (answer_of (model.copied (take count (message_at self.old token.now.head)) self.old)) }
-        ensures had { IfOk result (λ copy. IsTrue (has self.new copy)) }
-        ensures unheld { IfOk result (λ copy. held_at self.old copy.head ≡ None) }
-        ensures source { IsTrue (has self.new token.now) }
-        ensures others { LeavesOthers (head_answered result) self.old self.new }
-        ensures shelves { LeavesShelves (head_answered result) self.old self.new }
+        ensures { Gives itself (Some token.now) (model.copied (take count (message_at self.old token.now.head)) self.old) self.old self.new result }
     {
         if self.chains.free_len() < count {
             return Err(Refusal::NoMblk);
@@ -176,14 +169,7 @@ impl Blocks {
     /// changes then.
     pub fn copyb(&mut self, token: &Token) -> Result<Token, Refusal>
         requires { IsTrue (has self.old token.now) }
-        ensures after { self.new ≡ value_after self.old (model.copyb token.now.head self.old) }
-        ensures token { result ≡ answer_map (token_of self.new) (answer_of (model.copyb token.now.head self.old)) }
-        // The new token is of these blocks, no held message had its head, and the other is still of these blocks.
-        ensures had { IfOk result (λ copy. IsTrue (has self.new copy)) }
-        ensures unheld { IfOk result (λ copy. held_at self.old copy.head ≡ None) }
-        ensures source { IsTrue (has self.new token.now) }
-        ensures others { LeavesOthers (head_answered result) self.old self.new }
-        ensures shelves { LeavesShelves (head_answered result) self.old self.new }
+        ensures { Gives itself (Some token.now) (model.copyb token.now.head self.old) self.old self.new result }
     {
         self.copy(token, 1)
     }
@@ -198,14 +184,7 @@ impl Blocks {
     /// blocks do not suffice; nothing changes then.
     pub fn copymsg(&mut self, token: &Token) -> Result<Token, Refusal>
         requires { IsTrue (has self.old token.now) }
-        ensures after { self.new ≡ value_after self.old (model.copymsg token.now.head self.old) }
-        ensures token { result ≡ answer_map (token_of self.new) (answer_of (model.copymsg token.now.head self.old)) }
-        // The new token is of these blocks, no held message had its head, and the other is still of these blocks.
-        ensures had { IfOk result (λ copy. IsTrue (has self.new copy)) }
-        ensures unheld { IfOk result (λ copy. held_at self.old copy.head ≡ None) }
-        ensures source { IsTrue (has self.new token.now) }
-        ensures others { LeavesOthers (head_answered result) self.old self.new }
-        ensures shelves { LeavesShelves (head_answered result) self.old self.new }
+        ensures { Gives itself (Some token.now) (model.copymsg token.now.head self.old) self.old self.new result }
     {
         self.copy(token, token.blocks())
     }

@@ -1,12 +1,11 @@
 //! Duplicates: new messages of new blocks that name the same data blocks.
-ghost use Rattle.std.specs.Prelude.{◌≡◌, ◌⊎◌, ℕ, ◌+◌, ◌<◌, ◌≤◌, IfOk, IsTrue, None, Some, if◌then◌else◌, length, map, not, slice_get, take};
+ghost use Rattle.std.specs.Prelude.{◌≡◌, ◌⊎◌, ℕ, ◌+◌, ◌<◌, ◌≤◌, IsTrue, Some, if◌then◌else◌, length, map, not, slice_get, take};
 ghost use Rattle.strm_data.specs.CountedStore.{IsKept, count_of};
 ghost use Rattle.strm_data.specs.DataStore.{times};
-ghost use Rattle.strm_mblk.specs.Arena.{has, held_at, message_at, token_of};
+ghost use Rattle.strm_mblk.specs.Arena.{has, message_at};
 ghost use Rattle.strm_mblk.specs.BlockCalls as model;
 ghost use Rattle.strm_mblk.specs.BlocksLayout.{exceeds_counts, fields_at, named_by, with_fields, with_names_given};
-ghost use Rattle.strm_mblk.specs.Frame.{LeavesOthers, LeavesShelves, head_answered};
-ghost use Rattle.strm_mblk.specs.Given.{value_after, answer_map, answer_of};
+ghost use Rattle.strm_mblk.specs.Calls.{Gives, itself};
 ghost use Rattle.strm_mblk.specs.NodeLists.{nodes_at};
 
 use super::freeing::drop_names;
@@ -70,13 +69,7 @@ impl Blocks {
     fn duplicate(&mut self, token: &Token, count: u32) -> Result<Token, Refusal>
         requires had { IsTrue (has self.old token.now) }
         requires count { (count ≡ 1) ⊎ (count ≡ token.now.blocks) }
-        ensures after { self.new ≡ value_after self.old (model.duplicated (take count (message_at self.old token.now.head)) self.old) }
-        ensures token { result ≡ answer_map (token_of self.new) (answer_of (model.duplicated (take count (message_at self.old token.now.head)) self.old)) }
-        ensures had { IfOk result (λ copy. IsTrue (has self.new copy)) }
-        ensures unheld { IfOk result (λ copy. held_at self.old copy.head ≡ None) }
-        ensures source { IsTrue (has self.new token.now) }
-        ensures others { LeavesOthers (head_answered result) self.old self.new }
-        ensures shelves { LeavesShelves (head_answered result) self.old self.new }
+        ensures { Gives itself (Some token.now) (model.duplicated (take count (message_at self.old token.now.head)) self.old) self.old self.new result }
     {
         if self.chains.free_len() < count {
             return Err(Refusal::NoMblk);
@@ -97,14 +90,7 @@ impl Blocks {
     /// name the data block; nothing changes then.
     pub fn dupb(&mut self, token: &Token) -> Result<Token, Refusal>
         requires { IsTrue (has self.old token.now) }
-        ensures after { self.new ≡ value_after self.old (model.dupb token.now.head self.old) }
-        ensures token { result ≡ answer_map (token_of self.new) (answer_of (model.dupb token.now.head self.old)) }
-        // The new token is of these blocks, no held message had its head, and the other is still of these blocks.
-        ensures had { IfOk result (λ copy. IsTrue (has self.new copy)) }
-        ensures unheld { IfOk result (λ copy. held_at self.old copy.head ≡ None) }
-        ensures source { IsTrue (has self.new token.now) }
-        ensures others { LeavesOthers (head_answered result) self.old self.new }
-        ensures shelves { LeavesShelves (head_answered result) self.old self.new }
+        ensures { Gives itself (Some token.now) (model.dupb token.now.head self.old) self.old self.new result }
     {
         self.duplicate(token, 1)
     }
@@ -116,14 +102,7 @@ impl Blocks {
     /// block would have more than `MOST_DATA_BLOCK_NAMES` names; nothing changes then.
     pub fn dupmsg(&mut self, token: &Token) -> Result<Token, Refusal>
         requires { IsTrue (has self.old token.now) }
-        ensures after { self.new ≡ value_after self.old (model.dupmsg token.now.head self.old) }
-        ensures token { result ≡ answer_map (token_of self.new) (answer_of (model.dupmsg token.now.head self.old)) }
-        // The new token is of these blocks, no held message had its head, and the other is still of these blocks.
-        ensures had { IfOk result (λ copy. IsTrue (has self.new copy)) }
-        ensures unheld { IfOk result (λ copy. held_at self.old copy.head ≡ None) }
-        ensures source { IsTrue (has self.new token.now) }
-        ensures others { LeavesOthers (head_answered result) self.old self.new }
-        ensures shelves { LeavesShelves (head_answered result) self.old self.new }
+        ensures { Gives itself (Some token.now) (model.dupmsg token.now.head self.old) self.old self.new result }
     {
         match token.blocks() {
             // Most messages are of one block, and have no loop.

@@ -1,11 +1,11 @@
 //! Messages, and their first blocks, are freed.
-ghost use Rattle.std.specs.Prelude.{◌≡◌, [], ◌∷◌, ◌≤◌, ◌<◌, ℕ, IfSome, IsTrue, None, Some, length, option_map, slice_get, take};
+ghost use Rattle.std.specs.Prelude.{Ok, ◌≡◌, ◌≤◌, ◌<◌, ℕ, IsTrue, Some, length, slice_get, take};
 ghost use Rattle.strm_data.specs.CountedStore.{IsKept, count_of};
 ghost use Rattle.strm_data.specs.DataStore.{times};
-ghost use Rattle.strm_mblk.specs.Arena.{has, held_at, token_of};
+ghost use Rattle.strm_mblk.specs.Arena.{has};
 ghost use Rattle.strm_mblk.specs.BlockCalls as model;
 ghost use Rattle.strm_mblk.specs.BlocksLayout.{fields_at, named_by, with_names_dropped};
-ghost use Rattle.strm_mblk.specs.Frame.{LeavesOthers, LeavesShelves, head_given};
+ghost use Rattle.strm_mblk.specs.Calls.{Frees, Spends, itself};
 ghost use Rattle.strm_mblk.specs.Freeing.{spent};
 ghost use Rattle.strm_mblk.specs.NodeLists.{nodes_at};
 
@@ -49,9 +49,7 @@ impl Blocks {
     /// front of the free ones of its class, where no message block names that any more. Takes as many steps as there are
     /// blocks. A token that is not of these blocks is spent, and nothing else is done.
     pub fn freemsg(&mut self, token: Token)
-        ensures after { self.new ≡ spent self.old token }
-        ensures others { LeavesOthers (token.head ∷ []) self.old self.new }
-        ensures shelves { LeavesShelves (token.head ∷ []) self.old self.new }
+        ensures { Spends itself token (spent self.old token) self.old self.new }
     {
         let has = self.has(&token);
         let token = token.spend();
@@ -72,15 +70,7 @@ impl Blocks {
     /// answer; none where there are no others. What they say stays. Takes constant time.
     pub fn freeb(&mut self, token: Token) -> Option<Token>
         requires { IsTrue (has self.old token) }
-        ensures after { self.new ≡ (model.freeb token.head self.old).1 }
-        ensures rest { result ≡ option_map (token_of self.new) (model.freeb token.head self.old).0 }
-        // The token is of these blocks, and no held message had its head.
-        ensures had { IfSome result (λ rest. IsTrue (has self.new rest)) }
-        ensures unheld { IfSome result (λ rest. held_at self.old rest.head ≡ None) }
-        // No message is held at the old head.
-        ensures gone { held_at self.new token.head ≡ None }
-        ensures others { LeavesOthers (token.head ∷ head_given result) self.old self.new }
-        ensures shelves { LeavesShelves (token.head ∷ head_given result) self.old self.new }
+        ensures { Frees itself token (Ok (model.freeb token.head self.old)) self.old self.new (Ok result) }
     {
         self.lawful();
         let mut first = token;

@@ -1,12 +1,12 @@
 //! Bytes of a message are pulled up into its first block.
-ghost use Rattle.std.specs.Prelude.{◌≡◌, [], ◌∷◌, ◌+◌, ◌-◌, ◌^◌, ◌<◌, ◌≤◌, ℕ, List, IsSome, IsTrue, Some, drop, false, length, slice_get, take};
+ghost use Rattle.std.specs.Prelude.{◌≡◌, ◌+◌, ◌-◌, ◌^◌, ◌<◌, ◌≤◌, ℕ, List, IsSome, IsTrue, Some, drop, false, length, slice_get, take};
 ghost use Rattle.strm_data.specs.CountedStore.{IsKept, count_of};
 ghost use Rattle.strm_data.specs.DataStore.{capacity_of, times};
-ghost use Rattle.strm_mblk.specs.Arena.{has, held_at, message_at, token_of};
+ghost use Rattle.strm_mblk.specs.Arena.{has, held_at, message_at};
 ghost use Rattle.strm_mblk.specs.Block.{Block, bytes_of, size_of};
 ghost use Rattle.strm_mblk.specs.BlocksLayout.{IsPlaced, fields_at, message_of, named_by, with_names_dropped};
 ghost use Rattle.strm_mblk.specs.Cutting.{with_bytes_cut};
-ghost use Rattle.strm_mblk.specs.Frame.{LeavesOthers, LeavesShelves};
+ghost use Rattle.strm_mblk.specs.Calls.{Alters, itself};
 ghost use Rattle.strm_mblk.specs.Given.{value_after, answer_of};
 ghost use Rattle.strm_mblk.specs.Messages.{held_in};
 ghost use Rattle.strm_mblk.specs.NodeLists.{nodes_at};
@@ -164,12 +164,7 @@ impl Blocks {
     /// count is above the largest class, then as `NoData` where no data block is that fits; nothing changes then.
     pub fn pullupmsg(&mut self, token: &mut Token, count: i32) -> Result<(), Refusal>
         requires { IsTrue (has self.old token.old) }
-        ensures after { self.new ≡ value_after self.old (model.pullupmsg token.old.head count self.old) }
-        ensures answer { result ≡ answer_of (model.pullupmsg token.old.head count self.old) }
-        ensures token { token.new ≡ token_of self.new token.old.head }
-        ensures had { IsTrue (has self.new token.new) }
-        ensures others { LeavesOthers (token.old.head ∷ []) self.old self.new }
-        ensures shelves { LeavesShelves (token.old.head ∷ []) self.old self.new }
+        ensures { Alters itself token.old token.new (model.pullupmsg token.old.head count self.old) self.old self.new result }
     {
         let head = token.head();
         let run = self.run_size(token);

@@ -1,10 +1,11 @@
 //! Shelves: lists of messages for the layer above.
-ghost use Rattle.std.specs.Prelude.{◌≡◌, ◌<◌, ℕ, IsSome, IsTrue, None, Some, [], ◌∷◌, length, option_map, reverse};
+ghost use Rattle.std.specs.Prelude.{Ok, ◌≡◌, ◌<◌, ℕ, IsSome, IsTrue, Some, length, option_map, reverse};
 ghost use Rattle.std.specs.Option.{ForSome};
 ghost use Rattle.strm_links.specs.Rows as rows;
-ghost use Rattle.strm_mblk.specs.Arena.{has, held_at, token_of};
+ghost use Rattle.strm_mblk.specs.Arena.{has};
 ghost use Rattle.strm_mblk.specs.Block.{kind_of, size_of};
-ghost use Rattle.strm_mblk.specs.Frame.{LeavesOthers};
+ghost use Rattle.strm_mblk.specs.Calls.{Puts, Takes, itself};
+ghost use Rattle.strm_mblk.specs.Given.{done};
 ghost use Rattle.strm_mblk.specs.Shelves as model;
 ghost use Rattle.strm_mblk.specs.Shelves.{head_block, heads_at, shelf_of, shelved_message, stands_on};
 
@@ -64,9 +65,7 @@ impl Blocks {
         requires shelf { shelf < length self.old.shelves }
         requires had { IsTrue (has self.old token) }
         requires before { ForSome before (λ at. IsTrue (stands_on self.old shelf at)) }
-        ensures after { self.new ≡ model.shelve shelf before token.head self.old }
-        ensures gone { held_at self.new token.head ≡ None }
-        ensures others { LeavesOthers (token.head ∷ []) self.old self.new }
+        ensures { Puts itself token (done (model.shelve shelf before token.head self.old)) self.old self.new (Ok tt) }
     {
         let head = token.spend().head;
         self.queued += self.chains.len(head);
@@ -78,12 +77,7 @@ impl Blocks {
     pub fn unshelve(&mut self, shelf: u8, head: BlockNo) -> Token
         requires shelf { shelf < length self.old.shelves }
         requires there { IsTrue (stands_on self.old shelf head) }
-        ensures after { self.new ≡ model.unshelve shelf head self.old }
-        ensures token { result ≡ token_of self.new head }
-        // The token is of these blocks, and no held message had its head.
-        ensures had { IsTrue (has self.new result) }
-        ensures unheld { held_at self.old head ≡ None }
-        ensures others { LeavesOthers (head ∷ []) self.old self.new }
+        ensures { Takes itself (Ok (head, model.unshelve shelf head self.old)) self.old self.new (Ok result) }
     {
         self.chains.unshelve(u32::from(shelf), head);
         self.queued -= self.chains.len(head);

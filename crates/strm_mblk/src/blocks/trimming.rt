@@ -1,11 +1,10 @@
 //! Bytes that a message loses at an end.
-ghost use Rattle.std.specs.Prelude.{◌≡◌, [], ◌∷◌, ◌+◌, ◌-◌, ◌≤◌, ◌^◌, ◌<◌, ℕ, IsTrue, Some, drop, if◌then◌else◌, length, slice_get};
+ghost use Rattle.std.specs.Prelude.{◌≡◌, ◌+◌, ◌-◌, ◌≤◌, ◌^◌, ◌<◌, ℕ, IsTrue, Some, drop, if◌then◌else◌, length, slice_get};
 ghost use Rattle.strm_mblk.specs.Arena.{has, message_at};
 ghost use Rattle.strm_mblk.specs.Block.{size_of};
 ghost use Rattle.strm_mblk.specs.BlocksLayout.{fields_at, message_of};
 ghost use Rattle.strm_mblk.specs.Cutting.{IsRun, IsTail, fields_cut, run_with, with_bytes_cut};
-ghost use Rattle.strm_mblk.specs.Frame.{LeavesOthers, LeavesShelves};
-ghost use Rattle.strm_mblk.specs.Given.{value_after, answer_of};
+ghost use Rattle.strm_mblk.specs.Calls.{Alters, itself};
 ghost use Rattle.strm_mblk.specs.NodeLists.{nodes_at};
 ghost use Rattle.strm_mblk.specs.Trimming as model;
 ghost use Rattle.strm_mblk.specs.Trimming.{run_of};
@@ -157,11 +156,7 @@ impl Blocks {
     /// Refused as `Short` where these blocks have fewer bytes than that; nothing changes then.
     pub fn adjmsg(&mut self, token: &Token, count: i32) -> Result<(), Refusal>
         requires { IsTrue (has self.old token.now) }
-        ensures after { self.new ≡ value_after self.old (model.adjmsg token.now.head count self.old) }
-        ensures answer { result ≡ answer_of (model.adjmsg token.now.head count self.old) }
-        ensures had { IsTrue (has self.new token.now) }
-        ensures others { LeavesOthers (token.now.head ∷ []) self.old self.new }
-        ensures shelves { LeavesShelves (token.now.head ∷ []) self.old self.new }
+        ensures { Alters itself token.now token.now (model.adjmsg token.now.head count self.old) self.old self.new result }
     {
         let from_tail = count.is_negative();
         let bytes = count.unsigned_abs();

@@ -4,7 +4,8 @@ ghost use Rattle.strm_mblk.specs.Arena.{message_at};
 ghost use Rattle.strm_mblk.specs.Block.{bytes_of, data_size_of, size_of};
 ghost use Rattle.strm_mblk.specs.BlockCalls as blocks;
 ghost use Rattle.strm_mblk.specs.Trimming as trimming;
-ghost use Rattle.strm_named.specs.NamedCalls.{Does, answer_told, any_message, done, if_valid, on_name, on_names, plain, two_messages};
+ghost use Rattle.strm_mblk.specs.Given.{done};
+ghost use Rattle.strm_named.specs.NamedCalls.{Does, answer_told, any_message, if_valid, on_name, on_names, plain, two_messages};
 ghost use Rattle.strm_pool.specs.PoolValue.{on_arena, with_arena};
 
 use super::NamedPool;

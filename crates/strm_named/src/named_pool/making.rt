@@ -2,7 +2,8 @@
 ghost use Rattle.std.specs.Prelude.{◌≡◌, [], ◌∷◌, Ok};
 ghost use Rattle.strm_mblk.specs.BlockCalls as blocks;
 ghost use Rattle.strm_mblk.specs.Freeing as freeing;
-ghost use Rattle.strm_named.specs.NamedCalls.{Does, any_message, done, on_name, one_message, outcome_of, plain};
+ghost use Rattle.strm_mblk.specs.Given.{done};
+ghost use Rattle.strm_named.specs.NamedCalls.{Does, any_message, on_name, one_message, outcome_of, plain};
 ghost use Rattle.strm_pool.specs.PoolValue.{on_arena, with_arena};
 
 use super::NamedPool;

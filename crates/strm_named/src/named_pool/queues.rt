@@ -1,9 +1,8 @@
 //! The calls on queues.
-ghost use Rattle.std.specs.Prelude.{◌≡◌, [], ◌∷◌};
-ghost use Rattle.strm_mblk.specs.Given.{answer_of, value_after};
-ghost use Rattle.strm_named.specs.NamedCalls.{Does, any_message, on_name, one_message, outcome_of, plain};
-ghost use Rattle.strm_named.specs.NamedValue.{KeepsNames, with_pool};
-ghost use Rattle.strm_pool.specs.PoolValue.{on_queues, queued, with_queued};
+ghost use Rattle.std.specs.Prelude.{Ok, ◌≡◌, [], ◌∷◌};
+ghost use Rattle.strm_mblk.specs.Given.{answer_of};
+ghost use Rattle.strm_named.specs.NamedCalls.{Does, LeavesNames, any_message, on_name, one_message, outcome_of, plain};
+ghost use Rattle.strm_pool.specs.PoolValue.{on_queues, queued};
 ghost use Rattle.strm_queue.specs.QueueCalls as queues;
 
 use super::NamedPool;
@@ -107,9 +106,7 @@ impl NamedPool {
     ///
     /// Refused as `NoSuchQueue` where there is no such queue; nothing changes then.
     pub fn flushq(&mut self, queue: u8, flush: Flush) -> Result<(), Refusal>
-        ensures pool { self.new ≡ with_pool self.old (value_after self.old.pool (on_queues self.old.pool (queues.flushq queue flush (queued self.old.pool)))) }
-        ensures answer { result ≡ answer_of (queues.flushq queue flush (queued self.old.pool)) }
-        ensures names { KeepsNames self.old self.new }
+        ensures { LeavesNames (on_queues self.old.pool (queues.flushq queue flush (queued self.old.pool))) self.old self.new result }
     {
         self.pool.flushq(queue, flush)
     }
@@ -121,9 +118,7 @@ impl NamedPool {
     ///
     /// Refused as `NoSuchQueue` where there is no such queue; nothing changes then.
     pub fn flushband(&mut self, queue: u8, band: u8, flush: Flush) -> Result<(), Refusal>
-        ensures pool { self.new ≡ with_pool self.old (value_after self.old.pool (on_queues self.old.pool (queues.flushband queue band flush (queued self.old.pool)))) }
-        ensures answer { result ≡ answer_of (queues.flushband queue band flush (queued self.old.pool)) }
-        ensures names { KeepsNames self.old self.new }
+        ensures { LeavesNames (on_queues self.old.pool (queues.flushband queue band flush (queued self.old.pool))) self.old self.new result }
     {
         self.pool.flushband(queue, band, flush)
     }
@@ -134,9 +129,7 @@ impl NamedPool {
     ///
     /// Refused as `NoSuchQueue` where there is no such queue; nothing changes then.
     pub fn bcanput(&mut self, queue: u8, band: u8) -> Result<bool, Refusal>
-        ensures pool { self.new ≡ with_pool self.old (value_after self.old.pool (on_queues self.old.pool (queues.bcanput queue band (queued self.old.pool)))) }
-        ensures answer { result ≡ answer_of (queues.bcanput queue band (queued self.old.pool)) }
-        ensures names { KeepsNames self.old self.new }
+        ensures { LeavesNames (on_queues self.old.pool (queues.bcanput queue band (queued self.old.pool))) self.old self.new result }
     {
         self.pool.bcanput(queue, band)
     }
@@ -148,9 +141,7 @@ impl NamedPool {
     /// Refused as `NoSuchQueue` where there is no such queue, then as `BadMarks` where `lowat` is not below `hiwat`; nothing
     /// changes then.
     pub fn strqset(&mut self, queue: u8, band: u8, hiwat: u32, lowat: u32) -> Result<(), Refusal>
-        ensures pool { self.new ≡ with_pool self.old (value_after self.old.pool (on_queues self.old.pool (queues.strqset queue band hiwat lowat (queued self.old.pool)))) }
-        ensures answer { result ≡ answer_of (queues.strqset queue band hiwat lowat (queued self.old.pool)) }
-        ensures names { KeepsNames self.old self.new }
+        ensures { LeavesNames (on_queues self.old.pool (queues.strqset queue band hiwat lowat (queued self.old.pool))) self.old self.new result }
     {
         self.pool.strqset(queue, band, hiwat, lowat)
     }
@@ -169,9 +160,7 @@ impl NamedPool {
     ///
     /// Refused as `NoSuchQueue` where there is no such queue; nothing changes then.
     pub fn qenable(&mut self, queue: u8) -> Result<(), Refusal>
-        ensures pool { self.new ≡ with_pool self.old (value_after self.old.pool (on_queues self.old.pool (queues.qenable queue (queued self.old.pool)))) }
-        ensures answer { result ≡ answer_of (queues.qenable queue (queued self.old.pool)) }
-        ensures names { KeepsNames self.old self.new }
+        ensures { LeavesNames (on_queues self.old.pool (queues.qenable queue (queued self.old.pool))) self.old self.new result }
     {
         self.pool.qenable(queue)
     }
@@ -181,9 +170,7 @@ impl NamedPool {
     ///
     /// Refused as `NoSuchQueue` where there is no such queue; nothing changes then.
     pub fn noenable(&mut self, queue: u8) -> Result<(), Refusal>
-        ensures pool { self.new ≡ with_pool self.old (value_after self.old.pool (on_queues self.old.pool (queues.noenable queue (queued self.old.pool)))) }
-        ensures answer { result ≡ answer_of (queues.noenable queue (queued self.old.pool)) }
-        ensures names { KeepsNames self.old self.new }
+        ensures { LeavesNames (on_queues self.old.pool (queues.noenable queue (queued self.old.pool))) self.old self.new result }
     {
         self.pool.noenable(queue)
     }
@@ -192,18 +179,14 @@ impl NamedPool {
     ///
     /// Refused as `NoSuchQueue` where there is no such queue; nothing changes then.
     pub fn enableok(&mut self, queue: u8) -> Result<(), Refusal>
-        ensures pool { self.new ≡ with_pool self.old (value_after self.old.pool (on_queues self.old.pool (queues.enableok queue (queued self.old.pool)))) }
-        ensures answer { result ≡ answer_of (queues.enableok queue (queued self.old.pool)) }
-        ensures names { KeepsNames self.old self.new }
+        ensures { LeavesNames (on_queues self.old.pool (queues.enableok queue (queued self.old.pool))) self.old self.new result }
     {
         self.pool.enableok(queue)
     }
 
     /// Takes the first queue off the run list, to be served, or none where the list is empty.
     pub fn next_service(&mut self) -> Option<u8>
-        ensures pool { self.new ≡ with_pool self.old (with_queued self.old.pool (queues.next_service (queued self.old.pool)).1) }
-        ensures answer { result ≡ (queues.next_service (queued self.old.pool)).0 }
-        ensures names { KeepsNames self.old self.new }
+        ensures { LeavesNames (on_queues self.old.pool (Ok (queues.next_service (queued self.old.pool)))) self.old self.new (Ok result) }
     {
         self.pool.next_service()
     }

@@ -1,7 +1,6 @@
 //! The calls on wishes for message blocks.
-ghost use Rattle.std.specs.Prelude.{◌≡◌};
-ghost use Rattle.strm_mblk.specs.Given.{answer_of, value_after};
-ghost use Rattle.strm_named.specs.NamedValue.{KeepsNames, with_pool};
+ghost use Rattle.std.specs.Prelude.{Ok, ◌≡◌};
+ghost use Rattle.strm_named.specs.NamedCalls.{LeavesNames};
 ghost use Rattle.strm_pool.specs.Wishes as wishes;
 
 use super::NamedPool;
@@ -14,9 +13,7 @@ impl NamedPool {
     /// Refused as `TooLarge` where the size is above the largest class, then as `Full` where as many wishes are recorded as
     /// the configuration allows, then as `IdsSpent` where the last id has been given; nothing changes then.
     pub fn bufcall(&mut self, size: u32) -> Result<u32, Refusal>
-        ensures pool { self.new ≡ with_pool self.old (value_after self.old.pool (wishes.bufcall size self.old.pool)) }
-        ensures answer { result ≡ answer_of (wishes.bufcall size self.old.pool) }
-        ensures names { KeepsNames self.old self.new }
+        ensures { LeavesNames (wishes.bufcall size self.old.pool) self.old self.new result }
     {
         self.pool.bufcall(size)
     }
@@ -25,9 +22,7 @@ impl NamedPool {
     ///
     /// Refused as `NotPending` where no wish has it; nothing changes then.
     pub fn unbufcall(&mut self, id: u32) -> Result<(), Refusal>
-        ensures pool { self.new ≡ with_pool self.old (value_after self.old.pool (wishes.unbufcall id self.old.pool)) }
-        ensures answer { result ≡ answer_of (wishes.unbufcall id self.old.pool) }
-        ensures names { KeepsNames self.old self.new }
+        ensures { LeavesNames (wishes.unbufcall id self.old.pool) self.old self.new result }
     {
         self.pool.unbufcall(id)
     }
@@ -35,9 +30,7 @@ impl NamedPool {
     /// Takes the wish that was recorded first of those for which `allocb` would give a message now, and answers its id and
     /// its size; or none. Nothing is kept for it. Takes a step for each wish and each size class.
     pub fn take_ready(&mut self) -> Option<(u32, u32)>
-        ensures pool { self.new ≡ with_pool self.old (wishes.take_ready self.old.pool).1 }
-        ensures answer { result ≡ (wishes.take_ready self.old.pool).0 }
-        ensures names { KeepsNames self.old self.new }
+        ensures { LeavesNames (Ok (wishes.take_ready self.old.pool)) self.old self.new (Ok result) }
     {
         self.pool.take_ready()
     }

@@ -1,14 +1,14 @@
 //! The calls on the messages that tokens stand for.
-ghost use Rattle.std.specs.Prelude.{◌≡◌, ◌≢◌, ◌-◌, [], ◌∷◌, ◌++◌, None, IfOk, IfSome, IsTrue, drop, length, min, option_map, take};
+ghost use Rattle.std.specs.Prelude.{Ok, Some, ◌≡◌, ◌-◌, ◌++◌, None, IsTrue, drop, length, min, take};
 ghost use Rattle.std.specs.Option.{option_map_or};
-ghost use Rattle.strm_mblk.specs.Arena.{has, held_at, message_at, token_of};
+ghost use Rattle.strm_mblk.specs.Arena.{has, message_at};
 ghost use Rattle.strm_mblk.specs.Block.{bytes_of, data_size_of, size_of};
 ghost use Rattle.strm_mblk.specs.BlockCalls as blocks;
-ghost use Rattle.strm_mblk.specs.Frame.{LeavesOthers, LeavesShelves, head_answered, head_given, heads_parted};
-ghost use Rattle.strm_mblk.specs.Given.{answer_map, answer_of, or_rejected, value_after};
+ghost use Rattle.strm_mblk.specs.Calls.{Alters, Frees, Gives, Joins, Parts, Spends, Unlinks};
+ghost use Rattle.strm_mblk.specs.Given.{answer_of, done};
 ghost use Rattle.strm_mblk.specs.Trimming as trimming;
 ghost use Rattle.strm_pool.specs.Limits.{most_octets};
-ghost use Rattle.strm_pool.specs.PoolValue.{drained, on_arena, spent, with_arena};
+ghost use Rattle.strm_pool.specs.PoolValue.{arena, drained, on_arena, spent, with_arena};
 
 use super::Pool;
 use crate::limits::MOST_OCTETS;
@@ -25,13 +25,7 @@ impl Pool {
     /// Refused as `TooLarge` where the size is above the largest class, then as `NoMblk` where no message block is
     /// free, then as `NoData` where no data block is that fits; nothing changes then.
     pub fn allocb(&mut self, size: u32) -> Result<Token, Refusal>
-        ensures pool { self.new ≡ value_after self.old (on_arena self.old (blocks.allocb size self.old.arena)) }
-        ensures token { result ≡ answer_map (token_of self.new.arena) (answer_of (blocks.allocb size self.old.arena)) }
-        // The pool has the token, and no held message had its head.
-        ensures had { IfOk result (λ token. IsTrue (has self.new.arena token)) }
-        ensures unheld { IfOk result (λ token. held_at self.old.arena token.head ≡ None) }
-        ensures others { LeavesOthers (head_answered result) self.old.arena self.new.arena }
-        ensures shelves { LeavesShelves (head_answered result) self.old.arena self.new.arena }
+        ensures { Gives arena None (on_arena self.old (blocks.allocb size self.old.arena)) self.old self.new result }
     {
         self.blocks.allocb(size)
     }
@@ -50,14 +44,7 @@ impl Pool {
     /// name the data block; nothing changes then.
     pub fn dupb(&mut self, token: &Token) -> Result<Token, Refusal>
         requires { IsTrue (has self.old.arena token.now) }
-        ensures pool { self.new ≡ value_after self.old (on_arena self.old (blocks.dupb token.now.head self.old.arena)) }
-        ensures token { result ≡ answer_map (token_of self.new.arena) (answer_of (blocks.dupb token.now.head self.old.arena)) }
-        // The pool has the new token and the other one, and no held message had the new one's head.
-        ensures had { IfOk result (λ copy. IsTrue (has self.new.arena copy)) }
-        ensures source { IsTrue (has self.new.arena token.now) }
-        ensures unheld { IfOk result (λ copy. held_at self.old.arena copy.head ≡ None) }
-        ensures others { LeavesOthers (head_answered result) self.old.arena self.new.arena }
-        ensures shelves { LeavesShelves (head_answered result) self.old.arena self.new.arena }
+        ensures { Gives arena (Some token.now) (on_arena self.old (blocks.dupb token.now.head self.old.arena)) self.old self.new result }
     {
         self.blocks.dupb(token)
     }
@@ -69,14 +56,7 @@ impl Pool {
     /// block would have more than `MOST_DATA_BLOCK_NAMES` names; nothing changes then.
     pub fn dupmsg(&mut self, token: &Token) -> Result<Token, Refusal>
         requires { IsTrue (has self.old.arena token.now) }
-        ensures pool { self.new ≡ value_after self.old (on_arena self.old (blocks.dupmsg token.now.head self.old.arena)) }
-        ensures token { result ≡ answer_map (token_of self.new.arena) (answer_of (blocks.dupmsg token.now.head self.old.arena)) }
-        // The pool has the new token and the other one, and no held message had the new one's head.
-        ensures had { IfOk result (λ copy. IsTrue (has self.new.arena copy)) }
-        ensures source { IsTrue (has self.new.arena token.now) }
-        ensures unheld { IfOk result (λ copy. held_at self.old.arena copy.head ≡ None) }
-        ensures others { LeavesOthers (head_answered result) self.old.arena self.new.arena }
-        ensures shelves { LeavesShelves (head_answered result) self.old.arena self.new.arena }
+        ensures { Gives arena (Some token.now) (on_arena self.old (blocks.dupmsg token.now.head self.old.arena)) self.old self.new result }
     {
         self.blocks.dupmsg(token)
     }
@@ -89,14 +69,7 @@ impl Pool {
     /// changes then.
     pub fn copyb(&mut self, token: &Token) -> Result<Token, Refusal>
         requires { IsTrue (has self.old.arena token.now) }
-        ensures pool { self.new ≡ value_after self.old (on_arena self.old (blocks.copyb token.now.head self.old.arena)) }
-        ensures token { result ≡ answer_map (token_of self.new.arena) (answer_of (blocks.copyb token.now.head self.old.arena)) }
-        // The pool has the new token and the other one, and no held message had the new one's head.
-        ensures had { IfOk result (λ copy. IsTrue (has self.new.arena copy)) }
-        ensures source { IsTrue (has self.new.arena token.now) }
-        ensures unheld { IfOk result (λ copy. held_at self.old.arena copy.head ≡ None) }
-        ensures others { LeavesOthers (head_answered result) self.old.arena self.new.arena }
-        ensures shelves { LeavesShelves (head_answered result) self.old.arena self.new.arena }
+        ensures { Gives arena (Some token.now) (on_arena self.old (blocks.copyb token.now.head self.old.arena)) self.old self.new result }
     {
         self.blocks.copyb(token)
     }
@@ -108,14 +81,7 @@ impl Pool {
     /// blocks do not suffice; nothing changes then.
     pub fn copymsg(&mut self, token: &Token) -> Result<Token, Refusal>
         requires { IsTrue (has self.old.arena token.now) }
-        ensures pool { self.new ≡ value_after self.old (on_arena self.old (blocks.copymsg token.now.head self.old.arena)) }
-        ensures token { result ≡ answer_map (token_of self.new.arena) (answer_of (blocks.copymsg token.now.head self.old.arena)) }
-        // The pool has the new token and the other one, and no held message had the new one's head.
-        ensures had { IfOk result (λ copy. IsTrue (has self.new.arena copy)) }
-        ensures source { IsTrue (has self.new.arena token.now) }
-        ensures unheld { IfOk result (λ copy. held_at self.old.arena copy.head ≡ None) }
-        ensures others { LeavesOthers (head_answered result) self.old.arena self.new.arena }
-        ensures shelves { LeavesShelves (head_answered result) self.old.arena self.new.arena }
+        ensures { Gives arena (Some token.now) (on_arena self.old (blocks.copymsg token.now.head self.old.arena)) self.old self.new result }
     {
         self.blocks.copymsg(token)
     }
@@ -126,11 +92,7 @@ impl Pool {
     /// its data block, then as `NoRoom` where the bytes do not fit; nothing changes then.
     pub fn write(&mut self, token: &Token, place: u32, bytes: &[u8]) -> Result<(), Refusal>
         requires { IsTrue (has self.old.arena token.now) }
-        ensures pool { self.new ≡ value_after self.old (on_arena self.old (blocks.write token.now.head place bytes.now self.old.arena)) }
-        ensures answer { result ≡ answer_of (blocks.write token.now.head place bytes.now self.old.arena) }
-        ensures had { IsTrue (has self.new.arena token.now) }
-        ensures others { LeavesOthers (token.now.head ∷ []) self.old.arena self.new.arena }
-        ensures shelves { LeavesShelves (token.now.head ∷ []) self.old.arena self.new.arena }
+        ensures { Alters arena token.now token.now (on_arena self.old (blocks.write token.now.head place bytes.now self.old.arena)) self.old self.new result }
     {
         self.blocks.write(token, place, bytes)
     }
@@ -141,11 +103,7 @@ impl Pool {
     /// the data block; nothing changes then.
     pub fn settype(&mut self, token: &Token, place: u32, kind: MsgType) -> Result<(), Refusal>
         requires { IsTrue (has self.old.arena token.now) }
-        ensures pool { self.new ≡ value_after self.old (on_arena self.old (blocks.settype token.now.head place kind self.old.arena)) }
-        ensures answer { result ≡ answer_of (blocks.settype token.now.head place kind self.old.arena) }
-        ensures had { IsTrue (has self.new.arena token.now) }
-        ensures others { LeavesOthers (token.now.head ∷ []) self.old.arena self.new.arena }
-        ensures shelves { LeavesShelves (token.now.head ∷ []) self.old.arena self.new.arena }
+        ensures { Alters arena token.now token.now (on_arena self.old (blocks.settype token.now.head place kind self.old.arena)) self.old self.new result }
     {
         self.blocks.settype(token, place, kind)
     }
@@ -153,10 +111,7 @@ impl Pool {
     /// Gives a message's first block another band.
     pub fn setband(&mut self, token: &Token, band: u8)
         requires { IsTrue (has self.old.arena token.now) }
-        ensures pool { self.new ≡ with_arena self.old (blocks.setband token.now.head band self.old.arena) }
-        ensures had { IsTrue (has self.new.arena token.now) }
-        ensures others { LeavesOthers (token.now.head ∷ []) self.old.arena self.new.arena }
-        ensures shelves { LeavesShelves (token.now.head ∷ []) self.old.arena self.new.arena }
+        ensures { Alters arena token.now token.now (on_arena self.old (done (blocks.setband token.now.head band self.old.arena))) self.old self.new (Ok tt) }
     {
         self.blocks.setband(token, band);
     }
@@ -168,11 +123,7 @@ impl Pool {
     pub fn linkb(&mut self, token: &mut Token, tail: Token)
         requires head { IsTrue (has self.old.arena token.old) }
         requires tail { IsTrue (has self.old.arena tail) }
-        ensures pool { self.new ≡ with_arena self.old (blocks.linkb token.old.head tail.head self.old.arena) }
-        ensures token { token.new ≡ token_of self.new.arena token.old.head }
-        ensures had { IsTrue (has self.new.arena token.new) }
-        ensures others { LeavesOthers (token.old.head ∷ tail.head ∷ []) self.old.arena self.new.arena }
-        ensures shelves { LeavesShelves (token.old.head ∷ tail.head ∷ []) self.old.arena self.new.arena }
+        ensures { Joins arena token.old token.new tail (with_arena self.old (blocks.linkb token.old.head tail.head self.old.arena)) self.old self.new }
     {
         self.blocks.linkb(token, tail);
     }
@@ -181,15 +132,7 @@ impl Pool {
     /// where there are no others, and then nothing changes.
     pub fn unlinkb(&mut self, token: &mut Token) -> Option<Token>
         requires { IsTrue (has self.old.arena token.old) }
-        ensures pool { self.new ≡ with_arena self.old (blocks.unlinkb token.old.head self.old.arena).1 }
-        ensures rest { result ≡ option_map (token_of self.new.arena) (blocks.unlinkb token.old.head self.old.arena).0 }
-        ensures token { token.new ≡ token_of self.new.arena token.old.head }
-        // The pool has the tokens, and no held message had the head of the new one.
-        ensures had { IsTrue (has self.new.arena token.new) }
-        ensures rest_had { IfSome result (λ rest. IsTrue (has self.new.arena rest)) }
-        ensures unheld { IfSome result (λ rest. held_at self.old.arena rest.head ≡ None) }
-        ensures others { LeavesOthers (token.old.head ∷ head_given result) self.old.arena self.new.arena }
-        ensures shelves { LeavesShelves (token.old.head ∷ head_given result) self.old.arena self.new.arena }
+        ensures { Unlinks arena token.old token.new (on_arena self.old (Ok (blocks.unlinkb token.old.head self.old.arena))) self.old self.new (Ok result) }
     {
         self.blocks.unlinkb(token)
     }
@@ -200,17 +143,7 @@ impl Pool {
     /// Rejected as `NoSuchBlock` where the message has no such block; nothing changes then, and the token comes back.
     pub fn rmvb(&mut self, token: Token, place: u32) -> Result<(Token, Option<Token>), Rejected>
         requires { IsTrue (has self.old.arena token) }
-        ensures pool { self.new ≡ value_after self.old (on_arena self.old (blocks.rmvb token.head place self.old.arena)) }
-        ensures answer { result ≡ or_rejected token (answer_map (λ heads. (token_of self.new.arena heads.0, option_map (token_of self.new.arena) heads.1)) (answer_of (blocks.rmvb token.head place self.old.arena))) }
-        // The pool has the tokens; one has the old head, and no held message had the head of the other.
-        ensures had { IfOk result (λ tokens. IsTrue (has self.new.arena tokens.0)) }
-        ensures rest_had { IfOk result (λ tokens. IfSome tokens.1 (λ rest. IsTrue (has self.new.arena rest))) }
-        ensures unheld { IfOk result (λ tokens. tokens.0.head ≢ token.head → held_at self.old.arena tokens.0.head ≡ None) }
-        ensures rest_unheld { IfOk result (λ tokens. IfSome tokens.1 (λ rest. rest.head ≢ token.head → held_at self.old.arena rest.head ≡ None)) }
-        // They are of two messages.
-        ensures apart { IfOk result (λ tokens. IfSome tokens.1 (λ rest. rest.head ≢ tokens.0.head)) }
-        ensures others { LeavesOthers (token.head ∷ heads_parted result) self.old.arena self.new.arena }
-        ensures shelves { LeavesShelves (token.head ∷ heads_parted result) self.old.arena self.new.arena }
+        ensures { Parts arena token (on_arena self.old (blocks.rmvb token.head place self.old.arena)) self.old self.new result }
     {
         self.blocks.rmvb(token, place)
     }
@@ -222,11 +155,7 @@ impl Pool {
     /// Refused as `Short` where these blocks have fewer bytes; nothing changes then.
     pub fn adjmsg(&mut self, token: &Token, count: i32) -> Result<(), Refusal>
         requires { IsTrue (has self.old.arena token.now) }
-        ensures pool { self.new ≡ value_after self.old (on_arena self.old (trimming.adjmsg token.now.head count self.old.arena)) }
-        ensures answer { result ≡ answer_of (trimming.adjmsg token.now.head count self.old.arena) }
-        ensures had { IsTrue (has self.new.arena token.now) }
-        ensures others { LeavesOthers (token.now.head ∷ []) self.old.arena self.new.arena }
-        ensures shelves { LeavesShelves (token.now.head ∷ []) self.old.arena self.new.arena }
+        ensures { Alters arena token.now token.now (on_arena self.old (trimming.adjmsg token.now.head count self.old.arena)) self.old self.new result }
     {
         self.blocks.adjmsg(token, count)
     }
@@ -239,12 +168,7 @@ impl Pool {
     /// where no class is as large, then as `NoData` where no data block is free that fits; nothing changes then.
     pub fn pullupmsg(&mut self, token: &mut Token, count: i32) -> Result<(), Refusal>
         requires { IsTrue (has self.old.arena token.old) }
-        ensures pool { self.new ≡ value_after self.old (on_arena self.old (trimming.pullupmsg token.old.head count self.old.arena)) }
-        ensures answer { result ≡ answer_of (trimming.pullupmsg token.old.head count self.old.arena) }
-        ensures token { token.new ≡ token_of self.new.arena token.old.head }
-        ensures had { IsTrue (has self.new.arena token.new) }
-        ensures others { LeavesOthers (token.old.head ∷ []) self.old.arena self.new.arena }
-        ensures shelves { LeavesShelves (token.old.head ∷ []) self.old.arena self.new.arena }
+        ensures { Alters arena token.old token.new (on_arena self.old (trimming.pullupmsg token.old.head count self.old.arena)) self.old self.new result }
     {
         self.blocks.pullupmsg(token, count)
     }
@@ -291,15 +215,7 @@ impl Pool {
     /// message of their own, whose token is the answer; none where there are no others.
     pub fn freeb(&mut self, token: Token) -> Option<Token>
         requires { IsTrue (has self.old.arena token) }
-        ensures pool { self.new ≡ with_arena self.old (blocks.freeb token.head self.old.arena).1 }
-        ensures rest { result ≡ option_map (token_of self.new.arena) (blocks.freeb token.head self.old.arena).0 }
-        // The pool has the token, and no held message had its head.
-        ensures had { IfSome result (λ rest. IsTrue (has self.new.arena rest)) }
-        ensures unheld { IfSome result (λ rest. held_at self.old.arena rest.head ≡ None) }
-        // No message is held at the old head.
-        ensures gone { held_at self.new.arena token.head ≡ None }
-        ensures others { LeavesOthers (token.head ∷ head_given result) self.old.arena self.new.arena }
-        ensures shelves { LeavesShelves (token.head ∷ head_given result) self.old.arena self.new.arena }
+        ensures { Frees arena token (on_arena self.old (Ok (blocks.freeb token.head self.old.arena))) self.old self.new (Ok result) }
     {
         self.blocks.freeb(token)
     }
@@ -307,9 +223,7 @@ impl Pool {
     /// Frees a message: its blocks first to last, and with each its data block, where no message block names that any more.
     /// A token that the pool does not have is spent, and nothing else is done.
     pub fn freemsg(&mut self, token: Token)
-        ensures pool { self.new ≡ spent self.old token }
-        ensures others { LeavesOthers (token.head ∷ []) self.old.arena self.new.arena }
-        ensures shelves { LeavesShelves (token.head ∷ []) self.old.arena self.new.arena }
+        ensures { Spends arena token (spent self.old token) self.old self.new }
     {
         self.blocks.freemsg(token);
     }

@@ -1,9 +1,9 @@
 //! The calls on queues.
-ghost use Rattle.std.specs.Prelude.{◌≡◌, [], ◌∷◌, None, IfOk, IfSome, IsTrue, MatchResult, option_map};
-ghost use Rattle.strm_mblk.specs.Arena.{has, held_at, token_of};
-ghost use Rattle.strm_mblk.specs.Frame.{LeavesOthers, head_answered, heads_answered};
-ghost use Rattle.strm_mblk.specs.Given.{answer_map, answer_of, or_rejected, value_after};
-ghost use Rattle.strm_pool.specs.PoolValue.{on_queues, queued, with_queued};
+ghost use Rattle.std.specs.Prelude.{Ok, ◌≡◌, IsTrue};
+ghost use Rattle.strm_mblk.specs.Arena.{has};
+ghost use Rattle.strm_mblk.specs.Calls.{Flushes, LeavesBlocks, Puts, Takes, TakesAny};
+ghost use Rattle.strm_mblk.specs.Given.{answer_of};
+ghost use Rattle.strm_pool.specs.PoolValue.{arena, on_queues, queued};
 ghost use Rattle.strm_queue.specs.QueueCalls as queues;
 
 use super::Pool;
@@ -11,7 +11,6 @@ use strm_data::Refusal;
 use strm_mblk::{Rejected, Token};
 use strm_queue::{BandInfo, Flush, Marks, QueueInfo};
 
-#[tactic(auto, using(crate::proofs::OnParts::queues_after))]
 impl Pool {
     /// Puts a message on a queue, behind the last one of rank at least its own. A high priority message ranks above all
     /// bands, and its first block gets band 0.
@@ -22,11 +21,7 @@ impl Pool {
     /// Rejected as `NoSuchQueue` where there is no such queue; nothing changes then, and the token comes back.
     pub fn putq(&mut self, queue: u8, token: Token) -> Result<(), Rejected>
         requires { IsTrue (has self.old.arena token) }
-        ensures pool { self.new ≡ value_after self.old (on_queues self.old (queues.putq queue token.head (queued self.old))) }
-        ensures answer { result ≡ or_rejected token (answer_of (queues.putq queue token.head (queued self.old))) }
-        // A message that was put is held no more, one that is refused still is, and all others are as they were.
-        ensures gone { MatchResult result (λ done. held_at self.new.arena token.head ≡ None) (λ rejected. IsTrue (has self.new.arena token)) }
-        ensures others { LeavesOthers (token.head ∷ []) self.old.arena self.new.arena }
+        ensures { Puts arena token (on_queues self.old (queues.putq queue token.head (queued self.old))) self.old self.new result }
     {
         self.queues.putq(&mut self.blocks, queue, token)
     }
@@ -40,11 +35,7 @@ impl Pool {
     /// Rejected as `NoSuchQueue` where there is no such queue; nothing changes then, and the token comes back.
     pub fn putbq(&mut self, queue: u8, token: Token) -> Result<(), Rejected>
         requires { IsTrue (has self.old.arena token) }
-        ensures pool { self.new ≡ value_after self.old (on_queues self.old (queues.putbq queue token.head (queued self.old))) }
-        ensures answer { result ≡ or_rejected token (answer_of (queues.putbq queue token.head (queued self.old))) }
-        // A message that was put is held no more, one that is refused still is, and all others are as they were.
-        ensures gone { MatchResult result (λ done. held_at self.new.arena token.head ≡ None) (λ rejected. IsTrue (has self.new.arena token)) }
-        ensures others { LeavesOthers (token.head ∷ []) self.old.arena self.new.arena }
+        ensures { Puts arena token (on_queues self.old (queues.putbq queue token.head (queued self.old))) self.old self.new result }
     {
         self.queues.putbq(&mut self.blocks, queue, token)
     }
@@ -58,11 +49,7 @@ impl Pool {
     /// `BadOrder` where ranks would rise from front to back; nothing changes then, and the token comes back.
     pub fn insq(&mut self, queue: u8, place: u32, token: Token) -> Result<(), Rejected>
         requires { IsTrue (has self.old.arena token) }
-        ensures pool { self.new ≡ value_after self.old (on_queues self.old (queues.insq queue place token.head (queued self.old))) }
-        ensures answer { result ≡ or_rejected token (answer_of (queues.insq queue place token.head (queued self.old))) }
-        // A message that was put is held no more, one that is refused still is, and all others are as they were.
-        ensures gone { MatchResult result (λ done. held_at self.new.arena token.head ≡ None) (λ rejected. IsTrue (has self.new.arena token)) }
-        ensures others { LeavesOthers (token.head ∷ []) self.old.arena self.new.arena }
+        ensures { Puts arena token (on_queues self.old (queues.insq queue place token.head (queued self.old))) self.old self.new result }
     {
         self.queues.insq(&mut self.blocks, queue, place, token)
     }
@@ -73,13 +60,7 @@ impl Pool {
     ///
     /// Refused as `NoSuchQueue` where there is no such queue; nothing changes then.
     pub fn getq(&mut self, queue: u8) -> Result<Option<Token>, Refusal>
-        ensures pool { self.new ≡ value_after self.old (on_queues self.old (queues.getq queue (queued self.old))) }
-        ensures token { result ≡ answer_map (option_map (token_of self.new.arena)) (answer_of (queues.getq queue (queued self.old))) }
-        // The pool has the token, and no held message had its head.
-        ensures had { IfOk result (λ given. IfSome given (λ token. IsTrue (has self.new.arena token))) }
-        ensures unheld { IfOk result (λ given. IfSome given (λ token. held_at self.old.arena token.head ≡ None)) }
-        // All other held messages are as they were.
-        ensures others { LeavesOthers (heads_answered result) self.old.arena self.new.arena }
+        ensures { TakesAny arena (on_queues self.old (queues.getq queue (queued self.old))) self.old self.new result }
     {
         self.queues.getq(&mut self.blocks, queue)
     }
@@ -90,13 +71,7 @@ impl Pool {
     /// Refused as `NoSuchQueue` where there is no such queue, then as `NoSuchPlace` where it has no such message; nothing
     /// changes then.
     pub fn rmvq(&mut self, queue: u8, place: u32) -> Result<Token, Refusal>
-        ensures pool { self.new ≡ value_after self.old (on_queues self.old (queues.rmvq queue place (queued self.old))) }
-        ensures token { result ≡ answer_map (token_of self.new.arena) (answer_of (queues.rmvq queue place (queued self.old))) }
-        // The pool has the token, and no held message had its head.
-        ensures had { IfOk result (λ token. IsTrue (has self.new.arena token)) }
-        ensures unheld { IfOk result (λ token. held_at self.old.arena token.head ≡ None) }
-        // All other held messages are as they were.
-        ensures others { LeavesOthers (head_answered result) self.old.arena self.new.arena }
+        ensures { Takes arena (on_queues self.old (queues.rmvq queue place (queued self.old))) self.old self.new result }
     {
         self.queues.rmvq(&mut self.blocks, queue, place)
     }
@@ -116,9 +91,7 @@ impl Pool {
     ///
     /// Refused as `NoSuchQueue` where there is no such queue; nothing changes then.
     pub fn flushq(&mut self, queue: u8, flush: Flush) -> Result<(), Refusal>
-        ensures pool { self.new ≡ value_after self.old (on_queues self.old (queues.flushq queue flush (queued self.old))) }
-        ensures answer { result ≡ answer_of (queues.flushq queue flush (queued self.old)) }
-        ensures others { LeavesOthers [] self.old.arena self.new.arena }
+        ensures { Flushes arena (on_queues self.old (queues.flushq queue flush (queued self.old))) self.old self.new result }
     {
         self.queues.flushq(&mut self.blocks, queue, flush)
     }
@@ -130,9 +103,7 @@ impl Pool {
     ///
     /// Refused as `NoSuchQueue` where there is no such queue; nothing changes then.
     pub fn flushband(&mut self, queue: u8, band: u8, flush: Flush) -> Result<(), Refusal>
-        ensures pool { self.new ≡ value_after self.old (on_queues self.old (queues.flushband queue band flush (queued self.old))) }
-        ensures answer { result ≡ answer_of (queues.flushband queue band flush (queued self.old)) }
-        ensures others { LeavesOthers [] self.old.arena self.new.arena }
+        ensures { Flushes arena (on_queues self.old (queues.flushband queue band flush (queued self.old))) self.old self.new result }
     {
         self.queues.flushband(&mut self.blocks, queue, band, flush)
     }
@@ -143,9 +114,7 @@ impl Pool {
     ///
     /// Refused as `NoSuchQueue` where there is no such queue; nothing changes then.
     pub fn bcanput(&mut self, queue: u8, band: u8) -> Result<bool, Refusal>
-        ensures pool { self.new ≡ value_after self.old (on_queues self.old (queues.bcanput queue band (queued self.old))) }
-        ensures answer { result ≡ answer_of (queues.bcanput queue band (queued self.old)) }
-        ensures arena { self.new.arena ≡ self.old.arena }
+        ensures { LeavesBlocks arena (on_queues self.old (queues.bcanput queue band (queued self.old))) self.old self.new result }
     {
         self.queues.bcanput(&self.blocks, queue, band)
     }
@@ -160,9 +129,7 @@ impl Pool {
     /// Refused as `NoSuchQueue` where there is no such queue, then as `BadMarks` where `lowat` is not below `hiwat`; nothing
     /// changes then.
     pub fn strqset(&mut self, queue: u8, band: u8, hiwat: u32, lowat: u32) -> Result<(), Refusal>
-        ensures pool { self.new ≡ value_after self.old (on_queues self.old (queues.strqset queue band hiwat lowat (queued self.old))) }
-        ensures answer { result ≡ answer_of (queues.strqset queue band hiwat lowat (queued self.old)) }
-        ensures arena { self.new.arena ≡ self.old.arena }
+        ensures { LeavesBlocks arena (on_queues self.old (queues.strqset queue band hiwat lowat (queued self.old))) self.old self.new result }
     {
         self.queues.strqset(&self.blocks, queue, band, hiwat, lowat)
     }
@@ -182,9 +149,7 @@ impl Pool {
     ///
     /// Refused as `NoSuchQueue` where there is no such queue; nothing changes then.
     pub fn qenable(&mut self, queue: u8) -> Result<(), Refusal>
-        ensures pool { self.new ≡ value_after self.old (on_queues self.old (queues.qenable queue (queued self.old))) }
-        ensures answer { result ≡ answer_of (queues.qenable queue (queued self.old)) }
-        ensures arena { self.new.arena ≡ self.old.arena }
+        ensures { LeavesBlocks arena (on_queues self.old (queues.qenable queue (queued self.old))) self.old self.new result }
     {
         self.queues.qenable(queue)
     }
@@ -194,9 +159,7 @@ impl Pool {
     ///
     /// Refused as `NoSuchQueue` where there is no such queue; nothing changes then.
     pub fn noenable(&mut self, queue: u8) -> Result<(), Refusal>
-        ensures pool { self.new ≡ value_after self.old (on_queues self.old (queues.noenable queue (queued self.old))) }
-        ensures answer { result ≡ answer_of (queues.noenable queue (queued self.old)) }
-        ensures arena { self.new.arena ≡ self.old.arena }
+        ensures { LeavesBlocks arena (on_queues self.old (queues.noenable queue (queued self.old))) self.old self.new result }
     {
         self.queues.noenable(queue)
     }
@@ -205,18 +168,14 @@ impl Pool {
     ///
     /// Refused as `NoSuchQueue` where there is no such queue; nothing changes then.
     pub fn enableok(&mut self, queue: u8) -> Result<(), Refusal>
-        ensures pool { self.new ≡ value_after self.old (on_queues self.old (queues.enableok queue (queued self.old))) }
-        ensures answer { result ≡ answer_of (queues.enableok queue (queued self.old)) }
-        ensures arena { self.new.arena ≡ self.old.arena }
+        ensures { LeavesBlocks arena (on_queues self.old (queues.enableok queue (queued self.old))) self.old self.new result }
     {
         self.queues.enableok(queue)
     }
 
     /// Takes the first queue off the run list, to be served, or none where the list is empty.
     pub fn next_service(&mut self) -> Option<u8>
-        ensures pool { self.new ≡ with_queued self.old (queues.next_service (queued self.old)).1 }
-        ensures answer { result ≡ (queues.next_service (queued self.old)).0 }
-        ensures arena { self.new.arena ≡ self.old.arena }
+        ensures { LeavesBlocks arena (on_queues self.old (Ok (queues.next_service (queued self.old)))) self.old self.new (Ok result) }
     {
         self.queues.next_service()
     }

@@ -1,7 +1,8 @@
 //! The calls on wishes for message blocks.
-ghost use Rattle.std.specs.Prelude.{◌≡◌, ◌<◌, IfSome, length};
+ghost use Rattle.std.specs.Prelude.{Ok, ◌≡◌, ◌<◌, IfSome, length};
 ghost use Rattle.std.specs.List.{position};
-ghost use Rattle.strm_mblk.specs.Given.{answer_of, value_after};
+ghost use Rattle.strm_mblk.specs.Calls.{LeavesBlocks};
+ghost use Rattle.strm_pool.specs.PoolValue.{arena};
 ghost use Rattle.strm_pool.specs.Wishes as wishes;
 
 use super::Pool;
@@ -14,9 +15,7 @@ impl Pool {
     /// Refused as `TooLarge` where the size is above the largest class, then as `Full` where as many wishes are recorded as
     /// the configuration allows, then as `IdsSpent` where the last id has been given; nothing changes then.
     pub fn bufcall(&mut self, size: u32) -> Result<u32, Refusal>
-        ensures pool { self.new ≡ value_after self.old (wishes.bufcall size self.old) }
-        ensures answer { result ≡ answer_of (wishes.bufcall size self.old) }
-        ensures arena { self.new.arena ≡ self.old.arena }
+        ensures { LeavesBlocks arena (wishes.bufcall size self.old) self.old self.new result }
     {
         if !self.blocks.has_class_for(size) {
             return Err(Refusal::TooLarge);
@@ -28,9 +27,7 @@ impl Pool {
     ///
     /// Refused as `NotPending` where no wish has it; nothing changes then.
     pub fn unbufcall(&mut self, id: u32) -> Result<(), Refusal>
-        ensures pool { self.new ≡ value_after self.old (wishes.unbufcall id self.old) }
-        ensures answer { result ≡ answer_of (wishes.unbufcall id self.old) }
-        ensures arena { self.new.arena ≡ self.old.arena }
+        ensures { LeavesBlocks arena (wishes.unbufcall id self.old) self.old self.new result }
     {
         match self.wishes.place_of(id) {
             Some(place) => {
@@ -55,9 +52,7 @@ impl Pool {
     /// Takes the wish that was recorded first of those for which `allocb` would give a message now, and answers its id and
     /// its size; or none. Nothing is kept for it. Takes a step for each wish and each size class.
     pub fn take_ready(&mut self) -> Option<(u32, u32)>
-        ensures pool { self.new ≡ (wishes.take_ready self.old).1 }
-        ensures answer { result ≡ (wishes.take_ready self.old).0 }
-        ensures arena { self.new.arena ≡ self.old.arena }
+        ensures { LeavesBlocks arena (Ok (wishes.take_ready self.old)) self.old self.new (Ok result) }
     {
         let place = self.ready_place()?;
         self.wishes.remove(place)

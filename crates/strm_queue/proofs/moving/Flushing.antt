@@ -1,5 +1,5 @@
 -- Messages of a shelf that are freed, front to back.
-use Rattle.std.proofs.Common.{◌≡◌, ◌≢◌, ℕ, inl, inr, ◌+◌, ◌<◌, ◌≤◌, Bool, true, false, ◌&&◌, ◌==◌, List, [], ◌∷◌, ◌++◌, length, get_or, set, Option, Some, None, refl, sym, ap, ◌∙◌, subst, arith, if◌then◌else◌, length-append, length-set, get_or-set_same}
+use Rattle.std.proofs.Common.{Ok, ◌≡◌, ◌≢◌, ℕ, inl, inr, ◌+◌, ◌<◌, ◌≤◌, Bool, true, false, ◌&&◌, ◌==◌, List, [], ◌∷◌, ◌++◌, length, get_or, set, Option, Some, None, refl, sym, ap, ◌∙◌, subst, arith, if◌then◌else◌, length-append, length-set, get_or-set_same}
 use Rattle.std.specs.Prelude.{count_by, filter, nat_le, nat_lt, not, option_map, slice_get}
 use Rattle.std.specs.List.{All, flat_map, list_all}
 use Rattle.std.proofs.lemmas.Bool.{and_from, and_parts, cases_Bool, cases_eq, cases_lt, cond-false, cond-true, le-leb, le-ltb, leb-true, lt-leb, lt-ltb, ne_eqb, not_from_false, not_from_true}
@@ -12,9 +12,9 @@ use Rattle.strm_data.specs.DataStore.{DataBlock, DataStore, no_data_block, with_
 use Rattle.strm_links.specs.Rows.{IsApart, after, first, has}
 use Rattle.strm_mblk.specs.declared.token.TokenValue.{TokenValue}
 use Rattle.strm_mblk.specs.Arena.{Arena, IsParted, held_at, names_of, shelf_at, shelved_blocks, token_of, with_held, with_shelf}
-use Rattle.strm_mblk.specs.Arena as arena
 use Rattle.strm_mblk.specs.Block.{Block, Message, head_of, is_naming, kind_of}
 use Rattle.strm_mblk.specs.Frame.{IsSameData}
+use Rattle.strm_mblk.specs.Calls.{Takes, itself}
 use Rattle.strm_mblk.specs.Freeing.{freemsg, spent, with_block_freed, with_blocks_freed}
 use Rattle.strm_mblk.specs.Messages.{blocks_of}
 use Rattle.strm_mblk.specs.Shelves.{head_block, heads_at, stands_on, unshelve}
@@ -224,29 +224,29 @@ module _ (a : Arena) (q : ℕ) (within : q < length a.shelves) (pre post : List 
 pub record IsSpent (a : Arena) (q h : ℕ) (b : Arena) : Type 0 where
   pub taken : Arena
   pub token : TokenValue
-  pub after : taken ≡ unshelve q h a
-  pub given : token ≡ token_of taken h
-  pub had : arena.has taken token ≡ true
-  pub unheld : held_at a h ≡ None
+  pub takes : Takes itself (Ok (h, unshelve q h a)) a taken (Ok token)
   pub spent_is : b ≡ spent taken token
 
 module _ (a : Arena) (q h : ℕ) (b : Arena) (spends : IsSpent a q h b) (pre post : List Message) (x : Message) (is : shelf_at a q ≡ pre ++ x ∷ post) (head : head_of x ≡ h) (apart : IsApart (heads_at a q)) where
+  given : spends.token ≡ token_of spends.taken h
+  given = let ok = spends.takes.token in cc
+
   -- the message is held
   holds : spends.taken ≡ with_held x (with_shelf q (pre ++ post) a)
-  holds = spends.after ∙ ap (λ n. unshelve q n a) (sym head) ∙ unshelved a q pre post x is apart
+  holds = spends.takes.after ∙ ap (λ n. unshelve q n a) (sym head) ∙ unshelved a q pre post x is apart
 
   held_here : h < length a.held
   held_here =
-      let message = had_message spends.taken spends.token spends.had in
-      let some : held_at spends.taken h ≡ Some message.0 = ap (λ (t : TokenValue). held_at spends.taken t.head) (sym spends.given) ∙ message.1.held in
+      let message = had_message spends.taken spends.token spends.takes.had in
+      let some : held_at spends.taken h ≡ Some message.0 = ap (λ (t : TokenValue). held_at spends.taken t.head) (sym given) ∙ message.1.held in
       omega (arith, held_within spends.taken h message.0 some, ap (λ (c : Arena). length c.held) holds, length-set a.held (head_of x) (Some x))
 
   -- it is free, and nothing is held where nothing was
   freed_alone : b ≡ with_blocks_freed x (with_shelf q (pre ++ post) a)
   freed_alone =
       spends.spent_is
-      ∙ cond-true _ _ _ spends.had
-      ∙ ap (λ (t : TokenValue). freemsg t.head spends.taken) spends.given
+      ∙ cond-true _ _ _ spends.takes.had
+      ∙ ap (λ (t : TokenValue). freemsg t.head spends.taken) given
       ∙ ap (freemsg h) holds
       ∙ (λ i. with_blocks_freed (blocks_of (message i)) (record a { shelves = set a.shelves q (pre ++ post); held = held i }))
     where
@@ -256,7 +256,7 @@ module _ (a : Arena) (q h : ℕ) (b : Arena) (spends : IsSpent a q h b) (pre pos
       held : set (set a.held (head_of x) (Some x)) h None ≡ a.held
       held =
           ap (λ n. set (set a.held n (Some x)) h None) head ∙ set-set a.held h (Some x) None
-          ∙ ap (set a.held h) (sym spends.unheld) ∙ set-get_or a.held h None
+          ∙ ap (set a.held h) (sym (ap (λ (t : TokenValue). held_at a t.head) (sym given) ∙ spends.takes.unheld)) ∙ set-get_or a.held h None
 
 -- ---- the walk
 

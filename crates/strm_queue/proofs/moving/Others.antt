@@ -1,17 +1,12 @@
 -- What calls on queues leave of held messages.
-use Rattle.std.proofs.Common.{◌≡◌, List, [], length, ap, get_or, ◌∙◌, ℕ, None}
+use Rattle.std.proofs.Common.{◌≡◌, List, [], length, ap, get_or, ◌∙◌, None}
 use Rattle.strm_mblk.specs.Arena.{Arena}
 use Rattle.strm_mblk.specs.Block.{Block}
 use Rattle.strm_mblk.specs.Frame.{LeavesOthers}
 use Rattle.strm_mblk.specs.Freeing.{with_blocks_freed}
-use Rattle.strm_mblk.proofs.arena.Frame.{leaves_same}
 use Rattle.strm_mblk.proofs.pulling.Drained.{freed_held, freed_id}
 
--- a call that changes nothing leaves all
-pub others_same : (a : Arena) (heads : List ℕ) → LeavesOthers heads a a
-others_same a heads = (leaves_same a heads).others
-
--- so does one that frees blocks of messages that are not held
+-- a call that frees blocks of messages that are not held leaves all
 pub others_freed : (a b : Arena) (bs : List Block) → b.id ≡ a.id → b.held ≡ a.held → LeavesOthers [] a (with_blocks_freed bs b)
 others_freed a b bs id held = record {
   id = freed_id bs b ∙ id;

@@ -1,9 +1,10 @@
 //! What is asked of queues, and their flags and the run list for callers.
-ghost use Rattle.std.specs.Prelude.{◌≡◌};
+ghost use Rattle.std.specs.Prelude.{Ok, ◌≡◌};
 ghost use Rattle.strm_mblk.specs.Arena.{Arena};
-ghost use Rattle.strm_mblk.specs.Given.{answer_of, value_after};
+ghost use Rattle.strm_mblk.specs.Given.{answer_of};
+ghost use Rattle.strm_mblk.specs.Calls.{LeavesBlocks};
 ghost use Rattle.strm_queue.specs.QueueCalls as model;
-ghost use Rattle.strm_queue.specs.QueuedBlocks.{Agrees, together};
+ghost use Rattle.strm_queue.specs.QueuedBlocks.{Agrees, together, arena};
 
 use super::Queues;
 use crate::{BandInfo, QueueInfo};
@@ -67,10 +68,10 @@ impl Queues {
     /// mark is set, and the answer is false. Takes a step for each queue that is passed.
     ///
     /// Refused as `NoSuchQueue` where there is no such queue; nothing changes then.
+    #[tactic(auto, using(strm_mblk::proofs::arena::Calls::leaves_blocks))]
     pub fn bcanput(&mut self, blocks: &Blocks, queue: u8, band: u8) -> Result<bool, Refusal>
         requires { Agrees self.old blocks.now }
-        ensures after { together self.new blocks.now ≡ value_after (together self.old blocks.now) (model.bcanput queue band (together self.old blocks.now)) }
-        ensures answer { result ≡ answer_of (model.bcanput queue band (together self.old blocks.now)) }
+        ensures does { LeavesBlocks arena (model.bcanput queue band (together self.old blocks.now)) (together self.old blocks.now) (together self.new blocks.now) result }
         ensures agrees { Agrees self.new blocks.now }
     {
         if !self.has_queue(queue) {
@@ -89,10 +90,10 @@ impl Queues {
     /// constant time.
     ///
     /// Refused as `NoSuchQueue` where there is no such queue; nothing changes then.
+    #[tactic(auto, using(strm_mblk::proofs::arena::Calls::leaves_blocks))]
     pub fn qenable(&mut self, queue: u8) -> Result<(), Refusal>
-        ensures after { (arena : Arena) → together self.new arena ≡ value_after (together self.old arena) (model.qenable queue (together self.old arena)) }
-        ensures answer { (arena : Arena) → result ≡ answer_of (model.qenable queue (together self.old arena)) }
-        ensures agrees { (arena : Arena) → Agrees self.old arena → Agrees self.new arena }
+        ensures does { (a : Arena) → LeavesBlocks arena (model.qenable queue (together self.old a)) (together self.old a) (together self.new a) result }
+        ensures agrees { (a : Arena) → Agrees self.old a → Agrees self.new a }
     {
         if !self.has_queue(queue) {
             return Err(Refusal::NoSuchQueue);
@@ -106,9 +107,8 @@ impl Queues {
     ///
     /// Refused as `NoSuchQueue` where there is no such queue; nothing changes then.
     pub fn noenable(&mut self, queue: u8) -> Result<(), Refusal>
-        ensures after { (arena : Arena) → together self.new arena ≡ value_after (together self.old arena) (model.noenable queue (together self.old arena)) }
-        ensures answer { (arena : Arena) → result ≡ answer_of (model.noenable queue (together self.old arena)) }
-        ensures agrees { (arena : Arena) → Agrees self.old arena → Agrees self.new arena }
+        ensures does { (a : Arena) → LeavesBlocks arena (model.noenable queue (together self.old a)) (together self.old a) (together self.new a) result }
+        ensures agrees { (a : Arena) → Agrees self.old a → Agrees self.new a }
     {
         self.switch(queue, true)
     }
@@ -117,18 +117,17 @@ impl Queues {
     ///
     /// Refused as `NoSuchQueue` where there is no such queue; nothing changes then.
     pub fn enableok(&mut self, queue: u8) -> Result<(), Refusal>
-        ensures after { (arena : Arena) → together self.new arena ≡ value_after (together self.old arena) (model.enableok queue (together self.old arena)) }
-        ensures answer { (arena : Arena) → result ≡ answer_of (model.enableok queue (together self.old arena)) }
-        ensures agrees { (arena : Arena) → Agrees self.old arena → Agrees self.new arena }
+        ensures does { (a : Arena) → LeavesBlocks arena (model.enableok queue (together self.old a)) (together self.old a) (together self.new a) result }
+        ensures agrees { (a : Arena) → Agrees self.old a → Agrees self.new a }
     {
         self.switch(queue, false)
     }
 
     /// Takes the first queue off the run list, to be served, or none where the list is empty. Takes constant time.
+    #[tactic(auto, using(strm_mblk::proofs::arena::Calls::leaves_blocks))]
     pub fn next_service(&mut self) -> Option<u8>
-        ensures after { (arena : Arena) → together self.new arena ≡ (model.next_service (together self.old arena)).1 }
-        ensures answer { (arena : Arena) → result ≡ (model.next_service (together self.old arena)).0 }
-        ensures agrees { (arena : Arena) → Agrees self.old arena → Agrees self.new arena }
+        ensures does { (a : Arena) → LeavesBlocks arena (Ok (model.next_service (together self.old a))) (together self.old a) (together self.new a) (Ok result) }
+        ensures agrees { (a : Arena) → Agrees self.old a → Agrees self.new a }
     {
         self.take_first()
     }

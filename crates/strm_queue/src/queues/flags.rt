@@ -1,11 +1,11 @@
 //! The flags of queues.
 ghost use Rattle.std.specs.Prelude.{◌≡◌, ◌<◌, length};
+ghost use Rattle.strm_mblk.specs.Calls.{LeavesBlocks};
 ghost use Rattle.strm_queue.specs.Flow.{flags_at, has_band, lowat_of, some_relieved, still_wanted, with_flags, with_noenable, with_read, with_wanted};
 ghost use Rattle.strm_mblk.specs.Arena.{Arena};
-ghost use Rattle.strm_mblk.specs.Given.{answer_of, value_after};
 ghost use Rattle.strm_queue.specs.QueueCalls.{switched};
 ghost use Rattle.strm_queue.specs.Tallies.{count_of};
-ghost use Rattle.strm_queue.specs.QueuedBlocks.{Agrees, tally_at, together};
+ghost use Rattle.strm_queue.specs.QueuedBlocks.{Agrees, tally_at, together, arena};
 
 use super::{Queue, Queues};
 use strm_data::Refusal;
@@ -52,10 +52,10 @@ impl Queues {
     }
 
     // Switches enabling off or on, where there is the queue.
+    #[tactic(auto, using(strm_mblk::proofs::arena::Calls::leaves_blocks))]
     pub(super) fn switch(&mut self, queue: u8, off: bool) -> Result<(), Refusal>
-        ensures after { (arena : Arena) → together self.new arena ≡ value_after (together self.old arena) (switched queue off (together self.old arena)) }
-        ensures answer { (arena : Arena) → result ≡ answer_of (switched queue off (together self.old arena)) }
-        ensures agrees { (arena : Arena) → Agrees self.old arena → Agrees self.new arena }
+        ensures does { (a : Arena) → LeavesBlocks arena (switched queue off (together self.old a)) (together self.old a) (together self.new a) result }
+        ensures agrees { (a : Arena) → Agrees self.old a → Agrees self.new a }
     {
         if !self.has_queue(queue) {
             return Err(Refusal::NoSuchQueue);

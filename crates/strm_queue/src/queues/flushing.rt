@@ -1,16 +1,15 @@
 //! Messages are flushed.
-ghost use Rattle.std.specs.Prelude.{◌≡◌, ◌<◌, [], ◌∷◌, ◌++◌, ℕ, IsSome, IsTrue, List, filter, length, map, not};
+ghost use Rattle.std.specs.Prelude.{◌≡◌, ◌<◌, ◌∷◌, ◌++◌, ℕ, IsSome, IsTrue, List, filter, length, map, not};
 ghost use Rattle.std.specs.Option.{ForSome};
 ghost use Rattle.strm_links.specs.Rows as rows;
 ghost use Rattle.strm_mblk.specs.Arena.{shelf_at, with_shelf};
 ghost use Rattle.strm_mblk.specs.Block.{Message, head_of};
-ghost use Rattle.strm_mblk.specs.Frame.{LeavesOthers};
-ghost use Rattle.strm_mblk.specs.Given.{answer_of, value_after};
 ghost use Rattle.strm_mblk.specs.Shelves.{shelf_of, stands_on};
+ghost use Rattle.strm_mblk.specs.Calls.{Flushes};
 ghost use Rattle.strm_queue.specs.Flush.{carries_data, is_flushed, is_picked, with_freed};
 ghost use Rattle.strm_queue.specs.Flushing.{from_band};
 ghost use Rattle.strm_queue.specs.QueueCalls as model;
-ghost use Rattle.strm_queue.specs.QueuedBlocks.{Agrees, AreInOrder, together};
+ghost use Rattle.strm_queue.specs.QueuedBlocks.{Agrees, AreInOrder, together, arena};
 
 use super::Queues;
 use super::places::queued_rank;
@@ -51,9 +50,7 @@ impl Queues {
     /// Refused as `NoSuchQueue` where there is no such queue; nothing changes then.
     pub fn flushq(&mut self, blocks: &mut Blocks, queue: u8, flush: Flush) -> Result<(), Refusal>
         requires { Agrees self.old blocks.old }
-        ensures after { together self.new blocks.new ≡ value_after (together self.old blocks.old) (model.flushq queue flush (together self.old blocks.old)) }
-        ensures answer { result ≡ answer_of (model.flushq queue flush (together self.old blocks.old)) }
-        ensures others { LeavesOthers [] blocks.old blocks.new }
+        ensures does { Flushes arena (model.flushq queue flush (together self.old blocks.old)) (together self.old blocks.old) (together self.new blocks.new) result }
         ensures agrees { Agrees self.new blocks.new }
     {
         self.flush_band(blocks, queue, None, flush)
@@ -74,16 +71,14 @@ impl Queues {
         flush: Flush,
     ) -> Result<(), Refusal>
         requires { Agrees self.old blocks.old }
-        ensures after { together self.new blocks.new ≡ value_after (together self.old blocks.old) (model.flushband queue band flush (together self.old blocks.old)) }
-        ensures answer { result ≡ answer_of (model.flushband queue band flush (together self.old blocks.old)) }
-        ensures others { LeavesOthers [] blocks.old blocks.new }
+        ensures does { Flushes arena (model.flushband queue band flush (together self.old blocks.old)) (together self.old blocks.old) (together self.new blocks.new) result }
         ensures agrees { Agrees self.new blocks.new }
     {
         self.flush_band(blocks, queue, Some(band), flush)
     }
 
     // Frees the messages of a queue, or of one band of it, that a flush takes.
-    #[tactic(auto, using(crate::proofs::moving::Others::others_same))]
+    #[tactic(auto, using(strm_mblk::proofs::arena::Calls::flushes_none))]
     fn flush_band(
         &mut self,
         blocks: &mut Blocks,
@@ -92,9 +87,7 @@ impl Queues {
         flush: Flush,
     ) -> Result<(), Refusal>
         requires { Agrees self.old blocks.old }
-        ensures after { together self.new blocks.new ≡ value_after (together self.old blocks.old) (model.flushed queue band flush (together self.old blocks.old)) }
-        ensures answer { result ≡ answer_of (model.flushed queue band flush (together self.old blocks.old)) }
-        ensures others { LeavesOthers [] blocks.old blocks.new }
+        ensures does { Flushes arena (model.flushed queue band flush (together self.old blocks.old)) (together self.old blocks.old) (together self.new blocks.new) result }
         ensures agrees { Agrees self.new blocks.new }
     {
         if !self.has_queue(queue) {

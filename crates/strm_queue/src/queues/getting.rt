@@ -1,10 +1,8 @@
 //! Messages are taken off queues.
-ghost use Rattle.std.specs.Prelude.{◌≡◌, IfOk, IfSome, IsTrue, None, option_map};
-ghost use Rattle.strm_mblk.specs.Arena.{has, held_at, token_of};
-ghost use Rattle.strm_mblk.specs.Frame.{LeavesOthers, head_answered, heads_answered};
-ghost use Rattle.strm_mblk.specs.Given.{value_after, answer_map, answer_of};
+ghost use Rattle.std.specs.Prelude.{None};
+ghost use Rattle.strm_mblk.specs.Calls.{Takes, TakesAny};
 ghost use Rattle.strm_queue.specs.QueueCalls as model;
-ghost use Rattle.strm_queue.specs.QueuedBlocks.{Agrees, together};
+ghost use Rattle.strm_queue.specs.QueuedBlocks.{Agrees, together, arena};
 
 use super::Queues;
 use super::places::head_at;
@@ -20,16 +18,10 @@ impl Queues {
     /// Where the queue is empty, it gives nothing and sets the want-to-read mark: somebody wants to read from it.
     ///
     /// Refused as `NoSuchQueue` where there is no such queue; nothing changes then.
-    #[tactic(auto, using(crate::proofs::moving::Others::others_same))]
+    #[tactic(auto, using(strm_mblk::proofs::arena::Calls::takes_any_none))]
     pub fn getq(&mut self, blocks: &mut Blocks, queue: u8) -> Result<Option<Token>, Refusal>
         requires { Agrees self.old blocks.old }
-        ensures after { together self.new blocks.new ≡ value_after (together self.old blocks.old) (model.getq queue (together self.old blocks.old)) }
-        ensures token { result ≡ answer_map (option_map (token_of blocks.new)) (answer_of (model.getq queue (together self.old blocks.old))) }
-        // The token is of these blocks, and no held message had its head.
-        ensures had { IfOk result (λ given. IfSome given (λ token. IsTrue (has blocks.new token))) }
-        ensures unheld { IfOk result (λ given. IfSome given (λ token. held_at blocks.old token.head ≡ None)) }
-        // All other held messages are as they were.
-        ensures others { LeavesOthers (heads_answered result) blocks.old blocks.new }
+        ensures does { TakesAny arena (model.getq queue (together self.old blocks.old)) (together self.old blocks.old) (together self.new blocks.new) result }
         ensures agrees { Agrees self.new blocks.new }
     {
         blocks.lawful();
@@ -53,16 +45,10 @@ impl Queues {
     ///
     /// Refused as `NoSuchQueue` where there is no such queue, then as `NoSuchPlace` where it has no such message; nothing
     /// changes then.
-    #[tactic(auto, using(crate::proofs::moving::Others::others_same))]
+    #[tactic(auto, using(strm_mblk::proofs::arena::Calls::takes_none))]
     pub fn rmvq(&mut self, blocks: &mut Blocks, queue: u8, place: u32) -> Result<Token, Refusal>
         requires { Agrees self.old blocks.old }
-        ensures after { together self.new blocks.new ≡ value_after (together self.old blocks.old) (model.rmvq queue place (together self.old blocks.old)) }
-        ensures token { result ≡ answer_map (token_of blocks.new) (answer_of (model.rmvq queue place (together self.old blocks.old))) }
-        // The token is of these blocks, and no held message had its head.
-        ensures had { IfOk result (λ token. IsTrue (has blocks.new token)) }
-        ensures unheld { IfOk result (λ token. held_at blocks.old token.head ≡ None) }
-        // All other held messages are as they were.
-        ensures others { LeavesOthers (head_answered result) blocks.old blocks.new }
+        ensures does { Takes arena (model.rmvq queue place (together self.old blocks.old)) (together self.old blocks.old) (together self.new blocks.new) result }
         ensures agrees { Agrees self.new blocks.new }
     {
         blocks.lawful();

@@ -1,10 +1,11 @@
 //! The water marks of a band are given, and told.
 ghost use Rattle.std.specs.Prelude.{◌≡◌, ◌<◌, length};
 ghost use Rattle.strm_mblk.specs.Arena.{Arena};
-ghost use Rattle.strm_mblk.specs.Given.{answer_of, value_after};
+ghost use Rattle.strm_mblk.specs.Given.{answer_of};
+ghost use Rattle.strm_mblk.specs.Calls.{LeavesBlocks};
 ghost use Rattle.strm_queue.specs.Flow.{with_marks};
 ghost use Rattle.strm_queue.specs.QueueCalls as model;
-ghost use Rattle.strm_queue.specs.QueuedBlocks.{Agrees, together};
+ghost use Rattle.strm_queue.specs.QueuedBlocks.{Agrees, together, arena};
 
 use super::Queues;
 use crate::marks::Marks;
@@ -24,6 +25,7 @@ impl Queues {
     ///
     /// Refused as `NoSuchQueue` where there is no such queue, then as `BadMarks` where `lowat` is not below `hiwat`; nothing
     /// changes then.
+    #[tactic(auto, using(strm_mblk::proofs::arena::Calls::leaves_blocks))]
     pub fn strqset(
         &mut self,
         blocks: &Blocks,
@@ -33,8 +35,7 @@ impl Queues {
         lowat: u32,
     ) -> Result<(), Refusal>
         requires { Agrees self.old blocks.now }
-        ensures after { together self.new blocks.now ≡ value_after (together self.old blocks.now) (model.strqset queue band hiwat lowat (together self.old blocks.now)) }
-        ensures answer { result ≡ answer_of (model.strqset queue band hiwat lowat (together self.old blocks.now)) }
+        ensures does { LeavesBlocks arena (model.strqset queue band hiwat lowat (together self.old blocks.now)) (together self.old blocks.now) (together self.new blocks.now) result }
         ensures agrees { Agrees self.new blocks.now }
     {
         if !self.has_queue(queue) {

@@ -1,17 +1,17 @@
 //! Messages are put on queues.
-ghost use Rattle.std.specs.Prelude.{◌≡◌, ◌<◌, [], ◌∷◌, IsTrue, MatchResult, None, length};
+ghost use Rattle.std.specs.Prelude.{◌≡◌, ◌<◌, [], ◌∷◌, IsTrue, None, length};
 ghost use Rattle.std.specs.Option.{ForSome};
 ghost use Rattle.strm_mblk.specs.Arena.{has, held_at, message_at, shelf_at};
 ghost use Rattle.strm_mblk.specs.Block.{head_of};
 ghost use Rattle.strm_mblk.specs.BlockCalls.{banded};
 ghost use Rattle.strm_mblk.specs.Frame.{LeavesOthers};
-ghost use Rattle.strm_mblk.specs.Given.{value_after, answer_of, or_rejected};
 ghost use Rattle.strm_mblk.specs.Messages.{put_before_head};
 ghost use Rattle.strm_mblk.specs.Shelves.{stands_on};
+ghost use Rattle.strm_mblk.specs.Calls.{Puts};
 ghost use Rattle.strm_queue.specs.Flow.{enabled_where};
 ghost use Rattle.strm_queue.specs.Limits.{high_rank, ranks};
 ghost use Rattle.strm_queue.specs.QueueCalls as model;
-ghost use Rattle.strm_queue.specs.QueuedBlocks.{Agrees, together};
+ghost use Rattle.strm_queue.specs.QueuedBlocks.{Agrees, together, arena};
 ghost use Rattle.strm_queue.specs.Rank.{as_queued, is_ordered, rank_of};
 
 use super::Queues;
@@ -56,15 +56,11 @@ impl Queues {
     /// off, and either somebody wants to read from the queue or the message is of a band above 0.
     ///
     /// Rejected as `NoSuchQueue` where there is no such queue; nothing changes then, and the token comes back.
-    #[tactic(auto, using(crate::proofs::moving::Others::others_same))]
+    #[tactic(auto, using(strm_mblk::proofs::arena::Calls::puts_none))]
     pub fn putq(&mut self, blocks: &mut Blocks, queue: u8, token: Token) -> Result<(), Rejected>
         requires agrees { Agrees self.old blocks.old }
         requires had { IsTrue (has blocks.old token) }
-        ensures after { together self.new blocks.new ≡ value_after (together self.old blocks.old) (model.putq queue token.head (together self.old blocks.old)) }
-        ensures answer { result ≡ or_rejected token (answer_of (model.putq queue token.head (together self.old blocks.old))) }
-        // A message that was put is held no more, one that is refused still is, and all others are as they were.
-        ensures gone { MatchResult result (λ done. held_at blocks.new token.head ≡ None) (λ rejected. IsTrue (has blocks.new token)) }
-        ensures others { LeavesOthers (token.head ∷ []) blocks.old blocks.new }
+        ensures does { Puts arena token (model.putq queue token.head (together self.old blocks.old)) (together self.old blocks.old) (together self.new blocks.new) result }
         ensures agrees { Agrees self.new blocks.new }
     {
         if !self.has_queue(queue) {
@@ -85,15 +81,11 @@ impl Queues {
     /// off and somebody wants to read from the queue. The band of the message does not count.
     ///
     /// Rejected as `NoSuchQueue` where there is no such queue; nothing changes then, and the token comes back.
-    #[tactic(auto, using(crate::proofs::moving::Others::others_same))]
+    #[tactic(auto, using(strm_mblk::proofs::arena::Calls::puts_none))]
     pub fn putbq(&mut self, blocks: &mut Blocks, queue: u8, token: Token) -> Result<(), Rejected>
         requires agrees { Agrees self.old blocks.old }
         requires had { IsTrue (has blocks.old token) }
-        ensures after { together self.new blocks.new ≡ value_after (together self.old blocks.old) (model.putbq queue token.head (together self.old blocks.old)) }
-        ensures answer { result ≡ or_rejected token (answer_of (model.putbq queue token.head (together self.old blocks.old))) }
-        // A message that was put is held no more, one that is refused still is, and all others are as they were.
-        ensures gone { MatchResult result (λ done. held_at blocks.new token.head ≡ None) (λ rejected. IsTrue (has blocks.new token)) }
-        ensures others { LeavesOthers (token.head ∷ []) blocks.old blocks.new }
+        ensures does { Puts arena token (model.putbq queue token.head (together self.old blocks.old)) (together self.old blocks.old) (together self.new blocks.new) result }
         ensures agrees { Agrees self.new blocks.new }
     {
         if !self.has_queue(queue) {
@@ -116,7 +108,7 @@ impl Queues {
     ///
     /// Rejected as `NoSuchQueue` where there is no such queue, then as `NoSuchPlace` where it has fewer messages, then as
     /// `BadOrder` where ranks would rise from front to back; nothing changes then, and the token comes back.
-    #[tactic(auto, using(crate::proofs::moving::Others::others_same))]
+    #[tactic(auto, using(strm_mblk::proofs::arena::Calls::puts_none))]
     pub fn insq(
         &mut self,
         blocks: &mut Blocks,
@@ -126,11 +118,7 @@ impl Queues {
     ) -> Result<(), Rejected>
         requires agrees { Agrees self.old blocks.old }
         requires had { IsTrue (has blocks.old token) }
-        ensures after { together self.new blocks.new ≡ value_after (together self.old blocks.old) (model.insq queue place token.head (together self.old blocks.old)) }
-        ensures answer { result ≡ or_rejected token (answer_of (model.insq queue place token.head (together self.old blocks.old))) }
-        // A message that was put is held no more, one that is refused still is, and all others are as they were.
-        ensures gone { MatchResult result (λ done. held_at blocks.new token.head ≡ None) (λ rejected. IsTrue (has blocks.new token)) }
-        ensures others { LeavesOthers (token.head ∷ []) blocks.old blocks.new }
+        ensures does { Puts arena token (model.insq queue place token.head (together self.old blocks.old)) (together self.old blocks.old) (together self.new blocks.new) result }
         ensures agrees { Agrees self.new blocks.new }
     {
         blocks.lawful();

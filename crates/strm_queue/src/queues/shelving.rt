@@ -1,13 +1,14 @@
 //! Messages join a queue and leave it, and what is stored of the queue stays true.
-ghost use Rattle.std.specs.Prelude.{◌≡◌, ◌<◌, [], ◌∷◌, IsTrue, None, length};
+ghost use Rattle.std.specs.Prelude.{Ok, ◌≡◌, ◌<◌, [], ◌∷◌, IsTrue, None, length};
 ghost use Rattle.std.specs.Option.{ForSome};
-ghost use Rattle.strm_mblk.specs.Arena.{has, held_at, message_at, shelf_at, token_of, with_shelf, without_held};
+ghost use Rattle.strm_mblk.specs.Arena.{has, held_at, message_at, shelf_at, with_shelf, without_held};
 ghost use Rattle.strm_mblk.specs.Block.{head_of};
 ghost use Rattle.strm_mblk.specs.BlockCalls.{banded};
 ghost use Rattle.strm_mblk.specs.Frame.{LeavesOthers};
 ghost use Rattle.strm_mblk.specs.Messages.{put_before_head};
 ghost use Rattle.strm_mblk.specs.Shelves as model;
 ghost use Rattle.strm_mblk.specs.Shelves.{stands_on};
+ghost use Rattle.strm_mblk.specs.Calls.{Takes, itself};
 ghost use Rattle.strm_queue.specs.Limits.{high_rank, ranks};
 ghost use Rattle.strm_queue.specs.QueuedBlocks.{AreInOrder};
 ghost use Rattle.strm_queue.specs.Rank.{as_queued, is_ordered, rank_of};
@@ -65,11 +66,7 @@ impl Queues {
         requires queue { queue < length self.old.state.specs }
         requires in_order { AreInOrder self.old blocks.old }
         requires there { IsTrue (stands_on blocks.old queue head) }
-        ensures after { blocks.new ≡ model.unshelve queue head blocks.old }
-        ensures token { result ≡ token_of blocks.new head }
-        ensures had { IsTrue (has blocks.new result) }
-        ensures unheld { held_at blocks.old head ≡ None }
-        ensures others { LeavesOthers (result.head ∷ []) blocks.old blocks.new }
+        ensures takes { Takes itself (Ok (head, model.unshelve queue head blocks.old)) blocks.old blocks.new (Ok result) }
         ensures state { self.new.state ≡ self.old.state }
         ensures in_order { AreInOrder self.new blocks.new }
     {

@@ -10,5 +10,5 @@ returns-in-Ok-Some c =
     let given = rw c.in-Ok-Some.field-0-is at c.in-Ok-Some.ensures.token in
     let had = rw c.in-Ok-Some.field-0-is at c.in-Ok-Some.ensures.had in
     let unheld = rw c.in-Ok-Some.field-0-is at c.in-Ok-Some.ensures.unheld in
-    handed c.args.from c.args.to c.requires.apart v x t (got v x c.args.from c.requires.behind c.in-Ok-Some.ensures.pool t given) unheld had c.place.new.pool c.place.ensures.rest
+    handed c.args.from c.args.to c.requires.apart v x t (got v x c.args.from c.requires.behind c.in-Ok-Some.ensures.after t given) unheld had c.place.new.pool c.place.ensures.rest
     (within v c.args.from _ c.requires.behind c.lawful.ensures.shelves) (c.lawful.ensures.ordered c.args.from) c.place.result c.place.ensures.leave c.place.ensures.messages

@@ -14,12 +14,12 @@ returns-clause-messages c =
     elim c.if-goes.branch [
       | then-goes w ↦
           ap (λ (p : PoolValue). p.arena) w.pool-is
-          ∙ put_leaves asked _ c.args.to h (there_still c.args.pool.now asked c.args.to c.may_go-goes.ensures.rest c.requires.ahead) w.putq-put.ensures.pool
+          ∙ put_leaves asked _ c.args.to h (there_still c.args.pool.now asked c.args.to c.may_go-goes.ensures.rest c.requires.ahead) w.putq-put.ensures.after
           ∙ ap (λ (a : Arena). with_put c.args.to (message_at a h) (without_held h a)) c.may_go-goes.ensures.arena
           ∙ ap (λ goes. placed c.args.from c.args.to h goes c.args.pool.now.arena) (sym w.if-goes.true)
       | else-goes w ↦
           ap (λ (p : PoolValue). p.arena) w.pool-is
-          ∙ put_back_leaves asked _ c.args.from h (there_still c.args.pool.now asked c.args.from c.may_go-goes.ensures.rest c.requires.behind) w.putbq-put.ensures.pool
+          ∙ put_back_leaves asked _ c.args.from h (there_still c.args.pool.now asked c.args.from c.may_go-goes.ensures.rest c.requires.behind) w.putbq-put.ensures.after
           ∙ ap (λ (a : Arena). with_put_back c.args.from (message_at a h) (without_held h a)) c.may_go-goes.ensures.arena
           ∙ ap (λ goes. placed c.args.from c.args.to h goes c.args.pool.now.arena) (sym w.if-goes.false)
     ]

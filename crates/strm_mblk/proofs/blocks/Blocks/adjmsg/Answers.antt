@@ -1,20 +1,23 @@
-use Rattle.std.proofs.Common.{◌≡◌, Bool, ◌+◌, ◌-◌, ◌<◌, ◌≤◌, ◌^◌, ℕ, length, ap, subst, sym, ◌∙◌, arith, true, List, w32, [], ◌∷◌}
+use Rattle.std.proofs.Common.{refl, ◌≡◌, Bool, ◌+◌, ◌-◌, ◌<◌, ◌≤◌, ◌^◌, ℕ, length, ap, subst, sym, ◌∙◌, arith, true, List, w32}
+use Rattle.std.proofs.lemmas.Grind.{common_steps}
 use Rattle.std.specs.Prelude.{drop, unsigned_abs}
 use Rattle.std.specs.Int.{is_negative}
 use Rattle.std.specs.Vec.{with_items}
 use Rattle.std.proofs.lemmas.Int.{to_z-of_z}
 use Rattle.std.proofs.lemmas.List.{with_items_is}
 use Rattle.strm_mblk.specs.declared.blocks.Fields.{Fields}
+use Rattle.strm_data.specs.declared.refusal.Refusal.TheVariants.{Short}
 use Rattle.strm_mblk.specs.Arena.{Arena, has, shelved_blocks}
 use Rattle.strm_mblk.specs.Block.{size_of}
-use Rattle.strm_mblk.specs.BlocksLayout.{arena_of, fields_at, message_of}
+use Rattle.strm_mblk.specs.BlocksLayout.{fields_at, message_of}
 use Rattle.strm_mblk.specs.Cutting.{IsRun, with_bytes_cut}
-use Rattle.strm_mblk.specs.Given.{value_after}
 use Rattle.strm_mblk.specs.NodeLists.{nodes_at}
 use Rattle.strm_mblk.proofs.layout.Places.{block_some}
 use Rattle.strm_mblk.proofs.trimming.Adjmsg.{IsAdjusted, ahead, ends_small, run_adjusts}
 use Rattle.strm_mblk.proofs.reading.Summing.{nodes_small}
-use Rattle.strm_mblk.proofs.arena.Frame.{Leaves, leaves_adjmsg}
+use Rattle.strm_mblk.proofs.arena.Frame.{leaves_adjmsg}
+use Rattle.strm_mblk.proofs.arena.Calls.{alters_kept}
+use Rattle.strm_mblk.proofs.arena.Calls.{alters_none}
 use Rattle.strm_mblk.proofs.blocks.Blocks.adjmsg.Goals.{After-cut, After-self-1}
 use Rattle.strm_mblk.proofs.blocks.Blocks.adjmsg.Goals as goal
 
@@ -85,18 +88,10 @@ invariant_of-self c =
     let is = is_adjusted (goal.at.invariant_of-self c).After-cut in
     record { filled = is.filled; queued = c.self.invariant.queued ∙ ap (λ a. length (shelved_blocks a)) c.self.view_is ∙ ap length (sym is.shelved) }
 
-pub returns-clause-after : goal.returns-clause-after
-returns-clause-after c = sym (ap (value_after c.args.self.now) (is_adjusted (goal.at.returns-clause-after c).After-cut).done)
+pub returns-then-run-bytes : goal.returns-then-run-bytes
+returns-then-run-bytes c = alters_none c.args.self.now _ c.args.token.now _ Short (grind (arith, common_steps)) refl c.requires
 
-pub returns-clause-had : goal.returns-clause-had
-returns-clause-had c = (is_adjusted (goal.at.returns-clause-had c).After-cut).had
-
-left : (c : After-self-1) → Leaves (c.args.token.now.head ∷ []) c.args.self.now (arena_of c.self.inside.id c.self.inside.data.store (with_items c.self.inside.blocks c.cut.new.blocks).items c.self.inside.chains)
-left c =
-    subst (Leaves (c.args.token.now.head ∷ []) c.args.self.now) (ap (value_after c.args.self.now) (is_adjusted (goal.at.returns-clause-others c).After-cut).done) (leaves_adjmsg c.args.self.now c.args.token.now.head c.args.count)
-
-pub returns-clause-others : goal.returns-clause-others
-returns-clause-others c = (left c).others
-
-pub returns-clause-shelves : goal.returns-clause-shelves
-returns-clause-shelves c = (left c).shelves
+pub returns : goal.returns
+returns c =
+    let is = is_adjusted (goal.at.returns c).After-cut in
+    alters_kept c.args.self.now _ c.args.token.now _ is.done is.had (leaves_adjmsg c.args.self.now c.args.token.now.head c.args.count)

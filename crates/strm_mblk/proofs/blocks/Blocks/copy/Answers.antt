@@ -1,4 +1,4 @@
-use Rattle.std.proofs.Common.{[], ◌∷◌, ◌≡◌, ℕ, ◌+◌, ◌≤◌, List, true, length, ap, subst, sym, ◌∙◌, Ok, arith, Err, ◌<◌}
+use Rattle.std.proofs.Common.{refl, Some, ◌≡◌, ℕ, ◌+◌, ◌≤◌, List, true, length, ap, subst, sym, ◌∙◌, arith, Err, ◌<◌}
 use Rattle.std.specs.Prelude.{is_some, take}
 use Rattle.std.specs.Result.{is_ok}
 use Rattle.std.specs.Vec.{with_items}
@@ -6,18 +6,16 @@ use Rattle.std.proofs.lemmas.List.{with_items_is}
 use Rattle.strm_data.specs.DataStore.{times}
 use Rattle.strm_data.specs.declared.refusal.Refusal.TheVariants.{NoMblk}
 use Rattle.strm_mblk.specs.declared.blocks.Fields.{Fields}
-use Rattle.strm_mblk.specs.declared.token.TokenValue.{TokenValue}
-use Rattle.strm_mblk.specs.Arena.{Arena, has, held_at, shelved_blocks, token_of, message_at}
+use Rattle.strm_mblk.specs.Arena.{Arena, has, shelved_blocks, message_at}
 use Rattle.strm_mblk.specs.BlockCalls.{copies, copied}
 use Rattle.strm_mblk.specs.BlocksLayout.{arena_in, arena_of, message_of}
 use Rattle.strm_mblk.specs.Copying.{AreCopied}
-use Rattle.strm_mblk.specs.Given.{value_after, answer_map, answer_of}
 use Rattle.strm_mblk.specs.NodeLists.{nodes_at}
 use Rattle.strm_mblk.proofs.making.BegunBeside.{IsBeside, beside}
 use Rattle.strm_mblk.proofs.making.CopiedMessage.{IsCopied, copied_all}
 use Rattle.strm_mblk.proofs.arena.Heads.{few_free_copied, of_blocks, taken_many}
-use Rattle.strm_mblk.proofs.arena.Tokens.{token_had}
-use Rattle.strm_mblk.proofs.arena.Frame.{Leaves, leaves_copied, leaves_given}
+use Rattle.strm_mblk.proofs.arena.Frame.{leaves_copied}
+use Rattle.strm_mblk.proofs.arena.Calls.{gives, gives_none}
 use Rattle.strm_mblk.proofs.layout.Lawful.{parted_inside}
 use Rattle.strm_mblk.proofs.blocks.Blocks.copy.Goals.{After-begin_all-head, After-copy_blocks, After-free_len, After-token}
 use Rattle.strm_mblk.proofs.blocks.Blocks.copy.Goals as goal
@@ -80,37 +78,12 @@ invariant_of-self c =
 pub token-requires : goal.token-requires
 token-requires c = ap is_some (is_copied (goal.at.token-requires c).After-copy_blocks).begun.held
 
-pub returns-clause-after : goal.returns-clause-after
-returns-clause-after c = sym (ap (value_after c.args.self.now) (is_copied (goal.at.returns-clause-after c).After-copy_blocks).done)
-
-pub returns-clause-token : goal.returns-clause-token
-returns-clause-token c =
-    let at = (goal.at.returns-clause-token c).After-copy_blocks in
-    ap (λ (t : TokenValue). Ok t) c.token.ensures ∙ ap (answer_map (token_of (now at))) (sym (ap answer_of (is_copied at).done))
-
-pub returns-clause-had : goal.returns-clause-had
-returns-clause-had c =
-    let at = (goal.at.returns-clause-had c).After-copy_blocks in
-    ap (has (now at)) c.token.ensures ∙ token_had (now at) c.begin_all-head.result _ (is_copied at).begun.held
-
-pub returns-clause-unheld : goal.returns-clause-unheld
-returns-clause-unheld c =
-    ap (λ (t : TokenValue). held_at c.args.self.now t.head) c.token.ensures ∙ (is_copied (goal.at.returns-clause-unheld c).After-copy_blocks).begun.absent
-
-pub returns-clause-source : goal.returns-clause-source
-returns-clause-source c = (is_copied (goal.at.returns-clause-source c).After-copy_blocks).source
-
-left : (c : After-token) → Leaves (c.token.result.head ∷ []) c.args.self.now (now (goal.at.returns-clause-others c).After-copy_blocks)
-left c =
-    let at = (goal.at.returns-clause-others c).After-copy_blocks in
+pub returns : goal.returns
+returns c =
+    let at = (goal.at.returns c).After-copy_blocks in
+    let is = is_copied at in
     let parted = parted_inside c.self.inside c.self.invariant c.args.self.now c.self.view_is in
-    leaves_given c.args.self.now (now at) c.token.result c.begin_all-head.result _ (leaves_copied c.args.self.now parted _) (is_copied at).done c.token.ensures
-
-pub returns-clause-others : goal.returns-clause-others
-returns-clause-others c = (left c).others
-
-pub returns-clause-shelves : goal.returns-clause-shelves
-returns-clause-shelves c = (left c).shelves
+    gives c.args.self.now (now at) (Some c.args.token.now) _ c.token.result c.begin_all-head.result _ is.done c.token.ensures is.begun.held is.begun.absent is.source (leaves_copied c.args.self.now parted _)
 
 -- ---- too few message blocks are free
 
@@ -120,10 +93,6 @@ few_free c few =
     few_free_copied c.args.self.now (take c.args.count (message_at c.args.self.now c.args.token.now.head))
     (omega (arith, few, c.free_len.ensures, ap (λ (a : Arena). length a.free) c.self.view_is, taken_many c.args.self.now parted c.args.token.now c.requires.had c.args.count c.requires.count))
 
-pub returns-then-free_len-count-clause-after : goal.returns-then-free_len-count-clause-after
-returns-then-free_len-count-clause-after c =
-    sym (ap (value_after c.args.self.now) (few_free (goal.at.returns-then-free_len-count-clause-after c).After-free_len c.if-free_len-count.true))
-
-pub returns-then-free_len-count-clause-token : goal.returns-then-free_len-count-clause-token
-returns-then-free_len-count-clause-token c =
-    sym (ap (λ r. answer_map (token_of c.args.self.now) (answer_of r)) (few_free (goal.at.returns-then-free_len-count-clause-token c).After-free_len c.if-free_len-count.true))
+pub returns-then-free_len-count : goal.returns-then-free_len-count
+returns-then-free_len-count c =
+    gives_none c.args.self.now _ (Some c.args.token.now) _ NoMblk (few_free (goal.at.returns-then-free_len-count c).After-free_len c.if-free_len-count.true) refl c.requires.had

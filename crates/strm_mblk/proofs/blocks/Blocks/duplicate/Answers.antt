@@ -1,4 +1,4 @@
-use Rattle.std.proofs.Common.{[], ◌∷◌, ◌≡◌, ℕ, ◌+◌, ◌<◌, ◌≤◌, true, false, not, Bool, List, length, ap, refl, subst, sym, ◌∙◌, Ok, Err, map, take, arith}
+use Rattle.std.proofs.Common.{Some, ◌≡◌, ℕ, ◌+◌, ◌<◌, ◌≤◌, true, false, not, Bool, List, length, ap, refl, subst, sym, ◌∙◌, Err, map, take, arith}
 use Rattle.std.specs.Prelude.{is_some, take}
 use Rattle.strm_data.specs.CountedStore.{CountedStore, count_of}
 use Rattle.strm_data.specs.DataStore.{times}
@@ -6,17 +6,15 @@ use Rattle.strm_data.specs.declared.refusal.Refusal.TheVariants.{RefMax, NoMblk}
 use Rattle.std.specs.Vec.{with_items}
 use Rattle.std.proofs.lemmas.List.{with_items_is}
 use Rattle.strm_mblk.specs.declared.blocks.Fields.{Fields}
-use Rattle.strm_mblk.specs.declared.token.TokenValue.{TokenValue}
-use Rattle.strm_mblk.specs.Arena.{Arena, has, held_at, message_at, shelved_blocks, token_of}
+use Rattle.strm_mblk.specs.Arena.{Arena, has, message_at, shelved_blocks}
 use Rattle.strm_mblk.specs.BlockCalls.{duplicated}
 use Rattle.strm_mblk.specs.BlocksLayout.{arena_in, arena_of, exceeds_counts, fields_at, named_by, with_fields, with_names_given}
-use Rattle.strm_mblk.specs.Given.{value_after, answer_map, answer_of}
 use Rattle.strm_mblk.specs.NodeLists.{nodes_at}
 use Rattle.strm_mblk.proofs.making.BegunBeside.{IsBeside, beside}
 use Rattle.strm_mblk.proofs.making.Duplicated.{IsDuplicated, duplicates, refused, used}
 use Rattle.strm_mblk.proofs.arena.Heads.{few_free_duplicated, of_blocks, taken_many}
-use Rattle.strm_mblk.proofs.arena.Tokens.{token_had}
-use Rattle.strm_mblk.proofs.arena.Frame.{Leaves, leaves_duplicated, leaves_given}
+use Rattle.strm_mblk.proofs.arena.Frame.{leaves_duplicated}
+use Rattle.strm_mblk.proofs.arena.Calls.{gives, gives_none}
 use Rattle.strm_mblk.proofs.layout.Lawful.{parted_inside}
 use Rattle.strm_mblk.proofs.blocks.Blocks.duplicate.Goals.{After-copy_fields, After-deref, After-deref_mut, After-free_len, After-token, Then-not-give_names}
 use Rattle.strm_mblk.proofs.blocks.Blocks.duplicate.Goals as goal
@@ -48,20 +46,17 @@ given_by false is = refl
 
 too_many : (c : Then-not-give_names) → duplicated (take c.args.count (message_at c.args.self.now c.args.token.now.head)) c.args.self.now ≡ Err RefMax
 too_many c =
-    let at = (goal.at.returns-then-not-give_names-clause-after c).After-deref in
+    let at = (goal.at.returns-then-not-give_names c).After-deref in
     subst (λ a. duplicated (take c.args.count (message_at a c.args.token.now.head)) a ≡ Err RefMax) c.self.view_is
     (refused c.self.inside.id c.self.inside.data c.self.inside.blocks.items c.self.inside.chains c.self.invariant.filled c.args.token.now (had at) c.args.count (of_blocks c.args.self.now (parted_inside c.self.inside c.self.invariant c.args.self.now c.self.view_is) c.args.token.now c.requires.had c.args.count c.requires.count).0 (of_blocks c.args.self.now (parted_inside c.self.inside c.self.invariant c.args.self.now c.self.view_is) c.args.token.now c.requires.had c.args.count c.requires.count).1
     (omega (arith, c.if-free_len-count.false, c.free_len.ensures))
     (refused_by _ (c.if-not-give_names.ensures.answer ∙ ap (λ ds. not (exceeds_counts (take c.args.count ds) c.self.inside.data)) (named_is at))))
 
-pub returns-then-not-give_names-clause-after : goal.returns-then-not-give_names-clause-after
-returns-then-not-give_names-clause-after c =
-    ap (λ (st : CountedStore). arena_of c.self.inside.id st.store c.self.inside.blocks.items c.self.inside.chains) c.if-not-give_names.ensures.after
-    ∙ c.self.view_is ∙ sym (ap (value_after c.args.self.now) (too_many c))
-
-pub returns-then-not-give_names-clause-token : goal.returns-then-not-give_names-clause-token
-returns-then-not-give_names-clause-token c =
-    sym (ap (λ g. answer_map (token_of (arena_of c.self.inside.id c.give_names.new.stored.store c.self.inside.blocks.items c.self.inside.chains)) (answer_of g)) (too_many c))
+pub returns-then-not-give_names : goal.returns-then-not-give_names
+returns-then-not-give_names c =
+    gives_none c.args.self.now _ (Some c.args.token.now) _ RefMax (too_many c)
+    (ap (λ (st : CountedStore). arena_of c.self.inside.id st.store c.self.inside.blocks.items c.self.inside.chains) c.if-not-give_names.ensures.after ∙ c.self.view_is)
+    c.requires.had
 
 is_beside : (c : After-deref_mut) → IsBeside c.self.inside.chains c.begin_all-head.new.self c.args.token.now.head c.begin_all-head.result c.args.count
 is_beside c =
@@ -113,37 +108,12 @@ invariant_of-self-2 c =
 pub token-requires : goal.token-requires
 token-requires c = ap is_some (is_duplicated (goal.at.token-requires c).After-copy_fields).begun.held
 
-pub returns-clause-after : goal.returns-clause-after
-returns-clause-after c = sym (ap (value_after c.args.self.now) (is_duplicated (goal.at.returns-clause-after c).After-copy_fields).done)
-
-pub returns-clause-token : goal.returns-clause-token
-returns-clause-token c =
-    let at = (goal.at.returns-clause-token c).After-copy_fields in
-    ap (λ (t : TokenValue). Ok t) c.token.ensures ∙ ap (answer_map (token_of (now at))) (sym (ap answer_of (is_duplicated at).done))
-
-pub returns-clause-had : goal.returns-clause-had
-returns-clause-had c =
-    let at = (goal.at.returns-clause-had c).After-copy_fields in
-    ap (has (now at)) c.token.ensures ∙ token_had (now at) c.begin_all-head.result _ (is_duplicated at).begun.held
-
-pub returns-clause-unheld : goal.returns-clause-unheld
-returns-clause-unheld c =
-    ap (λ (t : TokenValue). held_at c.args.self.now t.head) c.token.ensures ∙ (is_duplicated (goal.at.returns-clause-unheld c).After-copy_fields).begun.absent
-
-pub returns-clause-source : goal.returns-clause-source
-returns-clause-source c = (is_duplicated (goal.at.returns-clause-source c).After-copy_fields).source
-
-left : (c : After-token) → Leaves (c.token.result.head ∷ []) c.args.self.now (now (goal.at.returns-clause-others c).After-copy_fields)
-left c =
-    let at = (goal.at.returns-clause-others c).After-copy_fields in
+pub returns : goal.returns
+returns c =
+    let at = (goal.at.returns c).After-copy_fields in
+    let is = is_duplicated at in
     let parted = parted_inside c.self.inside c.self.invariant c.args.self.now c.self.view_is in
-    leaves_given c.args.self.now (now at) c.token.result c.begin_all-head.result _ (leaves_duplicated c.args.self.now parted _) (is_duplicated at).done c.token.ensures
-
-pub returns-clause-others : goal.returns-clause-others
-returns-clause-others c = (left c).others
-
-pub returns-clause-shelves : goal.returns-clause-shelves
-returns-clause-shelves c = (left c).shelves
+    gives c.args.self.now (now at) (Some c.args.token.now) _ c.token.result c.begin_all-head.result _ is.done c.token.ensures is.begun.held is.begun.absent is.source (leaves_duplicated c.args.self.now parted _)
 
 -- ---- too few message blocks are free
 
@@ -153,10 +123,6 @@ few_free c few =
     few_free_duplicated c.args.self.now (take c.args.count (message_at c.args.self.now c.args.token.now.head))
     (omega (arith, few, c.free_len.ensures, ap (λ (a : Arena). length a.free) c.self.view_is, taken_many c.args.self.now parted c.args.token.now c.requires.had c.args.count c.requires.count))
 
-pub returns-then-free_len-count-clause-after : goal.returns-then-free_len-count-clause-after
-returns-then-free_len-count-clause-after c =
-    sym (ap (value_after c.args.self.now) (few_free (goal.at.returns-then-free_len-count-clause-after c).After-free_len c.if-free_len-count.true))
-
-pub returns-then-free_len-count-clause-token : goal.returns-then-free_len-count-clause-token
-returns-then-free_len-count-clause-token c =
-    sym (ap (λ r. answer_map (token_of c.args.self.now) (answer_of r)) (few_free (goal.at.returns-then-free_len-count-clause-token c).After-free_len c.if-free_len-count.true))
+pub returns-then-free_len-count : goal.returns-then-free_len-count
+returns-then-free_len-count c =
+    gives_none c.args.self.now _ (Some c.args.token.now) _ NoMblk (few_free (goal.at.returns-then-free_len-count c).After-free_len c.if-free_len-count.true) refl c.requires.had

@@ -3,7 +3,7 @@ use Rattle.std.specs.Prelude.{take}
 use Rattle.strm_data.specs.CountedStore.{count_of}
 use Rattle.strm_data.specs.DataStore.{times}
 use Rattle.strm_mblk.specs.declared.blocks.Fields.{Fields}
-use Rattle.strm_mblk.specs.Arena.{shelved_blocks}
+use Rattle.strm_mblk.specs.Arena.{held_at, shelved_blocks}
 use Rattle.strm_mblk.specs.BlocksLayout.{arena_of, named_by, with_names_dropped}
 use Rattle.strm_mblk.specs.Freeing.{freemsg, spent}
 use Rattle.strm_mblk.specs.Messages.{held_in}
@@ -11,7 +11,7 @@ use Rattle.strm_mblk.specs.NodeLists.{nodes_at}
 use Rattle.strm_mblk.proofs.arena.Tokens.{spent_had}
 use Rattle.strm_mblk.proofs.layout.Places.{token_held, token_named}
 use Rattle.strm_mblk.proofs.freeing.Freemsg.{IsFreed, enough, frees}
-use Rattle.strm_mblk.proofs.arena.Frame.{Leaves, leaves_spent}
+use Rattle.strm_mblk.proofs.arena.Frame.{Leaves, leaves_spent, spent_gone}
 use Rattle.strm_mblk.proofs.blocks.Blocks.freemsg.Goals.{After-free, After-spend-token}
 use Rattle.strm_mblk.proofs.blocks.Blocks.freemsg.Goals as goal
 
@@ -53,14 +53,12 @@ invariant_of-self c =
 freed_is : (c : After-free) → arena_of c.self.inside.id c.drop_names.new.stored.store c.self.inside.blocks.items c.free.new.self ≡ spent c.args.self.now c.args.token
 freed_is c = (is_freed c).after ∙ spent_had c.args.self.now c.args.token c.spend-token.result c.spend-token.ensures (sym c.has-has.ensures ∙ c.if-has.true)
 
-pub returns-then-has-clause-after : goal.returns-then-has-clause-after
-returns-then-has-clause-after c = freed_is c
-
-left : (c : After-free) → Leaves (c.args.token.head ∷ []) c.args.self.now (arena_of c.self.inside.id c.drop_names.new.stored.store c.self.inside.blocks.items c.free.new.self)
-left c = subst (Leaves (c.args.token.head ∷ []) c.args.self.now) (sym (freed_is c)) (leaves_spent c.args.self.now c.args.token)
-
-pub returns-then-has-clause-others : goal.returns-then-has-clause-others
-returns-then-has-clause-others c = (left c).others
-
-pub returns-then-has-clause-shelves : goal.returns-then-has-clause-shelves
-returns-then-has-clause-shelves c = (left c).shelves
+pub returns-then-has : goal.returns-then-has
+returns-then-has c =
+    let left = subst (Leaves (c.args.token.head ∷ []) c.args.self.now) (sym (freed_is c)) (leaves_spent c.args.self.now c.args.token) in
+    record {
+      after = freed_is c;
+      gone = λ had. ap (λ a. held_at a c.args.token.head) (freed_is c) ∙ spent_gone c.args.self.now c.args.token had;
+      others = left.others;
+      shelves = left.shelves;
+    }

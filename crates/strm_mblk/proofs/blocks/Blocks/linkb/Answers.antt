@@ -1,11 +1,11 @@
-use Rattle.std.proofs.Common.{◌≡◌, ◌≢◌, ℕ, length, ap, subst, sym, ◌∙◌, [], ◌∷◌}
+use Rattle.std.proofs.Common.{arith, ◌≡◌, ◌≢◌, ℕ, length, ap, subst, sym, ◌∙◌, [], ◌∷◌}
+use Rattle.std.proofs.lemmas.Grind.{common_steps}
 use Rattle.strm_mblk.specs.declared.token.TokenValue.{TokenValue}
-use Rattle.strm_mblk.specs.Arena.{shelved_blocks}
-use Rattle.strm_mblk.specs.BlocksLayout.{arena_of}
+use Rattle.strm_mblk.specs.Arena.{held_at, shelved_blocks}
 use Rattle.strm_mblk.specs.Messages.{joined}
 use Rattle.strm_mblk.specs.NodeLists.{NodeLists}
 use Rattle.strm_mblk.proofs.joining.Linkb.{IsJoined, joins}
-use Rattle.strm_mblk.proofs.arena.Frame.{Leaves, leaves_linkb}
+use Rattle.strm_mblk.proofs.arena.Frame.{Leaves, leaves_linkb, linkb_gone}
 use Rattle.strm_mblk.proofs.blocks.Blocks.linkb.Goals.{After-set_blocks}
 use Rattle.strm_mblk.proofs.blocks.Blocks.linkb.Goals as goal
 
@@ -24,15 +24,17 @@ invariant_of-self c =
     let is = is_joined c in
     record { filled = is.filled; queued = c.self.invariant.queued ∙ ap (λ a. length (shelved_blocks a)) c.self.view_is ∙ ap length (sym is.shelved) }
 
-pub returns-then-head-tail-clause-after : goal.returns-then-head-tail-clause-after
-returns-then-head-tail-clause-after c = (is_joined c).after
-
-left : (c : After-set_blocks) → Leaves (c.args.token.now.head ∷ c.args.tail.head ∷ []) c.args.self.now (arena_of c.self.inside.id c.self.inside.data.store c.self.inside.blocks.items c.join.new.self)
-left c =
-    subst (Leaves (c.args.token.now.head ∷ c.args.tail.head ∷ []) c.args.self.now) (sym (is_joined c).after) (leaves_linkb c.args.self.now c.args.token.now.head c.args.tail.head)
-
-pub returns-then-head-tail-clause-others : goal.returns-then-head-tail-clause-others
-returns-then-head-tail-clause-others c = (left c).others
-
-pub returns-then-head-tail-clause-shelves : goal.returns-then-head-tail-clause-shelves
-returns-then-head-tail-clause-shelves c = (left c).shelves
+pub returns-then-head-tail : goal.returns-then-head-tail
+returns-then-head-tail c =
+    let h = c.args.token.now.head in
+    let g = c.args.tail.head in
+    let after = (is_joined c).after in
+    let left = subst (Leaves (h ∷ g ∷ []) c.args.self.now) (sym after) (leaves_linkb c.args.self.now h g) in
+    record {
+      after = after;
+      token = grind (arith, common_steps);
+      had = grind (arith, common_steps);
+      gone = λ apart. ap (λ a. held_at a g) after ∙ linkb_gone c.args.self.now h g apart;
+      others = left.others;
+      shelves = left.shelves;
+    }

@@ -1,4 +1,4 @@
-use Rattle.std.proofs.Common.{rules, w32, ◌≡◌, ℕ, ◌-◌, ◌<◌, ◌≤◌, true, length, List, ◌∷◌, Some, Ok, Err, ap, sym, ◌∙◌, arith, [], subst}
+use Rattle.std.proofs.Common.{rules, w32, ◌≡◌, ℕ, ◌-◌, ◌<◌, ◌≤◌, true, length, List, ◌∷◌, Some, Ok, Err, ap, sym, ◌∙◌, arith, subst}
 use Rattle.std.specs.Prelude.{is_some, drop}
 use Rattle.std.proofs.lemmas.Int.{to_z-of_z}
 use Rattle.std.proofs.lemmas.List.{get_or_read, length-map}
@@ -6,20 +6,22 @@ use Rattle.strm_mblk.specs.declared.blocks.Fields.{Fields}
 use Rattle.strm_mblk.specs.Arena.{Arena, has, held_at, message_at, token_of}
 use Rattle.strm_mblk.specs.Block.{Block, size_of}
 use Rattle.strm_mblk.specs.BlocksLayout.{block_at, fields_at, message_of, no_fields}
+use Rattle.strm_mblk.specs.Calls.{Alters, itself}
 use Rattle.strm_mblk.specs.Given.{value_after, answer_of}
 use Rattle.strm_mblk.specs.Messages.{held_in}
 use Rattle.strm_mblk.specs.NodeLists.{nodes_at}
 use Rattle.strm_mblk.specs.Pulling.{drained, pull_front}
 use Rattle.strm_mblk.specs.Trimming.{bytes_asked, pullupmsg, run_of}
-use Rattle.strm_mblk.proofs.pulling.Pulled.{IsPulled, pull_front_answer, pull_front_refused, front_pulled_held, pull_had, pulls, run_most}
+use Rattle.strm_mblk.proofs.pulling.Pulled.{IsPulled, pull_front_answer, front_pulled_held, pull_had, pulls, run_most}
 use Rattle.strm_mblk.proofs.pulling.FrontPulled.{head_held}
 use Rattle.strm_mblk.proofs.layout.Rewriting.{held_nodes}
 use Rattle.strm_mblk.proofs.layout.Places.{IsHeldHead, seen_head}
 use Rattle.strm_mblk.proofs.layout.Shown.{message_at-seen}
 use Rattle.strm_mblk.proofs.arena.Tokens.{had_message, token_had}
 use Rattle.strm_mblk.proofs.joining.Unlinkb.{token_is}
-use Rattle.strm_mblk.proofs.arena.Frame.{Leaves, leaves_pullupmsg}
+use Rattle.strm_mblk.proofs.arena.Frame.{leaves_pullupmsg}
 use Rattle.strm_mblk.proofs.layout.Lawful.{parted_inside}
+use Rattle.strm_mblk.proofs.arena.Calls.{alters, alters_kept, alters_none, refused_is}
 use Rattle.strm_mblk.proofs.blocks.Blocks.pullupmsg.Goals.{After-from_residual, After-index, After-set_blocks}
 use Rattle.strm_mblk.proofs.blocks.Blocks.pullupmsg.Goals as goal
 
@@ -65,17 +67,12 @@ module _ (c : After-index) where
 
 -- ---- it is there already
 
-pub returns-then-wanted-len-clause-after : goal.returns-then-wanted-len-clause-after
-returns-then-wanted-len-clause-after c =
-    let d = (goal.at.returns-then-wanted-len-clause-after c).After-index in
-    ap (value_after c.args.self.now)
-    (sym (pull_had (h d) c.in-Some.wanted (b d) (bs d) c.args.self.now (held d) c.args.count (asked d) (enough d) (omega (arith, c.if-wanted-len.true, len_is d))))
-
-pub returns-then-wanted-len-clause-answer : goal.returns-then-wanted-len-clause-answer
-returns-then-wanted-len-clause-answer c =
-    let d = (goal.at.returns-then-wanted-len-clause-answer c).After-index in
-    ap answer_of
-    (sym (pull_had (h d) c.in-Some.wanted (b d) (bs d) c.args.self.now (held d) c.args.count (asked d) (enough d) (omega (arith, c.if-wanted-len.true, len_is d))))
+pub returns-then-wanted-len : goal.returns-then-wanted-len
+returns-then-wanted-len c =
+    let d = (goal.at.returns-then-wanted-len c).After-index in
+    let a = c.args.self.now in
+    let is = pull_had (h d) c.in-Some.wanted (b d) (bs d) a (held d) c.args.count (asked d) (enough d) (omega (arith, c.if-wanted-len.true, len_is d)) in
+    alters_kept a a c.args.token.now _ is c.requires (leaves_pullupmsg a (parted_inside c.self.inside c.self.invariant a c.self.view_is) (h d) c.args.count)
 
 -- ---- no data block is there
 
@@ -90,30 +87,19 @@ pull_front-requires-clause-enough c =
 refused : (c : After-from_residual) → c.from_residual.result ≡ Err c.in_err-pull_front.field-0.0
 refused c = search rules
 
-pub returns-in_err-pull_front-clause-answer : goal.returns-in_err-pull_front-clause-answer
-returns-in_err-pull_front-clause-answer c =
-    let d = (goal.at.returns-in_err-pull_front-clause-answer c).After-index in
-    refused (goal.at.returns-in_err-pull_front-clause-answer c).After-from_residual
-    ∙ sym c.in_err-pull_front.was ∙ c.pull_front.ensures.answer
-    ∙ pull_front_answer (h d) c.in-Some.wanted (b d) (bs d) c.args.self.now (held d) c.args.count (asked d) (enough d) (more d c.if-wanted-len.false)
-
-pub returns-in_err-pull_front-clause-after : goal.returns-in_err-pull_front-clause-after
-returns-in_err-pull_front-clause-after c =
-    let d = (goal.at.returns-in_err-pull_front-clause-after c).After-index in
-    c.pull_front.ensures.after
-    ∙ pull_front_refused (h d) c.in-Some.wanted (b d) (bs d) c.args.self.now (held d) c.args.count (asked d) (enough d) (more d c.if-wanted-len.false) c.in_err-pull_front.field-0.0
-    (sym c.pull_front.ensures.answer ∙ c.in_err-pull_front.was)
-
-left_refused : (c : After-from_residual) → Leaves (c.args.token.now.head ∷ []) c.args.self.now c.pull_front.new.self
-left_refused c =
-    subst (Leaves (c.args.token.now.head ∷ []) c.args.self.now) (sym (returns-in_err-pull_front-clause-after c))
-    (leaves_pullupmsg c.args.self.now (parted_inside c.self.inside c.self.invariant c.args.self.now c.self.view_is) c.args.token.now.head c.args.count)
-
-pub returns-in_err-pull_front-clause-others : goal.returns-in_err-pull_front-clause-others
-returns-in_err-pull_front-clause-others c = (left_refused c).others
-
-pub returns-in_err-pull_front-clause-shelves : goal.returns-in_err-pull_front-clause-shelves
-returns-in_err-pull_front-clause-shelves c = (left_refused c).shelves
+pub returns-in_err-pull_front : goal.returns-in_err-pull_front
+returns-in_err-pull_front c =
+    let d = (goal.at.returns-in_err-pull_front c).After-index in
+    let a = c.args.self.now in
+    let t = c.args.token.now in
+    let call = pullupmsg t.head c.args.count a in
+    let why = c.in_err-pull_front.field-0.0 in
+    let first = sym c.pull_front.ensures.answer ∙ c.in_err-pull_front.was in
+    let is =
+    refused_is call why
+    (sym (pull_front_answer (h d) c.in-Some.wanted (b d) (bs d) a (held d) c.args.count (asked d) (enough d) (more d c.if-wanted-len.false)) ∙ first) in
+    subst (Alters itself t t call a c.pull_front.new.self) (sym (refused (goal.at.returns-in_err-pull_front c).After-from_residual))
+    (alters_none a c.pull_front.new.self t call why is (c.pull_front.ensures.after ∙ ap (value_after a) (refused_is (pull_front t.head c.in-Some.wanted a) why first)) c.requires)
 
 -- ---- the first block takes a data block, and the others lose the bytes
 
@@ -146,7 +132,7 @@ len-requires c =
 module _ (c : After-set_blocks) where
   done : IsPulled c.args.token.now.head c.in-Some.wanted c.args.self.now (pullupmsg c.args.token.now.head c.args.count c.args.self.now) c.drain.new.self
   done =
-      is_pulled (goal.at.returns-clause-token c).After-index c.if-wanted-len.false c.pull_front.new.self c.pull_front.ensures.after c.in_ok-pull_front.field-0
+      is_pulled (goal.at.returns c).After-index c.if-wanted-len.false c.pull_front.new.self c.pull_front.ensures.after c.in_ok-pull_front.field-0
       (sym c.pull_front.ensures.answer ∙ c.in_ok-pull_front.was) c.drain.new.self c.drain.ensures
 
   -- the token says how many blocks the message has
@@ -158,27 +144,10 @@ module _ (c : After-set_blocks) where
       ∙ length-map (nodes_at c.self-2.inside.chains c.args.token.now.head) (block_at c.self-2.inside.blocks.items)
       ∙ ap (λ k. length (nodes_at c.self-2.inside.chains k)) (sym c.head-head.ensures) ∙ sym c.len.ensures)
 
-pub returns-clause-after : goal.returns-clause-after
-returns-clause-after c = sym (ap (value_after c.args.self.now) (done (goal.at.returns-clause-after c).After-set_blocks).done)
-
-pub returns-clause-answer : goal.returns-clause-answer
-returns-clause-answer c = sym (ap answer_of (done (goal.at.returns-clause-answer c).After-set_blocks).done)
-
-pub returns-clause-token : goal.returns-clause-token
-returns-clause-token c = token_now (goal.at.returns-clause-token c).After-set_blocks
-
-pub returns-clause-had : goal.returns-clause-had
-returns-clause-had c =
-    let d = (goal.at.returns-clause-had c).After-set_blocks in
-    ap (has c.drain.new.self) (token_now d) ∙ token_had c.drain.new.self c.args.token.now.head _ (done d).held
-
-left : (c : After-set_blocks) → Leaves (c.args.token.now.head ∷ []) c.args.self.now c.drain.new.self
-left c =
-    subst (Leaves (c.args.token.now.head ∷ []) c.args.self.now) (ap (value_after c.args.self.now) (done (goal.at.returns-clause-others c).After-set_blocks).done)
-    (leaves_pullupmsg c.args.self.now (parted_inside c.self.inside c.self.invariant c.args.self.now c.self.view_is) c.args.token.now.head c.args.count)
-
-pub returns-clause-others : goal.returns-clause-others
-returns-clause-others c = (left c).others
-
-pub returns-clause-shelves : goal.returns-clause-shelves
-returns-clause-shelves c = (left c).shelves
+pub returns : goal.returns
+returns c =
+    let at = (goal.at.returns c).After-set_blocks in
+    let a = c.args.self.now in
+    let t = c.args.token.now in
+    alters a c.drain.new.self t _ c.set_blocks.new.self (done at).done (token_now at) (ap (has c.drain.new.self) (token_now at) ∙ token_had c.drain.new.self t.head _ (done at).held)
+    (leaves_pullupmsg a (parted_inside c.self.inside c.self.invariant a c.self.view_is) t.head c.args.count)

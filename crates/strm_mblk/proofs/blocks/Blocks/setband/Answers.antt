@@ -1,10 +1,11 @@
-use Rattle.std.proofs.Common.{◌≡◌, length, ap, subst, sym, ◌∙◌, set, arith, true, [], ◌∷◌}
+use Rattle.std.proofs.Common.{Ok, ◌≡◌, length, ap, subst, sym, ◌∙◌, set, arith, true}
 use Rattle.std.proofs.lemmas.List.{get_or_read}
 use Rattle.strm_mblk.specs.Arena.{has, shelved_blocks}
 use Rattle.strm_mblk.specs.declared.blocks.Fields.{Fields}
-use Rattle.strm_mblk.specs.BlocksLayout.{arena_of, arena_in, fields_at, no_fields}
+use Rattle.strm_mblk.specs.BlocksLayout.{arena_in, fields_at, no_fields}
 use Rattle.strm_mblk.proofs.altering.Setband.{IsBanded, bands, head_there}
-use Rattle.strm_mblk.proofs.arena.Frame.{Leaves, leaves_setband}
+use Rattle.strm_mblk.proofs.arena.Frame.{leaves_setband}
+use Rattle.strm_mblk.proofs.arena.Calls.{alters_kept}
 use Rattle.strm_mblk.proofs.blocks.Blocks.setband.Goals.{After-self-1}
 use Rattle.strm_mblk.proofs.blocks.Blocks.setband.Goals as goal
 
@@ -23,17 +24,7 @@ invariant_of-self c =
     let is = is_banded c in
     record { filled = is.filled; queued = c.self.invariant.queued ∙ ap (λ a. length (shelved_blocks a)) c.self.view_is ∙ ap length (sym is.shelved) }
 
-pub returns-clause-after : goal.returns-clause-after
-returns-clause-after c = (is_banded c).after
-
-pub returns-clause-had : goal.returns-clause-had
-returns-clause-had c = (is_banded c).had
-
-left : (c : After-self-1) → Leaves (c.args.token.now.head ∷ []) c.args.self.now (arena_of c.self.inside.id c.self.inside.data.store (set c.self.inside.blocks.items c.head.result (record c.index_mut.result.now { band = c.args.band })) c.self.inside.chains)
-left c = subst (Leaves (c.args.token.now.head ∷ []) c.args.self.now) (sym (is_banded c).after) (leaves_setband c.args.self.now c.args.token.now.head c.args.band)
-
-pub returns-clause-others : goal.returns-clause-others
-returns-clause-others c = (left c).others
-
-pub returns-clause-shelves : goal.returns-clause-shelves
-returns-clause-shelves c = (left c).shelves
+pub returns : goal.returns
+returns c =
+    let is = is_banded c in
+    alters_kept c.args.self.now _ c.args.token.now _ (ap (λ a. Ok (tt, a)) (sym is.after)) is.had (leaves_setband c.args.self.now c.args.token.now.head c.args.band)

@@ -1,20 +1,20 @@
-use Rattle.std.proofs.Common.{◌≡◌, ◌<◌, ap, refl, ◌∙◌, arith, sym, subst, None, Ok, Err, [], ◌∷◌}
+use Rattle.std.proofs.Common.{rules, ◌≡◌, ◌<◌, ap, refl, ◌∙◌, arith, sym, subst, None, Ok, Err}
 use Rattle.std.proofs.lemmas.List.{get_or_read}
 use Rattle.std.specs.Prelude.{slice_get}
 use Rattle.strm_data.specs.CountedStore.{CountedStore, count_of}
-use Rattle.strm_data.specs.declared.refusal.Refusal.TheVariants.{Shared}
+use Rattle.strm_data.specs.declared.refusal.Refusal.TheVariants.{NoSuchBlock, Shared}
 use Rattle.strm_data.specs.DataStore.{with_kind}
 use Rattle.strm_mblk.specs.declared.blocks.Fields.{Fields}
 use Rattle.strm_mblk.specs.Arena.{Arena, names_of, message_at}
 use Rattle.strm_mblk.specs.BlockCalls.{settype}
 use Rattle.strm_mblk.specs.BlocksLayout.{arena_of, block_at, fields_at, no_fields}
-use Rattle.strm_mblk.specs.Given.{value_after, answer_of}
 use Rattle.strm_mblk.specs.NodeLists.{nodes_at}
 use Rattle.strm_mblk.proofs.altering.Alteration.{settype_done, settype_none, settype_shared}
 use Rattle.strm_mblk.proofs.layout.Places.{IsAt, block_none, block_some}
 use Rattle.strm_mblk.proofs.layout.Rooms.{HasRooms, filled-over, rooms-kind}
-use Rattle.strm_mblk.proofs.arena.Frame.{Leaves, leaves_settype}
+use Rattle.strm_mblk.proofs.arena.Frame.{leaves_settype}
 use Rattle.strm_mblk.proofs.arena.Tokens.{had_message}
+use Rattle.strm_mblk.proofs.arena.Calls.{alters_kept, alters_none}
 use Rattle.strm_mblk.proofs.blocks.Blocks.settype.Goals.{After-count, After-set_kind, In_default}
 use Rattle.strm_mblk.proofs.blocks.Blocks.settype.Goals as goal
 
@@ -23,11 +23,8 @@ none c =
     block_none c.self.inside.id c.self.inside.data c.self.inside.blocks.items c.self.inside.chains c.self.invariant.filled c.args.self.now c.self.view_is c.args.token.now.head c.args.place
     (ap (λ h. slice_get (nodes_at c.self.inside.chains h) c.args.place) (sym c.head.ensures) ∙ sym c.node_at.ensures.value ∙ c.in_default.is)
 
-pub returns-in_default-clause-after : goal.returns-in_default-clause-after
-returns-in_default-clause-after c = sym (ap (value_after c.args.self.now) (settype_none c.args.self.now c.args.token.now.head c.args.place c.args.kind (none c)))
-
-pub returns-in_default-clause-answer : goal.returns-in_default-clause-answer
-returns-in_default-clause-answer c = sym (ap answer_of (settype_none c.args.self.now c.args.token.now.head c.args.place c.args.kind (none c)))
+pub returns-in_default : goal.returns-in_default
+returns-in_default c = alters_none c.args.self.now _ c.args.token.now _ NoSuchBlock (settype_none c.args.self.now c.args.token.now.head c.args.place c.args.kind (none c)) refl c.requires
 
 is_at : (c : After-count) → IsAt c.self.inside.data c.self.inside.blocks.items c.self.inside.chains c.args.self.now c.args.token.now.head c.args.place c.in-Some.node (nodes_at c.self.inside.chains c.args.token.now.head)
 is_at c =
@@ -47,13 +44,8 @@ shared : (c : After-count) → 1 < c.count.result → settype c.args.token.now.h
 shared c many =
     settype_shared c.args.self.now c.args.token.now.head c.args.place c.args.kind (block_at c.self.inside.blocks.items c.in-Some.node) (is_at c).block (omega (arith, many, counted c))
 
-pub returns-then-count-gt1-clause-after : goal.returns-then-count-gt1-clause-after
-returns-then-count-gt1-clause-after c =
-    sym (ap (value_after c.args.self.now) (shared (goal.at.returns-then-count-gt1-clause-after c).After-count c.if-count-gt1.true))
-
-pub returns-then-count-gt1-clause-answer : goal.returns-then-count-gt1-clause-answer
-returns-then-count-gt1-clause-answer c =
-    sym (ap answer_of (shared (goal.at.returns-then-count-gt1-clause-answer c).After-count c.if-count-gt1.true))
+pub returns-then-count-gt1 : goal.returns-then-count-gt1
+returns-then-count-gt1 c = alters_none c.args.self.now _ c.args.token.now _ Shared (shared (goal.at.returns-then-count-gt1 c).After-count c.if-count-gt1.true) refl c.requires
 
 pub invariant_of-self : goal.invariant_of-self
 invariant_of-self c = record {
@@ -65,27 +57,14 @@ invariant_of-self c = record {
 
 done : (c : After-set_kind) → settype c.args.token.now.head c.args.place c.args.kind c.args.self.now ≡ Ok (tt, arena_of c.self.inside.id c.set_kind.new.self.store c.self.inside.blocks.items c.self.inside.chains)
 done c =
-    let before = (goal.at.returns-clause-after c).After-count in
+    let before = (goal.at.returns c).After-count in
     let b = block_at c.self.inside.blocks.items c.in-Some.node in
     settype_done c.args.self.now c.args.token.now.head c.args.place c.args.kind b (is_at before).block (omega (arith, c.if-count-gt1.false, counted before))
     ∙ ap (λ (a : Arena). Ok (tt, record a { store = with_kind b.data_number c.args.kind a.store })) (sym c.self.view_is)
     ∙ ap (λ (f : Fields). Ok (tt, arena_of c.self.inside.id (with_kind f.data_number c.args.kind c.self.inside.data.store) c.self.inside.blocks.items c.self.inside.chains)) (sym (read before))
     ∙ ap (λ (s : CountedStore). Ok (tt, arena_of c.self.inside.id s.store c.self.inside.blocks.items c.self.inside.chains)) (sym c.set_kind.ensures.after)
 
-pub returns-clause-after : goal.returns-clause-after
-returns-clause-after c = sym (ap (value_after c.args.self.now) (done c))
-
-pub returns-clause-answer : goal.returns-clause-answer
-returns-clause-answer c = sym (ap answer_of (done c))
-
-left : (c : After-set_kind) → Leaves (c.args.token.now.head ∷ []) c.args.self.now (arena_of c.self.inside.id c.set_kind.new.self.store c.self.inside.blocks.items c.self.inside.chains)
-left c =
+pub returns : goal.returns
+returns c =
     let message = had_message c.args.self.now c.args.token.now c.requires in
-    subst (Leaves (c.args.token.now.head ∷ []) c.args.self.now) (ap (value_after c.args.self.now) (done c))
-    (leaves_settype c.args.self.now c.args.token.now.head message.0 message.1.held c.args.place c.args.kind)
-
-pub returns-clause-others : goal.returns-clause-others
-returns-clause-others c = (left c).others
-
-pub returns-clause-shelves : goal.returns-clause-shelves
-returns-clause-shelves c = (left c).shelves
+    alters_kept c.args.self.now _ c.args.token.now _ (done c) (search rules) (leaves_settype c.args.self.now c.args.token.now.head message.0 message.1.held c.args.place c.args.kind)

@@ -49,18 +49,17 @@ invariant_of-self c =
 
 after_is : (c : After-shelve) → arena_of c.self.inside.id c.self.inside.data.store c.self.inside.blocks.items c.shelve.new.self ≡ shelve c.args.shelf c.args.before c.args.token.head c.args.self.now
 after_is c =
-    let message = had (goal.at.returns-clause-after c).After-len in
+    let message = had (goal.at.returns c).After-len in
     shelve_shows c.self.inside.id c.self.inside.data c.self.inside.blocks.items c.self.inside.chains c.self.invariant.filled c.spend-head.result.head message.0 message.1.held
     c.from.result c.args.before c.shelve.new.self (within c) c.shelve.ensures.after c.shelve.ensures.parted
     ∙ (λ i. shelve (c.from.ensures i) c.args.before (c.spend-head.ensures i).head (c.self.view_is i))
 
-pub returns-clause-after : goal.returns-clause-after
-returns-clause-after c = after_is c
-
-pub returns-clause-gone : goal.returns-clause-gone
-returns-clause-gone c = ap (λ a. held_at a c.args.token.head) (after_is c) ∙ none_at c.args.self.now.held c.args.token.head
-
-pub returns-clause-others : goal.returns-clause-others
-returns-clause-others c =
-    subst (LeavesOthers (c.args.token.head ∷ []) c.args.self.now) (sym (after_is c))
-    (others_one c.args.self.now (shelve c.args.shelf c.args.before c.args.token.head c.args.self.now) c.args.token.head _ refl refl)
+pub returns : goal.returns
+returns c =
+    let left = subst (LeavesOthers (c.args.token.head ∷ []) c.args.self.now) (sym (after_is c)) (others_one c.args.self.now (shelve c.args.shelf c.args.before c.args.token.head c.args.self.now) c.args.token.head _ refl refl) in
+    record {
+      after = after_is c;
+      answer = refl;
+      gone = ap (λ a. held_at a c.args.token.head) (after_is c) ∙ none_at c.args.self.now.held c.args.token.head;
+      others = left;
+    }

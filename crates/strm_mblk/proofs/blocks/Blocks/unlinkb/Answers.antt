@@ -1,4 +1,5 @@
-use Rattle.std.proofs.Common.{[], ◌∷◌, ◌≡◌, ℕ, length, ap, subst, sym, refl, ◌∙◌, Some}
+use Rattle.std.proofs.Common.{arith, [], ◌∷◌, ◌≡◌, ℕ, length, ap, subst, sym, refl, ◌∙◌, Some}
+use Rattle.std.proofs.lemmas.Grind.{common_steps}
 use Rattle.std.specs.Prelude.{is_some, option_map, slice_get}
 use Rattle.strm_mblk.specs.declared.token.TokenValue.{TokenValue}
 use Rattle.strm_mblk.specs.Arena.{Arena, has, held_at, shelved_blocks, token_of}
@@ -40,36 +41,37 @@ invariant_of-self-2 c =
 pub token-requires : goal.token-requires
 token-requires c = ap is_some (is_divided c).rest
 
-pub returns-clause-after : goal.returns-clause-after
-returns-clause-after c = (is_divided (goal.at.returns-clause-after c).After-set_blocks).after
-
-pub returns-clause-token : goal.returns-clause-token
-returns-clause-token c = first_token (goal.at.returns-clause-token c).After-set_blocks
-
-pub returns-clause-had : goal.returns-clause-had
-returns-clause-had c =
-    let d = (goal.at.returns-clause-had c).After-set_blocks in
-    ap (has (new_arena d)) (first_token d) ∙ token_had (new_arena d) c.args.token.now.head _ (is_divided d).head
-
-pub returns-clause-rest_had : goal.returns-clause-rest_had
-returns-clause-rest_had c =
-    let d = (goal.at.returns-clause-rest_had c).After-set_blocks in
-    ap (has (new_arena d)) c.token.ensures ∙ token_had (new_arena d) c.in_ok-rest.rest _ (is_divided d).rest
-
-pub returns-clause-unheld : goal.returns-clause-unheld
-returns-clause-unheld c =
-    ap (λ (t : TokenValue). held_at c.args.self.now t.head) c.token.ensures ∙ (is_divided (goal.at.returns-clause-unheld c).After-set_blocks).absent
-
-left : (c : After-token) → Leaves (c.args.token.now.head ∷ c.token.result.head ∷ []) c.args.self.now (new_arena (goal.at.returns-clause-others c).After-set_blocks)
+left : (c : After-token) → Leaves (c.args.token.now.head ∷ c.token.result.head ∷ []) c.args.self.now (new_arena (goal.at.returns c).After-set_blocks)
 left c =
-    let d = (goal.at.returns-clause-others c).After-set_blocks in
+    let d = (goal.at.returns c).After-set_blocks in
     let h = c.args.token.now.head in
     subst (λ g. Leaves (h ∷ g ∷ []) c.args.self.now (new_arena d)) (ap (λ (t : TokenValue). t.head) (sym c.token.ensures))
     (subst (Leaves (h ∷ c.in_ok-rest.rest ∷ []) c.args.self.now) (sym (is_divided d).after)
     (subst (λ o. Leaves (h ∷ head_given (option_map (token_of (new_arena d)) o)) c.args.self.now (unlinkb h c.args.self.now).1) (is_divided d).given (leaves_unlinkb c.args.self.now (new_arena d) h)))
 
-pub returns-clause-others : goal.returns-clause-others
-returns-clause-others c = (left c).others
+pub returns-in_err-rest : goal.returns-in_err-rest
+returns-in_err-rest c = record {
+  after = grind (arith, common_steps);
+  rest = grind (arith, common_steps);
+  token = grind (arith, common_steps);
+  had = grind (arith, common_steps);
+  rest_had = grind (arith, common_steps);
+  unheld = grind (arith, common_steps);
+  others = record { id = grind (arith, common_steps); size = grind (arith, common_steps); held = λ h other. grind (arith, common_steps) };
+  shelves = record { shelves = grind (arith, common_steps); shelved_data = λ k e within. grind (arith, common_steps); held_data = λ h other k e within. grind (arith, common_steps) };
+}
 
-pub returns-clause-shelves : goal.returns-clause-shelves
-returns-clause-shelves c = (left c).shelves
+pub returns : goal.returns
+returns c =
+    let d = (goal.at.returns c).After-set_blocks in
+    let is = is_divided d in
+    record {
+      after = is.after;
+      rest = grind (arith, common_steps);
+      token = first_token d;
+      had = ap (has (new_arena d)) (first_token d) ∙ token_had (new_arena d) c.args.token.now.head _ is.head;
+      rest_had = ap (has (new_arena d)) c.token.ensures ∙ token_had (new_arena d) c.in_ok-rest.rest _ is.rest;
+      unheld = ap (λ (t : TokenValue). held_at c.args.self.now t.head) c.token.ensures ∙ is.absent;
+      others = (left c).others;
+      shelves = (left c).shelves;
+    }

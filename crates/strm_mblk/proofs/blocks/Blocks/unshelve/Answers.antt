@@ -1,6 +1,7 @@
-use Rattle.std.proofs.Common.{[], ◌∷◌, ◌≡◌, ap, refl, subst, sym, true, ◌∙◌, arith, length}
+use Rattle.std.proofs.Common.{Ok, [], ◌∷◌, ◌≡◌, ap, refl, subst, sym, true, ◌∙◌, arith, length}
 use Rattle.std.specs.Prelude.{is_some}
 use Rattle.strm_links.specs.Rows.{has}
+use Rattle.strm_mblk.specs.declared.token.TokenValue.{TokenValue}
 use Rattle.strm_mblk.specs.Arena as arena
 use Rattle.strm_mblk.specs.Arena.{Arena, shelved_blocks}
 use Rattle.strm_mblk.specs.BlocksLayout.{arena_in, arena_of}
@@ -51,17 +52,16 @@ invariant_of-self c =
 pub token-requires : goal.token-requires
 token-requires c = ap is_some (is_unshelved (goal.at.token-requires c).After-unshelve).held
 
-pub returns-clause-after : goal.returns-clause-after
-returns-clause-after c = (is_unshelved (goal.at.returns-clause-after c).After-unshelve).after
-
-pub returns-clause-had : goal.returns-clause-had
-returns-clause-had c =
-    let is = is_unshelved (goal.at.returns-clause-had c).After-unshelve in
+pub returns : goal.returns
+returns c =
+    let is = is_unshelved (goal.at.returns c).After-unshelve in
     let now = arena_of c.self.inside.id c.self.inside.data.store c.self.inside.blocks.items c.unshelve.new.self in
-    ap (arena.has now) c.token.ensures ∙ token_had now c.args.head is.message is.held
-
-pub returns-clause-unheld : goal.returns-clause-unheld
-returns-clause-unheld c = (is_unshelved (goal.at.returns-clause-unheld c).After-unshelve).unheld
-
-pub returns-clause-others : goal.returns-clause-others
-returns-clause-others c = subst (LeavesOthers (c.args.head ∷ []) c.args.self.now) (sym (is_unshelved (goal.at.returns-clause-others c).After-unshelve).after) (others_one c.args.self.now (unshelve c.args.shelf c.args.head c.args.self.now) c.args.head _ refl refl)
+    record {
+      after = is.after;
+      token = ap (λ (t : TokenValue). Ok t) c.token.ensures;
+      had = ap (arena.has now) c.token.ensures ∙ token_had now c.args.head is.message is.held;
+      unheld = ap (λ (t : TokenValue). arena.held_at c.args.self.now t.head) c.token.ensures ∙ is.unheld;
+      others =
+          subst (λ (t : TokenValue). LeavesOthers (t.head ∷ []) c.args.self.now now) (sym c.token.ensures)
+          (subst (LeavesOthers (c.args.head ∷ []) c.args.self.now) (sym is.after) (others_one c.args.self.now (unshelve c.args.shelf c.args.head c.args.self.now) c.args.head _ refl refl));
+    }

@@ -1,20 +1,20 @@
-use Rattle.std.proofs.Common.{◌≡◌, ◌+◌, ◌<◌, ◌≤◌, length, ap, refl, ◌∙◌, arith, sym, subst, true, set, None, Err, [], ◌∷◌}
+use Rattle.std.proofs.Common.{◌≡◌, ◌+◌, ◌<◌, ◌≤◌, length, ap, refl, ◌∙◌, arith, sym, subst, true, set, None, Err}
 use Rattle.std.proofs.lemmas.List.{get_or_read}
 use Rattle.std.specs.Prelude.{slice_get}
 use Rattle.strm_data.specs.CountedStore.{count_of}
 use Rattle.strm_data.specs.DataStore.{capacity_of, with_bytes_written}
-use Rattle.strm_data.specs.declared.refusal.Refusal.TheVariants.{NoRoom, Shared}
+use Rattle.strm_data.specs.declared.refusal.Refusal.TheVariants.{NoRoom, NoSuchBlock, Shared}
 use Rattle.strm_mblk.specs.declared.blocks.Fields.{Fields}
 use Rattle.strm_mblk.specs.Arena.{Arena, has, names_of, message_at, shelved_blocks}
 use Rattle.strm_mblk.specs.BlockCalls.{write}
-use Rattle.strm_mblk.specs.BlocksLayout.{arena_of, arena_in, block_at, fields_at, no_fields}
-use Rattle.strm_mblk.specs.Given.{value_after, answer_of}
+use Rattle.strm_mblk.specs.BlocksLayout.{arena_in, block_at, fields_at, no_fields}
 use Rattle.strm_mblk.specs.NodeLists.{nodes_at}
 use Rattle.strm_mblk.proofs.altering.Alteration.{write_full, write_none, write_shared}
 use Rattle.strm_mblk.proofs.layout.Places.{IsAt, block_none, block_some}
 use Rattle.strm_mblk.proofs.altering.Writing.{IsWritten, writes}
-use Rattle.strm_mblk.proofs.arena.Frame.{Leaves, leaves_write}
+use Rattle.strm_mblk.proofs.arena.Frame.{leaves_write}
 use Rattle.strm_mblk.proofs.arena.Tokens.{had_message}
+use Rattle.strm_mblk.proofs.arena.Calls.{alters_kept, alters_none}
 use Rattle.strm_mblk.proofs.blocks.Blocks.write.Goals.{After-count, After-self-1, In_default}
 use Rattle.strm_mblk.proofs.blocks.Blocks.write.Goals as goal
 
@@ -23,11 +23,8 @@ none c =
     block_none c.self.inside.id c.self.inside.data c.self.inside.blocks.items c.self.inside.chains c.self.invariant.filled c.args.self.now c.self.view_is c.args.token.now.head c.args.place
     (ap (λ h. slice_get (nodes_at c.self.inside.chains h) c.args.place) (sym c.head.ensures) ∙ sym c.node_at.ensures.value ∙ c.in_default.is)
 
-pub returns-in_default-clause-after : goal.returns-in_default-clause-after
-returns-in_default-clause-after c = sym (ap (value_after c.args.self.now) (write_none c.args.self.now c.args.token.now.head c.args.place c.args.bytes.now (none c)))
-
-pub returns-in_default-clause-answer : goal.returns-in_default-clause-answer
-returns-in_default-clause-answer c = sym (ap answer_of (write_none c.args.self.now c.args.token.now.head c.args.place c.args.bytes.now (none c)))
+pub returns-in_default : goal.returns-in_default
+returns-in_default c = alters_none c.args.self.now _ c.args.token.now _ NoSuchBlock (write_none c.args.self.now c.args.token.now.head c.args.place c.args.bytes.now (none c)) refl c.requires
 
 module _ (c : After-count) where
   -- the block at the place, in what the fields show
@@ -69,11 +66,8 @@ module _ (c : After-count) where
       write_full c.args.self.now c.args.token.now.head c.args.place c.args.bytes.now (block_at c.self.inside.blocks.items c.in-Some.node) is_at.block (omega (arith, one, counted))
       (omega (arith, past, room_is, ap (λ (f : Fields). f.offset + f.len) read))
 
-pub returns-then-count-gt1-clause-after : goal.returns-then-count-gt1-clause-after
-returns-then-count-gt1-clause-after c = sym (ap (value_after c.args.self.now) (shared (goal.at.returns-then-count-gt1-clause-after c).After-count c.if-count-gt1.true))
-
-pub returns-then-count-gt1-clause-answer : goal.returns-then-count-gt1-clause-answer
-returns-then-count-gt1-clause-answer c = sym (ap answer_of (shared (goal.at.returns-then-count-gt1-clause-answer c).After-count c.if-count-gt1.true))
+pub returns-then-count-gt1 : goal.returns-then-count-gt1
+returns-then-count-gt1 c = alters_none c.args.self.now _ c.args.token.now _ Shared (shared (goal.at.returns-then-count-gt1 c).After-count c.if-count-gt1.true) refl c.requires
 
 pub overflow_sub-capacity : goal.overflow_sub-capacity
 overflow_sub-capacity c = omega (arith, within (goal.at.overflow_sub-capacity c).After-count, c.cap-capacity.ensures.answer)
@@ -81,19 +75,14 @@ overflow_sub-capacity c = omega (arith, within (goal.at.overflow_sub-capacity c)
 pub overflow_add-end : goal.overflow_add-end
 overflow_add-end c = omega (arith, within (goal.at.overflow_add-end c).After-count, c.cap-capacity.ensures.answer, c.cap-capacity.type_inv)
 
-pub returns-then-bytes-capacity-clause-after : goal.returns-then-bytes-capacity-clause-after
-returns-then-bytes-capacity-clause-after c =
-    let before = (goal.at.returns-then-bytes-capacity-clause-after c).After-count in
-    sym (ap (value_after c.args.self.now) (full before c.if-count-gt1.false (omega (arith, c.if-bytes-capacity.true, c.cap-capacity.ensures.answer, within before))))
-
-pub returns-then-bytes-capacity-clause-answer : goal.returns-then-bytes-capacity-clause-answer
-returns-then-bytes-capacity-clause-answer c =
-    let before = (goal.at.returns-then-bytes-capacity-clause-answer c).After-count in
-    sym (ap answer_of (full before c.if-count-gt1.false (omega (arith, c.if-bytes-capacity.true, c.cap-capacity.ensures.answer, within before))))
+pub returns-then-bytes-capacity : goal.returns-then-bytes-capacity
+returns-then-bytes-capacity c =
+    let before = (goal.at.returns-then-bytes-capacity c).After-count in
+    alters_none c.args.self.now _ c.args.token.now _ NoRoom (full before c.if-count-gt1.false (omega (arith, c.if-bytes-capacity.true, c.cap-capacity.ensures.answer, within before))) refl c.requires
 
 is_written : (c : After-self-1) → IsWritten c.args.self.now c.write.new.self (set c.self.inside.blocks.items c.in-Some.node (record c.index_mut.result.now { len = c.index-fields.result.now.len + length c.args.bytes.now })) c.self.inside.chains c.self.inside.id c.args.place c.args.bytes.now c.args.token.now
 is_written c =
-    let before = (goal.at.returns-clause-had c).After-count in
+    let before = (goal.at.returns c).After-count in
     let n = fields_at c.self.inside.blocks.items c.in-Some.node in
     let at = at_inside before in
     let lens : c.index-fields.result.now.len ≡ n.len = ap (λ (f : Fields). f.len) (read before) in
@@ -114,23 +103,8 @@ invariant_of-self c =
     let is = is_written c in
     record { filled = is.filled; queued = c.self.invariant.queued ∙ ap (λ a. length (shelved_blocks a)) c.self.view_is ∙ ap length (sym is.shelved) }
 
-pub returns-clause-after : goal.returns-clause-after
-returns-clause-after c = sym (ap (value_after c.args.self.now) (is_written c).done)
-
-pub returns-clause-answer : goal.returns-clause-answer
-returns-clause-answer c = sym (ap answer_of (is_written c).done)
-
-pub returns-clause-had : goal.returns-clause-had
-returns-clause-had c = (is_written c).had
-
-left : (c : After-self-1) → Leaves (c.args.token.now.head ∷ []) c.args.self.now (arena_of c.self.inside.id c.write.new.self.store (set c.self.inside.blocks.items c.in-Some.node (record c.index_mut.result.now { len = c.index-fields.result.now.len + length c.args.bytes.now })) c.self.inside.chains)
-left c =
+pub returns : goal.returns
+returns c =
     let message = had_message c.args.self.now c.args.token.now c.requires in
-    subst (Leaves (c.args.token.now.head ∷ []) c.args.self.now) (ap (value_after c.args.self.now) (is_written c).done)
-    (leaves_write c.args.self.now c.args.token.now.head message.0 message.1.held c.args.place c.args.bytes.now)
-
-pub returns-clause-others : goal.returns-clause-others
-returns-clause-others c = (left c).others
-
-pub returns-clause-shelves : goal.returns-clause-shelves
-returns-clause-shelves c = (left c).shelves
+    let is = is_written c in
+    alters_kept c.args.self.now _ c.args.token.now _ is.done is.had (leaves_write c.args.self.now c.args.token.now.head message.0 message.1.held c.args.place c.args.bytes.now)

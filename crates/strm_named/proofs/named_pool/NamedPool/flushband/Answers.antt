@@ -1,11 +1,10 @@
-use Rattle.std.proofs.Common.{◌≡◌, ap, subst}
-use Rattle.strm_mblk.specs.Given.{value_after}
 use Rattle.strm_queue.specs.QueueCalls as queues
-use Rattle.strm_pool.specs.PoolValue.{PoolValue, on_queues, queued}
-use Rattle.strm_named.specs.Fitting.{named}
-use Rattle.strm_named.specs.NamedValue.{NamedValue, with_pool}
+use Rattle.strm_pool.specs.PoolValue.{on_queues, queued}
+use Rattle.strm_named.proofs.Shaped.{leaves_names, still_fits}
 use Rattle.strm_named.proofs.named_pool.NamedPool.flushband.Goals as goal
 
-pub returns-clause-pool : goal.returns-clause-pool
-returns-clause-pool c =
-    subst (λ (v : NamedValue). named c.flushband.new.self c.self.inside.places ≡ with_pool v (value_after v.pool (on_queues v.pool (queues.flushband c.args.queue c.args.band c.args.flush (queued v.pool))))) c.self.view_is (ap (λ (x : PoolValue). named x c.self.inside.places) c.flushband.ensures.pool)
+pub invariant_of-self : goal.invariant_of-self
+invariant_of-self c = still_fits c.flushband.ensures.others c.self.invariant
+
+pub returns : goal.returns
+returns c = leaves_names c.self.inside.places (λ p. on_queues p (queues.flushband c.args.queue c.args.band c.args.flush (queued p))) c.self.view_is c.flushband.ensures.after c.flushband.ensures.answer c.flushband.ensures.others

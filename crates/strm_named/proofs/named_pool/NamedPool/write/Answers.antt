@@ -1,30 +1,27 @@
 use Rattle.std.proofs.Common.{◌≡◌, true, [], refl, sym, ◌∙◌, subst}
 use Rattle.strm_mblk.specs.BlockCalls as blocks
-use Rattle.strm_mblk.specs.Given.{answer_of}
 use Rattle.strm_pool.specs.PoolValue.{on_arena}
-use Rattle.strm_named.specs.Fitting.{named}
-use Rattle.strm_named.specs.NamedCalls.{plain}
 use Rattle.strm_named.specs.NamedValue.{NamedValue, is_valid}
-use Rattle.strm_named.proofs.Shaped.{arena_answer, on_invalid, on_valid, stays}
+use Rattle.strm_named.specs.NamedCalls.{plain, outcome_of}
+use Rattle.strm_named.proofs.Shaped.{Called, stays, on_invalid, on_valid}
+use Rattle.strm_named.proofs.named_pool.NamedPool.write.Goals.{After-answered}
 use Rattle.strm_named.proofs.named_pool.NamedPool.write.Goals as goal
 
 pub returns-then-not-has : goal.returns-then-not-has
-returns-then-not-has c =
-    on_invalid plain c.args.name (on_arena c.args.self.now.pool (blocks.write c.args.name.head c.args.place c.args.bytes.now c.args.self.now.pool.arena)) [] c.args.self.now (sym c.has.ensures ∙ c.if-not-has.true)
+returns-then-not-has c = on_invalid c.args.name (on_arena c.args.self.now.pool (blocks.write c.args.name.head c.args.place c.args.bytes.now c.args.self.now.pool.arena)) (sym c.has.ensures ∙ c.if-not-has.true)
 
 pub lent-token-requires-clause-valid : goal.lent-token-requires-clause-valid
-lent-token-requires-clause-valid c =
-    (subst (λ (v : NamedValue). is_valid v c.args.name ≡ true) (sym c.self.view_is) (sym c.has.ensures ∙ c.if-not-has.false))
+lent-token-requires-clause-valid c = (subst (λ (v : NamedValue). is_valid v c.args.name ≡ true) (sym c.self.view_is) (sym c.has.ensures ∙ c.if-not-has.false))
 
 pub write-requires : goal.write-requires
-write-requires c =
-    c.lent-token.ensures.had
+write-requires c = c.lent-token.ensures.had
+
+called : (c : After-answered) → Called plain (outcome_of (on_arena c.self.inside.pool (blocks.write c.args.name.head c.args.place c.args.bytes.now c.self.inside.pool.arena))) [] c.self.inside.pool c.write.new.self c.self.inside.places c.self.inside.places (c.answered.result)
+called c =
+    stays _ _ _ _ c.self.invariant c.lent-token.ensures (λ h. on_arena c.self.inside.pool (blocks.write h c.args.place c.args.bytes.now c.self.inside.pool.arena)) c.write.ensures refl c.answered.ensures
 
 pub invariant_of-self : goal.invariant_of-self
-invariant_of-self c =
-    (stays c.self.inside.pool c.write.new.self c.self.inside.places c.self.inside.places c.self.invariant c.args.name c.lent-token.result.now c.lent-token.ensures (λ h. on_arena c.self.inside.pool (blocks.write h c.args.place c.args.bytes.now c.self.inside.pool.arena)) (answer_of (blocks.write c.lent-token.result.now.head c.args.place c.args.bytes.now c.self.inside.pool.arena)) c.write.result c.answered.result c.write.ensures.pool (arena_answer c.self.inside.pool (blocks.write c.lent-token.result.now.head c.args.place c.args.bytes.now c.self.inside.pool.arena)) c.write.ensures.answer c.write.ensures.had c.write.ensures.others refl c.answered.ensures).fits
+invariant_of-self c = (called (goal.at.invariant_of-self c).After-answered).fits
 
 pub returns : goal.returns
-returns c =
-    on_valid plain c.args.name (λ v. on_arena v.pool (blocks.write c.args.name.head c.args.place c.args.bytes.now v.pool.arena)) [] (named c.self.inside.pool c.self.inside.places) c.args.self.now (named c.write.new.self c.self.inside.places) c.answered.result c.self.view_is (subst (λ (v : NamedValue). is_valid v c.args.name ≡ true) (sym c.self.view_is) (sym c.has.ensures ∙ c.if-not-has.false))
-    (stays c.self.inside.pool c.write.new.self c.self.inside.places c.self.inside.places c.self.invariant c.args.name c.lent-token.result.now c.lent-token.ensures (λ h. on_arena c.self.inside.pool (blocks.write h c.args.place c.args.bytes.now c.self.inside.pool.arena)) (answer_of (blocks.write c.lent-token.result.now.head c.args.place c.args.bytes.now c.self.inside.pool.arena)) c.write.result c.answered.result c.write.ensures.pool (arena_answer c.self.inside.pool (blocks.write c.lent-token.result.now.head c.args.place c.args.bytes.now c.self.inside.pool.arena)) c.write.ensures.answer c.write.ensures.had c.write.ensures.others refl c.answered.ensures).does
+returns c = on_valid c.args.name (λ v. on_arena v.pool (blocks.write c.args.name.head c.args.place c.args.bytes.now v.pool.arena)) c.self.view_is (subst (λ (v : NamedValue). is_valid v c.args.name ≡ true) (sym c.self.view_is) (sym c.has.ensures ∙ c.if-not-has.false)) (called (goal.at.returns c).After-answered).does

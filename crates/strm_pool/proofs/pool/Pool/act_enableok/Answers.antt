@@ -2,12 +2,10 @@ use Rattle.std.proofs.Common.{refl}
 use Rattle.strm_queue.specs.QueueCalls as queues
 use Rattle.strm_pool.specs.declared.reply.Reply.TheVariants.{Done}
 use Rattle.strm_pool.specs.PoolValue.{on_queues, queued}
-use Rattle.strm_pool.proofs.Acting.{all_stays}
-use Rattle.strm_pool.proofs.OnParts.{queues_answer}
-use Rattle.strm_pool.proofs.Shaped.{tells}
+use Rattle.strm_pool.proofs.Shaped.{tells_stay}
 use Rattle.strm_pool.proofs.pool.Pool.act_enableok.Goals as goal
 
 pub returns : goal.returns
 returns c = λ rs ready.
-    let made = queues.enableok c.args.queue (queued c.args.self.now) in
-    tells refl ready (λ done. Done) (on_queues c.args.self.now made) refl (all_stays c.enableok.ensures.arena) refl c.enableok.ensures.pool (queues_answer c.args.self.now made) c.enableok.ensures.answer c.set_done.ensures
+    let v = c.args.self.now in
+    tells_stay refl ready (λ done. Done) (on_queues v (queues.enableok c.args.queue (queued v))) refl refl c.enableok.ensures c.set_done.ensures

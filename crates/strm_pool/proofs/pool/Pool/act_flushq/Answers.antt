@@ -1,12 +1,10 @@
 use Rattle.std.proofs.Common.{refl}
 use Rattle.strm_queue.specs.QueueCalls as queues
-use Rattle.strm_pool.specs.declared.reply.Reply.TheVariants.{Done}
 use Rattle.strm_pool.specs.PoolValue.{on_queues, queued}
-use Rattle.strm_pool.proofs.OnParts.{queues_answer}
-use Rattle.strm_pool.proofs.Shaped.{tells}
+use Rattle.strm_pool.proofs.Shaped.{flushes}
 use Rattle.strm_pool.proofs.pool.Pool.act_flushq.Goals as goal
 
 pub returns : goal.returns
 returns c = λ rs ready.
-    let made = queues.flushq c.args.queue c.args.flush (queued c.args.self.now) in
-    tells refl ready (λ done. Done) (on_queues c.args.self.now made) refl c.flushq.ensures.others refl c.flushq.ensures.pool (queues_answer c.args.self.now made) c.flushq.ensures.answer c.set_done.ensures
+    let v = c.args.self.now in
+    flushes refl ready (on_queues v (queues.flushq c.args.queue c.args.flush (queued v))) refl refl c.flushq.ensures c.set_done.ensures

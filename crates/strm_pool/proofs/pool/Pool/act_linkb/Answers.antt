@@ -1,12 +1,10 @@
 use Rattle.std.proofs.Common.{◌≡◌, true, List, set, Option, Some, None, refl, sym, ap, ◌∙◌, subst, get_or-set_other}
 use Rattle.std.specs.Prelude.{is_some}
 use Rattle.strm_mblk.specs.declared.token.TokenValue.{TokenValue}
-use Rattle.strm_mblk.specs.Arena.{held_at}
 use Rattle.strm_mblk.specs.BlockCalls as blocks
-use Rattle.strm_mblk.proofs.arena.Frame.{linkb_gone}
 use Rattle.strm_pool.specs.declared.call.Call.TheVariants as calls
 use Rattle.strm_pool.specs.declared.reply.Reply.TheVariants.{Done}
-use Rattle.strm_pool.specs.PoolValue.{PoolValue, owns, with_arena}
+use Rattle.strm_pool.specs.PoolValue.{owns, with_arena}
 use Rattle.strm_pool.specs.Registers.{register, table_of}
 use Rattle.strm_pool.specs.Step.{Applies, replying}
 use Rattle.strm_pool.proofs.Acting.{emptied, owns_less}
@@ -31,7 +29,6 @@ returns c =
     let behind = sym (get_or-set_other rs c.args.reg c.args.behind None None (λ same. apart (sym same))) ∙ ap (λ l. register l c.args.behind) (sym c.picked-token.ensures.empty) ∙ c.picked-tail.ensures.token in
     subst (λ ss. Applies v rs (calls.Linkb c.args.reg c.args.behind) c.linkb.new.self ss Done)
     (sym (c.hold.ensures ∙ ap (λ (l : List (Option TokenValue)). set l c.args.reg (Some c.linkb.new.token)) (c.picked-tail.ensures.empty ∙ ap (λ (l : List (Option TokenValue)). set l c.args.behind None) c.picked-token.ensures.empty)))
-    (links refl c.requires c.args.reg c.args.behind c.linkb.new.token refl c.picked-token.ensures.token behind apart (ap (λ (t : TokenValue). t.head) c.linkb.ensures.token) c.linkb.ensures.had c.linkb.ensures.others
-    (λ apart. ap (λ (p : PoolValue). held_at p.arena tail.head) c.linkb.ensures.pool ∙ linkb_gone v.arena token.head tail.head apart)
+    (links refl c.requires c.args.reg c.args.behind refl c.picked-token.ensures.token behind apart c.linkb.ensures
     ((λ i. replying (with_arena v (blocks.linkb (head_is rs c.args.reg token c.picked-token.ensures.token i) (head_is rs c.args.behind tail behind i) v.arena)) (set (table_of rs) c.args.behind None) Done)
-    ∙ ap (λ p. replying p (set (table_of rs) c.args.behind None) Done) (sym c.linkb.ensures.pool)))
+    ∙ ap (λ p. replying p (set (table_of rs) c.args.behind None) Done) (sym c.linkb.ensures.after)))

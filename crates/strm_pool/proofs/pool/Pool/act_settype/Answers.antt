@@ -1,9 +1,8 @@
 use Rattle.std.proofs.Common.{refl}
 use Rattle.strm_mblk.specs.BlockCalls as blocks
-use Rattle.strm_pool.proofs.Acting.{alters_kept}
+use Rattle.strm_pool.proofs.Shaped.{alters_kept}
 use Rattle.strm_pool.proofs.pool.Pool.act_settype.Goals as goal
 
 pub returns : goal.returns
 returns c =
-    alters_kept refl c.requires (λ h. blocks.settype h c.args.place c.args.kind c.args.self.now.arena) c.args.reg refl c.lent.ensures.token refl
-    c.settype.ensures.pool c.settype.ensures.answer c.settype.ensures.had c.settype.ensures.others c.set_done.ensures
+    alters_kept refl c.requires (λ h. blocks.settype h c.args.place c.args.kind c.args.self.now.arena) c.args.reg refl c.lent.ensures.token refl c.settype.ensures c.set_done.ensures

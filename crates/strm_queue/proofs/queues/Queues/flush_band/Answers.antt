@@ -1,4 +1,5 @@
-use Rattle.std.proofs.Common.{[], ap, refl, subst, sym, ◌∙◌}
+use Rattle.std.proofs.Common.{arith, [], ap, refl, subst, sym, ◌∙◌}
+use Rattle.std.proofs.lemmas.Grind.{common_steps}
 use Rattle.std.specs.Prelude.{filter, not}
 use Rattle.std.specs.List.{flat_map}
 use Rattle.std.proofs.lemmas.Bool.{cond-true}
@@ -12,12 +13,20 @@ use Rattle.strm_queue.proofs.moving.Flushing.{flushed_flags}
 use Rattle.strm_queue.proofs.moving.Others.{others_freed}
 use Rattle.strm_queue.proofs.queues.Queues.flush_band.Goals as goal
 
-pub returns-clause-after : goal.returns-clause-after
-returns-clause-after c =
+pub returns-clause-does : goal.returns-clause-does
+returns-clause-does c =
+    let ms = shelf_at c.args.blocks.now c.args.queue in
     let picked = is_picked c.args.blocks.now.store c.args.band c.args.flush in
-    c.settle.ensures.state c.flush_shelf.new.blocks c.flush_shelf.ensures.in_order
-    ∙ ap (settled c.args.queue) (λ i. let w : QueuedBlocks = record { queues = c.flush_shelf.ensures.state i; arena = c.flush_shelf.ensures.after i } in w)
-    ∙ sym (ap (value_after (together c.args.self.now c.args.blocks.now)) (cond-true _ _ _ (sym c.has_queue.ensures ∙ c.if-not-has_queue.false)))
+    record {
+      after =
+          c.settle.ensures.state c.flush_shelf.new.blocks c.flush_shelf.ensures.in_order
+          ∙ ap (settled c.args.queue) (λ i. let w : QueuedBlocks = record { queues = c.flush_shelf.ensures.state i; arena = c.flush_shelf.ensures.after i } in w)
+          ∙ sym (ap (value_after (together c.args.self.now c.args.blocks.now)) (cond-true _ _ _ (sym c.has_queue.ensures ∙ c.if-not-has_queue.false)));
+      answer = grind (arith, common_steps);
+      others =
+          subst (LeavesOthers [] c.args.blocks.now) (sym c.flush_shelf.ensures.after)
+          (others_freed c.args.blocks.now (with_shelf c.args.queue (filter (λ m. not (picked m)) ms) c.args.blocks.now) (flat_map (λ m. m) (filter picked ms)) refl refl);
+    }
 
 pub returns-clause-agrees : goal.returns-clause-agrees
 returns-clause-agrees c =
@@ -25,10 +34,3 @@ returns-clause-agrees c =
     (λ other away.
     subst (λ s. AreMarksLawful s c.flush_shelf.new.blocks other) (sym c.flush_shelf.ensures.state)
     (flushed_flags c.args.self.now c.args.blocks.now c.requires c.args.queue (is_picked c.args.blocks.now.store c.args.band c.args.flush) c.flush_shelf.new.blocks c.flush_shelf.ensures.after other away))
-
-pub returns-clause-others : goal.returns-clause-others
-returns-clause-others c =
-    let ms = shelf_at c.args.blocks.now c.args.queue in
-    let picked = is_picked c.args.blocks.now.store c.args.band c.args.flush in
-    subst (LeavesOthers [] c.args.blocks.now) (sym c.flush_shelf.ensures.after)
-    (others_freed c.args.blocks.now (with_shelf c.args.queue (filter (λ m. not (picked m)) ms) c.args.blocks.now) (flat_map (λ m. m) (filter picked ms)) refl refl)

@@ -108,10 +108,7 @@ loop-message-preserved c =
             (record {
               taken = w.unshelve-token.new.blocks;
               token = w.unshelve-token.result;
-              after = w.unshelve-token.ensures.after;
-              given = w.unshelve-token.ensures.token;
-              had = w.unshelve-token.ensures.had;
-              unheld = w.unshelve-token.ensures.unheld;
+              takes = w.unshelve-token.ensures.takes;
               spent_is = w.blocks-is ∙ w.freemsg.ensures.after;
             }),
         ap (λ (v : QueuesValue). v.state) w.self-is ∙ w.unshelve-token.ensures.state ∙ c.loop-message.invariant.1,

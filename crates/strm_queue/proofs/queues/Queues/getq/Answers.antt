@@ -1,10 +1,12 @@
-use Rattle.std.proofs.Common.{◌≡◌, Some, true, false, length, ap, subst, sym, ◌∙◌}
+use Rattle.std.proofs.Common.{arith, [], ◌≡◌, Some, true, false, length, ap, subst, sym, ◌∙◌}
+use Rattle.std.proofs.lemmas.Grind.{common_steps}
 use Rattle.std.specs.Prelude.{nat_lt}
 use Rattle.strm_links.specs.Rows.{first}
 use Rattle.strm_mblk.specs.Shelves.{heads_at}
 use Rattle.strm_queue.specs.Flow.{with_read}
 use Rattle.strm_queue.specs.QueueCalls.{with_state}
 use Rattle.strm_queue.specs.QueuedBlocks.{Agrees, QueuesValue, together}
+use Rattle.strm_mblk.proofs.arena.Frame.{leaves_same}
 use Rattle.strm_queue.proofs.agreeing.Agreeing.{agrees_read}
 use Rattle.strm_queue.proofs.moving.Gets.{IsGot, getq_after, got_others}
 use Rattle.strm_queue.proofs.queues.Queues.getq.Goals as goal
@@ -19,14 +21,24 @@ some : (c : After-unshelve-token) → first (heads_at c.args.blocks.now c.args.q
 some c = sym c.first.ensures ∙ c.in-Some.is
 
 got : (c : After-unshelve-token) → IsGot c.args.self.now c.args.blocks.now c.requires c.lawful.ensures.parted c.args.queue (there c) c.in-Some.head c.unshelve-token.new.self c.unshelve-token.new.blocks
-got c = record { state = c.unshelve-token.ensures.state; arena = c.unshelve-token.ensures.after }
+got c = record { state = c.unshelve-token.ensures.state; arena = c.unshelve-token.ensures.takes.after }
 
-pub returns-clause-after : goal.returns-clause-after
-returns-clause-after c =
-    let here = (goal.at.returns-clause-after c).After-unshelve-token in
-    ap (λ (w : QueuesValue). together w c.unshelve-token.new.blocks) c.set_read-2.ensures
-    ∙ ap (with_state (with_read c.args.queue false)) (c.settle.ensures.state c.unshelve-token.new.blocks c.unshelve-token.ensures.in_order)
-    ∙ getq_after c.args.self.now c.args.blocks.now c.requires c.lawful.ensures.parted c.args.queue (there here) c.in-Some.head (some here) c.unshelve-token.new.self c.unshelve-token.new.blocks (got here)
+pub returns-clause-does : goal.returns-clause-does
+returns-clause-does c =
+    let here = (goal.at.returns-clause-does c).After-unshelve-token in
+    record {
+      after =
+          ap (λ (w : QueuesValue). together w c.unshelve-token.new.blocks) c.set_read-2.ensures
+          ∙ ap (with_state (with_read c.args.queue false)) (c.settle.ensures.state c.unshelve-token.new.blocks c.unshelve-token.ensures.in_order)
+          ∙ getq_after c.args.self.now c.args.blocks.now c.requires c.lawful.ensures.parted c.args.queue (there here) c.in-Some.head (some here) c.unshelve-token.new.self c.unshelve-token.new.blocks (got here);
+      token = grind (arith, common_steps);
+      had = c.unshelve-token.ensures.takes.had;
+      unheld = grind (arith, common_steps);
+      others = grind (arith, common_steps);
+    }
+
+pub returns-in_default-clause-does : goal.returns-in_default-clause-does
+returns-in_default-clause-does c = record { after = grind (arith, common_steps); token = grind (arith, common_steps); had = tt; unheld = tt; others = (leaves_same c.args.blocks.now []).others }
 
 pub returns-clause-agrees : goal.returns-clause-agrees
 returns-clause-agrees c =

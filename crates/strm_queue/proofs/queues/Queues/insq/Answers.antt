@@ -1,11 +1,13 @@
 use Rattle.std.proofs.Common.{◌≡◌, ◌≤◌, true, length, ap, sym, ◌∙◌, arith}
 use Rattle.std.specs.Prelude.{nat_lt}
+use Rattle.strm_data.specs.declared.refusal.Refusal.TheVariants.{BadOrder}
 use Rattle.strm_mblk.specs.Arena.{message_at, shelf_at}
 use Rattle.strm_mblk.specs.Block.{head_of}
-use Rattle.strm_mblk.specs.Given.{value_after, answer_of, or_rejected}
+use Rattle.strm_mblk.specs.Given.{answer_of, or_rejected}
 use Rattle.strm_mblk.specs.Messages.{put_before_head}
-use Rattle.strm_queue.specs.QueuedBlocks.{together}
+use Rattle.strm_queue.specs.QueuedBlocks.{arena, together}
 use Rattle.strm_queue.specs.Rank.{as_queued, is_ordered, rank_of}
+use Rattle.strm_mblk.proofs.arena.Calls.{puts_none}
 use Rattle.strm_queue.proofs.moving.Puts.{insq_after, insq_given, insq_refused}
 use Rattle.strm_queue.proofs.order.Ranks.{rank_of-queued}
 use Rattle.strm_queue.proofs.queues.Queues.insq.Goals as goal
@@ -26,33 +28,28 @@ fits c =
     c.fits_before.ensures (as_queued c.args.blocks.now.store (message_at c.args.blocks.now c.args.token.head))
     (rank_of-queued c.args.blocks.now.store (message_at c.args.blocks.now c.args.token.head) ∙ sym c.held_rank-rank.ensures.value)
 
-pub returns-then-not-fits_before-clause-after : goal.returns-then-not-fits_before-clause-after
-returns-then-not-fits_before-clause-after c =
-    let here = (goal.at.returns-then-not-fits_before-clause-after c).After-fits_before in
-    sym (ap (value_after (together c.args.self.now c.args.blocks.now))
+pub returns-then-not-fits_before-clause-does : goal.returns-then-not-fits_before-clause-does
+returns-then-not-fits_before-clause-does c =
+    let here = (goal.at.returns-then-not-fits_before-clause-does c).After-fits_before in
+    puts_none arena (together c.args.self.now c.args.blocks.now) c.args.token _ BadOrder
     (insq_refused c.args.self.now c.args.blocks.now c.args.queue c.args.token.head (there here) c.args.place (few here) c.lawful.ensures.parted c.head_at-before.result
-    c.head_at-before.ensures.value (sym (fits here) ∙ c.if-not-fits_before.true)))
-
-pub returns-then-not-fits_before-clause-answer : goal.returns-then-not-fits_before-clause-answer
-returns-then-not-fits_before-clause-answer c =
-    let here = (goal.at.returns-then-not-fits_before-clause-answer c).After-fits_before in
-    sym (ap (λ g. or_rejected c.args.token (answer_of g))
-    (insq_refused c.args.self.now c.args.blocks.now c.args.queue c.args.token.head (there here) c.args.place (few here) c.lawful.ensures.parted c.head_at-before.result
-    c.head_at-before.ensures.value (sym (fits here) ∙ c.if-not-fits_before.true)))
+    c.head_at-before.ensures.value (sym (fits here) ∙ c.if-not-fits_before.true)) c.requires.had
 
 pub put-requires-clause-ordered : goal.put-requires-clause-ordered
 put-requires-clause-ordered c = sym (fits (goal.at.put-requires-clause-ordered c).After-fits_before) ∙ c.if-not-fits_before.false
 
-pub returns-clause-after : goal.returns-clause-after
-returns-clause-after c =
-    let here = (goal.at.returns-clause-after c).After-fits_before in
-    c.put.ensures.after
-    ∙ insq_after c.args.self.now c.args.blocks.now c.args.queue c.args.token.head (there here) c.args.place (few here) c.lawful.ensures.parted c.head_at-before.result
-    c.head_at-before.ensures.value (sym (fits here) ∙ c.if-not-fits_before.false) c.enables_inserted-enables.result c.enables_inserted-enables.ensures
-
-pub returns-clause-answer : goal.returns-clause-answer
-returns-clause-answer c =
-    let here = (goal.at.returns-clause-answer c).After-fits_before in
-    sym (ap (λ g. or_rejected c.args.token (answer_of g))
-    (insq_given c.args.self.now c.args.blocks.now c.args.queue c.args.token.head (there here) c.args.place (few here) c.lawful.ensures.parted c.head_at-before.result
-    c.head_at-before.ensures.value (sym (fits here) ∙ c.if-not-fits_before.false)))
+pub returns-clause-does : goal.returns-clause-does
+returns-clause-does c =
+    let here = (goal.at.returns-clause-does c).After-fits_before in
+    record {
+      after =
+          c.put.ensures.after
+          ∙ insq_after c.args.self.now c.args.blocks.now c.args.queue c.args.token.head (there here) c.args.place (few here) c.lawful.ensures.parted c.head_at-before.result
+          c.head_at-before.ensures.value (sym (fits here) ∙ c.if-not-fits_before.false) c.enables_inserted-enables.result c.enables_inserted-enables.ensures;
+      answer =
+          sym (ap (λ g. or_rejected c.args.token (answer_of g))
+          (insq_given c.args.self.now c.args.blocks.now c.args.queue c.args.token.head (there here) c.args.place (few here) c.lawful.ensures.parted c.head_at-before.result
+          c.head_at-before.ensures.value (sym (fits here) ∙ c.if-not-fits_before.false)));
+      gone = c.put.ensures.gone;
+      others = c.put.ensures.others;
+    }

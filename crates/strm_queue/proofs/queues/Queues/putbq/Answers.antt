@@ -1,4 +1,5 @@
-use Rattle.std.proofs.Common.{◌≡◌, ap, sym, ◌∙◌}
+use Rattle.std.proofs.Common.{arith, ◌≡◌, ap, sym, ◌∙◌}
+use Rattle.std.proofs.lemmas.Grind.{common_steps}
 use Rattle.strm_mblk.specs.Arena.{message_at, shelf_at}
 use Rattle.strm_mblk.specs.Block.{Message, head_of}
 use Rattle.strm_mblk.specs.Messages.{put_before_head}
@@ -23,9 +24,15 @@ put-requires-clause-ordered c =
     let at = (goal.at.put-requires-clause-ordered c).After-place_ahead-before in
     ap (is_ordered (rank_of c.args.blocks.now.store)) (place at) ∙ ordered_put_ahead (rank_of c.args.blocks.now.store) (m at) (shelf_at c.args.blocks.now c.args.queue) (c.requires.agrees.in_order.ordered c.args.queue)
 
-pub returns-clause-after : goal.returns-clause-after
-returns-clause-after c =
-    let here = (goal.at.returns-clause-after c).After-place_ahead-before in
-    c.put.ensures.after
-    ∙ putbq_after c.args.self.now c.args.blocks.now c.args.queue c.args.token.head (sym c.has_queue.ensures ∙ c.if-not-has_queue.false) c.enables_put_back-enables.result _
-    (c.enables_put_back-enables.ensures ∙ ap (enables_put_back (flags_at c.args.self.now.state c.args.queue)) c.held_rank-rank.ensures.value) (place here)
+pub returns-clause-does : goal.returns-clause-does
+returns-clause-does c =
+    let here = (goal.at.returns-clause-does c).After-place_ahead-before in
+    record {
+      after =
+          c.put.ensures.after
+          ∙ putbq_after c.args.self.now c.args.blocks.now c.args.queue c.args.token.head (sym c.has_queue.ensures ∙ c.if-not-has_queue.false) c.enables_put_back-enables.result _
+          (c.enables_put_back-enables.ensures ∙ ap (enables_put_back (flags_at c.args.self.now.state c.args.queue)) c.held_rank-rank.ensures.value) (place here);
+      answer = grind (arith, common_steps);
+      gone = c.put.ensures.gone;
+      others = c.put.ensures.others;
+    }

@@ -1,4 +1,5 @@
-use Rattle.std.proofs.Common.{◌≡◌, Some, Ok, true, length, ap, sym, ◌∙◌}
+use Rattle.std.proofs.Common.{arith, ◌≡◌, Some, true, length, ap, sym, ◌∙◌}
+use Rattle.std.proofs.lemmas.Grind.{common_steps}
 use Rattle.std.specs.Prelude.{nat_lt, slice_get}
 use Rattle.strm_mblk.specs.Arena.{token_of}
 use Rattle.strm_mblk.specs.Given.{answer_map, answer_of}
@@ -16,23 +17,26 @@ some : (c : After-unshelve-token) → slice_get (heads_at c.args.blocks.now c.ar
 some c = sym c.head_at.ensures.value ∙ c.in-Some.is
 
 got : (c : After-unshelve-token) → IsGot c.args.self.now c.args.blocks.now c.requires c.lawful.ensures.parted c.args.queue (there c) c.in-Some.head c.unshelve-token.new.self c.unshelve-token.new.blocks
-got c = record { state = c.unshelve-token.ensures.state; arena = c.unshelve-token.ensures.after }
+got c = record { state = c.unshelve-token.ensures.state; arena = c.unshelve-token.ensures.takes.after }
 
-pub returns-clause-after : goal.returns-clause-after
-returns-clause-after c =
-    let here = (goal.at.returns-clause-after c).After-unshelve-token in
-    c.settle.ensures.state c.unshelve-token.new.blocks c.unshelve-token.ensures.in_order
-    ∙ rmvq_after c.args.self.now c.args.blocks.now c.requires c.lawful.ensures.parted c.args.queue (there here) c.in-Some.head c.args.place (some here) c.unshelve-token.new.self c.unshelve-token.new.blocks (got here)
+pub returns-clause-does : goal.returns-clause-does
+returns-clause-does c =
+    let here = (goal.at.returns-clause-does c).After-unshelve-token in
+    record {
+      after =
+          c.settle.ensures.state c.unshelve-token.new.blocks c.unshelve-token.ensures.in_order
+          ∙ rmvq_after c.args.self.now c.args.blocks.now c.requires c.lawful.ensures.parted c.args.queue (there here) c.in-Some.head c.args.place (some here) c.unshelve-token.new.self c.unshelve-token.new.blocks (got here);
+      token =
+          c.unshelve-token.ensures.takes.token
+          ∙ sym (ap (λ g. answer_map (token_of c.unshelve-token.new.blocks) (answer_of g))
+          (rmvq_given c.args.self.now c.args.blocks.now c.requires c.lawful.ensures.parted c.args.queue (there here) c.in-Some.head c.args.place (some here)));
+      had = c.unshelve-token.ensures.takes.had;
+      unheld = grind (arith, common_steps);
+      others = grind (arith, common_steps);
+    }
 
 pub returns-clause-agrees : goal.returns-clause-agrees
 returns-clause-agrees c =
     let here = (goal.at.returns-clause-agrees c).After-unshelve-token in
     c.settle.ensures.agrees c.unshelve-token.new.blocks c.unshelve-token.ensures.in_order
     (got_others c.args.self.now c.args.blocks.now c.requires c.lawful.ensures.parted c.args.queue (there here) c.in-Some.head c.unshelve-token.new.self c.unshelve-token.new.blocks (got here))
-
-pub returns-clause-token : goal.returns-clause-token
-returns-clause-token c =
-    let here = (goal.at.returns-clause-token c).After-unshelve-token in
-    ap Ok c.unshelve-token.ensures.token
-    ∙ sym (ap (λ g. answer_map (token_of c.unshelve-token.new.blocks) (answer_of g))
-    (rmvq_given c.args.self.now c.args.blocks.now c.requires c.lawful.ensures.parted c.args.queue (there here) c.in-Some.head c.args.place (some here)))

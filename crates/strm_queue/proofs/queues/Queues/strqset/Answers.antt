@@ -1,4 +1,5 @@
-use Rattle.std.proofs.Common.{◌≡◌, true, arith, length, sym, ap, subst, ◌∙◌}
+use Rattle.std.proofs.Common.{refl, ◌≡◌, true, arith, length, sym, ap, subst, ◌∙◌}
+use Rattle.std.proofs.lemmas.Grind.{common_steps}
 use Rattle.std.specs.Prelude.{nat_lt}
 use Rattle.std.proofs.lemmas.Bool.{ltb-true}
 use Rattle.strm_mblk.specs.Given.{value_after}
@@ -30,12 +31,17 @@ in_order c =
     subst (λ w. AreInOrder w c.args.blocks.now) (sym (marked c))
     (marked_in_order c.args.self.now c.args.blocks.now c.args.queue c.args.band (m c) c.requires.in_order (ltb-true c.args.queue (length c.args.self.now.state.specs) (there c)) (omega (arith, c.ranges.band)))
 
-pub returns-clause-after : goal.returns-clause-after
-returns-clause-after c =
-    let here = (goal.at.returns-clause-after c).After-recount in
-    c.settle.ensures.state c.args.blocks.now (in_order here)
-    ∙ ap (λ w. settled c.args.queue (together w c.args.blocks.now)) (marked here)
-    ∙ sym (ap (value_after (together c.args.self.now c.args.blocks.now)) (strqset_given (together c.args.self.now c.args.blocks.now) c.args.queue c.args.band c.args.hiwat c.args.lowat (there here) (omega (arith, c.if-lowat-hiwat.false))))
+pub returns-clause-does : goal.returns-clause-does
+returns-clause-does c =
+    let here = (goal.at.returns-clause-does c).After-recount in
+    record {
+      after =
+          c.settle.ensures.state c.args.blocks.now (in_order here)
+          ∙ ap (λ w. settled c.args.queue (together w c.args.blocks.now)) (marked here)
+          ∙ sym (ap (value_after (together c.args.self.now c.args.blocks.now)) (strqset_given (together c.args.self.now c.args.blocks.now) c.args.queue c.args.band c.args.hiwat c.args.lowat (there here) (omega (arith, c.if-lowat-hiwat.false))));
+      answer = grind (arith, common_steps);
+      arena_stays = refl;
+    }
 
 pub returns-clause-agrees : goal.returns-clause-agrees
 returns-clause-agrees c =

@@ -1,8 +1,6 @@
-use Rattle.std.proofs.Common.{◌≡◌, ◌++◌, [], ◌∷◌, ap, subst, sym, ◌∙◌}
+use Rattle.std.proofs.Common.{◌≡◌, ◌++◌, ◌∷◌, ap, subst, sym, ◌∙◌}
 use Rattle.strm_mblk.specs.Arena.{Arena, shelf_at, with_held, with_shelf}
 use Rattle.strm_mblk.specs.Block.{size_of}
-use Rattle.strm_mblk.specs.declared.token.TokenValue.{TokenValue}
-use Rattle.strm_mblk.specs.Frame.{LeavesOthers}
 use Rattle.strm_mblk.specs.Shelves.{unshelve, shelved_message}
 use Rattle.strm_mblk.proofs.arena.Stands.{heads_apart, shelf_of-there}
 use Rattle.strm_queue.specs.Flow.{hiwat_of}
@@ -91,7 +89,3 @@ returns-clause-in_order c =
     subst (λ v. AreInOrder v c.unshelve.new.self) (sym c.leave.ensures)
     (in_order_got c.args.self.now c.args.blocks.now c.requires.in_order c.args.queue c.requires.queue (parts at).at c.unshelve.new.self (ap (λ (b : Arena). b.store) left) (parts at).pre (parts at).post (own at) (placed at) (apart at) (parts at).is
     (ap (λ (b : Arena). b.shelves) left))
-
-pub returns-clause-others : goal.returns-clause-others
-returns-clause-others c =
-    subst (λ (t : TokenValue). LeavesOthers (t.head ∷ []) c.args.blocks.now c.unshelve.new.self) (sym c.unshelve.ensures.token) c.unshelve.ensures.others

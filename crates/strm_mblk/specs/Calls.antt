@@ -1,0 +1,136 @@
+-- What a call does with messages, by its shape. Each record is about a value that has message blocks, which `arena` finds in it. `call` is
+-- what the definition of the call gives for the old value, and `result` is what the call answered: `Ok result` for a call that is never
+-- refused, and `Ok tt` for one that answers nothing. A refused call changes nothing.
+use Rattle.std.specs.Prelude.{◌≡◌, ◌≢◌, ◌⊎◌, ℕ, IsTrue, [], ◌∷◌, Option, None, Some, Result, IfOk, IfSome, MatchResult, option_map}
+use Rattle.strm_data.specs.declared.refusal.Refusal.{Refusal}
+use Rattle.strm_mblk.specs.declared.rejected.Rejected.{Rejected}
+use Rattle.strm_mblk.specs.declared.token.TokenValue.{TokenValue}
+use Rattle.strm_mblk.specs.Arena.{Arena, has, held_at, token_of}
+use Rattle.strm_mblk.specs.Frame.{LeavesOthers, LeavesShelves, head_answered, heads_answered, heads_parted}
+use Rattle.strm_mblk.specs.Given.{Given, answer_map, answer_of, or_rejected, value_after}
+
+-- the message blocks of an arena
+abbrev pub itself : Arena → Arena
+itself a = a
+
+-- ---- calls that change no shelf
+
+-- A call that makes a message, perhaps out of a held one, its source.
+pub record Gives {V : Type 0} (arena : V → Arena) (source : Option TokenValue) (call : Given V ℕ) (old new : V) (result : Result TokenValue Refusal) : Type 0 where
+  pub after : new ≡ value_after old call
+  pub token : result ≡ answer_map (token_of (arena new)) (answer_of call)
+  -- the token is of a held message, and no message was held at its head before
+  pub had : IfOk result (λ t. IsTrue (has (arena new) t))
+  pub unheld : IfOk result (λ t. held_at (arena old) t.head ≡ None)
+  -- the source stays held
+  pub kept : IfSome source (λ t. IsTrue (has (arena new) t))
+  pub others : LeavesOthers (head_answered result) (arena old) (arena new)
+  pub shelves : LeavesShelves (head_answered result) (arena old) (arena new)
+
+-- A call that alters the message of a token t, which is u after it.
+pub record Alters {V : Type 0} (arena : V → Arena) (t u : TokenValue) (call : Given V (Unit {0})) (old new : V) (result : Result (Unit {0}) Refusal) : Type 0 where
+  pub after : new ≡ value_after old call
+  pub answer : result ≡ answer_of call
+  -- the message is still held at its head
+  pub token : u ≡ token_of (arena new) t.head
+  pub had : IsTrue (has (arena new) u)
+  pub others : LeavesOthers (t.head ∷ []) (arena old) (arena new)
+  pub shelves : LeavesShelves (t.head ∷ []) (arena old) (arena new)
+
+-- A call that joins the message of a token u, which is spent, to that of a token s, which is t after it. `next` is the value that the
+-- definition gives.
+pub record Joins {V : Type 0} (arena : V → Arena) (s t u : TokenValue) (next old new : V) : Type 0 where
+  pub after : new ≡ next
+  -- the first message is still held at its head, and none is at that of the other
+  pub token : t ≡ token_of (arena new) s.head
+  pub had : IsTrue (has (arena new) t)
+  pub gone : s.head ≢ u.head → held_at (arena new) u.head ≡ None
+  pub others : LeavesOthers (s.head ∷ u.head ∷ []) (arena old) (arena new)
+  pub shelves : LeavesShelves (s.head ∷ u.head ∷ []) (arena old) (arena new)
+
+-- A call that leaves the first block in the message of a token t, which is u after it, and answers the token of the rest, if there is one.
+pub record Unlinks {V : Type 0} (arena : V → Arena) (t u : TokenValue) (call : Given V (Option ℕ)) (old new : V) (result : Result (Option TokenValue) Refusal) : Type 0 where
+  pub after : new ≡ value_after old call
+  pub rest : result ≡ answer_map (option_map (token_of (arena new))) (answer_of call)
+  pub token : u ≡ token_of (arena new) t.head
+  -- both messages are held, and no message was held at the head of the rest before
+  pub had : IsTrue (has (arena new) u)
+  pub rest_had : IfOk result (λ rest. IfSome rest (λ r. IsTrue (has (arena new) r)))
+  pub unheld : IfOk result (λ rest. IfSome rest (λ r. held_at (arena old) r.head ≡ None))
+  pub others : LeavesOthers (t.head ∷ heads_answered result) (arena old) (arena new)
+  pub shelves : LeavesShelves (t.head ∷ heads_answered result) (arena old) (arena new)
+
+-- A call that frees the first block of the message of a token t, which is spent, and answers the token of the rest, if there is one.
+pub record Frees {V : Type 0} (arena : V → Arena) (t : TokenValue) (call : Given V (Option ℕ)) (old new : V) (result : Result (Option TokenValue) Refusal) : Type 0 where
+  pub after : new ≡ value_after old call
+  pub rest : result ≡ answer_map (option_map (token_of (arena new))) (answer_of call)
+  -- the rest is held, and no message was held at its head before
+  pub had : IfOk result (λ rest. IfSome rest (λ r. IsTrue (has (arena new) r)))
+  pub unheld : IfOk result (λ rest. IfSome rest (λ r. held_at (arena old) r.head ≡ None))
+  -- no message is held at the old head
+  pub gone : IfOk result (λ rest. held_at (arena new) t.head ≡ None)
+  pub others : LeavesOthers (t.head ∷ heads_answered result) (arena old) (arena new)
+  pub shelves : LeavesShelves (t.head ∷ heads_answered result) (arena old) (arena new)
+
+-- A call that parts the message of a token t, which is spent, into two, or into one if all its blocks are in the first. It answers their
+-- tokens, or gives t back.
+pub record Parts {V : Type 0} (arena : V → Arena) (t : TokenValue) (call : Given V (ℕ × Option ℕ)) (old new : V) (result : Result (TokenValue × Option TokenValue) Rejected) : Type 0 where
+  pub after : new ≡ value_after old call
+  pub answer : result ≡ or_rejected t (answer_map (λ heads. (token_of (arena new) heads.0, option_map (token_of (arena new)) heads.1)) (answer_of call))
+  -- both messages are held; one has the old head, and no message was held at the head of the other before
+  pub kept : IfOk result (λ tokens. (tokens.0.head ≡ t.head) ⊎ (option_map (λ r. r.head) tokens.1 ≡ Some t.head))
+  pub had : IfOk result (λ tokens. IsTrue (has (arena new) tokens.0))
+  pub rest_had : IfOk result (λ tokens. IfSome tokens.1 (λ r. IsTrue (has (arena new) r)))
+  pub unheld : IfOk result (λ tokens. tokens.0.head ≢ t.head → held_at (arena old) tokens.0.head ≡ None)
+  pub rest_unheld : IfOk result (λ tokens. IfSome tokens.1 (λ r. r.head ≢ t.head → held_at (arena old) r.head ≡ None))
+  pub apart : IfOk result (λ tokens. IfSome tokens.1 (λ r. r.head ≢ tokens.0.head))
+  pub others : LeavesOthers (t.head ∷ heads_parted result) (arena old) (arena new)
+  pub shelves : LeavesShelves (t.head ∷ heads_parted result) (arena old) (arena new)
+
+-- A call that spends a token t, and frees its message if it is held. `next` is the value that the definition gives.
+pub record Spends {V : Type 0} (arena : V → Arena) (t : TokenValue) (next old new : V) : Type 0 where
+  pub after : new ≡ next
+  -- no message is held at the head then
+  pub gone : IsTrue (has (arena old) t) → held_at (arena new) t.head ≡ None
+  pub others : LeavesOthers (t.head ∷ []) (arena old) (arena new)
+  pub shelves : LeavesShelves (t.head ∷ []) (arena old) (arena new)
+
+-- ---- calls that change shelves, or what queues say besides
+
+-- A call that puts the message of a token t on a shelf, or gives the token back.
+pub record Puts {V : Type 0} (arena : V → Arena) (t : TokenValue) (call : Given V (Unit {0})) (old new : V) (result : Result (Unit {0}) Rejected) : Type 0 where
+  pub after : new ≡ value_after old call
+  pub answer : result ≡ or_rejected t (answer_of call)
+  -- no message is held at its head, or the token is of a held message still
+  pub gone : MatchResult result (λ done. held_at (arena new) t.head ≡ None) (λ rejected. IsTrue (has (arena new) t))
+  pub others : LeavesOthers (t.head ∷ []) (arena old) (arena new)
+
+-- A call that takes a message off a shelf.
+pub record Takes {V : Type 0} (arena : V → Arena) (call : Given V ℕ) (old new : V) (result : Result TokenValue Refusal) : Type 0 where
+  pub after : new ≡ value_after old call
+  pub token : result ≡ answer_map (token_of (arena new)) (answer_of call)
+  -- the token is of a held message, and no message was held at its head before
+  pub had : IfOk result (λ t. IsTrue (has (arena new) t))
+  pub unheld : IfOk result (λ t. held_at (arena old) t.head ≡ None)
+  pub others : LeavesOthers (head_answered result) (arena old) (arena new)
+
+-- A call that takes a message off a shelf, if there is one.
+pub record TakesAny {V : Type 0} (arena : V → Arena) (call : Given V (Option ℕ)) (old new : V) (result : Result (Option TokenValue) Refusal) : Type 0 where
+  pub after : new ≡ value_after old call
+  pub token : result ≡ answer_map (option_map (token_of (arena new))) (answer_of call)
+  -- the token is of a held message, and no message was held at its head before
+  pub had : IfOk result (λ given. IfSome given (λ t. IsTrue (has (arena new) t)))
+  pub unheld : IfOk result (λ given. IfSome given (λ t. held_at (arena old) t.head ≡ None))
+  pub others : LeavesOthers (heads_answered result) (arena old) (arena new)
+
+-- A call that frees messages on shelves, and leaves the held ones.
+pub record Flushes {V : Type 0} (arena : V → Arena) (call : Given V (Unit {0})) (old new : V) (result : Result (Unit {0}) Refusal) : Type 0 where
+  pub after : new ≡ value_after old call
+  pub answer : result ≡ answer_of call
+  pub others : LeavesOthers [] (arena old) (arena new)
+
+-- A call that changes no message and no message block.
+pub record LeavesBlocks {V X : Type 0} (arena : V → Arena) (call : Given V X) (old new : V) (result : Result X Refusal) : Type 0 where
+  pub after : new ≡ value_after old call
+  pub answer : result ≡ answer_of call
+  pub arena_stays : arena new ≡ arena old

@@ -1,0 +1,6 @@
+use Rattle.strm_queue.specs.QueueCalls as queues
+use Rattle.strm_pool.proofs.OnParts.{puts_on}
+use Rattle.strm_pool.proofs.pool.Pool.putbq.Goals as goal
+
+pub returns : goal.returns
+returns c = puts_on c.self.view_is (queues.putbq c.args.queue c.args.token.head) c.putbq.ensures.does
