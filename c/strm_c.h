@@ -1,68 +1,82 @@
 /*
  * What the crate strm_c exports, for strm.c only. Each export is the call of strm.h whose name lacks the `c_`. Its caller keeps the
  * promises of strm.h, and passes no null pointer, no length above half of the greatest size_t, and no place for two answers. The
- * export checks all other misuse.
+ * export checks all other misuse. tests/exports compares these declarations with the crate.
  */
 #ifndef STRM_C_H
 #define STRM_C_H
 
 #include "strm.h"
 
+/*
+ * The calls that pass their arguments on unchanged, in the order of strm.h. A row has a call's name without `strm_`, its parameters,
+ * its arguments, and what must be true of the pointers among them.
+ */
+#define STRM_CALLS(CALL) \
+	CALL(allocb, (struct strm_pool *pool, uint32_t size, struct strm_msg *msg), (pool, size, msg), msg != NULL) \
+	CALL(testb, (struct strm_pool *pool, uint32_t size, uint32_t *yes), (pool, size, yes), yes != NULL) \
+	CALL(dupb, (struct strm_pool *pool, struct strm_msg msg, struct strm_msg *copy), (pool, msg, copy), copy != NULL) \
+	CALL(dupmsg, (struct strm_pool *pool, struct strm_msg msg, struct strm_msg *copy), (pool, msg, copy), copy != NULL) \
+	CALL(copyb, (struct strm_pool *pool, struct strm_msg msg, struct strm_msg *copy), (pool, msg, copy), copy != NULL) \
+	CALL(copymsg, (struct strm_pool *pool, struct strm_msg msg, struct strm_msg *copy), (pool, msg, copy), copy != NULL) \
+	CALL(freeb, (struct strm_pool *pool, struct strm_msg msg, struct strm_msg *rest), (pool, msg, rest), rest != NULL) \
+	CALL(freemsg, (struct strm_pool *pool, struct strm_msg msg), (pool, msg), 1) \
+	CALL(settype, (struct strm_pool *pool, struct strm_msg msg, uint32_t place, uint32_t type), (pool, msg, place, type), 1) \
+	CALL(setband, (struct strm_pool *pool, struct strm_msg msg, uint32_t band), (pool, msg, band), 1) \
+	CALL(size, (struct strm_pool *pool, struct strm_msg msg, uint32_t *bytes), (pool, msg, bytes), bytes != NULL) \
+	CALL(msgdsize, (struct strm_pool *pool, struct strm_msg msg, uint32_t *bytes), (pool, msg, bytes), bytes != NULL) \
+	CALL(block, (struct strm_pool *pool, struct strm_msg msg, uint32_t place, struct strm_block_info *block), \
+		(pool, msg, place, block), block != NULL) \
+	CALL(has, (struct strm_pool *pool, struct strm_msg msg, uint32_t *yes), (pool, msg, yes), yes != NULL) \
+	CALL(linkb, (struct strm_pool *pool, struct strm_msg msg, struct strm_msg tail), (pool, msg, tail), 1) \
+	CALL(unlinkb, (struct strm_pool *pool, struct strm_msg msg, struct strm_msg *rest), (pool, msg, rest), rest != NULL) \
+	CALL(rmvb, (struct strm_pool *pool, struct strm_msg msg, uint32_t place, struct strm_msg *block, struct strm_msg *rest), \
+		(pool, msg, place, block, rest), block != NULL && rest != NULL && block != rest) \
+	CALL(adjmsg, (struct strm_pool *pool, struct strm_msg msg, int32_t count), (pool, msg, count), 1) \
+	CALL(pullupmsg, (struct strm_pool *pool, struct strm_msg msg, int32_t count), (pool, msg, count), 1) \
+	CALL(putq, (struct strm_pool *pool, uint32_t queue, struct strm_msg msg), (pool, queue, msg), 1) \
+	CALL(putbq, (struct strm_pool *pool, uint32_t queue, struct strm_msg msg), (pool, queue, msg), 1) \
+	CALL(insq, (struct strm_pool *pool, uint32_t queue, uint32_t place, struct strm_msg msg), (pool, queue, place, msg), 1) \
+	CALL(getq, (struct strm_pool *pool, uint32_t queue, struct strm_msg *msg), (pool, queue, msg), msg != NULL) \
+	CALL(rmvq, (struct strm_pool *pool, uint32_t queue, uint32_t place, struct strm_msg *msg), \
+		(pool, queue, place, msg), msg != NULL) \
+	CALL(qsize, (struct strm_pool *pool, uint32_t queue, uint32_t *msgs), (pool, queue, msgs), msgs != NULL) \
+	CALL(flushq, (struct strm_pool *pool, uint32_t queue, uint32_t flush), (pool, queue, flush), 1) \
+	CALL(flushband, (struct strm_pool *pool, uint32_t queue, uint32_t band, uint32_t flush), (pool, queue, band, flush), 1) \
+	CALL(bcanput, (struct strm_pool *pool, uint32_t queue, uint32_t band, uint32_t *yes), \
+		(pool, queue, band, yes), yes != NULL) \
+	CALL(strqset, (struct strm_pool *pool, uint32_t queue, uint32_t band, uint32_t hiwat, uint32_t lowat), \
+		(pool, queue, band, hiwat, lowat), 1) \
+	CALL(strqget, (struct strm_pool *pool, uint32_t queue, uint32_t band, struct strm_marks *marks), \
+		(pool, queue, band, marks), marks != NULL) \
+	CALL(qenable, (struct strm_pool *pool, uint32_t queue), (pool, queue), 1) \
+	CALL(noenable, (struct strm_pool *pool, uint32_t queue), (pool, queue), 1) \
+	CALL(enableok, (struct strm_pool *pool, uint32_t queue), (pool, queue), 1) \
+	CALL(next_service, (struct strm_pool *pool, uint32_t *queue), (pool, queue), queue != NULL) \
+	CALL(run_at, (struct strm_pool *pool, uint32_t place, uint32_t *queue), (pool, place, queue), queue != NULL) \
+	CALL(bufcall, (struct strm_pool *pool, uint32_t size, uint32_t *id), (pool, size, id), id != NULL) \
+	CALL(unbufcall, (struct strm_pool *pool, uint32_t id), (pool, id), 1) \
+	CALL(take_ready, (struct strm_pool *pool, struct strm_wish *wish), (pool, wish), wish != NULL) \
+	CALL(wish_at, (struct strm_pool *pool, uint32_t place, struct strm_wish *wish), (pool, place, wish), wish != NULL) \
+	CALL(census, (struct strm_pool *pool, struct strm_census *census), (pool, census), census != NULL) \
+	CALL(class_info, (struct strm_pool *pool, uint32_t place, struct strm_class_info *info), \
+		(pool, place, info), info != NULL) \
+	CALL(queue_info, (struct strm_pool *pool, uint32_t queue, struct strm_queue_info *info), \
+		(pool, queue, info), info != NULL) \
+	CALL(band_info, (struct strm_pool *pool, uint32_t queue, uint32_t band, struct strm_band_info *info), \
+		(pool, queue, band, info), info != NULL)
+
+/* Declares the export of a row. */
+#define STRM_DECLARE(call, parameters, arguments, fits) int32_t strm_c_##call parameters;
+STRM_CALLS(STRM_DECLARE)
+#undef STRM_DECLARE
+
+/* The calls that strm.c writes out. */
 int32_t strm_c_open(struct strm_pool *pool, uint32_t id, uint32_t mblks, const struct strm_class_spec *classes, size_t class_count,
 	const struct strm_queue_spec *queues, size_t queue_count, uint32_t bufcalls, uint32_t first_id);
 int32_t strm_c_close(struct strm_pool *pool);
-
-int32_t strm_c_allocb(struct strm_pool *pool, uint32_t size, struct strm_msg *msg);
-int32_t strm_c_testb(struct strm_pool *pool, uint32_t size, uint32_t *yes);
-int32_t strm_c_dupb(struct strm_pool *pool, struct strm_msg msg, struct strm_msg *copy);
-int32_t strm_c_dupmsg(struct strm_pool *pool, struct strm_msg msg, struct strm_msg *copy);
-int32_t strm_c_copyb(struct strm_pool *pool, struct strm_msg msg, struct strm_msg *copy);
-int32_t strm_c_copymsg(struct strm_pool *pool, struct strm_msg msg, struct strm_msg *copy);
-int32_t strm_c_freeb(struct strm_pool *pool, struct strm_msg msg, struct strm_msg *rest);
-int32_t strm_c_freemsg(struct strm_pool *pool, struct strm_msg msg);
-
 int32_t strm_c_write(struct strm_pool *pool, struct strm_msg msg, uint32_t place, const uint8_t *bytes, size_t length);
 int32_t strm_c_read(struct strm_pool *pool, struct strm_msg msg, uint32_t at, uint8_t *into, size_t length, size_t *count);
-int32_t strm_c_settype(struct strm_pool *pool, struct strm_msg msg, uint32_t place, uint32_t type);
-int32_t strm_c_setband(struct strm_pool *pool, struct strm_msg msg, uint32_t band);
-int32_t strm_c_size(struct strm_pool *pool, struct strm_msg msg, uint32_t *bytes);
-int32_t strm_c_msgdsize(struct strm_pool *pool, struct strm_msg msg, uint32_t *bytes);
-int32_t strm_c_block(struct strm_pool *pool, struct strm_msg msg, uint32_t place, struct strm_block_info *block);
-int32_t strm_c_has(struct strm_pool *pool, struct strm_msg msg, uint32_t *yes);
-
-int32_t strm_c_linkb(struct strm_pool *pool, struct strm_msg msg, struct strm_msg tail);
-int32_t strm_c_unlinkb(struct strm_pool *pool, struct strm_msg msg, struct strm_msg *rest);
-int32_t strm_c_rmvb(struct strm_pool *pool, struct strm_msg msg, uint32_t place, struct strm_msg *block, struct strm_msg *rest);
-int32_t strm_c_adjmsg(struct strm_pool *pool, struct strm_msg msg, int32_t count);
-int32_t strm_c_pullupmsg(struct strm_pool *pool, struct strm_msg msg, int32_t count);
-
-int32_t strm_c_putq(struct strm_pool *pool, uint32_t queue, struct strm_msg msg);
-int32_t strm_c_putbq(struct strm_pool *pool, uint32_t queue, struct strm_msg msg);
-int32_t strm_c_insq(struct strm_pool *pool, uint32_t queue, uint32_t place, struct strm_msg msg);
-int32_t strm_c_getq(struct strm_pool *pool, uint32_t queue, struct strm_msg *msg);
-int32_t strm_c_rmvq(struct strm_pool *pool, uint32_t queue, uint32_t place, struct strm_msg *msg);
-int32_t strm_c_qsize(struct strm_pool *pool, uint32_t queue, uint32_t *msgs);
-int32_t strm_c_flushq(struct strm_pool *pool, uint32_t queue, uint32_t flush);
-int32_t strm_c_flushband(struct strm_pool *pool, uint32_t queue, uint32_t band, uint32_t flush);
-
-int32_t strm_c_bcanput(struct strm_pool *pool, uint32_t queue, uint32_t band, uint32_t *yes);
-int32_t strm_c_strqset(struct strm_pool *pool, uint32_t queue, uint32_t band, uint32_t hiwat, uint32_t lowat);
-int32_t strm_c_strqget(struct strm_pool *pool, uint32_t queue, uint32_t band, struct strm_marks *marks);
-int32_t strm_c_qenable(struct strm_pool *pool, uint32_t queue);
-int32_t strm_c_noenable(struct strm_pool *pool, uint32_t queue);
-int32_t strm_c_enableok(struct strm_pool *pool, uint32_t queue);
-int32_t strm_c_next_service(struct strm_pool *pool, uint32_t *queue);
-int32_t strm_c_run_at(struct strm_pool *pool, uint32_t place, uint32_t *queue);
-
-int32_t strm_c_bufcall(struct strm_pool *pool, uint32_t size, uint32_t *id);
-int32_t strm_c_unbufcall(struct strm_pool *pool, uint32_t id);
-int32_t strm_c_take_ready(struct strm_pool *pool, struct strm_wish *wish);
-int32_t strm_c_wish_at(struct strm_pool *pool, uint32_t place, struct strm_wish *wish);
-
-int32_t strm_c_census(struct strm_pool *pool, struct strm_census *census);
-int32_t strm_c_class_info(struct strm_pool *pool, uint32_t place, struct strm_class_info *info);
-int32_t strm_c_queue_info(struct strm_pool *pool, uint32_t queue, struct strm_queue_info *info);
-int32_t strm_c_band_info(struct strm_pool *pool, uint32_t queue, uint32_t band, struct strm_band_info *info);
 
 /* Each copies as much of a text as fits, without a 0, and returns the length of the whole text. */
 size_t strm_c_text(int32_t code, uint8_t *text, size_t length);
