@@ -3,9 +3,9 @@
  * C++.
  *
  * A pool has message blocks, data blocks in size classes, and queues. Only strm_open allocates
- * memory. A message is a chain of message blocks; the caller holds it by a name, or it is on a
- * queue. Names are values, so no pointer into a pool can dangle. Bytes are copied in and out.
- * Queues, and places of blocks, messages and bytes, are numbered from 0.
+ * memory. A message is a chain of one or more message blocks; the caller holds it by a name, or it
+ * is on a queue. No call returns a pointer into a pool: bytes are copied in and out. Queues, and
+ * places of blocks, messages and bytes, are numbered from 0.
  *
  *     strm_allocb(&pool, 4, &msg);
  *     strm_write(&pool, msg, 0, "lion", 4);
@@ -15,61 +15,65 @@
  * Terms
  *
  *   - next: the queue to which a queue leads, if any.
- *   - service procedure: your code that takes messages off a queue. The library only says when: call
- *     strm_next_service in a loop, and serve the queue that it returns (examples/c/service.c).
+ *   - service procedure: your code that takes messages off a queue. Call strm_next_service in a
+ *     loop, and run the service procedure of the queue that this returns (examples/c/service.c).
  *   - read place, write place: where the bytes of a message block begin and end in its data block.
  *     Each message block has its own.
- *   - reference: a message block that uses a data block. The field "names" counts these; they are
- *     not the names of messages.
- *   - high priority: messages of type STRM_M_IOCACK or a later one.
- *   - rank: a message's band; high priority ranks above all bands.
- *   - full: a band of a queue with the bytes of its high water mark, or more.
- *   - wanted: the mark of a band that strm_bcanput found full.
- *   - settle: to clear the wanted mark of each band of a queue whose bytes are at its low water mark
- *     or below. If one is cleared, the pool goes back from this queue, against next, to the first
- *     queue with a service procedure, and enables it (back-enabling).
- *   - run list: the queues whose service procedures are due.
- *   - enable: to append a queue to the run list, unless it is there or has no service procedure.
- *   - want-to-read: the mark of a new queue, and of one that strm_getq found empty.
- *   - wish (bufcall): a request for a message block, kept until strm_take_ready returns it.
+ *   - reference: a message block that uses a data block. The field `names` counts these, not the
+ *     names of messages.
+ *   - band, type: a message has those of its first block.
+ *   - high priority: said of messages of type STRM_M_IOCACK or a type listed after it.
+ *   - rank: the band of an ordinary message. High priority ranks above all bands.
+ *   - full: said of a band that has at least as many bytes as its high water mark.
+ *   - wanted: the mark of a band that strm_bcanput found full; settling clears it.
+ *   - settle: to clear the wanted marks of a queue's bands that are at their low water mark or
+ *     below. If a mark was cleared, the pool looks at the queue whose next is this queue, at the
+ *     queue whose next is that one, and so on. It enables the first that has a service procedure
+ *     (back-enabling).
+ *   - enable: to append a queue to the run list, whose first queue strm_next_service takes. A queue
+ *     already on the list, or without a service procedure, is not appended.
+ *   - enabling: on in a new queue; strm_noenable switches it off, strm_enableok on.
+ *   - want-to-read: a mark that a new queue has, and that strm_getq sets or clears.
+ *   - wish (bufcall): a recorded request for a message block. strm_take_ready returns the wish, not
+ *     the block.
  *
  *
  * Results
  *
  * A call that can fail returns a code, and stores its results through pointers. STRM_OK is 0. Codes
  * above 0 are refusals of the pool, numbered as by the program strm. Codes below 0 are of this
- * header. strm_open has its own order; otherwise, if several apply, the first in this list is
- * returned:
+ * header. If several codes apply, a call returns the first in this list (strm_open has its own
+ * order):
  *
  *   1. STRM_NOT_OPEN: the handle is null, was never opened, or was closed.
- *   2. STRM_BAD_ARGUMENT: a pointer is null, except one to a buffer of length 0. Or a band, a type,
- *      a flush or a length is out of range; a length is at most SIZE_MAX / 2. Or block and rest of
- *      strm_rmvb are equal, or into and count of strm_read (with a length above 0).
- *   3. STRM_INVALID: a name is not valid. Of two names the first is checked first.
+ *   2. STRM_BAD_ARGUMENT: a pointer is null, except one to a buffer of length 0. Or a parameter
+ *      `band`, `type`, `flush` or `length` is out of range; a length is at most SIZE_MAX / 2. Or
+ *      two pointers are equal: the parameters `block` and `rest` of strm_rmvb, or `into` and
+ *      `count` of strm_read if `length` is above 0.
+ *   3. STRM_INVALID: a name is not valid.
  *   4. STRM_NO_SUCH_QUEUE: the call names a queue that the pool does not have.
  *   5. The refusals that the call's comment lists, in that order.
  *
  * STRM_NONE is no failure: the call was done, there is nothing to return, and nothing is stored
- * through pointers. Any other code but STRM_OK means that nothing changed: not the pool, no name,
- * and nothing that a pointer leads to.
+ * through pointers. After any code but STRM_OK and STRM_NONE, the pool, names, and what pointers
+ * lead to are unchanged.
  *
- * A call takes constant time, plus time for each block, message or byte that it passes.
+ * A call takes constant time, plus time for each block, message or byte that it goes over.
  *
  *
  * Names
  *
- * A name has the id of its pool, the number of the message's first block (its head), and a stamp.
- * It is valid from the call that returns it until the message is handed over, by strm_freemsg,
- * strm_freeb, strm_rmvb, strm_putq, strm_putbq, strm_insq, as the tail of strm_linkb, or by closing
- * the pool.
+ * A name has its pool's id, the number of the message's first block, and a stamp. It is valid from
+ * the call that returns it until the message is handed over, by strm_freemsg, strm_freeb,
+ * strm_rmvb, strm_putq, strm_putbq, strm_insq, as the tail of strm_linkb, or by closing the pool.
  *
  * A pool never returns a name twice. So a caller that frees twice, links twice, or uses a message
  * that is on a queue gets STRM_INVALID. Any bits may be passed as a name. Names may be copied,
- * kept, and compared by their three fields. STRM_NO_MSG is the name of no message.
+ * kept, and compared by their three fields.
  *
- * Two limits: stamps start again after 2^64 messages that began with the same block. And pools
- * opened under the same id, at once or one after the other, can't tell their names apart: give
- * pools whose names can meet different ids.
+ * Stamps start again after 2^64 messages that began with the same block. Two pools opened with the
+ * same id, together or one after the other, can't tell their names apart: give different ids to
+ * pools whose names can meet.
  *
  * A message whose name is lost stays held until the pool is closed.
  *
@@ -78,24 +82,26 @@
  *
  * The library does not check these rules; breaking one is undefined behaviour.
  *
- *   - A pointer that is not null leads to as many objects as the call says. Nothing else uses them
- *     during the call, and what a call writes overlaps nothing else that it is given.
- *   - A handle is passed to one call at a time. Threads that share a pool guard each call with a
- *     lock of their own, also one that only looks. No call is made from a signal handler, or in a
- *     forked child of a process with threads on a pool of the parent.
- *   - A handle is zeroed, or set to STRM_POOL_INIT, before its first call. One whose second word is
- *     STRM_POOL_OPEN is taken for open, even by chance; any other is not open.
+ *   - A pointer that is not null leads to as many objects as the call says. Nothing else uses these
+ *     objects during the call, and what the call writes overlaps nothing else that it is given.
+ *   - A handle is passed to one call at a time. Threads that share a pool hold a lock of their own
+ *     during each call, even one that only looks. No call is made from a signal handler, nor on a
+ *     pool of the parent in a forked child of a process with threads. An interrupt handler makes
+ *     calls only while no other call runs.
+ *   - A handle is zeroed, or set to STRM_POOL_INIT, before its first call. A handle whose field
+ *     `state` is STRM_POOL_OPEN counts as open, even if by chance; any other is not open.
  *   - An open handle may be moved, but not used at two places: the library can't tell a copy from
  *     the handle. The caller does not write to its fields.
- *   - malloc, realloc and free are of one allocator, and align each block for any object that fits.
+ *   - malloc, realloc and free are of one allocator. It aligns what it returns for any object that
+ *     fits.
  *
  *
  * As in STREAMS, and not
  *
  * A call strm_NAME is the routine NAME of the UNIX System V Release 4 Programmer's Guide: STREAMS,
- * if that has one; strm_open, strm_close, strm_read and strm_write are no system calls. In all of
- * them names and numbers replace pointers, and codes replace 0, -1 and null pointers. The text
- * on each call ends with what else differs. No call waits, calls back, or runs a service procedure.
+ * if that has one. strm_open, strm_close, strm_read and strm_write are no system calls. In all
+ * calls names and numbers replace pointers, and codes replace 0, -1 and null pointers. The text on
+ * each call ends with what else differs. No call waits, calls back, or runs a service procedure.
  */
 #ifndef STRM_H
 #define STRM_H
@@ -120,7 +126,7 @@ enum {
 	STRM_REF_MAX = 4,		/* a data block would have more than STRM_MOST_NAMES references */
 	STRM_NO_SUCH_BLOCK = 5,		/* the message has no such block */
 	STRM_SHARED = 6,		/* the data block has more than one reference */
-	STRM_NO_ROOM = 7,		/* the bytes do not fit behind the write place */
+	STRM_NO_ROOM = 7,		/* the bytes do not fit after the write place */
 	STRM_SHORT = 8,			/* the message has too few bytes of one type */
 	STRM_NO_SUCH_PLACE = 9,		/* the queue has no such place */
 	STRM_BAD_ORDER = 10,		/* the ranks would rise from front to back */
@@ -270,28 +276,29 @@ struct strm_wish {
 
 /*
  * Opens a pool, with all blocks free and all queues empty. It allocates all memory, 68 MB for the
- * largest pool, and copies the configuration. classes and queues may be null if their count is 0,
- * which is STRM_BAD_CLASSES or STRM_BAD_QUEUES; a count above its limit is STRM_BAD_ARGUMENT.
+ * largest pool, and copies the configuration. The fields `classes` and `queues` may be null if
+ * their count is 0. A count of 0 is refused as STRM_BAD_CLASSES or STRM_BAD_QUEUES, a count above
+ * its limit as STRM_BAD_ARGUMENT.
  * Refused as STRM_NOT_OPEN for a null handle, STRM_IS_OPEN, STRM_BAD_ARGUMENT, the first fault from
- * STRM_BAD_MBLKS to STRM_BAD_FIRST_ID, or STRM_NO_MEMORY, in this order. If it fails, an open
- * handle is unchanged, and any other stays closed.
+ * STRM_BAD_MBLKS to STRM_BAD_FIRST_ID, or STRM_NO_MEMORY, in this order. If strm_open fails, an
+ * open handle is unchanged, and any other stays closed.
  */
 int strm_open(struct strm_pool *pool, const struct strm_config *config);
 
-/* Closes a pool, with all messages, and frees its memory. The handle may be opened again. */
+/* Closes a pool, and frees its memory, messages and wishes. The handle may be opened again. */
 int strm_close(struct strm_pool *pool);
 
-/* Returns 1 if the handle is open, else 0, also for a null one. */
+/* Returns 1 if the handle is open, else 0, also for null. */
 int strm_is_open(const struct strm_pool *pool);
 
 /* ---- messages, made and freed: strm_allocb(3) */
 
 /*
- * Allocates a message of one message block over a data block of size bytes or more. The data block
- * is the first free one of the smallest class that fits and has one. The message has no bytes, type
- * STRM_M_DATA and band 0.
+ * Allocates a message of one message block over a data block of `size` bytes or more. The data
+ * block is the first free one of the smallest class that fits and has a free one. The message has
+ * no bytes, type STRM_M_DATA and band 0.
  * Refused as STRM_TOO_LARGE, STRM_NO_MBLK, STRM_NO_DATA.
- * Differs from STREAMS: no priority, and size classes.
+ * Differs from STREAMS: it has size classes, and no priority.
  */
 int strm_allocb(struct strm_pool *pool, uint32_t size, struct strm_msg *msg);
 
@@ -303,7 +310,7 @@ int strm_testb(struct strm_pool *pool, uint32_t size, uint32_t *yes);
 
 /*
  * Duplicates the first block of a message: the new message has one block over the same data block,
- * with the same read place, write place and band. Trimming one does not move those of the other.
+ * with the same read place, write place and band.
  * Refused as STRM_NO_MBLK, STRM_REF_MAX.
  * As in STREAMS.
  */
@@ -318,8 +325,8 @@ int strm_dupmsg(struct strm_pool *pool, struct strm_msg msg, struct strm_msg *co
 
 /*
  * Copies the first block of a message. The new block has a data block of its own, allocated as by
- * strm_allocb for the capacity of the old one. Type, band, and bytes with their places are the
- * same.
+ * strm_allocb for the capacity of the old data block. Type, band, and bytes with their places are
+ * the same.
  * Refused as STRM_NO_MBLK, STRM_NO_DATA.
  * Differs from STREAMS: which data block is taken.
  */
@@ -334,14 +341,14 @@ int strm_copymsg(struct strm_pool *pool, struct strm_msg msg, struct strm_msg *c
 
 /*
  * Frees the first block of a message, and its data block if no other block refers to that. The
- * blocks after it become the message *rest; if there are none, returns STRM_NONE. msg is no longer
+ * other blocks become the message *rest; if there are none, returns STRM_NONE. `msg` is no longer
  * valid.
  * Differs from STREAMS: b_cont need not be saved before.
  */
 int strm_freeb(struct strm_pool *pool, struct strm_msg msg, struct strm_msg *rest);
 
 /*
- * Frees all blocks of a message, first to last, as strm_freeb does. msg is no longer valid.
+ * Frees all blocks of a message, first to last, as strm_freeb does.
  * As in STREAMS.
  */
 int strm_freemsg(struct strm_pool *pool, struct strm_msg msg);
@@ -349,29 +356,30 @@ int strm_freemsg(struct strm_pool *pool, struct strm_msg msg);
 /* ---- bytes and fields of a message: strm_write(3) */
 
 /*
- * Appends length bytes at the write place of the block numbered `place`, and moves the write place
- * past them.
+ * Appends `length` bytes at the write place of the block numbered `place`, and moves the write
+ * place past them.
  * Refused as STRM_NO_SUCH_BLOCK, STRM_SHARED, STRM_NO_ROOM; the first two also for a length of 0.
  * STREAMS: writing through b_wptr.
  */
 int strm_write(struct strm_pool *pool, struct strm_msg msg, uint32_t place, const void *bytes, size_t length);
 
 /*
- * Copies bytes of a message into a buffer of length bytes, from the byte numbered `at` on, counted
- * over all blocks. *count is how many were copied: as many as there are, length at most; 0, with
- * STRM_OK, if `at` is past the end. The rest of the buffer is unchanged.
+ * Copies bytes of a message into the buffer `into` of `length` bytes, beginning with the byte
+ * numbered `at`, counted over all blocks. *count is the number of bytes copied: `length`, or fewer
+ * if the message ends before. If the message has no byte `at`, *count is 0, with STRM_OK. The rest
+ * of the buffer is unchanged.
  * STREAMS: reading through b_rptr, block by block.
  */
 int strm_read(struct strm_pool *pool, struct strm_msg msg, uint32_t at, void *into, size_t length, size_t *count);
 
 /*
- * Sets the type of the data block of the block numbered place, STRM_M_DATA to STRM_M_IOCDATA.
+ * Sets the type of the data block of the block numbered `place`, STRM_M_DATA to STRM_M_IOCDATA.
  * Refused as STRM_NO_SUCH_BLOCK, STRM_SHARED, even if the type is the same.
  * STREAMS: db_type.
  */
 int strm_settype(struct strm_pool *pool, struct strm_msg msg, uint32_t place, uint32_t type);
 
-/* Sets the band of the first block of a message, 0 to 255. STREAMS: b_band. */
+/* Sets the band of the first block of a message, 0 to 255; duplicates keep theirs. STREAMS: b_band. */
 int strm_setband(struct strm_pool *pool, struct strm_msg msg, uint32_t band);
 
 /* Counts the bytes of a message. Not in STREAMS. */
@@ -381,7 +389,7 @@ int strm_size(struct strm_pool *pool, struct strm_msg msg, uint32_t *bytes);
 int strm_msgdsize(struct strm_pool *pool, struct strm_msg msg, uint32_t *bytes);
 
 /*
- * Returns the fields of the block numbered place.
+ * Returns the fields of the block numbered `place`.
  * Refused as STRM_NO_SUCH_BLOCK.
  * STREAMS: the fields of msgb and datab.
  */
@@ -393,42 +401,43 @@ int strm_has(struct strm_pool *pool, struct strm_msg msg, uint32_t *yes);
 /* ---- messages joined, parted and trimmed: strm_linkb(3) */
 
 /*
- * Appends the blocks of tail to msg. tail is no longer valid. If both are the same name, returns
- * STRM_INVALID.
+ * Appends the blocks of `tail` to `msg`. `tail` is no longer valid. To prepend a header without a
+ * copy, pass the header as `msg` and the data as `tail`: the message then has the header's band and
+ * type. If both are the same name, returns STRM_INVALID.
  * As in STREAMS.
  */
 int strm_linkb(struct strm_pool *pool, struct strm_msg msg, struct strm_msg tail);
 
 /*
- * Leaves only the first block in a message. The blocks after it become the message *rest; if there
- * are none, returns STRM_NONE.
+ * Leaves only the first block in a message. The other blocks become the message *rest; if there are
+ * none, returns STRM_NONE.
  * As in STREAMS.
  */
 int strm_unlinkb(struct strm_pool *pool, struct strm_msg msg, struct strm_msg *rest);
 
 /*
- * Takes the block numbered place out of a message. It becomes the message *block, and the others
- * become *rest, all zeros (STRM_NO_MSG) if there are none. msg is no longer valid.
+ * Takes the block numbered `place` out of a message. That block becomes the message *block, and the
+ * others become *rest, all zeros (STRM_NO_MSG) if there are none. `msg` is no longer valid.
  * Refused as STRM_NO_SUCH_BLOCK.
- * Differs from STREAMS: by place.
+ * Differs from STREAMS: you pass a place.
  */
 int strm_rmvb(struct strm_pool *pool, struct strm_msg msg, uint32_t place, struct strm_msg *block, struct strm_msg *rest);
 
 /*
- * Trims count bytes from the head of a message, over its leading blocks of the first block's type.
- * If count is negative, trims -count bytes from its tail, over its trailing blocks of the last
- * block's type.
+ * Trims `count` bytes from the head of a message, over its leading blocks of the first block's
+ * type. If `count` is negative, trims -count bytes from its tail, over its trailing blocks of the
+ * last block's type.
  * Refused as STRM_SHORT if these blocks have fewer bytes.
  * Differs from STREAMS: which blocks are trimmed at the tail, and blocks that become empty stay.
  */
 int strm_adjmsg(struct strm_pool *pool, struct strm_msg msg, int32_t count);
 
 /*
- * Gathers the first count bytes of a message in its first block, from its leading blocks of the
- * first one's type; -1 means all their bytes. If the first block has them already, nothing is done.
- * Otherwise it gets a new data block, allocated as by strm_allocb, and blocks that gave all their
- * bytes are freed.
- * Refused as STRM_SHORT if count is below -1 or these blocks have fewer bytes, STRM_TOO_LARGE,
+ * Gathers the first `count` bytes of a message in its first block, from its leading blocks of the
+ * first block's type; -1 means all bytes of these blocks. If the first block has the bytes already,
+ * nothing is done. Otherwise the first block gets a new data block, allocated as by strm_allocb,
+ * and blocks that gave all their bytes are freed.
+ * Refused as STRM_SHORT if `count` is below -1 or these blocks have fewer bytes, STRM_TOO_LARGE,
  * STRM_NO_DATA.
  * Differs from STREAMS: bytes are not aligned.
  */
@@ -438,25 +447,29 @@ int strm_pullupmsg(struct strm_pool *pool, struct strm_msg msg, int32_t count);
 
 /*
  * Puts a message on a queue, after those of its rank or a greater one. It never checks for room:
- * ask strm_bcanput first. msg is no longer valid. A high priority message gets band 0, and enables
- * the queue. If enabling is on, a want-to-read mark or a band above 0 enables it too.
+ * call strm_bcanput first. Only bytes count: a band of empty or small messages can use up all
+ * blocks before it is full. `msg` is no longer valid. High priority gets band 0, and always enables
+ * the queue. Any other message enables it only if enabling is on, and only if the queue has a
+ * want-to-read mark or the band is above 0.
  * As in STREAMS.
  */
 int strm_putq(struct strm_pool *pool, uint32_t queue, struct strm_msg msg);
 
 /*
- * Puts a message back on a queue, before those of its rank or a smaller one. It enables as
- * strm_putq does, but not for a band above 0. msg is no longer valid.
- * As in STREAMS: a service procedure that puts high priority back is enabled again for ever.
+ * Puts a message back on a queue, before those of its rank or a smaller one. `msg` is no longer
+ * valid. High priority gets band 0, and always enables the queue: a service procedure that puts it
+ * back is enabled again for ever. Any other message enables the queue only if enabling is on and
+ * the queue has a want-to-read mark, whatever the band.
+ * As in STREAMS.
  */
 int strm_putbq(struct strm_pool *pool, uint32_t queue, struct strm_msg msg);
 
 /*
- * Puts a message on a queue before the one at a place, or last if place is the number of messages.
- * msg is no longer valid. If enabling is on, a want-to-read mark enables the queue. High priority
- * gets band 0.
+ * Puts a message on a queue before the message at `place`, or last if `place` is the number of
+ * messages. `msg` is no longer valid. High priority gets band 0, but does not enable the queue by
+ * itself. If enabling is on, a want-to-read mark enables the queue.
  * Refused as STRM_NO_SUCH_PLACE, STRM_BAD_ORDER.
- * Differs from STREAMS: by place.
+ * Differs from STREAMS: you pass a place.
  */
 int strm_insq(struct strm_pool *pool, uint32_t queue, uint32_t place, struct strm_msg msg);
 
@@ -468,9 +481,9 @@ int strm_insq(struct strm_pool *pool, uint32_t queue, uint32_t place, struct str
 int strm_getq(struct strm_pool *pool, uint32_t queue, struct strm_msg *msg);
 
 /*
- * Takes the message at a place off a queue, and settles the queue.
+ * Takes the message at `place` off a queue, and settles the queue.
  * Refused as STRM_NO_SUCH_PLACE.
- * Differs from STREAMS: by place, and settling as of strm_getq.
+ * Differs from STREAMS: you pass a place, and settling differs as at strm_getq.
  */
 int strm_rmvq(struct strm_pool *pool, uint32_t queue, uint32_t place, struct strm_msg *msg);
 
@@ -478,9 +491,9 @@ int strm_rmvq(struct strm_pool *pool, uint32_t queue, uint32_t place, struct str
 int strm_qsize(struct strm_pool *pool, uint32_t queue, uint32_t *msgs);
 
 /*
- * Frees messages of a queue, front to back: STRM_FLUSHALL or STRM_FLUSHDATA says which. Then it
- * settles the queue.
- * Differs from STREAMS: settling, as of strm_getq; the queue itself is not enabled.
+ * Frees messages of a queue, front to back: all, or those with data (STRM_FLUSHALL,
+ * STRM_FLUSHDATA). Then it settles the queue.
+ * Differs from STREAMS: settling differs as at strm_getq, and the queue itself is not enabled.
  */
 int strm_flushq(struct strm_pool *pool, uint32_t queue, uint32_t flush);
 
@@ -493,17 +506,20 @@ int strm_flushband(struct strm_pool *pool, uint32_t queue, uint32_t band, uint32
 /* ---- flow control and service: strm_bcanput(3) */
 
 /*
- * Asks whether a message of a band, 0 to 255, may be sent: *yes is 1 or 0. From this queue on,
- * along next, the first one with a service procedure decides, or the last one if none has any. If
- * the band is full there, *yes is 0 and the band is marked wanted. A service procedure passes its
- * next queue, not its own, which would decide itself. It does not ask for a message of high
- * priority, and hands that on even if the next queue is full.
+ * Asks whether a message of a band, 0 to 255, may be sent to `queue`: *yes is 1 or 0. Along next,
+ * from `queue` on, the first queue with a service procedure decides, or the last one if none has
+ * any. If the band is full there, *yes is 0 and the band is marked wanted. High priority is sent
+ * without asking. The service procedure of a queue Q asks about the next queue of Q. If it asked
+ * about Q, the answer would be about Q, because Q has a service procedure. A source without a queue,
+ * such as an interrupt, asks about the queue on which it puts. If *yes is 0, it asks again later, or
+ * drops the message: nothing wakes it. To be woken, it needs a queue of its own that stays empty, has
+ * a service procedure, and has the queue on which it puts as its next.
  * As in STREAMS; canput asks for band 0.
  */
 int strm_bcanput(struct strm_pool *pool, uint32_t queue, uint32_t band, uint32_t *yes);
 
 /*
- * Sets the water marks of a band, in bytes, and settles the queue by them.
+ * Sets the water marks of a band, in bytes, and then settles the queue.
  * Refused as STRM_BAD_MARKS.
  * Differs from STREAMS (QHIWAT, QLOWAT): both at once, and the queue settles.
  */
@@ -519,13 +535,13 @@ int strm_strqget(struct strm_pool *pool, uint32_t queue, uint32_t band, struct s
 int strm_qenable(struct strm_pool *pool, uint32_t queue);
 
 /*
- * Switches enabling off. strm_qenable, back-enabling, and high priority by strm_putq or strm_putbq
- * still enable.
+ * Switches enabling off. strm_qenable, back-enabling, and high priority in strm_putq or strm_putbq
+ * still enable the queue.
  * As in STREAMS.
  */
 int strm_noenable(struct strm_pool *pool, uint32_t queue);
 
-/* Switches enabling on. It enables nothing by itself. As in STREAMS. */
+/* Switches enabling on. The call itself enables nothing. As in STREAMS. */
 int strm_enableok(struct strm_pool *pool, uint32_t queue);
 
 /*
@@ -540,23 +556,27 @@ int strm_run_at(struct strm_pool *pool, uint32_t place, uint32_t *queue);
 /* ---- wishes: strm_bufcall(3) */
 
 /*
- * Records a wish for a message block over a data block of size bytes or more, after all others. Ids
- * rise by 1 from first_id of the configuration to 4294967295. A refused call uses up no id.
+ * Records a wish for a message block over a data block of `size` bytes or more, after all other
+ * wishes. Ids rise by 1 from first_id of the configuration to 4294967295. A refused call uses up no
+ * id.
  * Refused as STRM_TOO_LARGE, STRM_FULL, STRM_IDS_SPENT.
- * Differs from STREAMS: no function is called back; strm_take_ready asks.
+ * Differs from STREAMS: no function is called back; call strm_take_ready.
  */
 int strm_bufcall(struct strm_pool *pool, uint32_t size, uint32_t *id);
 
 /*
  * Withdraws a wish.
  * Refused as STRM_NOT_PENDING.
- * Differs from STREAMS: the refusal.
+ * Differs from STREAMS: it can be refused.
  */
 int strm_unbufcall(struct strm_pool *pool, uint32_t id);
 
 /*
- * Removes the oldest wish for which strm_allocb would succeed now, and returns it. It reserves no
- * block. If there is none, returns STRM_NONE.
+ * Removes the oldest wish for which strm_allocb would succeed now, and returns it. If there is
+ * none, returns STRM_NONE. It reserves no block and enables no queue. Keep a table from wishes to
+ * what waits for them: a queue, or a function of your own. Before strm_next_service, repeat: call
+ * strm_take_ready, then at once strm_qenable on the queue of that wish, or its function. Stop when
+ * strm_take_ready returns STRM_NONE.
  * Not in STREAMS.
  */
 int strm_take_ready(struct strm_pool *pool, struct strm_wish *wish);
@@ -577,7 +597,7 @@ int strm_class_info(struct strm_pool *pool, uint32_t place, struct strm_class_in
 
 /*
  * Returns the state of a queue.
- * STREAMS: q_count, and QWANTR, QNOENB and QENAB of q_flag; here bytes are of all bands.
+ * STREAMS: q_count, and QWANTR, QNOENB and QENAB of q_flag; here `bytes` counts all bands.
  */
 int strm_queue_info(struct strm_pool *pool, uint32_t queue, struct strm_queue_info *info);
 
@@ -590,9 +610,10 @@ int strm_band_info(struct strm_pool *pool, uint32_t queue, uint32_t band, struct
 /* ---- texts: strm_text(3) */
 
 /*
- * Copies the text of a code, or "no such code" for another number: as much as fits, with a 0 at the
- * end if length is not 0. Returns the length of the whole text without the 0. Returns 0, and writes
- * nothing, if text is null and length is not 0, or length is above SIZE_MAX / 2.
+ * Copies the text of a code, or "no such code" for another number: as much as fits into `length`
+ * bytes, with a 0 at the end unless `length` is 0. Returns the length of the whole text without the
+ * 0. If `text` is null and `length` is not 0, or `length` is above SIZE_MAX / 2, returns 0 and
+ * writes nothing.
  */
 size_t strm_text(int code, char *text, size_t length);
 

@@ -1,5 +1,5 @@
 /*
- * Posts two messages. The first goes on the queue. The second is larger than the largest size class, so it is refused and leaves nothing.
+ * Posts two messages. The first goes on the queue. The second is larger than the largest size class, so it is refused.
  *
  *     cc post.c $(pkg-config --cflags --libs strm) -o post
  */

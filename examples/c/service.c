@@ -1,7 +1,7 @@
 /*
  * A put procedure and a service procedure, with flow control and back-enabling. Messages go from queue 0 to queue 1, which is full at
- * 8 bytes. A service procedure that finds it full puts its message back and stops. The pool enables it again once 4 bytes or fewer are
- * left there.
+ * 8 bytes. If queue 1 is full, the service procedure of queue 0 puts its message back and stops. The pool enables queue 0 again once
+ * queue 1 has 4 bytes or fewer.
  *
  *     cc service.c $(pkg-config --cflags --libs strm) -o service
  */
@@ -18,7 +18,7 @@ static const struct strm_queue_spec queues[] = {
 	{ 8, 4, 1, STRM_NO_QUEUE }
 };
 
-/* Ends the program if a call is refused that cannot be refused here. */
+/* Ends the program if a call is refused, which does not happen here. */
 static void must(int code)
 {
 	char text[80];
@@ -30,8 +30,8 @@ static void must(int code)
 	exit(EXIT_FAILURE);
 }
 
-/* The put procedure of the inner queue: a message of high priority goes on at once, and any other waits for the service procedure. The outer
- * queue's put procedure would only call strm_putq, so that is called instead. */
+/* The put procedure of the inner queue: a message of high priority goes to the outer queue at once, and any other waits for the service
+ * procedure. The outer queue's put procedure would only call strm_putq, so this one calls strm_putq directly. */
 static void put_inner(struct strm_pool *pool, struct strm_msg msg)
 {
 	struct strm_block_info first;
@@ -43,7 +43,7 @@ static void put_inner(struct strm_pool *pool, struct strm_msg msg)
 		must(strm_putq(pool, INNER, msg));
 }
 
-/* Makes a message of 4 bytes, and hands it to the put procedure. Its name is not valid after that. */
+/* Makes a message of 4 bytes, and hands it to the put procedure. */
 static void post(struct strm_pool *pool, const char *bytes)
 {
 	struct strm_msg msg;
@@ -64,8 +64,8 @@ static uint32_t has_room(struct strm_pool *pool, struct strm_msg msg)
 	return room;
 }
 
-/* The service procedure of the inner queue: it hands messages on until there are none, or until there is no room for one. None of high
- * priority comes here (put_inner); one that did would be handed on without asking for room. */
+/* The service procedure of the inner queue: it hands messages on until there are none, or no room for one. High priority, which needs no
+ * room, never comes here (put_inner). */
 static void serve_inner(struct strm_pool *pool)
 {
 	struct strm_msg msg;
