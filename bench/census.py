@@ -127,7 +127,7 @@ def look_costs(plain, look, rounds):
 
 def table(looks):
     """The table, in markdown. The last line compares its first two rows."""
-    yield from ("| A look | Instructions | ns, processor | ns, elapsed | Calls served meanwhile |", "|---|---|---|---|---|")
+    yield from ("| A look | Instructions | ns, processor | ns, elapsed | Calls served during a look |", "|---|---|---|---|---|")
     for name, counted, had, went, served in looks:
         yield f"| {name} | {'' if counted is None else f'{counted:,.1f}'} | {had:,.2f} | {went:,.2f} | {served:,.4f} |"
     plain, alone = (had for _, _, had, _, _ in looks[:2])

@@ -65,7 +65,7 @@ ROWS = {
 }
 # What a round adds to the sum where that is not 1, by the number of message blocks.
 TOLD = {"open": lambda blocks: blocks, "census": lambda blocks: blocks, "size": lambda _: 256, "read": lambda _: 64, "block": lambda _: 64, "qsize": lambda _: 0}
-# A look at the census without the lock: a row that only the form `serve` has.
+# A look at the census without the lock, measured in the form `serve` alone.
 LOOK = "look"
 # The function that is one served call, and the forms in which it is measured.
 SERVED, SERVING = "serve_call", {"without a trace": "serve", "with a trace": "trace"}
@@ -170,7 +170,7 @@ def rows_table(counts, times, before):
 
 def other_pools(counts):
     """Which rounds take another number over the other pools, in lines of a page."""
-    same = f"The same over {' and '.join(f'{blocks:,}' for blocks in POOLS if blocks != MIDDLE)} message blocks"
+    same = f"In a pool of {' or '.join(f'{blocks:,}' for blocks in POOLS if blocks != MIDDLE)} message blocks each round takes the same number of instructions"
     apart = []
     for shown, over, _ in rows_shown():
         if len({f"{counts[measure]:,.0f}" for measure in over}) > 1:
@@ -190,9 +190,9 @@ def served_table(counts, times, before):
 
 def tables(counts, times, before):
     """All tables, in markdown."""
-    yield from (f"Instructions of a round over {MIDDLE:,} message blocks, and nanoseconds of processor time:", "", *rows_table(counts, times, before))
+    yield from (f"Instructions of a round in a pool of {MIDDLE:,} message blocks, and nanoseconds of processor time:", "", *rows_table(counts, times, before))
     yield from ("", *other_pools(counts))
-    yield from ("", "A served call, of `allocb b 64` and `freemsg b` in turn:", "", *served_table(counts, times, before))
+    yield from ("", "A served call, when `allocb b 64` and `freemsg b` are served in turn:", "", *served_table(counts, times, before))
 
 
 def main():
