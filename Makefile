@@ -1,30 +1,30 @@
-# Builds, runs and tests the program strm, which needs Rattle's command `rt` on PATH. The library for C needs `cc` too, and Python where it is
-# installed; docs/GATE.md says what the tests need.
+# Builds, runs, tests and installs the program strm and the library for C. Both need Rattle's command `rt` on PATH, and Python 3. The library
+# also needs `cc` and `ar`. docs/GATE.md says what the tests need.
 
 SHELL := bash
 .SHELLFLAGS := -o pipefail -c
 
 PREFIX ?= /usr/local
 SHARE := $(DESTDIR)$(PREFIX)/share
-# The crate that `make vendor` puts into the repository at TO, with all below it.
+# The crate that `make vendor` copies into the repository at TO, with the crates that it uses.
 CRATE ?= strm_pool
 # The version, which the installed manual names.
 VERSION := $(shell cat VERSION)
 BUILT := crates/strm_driver/out/strm_driver
-# The program whose rounds of calls are counted.
+# The program that measures rounds of calls, for bench-library and bench-c.
 ROUNDS := crates/strm_bench/out/strm_bench
 SOURCES := crates.txt HANDLES $(shell find crates -path '*/out' -prune -o \( -name '*.rt' -o -name '*.antt' \) -print)
 # The proved part of libstrm.a, which `rt lib` builds.
 PROVED := crates/strm_c/out/libstrm_c.a
-# What `rt` said when it last proved and built the program.
+# The output of `rt` when it last proved and built the program.
 LOG := build/proving.log
 
-# Ends with one line where there is no `rt`.
+# Stops make with one line if there is no `rt`.
 NEEDS_RT = $(if $(shell command -v rt 2>/dev/null),,$(error Rattle's command rt is not on PATH, and README.md says which is wanted))
 
 .PHONY: run test cases planted lint soak field view-test pictures bench bench-lines bench-library bench-census bench-c strm install install-pages lib install-lib vendor
 
-# Runs the first run's script, once the program is proved.
+# Runs examples/first_run.strm on the proved program.
 run: $(BUILT)
 	@$(BUILT) --serial <examples/first_run.strm
 
@@ -37,7 +37,7 @@ test:
 cases: $(BUILT)
 	@tests/run_cases $(BUILT) $(CASES)
 
-# Plants each wrong body of tests/planted in a copy of the crates, and requires its test to fail. Nothing is proved for it.
+# Puts each wrong body of tests/bodies into a copy of the crates, and requires the body's tests to fail. It proves nothing.
 planted:
 	$(NEEDS_RT)
 	@tests/planted
@@ -46,42 +46,42 @@ planted:
 lint:
 	@tests/lint
 
-# Has workers serve drawn scripts for a minute, and replays what they write. OPTIONS are words of tests/soak, as --seconds N.
+# Workers execute random scripts for a minute, and the plain model replays what they print. OPTIONS are those of tests/soak, as --seconds N.
 soak: $(BUILT)
 	@tests/soak $(OPTIONS) $(BUILT)
 
-# Serves what was recorded of ppp's STREAMS modules and of lwIP's buffers, whose sources it fetches from Debian (tests/field). OPTIONS are
-# words of tests/field/run, as --scripts N.
+# Executes recorded calls of ppp's STREAMS modules and lwIP's buffers, whose sources it fetches from Debian (tests/field). OPTIONS are those
+# of tests/field/run, as --scripts N.
 field: $(BUILT)
 	@tests/field/run $(OPTIONS) $(BUILT)
 
-# Moves through pages of tools/strm_view in Chromium, and puts pictures of some into build/view. It needs no `rt`, and installs Chromium
-# where there is none and apt-get may.
+# Moves through pages of tools/strm_view in Chromium, and puts pictures of some into build/view. It needs no `rt`. If there is no
+# Chromium, it installs one if apt-get may.
 view-test:
 	@tests/view_in_browser build/view
 
-# Draws the pictures in docs/ again, each by the words that stand in it. It needs Chromium, as view-test does.
+# Draws the pictures in docs/ again, each with the arguments that it contains. It needs Chromium, as view-test does.
 pictures:
 	@for picture in docs/pictures/*.svg; do tools/strm_view $$(sed -n 's:^<desc>\(.*\)</desc>$$:\1:p' $$picture) --output $$picture || exit 1; done
 
-# Prints what a line, a call of the libraries, a look at the census and a call from C cost. OPTIONS are words of all four, as --write for docs/.
+# Prints what a line, a call of the libraries, a look at the census and a call from C cost. OPTIONS are those of all four, as --write for docs/.
 bench: bench-lines bench-library bench-census bench-c
 
-# Prints what a line and a call of each word cost. OPTIONS are words of bench/run.py, as --instructions, or --write for docs/.
+# Prints what a line and a call of each word cost. OPTIONS are those of bench/run.py, as --instructions, or --write for docs/.
 bench-lines: $(BUILT)
 	@python3 bench/run.py $(OPTIONS) $(BUILT)
 
-# Prints what calls of the libraries cost, with tokens, with registers and at a shared pool. OPTIONS are words of bench/library.py, as
+# Prints what calls of the libraries cost, with tokens, with registers and at a shared pool. OPTIONS are those of bench/library.py, as
 # --write for docs/.
 bench-library: $(ROUNDS)
 	@python3 bench/library.py $(OPTIONS) $(ROUNDS)
 
-# Prints what a look at the census without the lock costs, beside workers too. OPTIONS are words of bench/census.py.
+# Prints what a look at the census without the lock costs, beside workers too. OPTIONS are those of bench/census.py.
 bench-census: $(BUILT)
 	$(NEEDS_RT)
 	@python3 bench/census.py $(OPTIONS)
 
-# Prints what calls of strm.h cost, beside the calls that they make and those of a pool in C. OPTIONS are words of bench/c.py, as --write for
+# Prints what calls of strm.h cost, beside the calls that they make and those of a pool in C. OPTIONS are those of bench/c.py, as --write for
 # docs/.
 bench-c: build/libstrm.a $(ROUNDS)
 	@python3 bench/c.py $(OPTIONS) build/libstrm.a $(ROUNDS)
@@ -102,10 +102,10 @@ install-pages:
 	install -D -m 644 completions/strm.bash $(SHARE)/bash-completion/completions/strm
 	install -D -m 644 completions/_strm $(SHARE)/zsh/site-functions/_strm
 
-# Puts the static library for C at build/libstrm.a, and what pkg-config tells of it at build/strm.pc.
+# Puts the static library for C at build/libstrm.a, and its pkg-config file at build/strm.pc.
 lib: build/libstrm.a build/strm.pc
 
-# The proved part, the border in C, which tells null pointers, and the toolchain's heap over malloc.
+# The library is the proved part, c/strm.c, which checks pointers, and the toolchain's heap over malloc.
 build/libstrm.a: $(PROVED) c/strm.c c/strm_c.h c/strm.h
 	$(NEEDS_RT)
 	@mkdir -p build
@@ -128,7 +128,7 @@ install-lib: lib
 	install -d $(SHARE)/man/man3
 	tools/c_pages $(SHARE)/man/man3
 
-# Puts CRATE and the crates below it into the repository whose top is TO. It needs no `rt`, and writes nothing where it refuses.
+# Copies CRATE and the crates that it uses into the repository whose top is TO. It needs no `rt`. If it refuses, it writes nothing.
 vendor:
 	@$(if $(TO),,$(error make vendor TO=DIR wants the top of a repository))tools/vendor $(CRATE) $(TO)
 
@@ -145,7 +145,7 @@ $(BUILT): $(SOURCES)
 	@cd crates/strm_driver && rt run -- --help </dev/null 2>&1 | tee $(CURDIR)/$(LOG) | awk '/^crate /{ name = $$2 } /^logic=proved/{ print name, "proved"; fflush() }' >&2 || { echo "not proved, for the reason in $(LOG)" >&2; exit 1; }
 	@touch $(BUILT)
 
-# It is proved over the libraries that the program strm has had proved and built.
+# This program is proved after strm, with which it shares libraries.
 $(ROUNDS): $(BUILT) $(SOURCES)
 	$(NEEDS_RT)
 	@cd crates/strm_bench && rt run </dev/null >$(CURDIR)/build/proving_rounds.log 2>&1 || { echo "not proved, for the reason in build/proving_rounds.log" >&2; exit 1; }
