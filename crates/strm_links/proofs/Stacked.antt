@@ -1,22 +1,22 @@
--- Stacks as the rows that a contract sees, and what a push and a pop leave of them.
+-- How `Stacks` stores the rows that a contract sees, and what a push and a pop leave of them.
 use Rattle.std.proofs.Common.{◌≡◌, ◌≢◌, ℕ, zero, suc, ◌+◌, ◌-◌, ◌<◌, ◌≤◌, ◌^◌, true, false, List, [], ◌∷◌, map, length, get_or, set, drop, replicate, Option, Some, None, refl, sym, ap, ◌∙◌, subst, inl, inr, arith, get_or-set_same, get_or-set_other, length-append, length-set}
 use Rattle.std.proofs.lemmas.Bool.{cases_eq, cond-true, cond-false, eq-eqb, ne_eqb, false≢true}
+use Rattle.std.proofs.lemmas.Bool.Decides.{nat_tests}
 use Rattle.std.proofs.lemmas.List.{length-map, get_or-map, get_or_default, same_lists, get_or_read, get_or-replicate, length-replicate}
-use Rattle.std.proofs.lemmas.Option.{none-some, same_Some}
 use Rattle.std.specs.List.{concat}
 use Rattle.strm_links.specs.declared.stacks.Top.{Top}
 use Rattle.strm_links.specs.Rows.{Rows, IsParting, has, IsApart, first, without, list_at, holder, linked_nodes}
 use Rattle.strm_links.specs.Layout.{LeadsOn}
 use Rattle.strm_links.specs.Counting.{times}
-use Rattle.strm_links.specs.StackLayout.{no_top, behind_at, top_at, stack, stacked_rows, IsStack, IsStacked}
-use Rattle.strm_links.proofs.lists.OneList.{has_at, first_has, first-without, is_some_of-same, length_below, some_of}
+use Rattle.strm_links.specs.StackLayout.{no_top, behind_at, top_at, stack, stacked_rows, IsStack, IsSound}
+use Rattle.strm_links.proofs.lists.OneList.{first_split, has_at, first_has, first-without, is_some_of-same, length_below, some_of}
 use Rattle.strm_links.proofs.lists.AllLists.{All-listed, has-holder, holder_none, holder-insert_here, holder-insert_other, holder-remove, map-without, IsApart-list_at}
 use Rattle.strm_links.proofs.lists.ListLinks.{walk_is, LeadsOn-kept}
-use Rattle.strm_links.proofs.lists.Counting.{times-append, times-cons, times_absent, times_here, times_other, times_has, apart_once}
+use Rattle.strm_links.proofs.lists.Counting.{times-append, times-cons, times_absent, times_has, apart_once}
 
--- ---- how often a number stands in all the lists
+-- ---- how often a number is in all the lists together
 
--- one of the lists is another now
+-- the count once list l is `ys`
 times-set : (n l : ℕ) (ys : List ℕ) (lists : List (List ℕ)) → l < length lists
     → times n (concat (set lists l ys)) + times n (get_or lists l []) ≡ times n (concat lists) + times n ys
 times-set n l ys [] within = absurd (omega arith)
@@ -24,31 +24,31 @@ times-set n zero ys (xs ∷ lists) within = omega (arith, times-append n ys (con
 times-set n (suc l) ys (xs ∷ lists) within =
     omega (arith, times-append n xs (concat (set lists l ys)), times-append n xs (concat lists), times-set n l ys lists (omega arith))
 
--- no list is longer than all together
+-- no list is longer than all lists together
 length-listed : (l : ℕ) (lists : List (List ℕ)) → length (get_or lists l []) ≤ length (concat lists)
 length-listed l [] = omega arith
 length-listed zero (xs ∷ lists) = omega (arith, length-append xs (concat lists))
 length-listed (suc l) (xs ∷ lists) = omega (arith, length-append xs (concat lists), length-listed l lists)
 
--- what no list has
+-- a number that is in no list is not in the lists together
 times-unlisted : (n : ℕ) (lists : List (List ℕ)) → ((l : ℕ) → has n (get_or lists l []) ≡ false) → times n (concat lists) ≡ 0
 times-unlisted n [] none = refl
 times-unlisted n (xs ∷ lists) none =
     omega (arith, times-append n xs (concat lists), times_absent n xs (none 0), times-unlisted n lists (λ l. none (suc l)))
 
--- a free node stands nowhere
+-- a free node is in no list
 times_free : (n : ℕ) (rows : Rows) → holder n rows ≡ None → times n (linked_nodes rows) ≡ 0
 times_free n rows free = times-unlisted n rows.lists (λ l. holder_none n l rows free)
 
 -- ---- the view
 
--- a linked stack is what the walk finds
+-- the walk from a top finds its stack
 stack_is : (behind : List (Option ℕ)) (t : Top) (xs : List ℕ) → IsStack (behind_at behind) t xs → stack behind t ≡ xs
 unfolding stack
 stack_is behind t xs linked = rw (linked.len, linked.front) (walk_is (behind_at behind) xs None linked.leads_on)
 
--- sound stacks are seen as the rows that they hold
-pub stacked_rows_is : (behind : List (Option ℕ)) (tops : List Top) (rows : Rows) → IsStacked behind tops rows → stacked_rows behind tops ≡ rows
+-- a contract sees sound stacks as the rows that they hold
+pub stacked_rows_is : (behind : List (Option ℕ)) (tops : List Top) (rows : Rows) → IsSound behind tops rows → stacked_rows behind tops ≡ rows
 stacked_rows_is behind tops rows sound =
     let lists : map (stack behind) tops ≡ rows.lists =
     same_lists _ _ (length-map tops (stack behind) ∙ sound.list_count)
@@ -59,22 +59,22 @@ stacked_rows_is behind tops rows sound =
     ∙ get_or_default rows.lists l [] d within) in
     λ i. record { nodes = sound.node_count i; lists = lists i }
 
--- the invariant, at the rows that a contract sees
-pub seen : (behind : List (Option ℕ)) (tops : List Top) (rows : Rows) → stacked_rows behind tops ≡ rows → IsStacked behind tops (stacked_rows behind tops) → IsStacked behind tops rows
-seen behind tops rows view sound = subst (IsStacked behind tops) view sound
+-- the stored invariant holds at the rows that a contract sees
+pub IsSound-rows : (behind : List (Option ℕ)) (tops : List Top) (rows : Rows) → stacked_rows behind tops ≡ rows → IsSound behind tops (stacked_rows behind tops) → IsSound behind tops rows
+IsSound-rows behind tops rows view sound = subst (IsSound behind tops) view sound
 
--- and back
-pub closed : (behind : List (Option ℕ)) (tops : List Top) (rows : Rows) → IsStacked behind tops rows → IsStacked behind tops (stacked_rows behind tops)
-closed behind tops rows sound = subst (IsStacked behind tops) (sym (stacked_rows_is behind tops rows sound)) sound
+-- and the other way round
+pub IsSound-stored : (behind : List (Option ℕ)) (tops : List Top) (rows : Rows) → IsSound behind tops rows → IsSound behind tops (stacked_rows behind tops)
+IsSound-stored behind tops rows sound = subst (IsSound behind tops) (sym (stacked_rows_is behind tops rows sound)) sound
 
 -- ---- what sound stacks say
 
-module _ (behind : List (Option ℕ)) (tops : List Top) (rows : Rows) (sound : IsStacked behind tops rows) where
+module _ (behind : List (Option ℕ)) (tops : List Top) (rows : Rows) (sound : IsSound behind tops rows) where
   -- no node is in the rows twice
   pub apart : IsApart (linked_nodes rows)
   apart = apart_once (linked_nodes rows) sound.once
 
-  -- and each is a node
+  -- each number in the rows is a node
   pub parts : IsParting rows
   parts = record { apart = apart; within = λ i d inside. sound.within _ (times_has _ (linked_nodes rows) (has_at (linked_nodes rows) i d inside)) }
 
@@ -83,11 +83,11 @@ module _ (behind : List (Option ℕ)) (tops : List Top) (rows : Rows) (sound : I
     top_is : t ≡ top_at tops l
     top_is = get_or_read tops l t (omega (arith, sound.list_count)) read no_top
 
-    -- what it says of the nodes
-    here : IsStack (behind_at behind) t (list_at l rows)
+    -- the top and the links hold the nodes of stack l
+    pub here : IsStack (behind_at behind) t (list_at l rows)
     here = subst (λ u. IsStack (behind_at behind) u (list_at l rows)) (sym top_is) (sound.linked l inside)
 
-    -- the stack holds its front
+    -- stack l holds its front
     pub front_holder : (n : ℕ) → t.front ≡ Some n → holder n rows ≡ Some l
     front_holder n is = some_of l (holder n rows) (sym (has-holder n l rows apart) ∙ first_has (list_at l rows) n (is_some_of-same n (first (list_at l rows)) (sym here.front ∙ is)))
 
@@ -95,12 +95,12 @@ module _ (behind : List (Option ℕ)) (tops : List Top) (rows : Rows) (sound : I
     pub front_within : (n : ℕ) → t.front ≡ Some n → n < rows.nodes
     front_within n is = All-listed (λ k. k < rows.nodes) n l rows.lists parts.within (first_has (list_at l rows) n (is_some_of-same n (first (list_at l rows)) (sym here.front ∙ is)))
 
-    -- ---- the stack has these nodes now, of which none stands elsewhere
+    -- ---- stack l is replaced by `ys`, whose nodes are in no other stack
     module _ (ys : List ℕ) (once : (k : ℕ) → times k (concat (set rows.lists l ys)) ≤ 1) (low : (k : ℕ) → 0 < times k (concat (set rows.lists l ys)) → k < rows.nodes)
         (new : List (Option ℕ)) (long : length new ≡ length behind) (u : Top) (now : IsStack (behind_at new) u ys)
         (kept : (m k : ℕ) → has k (list_at m rows) ≡ true → behind_at new k ≡ behind_at behind k) where
-      IsStacked-set : IsStacked new (set tops l u) (record rows { lists = set rows.lists l ys })
-      IsStacked-set = record {
+      IsSound-set : IsSound new (set tops l u) (record rows { lists = set rows.lists l ys })
+      IsSound-set = record {
         node_count = long ∙ sound.node_count;
         list_count = length-set tops l u ∙ sound.list_count ∙ sym (length-set rows.lists l ys);
         few_nodes = sound.few_nodes;
@@ -126,35 +126,29 @@ module _ (behind : List (Option ℕ)) (tops : List Top) (rows : Rows) (sound : I
       abbrev more : List ℕ
       more = n ∷ list_at l rows
 
-      -- each number as often as before, and this one once
+      -- the counts after the push: as before, and n once
       times-push : (k : ℕ) → times k (concat (set rows.lists l more)) ≡ times k (n ∷ linked_nodes rows)
       times-push k = omega (arith, times-set k l more rows.lists inside, times-cons k n (list_at l rows), times-cons k n (linked_nodes rows))
 
       once_more : (k : ℕ) → times k (n ∷ linked_nodes rows) ≤ 1
-      once_more k = elim (cases_eq n k) [
-        | inl same ↦ omega (arith, times_here k n (linked_nodes rows) same, times_free n rows free, ap (λ j. times j (linked_nodes rows)) same)
-        | inr other ↦ omega (arith, times_other k n (linked_nodes rows) other, sound.once k)
-      ]
+      once_more k = grind (arith, nat_tests, times-cons k n (linked_nodes rows), times_free n rows free, sound.once k, cases_eq n k)
 
       within_more : (k : ℕ) → 0 < times k (n ∷ linked_nodes rows) → k < rows.nodes
-      within_more k some = elim (cases_eq n k) [
-        | inl same ↦ omega (arith, same)
-        | inr other ↦ sound.within k (omega (arith, times_other k n (linked_nodes rows) other))
-      ]
+      within_more k some = grind (arith, nat_tests, times-cons k n (linked_nodes rows), sound.within k)
 
-      -- so there are fewer in the stack than there are nodes
+      -- so the stack has fewer nodes than there are
       pub push_room : t.len < rows.nodes
       push_room =
           omega (arith, here.len, length-listed l rows.lists, length_below rows.nodes (n ∷ linked_nodes rows) (apart_once (n ∷ linked_nodes rows) once_more) (λ k found. within_more k (times_has k (n ∷ linked_nodes rows) found)))
 
-      -- no link of a stack is written
+      -- the push writes no link of a stack
       push_kept : (m k : ℕ) → has k (list_at m rows) ≡ true → behind_at (set behind n t.front) k ≡ behind_at behind k
       push_kept m k there =
           get_or-set_other behind n k t.front None (λ same. false≢true (sym (holder_none n m rows free) ∙ ap (λ j. has j (list_at m rows)) (sym same) ∙ there))
 
-      pub IsStacked-push : (own : Option ℕ) → own ≡ Some n → IsStacked (set behind n t.front) (set tops l (record { len = t.len + 1; front = own })) (record rows { lists = set rows.lists l more })
-      IsStacked-push own is =
-          IsStacked-set more (λ k. omega (arith, times-push k, once_more k)) (λ k some. within_more k (omega (arith, times-push k)))
+      pub IsSound-push : (own : Option ℕ) → own ≡ Some n → IsSound (set behind n t.front) (set tops l (record { len = t.len + 1; front = own })) (record rows { lists = set rows.lists l more })
+      IsSound-push own is =
+          IsSound-set more (λ k. omega (arith, times-push k, once_more k)) (λ k some. within_more k (omega (arith, times-push k)))
           (set behind n t.front) (length-set behind n t.front) (record { len = t.len + 1; front = own })
           (record {
             len = omega (arith, here.len);
@@ -166,11 +160,11 @@ module _ (behind : List (Option ℕ)) (tops : List Top) (rows : Rows) (sound : I
           })
           push_kept
 
-      -- the stack holds it
+      -- after the push stack l holds n
       pub push_holder : holder n (record rows { lists = set rows.lists l more }) ≡ Some l
       push_holder = holder-insert_here rows apart n l more inside free refl
 
-      -- and what holds any other stays
+      -- every other node is held as before
       pub push_others : (k : ℕ) → k ≢ n → holder k (record rows { lists = set rows.lists l more }) ≡ holder k rows
       push_others k other = holder-insert_other rows apart n l k more inside free refl other
 
@@ -184,23 +178,19 @@ module _ (behind : List (Option ℕ)) (tops : List Top) (rows : Rows) (sound : I
 
       -- the stack is its front and the rest
       split : n ∷ rest ≡ list_at l rows
-      split = first_split (list_at l rows) first_is
-        where
-          first_split : (xs : List ℕ) → first xs ≡ Some n → n ∷ drop 1 xs ≡ xs
-          first_split [] none = absurd (none-some n none)
-          first_split (x ∷ xs) same = ap (λ j. j ∷ xs) (sym (same_Some x n same))
+      split = first_split n (list_at l rows) first_is
 
-      -- and has one node at least
+      -- the stack has one node at least
       pub pop_some : 0 < t.len
       pop_some = omega (arith, here.len, ap length split)
 
       times-pop : (k : ℕ) → times k (concat (set rows.lists l rest)) ≤ times k (linked_nodes rows)
       times-pop k = omega (arith, times-set k l rest rows.lists inside, times-cons k n rest, ap (times k) split)
 
-      pub IsStacked-pop : (next : Option ℕ) → next ≡ get_or behind n next → IsStacked behind (set tops l (record { len = t.len - 1; front = next })) (record rows { lists = set rows.lists l rest })
-      IsStacked-pop next link =
+      pub IsSound-pop : (next : Option ℕ) → next ≡ get_or behind n next → IsSound behind (set tops l (record { len = t.len - 1; front = next })) (record rows { lists = set rows.lists l rest })
+      IsSound-pop next link =
           let leads = subst (λ xs. LeadsOn (behind_at behind) xs None) (sym split) here.leads_on in
-          IsStacked-set rest (λ k. omega (arith, times-pop k, sound.once k)) (λ k some. sound.within k (omega (arith, times-pop k)))
+          IsSound-set rest (λ k. omega (arith, times-pop k, sound.once k)) (λ k some. sound.within k (omega (arith, times-pop k)))
           behind refl (record { len = t.len - 1; front = next })
           (record {
             len = omega (arith, here.len, ap length split);
@@ -209,26 +199,26 @@ module _ (behind : List (Option ℕ)) (tops : List Top) (rows : Rows) (sound : I
           })
           (λ m k there. refl)
 
-      -- it has left all the lists
+      -- after the pop n is in no list
       without_front : record rows { lists = set rows.lists l rest } ≡ record rows { lists = map (without n) rows.lists }
       without_front =
           ap (λ ls. record rows { lists = ls })
           (ap (λ xs. set rows.lists l (drop 1 xs)) (first-without n (list_at l rows) (IsApart-list_at l rows.lists apart) first_is)
           ∙ sym (map-without rows apart n l (front_holder n is)))
 
-      -- so nothing holds it
+      -- so no list holds it
       pub pop_freed : holder n (record rows { lists = set rows.lists l rest }) ≡ None
       pop_freed = ap (holder n) without_front ∙ holder-remove rows apart n n ∙ cond-true _ _ _ (eq-eqb n n refl)
 
-      -- and what holds any other stays
+      -- every other node is held as before
       pub pop_others : (k : ℕ) → Some n ≢ Some k → holder k (record rows { lists = set rows.lists l rest }) ≡ holder k rows
       pop_others k other = ap (holder k) without_front ∙ holder-remove rows apart n k ∙ cond-false _ _ _ (ne_eqb n k (λ same. other (ap Some same)))
 
 -- ---- empty stacks
 
 -- free nodes and empty stacks are sound
-pub IsStacked-new : (n m : ℕ) → n < 2 ^ 32 → m < 2 ^ 32 → IsStacked (replicate n None) (replicate m no_top) (record { nodes = n; lists = replicate m [] })
-IsStacked-new n m few_nodes few_lists =
+pub IsSound-new : (n m : ℕ) → n < 2 ^ 32 → m < 2 ^ 32 → IsSound (replicate n None) (replicate m no_top) (record { nodes = n; lists = replicate m [] })
+IsSound-new n m few_nodes few_lists =
     let empty : List ℕ = [] in
     let lists : length (replicate m empty) ≡ m = length-replicate m empty in
     record {

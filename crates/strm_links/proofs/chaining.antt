@@ -1,8 +1,5 @@
--- Chains in one arena: what the calls of `Strands` leave.
-pub mod ChainLinks
-pub mod Parts
+-- Chains in one arena: what each changing call of `Strands` leaves.
 pub mod Laid
-pub mod Moves
 pub mod Opened
 pub mod Begun
 pub mod Joined

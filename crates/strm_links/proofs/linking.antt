@@ -1,5 +1,4 @@
--- Doubly linked lists in one arena: what the calls of `Links` leave.
+-- Doubly linked lists in one arena: what each changing call of `Links` leaves.
 pub mod Shown
-pub mod Giving
 pub mod Changes
 pub mod Places

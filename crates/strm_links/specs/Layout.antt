@@ -4,11 +4,11 @@ use Rattle.strm_links.specs.Rows.{Rows, has, IsApart, first_or, first, last, is_
 use Rattle.strm_links.specs.declared.links.Node.{Node}
 use Rattle.strm_links.specs.declared.links.Ends.{Ends}
 
--- a node that is in no list; also what a read past the nodes gives
+-- a node that is in no list; also the result of a read past the nodes
 abbrev pub no_node : Node
 no_node = record { list = None; previous = None; next = None }
 
--- an empty list; also what a read past the lists gives
+-- the ends of an empty list; also the result of a read past the lists
 abbrev pub no_ends : Ends
 no_ends = record { len = 0; front = None; back = None }
 
@@ -29,21 +29,21 @@ next_at nodes k = (node_at nodes k).next
 abbrev pub ends_at : List Ends → ℕ → Ends
 ends_at ends l = slice_index_or ends l no_ends
 
--- so many nodes at most, read off the links from a first one on
+-- the nodes that the links lead to from a first one on, the given number at most
 abbrev pub walk : (ℕ → Option ℕ) → ℕ → Option ℕ → List ℕ
 walk next zero at = []
 walk next (suc count) None = []
 walk next (suc count) (Some k) = k ∷ walk next count (next k)
 
--- the nodes between these ends, along the links
+-- the nodes from the front of a list on, as the links lead, as many as its length says
 unfoldable pub nodes_between : List Node → Ends → List ℕ
 nodes_between nodes e = walk (next_at nodes) e.len e.front
 
--- what a contract sees
+-- the rows that nodes and ends mean, which contracts see
 abbrev pub rows_of : List Node → List Ends → Rows
 rows_of nodes ends = record { nodes = length nodes; lists = map (nodes_between nodes) ends }
 
--- `next` leads from each node to the one behind it, and from the last to `beyond`
+-- `next` leads from each node to the one after it, and from the last to `beyond`
 abbrev pub LeadsOn : (ℕ → Option ℕ) → List ℕ → Option ℕ → Type 0
 LeadsOn next [] beyond = Unit {0}
 LeadsOn next (x ∷ xs) beyond = (next x ≡ first_or beyond xs) × LeadsOn next xs beyond
@@ -53,7 +53,7 @@ abbrev pub LeadsBack : (ℕ → Option ℕ) → Option ℕ → List ℕ → Type
 LeadsBack previous ahead [] = Unit {0}
 LeadsBack previous ahead (x ∷ xs) = (previous x ≡ ahead) × LeadsBack previous (Some x) xs
 
--- the ends, the links and the owners say that a list has these nodes, in both directions
+-- ends, links and owners say that list l has nodes xs, in both directions
 pub record IsLinked (owner previous next : ℕ → Option ℕ) (e : Ends) (l : ℕ) (xs : List ℕ) : Type 0 where
   pub len : e.len ≡ length xs
   pub front : e.front ≡ first xs
@@ -63,7 +63,7 @@ pub record IsLinked (owner previous next : ℕ → Option ℕ) (e : Ends) (l : �
   pub apart : IsApart xs
   pub owned : (k : ℕ) → has k xs ≡ is_some_of l (owner k)
 
--- the nodes and the ends hold these rows: each list is linked, each owner is a list, and a node with no owner has no links
+-- nodes and ends mean these rows: each list is linked, each owner is a list, and a node without an owner has no links
 pub record IsSound (nodes : List Node) (ends : List Ends) (rows : Rows) : Type 0 where
   pub node_count : length nodes ≡ rows.nodes
   pub list_count : length ends ≡ length rows.lists

@@ -3,7 +3,7 @@ use Rattle.std.specs.Prelude.{◌≡◌, ℕ, ◌-◌, ◌^◌, true, false, Opt
 use Rattle.std.proofs.lemmas.Bool.{eqb-true}
 use Rattle.std.proofs.Common.{sym}
 
--- the word that stands for none
+-- the word that means none
 abbrev pub no_number : ℕ
 no_number = 2 ^ 32 - 1
 
@@ -15,7 +15,7 @@ slot_value word = if word == no_number then None else Some word
 abbrev pub slot_word : Option ℕ → ℕ
 slot_word o = unwrap_or o no_number
 
--- a word is found again from what it holds
+-- what a word holds determines the word
 pub slot_word-slot_value : (word : ℕ) → slot_word (slot_value word) ≡ word
 slot_word-slot_value word =
     elim (word == no_number) as (λ b. (word == no_number) ≡ b → slot_word (if b then None else Some word) ≡ word) [

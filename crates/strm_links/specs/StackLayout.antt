@@ -5,7 +5,7 @@ use Rattle.strm_links.specs.Rows.{Rows, first, list_at, linked_nodes}
 use Rattle.strm_links.specs.Layout.{walk, LeadsOn}
 use Rattle.strm_links.specs.declared.stacks.Top.{Top}
 
--- the top of an empty stack; also what a read past the stacks gives
+-- the top of an empty stack; also the result of a read past the stacks
 abbrev pub no_top : Top
 no_top = record { len = 0; front = None }
 
@@ -13,27 +13,27 @@ no_top = record { len = 0; front = None }
 abbrev pub top_at : List Top → ℕ → Top
 top_at tops l = slice_index_or tops l no_top
 
--- the node behind a node
+-- the node after a node
 abbrev pub behind_at : List (Option ℕ) → ℕ → Option ℕ
 behind_at behind k = slice_index_or behind k None
 
--- the nodes from this top on
+-- the nodes of a stack, from its top on
 unfoldable pub stack : List (Option ℕ) → Top → List ℕ
 stack behind t = walk (behind_at behind) t.len t.front
 
--- what a contract sees
+-- the rows that links and tops mean, which contracts see
 abbrev pub stacked_rows : List (Option ℕ) → List Top → Rows
 stacked_rows behind tops = record { nodes = length behind; lists = map (stack behind) tops }
 
--- the top and the links say that a stack has these nodes
+-- top and links say that a stack has these nodes
 pub record IsStack (next : ℕ → Option ℕ) (t : Top) (xs : List ℕ) : Type 0 where
   pub len : t.len ≡ length xs
   pub front : t.front ≡ first xs
   pub leads_on : LeadsOn next xs None
 
--- the links and the tops hold these rows: each stack is linked, and in all of them together no number stands twice, and none but a
--- node's. Which stack a node is in is not stored, so that no two share one is said by counting
-pub record IsStacked (behind : List (Option ℕ)) (tops : List Top) (rows : Rows) : Type 0 where
+-- links and tops mean these rows: each stack is linked, and all stacks together have each node at most once, and no other numbers.
+-- A node does not store its stack, so counting says that no two stacks share one
+pub record IsSound (behind : List (Option ℕ)) (tops : List Top) (rows : Rows) : Type 0 where
   pub node_count : length behind ≡ rows.nodes
   pub list_count : length tops ≡ length rows.lists
   pub few_nodes : rows.nodes < 2 ^ 32

@@ -9,15 +9,15 @@ use Rattle.strm_links.specs.StrandLists.{StrandLists, all_nodes}
 use Rattle.strm_links.specs.declared.strands.Node.{Node}
 use Rattle.strm_links.specs.declared.strands.Span.{Span}
 
--- what is kept at a node that is no head
+-- what a node that is no head stores
 abbrev pub no_span : Span
 no_span = record { last = 0; len = 0 }
 
--- what a read past the nodes gives
+-- the result of a read past the nodes
 abbrev pub no_node : Node
 no_node = record { next = None; span = no_span }
 
--- a free node of so many, which leads on to the node of the next number, if there is one
+-- free node k of `nodes` new ones, which leads on to the node with the next number, if any
 abbrev pub free_node : ℕ → ℕ → Node
 free_node nodes k = record { next = (if nat_lt (k + 1) nodes then Some (k + 1) else None); span = no_span }
 
@@ -31,41 +31,41 @@ next_at nodes k = (node_at nodes k).next
 abbrev pub span_at : List Node → ℕ → Span
 span_at nodes k = (node_at nodes k).span
 
--- where so many steps along the links lead
+-- the node that `steps` links from `at` lead to; none if they end before
 abbrev pub onward : (ℕ → Option ℕ) → ℕ → Option ℕ → Option ℕ
 onward next zero at = at
 onward next (suc steps) None = None
 onward next (suc steps) (Some k) = onward next steps (next k)
 
--- so many nodes from one on
+-- a number of nodes, as the links lead, from the given one on
 unfoldable pub path : List Node → ℕ → Option ℕ → List ℕ
 path nodes len at = walk (next_at nodes) len at
 
--- the chain that begins with a node, if there is one
+-- the chain that begins with node h, if any
 abbrev pub strand : List Node → ℕ → Option (List ℕ)
 strand nodes h = if (span_at nodes h).len == 0 then None else Some (path nodes (span_at nodes h).len (Some h))
 
--- what a contract sees
+-- the free nodes and chains that nodes mean, which contracts see
 abbrev pub strands_of : List Node → Option ℕ → ℕ → StrandLists
 strands_of nodes first_free free_len = record {
   free = path nodes free_len first_free;
   chains = map (strand nodes) (range_with_len 0 (length nodes));
 }
 
--- the links, and what is kept at the head, say that these nodes are a chain
+-- the links, and the span that the head stores, say that these nodes are a chain
 pub record IsStrand (next : ℕ → Option ℕ) (span : Span) (h : ℕ) (xs : List ℕ) : Type 0 where
   pub head : first xs ≡ Some h
   pub last : last xs ≡ Some span.last
   pub len : span.len ≡ length xs
   pub leads : LeadsOn next xs None
 
--- what is kept at a node says which chain begins with it, if one does
+-- the span at node h says which chain begins with it, if any
 abbrev pub IsHeadOf : (ℕ → Option ℕ) → Span → ℕ → Option (List ℕ) → Type 0
 IsHeadOf next span h None = span.len ≡ 0
 IsHeadOf next span h (Some xs) = IsStrand next span h xs
 
--- the nodes hold these free nodes and these chains, and each node once in all
-pub record IsLaid (nodes : List Node) (first_free : Option ℕ) (free_len : ℕ) (v : StrandLists) : Type 0 where
+-- nodes mean these free nodes and these chains, which together have each node exactly once
+pub record IsSound (nodes : List Node) (first_free : Option ℕ) (free_len : ℕ) (v : StrandLists) : Type 0 where
   pub node_count : length nodes ≡ length v.chains
   pub few_nodes : length v.chains < 2 ^ 32
   pub free_count : free_len ≡ length v.free

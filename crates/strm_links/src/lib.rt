@@ -1,7 +1,9 @@
-//! Nodes that are linked by number: doubly linked lists (`Links`), where each node is in one list at
-//! most, and every list reads alike both ways; stacks (`Stacks`), which take and give at the front
-//! alone; and chains linked one way (`Strands`), where each node is free or in one chain, and a chain's
-//! first node tells its last one and its length. A number or none takes one word (`Slot`).
+//! Lists, stacks and chains of nodes, linked by number in one arena each.
+//!
+//! - `Links`: doubly linked lists, which read alike both ways. Each node is in one list at most.
+//! - `Stacks`: stacks, which change at the front only.
+//! - `Strands`: chains linked one way. Each node is free or in one chain.
+//! - `Slot`: a number or none, in one word.
 #![tactic(auto)]
 
 mod links;

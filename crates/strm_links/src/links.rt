@@ -1,8 +1,7 @@
-//! Disjoint lists over one arena of nodes, linked by index.
+//! Disjoint lists over one arena of nodes, linked both ways: queues.
 //!
-//! UNIX System V Release 4 STREAMS queues messages in doubly linked lists, so that one can join or
-//! leave anywhere at once. That the links stand in one arena, as numbers, is this project's own
-//! choice.
+//! UNIX System V Release 4 STREAMS queues messages in doubly linked lists, so that a message can join or leave anywhere
+//! in constant time. That links are numbers into one arena is this project's own choice.
 ghost use Rattle.std.specs.Prelude.{◌≡◌, ℕ, ◌+◌, ◌^◌, ◌<◌, ◌-◌, [], ◌∷◌, ◌++◌, length, map, reverse, replicate, if◌then◌else◌, is_none, IsSome, IsTrue, IfOk, IfSome, ◌≢◌, slice_set, vec_len};
 ghost use Rattle.std.specs.Option.{ForSome, option_map_or};
 ghost use Rattle.strm_links.specs.Rows.{has, IsParting, first, last, without, put_before, put_in, Reads, is_some_of, list_at, holder, next_in, previous_in};
@@ -15,13 +14,12 @@ use std::mem::size_of;
 
 /// A fixed number of doubly linked lists over a fixed number of nodes, each in one list at most.
 ///
-/// Nodes and lists are numbers from 0 on, and each call asks for numbers in range. A node that is in
-/// no list is free: one that joins a list has to be, and one that leaves, or that another is put
-/// before, has to be in a list. `list_of` is the test.
+/// Nodes and lists are numbers from 0 on; every number that a caller passes must be that of a node or a list. A node that
+/// is in no list is free. A node that joins a list must be free. A node that leaves a list must be in one, and so must
+/// the node before which another is put. `list_of` tests this.
 ///
-/// Only `new` takes memory, 12 bytes for a node and 12 for a list, and every call takes constant time
-/// but for `new` and `append`. Callers see `Rows`: how many nodes there are, and the nodes of each
-/// list from front to back.
+/// Only `new` takes memory: 12 bytes a node and 12 bytes a list. Every call except `new` and `append` takes constant
+/// time. Contracts see `Rows`: the number of nodes, and the nodes of each list from front to back.
 #[derive(Debug, Drop)]
 pub struct Links {
     nodes: Vec<Node>,
@@ -30,7 +28,7 @@ pub struct Links {
 
 #[derive(Clone, Copy, Debug)]
 struct Node {
-    // The list that the node is in, and its neighbours there.
+    // The node's list, and its neighbours there.
     list: Slot,
     previous: Slot,
     next: Slot,
@@ -88,7 +86,7 @@ impl Model for Links {
         (rows_of s.nodes.items s.ends.items) };
 }
 
-// Lets `at` lead on to `next`; where `at` is none, the list begins with `next`.
+// Makes `next` the node after `at`, or the front of the list if `at` is none.
 fn set_next(nodes: &mut Vec<Node>, ends: &mut Ends, at: Slot, next: Slot)
     requires { ForSome at (λ k. k < vec_len nodes.old) }
     ensures nexts { (k : ℕ) → next_at nodes.new.items k
@@ -106,7 +104,7 @@ fn set_next(nodes: &mut Vec<Node>, ends: &mut Ends, at: Slot, next: Slot)
     }
 }
 
-// Lets `at` lead back to `previous`; where `at` is none, the list ends with `previous`.
+// Makes `previous` the node before `at`, or the back of the list if `at` is none.
 fn set_previous(nodes: &mut Vec<Node>, ends: &mut Ends, at: Slot, previous: Slot)
     requires { ForSome at (λ k. k < vec_len nodes.old) }
     ensures previous { (k : ℕ) → previous_at nodes.new.items k
@@ -124,7 +122,7 @@ fn set_previous(nodes: &mut Vec<Node>, ends: &mut Ends, at: Slot, previous: Slot
     }
 }
 
-// What stands before `at`; where `at` is none, the back of the list.
+// The node before `at`, or the back of the list if `at` is none.
 fn ahead_of(nodes: &[Node], ends: &Ends, at: Slot) -> Slot
     requires { ForSome at (λ k. k < length nodes.now) }
     ensures { result ≡ option_map_or (λ k. previous_at nodes.now k) at ends.now.back }
@@ -135,7 +133,7 @@ fn ahead_of(nodes: &[Node], ends: &Ends, at: Slot) -> Slot
     }
 }
 
-// Puts so many nodes, from `first` on, down as nodes of `list`.
+// Makes `list` the owner of `count` nodes, from `first` on.
 fn set_owners(nodes: &mut Vec<Node>, first: Slot, count: u32, list: Slot)
     requires { (k : ℕ) → IsTrue (has k (walk (next_at nodes.old.items) count first))
         → k < vec_len nodes.old }
@@ -158,9 +156,9 @@ fn set_owners(nodes: &mut Vec<Node>, first: Slot, count: u32, list: Slot)
 }
 
 impl Links {
-    /// So many free nodes, and so many empty lists.
+    /// Makes lists 0 to `lists - 1`, all empty, over nodes 0 to `nodes - 1`, all free.
     ///
-    /// Fails where the memory for them is refused, and then keeps none.
+    /// Fails if it runs out of memory, and then keeps none. Takes a step for each node and each list.
     pub fn new(alloc: Global, nodes: u32, lists: u32) -> Result<Self, AllocError>
         ensures rows { IfOk result (λ s. s ≡ record { nodes = nodes; lists = replicate lists [] }) }
         ensures parting { IfOk result IsParting }
@@ -171,7 +169,7 @@ impl Links {
         })
     }
 
-    /// The node at the front of a list, or none where the list is empty. Nothing changes.
+    /// Returns the node at the front of a list, or none if the list is empty. Changes nothing.
     pub fn front(&self, list: u32) -> Option<u32>
         requires { list < length self.now.lists }
         ensures value { result ≡ first (list_at list self.now) }
@@ -181,7 +179,7 @@ impl Links {
         self.ends[list as usize].front.get()
     }
 
-    /// The node at the back of a list, or none where the list is empty. Nothing changes.
+    /// Returns the node at the back of a list, or none if the list is empty. Changes nothing.
     pub fn back(&self, list: u32) -> Option<u32>
         requires { list < length self.now.lists }
         ensures value { result ≡ last (list_at list self.now) }
@@ -191,7 +189,7 @@ impl Links {
         self.ends[list as usize].back.get()
     }
 
-    /// How many nodes a list has. Nothing changes.
+    /// Returns the number of nodes of a list. Changes nothing.
     pub fn len(&self, list: u32) -> u32
         requires { list < length self.now.lists }
         ensures { result ≡ length (list_at list self.now) }
@@ -199,16 +197,16 @@ impl Links {
         self.ends[list as usize].len
     }
 
-    /// How many lists there are. Nothing changes.
+    /// Returns the number of lists. Changes nothing.
     pub fn list_count(&self) -> u32
         ensures { result ≡ length self.now.lists }
     {
         self.ends.len() as u32
     }
 
-    /// The list that a node is in, or none for a free node. Nothing changes.
+    /// Returns the list that a node is in, or none for a free node. Changes nothing.
     ///
-    /// This is the test for what the calls that change lists ask of their nodes.
+    /// Use it to test what the calls that change lists require of nodes.
     pub fn list_of(&self, node: u32) -> Option<u32>
         requires { node < self.now.nodes }
         ensures value { result ≡ holder node self.now }
@@ -217,8 +215,7 @@ impl Links {
         self.nodes[node as usize].list.get()
     }
 
-    /// The node behind this one in its list: none at the back of a list, and for a free node. Nothing
-    /// changes.
+    /// Returns the node after this one in its list, or none for a list's last node and for a free node. Changes nothing.
     pub fn next(&self, node: u32) -> Option<u32>
         requires { node < self.now.nodes }
         ensures value { result ≡ next_in self.now node }
@@ -228,8 +225,8 @@ impl Links {
         self.nodes[node as usize].next.get()
     }
 
-    /// The node before this one in its list: none at the front of a list, and for a free node. Nothing
-    /// changes.
+    /// Returns the node before this one in its list, or none for a list's first node and for a free node. Changes
+    /// nothing.
     pub fn prev(&self, node: u32) -> Option<u32>
         requires { node < self.now.nodes }
         ensures value { result ≡ previous_in self.now node }
@@ -239,8 +236,8 @@ impl Links {
         self.nodes[node as usize].previous.get()
     }
 
-    // Puts a free node into a list, just before `next`, or at the back where that is none.
-    fn link(&mut self, list: u32, node: u32, next: Slot)
+    // Puts the free node `node` into `list`: just before `next`, or at the back if `next` is none.
+    fn link_at(&mut self, list: u32, node: u32, next: Slot)
         requires list { list < length self.old.lists }
         requires node { node < self.old.nodes }
         requires free { holder node self.old ≡ None }
@@ -266,7 +263,25 @@ impl Links {
         self.ends[list as usize] = ends;
     }
 
-    /// Puts a free node at the front of a list. All other lists stay as they were.
+    /// Puts the free node `node` into `list`: just before the node `next` of this list, or at the back if `next` is none. All other
+    /// lists stay unchanged. Unlike `insert_before`, it does not look up the list of `next`.
+    pub fn link(&mut self, list: u32, node: u32, next: Option<u32>)
+        requires list { list < length self.old.lists }
+        requires node { node < self.old.nodes }
+        requires free { holder node self.old ≡ None }
+        requires next { ForSome next (λ at. holder at self.old ≡ Some list) }
+        ensures lists { self.new ≡ record self.old {
+          lists = slice_set self.old.lists list (put_in next node (list_at list self.old));
+        } }
+        ensures held { holder node self.new ≡ Some list }
+        ensures others { (k : ℕ) → k ≢ node → holder k self.new ≡ holder k self.old }
+        ensures parting { IsParting self.new }
+    {
+        self.parts_nodes();
+        self.link_at(list, node, Slot::of(next));
+    }
+
+    /// Puts the free node `node` at the front of `list`. All other lists stay unchanged.
     pub fn push_front(&mut self, list: u32, node: u32)
         requires list { list < length self.old.lists }
         requires node { node < self.old.nodes }
@@ -279,10 +294,10 @@ impl Links {
         ensures parting { IsParting self.new }
     {
         let front = self.ends[list as usize].front;
-        self.link(list, node, front);
+        self.link_at(list, node, front);
     }
 
-    /// Puts a free node at the back of a list. All other lists stay as they were.
+    /// Puts the free node `node` at the back of `list`. All other lists stay unchanged.
     pub fn push_back(&mut self, list: u32, node: u32)
         requires list { list < length self.old.lists }
         requires node { node < self.old.nodes }
@@ -294,11 +309,10 @@ impl Links {
         ensures others { (k : ℕ) → k ≢ node → holder k self.new ≡ holder k self.old }
         ensures parting { IsParting self.new }
     {
-        self.link(list, node, Slot::none());
+        self.link_at(list, node, Slot::none());
     }
 
-    /// Puts a free node just before `at`, which is in a list, in that list. All other lists stay as
-    /// they were.
+    /// Puts the free node `node` just before `at`, a node of a list. All other lists stay unchanged.
     pub fn insert_before(&mut self, at: u32, node: u32)
         requires at { IsSome (holder at self.old) }
         requires node { node < self.old.nodes }
@@ -310,10 +324,10 @@ impl Links {
         ensures parting { IsParting self.new }
     {
         let list = self.nodes[at as usize].list.get().unwrap();
-        self.link(list, node, Slot::some(at));
+        self.link_at(list, node, Slot::some(at));
     }
 
-    /// Takes a node out of the list that it is in. All other lists stay as they were.
+    /// Takes a node out of its list. All other lists stay unchanged.
     pub fn remove(&mut self, node: u32)
         requires { IsSome (holder node self.old) }
         ensures lists { self.new ≡ record self.old { lists = map (without node) self.old.lists } }
@@ -335,10 +349,8 @@ impl Links {
         self.ends[list as usize] = ends;
     }
 
-    /// Puts all nodes of `from` behind those of `to`, which is another list, in order, and leaves
-    /// `from` empty. All other lists stay as they were.
-    ///
-    /// Takes as many steps as `from` has nodes.
+    /// Appends all nodes of `from` to `to`, a different list, in order, and leaves `from` empty. All other lists stay unchanged.
+    /// Takes a step for each node of `from`.
     pub fn append(&mut self, to: u32, from: u32)
         requires to { to < length self.old.lists }
         requires from { from < length self.old.lists }
@@ -364,8 +376,8 @@ impl Links {
         self.ends[from as usize] = Ends::empty();
     }
 
-    /// The law that the lists part the nodes: in all the lists together no node stands twice, and each
-    /// is one of the nodes. Every call that changes them says so too. Does nothing.
+    /// Law: all lists together have each node at most once, and no other numbers. Every call that changes lists ensures this too.
+    /// Does nothing.
     pub fn parts_nodes(&self)
         ensures parting { IsParting self.now }
         ensures few_nodes { self.now.nodes < 2 ^ 32 }
@@ -374,8 +386,8 @@ impl Links {
         let _ = &self.nodes;
     }
 
-    /// The law that each list reads alike both ways: following `next` from its front gives it, and
-    /// following `prev` from its back gives its reverse. Does nothing.
+    /// Law: each list reads alike both ways: `next` from its front leads along it, and `prev` from its back along its
+    /// reverse. Does nothing.
     pub fn reads_alike(&self)
         ensures forward { (list : ℕ) →
             Reads (next_in self.now) (first (list_at list self.now)) (list_at list self.now) }

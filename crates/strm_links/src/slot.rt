@@ -1,13 +1,11 @@
-//! A number or none, in one word.
+//! A number or none, in one word: how links are stored.
 ghost use Rattle.std.specs.Prelude.{◌≡◌, ◌-◌, ◌^◌, ◌<◌, IsSome, is_none, if◌then◌else◌};
 ghost use Rattle.std.specs.Option.{ForSome};
 ghost use Rattle.strm_links.specs.Rows.{is_some_of};
 
 use std::marker::Model;
 
-/// A number below `u32::MAX`, as that of a node or of a list, or none.
-///
-/// One 32-bit word, in which `u32::MAX` stands for none.
+/// A number below `u32::MAX`, such as that of a node or a list, or none. It takes one 32-bit word; `u32::MAX` means none.
 #[derive(Clone, Copy, Debug)]
 pub struct Slot {
     word: u32,
@@ -28,14 +26,14 @@ impl Model for Slot {
 }
 
 impl Slot {
-    /// No number.
+    /// Makes a slot without a number.
     pub fn none() -> Slot
         ensures { result ≡ None }
     {
         Slot { word: u32::MAX }
     }
 
-    /// This number, which is below `u32::MAX`.
+    /// Makes a slot of `number`, which is below `u32::MAX`.
     pub fn some(number: u32) -> Slot
         requires { number < 2 ^ 32 - 1 }
         ensures { result ≡ Some number }
@@ -43,7 +41,7 @@ impl Slot {
         Slot { word: number }
     }
 
-    /// This number, which is below `u32::MAX`, if there is one.
+    /// Makes a slot of `number`, which is below `u32::MAX` or none.
     pub fn of(number: Option<u32>) -> Slot
         requires { ForSome number (λ n. n < 2 ^ 32 - 1) }
         ensures { result ≡ number }
@@ -54,7 +52,7 @@ impl Slot {
         }
     }
 
-    /// Whether it is this number, which is below `u32::MAX`.
+    /// Says whether the slot has this number, which is below `u32::MAX`.
     pub fn is(self, number: u32) -> bool
         requires { number < 2 ^ 32 - 1 }
         ensures { result ≡ is_some_of number self }
@@ -62,7 +60,7 @@ impl Slot {
         self.word == number
     }
 
-    /// The number, if there is one.
+    /// Returns the slot's number, or none.
     pub fn get(self) -> Option<u32>
         ensures { result ≡ self }
     {
@@ -73,7 +71,7 @@ impl Slot {
         }
     }
 
-    /// The number that there is.
+    /// Returns the slot's number, which must exist, without a test.
     #[inline(always)]
     pub fn number(self) -> u32
         requires { IsSome self }
@@ -82,7 +80,7 @@ impl Slot {
         self.word
     }
 
-    /// This number, or else the other.
+    /// Returns this slot if it has a number, and `otherwise` if not.
     pub fn or(self, otherwise: Slot) -> Slot
         ensures { result ≡ (if is_none self then otherwise else self) }
     {

@@ -1,8 +1,8 @@
-//! Disjoint stacks over one arena of nodes, linked one way.
+//! Disjoint stacks over one arena of nodes, linked one way: free lists.
 //!
-//! A free list takes and gives at its front alone, as those of UNIX System V Release 4 STREAMS may: it needs no link
-//! back, and nothing but the list to find a node by. That the links stand in one arena, as numbers, is this project's
-//! own choice.
+//! The free lists of UNIX System V Release 4 STREAMS, as stacks. A stack changes at its front only, so it needs no link
+//! back, and no way from a node to its stack. Stacks, and links that are numbers into one arena, are this project's own
+//! choice.
 ghost use Rattle.std.specs.Prelude.{◌≡◌, ◌≢◌, ℕ, ◌^◌, ◌<◌, [], ◌∷◌, Some, None, drop, length, replicate, IfOk, IfSome, slice_set};
 ghost use Rattle.strm_links.specs.Rows.{IsParting, first, list_at, holder};
 ghost use Rattle.strm_links.specs.StackLayout.{no_top};
@@ -14,15 +14,15 @@ use std::mem::size_of;
 
 /// A fixed number of stacks over a fixed number of nodes, each in one stack at most.
 ///
-/// Nodes and stacks are numbers from 0 on, and each call asks for numbers in range. A node that is in no stack is
-/// free, and one that joins a stack has to be. Which stack a node is in is not stored: the caller knows what it has
-/// put where, or takes `Links`.
+/// Nodes and stacks are numbers from 0 on; a caller must name only those that exist. A node that is in no stack is
+/// free; only a free node can join a stack. Which stack a node is in is not stored, so the caller must know which nodes
+/// are free. `Links` stores it.
 ///
-/// Only `new` takes memory, 4 bytes for a node and 8 for a stack, and every other call takes constant time. Callers
-/// see `Rows`, as those of `Links` do: how many nodes there are, and the nodes of each stack from the front on.
+/// Only `new` takes memory: 4 bytes a node and 8 bytes a stack. Every other call takes constant time. Contracts see
+/// `Rows`: the number of nodes, and the nodes of each stack from the front on.
 #[derive(Debug, Drop)]
 pub struct Stacks {
-    // What stands behind each node in its stack; of a free node it means nothing.
+    // The node after each node in its stack; meaningless for a free node.
     behind: Vec<Slot>,
     tops: Vec<Top>,
 }
@@ -54,18 +54,18 @@ impl Model for Stacks {
 
     ghost coded = { rows_code };
 
-    ghost use Rattle.strm_links.specs.StackLayout.{stacked_rows, IsStacked};
+    ghost use Rattle.strm_links.specs.StackLayout.{stacked_rows, IsSound};
 
     ghost view = { λ s. stacked_rows s.behind.items s.tops.items };
 
-    ghost invariant = { λ s. IsStacked s.behind.items s.tops.items
+    ghost invariant = { λ s. IsSound s.behind.items s.tops.items
         (stacked_rows s.behind.items s.tops.items) };
 }
 
 impl Stacks {
-    /// So many free nodes, and so many empty stacks.
+    /// Makes stacks 0 to `lists - 1`, all empty, over nodes 0 to `nodes - 1`, all free.
     ///
-    /// Fails where the memory for them is refused, and then keeps none.
+    /// Fails if it runs out of memory, and then keeps none. Takes a step for each node and each stack.
     pub fn new(alloc: Global, nodes: u32, lists: u32) -> Result<Self, AllocError>
         ensures rows { IfOk result (λ s. s ≡ record { nodes = nodes; lists = replicate lists [] }) }
         ensures parting { IfOk result IsParting }
@@ -76,7 +76,7 @@ impl Stacks {
         })
     }
 
-    /// The node at the front of a stack, or none where the stack is empty. Nothing changes.
+    /// Returns the node at the front of stack `list`, or none if the stack is empty. Changes nothing.
     pub fn front(&self, list: u32) -> Option<u32>
         requires { list < length self.now.lists }
         ensures value { result ≡ first (list_at list self.now) }
@@ -86,7 +86,7 @@ impl Stacks {
         self.tops[list as usize].front.get()
     }
 
-    /// How many nodes a stack has. Nothing changes.
+    /// Returns the number of nodes of stack `list`. Changes nothing.
     pub fn len(&self, list: u32) -> u32
         requires { list < length self.now.lists }
         ensures { result ≡ length (list_at list self.now) }
@@ -94,7 +94,7 @@ impl Stacks {
         self.tops[list as usize].len
     }
 
-    /// Puts a free node at the front of a stack. All other stacks stay as they were.
+    /// Puts the free node `node` at the front of stack `list`. All other stacks stay unchanged.
     pub fn push_front(&mut self, list: u32, node: u32)
         requires list { list < length self.old.lists }
         requires node { node < self.old.nodes }
@@ -114,8 +114,8 @@ impl Stacks {
         };
     }
 
-    /// Takes the node at the front out of a stack, or gives none where the stack is empty and stays so. All other
-    /// stacks stay as they were.
+    /// Removes the node at the front of stack `list` and returns it, or none if the stack is empty. All other stacks stay
+    /// unchanged.
     pub fn pop_front(&mut self, list: u32) -> Option<u32>
         requires { list < length self.old.lists }
         ensures value { result ≡ first (list_at list self.old) }
@@ -137,8 +137,8 @@ impl Stacks {
         Some(node)
     }
 
-    /// The law that the stacks part the nodes: in all the stacks together no node stands twice, and each is one of
-    /// the nodes. Every call that changes them says so too. Does nothing.
+    /// Law: all stacks together have each node at most once, and no other numbers. Every call that changes stacks ensures this too.
+    /// Does nothing.
     pub fn parts_nodes(&self)
         ensures parting { IsParting self.now }
         ensures few_nodes { self.now.nodes < 2 ^ 32 }

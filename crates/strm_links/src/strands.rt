@@ -1,8 +1,8 @@
-//! Chains over one arena of nodes, linked one way, by number.
+//! Chains over one arena of nodes, linked one way: the blocks of messages.
 //!
-//! UNIX System V Release 4 STREAMS links the blocks of a message one way, each to the one behind it.
-//! That the links stand in one arena, as numbers, and that a chain's first node tells its last one and
-//! its length, is this project's own choice: two chains are joined at once, however long they are.
+//! In UNIX System V Release 4 STREAMS each block of a message links to the next one. That links are numbers into one
+//! arena is this project's own choice. So is that a chain's first node stores its last node and its length: two chains of
+//! any length are joined in constant time.
 ghost use Rattle.std.specs.Prelude.{◌≡◌, ◌≢◌, ℕ, ◌+◌, ◌-◌, ◌^◌, ◌<◌, ◌≤◌, ◌++◌, ◌==◌, nat_lt, drop, is_none, is_some, length, map, reverse, take, false, if◌then◌else◌, IfOk, IfSome, IsSome, IsTrue, slice_get, slice_set, vec_len};
 ghost use Rattle.std.specs.List.{range_with_len};
 ghost use Rattle.strm_links.specs.Rows.{IsApart, first, first_or, has, last};
@@ -16,38 +16,38 @@ use std::alloc::{AllocError, Global};
 use std::marker::Model;
 use std::mem::size_of;
 
-/// A fixed number of nodes, each of which is free or stands in one chain.
+/// A fixed number of nodes, each of which is free or in one chain.
 ///
-/// Nodes are numbers from 0 on, and each call asks for numbers in range. A chain is named by its first
-/// node, its head, and has one node at least: `begins_chain` tells whether a chain begins with a node. The
-/// free nodes stand in an order of their own, and are taken from its front.
+/// Nodes are numbers from 0 on; a caller must name only those that exist. A chain has one node at least, and is named
+/// by its first node, its head. `begins_chain` says whether a node is a head. The free nodes are in an order, and are
+/// taken from its front.
 ///
-/// Only `new` takes memory, 12 bytes for a node. Every call takes constant time but for `new`,
-/// `begin_all`, `take_out`, `free` and `free_behind`, which go along the nodes. Callers see `StrandLists`: the free
-/// nodes in order, and for each node the chain that begins with it.
+/// Only `new` takes memory: 12 bytes a node. Every call takes constant time except `new`, `begin_all`, `take_out`, `free`
+/// and `free_behind`, which walk along nodes. Contracts see `StrandLists`: the free nodes in order, and for each node the
+/// chain that begins with it.
 #[derive(Debug, Drop)]
 pub struct Strands {
     nodes: Vec<Node>,
-    // The first of the free nodes, which are linked as those of a chain, and how many there are.
+    // The first free node, and the number of free nodes. They are linked as the nodes of a chain are.
     first_free: Slot,
     free_len: u32,
 }
 
 #[derive(Clone, Copy, Debug)]
 struct Node {
-    // The node behind this one, in its chain or among the free ones.
+    // The node after this one, in its chain or among the free nodes.
     next: Slot,
     span: Span,
 }
 
-// What a head keeps of its chain. Any other node has a length of 0.
+// What a head stores of its chain. Any other node has a length of 0.
 #[derive(Clone, Copy, Debug)]
 struct Span {
     last: u32,
     len: u32,
 }
 
-// The last of the nodes whose links were reversed, and what it led on to.
+// The last of the nodes whose links were reversed, and the node that followed it, if any.
 #[derive(Clone, Copy, Debug)]
 struct Reversed {
     last: Slot,
@@ -63,16 +63,16 @@ impl Model for Strands {
 
     ghost coded = { strands_code };
 
-    ghost use Rattle.strm_links.specs.StrandLayout.{IsLaid, strands_of};
+    ghost use Rattle.strm_links.specs.StrandLayout.{IsSound, strands_of};
 
     ghost view = { λ s. strands_of s.nodes.items s.first_free s.free_len };
 
-    ghost invariant = { λ s. IsLaid s.nodes.items s.first_free s.free_len
+    ghost invariant = { λ s. IsSound s.nodes.items s.first_free s.free_len
         (strands_of s.nodes.items s.first_free s.free_len) };
 }
 
 impl Span {
-    // What a node keeps that is no head.
+    // What a node that is no head stores.
     #[inline(always)]
     fn none() -> Span
         ensures { result ≡ no_span }
@@ -80,7 +80,8 @@ impl Span {
         Span { last: 0, len: 0 }
     }
 
-    // What the head keeps once the `count` nodes behind `ahead` have left the chain, which led on to `next`.
+    // What a head stores after the `count` nodes after `ahead` have left the chain. `next` is the node that followed
+    // them; if there is none, `ahead` is the last node.
     #[inline(always)]
     fn without(self, count: u32, ahead: u32, next: Slot) -> Span
         requires { count ≤ self.len }
@@ -97,7 +98,7 @@ impl Span {
     }
 }
 
-// Lets a node lead on to `next`.
+// Makes `next` the node after node `at`.
 #[inline(always)]
 fn lead(nodes: &mut Vec<Node>, at: u32, next: Slot)
     requires { at < vec_len nodes.old }
@@ -109,7 +110,7 @@ fn lead(nodes: &mut Vec<Node>, at: u32, next: Slot)
     nodes[at as usize].next = next;
 }
 
-// Keeps this at a node.
+// Stores `span` at node `at`.
 #[inline(always)]
 fn keep(nodes: &mut Vec<Node>, at: u32, span: Span)
     requires { at < vec_len nodes.old }
@@ -121,7 +122,7 @@ fn keep(nodes: &mut Vec<Node>, at: u32, span: Span)
     nodes[at as usize].span = span;
 }
 
-// Makes a chain of the nodes that lead from `head` to `last`, and which are so many.
+// Makes a chain of the `len` nodes that are linked from `head` to `last`.
 #[inline(always)]
 fn chain_up(nodes: &mut Vec<Node>, head: u32, last: u32, len: u32)
     requires head { head < vec_len nodes.old }
@@ -136,7 +137,7 @@ fn chain_up(nodes: &mut Vec<Node>, head: u32, last: u32, len: u32)
     keep(nodes, head, Span { last, len });
 }
 
-// The node that so many steps lead to.
+// The node that is `steps` links after `from`.
 fn node_behind(nodes: &[Node], from: u32, steps: u32) -> u32
     requires from { from < length nodes.now }
     requires within { (k j : ℕ) → next_at nodes.now k ≡ Some j → j < length nodes.now }
@@ -151,8 +152,8 @@ fn node_behind(nodes: &[Node], from: u32, steps: u32) -> u32
     at
 }
 
-// Reverses the links of so many nodes from `head` on: they lead from the last back to `head`, and that on to `beyond`. Most
-// chains are of one node, and have no loop.
+// Reverses the links of `len` nodes from `head` on: the last one leads back to `head`, and `head` to `beyond`. Most
+// chains have one node, for which no loop runs.
 #[inline(always)]
 fn reverse_links(nodes: &mut Vec<Node>, head: u32, len: u32, beyond: Slot) -> Reversed
     requires few { vec_len nodes.old < 2 ^ 32 }
@@ -187,7 +188,7 @@ fn reverse_links(nodes: &mut Vec<Node>, head: u32, len: u32, beyond: Slot) -> Re
     }
 }
 
-// So many free nodes, in rising order.
+// Makes this number of free nodes, in rising order.
 fn free_nodes(alloc: Global, nodes: u32) -> Result<Vec<Node>, AllocError>
     ensures { IfOk result (λ v. v.items ≡ map (free_node nodes) (range_with_len 0 nodes)) }
 {
@@ -201,7 +202,7 @@ fn free_nodes(alloc: Global, nodes: u32) -> Result<Vec<Node>, AllocError>
     Ok(free)
 }
 
-// The first of so many nodes, if there is one.
+// The first of this number of nodes, or none.
 fn first_of(nodes: u32) -> Slot
     ensures { result ≡ (if nat_lt 0 nodes then Some 0 else None) }
 {
@@ -213,9 +214,9 @@ fn first_of(nodes: u32) -> Slot
 }
 
 impl Strands {
-    /// So many nodes, all free, in rising order.
+    /// Makes nodes 0 to `nodes - 1`, all free, in rising order.
     ///
-    /// Fails where the memory for them is refused, and then keeps none. Takes a step for each.
+    /// Fails if it runs out of memory, and then keeps none. Takes a step for each node.
     pub fn new(alloc: Global, nodes: u32) -> Result<Self, AllocError>
         ensures opened { IfOk result (λ s. s ≡ opening_strands nodes) }
         ensures parted { IfOk result IsParted }
@@ -227,7 +228,7 @@ impl Strands {
         })
     }
 
-    /// How many nodes are free. Nothing changes.
+    /// Returns the number of free nodes. Changes nothing.
     #[inline(always)]
     pub fn free_len(&self) -> u32
         ensures { result ≡ length self.now.free }
@@ -235,7 +236,7 @@ impl Strands {
         self.free_len
     }
 
-    /// Whether a chain begins with this node. Nothing changes.
+    /// Says whether a chain begins with this node. Changes nothing.
     #[inline(always)]
     pub fn begins_chain(&self, head: u32) -> bool
         requires { head < length self.now.chains }
@@ -244,7 +245,7 @@ impl Strands {
         self.nodes[head as usize].span.len > 0
     }
 
-    /// How many nodes a chain has. Nothing changes.
+    /// Returns the number of nodes of the chain with this head. Changes nothing.
     #[inline(always)]
     pub fn len(&self, head: u32) -> u32
         requires { IsSome (chain_in self.now.chains head) }
@@ -253,7 +254,7 @@ impl Strands {
         self.nodes[head as usize].span.len
     }
 
-    /// The node behind this one, in its chain or among the free ones: none behind the last. Nothing changes.
+    /// Returns the node after this one, in its chain or among the free nodes, or none for the last. Changes nothing.
     #[inline(always)]
     pub fn next(&self, node: u32) -> Option<u32>
         requires { node < length self.now.chains }
@@ -266,7 +267,7 @@ impl Strands {
         self.nodes[node as usize].next.get()
     }
 
-    /// The first free node, which `begin` takes next: none where no node is free. Nothing changes.
+    /// Returns the first free node, which `begin` takes next, or none if no node is free. Changes nothing.
     #[inline(always)]
     pub fn first_free(&self) -> Option<u32>
         ensures value { result ≡ first self.now.free }
@@ -275,8 +276,7 @@ impl Strands {
         self.first_free.get()
     }
 
-    /// Makes the first free node a chain, and names it. None where no node is free, and then nothing
-    /// changes.
+    /// Makes the first free node a chain, and returns it. Returns none if no node is free, and then nothing changes.
     #[inline(always)]
     pub fn begin(&mut self) -> Option<u32>
         ensures answer { result ≡ first self.old.free }
@@ -291,10 +291,8 @@ impl Strands {
         Some(first)
     }
 
-    /// Makes the first `count` free nodes one chain, in their order, and names its head. There are so many, and the count is
-    /// 1 at least. All other chains and free nodes stay.
-    ///
-    /// Takes a step for each.
+    /// Makes the first `count` free nodes one chain, in their order, and returns its head. The count is from 1 to the number of
+    /// free nodes. All other chains and free nodes stay unchanged. Takes a step for each node.
     pub fn begin_all(&mut self, count: u32) -> u32
         requires some { 0 < count }
         requires enough { count ≤ length self.old.free }
@@ -314,7 +312,7 @@ impl Strands {
         head
     }
 
-    /// Puts the chain `tail` behind another chain, which has the nodes of both then. All other chains stay.
+    /// Appends the chain `tail` to the chain `head`, a different one. All other chains stay unchanged.
     #[inline(always)]
     pub fn join(&mut self, head: u32, tail: u32)
         requires head { IsSome (chain_in self.old.chains head) }
@@ -337,8 +335,8 @@ impl Strands {
         );
     }
 
-    /// Leaves only the first node in a chain. The others are a chain, which is named by its first node;
-    /// none where there are no others, and then nothing changes. All other chains stay.
+    /// Makes the nodes after the first a chain of their own, and returns its head. Returns none if the chain has one
+    /// node, and then nothing changes. All other chains stay unchanged.
     #[inline(always)]
     pub fn divide(&mut self, head: u32) -> Option<u32>
         requires { IsSome (chain_in self.old.chains head) }
@@ -363,10 +361,9 @@ impl Strands {
         Some(rest)
     }
 
-    /// Takes the node at `place`, counted from 0, out of a chain, and makes it a chain of its own. None
-    /// where the chain has no such place, and then nothing changes. All other chains stay.
-    ///
-    /// Takes a step for each node before it. The first node stays: `divide` parts it from the others.
+    /// Takes the node at `place` out of a chain, makes it a chain of its own, and returns it. Places count from 0; this one is 1 at
+    /// least, and `divide` separates the first node. Returns none if the chain has no such place, and then nothing changes. All
+    /// other chains stay unchanged. Takes a step for each node before the place.
     pub fn take_out(&mut self, head: u32, place: u32) -> Option<u32>
         requires head { IsSome (chain_in self.old.chains head) }
         requires place { 0 < place }
@@ -390,9 +387,8 @@ impl Strands {
         Some(node)
     }
 
-    /// Frees the nodes of a chain, first to last, each to the front of the free ones. All other chains stay.
-    ///
-    /// Takes a step for each.
+    /// Frees the nodes of a chain, first to last, each to the front of the free nodes. All other chains stay unchanged. Takes a
+    /// step for each node.
     #[inline(always)]
     pub fn free(&mut self, head: u32)
         requires { IsSome (chain_in self.old.chains head) }
@@ -409,10 +405,8 @@ impl Strands {
         self.free_len += span.len;
     }
 
-    /// Frees the `count` nodes behind the first of a chain, which has more than so many, first to last, each to the front of
-    /// the free ones. The first one, and those behind these, stay the chain, and all other chains stay.
-    ///
-    /// Takes a step for each.
+    /// Frees the `count` nodes after the first of a chain, in order, each to the front of the free nodes. The chain has more nodes
+    /// than that, and keeps the others. All other chains stay unchanged. Takes a step for each freed node.
     #[inline(always)]
     pub fn free_behind(&mut self, head: u32, count: u32)
         requires { count < length (strand_at self.old head) }
@@ -430,8 +424,8 @@ impl Strands {
         self.free_len += count;
     }
 
-    /// The law that the free nodes and the chains part the nodes: each stands once in all, and a chain
-    /// stands at its first node. Every call that changes them says so too. Does nothing.
+    /// Law: free nodes and chains together have each node exactly once, and each chain is at its first node. Every call that
+    /// changes them ensures this too. Does nothing.
     pub fn parts_nodes(&self)
         ensures parted { IsParted self.now }
         ensures few_nodes { length self.now.chains < 2 ^ 32 }

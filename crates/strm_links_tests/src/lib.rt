@@ -1,4 +1,4 @@
-//! Tests of strm_links, lists, stacks and chains by index, by its public calls.
+//! Tests of strm_links by its public calls: lists, stacks and chains, beside plain vectors.
 #![tactic(auto)]
 
 #[cfg(test)]

@@ -7,7 +7,7 @@ mod plain;
 mod stacks;
 mod strands;
 
-// Reading has come to this node, one of so many.
+// Asserts that reading has come to this node, one of `nodes`.
 fn assert_at(rt: &impl Abort, at: Option<u32>, node: u32, nodes: u32)
     ensures { node < nodes }
 {
@@ -15,7 +15,7 @@ fn assert_at(rt: &impl Abort, at: Option<u32>, node: u32, nodes: u32)
     assert!(rt; node < nodes);
 }
 
-// The next number below `limit` of a fixed sequence.
+// Draws the next number below `limit` of a fixed sequence.
 fn below(draw: &mut u32, limit: u32) -> u32
     requires { 0 < limit }
     ensures { result < limit }

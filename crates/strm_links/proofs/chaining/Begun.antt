@@ -1,24 +1,20 @@
 -- The first free nodes become a chain.
-use Rattle.std.proofs.Common.{◌≡◌, ℕ, suc, ◌-◌, ◌<◌, true, false, ◌==◌, List, [], ◌∷◌, ◌++◌, length, get_or, set, take, drop, Option, Some, None, if◌then◌else◌, refl, sym, ap, ◌∙◌, subst, arith, length-append}
+use Rattle.std.proofs.Common.{◌≡◌, ℕ, suc, ◌-◌, ◌<◌, true, ◌==◌, List, [], ◌∷◌, ◌++◌, length, get_or, set, take, drop, Option, Some, None, if◌then◌else◌, refl, sym, ap, ◌∙◌, subst, arith, length-append}
 use Rattle.std.proofs.lemmas.List.{length-take-le, take-append-drop}
-use Rattle.std.proofs.lemmas.Option.{none-some, same_Some}
 use Rattle.strm_links.specs.Rows.{has, IsApart, first, last}
 use Rattle.strm_links.specs.Layout.{LeadsOn}
 use Rattle.strm_links.specs.Counting.{times}
 use Rattle.strm_links.specs.Chains.{items_of}
 use Rattle.strm_links.specs.StrandLists.{StrandLists, with_first_begun}
-use Rattle.strm_links.specs.StrandLayout.{IsLaid, IsStrand, next_at, onward, span_at}
+use Rattle.strm_links.specs.StrandLayout.{IsSound, IsStrand, next_at, onward, span_at}
 use Rattle.strm_links.specs.declared.strands.Node.{Node}
-use Rattle.strm_links.proofs.lists.ListLinks.{LeadsOn-kept, LeadsOn-parts}
+use Rattle.strm_links.proofs.lists.ListLinks.{LeadsOn-kept, LeadsOn-parts, first-take, has_first, has_last, last-take, link_last, onward-at, LeadsOn-end}
 use Rattle.strm_links.proofs.lists.Counting.{times-append}
 use Rattle.strm_links.proofs.lists.Chains.{Changes-one, times-set}
-use Rattle.strm_links.proofs.lists.OneList.{ApartParts, IsApart-parts, has_left}
-use Rattle.strm_links.proofs.chaining.Laid.{begins_none}
-use Rattle.strm_links.proofs.chaining.ChainLinks.{first-take, has_first, has_last, last-take, link_last, onward-at, LeadsOn-end}
-use Rattle.strm_links.proofs.chaining.Moves.{IsLaid-moved, Moves, apart_from, unwritten, written}
-use Rattle.strm_links.proofs.chaining.Parts.{free_apart, free_low, not_free, not_in_strand}
+use Rattle.strm_links.proofs.lists.OneList.{first_split, ApartParts, IsApart-parts, has_left}
+use Rattle.strm_links.proofs.chaining.Laid.{begins_none, IsSound-moved, apart_from, write_elsewhere, write_here, free_apart, free_low, not_free, not_in_strand}
 
-module _ (nodes : List Node) (first_free : Option ℕ) (free_len : ℕ) (v : StrandLists) (laid : IsLaid nodes first_free free_len v) where
+module _ (nodes : List Node) (first_free : Option ℕ) (free_len : ℕ) (v : StrandLists) (laid : IsSound nodes first_free free_len v) where
   -- ---- the first part of the free nodes, from h to t
 
   module _ (ps qs : List ℕ) (split : v.free ≡ ps ++ qs) (h t : ℕ) (begins : first ps ≡ Some h) (ends : last ps ≡ Some t) where
@@ -35,68 +31,52 @@ module _ (nodes : List Node) (first_free : Option ℕ) (free_len : ℕ) (v : Str
     leads : LeadsOn (next_at nodes) ps (first qs) × LeadsOn (next_at nodes) qs None
     leads = LeadsOn-parts (next_at nodes) ps qs None (subst (λ xs. LeadsOn (next_at nodes) xs None) split laid.free_leads)
 
-    -- what the last leads on to is free next
+    -- the last leads on to the free nodes that are left
     pub begun_next : next_at nodes t ≡ first qs
     begun_next = link_last (next_at nodes) ps (first qs) t ends leads.0
 
     module _ (new : List Node) (long : length new ≡ length nodes) (nexts : (k : ℕ) → next_at new k ≡ (if t == k then None else next_at nodes k))
         (spans : (k : ℕ) → span_at new k ≡ (if h == k then record { last = t; len = length ps } else span_at nodes k)) where
-      begun : IsStrand (next_at new) (record { last = t; len = length ps }) h ps
-      begun = record {
+      begun_strand : IsStrand (next_at new) (record { last = t; len = length ps }) h ps
+      begun_strand = record {
         head = begins;
         last = ends;
         len = refl;
-        leads = LeadsOn-end (next_at nodes) (next_at new) ps (first qs) None t ends parts.left leads.0 (nexts t ∙ written t _ _) (λ k there other. nexts k ∙ unwritten t k _ _ other);
+        leads = LeadsOn-end (next_at nodes) (next_at new) ps (first qs) None t ends parts.left leads.0 (nexts t ∙ write_here t _ _) (λ k there other. nexts k ∙ write_elsewhere t k _ _ other);
       }
 
-      moves : Moves nodes new v qs v.free (set v.chains h (Some ps)) h h (Some ps) (Some ps)
-      moves =
-          let here : IsStrand (next_at new) (span_at new h) h ps = subst (λ s. IsStrand (next_at new) s h ps) (sym (spans h ∙ written h _ _)) begun in
-          record {
+      pub IsSound-begun : IsSound new (next_at nodes t) (free_len - length ps) (record v { free = qs; chains = set v.chains h (Some ps) })
+      IsSound-begun =
+          let here : IsStrand (next_at new) (span_at new h) h ps = subst (λ s. IsStrand (next_at new) s h ps) (sym (spans h ∙ write_here h _ _)) begun_strand in
+          let none = begins_none nodes first_free free_len v laid h (not_in_strand v laid.once h h (in_free h (has_first ps h begins))) in
+          IsSound-moved nodes new v qs v.free (set v.chains h (Some ps)) h h (Some ps) (Some ps)
+          (record {
             long = long;
             changes = Changes-one v.chains h (Some ps) begun_low.0;
-            spans = λ g other _. spans g ∙ unwritten h g _ _ other;
-            links = λ k absent. nexts k ∙ unwritten t k _ _ (apart_from k t v.free (in_free t (has_last ps t ends)) absent);
+            spans = λ g other _. spans g ∙ write_elsewhere h g _ _ other;
+            links = λ k absent. nexts k ∙ write_elsewhere t k _ _ (apart_from k t v.free (in_free t (has_last ps t ends)) absent);
             others = λ g k _ _ there. not_free v laid.once g k there;
             here = here;
             there = here;
-            free_leads = LeadsOn-kept (next_at nodes) (next_at new) qs None (λ k there. nexts k ∙ unwritten t k _ _ (λ same. apart_from t k qs there (parts_off t (has_last ps t ends)) (sym same))) leads.1;
-            same = λ k.
-                omega (
-                  arith,
-                  times-append k ps qs,
-                  ap (times k) split,
-                  times-set k h (Some ps) v.chains begun_low.0,
-                  ap (λ m. times k (items_of m)) (begins_none nodes first_free free_len v laid h (not_in_strand v laid.once h h (in_free h (has_first ps h begins)))),
-                );
-          }
-        where
-          parts_off : (k : ℕ) → has k ps ≡ true → has k qs ≡ false
-          parts_off = parts.cross
-
-      pub IsLaid-begun : IsLaid new (next_at nodes t) (free_len - length ps) (record v { free = qs; chains = set v.chains h (Some ps) })
-      IsLaid-begun =
-          IsLaid-moved nodes new v qs v.free (set v.chains h (Some ps)) h h (Some ps) (Some ps) moves first_free (next_at nodes t) free_len (free_len - length ps) laid begun_next
-          (omega (arith, laid.free_count, ap length split, length-append ps qs))
+            free_leads = LeadsOn-kept (next_at nodes) (next_at new) qs None (λ k there. nexts k ∙ write_elsewhere t k _ _ (λ same. apart_from t k qs there (parts.cross t (has_last ps t ends)) (sym same))) leads.1;
+            same = λ k. omega (arith, times-append k ps qs, ap (times k) split, times-set k h (Some ps) v.chains begun_low.0, ap (λ m. times k (items_of m)) none);
+          })
+          first_free (next_at nodes t) free_len (free_len - length ps) laid begun_next (omega (arith, laid.free_count, ap length split, length-append ps qs))
 
   -- ---- one node
 
   module _ (n : ℕ) (at : first_free ≡ Some n) where
     one_split : v.free ≡ (n ∷ []) ++ drop 1 v.free
-    one_split = first_rest v.free (sym laid.free_front ∙ at)
-      where
-        first_rest : (xs : List ℕ) → first xs ≡ Some n → xs ≡ (n ∷ []) ++ drop 1 xs
-        first_rest [] is = absurd (none-some n is)
-        first_rest (x ∷ xs) is = ap (λ y. y ∷ xs) (same_Some x n is)
+    one_split = sym (first_split n v.free (sym laid.free_front ∙ at))
 
     pub one_low : n < length v.chains
     one_low = (begun_low (n ∷ []) (drop 1 v.free) one_split n n refl refl).0
 
-    pub IsLaid-begun_one : (new : List Node) → length new ≡ length nodes → ((k : ℕ) → next_at new k ≡ (if n == k then None else next_at nodes k))
-        → ((k : ℕ) → span_at new k ≡ (if n == k then record { last = n; len = 1 } else span_at nodes k)) → IsLaid new (next_at nodes n) (free_len - 1) (with_first_begun v.free v)
-    IsLaid-begun_one new long nexts spans =
-        subst (λ xs. IsLaid new (next_at nodes n) (free_len - 1) (with_first_begun xs v)) (sym one_split)
-        (IsLaid-begun (n ∷ []) (drop 1 v.free) one_split n n refl refl new long nexts spans)
+    pub IsSound-begun_one : (new : List Node) → length new ≡ length nodes → ((k : ℕ) → next_at new k ≡ (if n == k then None else next_at nodes k))
+        → ((k : ℕ) → span_at new k ≡ (if n == k then record { last = n; len = 1 } else span_at nodes k)) → IsSound new (next_at nodes n) (free_len - 1) (with_first_begun v.free v)
+    IsSound-begun_one new long nexts spans =
+        subst (λ xs. IsSound new (next_at nodes n) (free_len - 1) (with_first_begun xs v)) (sym one_split)
+        (IsSound-begun (n ∷ []) (drop 1 v.free) one_split n n refl refl new long nexts spans)
 
   -- ---- several
 
@@ -118,11 +98,11 @@ module _ (nodes : List Node) (first_free : Option ℕ) (free_len : ℕ) (v : Str
       pub several_low : (h < length v.chains) × (t < length v.chains)
       several_low = begun_low (take c v.free) (drop c v.free) split h t begins ends
 
-      pub IsLaid-begun_several : (new : List Node) → length new ≡ length nodes → ((k : ℕ) → next_at new k ≡ (if t == k then None else next_at nodes k))
+      pub IsSound-begun_several : (new : List Node) → length new ≡ length nodes → ((k : ℕ) → next_at new k ≡ (if t == k then None else next_at nodes k))
           → ((k : ℕ) → span_at new k ≡ (if h == k then record { last = t; len = c } else span_at nodes k))
-          → IsLaid new (next_at nodes t) (free_len - c) (record v { free = drop c v.free; chains = set v.chains h (Some (take c v.free)) })
-      IsLaid-begun_several new long nexts spans =
+          → IsSound new (next_at nodes t) (free_len - c) (record v { free = drop c v.free; chains = set v.chains h (Some (take c v.free)) })
+      IsSound-begun_several new long nexts spans =
           let few : length (take c v.free) ≡ c = length-take-le c v.free (omega (arith, is)) in
-          subst (λ j. IsLaid new (next_at nodes t) (free_len - j) (record v { free = drop c v.free; chains = set v.chains h (Some (take c v.free)) })) few
-          (IsLaid-begun (take c v.free) (drop c v.free) split h t begins ends new long nexts
+          subst (λ j. IsSound new (next_at nodes t) (free_len - j) (record v { free = drop c v.free; chains = set v.chains h (Some (take c v.free)) })) few
+          (IsSound-begun (take c v.free) (drop c v.free) split h t begins ends new long nexts
           (λ k. spans k ∙ ap (λ j. if h == k then record { last = t; len = j } else span_at nodes k) (sym few)))

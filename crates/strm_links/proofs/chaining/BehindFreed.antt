@@ -1,33 +1,24 @@
--- Nodes behind the first of a chain become free, the last in front.
+-- The nodes after the first of a chain become free, the last one first.
 use Rattle.std.proofs.Common.{◌≡◌, ◌≢◌, ℕ, ◌+◌, ◌-◌, ◌<◌, ◌≤◌, true, false, ◌==◌, List, [], ◌∷◌, ◌++◌, length, reverse, set, take, drop, Option, Some, None, IsSome, if◌then◌else◌, refl, sym, ap, ◌∙◌, subst, arith, length-append}
 use Rattle.std.specs.Prelude.{is_none}
 use Rattle.std.proofs.lemmas.Bool.{false_from_ne_true, false≢true}
-use Rattle.std.proofs.lemmas.List.{length-drop, length-reverse, length-take-le, set-get_or, take-append-drop}
-use Rattle.std.proofs.lemmas.Option.{none-some, same_Some}
+use Rattle.std.proofs.lemmas.List.{length-drop, length-take-le, set-get_or, take-append-drop}
 use Rattle.strm_links.specs.Rows.{has, IsApart, first, first_or}
 use Rattle.strm_links.specs.Layout.{LeadsOn}
 use Rattle.strm_links.specs.Counting.{times}
 use Rattle.strm_links.specs.Chains.{chain_in}
 use Rattle.strm_links.specs.StrandLists.{StrandLists, strand_at, with_behind_freed}
-use Rattle.strm_links.specs.StrandLayout.{IsLaid, IsStrand, next_at, onward, path, span_at}
+use Rattle.strm_links.specs.StrandLayout.{IsSound, IsStrand, next_at, onward, path, span_at}
 use Rattle.strm_links.specs.declared.strands.Node.{Node}
-use Rattle.strm_links.proofs.lists.ListLinks.{LeadsOn-kept, LeadsOn-parts, walk_is}
-use Rattle.strm_links.proofs.lists.Counting.{split_behind, times-append, times-reverse}
-use Rattle.strm_links.proofs.lists.Chains.{Changes-one, times-set}
-use Rattle.strm_links.proofs.lists.OneList.{ApartParts, IsApart-parts, differ, first_or-append, has_left, has_right, has_tail}
-use Rattle.strm_links.proofs.chaining.ChainLinks.{last_without, onward-end, LeadsOn-append}
+use Rattle.strm_links.proofs.lists.ListLinks.{LeadsOn-kept, LeadsOn-parts, walk_is, last_without, onward-end}
+use Rattle.strm_links.proofs.lists.Counting.{split_behind, times-append}
+use Rattle.strm_links.proofs.lists.OneList.{first_alone, ApartParts, IsApart-parts, differ, first_or-append, has_left, has_right, has_tail}
 use Rattle.strm_links.proofs.chaining.Freed.{freed_room}
-use Rattle.strm_links.proofs.chaining.Laid.{head_in, head_low, some_items, strand_laid}
-use Rattle.strm_links.proofs.chaining.Moves.{IsLaid-moved, Moves, apart_from, unwritten, written}
-use Rattle.strm_links.proofs.chaining.Parts.{not_in_other, not_in_strand, strand_apart, strand_low}
+use Rattle.strm_links.proofs.chaining.Laid.{IsSound-out, head_in, some_items, strand_laid, apart_from, write_elsewhere, write_here, strand_apart, strand_low}
 
 -- ---- the parts of a list
 
-first_alone : (xs : List ℕ) (h : ℕ) → first xs ≡ Some h → take 1 xs ≡ h ∷ []
-first_alone [] h is = absurd (none-some h is)
-first_alone (x ∷ xs) h is = ap (λ y. y ∷ []) (same_Some x h is)
-
--- the first of two lists has the front of both, if it has any
+-- the front of two lists is that of the first, unless it is empty
 front_left : (xs ys : List ℕ) → 0 < length xs → first (xs ++ ys) ≡ first xs
 front_left [] ys some = absurd (omega (arith, some))
 front_left (x ∷ xs) ys some = refl
@@ -36,8 +27,8 @@ front_some : (xs : List ℕ) → 0 < length xs → IsSome (first xs)
 front_some [] some = absurd (omega (arith, some))
 front_some (x ∷ xs) some = refl
 
-module _ (nodes : List Node) (first_free : Option ℕ) (free_len : ℕ) (v : StrandLists) (laid : IsLaid nodes first_free free_len v) (h : ℕ) (some_h : IsSome (chain_in v.chains h)) where
-  -- ---- `out` stand behind h
+module _ (nodes : List Node) (first_free : Option ℕ) (free_len : ℕ) (v : StrandLists) (laid : IsSound nodes first_free free_len v) (h : ℕ) (some_h : IsSome (chain_in v.chains h)) where
+  -- ---- `out` follow the head h
 
   module _ (out post : List ℕ) (split : strand_at v h ≡ h ∷ (out ++ post)) where
     was : IsStrand (next_at nodes) (span_at nodes h) h (h ∷ (out ++ post))
@@ -52,7 +43,7 @@ module _ (nodes : List Node) (first_free : Option ℕ) (free_len : ℕ) (v : Str
     leads : LeadsOn (next_at nodes) out (first post) × LeadsOn (next_at nodes) post None
     leads = LeadsOn-parts (next_at nodes) out post None was.leads.1
 
-    -- a node behind h isn't h
+    -- a node after h is not h
     off_head : (k : ℕ) → has k (out ++ post) ≡ true → k ≢ h
     off_head k there same = differ h k (out ++ post) apart.0 there (sym same)
 
@@ -63,7 +54,7 @@ module _ (nodes : List Node) (first_free : Option ℕ) (free_len : ℕ) (v : Str
     head_next : next_at nodes h ≡ first_or (first post) out
     head_next = was.leads.0 ∙ first_or-append None out post
 
-    -- the links from there lead through `out`, and to what is behind them
+    -- the links from there lead through `out`, and then to `post`
     path_out : path nodes (length out) (next_at nodes h) ≡ out
     unfolding path
     path_out = ap (path nodes (length out)) head_next ∙ walk_is (next_at nodes) out (first post) leads.0
@@ -93,50 +84,18 @@ module _ (nodes : List Node) (first_free : Option ℕ) (free_len : ℕ) (v : Str
         );
       }
 
-      free : List ℕ
-      free = reverse out ++ v.free
+      IsSound-parted : (free_len' : ℕ) → free_len' ≡ free_len + length out → IsSound new (first_or first_free (reverse out)) free_len' (record { free = reverse out ++ v.free; chains = set v.chains h (Some (h ∷ post)) })
+      IsSound-parted free_len' counts =
+          let strand = subst (λ s. IsStrand (next_at new) s h (h ∷ post)) (sym (spans h ∙ write_here h _ _)) here in
+          IsSound-out nodes first_free free_len v laid h new long links_off out (Some (h ∷ post)) _ free_len' some_h reversed (λ g other. spans g ∙ write_elsewhere h g _ _ other) strand
+          (λ k. omega (arith, ap (times k) split, times-append k (h ∷ []) (out ++ post), times-append k (h ∷ []) post, times-append k out post)) refl counts
 
-      moves : Moves nodes new v free (strand_at v h) (set v.chains h (Some (h ∷ post))) h h (Some (h ∷ post)) (Some (h ∷ post))
-      unfolding free
-      moves =
-          let h_low = head_low nodes first_free free_len v laid h some_h in
-          let strand = subst (λ s. IsStrand (next_at new) s h (h ∷ post)) (sym (spans h ∙ written h _ _)) here in
-          record {
-            long = long;
-            changes = Changes-one v.chains h (Some (h ∷ post)) h_low;
-            spans = λ g other _. spans g ∙ unwritten h g _ _ other;
-            links = links_off;
-            others = λ g k other _ there. not_in_other v laid.once g h k other there;
-            here = strand;
-            there = strand;
-            free_leads = LeadsOn-append (next_at new) (reverse out) v.free None (subst (LeadsOn (next_at new) (reverse out)) laid.free_front reversed)
-                (LeadsOn-kept (next_at nodes) (next_at new) v.free None (λ k there. links_off k (not_in_strand v laid.once h k there)) laid.free_leads);
-            same = λ k.
-                omega (
-                  arith,
-                  ap (times k) split,
-                  times-append k (h ∷ []) (out ++ post),
-                  times-append k (h ∷ []) post,
-                  times-append k out post,
-                  times-append k (reverse out) v.free,
-                  times-reverse k out,
-                  times-set k h (Some (h ∷ post)) v.chains h_low,
-                );
-          }
-
-      IsLaid-parted : IsLaid new (first_or first_free (reverse out)) (free_len + length out) (record { free = reverse out ++ v.free; chains = set v.chains h (Some (h ∷ post)) })
-      unfolding free
-      IsLaid-parted =
-          IsLaid-moved nodes new v free (strand_at v h) (set v.chains h (Some (h ∷ post))) h h (Some (h ∷ post)) (Some (h ∷ post)) moves first_free (first_or first_free (reverse out)) free_len (free_len + length out) laid
-          (ap (λ o. first_or o (reverse out)) laid.free_front ∙ sym (first_or-append None (reverse out) v.free))
-          (omega (arith, laid.free_count, length-append (reverse out) v.free, length-reverse out))
-
-  -- ---- so many of them
+  -- ---- the `count` nodes after the head
 
   begins : first (strand_at v h) ≡ Some h
   begins = (strand_laid nodes first_free free_len v laid h some_h).head
 
-  -- none
+  -- freeing 0 nodes changes nothing
   pub none_freed : with_behind_freed h 0 (strand_at v h) v ≡ v
   none_freed =
       let same : take 1 (strand_at v h) ++ drop 1 (strand_at v h) ≡ strand_at v h = take-append-drop 1 (strand_at v h) in
@@ -144,7 +103,7 @@ module _ (nodes : List Node) (first_free : Option ℕ) (free_len : ℕ) (v : Str
       λ i. record { free = v.free; chains = (ap (λ xs. set v.chains h (Some xs)) same ∙ ap (set v.chains h) there ∙ set-get_or v.chains h None) i }
 
   module _ (count : ℕ) (some : 0 < count) (within : count < length (strand_at v h)) where
-    -- those that are freed, and those behind them
+    -- the nodes that become free, and those after them
     abbrev out_of : List ℕ
     out_of = take count (drop 1 (strand_at v h))
 
@@ -152,7 +111,7 @@ module _ (nodes : List Node) (first_free : Option ℕ) (free_len : ℕ) (v : Str
     rest_of = drop (count + 1) (strand_at v h)
 
     split : strand_at v h ≡ h ∷ (out_of ++ rest_of)
-    split = split_behind (strand_at v h) count ∙ ap (λ xs. xs ++ (out_of ++ rest_of)) (first_alone (strand_at v h) h begins)
+    split = split_behind (strand_at v h) count ∙ ap (λ xs. xs ++ (out_of ++ rest_of)) (first_alone h (strand_at v h) begins)
 
     pub behind_count : length out_of ≡ count
     behind_count = length-take-le count (drop 1 (strand_at v h)) (omega (arith, within, length-drop 1 (strand_at v h)))
@@ -160,19 +119,19 @@ module _ (nodes : List Node) (first_free : Option ℕ) (free_len : ℕ) (v : Str
     any : 0 < length out_of
     any = omega (arith, behind_count, some)
 
-    -- with them the free ones are no more than there are nodes, and the chain has them
+    -- with them there are at most as many free nodes as nodes, and the chain is longer than `count`
     pub behind_room : free_len + count ≤ length v.chains
     behind_room = omega (arith, within, freed_room nodes first_free free_len v laid h some_h, (strand_laid nodes first_free free_len v laid h some_h).len)
 
     pub behind_len : count ≤ (span_at nodes h).len
     behind_len = omega (arith, within, (strand_laid nodes first_free free_len v laid h some_h).len)
 
-    -- there is one behind the head
+    -- a node follows the head
     pub behind_some : IsSome (next_at nodes h)
     behind_some = subst IsSome (sym ((was out_of rest_of split).leads.0 ∙ front_left out_of rest_of any)) (front_some out_of any)
 
     module _ (n : ℕ) (on : next_at nodes h ≡ Some n) where
-      -- and the links from it on are theirs
+      -- the links from it on lead through the nodes that become free
       pub behind_path : path nodes count (Some n) ≡ out_of
       behind_path = (λ i. path nodes (sym behind_count i) (sym on i)) ∙ path_out out_of rest_of split
 
@@ -182,7 +141,7 @@ module _ (nodes : List Node) (first_free : Option ℕ) (free_len : ℕ) (v : Str
       pub behind_first : first out_of ≡ Some n
       behind_first = sym (front_left out_of rest_of any) ∙ sym (was out_of rest_of split).leads.0 ∙ on
 
-    -- none of them stands twice, and each is a node
+    -- none of them is there twice, and each is a node
     pub behind_apart : IsApart out_of
     behind_apart = (parts out_of rest_of split).left
 
@@ -192,13 +151,13 @@ module _ (nodes : List Node) (first_free : Option ℕ) (free_len : ℕ) (v : Str
     pub behind_off : has h out_of ≡ false
     behind_off = false_from_ne_true _ (λ there. off_head out_of rest_of split h (has_left h out_of rest_of there) refl)
 
-    pub IsLaid-behind_freed : (new : List Node) → length new ≡ length nodes → LeadsOn (next_at new) (reverse out_of) first_free → next_at new h ≡ first rest_of
+    pub IsSound-behind_freed : (new : List Node) → length new ≡ length nodes → LeadsOn (next_at new) (reverse out_of) first_free → next_at new h ≡ first rest_of
         → ((k : ℕ) → k ≢ h → has k out_of ≡ false → next_at new k ≡ next_at nodes k)
         → ((k : ℕ) → span_at new k ≡ (if h == k then record { last = (if is_none (first rest_of) then h else (span_at nodes h).last); len = (span_at nodes h).len - count } else span_at nodes k))
-        → IsLaid new (first_or first_free (reverse out_of)) (free_len + count) (with_behind_freed h count (strand_at v h) v)
-    IsLaid-behind_freed new long reversed now links spans =
-        let only : (h ∷ []) ++ rest_of ≡ take 1 (strand_at v h) ++ rest_of = ap (λ xs. xs ++ rest_of) (sym (first_alone (strand_at v h) h begins)) in
-        subst (λ xs. IsLaid new (first_or first_free (reverse out_of)) (free_len + count) (record { free = reverse out_of ++ v.free; chains = set v.chains h (Some xs) })) only
-        (subst (λ n. IsLaid new (first_or first_free (reverse out_of)) (free_len + n) (record { free = reverse out_of ++ v.free; chains = set v.chains h (Some (h ∷ rest_of)) })) behind_count
-        (IsLaid-parted out_of rest_of split new long reversed now links
-        (λ k. spans k ∙ ap (λ n. if h == k then record { last = (if is_none (first rest_of) then h else (span_at nodes h).last); len = (span_at nodes h).len - n } else span_at nodes k) (sym behind_count))))
+        → IsSound new (first_or first_free (reverse out_of)) (free_len + count) (with_behind_freed h count (strand_at v h) v)
+    IsSound-behind_freed new long reversed now links spans =
+        let only : (h ∷ []) ++ rest_of ≡ take 1 (strand_at v h) ++ rest_of = ap (λ xs. xs ++ rest_of) (sym (first_alone h (strand_at v h) begins)) in
+        subst (λ xs. IsSound new (first_or first_free (reverse out_of)) (free_len + count) (record { free = reverse out_of ++ v.free; chains = set v.chains h (Some xs) })) only
+        (IsSound-parted out_of rest_of split new long reversed now links
+        (λ k. spans k ∙ ap (λ n. if h == k then record { last = (if is_none (first rest_of) then h else (span_at nodes h).last); len = (span_at nodes h).len - n } else span_at nodes k) (sym behind_count))
+        (free_len + count) (omega (arith, behind_count)))

@@ -1,81 +1,52 @@
--- The nodes of a chain become free, the last in front.
-use Rattle.std.proofs.Common.{◌≡◌, ◌≢◌, ℕ, suc, ◌+◌, ◌<◌, ◌≤◌, true, false, ◌==◌, List, [], ◌∷◌, ◌++◌, length, reverse, get_or, set, take, drop, Option, Some, None, IsSome, if◌then◌else◌, refl, sym, ap, ◌∙◌, subst, inl, inr, arith, length-append, length-set, drop-cons, get_or-set_same, get_or-set_other}
-use Rattle.std.proofs.lemmas.Bool.{cases_eq, false≢true}
-use Rattle.std.proofs.lemmas.List.{drop_all, get_or_read, length-reverse, reverse-append, take_all, take_more}
+-- All nodes of a chain become free, the last one first.
+use Rattle.std.proofs.Common.{◌≡◌, ◌≢◌, ℕ, suc, ◌+◌, ◌<◌, ◌≤◌, true, false, ◌==◌, List, [], ◌∷◌, ◌++◌, length, reverse, get_or, set, take, drop, Option, Some, None, IsSome, if◌then◌else◌, refl, sym, ap, ◌∙◌, subst, arith, length-append, length-set, drop-cons, get_or-set_same, get_or-set_other}
+use Rattle.std.proofs.lemmas.Bool.{false≢true}
+use Rattle.std.proofs.lemmas.Bool.Decides.{nat_tests}
+use Rattle.std.proofs.lemmas.List.{drop_all, get_or_read, reverse-append, take_all, take_more}
 use Rattle.std.proofs.lemmas.Option.{none-some}
-use Rattle.strm_links.specs.Rows.{has, IsApart, first, first_or, last}
+use Rattle.strm_links.specs.Rows.{has, IsApart, first_or, last}
 use Rattle.strm_links.specs.Layout.{LeadsOn}
 use Rattle.strm_links.specs.Chains.{chain_in}
 use Rattle.strm_links.specs.StrandLists.{StrandLists, strand_at}
-use Rattle.strm_links.specs.StrandLayout.{IsLaid, IsStrand, next_at, no_node, no_span, node_at, span_at}
+use Rattle.strm_links.specs.StrandLayout.{IsSound, IsStrand, next_at, no_node, no_span, node_at, span_at}
 use Rattle.strm_links.specs.declared.strands.Node.{Node}
 use Rattle.strm_links.specs.declared.strands.Span.{Span}
-use Rattle.strm_links.proofs.lists.ListLinks.{LeadsOn-kept}
-use Rattle.strm_links.proofs.lists.Counting.{has_times, times-append, times-reverse, times_has}
-use Rattle.strm_links.proofs.lists.Chains.{Changes-one, times-set}
-use Rattle.strm_links.proofs.lists.OneList.{absent_both, absent_parts}
-use Rattle.strm_links.proofs.chaining.Laid.{head_low, strand_laid}
-use Rattle.strm_links.proofs.chaining.ChainLinks.{absent_take, first_front, link_at, LeadsOn-append}
-use Rattle.strm_links.proofs.chaining.Moves.{IsLaid-moved, Moves, unwritten, written}
-use Rattle.strm_links.proofs.chaining.Parts.{freed_few, not_in_other, not_in_strand}
+use Rattle.strm_links.proofs.lists.ListLinks.{LeadsOn-kept, absent_take, link_at}
+use Rattle.strm_links.proofs.lists.Counting.{has_times, times-reverse, times_has}
+use Rattle.strm_links.proofs.lists.OneList.{first_or-append, absent_both, absent_parts}
+use Rattle.strm_links.proofs.chaining.Laid.{IsSound-out, strand_laid, write_elsewhere, write_here, freed_few}
 
--- the last comes first once a list is reversed
-first-reverse : (xs : List ℕ) (t : ℕ) → last xs ≡ Some t → first (reverse xs) ≡ Some t
-first-reverse [] t is = absurd (none-some t is)
-first-reverse (x ∷ []) t is = is
-first-reverse (x ∷ y ∷ ys) t is = ap first (reverse-append (x ∷ []) (y ∷ ys)) ∙ first_front t (reverse (y ∷ ys)) (x ∷ []) (first-reverse (y ∷ ys) t is)
+-- the last node is first in the reverse
+first_or-reverse : (b : Option ℕ) (xs : List ℕ) (t : ℕ) → last xs ≡ Some t → first_or b (reverse xs) ≡ Some t
+first_or-reverse b [] t is = absurd (none-some t is)
+first_or-reverse b (x ∷ []) t is = is
+first_or-reverse b (x ∷ y ∷ ys) t is = ap (first_or b) (reverse-append (x ∷ []) (y ∷ ys)) ∙ first_or-append b (reverse (y ∷ ys)) (x ∷ []) ∙ first_or-reverse (Some x) (y ∷ ys) t is
 
-module _ (nodes : List Node) (first_free : Option ℕ) (free_len : ℕ) (v : StrandLists) (laid : IsLaid nodes first_free free_len v) (h : ℕ) (some_h : IsSome (chain_in v.chains h)) where
+module _ (nodes : List Node) (first_free : Option ℕ) (free_len : ℕ) (v : StrandLists) (laid : IsSound nodes first_free free_len v) (h : ℕ) (some_h : IsSome (chain_in v.chains h)) where
   was : IsStrand (next_at nodes) (span_at nodes h) h (strand_at v h)
   was = strand_laid nodes first_free free_len v laid h some_h
 
-  -- with the free ones they are no more than there are nodes
+  -- the chain and the free nodes together are at most all nodes
   pub freed_room : free_len + (span_at nodes h).len ≤ length v.chains
   freed_room = omega (arith, laid.free_count, was.len, length-append (strand_at v h) v.free, freed_few v laid.once h)
 
   module _ (new : List Node) (long : length new ≡ length nodes) (reversed : LeadsOn (next_at new) (reverse (strand_at v h)) first_free)
       (links : (k : ℕ) → has k (strand_at v h) ≡ false → next_at new k ≡ next_at nodes k)
       (spans : (k : ℕ) → span_at new k ≡ (if h == k then no_span else span_at nodes k)) where
-    free : List ℕ
-    free = reverse (strand_at v h) ++ v.free
-
-    moves : Moves nodes new v free (strand_at v h) (set v.chains h None) h h None None
-    unfolding free
-    moves =
-        let none : (span_at new h).len ≡ 0 = ap (λ (s : Span). s.len) (spans h ∙ written h _ _) in
-        record {
-          long = long;
-          changes = Changes-one v.chains h None (head_low nodes first_free free_len v laid h some_h);
-          spans = λ g other _. spans g ∙ unwritten h g _ _ other;
-          links = links;
-          others = λ g k other _ there. not_in_other v laid.once g h k other there;
-          here = none;
-          there = none;
-          free_leads = LeadsOn-append (next_at new) (reverse (strand_at v h)) v.free None (subst (LeadsOn (next_at new) (reverse (strand_at v h))) laid.free_front reversed)
-              (LeadsOn-kept (next_at nodes) (next_at new) v.free None (λ k there. links k (not_in_strand v laid.once h k there)) laid.free_leads);
-          same = λ k.
-              omega (
-                arith,
-                times-append k (reverse (strand_at v h)) v.free,
-                times-reverse k (strand_at v h),
-                times-set k h None v.chains (head_low nodes first_free free_len v laid h some_h),
-              );
-        }
-
-    pub IsLaid-freed : IsLaid new (Some (span_at nodes h).last) (free_len + (span_at nodes h).len) (record v { free = reverse (strand_at v h) ++ v.free; chains = set v.chains h None })
-    unfolding free
-    IsLaid-freed =
-        IsLaid-moved nodes new v free (strand_at v h) (set v.chains h None) h h None None moves first_free (Some (span_at nodes h).last) free_len (free_len + (span_at nodes h).len) laid
-        (sym (first_front _ (reverse (strand_at v h)) v.free (first-reverse (strand_at v h) _ was.last)))
-        (omega (arith, laid.free_count, was.len, length-append (reverse (strand_at v h)) v.free, length-reverse (strand_at v h)))
+    pub IsSound-freed : (first_free' : Option ℕ) (free_len' : ℕ) → first_free' ≡ Some (span_at nodes h).last → free_len' ≡ free_len + (span_at nodes h).len
+        → IsSound new first_free' free_len' (record v { free = reverse (strand_at v h) ++ v.free; chains = set v.chains h None })
+    IsSound-freed first_free' free_len' begins counts =
+        let none : (span_at new h).len ≡ 0 = ap (λ (s : Span). s.len) (spans h ∙ write_here h _ _) in
+        IsSound-out nodes first_free free_len v laid h new long links (strand_at v h) None first_free' free_len' some_h reversed (λ g other. spans g ∙ write_elsewhere h g _ _ other) none (λ k. omega arith)
+        (begins ∙ sym (first_or-reverse first_free (strand_at v h) _ was.last)) (omega (arith, counts, was.len))
 
 -- ---- the walk that reverses the links
 
 pub has-reverse : (k : ℕ) (xs : List ℕ) → has k (reverse xs) ≡ true → has k xs ≡ true
 has-reverse k xs there = has_times k xs (omega (arith, times-reverse k xs, times_has k (reverse xs) there))
 
--- the first `i` of `xs`, the last of which led on to `end`, are reversed, and lead on to `beyond`; the walk is at the next
--- one, and `onto` is the last reversed
+-- the links of the first `i` of `xs` are reversed, and lead on to `beyond`. The walk is at the next node, or at `end` after the last.
+-- `onto` is the node reversed last
 pub record Reverses (old now : List Node) (beyond end : Option ℕ) (xs : List ℕ) (i : ℕ) (at onto : Option ℕ) : Type 0 where
   pub at_is : at ≡ first_or end (drop i xs)
   pub onto_is : onto ≡ first_or beyond (reverse (take i xs))
@@ -94,7 +65,7 @@ Reverses-start nodes beyond end at xs begins = record {
   len = refl;
 }
 
--- all of `xs` are reversed; the walk is at what the last led on to
+-- the links of all of `xs` are reversed; the walk is where the last of them led
 pub record AreReversed (old now : List Node) (beyond end : Option ℕ) (xs : List ℕ) (at onto : Option ℕ) : Type 0 where
   pub at_is : at ≡ end
   pub onto_is : onto ≡ first_or beyond (reverse xs)
@@ -102,7 +73,7 @@ pub record AreReversed (old now : List Node) (beyond end : Option ℕ) (xs : Lis
   pub others : (k : ℕ) → has k xs ≡ false → next_at now k ≡ next_at old k
 
 module _ (old now : List Node) (beyond end : Option ℕ) (xs : List ℕ) (i : ℕ) (at onto : Option ℕ) (reverses : Reverses old now beyond end xs i at onto) where
-  -- so they are at the end
+  -- after the last node all links are reversed
   pub reversed_all : length xs ≤ i → AreReversed old now beyond end xs at onto
   reversed_all all =
       let whole : take i xs ≡ xs = take_all i xs all in
@@ -114,7 +85,7 @@ module _ (old now : List Node) (beyond end : Option ℕ) (xs : List ℕ) (i : �
       }
 
   module _ (more : i < length xs) where
-    -- before the end there is a next one
+    -- before the end there is a next node
     pub reverse_at : at ≡ Some (get_or xs i 0)
     reverse_at = reverses.at_is ∙ ap (first_or end) (drop-cons xs i 0 more)
 
@@ -122,7 +93,7 @@ module _ (old now : List Node) (beyond end : Option ℕ) (xs : List ℕ) (i : �
       off : has n (take i xs) ≡ false
       off = ap (λ j. has j (take i xs)) is ∙ absent_take xs i apart more
 
-      -- and it leads on to what was reversed before it
+      -- one more step reverses its link
       pub Reverses-more : (y : Node) (later : List Node) (at' onto' : Option ℕ) → y ≡ get_or now n y → later ≡ set now n (record y { next = onto }) → at' ≡ y.next → onto' ≡ Some n → Reverses old later beyond end xs (i + 1) at' onto'
       Reverses-more y later at' onto' read write on last =
           let known : y ≡ node_at now n = get_or_read now n y low read no_node in
@@ -144,9 +115,6 @@ module _ (old now : List Node) (beyond end : Option ℕ) (xs : List ℕ) (i : �
             others = λ k absent.
                 let far = absent_both k (take i xs) (n ∷ []) (sym (ap (has k) longer) ∙ absent) in
                 ap (λ (x : Node). x.next) (same k (λ equal. (absent_parts n k [] far.1).0 (sym equal))) ∙ reverses.others k far.0;
-            spans = λ k. elim (cases_eq k n) [
-              | inl equal ↦ ap (span_at later) equal ∙ ap (λ (x : Node). x.span) new ∙ ap (λ (x : Node). x.span) known ∙ ap (span_at now) (sym equal) ∙ reverses.spans k
-              | inr other ↦ ap (λ (x : Node). x.span) (same k other) ∙ reverses.spans k
-            ];
+            spans = λ k. grind (arith, nat_tests, new, known, same k, reverses.spans k);
             len = ap length write ∙ length-set now n (record y { next = onto }) ∙ reverses.len;
           }

@@ -1,42 +1,38 @@
--- A chain goes behind another.
+-- One chain joins the end of another.
 use Rattle.std.proofs.Common.{◌≡◌, ◌≢◌, ℕ, ◌+◌, ◌≤◌, false, ◌==◌, List, ◌++◌, length, Option, Some, None, IsSome, if◌then◌else◌, sym, ap, ◌∙◌, subst, arith, length-append}
 use Rattle.strm_links.specs.Rows.{has}
 use Rattle.strm_links.specs.Layout.{LeadsOn}
 use Rattle.strm_links.specs.Chains.{chain_in, joined}
 use Rattle.strm_links.specs.StrandLists.{StrandLists, strand_at}
-use Rattle.strm_links.specs.StrandLayout.{IsLaid, IsStrand, next_at, no_span, span_at}
+use Rattle.strm_links.specs.StrandLayout.{IsSound, IsStrand, next_at, no_span, span_at}
 use Rattle.strm_links.specs.declared.strands.Node.{Node}
 use Rattle.strm_links.specs.declared.strands.Span.{Span}
-use Rattle.strm_links.proofs.lists.ListLinks.{LeadsOn-kept}
+use Rattle.strm_links.proofs.lists.ListLinks.{LeadsOn-kept, first_front, last_back, LeadsOn-append, LeadsOn-end}
 use Rattle.strm_links.proofs.lists.Counting.{times-append}
-use Rattle.strm_links.proofs.lists.Chains.{Changes-two, times-set_two}
-use Rattle.strm_links.proofs.chaining.Laid.{head_low, last_in, strand_laid}
-use Rattle.strm_links.proofs.chaining.ChainLinks.{first_front, last_back, LeadsOn-append, LeadsOn-end}
-use Rattle.strm_links.proofs.chaining.Moves.{IsLaid-moved, Moves, apart_from, unwritten, written}
-use Rattle.strm_links.proofs.chaining.Parts.{not_in_other, not_in_strand, strand_apart, two_few}
+use Rattle.strm_links.proofs.chaining.Laid.{IsSound-two, head_low, last_in, strand_laid, apart_from, write_elsewhere, write_here, not_in_other, strand_apart, two_few}
 
-module _ (nodes : List Node) (first_free : Option ℕ) (free_len : ℕ) (v : StrandLists) (laid : IsLaid nodes first_free free_len v) (h g : ℕ) (some_h : IsSome (chain_in v.chains h)) (some_g : IsSome (chain_in v.chains g)) (other : h ≢ g) where
+module _ (nodes : List Node) (first_free : Option ℕ) (free_len : ℕ) (v : StrandLists) (laid : IsSound nodes first_free free_len v) (h g : ℕ) (some_h : IsSome (chain_in v.chains h)) (some_g : IsSome (chain_in v.chains g)) (other : h ≢ g) where
   laid_h : IsStrand (next_at nodes) (span_at nodes h) h (strand_at v h)
   laid_h = strand_laid nodes first_free free_len v laid h some_h
 
   laid_g : IsStrand (next_at nodes) (span_at nodes g) g (strand_at v g)
   laid_g = strand_laid nodes first_free free_len v laid g some_g
 
-  -- together they are no more than there are nodes
+  -- two chains together have at most all nodes
   pub joined_few : (span_at nodes h).len + (span_at nodes g).len ≤ length v.chains
   joined_few = omega (arith, laid_h.len, laid_g.len, length-append (strand_at v h) (strand_at v g), two_few v laid.once h g other)
 
   both : List ℕ
   both = strand_at v h ++ strand_at v g
 
-  -- what the head keeps then
+  -- what the head keeps after the call
   span : Span
   span = record { last = (span_at nodes g).last; len = (span_at nodes h).len + (span_at nodes g).len }
 
   module _ (new : List Node) (long : length new ≡ length nodes) (nexts : (k : ℕ) → next_at new k ≡ (if (span_at nodes h).last == k then Some g else next_at nodes k))
       (spans : (k : ℕ) → span_at new k ≡ (if h == k then record { last = (span_at nodes g).last; len = (span_at nodes h).len + (span_at nodes g).len } else (if g == k then no_span else span_at nodes k))) where
     links : (k : ℕ) → has k (strand_at v h) ≡ false → next_at new k ≡ next_at nodes k
-    links k absent = nexts k ∙ unwritten _ k _ _ (apart_from k _ (strand_at v h) (last_in nodes first_free free_len v laid h some_h) absent)
+    links k absent = nexts k ∙ write_elsewhere _ k _ _ (apart_from k _ (strand_at v h) (last_in nodes first_free free_len v laid h some_h) absent)
 
     leads : LeadsOn (next_at new) both None
     unfolding both
@@ -44,7 +40,7 @@ module _ (nodes : List Node) (first_free : Option ℕ) (free_len : ℕ) (v : Str
         let t = (span_at nodes h).last in
         LeadsOn-append (next_at new) (strand_at v h) (strand_at v g) None
         (subst (LeadsOn (next_at new) (strand_at v h)) (sym laid_g.head)
-        (LeadsOn-end (next_at nodes) (next_at new) (strand_at v h) None (Some g) t laid_h.last (strand_apart v laid.once h) laid_h.leads (nexts t ∙ written t _ _) (λ k there off. nexts k ∙ unwritten t k _ _ off)))
+        (LeadsOn-end (next_at nodes) (next_at new) (strand_at v h) None (Some g) t laid_h.last (strand_apart v laid.once h) laid_h.leads (nexts t ∙ write_here t _ _) (λ k there off. nexts k ∙ write_elsewhere t k _ _ off)))
         (LeadsOn-kept (next_at nodes) (next_at new) (strand_at v g) None (λ k there. links k (not_in_other v laid.once g h k (λ same. other (sym same)) there)) laid_g.leads)
 
     here : IsStrand (next_at new) span h both
@@ -56,25 +52,12 @@ module _ (nodes : List Node) (first_free : Option ℕ) (free_len : ℕ) (v : Str
       leads = leads;
     }
 
-    moves : Moves nodes new v v.free (strand_at v h) (joined h g v.chains) g h None (Some both)
+    pub IsSound-joined : IsSound new first_free free_len (record v { chains = joined h g v.chains })
     unfolding both span
-    moves = record {
-      long = long;
-      changes = Changes-two v.chains g h None (Some both) (λ same. other (sym same)) (head_low nodes first_free free_len v laid g some_g) (head_low nodes first_free free_len v laid h some_h);
-      spans = λ k off_g off_h. spans k ∙ unwritten h k _ _ off_h ∙ unwritten g k _ _ off_g;
-      links = links;
-      others = λ j k _ off_h there. not_in_other v laid.once j h k off_h there;
-      here = ap (λ (s : Span). s.len) (spans g ∙ unwritten h g _ _ (λ same. other (sym same)) ∙ written g _ _);
-      there = subst (λ s. IsStrand (next_at new) s h both) (sym (spans h ∙ written h _ _)) here;
-      free_leads = LeadsOn-kept (next_at nodes) (next_at new) v.free None (λ k there. links k (not_in_strand v laid.once h k there)) laid.free_leads;
-      same = λ k.
-          omega (
-            arith,
-            times-append k (strand_at v h) (strand_at v g),
-            times-set_two k g h None (Some both) v.chains (λ same. other (sym same)) (head_low nodes first_free free_len v laid g some_g) (head_low nodes first_free free_len v laid h some_h),
-          );
-    }
-
-    pub IsLaid-joined : IsLaid new first_free free_len (record v { chains = joined h g v.chains })
-    IsLaid-joined =
-        IsLaid-moved nodes new v v.free (strand_at v h) (joined h g v.chains) g h None (Some both) moves first_free first_free free_len free_len laid laid.free_front laid.free_count
+    IsSound-joined =
+        let away : g ≢ h = λ same. other (sym same) in
+        let none : (span_at new g).len ≡ 0 = ap (λ (s : Span). s.len) (spans g ∙ write_elsewhere h g _ _ away ∙ write_here g _ _) in
+        IsSound-two nodes first_free free_len v laid h new long links g h None (Some both) away (head_low nodes first_free free_len v laid g some_g) (head_low nodes first_free free_len v laid h some_h)
+        (λ k off_g off_h. (off_h, spans k ∙ write_elsewhere h k _ _ off_h ∙ write_elsewhere g k _ _ off_g)) none
+        (subst (λ s. IsStrand (next_at new) s h both) (sym (spans h ∙ write_here h _ _)) here)
+        (λ k. omega (arith, times-append k (strand_at v h) (strand_at v g)))

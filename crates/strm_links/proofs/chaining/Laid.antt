@@ -1,22 +1,105 @@
--- From the nodes to the free nodes and the chains that a contract sees.
-use Rattle.std.proofs.Common.{◌≡◌, ◌≢◌, ℕ, ◌+◌, ◌<◌, true, false, List, [], ◌∷◌, map, length, get_or, Option, Some, None, IsSome, IfSome, refl, sym, ap, ◌∙◌, subst, inl, inr, arith}
-use Rattle.std.specs.Prelude.{slice_get}
+-- How `Strands` stores free nodes and chains, what it stores says of them, and what a change has to keep.
+use Rattle.std.proofs.Common.{set, reverse, length-append, ◌≡◌, ◌≢◌, ◌⊎◌, ℕ, ◌+◌, ◌<◌, ◌≤◌, true, false, List, ◌++◌, length, if◌then◌else◌, sym, ◌∙◌, inl, inr, arith, [], ◌∷◌, map, get_or, Option, Some, None, IsSome, IfSome, refl, ap, subst, ◌==◌}
+use Rattle.std.specs.Prelude.{nat_lt, slice_get}
 use Rattle.std.specs.List.{range_with_len}
-use Rattle.std.proofs.lemmas.Bool.{cases_eq, cases_lt, cond-true, cond-false, eq-eqb, ne_eqb, false≢true}
-use Rattle.std.proofs.lemmas.List.{get_or_past, get_or_read}
+use Rattle.std.proofs.lemmas.Bool.{cases_lt, cond-true, cond-false, lt-ltb, le-ltb, false_from_ne_true, eq-eqb, ne_eqb, false≢true, cases_eq}
+use Rattle.std.proofs.lemmas.Bool.Decides.{nat_tests}
+use Rattle.std.proofs.lemmas.List.{length-reverse, get_or_past, get_or_read}
 use Rattle.std.proofs.lemmas.List.FromFn.{fill_by_all}
 use Rattle.std.proofs.lemmas.Option.{none-some}
-use Rattle.strm_links.specs.Rows.{has, first, after}
+use Rattle.strm_links.specs.Rows.{first_or, has, IsApart, first, after}
+use Rattle.strm_links.specs.Counting.{times}
+use Rattle.strm_links.specs.Chains.{items_in, chain_in, items_of}
+use Rattle.strm_links.specs.StrandLists.{StrandLists, all_nodes, strand_at, IsParted}
 use Rattle.strm_links.specs.Layout.{walk, LeadsOn}
-use Rattle.strm_links.specs.Chains.{chain_in, items_of}
-use Rattle.strm_links.specs.StrandLists.{IsParted, StrandLists, strand_at}
-use Rattle.strm_links.specs.StrandLayout.{IsHeadOf, IsLaid, IsStrand, next_at, no_node, node_at, path, span_at, strand, strands_of}
+use Rattle.strm_links.specs.StrandLayout.{IsHeadOf, IsSound, IsStrand, next_at, no_node, node_at, path, span_at, strand, strands_of}
 use Rattle.strm_links.specs.declared.strands.Node.{Node}
 use Rattle.strm_links.specs.declared.strands.Span.{Span}
-use Rattle.strm_links.proofs.lists.ListLinks.{LeadsOn-kept, next_is, walk_is}
-use Rattle.strm_links.proofs.lists.OneList.{after-get, has_get, has_tail}
-use Rattle.strm_links.proofs.chaining.ChainLinks.{has_first, has_last}
-use Rattle.strm_links.proofs.chaining.Parts.{free_apart, free_low, not_in_other, somewhere, strand_apart, strand_low}
+use Rattle.strm_links.proofs.lists.Counting.{times-reverse, apart_once, has_times, times-append, times_has}
+use Rattle.strm_links.proofs.lists.Chains.{Changes-one, Changes-two, times-set, times-set_two, some_chain, times_one, times_two, Changes}
+use Rattle.strm_links.proofs.lists.OneList.{first_or-append, length_below, after-get, has_get}
+use Rattle.strm_links.proofs.lists.ListLinks.{LeadsOn-append, LeadsOn-kept, next_is, walk_is, has_first, has_last}
+
+-- ---- each node is once in all, free or in a chain
+
+module _ (v : StrandLists) (once : (n : ℕ) → times n (all_nodes v) ≡ (if nat_lt n (length v.chains) then 1 else 0)) where
+  -- how often a node is in all
+  pub node_once : (k : ℕ) → k < length v.chains → times k v.free + times k (items_in v.chains) ≡ 1
+  node_once k within = sym (times-append k v.free (items_in v.chains)) ∙ once k ∙ cond-true _ 1 0 (lt-ltb k (length v.chains) within)
+
+  -- a number that is no node is not there
+  past_none : (k : ℕ) → length v.chains ≤ k → times k v.free + times k (items_in v.chains) ≡ 0
+  past_none k past = sym (times-append k v.free (items_in v.chains)) ∙ once k ∙ cond-false _ 1 0 (le-ltb k (length v.chains) past)
+
+  most : (k : ℕ) → times k v.free + times k (items_in v.chains) ≤ 1
+  most k = elim (cases_lt k (length v.chains)) [ inl within ↦ omega (arith, node_once k within) | inr past ↦ omega (arith, past_none k past) ]
+
+  low : (k : ℕ) → 0 < times k v.free + times k (items_in v.chains) → k < length v.chains
+  low k some = elim (cases_lt k (length v.chains)) [ inl within ↦ within | inr past ↦ absurd (omega (arith, some, past_none k past)) ]
+
+  -- ---- some of all nodes
+
+  module _ (xs : List ℕ) (some : (k : ℕ) → times k xs ≤ times k v.free + times k (items_in v.chains)) where
+    -- none of them is there twice
+    pub part_apart : IsApart xs
+    part_apart = apart_once xs (λ k. omega (arith, some k, most k))
+
+    -- each is below the number of nodes
+    pub part_low : (k : ℕ) → has k xs ≡ true → k < length v.chains
+    part_low k there = low k (omega (arith, some k, times_has k xs there))
+
+    -- there are at most as many as nodes
+    pub part_few : length xs ≤ length v.chains
+    part_few = length_below (length v.chains) xs part_apart part_low
+
+  free_part : (k : ℕ) → times k v.free ≤ times k v.free + times k (items_in v.chains)
+  free_part k = omega arith
+
+  strand_part : (h k : ℕ) → times k (strand_at v h) ≤ times k v.free + times k (items_in v.chains)
+  strand_part h k = omega (arith, times_one k h v.chains)
+
+  -- ---- the free nodes, and those of a chain
+
+  pub free_apart : IsApart v.free
+  free_apart = part_apart v.free free_part
+
+  pub free_low : (k : ℕ) → has k v.free ≡ true → k < length v.chains
+  free_low = part_low v.free free_part
+
+  pub strand_apart : (h : ℕ) → IsApart (strand_at v h)
+  strand_apart h = part_apart (strand_at v h) (strand_part h)
+
+  pub strand_low : (h k : ℕ) → has k (strand_at v h) ≡ true → k < length v.chains
+  strand_low h = part_low (strand_at v h) (strand_part h)
+
+  -- ---- two of these have no node in common
+
+  pub not_in_strand : (h k : ℕ) → has k v.free ≡ true → has k (strand_at v h) ≡ false
+  not_in_strand h k free = false_from_ne_true _ (λ here. absurd (omega (arith, most k, times_one k h v.chains, times_has k v.free free, times_has k (strand_at v h) here)))
+
+  pub not_free : (h k : ℕ) → has k (strand_at v h) ≡ true → has k v.free ≡ false
+  not_free h k here = false_from_ne_true _ (λ free. absurd (omega (arith, most k, times_one k h v.chains, times_has k v.free free, times_has k (strand_at v h) here)))
+
+  pub not_in_other : (g h k : ℕ) → g ≢ h → has k (strand_at v g) ≡ true → has k (strand_at v h) ≡ false
+  not_in_other g h k other there =
+      false_from_ne_true _ (λ here. absurd (omega (arith, most k, times_two k g h v.chains other, times_has k (strand_at v g) there, times_has k (strand_at v h) here)))
+
+  -- two together have at most all nodes
+  pub two_few : (g h : ℕ) → g ≢ h → length (strand_at v g ++ strand_at v h) ≤ length v.chains
+  two_few g h other =
+      part_few (strand_at v g ++ strand_at v h) (λ k. omega (arith, times-append k (strand_at v g) (strand_at v h), times_two k g h v.chains other))
+
+  pub freed_few : (h : ℕ) → length (strand_at v h ++ v.free) ≤ length v.chains
+  freed_few h = part_few (strand_at v h ++ v.free) (λ k. omega (arith, times-append k (strand_at v h) v.free, times_one k h v.chains))
+
+  -- ---- each node is free or in a chain
+
+  pub somewhere : (k : ℕ) → k < length v.chains → (has k v.free ≡ true) ⊎ ((h : ℕ) × (has k (strand_at v h) ≡ true))
+  somewhere k within =
+      elim (cases_lt 0 (times k v.free)) [
+        | inl free ↦ inl (has_times k v.free free)
+        | inr none ↦ inr (some_chain k v.chains (omega (arith, node_once k within, none)))
+      ]
 
 -- ---- the view
 
@@ -25,15 +108,15 @@ path_is : (nodes : List Node) (span : Span) (h : ℕ) (xs : List ℕ) → IsStra
 unfolding path
 path_is nodes span h xs laid = rw (laid.len, sym laid.head) (walk_is (next_at nodes) xs None laid.leads)
 
--- what is laid out at a node is seen there
+-- a contract sees the chain that is stored at a node
 strand_is : (nodes : List Node) (h : ℕ) (m : Option (List ℕ)) → IsHeadOf (next_at nodes) (span_at nodes h) h m → strand nodes h ≡ m
 strand_is nodes h None laid = cond-true _ _ _ (eq-eqb (span_at nodes h).len 0 laid)
 strand_is nodes h (Some []) laid = absurd (none-some h laid.head)
 strand_is nodes h (Some (x ∷ xs)) laid =
     cond-false _ _ _ (ne_eqb (span_at nodes h).len 0 (λ same. absurd (omega (arith, same, laid.len)))) ∙ ap Some (path_is nodes (span_at nodes h) h (x ∷ xs) laid)
 
--- laid out nodes are seen as what they hold
-pub strands_of_is : (nodes : List Node) (first_free : Option ℕ) (free_len : ℕ) (v : StrandLists) → IsLaid nodes first_free free_len v → strands_of nodes first_free free_len ≡ v
+-- a contract sees stored nodes as what they hold
+pub strands_of_is : (nodes : List Node) (first_free : Option ℕ) (free_len : ℕ) (v : StrandLists) → IsSound nodes first_free free_len v → strands_of nodes first_free free_len ≡ v
 unfolding path
 strands_of_is nodes first_free free_len v laid =
     let free : walk (next_at nodes) free_len first_free ≡ v.free = rw (laid.free_count, laid.free_front) (walk_is (next_at nodes) v.free None laid.free_leads) in
@@ -41,21 +124,21 @@ strands_of_is nodes first_free free_len v laid =
     sym (fill_by_all (strand nodes) v.chains (length nodes) None (sym laid.node_count) (λ h within. sym (strand_is nodes h (chain_in v.chains h) (laid.heads h)))) in
     λ i. record { free = free i; chains = chains i }
 
--- the invariant, at the value that a contract sees
-pub seen : (nodes : List Node) (first_free : Option ℕ) (free_len : ℕ) (v : StrandLists) → strands_of nodes first_free free_len ≡ v → IsLaid nodes first_free free_len (strands_of nodes first_free free_len) → IsLaid nodes first_free free_len v
-seen nodes first_free free_len v view laid = subst (IsLaid nodes first_free free_len) view laid
+-- the stored invariant holds at the value that a contract sees
+pub IsSound-lists : (nodes : List Node) (first_free : Option ℕ) (free_len : ℕ) (v : StrandLists) → strands_of nodes first_free free_len ≡ v → IsSound nodes first_free free_len (strands_of nodes first_free free_len) → IsSound nodes first_free free_len v
+IsSound-lists nodes first_free free_len v view laid = subst (IsSound nodes first_free free_len) view laid
 
--- and back
-pub closed : (nodes : List Node) (first_free : Option ℕ) (free_len : ℕ) (v : StrandLists) → IsLaid nodes first_free free_len v → IsLaid nodes first_free free_len (strands_of nodes first_free free_len)
-closed nodes first_free free_len v laid = subst (IsLaid nodes first_free free_len) (sym (strands_of_is nodes first_free free_len v laid)) laid
+-- and the other way round
+pub IsSound-stored : (nodes : List Node) (first_free : Option ℕ) (free_len : ℕ) (v : StrandLists) → IsSound nodes first_free free_len v → IsSound nodes first_free free_len (strands_of nodes first_free free_len)
+IsSound-stored nodes first_free free_len v laid = subst (IsSound nodes first_free free_len) (sym (strands_of_is nodes first_free free_len v laid)) laid
 
--- ---- what laid out nodes say
+-- ---- what the stored nodes say
 
 pub some_items : (m : Option (List ℕ)) → IsSome m → m ≡ Some (items_of m)
 some_items None some = absurd (false≢true some)
 some_items (Some xs) some = refl
 
--- where neither what a head keeps nor the links of its chain change, it is the head of it still
+-- a head stays one if what it keeps and the links of its chain stay
 pub IsHeadOf-kept : (next new : ℕ → Option ℕ) (span span' : Span) (h : ℕ) (m : Option (List ℕ)) → span' ≡ span → ((k : ℕ) → has k (items_of m) ≡ true → new k ≡ next k)
     → IsHeadOf next span h m → IsHeadOf new span' h m
 IsHeadOf-kept next new span span' h None same links was = ap (λ (s : Span). s.len) same ∙ was
@@ -66,20 +149,13 @@ IsHeadOf-kept next new span span' h (Some xs) same links was = record {
   leads = LeadsOn-kept next new xs None links was.leads;
 }
 
-pub IfSome-from : (o : Option ℕ) (P : ℕ → Type 0) → ((k : ℕ) → o ≡ Some k → P k) → IfSome o P
-IfSome-from None P each = tt
-IfSome-from (Some k) P each = each k refl
-
 has_after : (xs : List ℕ) (k j : ℕ) → after k xs ≡ Some j → has j xs ≡ true
 has_after [] k j is = absurd (none-some j is)
-has_after (x ∷ xs) k j is =
-    elim (cases_eq x k) [
-      | inl same ↦ has_tail x j xs (has_first xs j (sym (cond-true _ _ _ (eq-eqb x k same)) ∙ is))
-      | inr other ↦ has_tail x j xs (has_after xs k j (sym (cond-false _ _ _ (ne_eqb x k other)) ∙ is))
-    ]
+has_after (x ∷ []) k j is = grind (arith, nat_tests)
+has_after (x ∷ y ∷ xs) k j is = grind (arith, nat_tests, has_after (y ∷ xs) k j)
 
-module _ (nodes : List Node) (first_free : Option ℕ) (free_len : ℕ) (v : StrandLists) (laid : IsLaid nodes first_free free_len v) where
-  -- what a read of a node gives
+module _ (nodes : List Node) (first_free : Option ℕ) (free_len : ℕ) (v : StrandLists) (laid : IsSound nodes first_free free_len v) where
+  -- the code reads the node at its number
   pub node_read : (k : ℕ) (x : Node) → k < length v.chains → x ≡ get_or nodes k x → x ≡ node_at nodes k
   node_read k x within read = get_or_read nodes k x (omega (arith, laid.node_count)) read no_node
 
@@ -90,7 +166,7 @@ module _ (nodes : List Node) (first_free : Option ℕ) (free_len : ℕ) (v : Str
   pub strand_path : (h : ℕ) → IsSome (chain_in v.chains h) → path nodes (span_at nodes h).len (Some h) ≡ strand_at v h
   strand_path h some = path_is nodes (span_at nodes h) h (strand_at v h) (strand_laid h some)
 
-  -- its head and its last node are of it, and so nodes
+  -- its head and its last node are in it, and are nodes
   pub head_in : (h : ℕ) → IsSome (chain_in v.chains h) → has h (strand_at v h) ≡ true
   head_in h some = has_first (strand_at v h) h (strand_laid h some).head
 
@@ -103,25 +179,16 @@ module _ (nodes : List Node) (first_free : Option ℕ) (free_len : ℕ) (v : Str
   pub last_low : (h : ℕ) → IsSome (chain_in v.chains h) → (span_at nodes h).last < length v.chains
   last_low h some = strand_low v laid.once h (span_at nodes h).last (last_in h some)
 
-  -- no chain begins with a node that stands in none that begins with it
+  -- no chain begins with a node that is not in the chain at that node
   pub begins_none : (h : ℕ) → has h (strand_at v h) ≡ false → chain_in v.chains h ≡ None
-  begins_none h absent =
-      elim (chain_in v.chains h) as (λ m. chain_in v.chains h ≡ m → m ≡ None) [
-        | None ↦ λ _. refl
-        | Some xs ↦ λ is. absurd (false≢true (sym absent ∙ head_in h (subst IsSome (sym is) refl)))
-      ] refl
+  begins_none h absent = grind (arith, nat_tests, head_in h)
 
-  -- so none begins with a node behind a head
+  -- so none begins with a later node of another chain
   pub behind_begins_none : (g h : ℕ) → g ≢ h → has g (strand_at v h) ≡ true → chain_in v.chains g ≡ None
-  behind_begins_none g h other there =
-      begins_none g
-      (elim (has g (strand_at v g)) as (λ b. has g (strand_at v g) ≡ b → b ≡ false) [
-        | true ↦ λ here. absurd (false≢true (sym (not_in_other v laid.once g h g other here) ∙ there))
-        | false ↦ λ _. refl
-      ] refl)
+  behind_begins_none g h other there = begins_none g (false_from_ne_true _ (λ here. false≢true (sym (not_in_other v laid.once g h g other here) ∙ there)))
 
-  pub parted : IsParted v
-  parted = record {
+  pub IsParted-laid : IsParted v
+  IsParted-laid = record {
     once = laid.once;
     heads = λ h. begins h (chain_in v.chains h) (laid.heads h);
   }
@@ -136,17 +203,17 @@ module _ (nodes : List Node) (first_free : Option ℕ) (free_len : ℕ) (v : Str
   head_leads h None was = tt
   head_leads h (Some xs) was = was.leads
 
-  -- from each node of a chain to the one behind it
+  -- from each node of a chain to the next one
   pub next_in_chain : (h i k : ℕ) → slice_get (strand_at v h) i ≡ Some k → next_at nodes k ≡ slice_get (strand_at v h) (i + 1)
   next_in_chain h i k is =
       next_is (next_at nodes) (strand_at v h) k (head_leads h (chain_in v.chains h) (laid.heads h)) (has_get (strand_at v h) i k is)
       ∙ after-get (strand_at v h) i k (strand_apart v laid.once h) is
 
-  -- and from each free node to the one behind it
+  -- from each free node to the next one
   pub next_free : (i k : ℕ) → slice_get v.free i ≡ Some k → next_at nodes k ≡ slice_get v.free (i + 1)
   next_free i k is = next_is (next_at nodes) v.free k laid.free_leads (has_get v.free i k is) ∙ after-get v.free i k (free_apart v laid.once) is
 
-  -- and only to nodes
+  -- only to nodes
   pub next_within : (k j : ℕ) → next_at nodes k ≡ Some j → j < length v.chains
   next_within k j is =
       elim (cases_lt k (length v.chains)) [
@@ -160,3 +227,107 @@ module _ (nodes : List Node) (first_free : Option ℕ) (free_len : ℕ) (v : Str
     where
       on_list : (xs : List ℕ) → LeadsOn (next_at nodes) xs None → has k xs ≡ true → has j xs ≡ true
       on_list xs leads there = has_after xs k j (sym (next_is (next_at nodes) xs k leads there) ∙ is)
+
+-- ---- a change
+
+-- only nodes of `touched` may lead elsewhere, and only the heads a and b keep something else: the chains `m` and
+-- `o` begin there now, and the nodes of `free` are free
+pub record Moves (old new : List Node) (v : StrandLists) (free touched : List ℕ) (chains : List (Option (List ℕ))) (a b : ℕ) (m o : Option (List ℕ)) : Type 0 where
+  pub long : length new ≡ length old
+  pub changes : Changes v.chains chains a b m o
+  pub spans : (g : ℕ) → g ≢ a → g ≢ b → span_at new g ≡ span_at old g
+  pub links : (k : ℕ) → has k touched ≡ false → next_at new k ≡ next_at old k
+  pub others : (g k : ℕ) → g ≢ a → g ≢ b → has k (strand_at v g) ≡ true → has k touched ≡ false
+  pub here : IsHeadOf (next_at new) (span_at new a) a m
+  pub there : IsHeadOf (next_at new) (span_at new b) b o
+  pub free_leads : LeadsOn (next_at new) free None
+  pub same : (k : ℕ) → times k free + times k (items_in chains) ≡ times k v.free + times k (items_in v.chains)
+
+module _ (old new : List Node) (v : StrandLists) (free touched : List ℕ) (chains : List (Option (List ℕ))) (a b : ℕ) (m o : Option (List ℕ)) (moves : Moves old new v free touched chains a b m o) where
+  heads : ((h : ℕ) → IsHeadOf (next_at old) (span_at old h) h (chain_in v.chains h)) → (g : ℕ) → IsHeadOf (next_at new) (span_at new g) g (chain_in chains g)
+  heads was g =
+      elim (cases_eq g a) [
+        | inl same ↦ subst (λ j. IsHeadOf (next_at new) (span_at new j) j (chain_in chains j)) (sym same) (subst (IsHeadOf (next_at new) (span_at new a) a) (sym moves.changes.here) moves.here)
+        | inr off_a ↦
+            elim (cases_eq g b) [
+              | inl same ↦ subst (λ j. IsHeadOf (next_at new) (span_at new j) j (chain_in chains j)) (sym same) (subst (IsHeadOf (next_at new) (span_at new b) b) (sym moves.changes.there) moves.there)
+              | inr off_b ↦
+                  subst (IsHeadOf (next_at new) (span_at new g) g) (sym (moves.changes.others g off_a off_b))
+                  (IsHeadOf-kept (next_at old) (next_at new) (span_at old g) (span_at new g) g (chain_in v.chains g) (moves.spans g off_a off_b)
+                  (λ k there. moves.links k (moves.others g k off_a off_b there)) (was g))
+            ]
+      ]
+
+  -- after such a change the nodes store these lists
+  pub IsSound-moved : (first_free first_free' : Option ℕ) (free_len free_len' : ℕ) → IsSound old first_free free_len v → first_free' ≡ first free → free_len' ≡ length free → IsSound new first_free' free_len' (record { free = free; chains = chains })
+  IsSound-moved first_free first_free' free_len free_len' laid begins counts = record {
+    node_count = moves.long ∙ laid.node_count ∙ sym moves.changes.long;
+    few_nodes = omega (arith, laid.few_nodes, moves.changes.long);
+    free_count = counts;
+    free_front = begins;
+    free_leads = moves.free_leads;
+    heads = heads laid.heads;
+    once = λ k.
+        let all : times k (free ++ items_in chains) ≡ times k (all_nodes v) = omega (arith, times-append k free (items_in chains), times-append k v.free (items_in v.chains), moves.same k) in
+        all ∙ laid.once k ∙ ap (λ n. if nat_lt k n then 1 else 0) (sym moves.changes.long);
+  }
+
+-- only links of the chain at h change
+module _ (nodes : List Node) (first_free : Option ℕ) (free_len : ℕ) (v : StrandLists) (laid : IsSound nodes first_free free_len v) (h : ℕ) (new : List Node) (long : length new ≡ length nodes) (links : (k : ℕ) → has k (strand_at v h) ≡ false → next_at new k ≡ next_at nodes k) where
+  -- the free nodes lead on as before
+  free_kept : LeadsOn (next_at new) v.free None
+  free_kept = LeadsOn-kept (next_at nodes) (next_at new) v.free None (λ k there. links k (not_in_strand v laid.once h k there)) laid.free_leads
+
+  -- the nodes of `out` leave the chain and become free, the last one first; `m` is what is left of the chain
+  pub IsSound-out : (out : List ℕ) (m : Option (List ℕ)) (first_free' : Option ℕ) (free_len' : ℕ) → IsSome (chain_in v.chains h) → LeadsOn (next_at new) (reverse out) first_free → ((g : ℕ) → g ≢ h → span_at new g ≡ span_at nodes g)
+      → IsHeadOf (next_at new) (span_at new h) h m → ((k : ℕ) → times k (strand_at v h) ≡ times k out + times k (items_of m)) → first_free' ≡ first_or first_free (reverse out) → free_len' ≡ free_len + length out
+      → IsSound new first_free' free_len' (record { free = reverse out ++ v.free; chains = set v.chains h m })
+  IsSound-out out m first_free' free_len' some reversed spans here same begins counts =
+      let low = head_low nodes first_free free_len v laid h some in
+      IsSound-moved nodes new v (reverse out ++ v.free) (strand_at v h) (set v.chains h m) h h m m
+      (record {
+        long = long;
+        changes = Changes-one v.chains h m low;
+        spans = λ g other _. spans g other;
+        links = links;
+        others = λ g k other _ there. not_in_other v laid.once g h k other there;
+        here = here;
+        there = here;
+        free_leads = LeadsOn-append (next_at new) (reverse out) v.free None (subst (LeadsOn (next_at new) (reverse out)) laid.free_front reversed) free_kept;
+        same = λ k. omega (arith, same k, times-append k (reverse out) v.free, times-reverse k out, times-set k h m v.chains low);
+      })
+      first_free first_free' free_len free_len' laid
+      (begins ∙ ap (λ o. first_or o (reverse out)) laid.free_front ∙ sym (first_or-append None (reverse out) v.free))
+      (omega (arith, counts, laid.free_count, length-append (reverse out) v.free, length-reverse out))
+
+  -- the chains at a and b, of which one is h, exchange nodes: `m` and `o` begin there now
+  pub IsSound-two : (a b : ℕ) (m o : Option (List ℕ)) → a ≢ b → a < length v.chains → b < length v.chains → ((g : ℕ) → g ≢ a → g ≢ b → (g ≢ h) × (span_at new g ≡ span_at nodes g))
+      → IsHeadOf (next_at new) (span_at new a) a m → IsHeadOf (next_at new) (span_at new b) b o → ((k : ℕ) → times k (strand_at v a) + times k (strand_at v b) ≡ times k (items_of m) + times k (items_of o))
+      → IsSound new first_free free_len (record v { chains = set (set v.chains a m) b o })
+  IsSound-two a b m o other low_a low_b off here there same =
+      IsSound-moved nodes new v v.free (strand_at v h) (set (set v.chains a m) b o) a b m o
+      (record {
+        long = long;
+        changes = Changes-two v.chains a b m o other low_a low_b;
+        spans = λ g off_a off_b. (off g off_a off_b).1;
+        links = links;
+        others = λ g k off_a off_b there. not_in_other v laid.once g h k (off g off_a off_b).0 there;
+        here = here;
+        there = there;
+        free_leads = free_kept;
+        same = λ k. omega (arith, same k, times-set_two k a b m o v.chains other low_a low_b);
+      })
+      first_free first_free free_len free_len laid laid.free_front laid.free_count
+
+-- ---- one write
+
+-- a value where the write is, and elsewhere
+pub write_here : {X : Type 0} (at : ℕ) (x y : X) → (if at == at then x else y) ≡ x
+write_here at x y = cond-true _ _ _ (eq-eqb at at refl)
+
+pub write_elsewhere : {X : Type 0} (at k : ℕ) (x y : X) → k ≢ at → (if at == k then x else y) ≡ y
+write_elsewhere at k x y other = cond-false _ _ _ (ne_eqb at k (λ same. other (sym same)))
+
+-- a number that is not in a list differs from one that is
+pub apart_from : (k at : ℕ) (xs : List ℕ) → has at xs ≡ true → has k xs ≡ false → k ≢ at
+apart_from k at xs there absent same = false≢true (sym absent ∙ ap (λ j. has j xs) same ∙ there)

@@ -1,4 +1,4 @@
--- Nodes that are all free.
+-- The nodes of a new arena, which are all free.
 use Rattle.std.proofs.Common.{◌≡◌, ℕ, zero, suc, ◌+◌, zero-add, ◌<◌, ◌^◌, List, ◌++◌, length, map, replicate, Option, Some, None, if◌then◌else◌, refl, sym, ap, ◌∙◌, subst, inl, inr, arith}
 use Rattle.std.specs.Prelude.{nat_lt}
 use Rattle.std.specs.List.{range_with_len}
@@ -10,12 +10,12 @@ use Rattle.strm_links.specs.Layout.{LeadsOn}
 use Rattle.strm_links.specs.Counting.{times}
 use Rattle.strm_links.specs.Chains.{chain_in}
 use Rattle.strm_links.specs.StrandLists.{opening_strands}
-use Rattle.strm_links.specs.StrandLayout.{IsHeadOf, IsLaid, free_node, next_at, no_node, node_at, span_at}
+use Rattle.strm_links.specs.StrandLayout.{IsHeadOf, IsSound, free_node, next_at, no_node, node_at, span_at}
 use Rattle.strm_links.specs.declared.strands.Node.{Node}
 use Rattle.strm_links.proofs.lists.Counting.{times_below}
 use Rattle.strm_links.proofs.lists.Chains.{items_none}
 
--- the first of the numbers from a on, below m
+-- the first of the numbers from a to m - 1
 first_below : (a n m : ℕ) → a + n ≡ m → (if nat_lt a m then Some a else None) ≡ first (range_with_len a n)
 first_below a zero m is = cond-false _ _ _ (le-ltb a m (omega (arith, is)))
 first_below a (suc n) m is = cond-true _ _ _ (lt-ltb a m (omega (arith, is)))
@@ -38,7 +38,7 @@ module _ (n : ℕ) where
   unfolding nodes
   at_node k within = get_or-map-range_with_len (free_node n) 0 n k k no_node within (zero-add k)
 
-  -- none is a head
+  -- no node is a head
   no_head : (h : ℕ) → (span_at nodes h).len ≡ 0
   unfolding nodes
   no_head h =
@@ -47,9 +47,9 @@ module _ (n : ℕ) where
         | inr past ↦ ap (λ (x : Node). x.span.len) (get_or_past nodes h no_node (omega (arith, past, length-map-range_with_len (free_node n) 0 n)))
       ]
 
-  pub IsLaid-opened : n < 2 ^ 32 → IsLaid (map (free_node n) (range_with_len 0 n)) (if nat_lt 0 n then Some 0 else None) n (opening_strands n)
+  pub IsSound-opened : n < 2 ^ 32 → IsSound (map (free_node n) (range_with_len 0 n)) (if nat_lt 0 n then Some 0 else None) n (opening_strands n)
   unfolding nodes
-  IsLaid-opened few =
+  IsSound-opened few =
       let long : length (opening_strands n).chains ≡ n = length-replicate n None in
       record {
         node_count = length-map-range_with_len (free_node n) 0 n ∙ sym long;

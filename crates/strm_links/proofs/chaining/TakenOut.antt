@@ -1,4 +1,4 @@
--- A node that isn't the first leaves a chain, and is one of its own.
+-- A node other than the first leaves a chain, and becomes a chain of one.
 use Rattle.std.proofs.Common.{◌≡◌, ◌≢◌, ℕ, suc, ◌+◌, ◌-◌, ◌<◌, ◌≤◌, true, false, ◌==◌, List, [], ◌∷◌, ◌++◌, length, get_or, set, take, drop, Option, Some, None, IsSome, if◌then◌else◌, refl, sym, ap, ◌∙◌, subst, arith, length-append, drop-cons}
 use Rattle.std.specs.Prelude.{is_none, slice_get}
 use Rattle.std.proofs.lemmas.List.{take-append-drop}
@@ -8,22 +8,18 @@ use Rattle.strm_links.specs.Layout.{LeadsOn}
 use Rattle.strm_links.specs.Counting.{times}
 use Rattle.strm_links.specs.Chains.{chain_in, items_of, set_apart, taken_out}
 use Rattle.strm_links.specs.StrandLists.{StrandLists, strand_at}
-use Rattle.strm_links.specs.StrandLayout.{IsLaid, IsStrand, next_at, onward, span_at}
+use Rattle.strm_links.specs.StrandLayout.{IsSound, IsStrand, next_at, onward, span_at}
 use Rattle.strm_links.specs.declared.strands.Node.{Node}
-use Rattle.strm_links.proofs.lists.ListLinks.{LeadsOn-kept, LeadsOn-parts}
+use Rattle.strm_links.proofs.lists.ListLinks.{LeadsOn-kept, LeadsOn-parts, first-take, first_front, has_first, has_last, last-take, last_without, link_at, onward-at, LeadsOn-append, LeadsOn-end}
 use Rattle.strm_links.proofs.lists.Counting.{times-append}
-use Rattle.strm_links.proofs.lists.Chains.{Changes-two, times-set_two}
 use Rattle.strm_links.proofs.lists.OneList.{ApartParts, IsApart-parts, differ, has_head, has_left, has_right, has_tail}
-use Rattle.strm_links.proofs.chaining.Laid.{behind_begins_none, head_low, strand_laid}
-use Rattle.strm_links.proofs.chaining.ChainLinks.{first-take, first_front, has_first, has_last, last-take, last_without, link_at, onward-at, LeadsOn-append, LeadsOn-end}
-use Rattle.strm_links.proofs.chaining.Moves.{IsLaid-moved, Moves, apart_from, unwritten, written}
-use Rattle.strm_links.proofs.chaining.Parts.{not_in_other, not_in_strand, strand_apart, strand_low}
+use Rattle.strm_links.proofs.chaining.Laid.{IsSound-two, behind_begins_none, head_low, strand_laid, apart_from, write_elsewhere, write_here, strand_apart, strand_low}
 
-module _ (nodes : List Node) (first_free : Option ℕ) (free_len : ℕ) (v : StrandLists) (laid : IsLaid nodes first_free free_len v) (h : ℕ) (some_h : IsSome (chain_in v.chains h)) where
+module _ (nodes : List Node) (first_free : Option ℕ) (free_len : ℕ) (v : StrandLists) (laid : IsSound nodes first_free free_len v) (h : ℕ) (some_h : IsSome (chain_in v.chains h)) where
   was : IsStrand (next_at nodes) (span_at nodes h) h (strand_at v h)
   was = strand_laid nodes first_free free_len v laid h some_h
 
-  -- ---- n stands behind t
+  -- ---- n follows t
 
   module _ (pre post : List ℕ) (n t : ℕ) (split : strand_at v h ≡ pre ++ n ∷ post) (begins : first pre ≡ Some h) (ends : last pre ≡ Some t) where
     apart : IsApart (pre ++ n ∷ post)
@@ -47,14 +43,14 @@ module _ (nodes : List Node) (first_free : Option ℕ) (free_len : ℕ) (v : Str
     t_in : has t (strand_at v h) ≡ true
     t_in = in_pre t (has_last pre t ends)
 
-    -- no node before it is one from it on
+    -- a node before n differs from n and from each node after it
     pre_off : (k j : ℕ) → has k pre ≡ true → has j (n ∷ post) ≡ true → k ≢ j
     pre_off k j here there = apart_from k j (n ∷ post) there (parts.cross k here)
 
     n_off_h : h ≢ n
     n_off_h = pre_off h n (has_first pre h begins) (has_head n n post refl)
 
-    -- the last node of the others
+    -- the last node of the chain without n
     last_left : last (pre ++ post) ≡ Some (if is_none (next_at nodes n) then t else (span_at nodes h).last)
     last_left =
         last_without pre (n ∷ []) post t (span_at nodes h).last ends (ap last (sym split) ∙ was.last)
@@ -64,14 +60,14 @@ module _ (nodes : List Node) (first_free : Option ℕ) (free_len : ℕ) (v : Str
         (spans : (k : ℕ) → span_at new k
         ≡ (if h == k then record { last = (if is_none (next_at nodes n) then t else (span_at nodes h).last); len = (span_at nodes h).len - 1 } else (if n == k then record { last = n; len = 1 } else span_at nodes k))) where
       links : (k : ℕ) → k ≢ n → k ≢ t → next_at new k ≡ next_at nodes k
-      links k off_n off_t = nexts k ∙ unwritten n k _ _ off_n ∙ unwritten t k _ _ off_t
+      links k off_n off_t = nexts k ∙ write_elsewhere n k _ _ off_n ∙ write_elsewhere t k _ _ off_t
 
       links_off : (k : ℕ) → has k (strand_at v h) ≡ false → next_at new k ≡ next_at nodes k
       links_off k absent = links k (apart_from k n (strand_at v h) n_in absent) (apart_from k t (strand_at v h) t_in absent)
 
       others_lead : LeadsOn (next_at new) (pre ++ post) None
       others_lead =
-          let t_next : next_at new t ≡ first post = nexts t ∙ unwritten n t _ _ (pre_off t n (has_last pre t ends) (has_head n n post refl)) ∙ written t _ _ ∙ leads.1.0 in
+          let t_next : next_at new t ≡ first post = nexts t ∙ write_elsewhere n t _ _ (pre_off t n (has_last pre t ends) (has_head n n post refl)) ∙ write_here t _ _ ∙ leads.1.0 in
           LeadsOn-append (next_at new) pre post None
           (LeadsOn-end (next_at nodes) (next_at new) pre (Some n) (first post) t ends parts.left leads.0 t_next
           (λ k there off. links k (pre_off k n there (has_head n n post refl)) off))
@@ -88,45 +84,20 @@ module _ (nodes : List Node) (first_free : Option ℕ) (free_len : ℕ) (v : Str
       }
 
       there : IsStrand (next_at new) (record { last = n; len = 1 }) n (n ∷ [])
-      there = record { head = refl; last = refl; len = refl; leads = (nexts n ∙ written n _ _, tt) }
+      there = record { head = refl; last = refl; len = refl; leads = (nexts n ∙ write_here n _ _, tt) }
 
-      chains : List (Option (List ℕ))
-      chains = set (set v.chains h (Some (pre ++ post))) n (Some (n ∷ []))
-
-      moves : Moves nodes new v v.free (strand_at v h) chains h n (Some (pre ++ post)) (Some (n ∷ []))
-      unfolding chains
-      moves =
-          let h_low = head_low nodes first_free free_len v laid h some_h in
-          let n_low = strand_low v laid.once h n n_in in
-          record {
-            long = long;
-            changes = Changes-two v.chains h n (Some (pre ++ post)) (Some (n ∷ [])) n_off_h h_low n_low;
-            spans = λ g off_h off_n. spans g ∙ unwritten h g _ _ off_h ∙ unwritten n g _ _ off_n;
-            links = links_off;
-            others = λ g k off_h _ there. not_in_other v laid.once g h k off_h there;
-            here = subst (λ s. IsStrand (next_at new) s h (pre ++ post)) (sym (spans h ∙ written h _ _)) here;
-            there = subst (λ s. IsStrand (next_at new) s n (n ∷ [])) (sym (spans n ∙ unwritten h n _ _ (λ same. n_off_h (sym same)) ∙ written n _ _)) there;
-            free_leads = LeadsOn-kept (next_at nodes) (next_at new) v.free None (λ k there. links_off k (not_in_strand v laid.once h k there)) laid.free_leads;
-            same = λ k.
-                omega (
-                  arith,
-                  ap (times k) split,
-                  times-append k pre (n ∷ post),
-                  times-append k (n ∷ []) post,
-                  times-append k pre post,
-                  times-set_two k h n (Some (pre ++ post)) (Some (n ∷ [])) v.chains n_off_h h_low n_low,
-                  ap (λ m. times k (items_of m)) (behind_begins_none nodes first_free free_len v laid n h (λ same. n_off_h (sym same)) n_in),
-                );
-          }
-
-      pub IsLaid-apart : IsLaid new first_free free_len (record v { chains = set (set v.chains h (Some (pre ++ post))) n (Some (n ∷ [])) })
-      unfolding chains
-      IsLaid-apart =
-          IsLaid-moved nodes new v v.free (strand_at v h) chains h n (Some (pre ++ post)) (Some (n ∷ [])) moves first_free first_free free_len free_len laid laid.free_front laid.free_count
+      pub IsSound-apart : IsSound new first_free free_len (record v { chains = set (set v.chains h (Some (pre ++ post))) n (Some (n ∷ [])) })
+      IsSound-apart =
+          let n_none = behind_begins_none nodes first_free free_len v laid n h (λ same. n_off_h (sym same)) n_in in
+          IsSound-two nodes first_free free_len v laid h new long links_off h n (Some (pre ++ post)) (Some (n ∷ [])) n_off_h (head_low nodes first_free free_len v laid h some_h) (strand_low v laid.once h n n_in)
+          (λ g off_h off_n. (off_h, spans g ∙ write_elsewhere h g _ _ off_h ∙ write_elsewhere n g _ _ off_n))
+          (subst (λ s. IsStrand (next_at new) s h (pre ++ post)) (sym (spans h ∙ write_here h _ _)) here)
+          (subst (λ s. IsStrand (next_at new) s n (n ∷ [])) (sym (spans n ∙ write_elsewhere h n _ _ (λ same. n_off_h (sym same)) ∙ write_here n _ _)) there)
+          (λ k. omega (arith, ap (times k) split, times-append k pre (n ∷ post), times-append k (n ∷ []) post, times-append k pre post, ap (λ m. times k (items_of m)) n_none))
 
   -- ---- the node at a place
 
-  -- a place that there is not
+  -- a place past the end: nothing changes
   pub no_place : (place : ℕ) → (span_at nodes h).len ≤ place → (slice_get (strand_at v h) place ≡ None) × (taken_out (λ n. n) h place (strand_at v h) v.chains ≡ v.chains)
   no_place place past =
       let none : slice_get (strand_at v h) place ≡ None = slice_get_past (strand_at v h) place (omega (arith, past, was.len)) in
@@ -136,7 +107,7 @@ module _ (nodes : List Node) (first_free : Option ℕ) (free_len : ℕ) (v : Str
     inside : place < length (strand_at v h)
     inside = omega (arith, within, was.len)
 
-    -- what stands there, and what stands before it
+    -- the node at the place, and the one before it
     pub place_at : slice_get (strand_at v h) place ≡ Some (get_or (strand_at v h) place 0)
     place_at = slice_get-get_or (strand_at v h) place 0 inside
 
@@ -182,12 +153,12 @@ module _ (nodes : List Node) (first_free : Option ℕ) (free_len : ℕ) (v : Str
             strand_low v laid.once h n (n_in pre post n t split begins ends),
           )
 
-      pub IsLaid-taken_out : (new : List Node) → length new ≡ length nodes → ((k : ℕ) → next_at new k ≡ (if n == k then None else (if t == k then next_at nodes n else next_at nodes k)))
+      pub IsSound-taken_out : (new : List Node) → length new ≡ length nodes → ((k : ℕ) → next_at new k ≡ (if n == k then None else (if t == k then next_at nodes n else next_at nodes k)))
           → ((k : ℕ) → span_at new k
           ≡ (if h == k then record { last = (if is_none (next_at nodes n) then t else (span_at nodes h).last); len = (span_at nodes h).len - 1 } else (if n == k then record { last = n; len = 1 } else span_at nodes k)))
-          → IsLaid new first_free free_len (record v { chains = taken_out (λ n. n) h place (strand_at v h) v.chains })
-      IsLaid-taken_out new long nexts spans =
+          → IsSound new first_free free_len (record v { chains = taken_out (λ n. n) h place (strand_at v h) v.chains })
+      IsSound-taken_out new long nexts spans =
           let pre = take place (strand_at v h) in
           let post = drop (place + 1) (strand_at v h) in
-          subst (λ o. IsLaid new first_free free_len (record v { chains = set_apart (λ n. n) h (pre ++ post) o v.chains })) (sym place_is)
-          (IsLaid-apart pre post n t split begins ends new long nexts spans)
+          subst (λ o. IsSound new first_free free_len (record v { chains = set_apart (λ n. n) h (pre ++ post) o v.chains })) (sym place_is)
+          (IsSound-apart pre post n t split begins ends new long nexts spans)

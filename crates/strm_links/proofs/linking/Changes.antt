@@ -1,24 +1,71 @@
--- How a node that joins or leaves a list, and a list that joins another, keep the nodes and the ends sound.
-use Rattle.std.proofs.Common.{◌≡◌, ◌≢◌, ℕ, ◌+◌, ◌-◌, ◌<◌, true, false, ◌||◌, List, [], ◌∷◌, ◌++◌, length, get_or, set, Option, Some, None, is_none, if◌then◌else◌, refl, sym, ap, ◌∙◌, subst, inl, inr, arith, get_or-set_same, get_or-set_other, length-set}
+-- How the nodes and the ends stay sound when a node joins or leaves a list, and when one list joins another.
+use Rattle.std.proofs.Common.{◌≡◌, ◌≢◌, ℕ, zero, suc, ◌<◌, true, false, List, [], ◌∷◌, length, get_or, set, Option, Some, None, if◌then◌else◌, refl, sym, ap, ◌∙◌, subst, arith, get_or-set_same, get_or-set_other, length-set, ◌+◌, ◌-◌, ◌++◌, is_none, inl, inr}
+use Rattle.std.proofs.lemmas.Bool.Decides.{nat_tests}
+use Rattle.std.proofs.lemmas.List.{get_or_read, append_assoc, append-nil, length-append}
 use Rattle.std.proofs.lemmas.Bool.{cases_eq, cases_Bool, cond-true, cond-false, ne_eqb, or_from, false≢true}
-use Rattle.std.proofs.lemmas.List.{append_assoc, append-nil, length-append}
-use Rattle.std.proofs.lemmas.Option.{none-some, same_Some}
+use Rattle.std.proofs.lemmas.Option.{none-some}
 use Rattle.strm_links.specs.declared.links.Node.{Node}
+use Rattle.strm_links.specs.Rows.{has, Rows, IsApart, is_some_of, first, last, list_at}
+use Rattle.strm_links.specs.Layout.{no_node, node_at, owner_at, previous_at, next_at, walk, no_ends, ends_at, LeadsBack, IsLinked, IsSound}
 use Rattle.strm_links.specs.declared.links.Ends.{Ends}
-use Rattle.strm_links.specs.Rows.{Rows, has, IsApart, is_some_of, first, last, list_at}
-use Rattle.strm_links.specs.Layout.{no_node, no_ends, node_at, owner_at, previous_at, next_at, ends_at, LeadsBack, IsLinked, IsSound}
-use Rattle.strm_links.proofs.lists.OneList.{has_head, has_right, has-append, has-around, differ, absent_parts, absent_both, absent_around, ApartParts, IsApart-parts, IsApart-append, IsApart-insert, IsApart-remove, first_joined, first_off, is_some_of-same, last_joined, last_off, last_or-append, last_some, or_false, some_of}
-use Rattle.strm_links.proofs.linking.Giving.{Gives}
+use Rattle.strm_links.proofs.lists.OneList.{has_head, has_tail, has_right, has-append, has-around, differ, absent_parts, absent_both, absent_around, ApartParts, IsApart-parts, IsApart-append, IsApart-insert, IsApart-remove, first_joined, first_off, last_joined, last_off, last_or-append, last_some, some_of}
 use Rattle.strm_links.proofs.lists.ListLinks.{LeadsOn-kept, LeadsBack-kept, LeadsOn-parts, LeadsBack-parts, LeadsBack-append, LeadsOn-join, LeadsBack-join}
+
+-- ---- the walk that gives nodes another owner
+
+-- the walk has given all of `xs` but `rest` to `list`; no link has changed
+pub record Gives (old now : List Node) (list : Option ℕ) (xs rest : List ℕ) : Type 0 where
+  pub owners : (k : ℕ) → (if has k rest then list else owner_at now k) ≡ (if has k xs then list else owner_at old k)
+  pub nexts : (k : ℕ) → next_at now k ≡ next_at old k
+  pub previous : (k : ℕ) → previous_at now k ≡ previous_at old k
+  pub within : (k : ℕ) → has k rest ≡ true → k < length now
+  pub len : length now ≡ length old
+
+-- the walk gives away one more node
+pub Gives-more : (old now : List Node) (list : Option ℕ) (xs rest : List ℕ) (n : ℕ) (x : Node) → Gives old now list xs (n ∷ rest)
+    → x.list ≡ list → x.next ≡ next_at now n → x.previous ≡ previous_at now n → Gives old (set now n x) list xs rest
+Gives-more old now list xs rest n x gives owner next previous =
+    let here : node_at (set now n x) n ≡ x = get_or-set_same now n x no_node (gives.within n (has_head n n rest refl)) in
+    let away : (k : ℕ) → k ≢ n → node_at (set now n x) k ≡ node_at now k = λ k. get_or-set_other now n k x no_node in
+    record {
+      owners = λ k. grind (arith, nat_tests, here, away k, owner, gives.owners k);
+      nexts = λ k. grind (arith, nat_tests, here, away k, next, gives.nexts k);
+      previous = λ k. grind (arith, nat_tests, here, away k, previous, gives.previous k);
+      within = λ k there. omega (arith, gives.within k (has_tail n k rest there), length-set now n x);
+      len = length-set now n x ∙ gives.len;
+    }
+
+-- a walk from none finds nothing
+walk_none : (next : ℕ → Option ℕ) (m : ℕ) → walk next m None ≡ []
+walk_none next zero = refl
+walk_none next (suc m) = refl
+
+-- the loop's step where the walk is at a node
+pub Gives-some : (old now later : List Node) (list : Option ℕ) (xs : List ℕ) (left m n : ℕ) (at onward : Option ℕ) (x : Node) → Gives old now list xs (walk (next_at old) left at)
+    → left ≡ suc m → at ≡ Some n → x ≡ get_or now n x → later ≡ set now n (record x { list = list }) → onward ≡ x.next
+    → Gives old later list xs (walk (next_at old) m onward)
+Gives-some old now later list xs left m n at onward x gives count is read write on =
+    let here : Gives old now list xs (n ∷ walk (next_at old) m (next_at old n)) = rw (count, is) at gives in
+    let known : x ≡ node_at now n = get_or_read now n x (here.within n (has_head n n _ refl)) read no_node in
+    let next : x.next ≡ next_at now n = ap (λ (y : Node). y.next) known in
+    subst (λ o. Gives old later list xs (walk (next_at old) m o)) (sym (on ∙ next ∙ gives.nexts n))
+    (rw write (Gives-more old now list xs (walk (next_at old) m (next_at old n)) n (record x { list = list }) here refl next (ap (λ (y : Node). y.previous) known)))
+
+-- the loop's step where the walk is over
+pub Gives-none : (old now later : List Node) (list : Option ℕ) (xs : List ℕ) (left m : ℕ) (at onward : Option ℕ) → Gives old now list xs (walk (next_at old) left at)
+    → at ≡ None → later ≡ now → onward ≡ at → Gives old later list xs (walk (next_at old) m onward)
+Gives-none old now later list xs left m at onward gives is same on =
+    let nothing : walk (next_at old) left at ≡ walk (next_at old) m onward = ap (walk (next_at old) left) is ∙ walk_none (next_at old) left ∙ sym (ap (walk (next_at old) m) (on ∙ is) ∙ walk_none (next_at old) m) in
+    rw (same, ← nothing) gives
 
 -- ---- what the writes make of the nodes
 
--- one node is another now
+-- only node n has changed, and is x
 pub record Puts (nodes mid : List Node) (n : ℕ) (x : Node) : Type 0 where
   pub here : node_at mid n ≡ x
   pub others : (k : ℕ) → n ≢ k → node_at mid k ≡ node_at nodes k
 
--- `ahead` leads on to `on`, `behind` leads back to `back`, where one of them is none the list ends there, and the rest is as it was
+-- `ahead` leads on to `on`, and `behind` leads back to `back`; where one is none, that end of the list changes; the rest is as before
 pub record Rewires (mid new : List Node) (e e' : Ends) (ahead behind on back : Option ℕ) : Type 0 where
   pub nexts : (k : ℕ) → next_at new k ≡ (if is_some_of k ahead then on else next_at mid k)
   pub previous : (k : ℕ) → previous_at new k ≡ (if is_some_of k behind then back else previous_at mid k)
@@ -27,14 +74,20 @@ pub record Rewires (mid new : List Node) (e e' : Ends) (ahead behind on back : O
   pub front : e'.front ≡ (if is_none ahead then on else e.front)
   pub back_end : e'.back ≡ (if is_none behind then back else e.back)
 
--- a write of a node is such a change
+-- the same writes, named by equal values
+pub Rewires-same : {mid new : List Node} {e f e' : Ends} {ahead behind on back ahead' behind' on' back' : Option ℕ} → Rewires mid new e e' ahead behind on back
+    → e ≡ f → ahead ≡ ahead' → behind ≡ behind' → on ≡ on' → back ≡ back' → Rewires mid new f e' ahead' behind' on' back'
+Rewires-same {mid} {new} {e} {f} {e'} rewires ends first last onto to =
+    subst (λ (t : Ends × Option ℕ × Option ℕ × Option ℕ × Option ℕ). Rewires mid new t.0 e' t.1 t.2 t.3 t.4) (λ i. (ends i, first i, last i, onto i, to i)) rewires
+
+-- a write of one node changes only that node
 pub Puts-set : (nodes : List Node) (n : ℕ) (x : Node) → n < length nodes → Puts nodes (set nodes n x) n x
 Puts-set nodes n x within = record {
   here = get_or-set_same nodes n x no_node within;
   others = λ k other. get_or-set_other nodes n k x no_node (λ same. other (sym same));
 }
 
--- one write of each kind after the other
+-- `set_next`, then `set_previous`
 pub Rewires-both : (mid one new : List Node) (e e1 e2 : Ends) (ahead behind on back : Option ℕ)
     → ((k : ℕ) → next_at one k ≡ (if is_some_of k ahead then on else next_at mid k))
     → ((k : ℕ) → previous_at one k ≡ previous_at mid k)
@@ -54,11 +107,11 @@ Rewires-both mid one new e e1 e2 ahead behind on back nexts same_previous same_o
   back_end = ap (λ (x : Ends). x.back) ends2 ∙ ap (λ (x : Ends). if is_none behind then back else x.back) ends;
 }
 
--- the fields of these nodes and ends link a list
+-- these nodes and ends link the list l
 abbrev Linked : List Node → Ends → ℕ → List ℕ → Type 0
 Linked nodes e l xs = IsLinked (owner_at nodes) (previous_at nodes) (next_at nodes) e l xs
 
--- a list stays linked where its nodes keep their links and none comes to it or goes
+-- a list stays linked if its nodes keep their links and it neither gains nor loses a node
 Linked-kept : (nodes new : List Node) (e : Ends) (m : ℕ) (xs : List ℕ) → Linked nodes e m xs
     → ((k : ℕ) → has k xs ≡ true → next_at new k ≡ next_at nodes k)
     → ((k : ℕ) → has k xs ≡ true → previous_at new k ≡ previous_at nodes k)
@@ -74,7 +127,7 @@ Linked-kept nodes new e m xs was nexts previous owners = record {
   owned = λ k. was.owned k ∙ sym (owners k);
 }
 
--- one list is another now
+-- the stored ends and the list at m, once list l is `ys`
 Linked-set : (new : List Node) (ends : List Ends) (lists : List (List ℕ)) (l m : ℕ) (e : Ends) (ys : List ℕ) → m < length ends → m < length lists → Linked new e l ys → (m ≢ l → Linked new (ends_at ends m) m (get_or lists m [])) → Linked new (ends_at (set ends l e) m) m (get_or (set lists l ys) m [])
 Linked-set new ends lists l m e ys in_ends in_lists here others =
     elim (cases_eq l m) [
@@ -89,7 +142,7 @@ Linked-set new ends lists l m e ys in_ends in_lists here others =
 -- ---- a node joins a list
 
 module _ (nodes mid new : List Node) (n l : ℕ) (pre post : List ℕ) (e e' : Ends) where
-  -- a node that stands between two parts, and that both name, is in the list
+  -- a node between two parts that name it is in the list
   Linked-insert : Puts nodes mid n (record { list = Some l; previous = last pre; next = first post })
       → Rewires mid new e e' (last pre) (first post) (Some n) (Some n)
       → Linked nodes e l (pre ++ post) → owner_at nodes n ≡ None
@@ -125,23 +178,18 @@ module _ (nodes mid new : List Node) (n l : ℕ) (pre post : List ℕ) (e e' : E
             (IsApart-parts (pre ++ n ∷ []) post (subst IsApart (sym joined) apart))
             (λ k. rewires.previous k ∙ ap (λ o. if is_some_of k (first post) then o else previous_at mid k) (sym (last_or-append None pre (n ∷ [])))));
         apart = apart;
-        owned = λ k. elim (cases_eq n k) [
-          | inl same ↦
-              has_right k pre (n ∷ post) (has_head n k post same)
-              ∙ sym (is_some_of-same l (owner_at new k) (ap (owner_at new) (sym same) ∙ rewires.owners n ∙ ap (λ (m : Node). m.list) puts.here))
-          | inr other ↦
-              has-around k n pre post other ∙ was.owned k ∙ ap (is_some_of l) (sym (rewires.owners k ∙ ap (λ (m : Node). m.list) (puts.others k other)))
-        ];
+        owned = λ k. grind (arith, nat_tests, has-around k n pre post, has_right k pre (n ∷ post), was.owned k, rewires.owners k, puts.here, puts.others k);
       }
 
   -- ---- a node leaves a list
 
-  -- two parts that name each other are a list without the node that stood between
+  -- once the two parts around a node name each other, they are the list
   Linked-remove : Puts nodes mid n no_node → Rewires mid new e e' (last pre) (first post) (first post) (last pre)
       → Linked nodes e l (pre ++ n ∷ post)
       → Linked new (record e' { len = e'.len - 1 }) l (pre ++ post)
   Linked-remove puts rewires was =
       let off = absent_around pre post n was.apart in
+      let absent : has n (pre ++ post) ≡ false = has-append n pre post ∙ or_from _ _ off.0 off.1 in
       let apart = IsApart-remove pre post n was.apart in
       let on = LeadsOn-parts (next_at nodes) pre (n ∷ post) None was.leads_on in
       let back = LeadsBack-parts (previous_at nodes) None pre (n ∷ post) was.leads_back in
@@ -165,29 +213,26 @@ module _ (nodes mid new : List Node) (n l : ℕ) (pre post : List ℕ) (e e' : E
             rewires.previous;
         apart = apart;
         owned = λ k. elim (cases_eq n k) [
-          | inl same ↦
-              ap (λ j. has j (pre ++ post)) (sym same) ∙ has-append n pre post ∙ or_from _ _ off.0 off.1
-              ∙ ap (is_some_of l) (sym (ap (owner_at new) (sym same) ∙ rewires.owners n ∙ ap (λ (m : Node). m.list) puts.here))
-          | inr other ↦
-              sym (has-around k n pre post other) ∙ was.owned k ∙ ap (is_some_of l) (sym (rewires.owners k ∙ ap (λ (m : Node). m.list) (puts.others k other)))
+          | inl same ↦ ap (λ j. has j (pre ++ post)) (sym same) ∙ absent ∙ ap (is_some_of l) (sym (rewires.owners k ∙ ap (λ j. owner_at mid j) (sym same) ∙ ap (λ (m : Node). m.list) puts.here))
+          | inr other ↦ sym (has-around k n pre post other) ∙ was.owned k ∙ ap (is_some_of l) (sym (rewires.owners k ∙ ap (λ (m : Node). m.list) (puts.others k other)))
         ];
       }
 
 -- ---- the other lists, and the free nodes
 
 module _ (nodes mid new : List Node) (ends : List Ends) (rows : Rows) (l n : ℕ) (x : Node) (pre post : List ℕ) (e e' : Ends) (on back : Option ℕ) (sound : IsSound nodes ends rows) (within : l < length rows.lists) (puts : Puts nodes mid n x) (rewires : Rewires mid new e e' (last pre) (first post) on back) (off : (has n pre ≡ false) × (has n post ≡ false)) (parts : (k : ℕ) → has k (list_at l rows) ≡ false → (has k pre ≡ false) × (has k post ≡ false)) (was : (m : ℕ) → m ≢ l → is_some_of m (owner_at nodes n) ≡ false) (is : (m : ℕ) → m ≢ l → is_some_of m x.list ≡ false) (free : x.list ≡ None → (x.next ≡ None) × (x.previous ≡ None)) where
-  -- the owners
+  -- the owners after the change
   new_owner : (k : ℕ) → n ≢ k → owner_at new k ≡ owner_at nodes k
   new_owner k other = rewires.owners k ∙ ap (λ (m : Node). m.list) (puts.others k other)
 
   new_owner_here : owner_at new n ≡ x.list
   new_owner_here = rewires.owners n ∙ ap (λ (m : Node). m.list) puts.here
 
-  -- a node off the list keeps its links
+  -- a node that is not in the list keeps its next node
   new_next : (k : ℕ) → has k pre ≡ false → next_at new k ≡ next_at mid k
   new_next k absent = rewires.nexts k ∙ cond-false _ _ _ (last_off pre k absent)
 
-  -- the same of the way back
+  -- and its previous node
   new_previous : (k : ℕ) → has k post ≡ false → previous_at new k ≡ previous_at mid k
   new_previous k absent = rewires.previous k ∙ cond-false _ _ _ (first_off post k absent)
 
@@ -204,20 +249,15 @@ module _ (nodes mid new : List Node) (ends : List Ends) (rows : Rows) (l n : ℕ
       Linked-kept nodes new (ends_at ends m) m (list_at m rows) list
       (λ k there. let away = apart k there in new_next k (parts k away.1).0 ∙ ap (λ (x : Node). x.next) (puts.others k away.0))
       (λ k there. let away = apart k there in new_previous k (parts k away.1).1 ∙ ap (λ (x : Node). x.previous) (puts.others k away.0))
-      (λ k. elim (cases_eq n k) [
-        | inl same ↦
-            subst (λ j. is_some_of m (owner_at new j) ≡ is_some_of m (owner_at nodes j)) same
-            (ap (is_some_of m) new_owner_here ∙ is m other ∙ sym (was m other))
-        | inr differs ↦ ap (is_some_of m) (new_owner k differs)
-      ])
+      (λ k. grind (arith, nat_tests, new_owner_here, is m other, was m other, new_owner k))
 
-  -- the links of a node that no list owns
+  -- a node without an owner had none before, and is not in the list
   free_off : (k : ℕ) → n ≢ k → owner_at new k ≡ None → (owner_at nodes k ≡ None) × (has k (list_at l rows) ≡ false)
   free_off k other none =
       let before = sym (new_owner k other) ∙ none in
       (before, (sound.linked l within).owned k ∙ ap (is_some_of l) before)
 
-  -- so all is sound, if the list that changes is linked
+  -- all is sound if the list that changes is linked
   IsSound-node : (ys : List ℕ) (e'' : Ends) → length new ≡ length nodes → Linked new e'' l ys → IsSound new (set ends l e'') (record rows { lists = set rows.lists l ys })
   IsSound-node ys e'' long here = record {
     node_count = long ∙ sound.node_count;
@@ -225,37 +265,17 @@ module _ (nodes mid new : List Node) (ends : List Ends) (rows : Rows) (l n : ℕ
     few_nodes = sound.few_nodes;
     few_lists = omega (arith, sound.few_lists, length-set rows.lists l ys);
     known = λ k m owner.
-        let low : m < length rows.lists = elim (cases_eq m l) [
-          | inl same ↦ omega (arith, same)
-          | inr other ↦ elim (cases_eq n k) [
-            | inl same ↦ absurd (false≢true (sym (is m other) ∙ is_some_of-same m x.list (sym new_owner_here ∙ ap (owner_at new) same ∙ owner)))
-            | inr differs ↦ sound.known k m (sym (new_owner k differs) ∙ owner)
-          ]
-        ] in
+        let low : m < length rows.lists = grind (arith, nat_tests, is m, new_owner_here, new_owner k, sound.known k m) in
         omega (arith, low, length-set rows.lists l ys);
-    free_next = λ k none. elim (cases_eq n k) [
-      | inl same ↦
-          ap (next_at new) (sym same) ∙ new_next n off.0 ∙ ap (λ (x : Node). x.next) puts.here
-          ∙ (free (sym new_owner_here ∙ ap (owner_at new) same ∙ none)).0
-      | inr other ↦
-          let away = free_off k other none in
-          new_next k (parts k away.1).0 ∙ ap (λ (x : Node). x.next) (puts.others k other) ∙ sound.free_next k away.0
-    ];
-    free_previous = λ k none. elim (cases_eq n k) [
-      | inl same ↦
-          ap (previous_at new) (sym same) ∙ new_previous n off.1 ∙ ap (λ (x : Node). x.previous) puts.here
-          ∙ (free (sym new_owner_here ∙ ap (owner_at new) same ∙ none)).1
-      | inr other ↦
-          let away = free_off k other none in
-          new_previous k (parts k away.1).1 ∙ ap (λ (x : Node). x.previous) (puts.others k other) ∙ sound.free_previous k away.0
-    ];
+    free_next = λ k none. grind (arith, nat_tests, new_next n off.0, puts.here, free, new_owner_here, free_off k, parts k, new_next k, puts.others k, sound.free_next k);
+    free_previous = λ k none. grind (arith, nat_tests, new_previous n off.1, puts.here, free, new_owner_here, free_off k, parts k, new_previous k, puts.others k, sound.free_previous k);
     linked = λ m inside.
         let low : m < length rows.lists = omega (arith, inside, length-set rows.lists l ys) in
         Linked-set new ends rows.lists l m e'' ys (omega (arith, low, sound.list_count)) low here (λ other. others_linked m low other);
   }
 
 module _ (nodes mid new : List Node) (ends : List Ends) (rows : Rows) (l n : ℕ) (pre post : List ℕ) (e' : Ends) (sound : IsSound nodes ends rows) (within : l < length rows.lists) (long : length new ≡ length nodes) where
-  -- a free node joins
+  -- all is sound after a free node joins
   pub IsSound-insert : owner_at nodes n ≡ None → list_at l rows ≡ pre ++ post
       → Puts nodes mid n (record { list = Some l; previous = last pre; next = first post })
       → Rewires mid new (ends_at ends l) e' (last pre) (first post) (Some n) (Some n)
@@ -271,7 +291,7 @@ module _ (nodes mid new : List Node) (ends : List Ends) (rows : Rows) (l n : ℕ
       (pre ++ n ∷ post) (record e' { len = e'.len + 1 }) long
       (Linked-insert nodes mid new n l pre post (ends_at ends l) e' puts rewires list free)
 
-  -- a node leaves
+  -- all is sound after a node leaves
   pub IsSound-remove : list_at l rows ≡ pre ++ n ∷ post → Puts nodes mid n no_node
       → Rewires mid new (ends_at ends l) e' (last pre) (first post) (first post) (last pre)
       → IsSound new (set ends l (record e' { len = e'.len - 1 })) (record rows { lists = set rows.lists l (pre ++ post) })
@@ -289,28 +309,28 @@ module _ (nodes mid new : List Node) (ends : List Ends) (rows : Rows) (l n : ℕ
 
 -- ---- a list joins another
 
--- the back of two lists is the back of the second, or else of the first
+-- the back of two lists is that of the second, or of the first if the second is empty
 last-append : (xs ys : List ℕ) → (if is_none (last ys) then last xs else last ys) ≡ last (xs ++ ys)
 last-append xs [] = ap last (sym (append-nil xs))
 last-append xs (y ∷ ys) = cond-false _ _ _ (last_some y ys) ∙ sym (last_or-append None xs (y ∷ ys))
 
 module _ (nodes mid new : List Node) (ends : List Ends) (rows : Rows) (to from : ℕ) (e' : Ends) (back : Option ℕ) (sound : IsSound nodes ends rows) (to_within : to < length rows.lists) (from_within : from < length rows.lists) (other : to ≢ from) (gives : Gives nodes mid (Some to) (list_at from rows) []) (rewires : Rewires mid new (ends_at ends to) e' (last (list_at to rows)) (first (list_at from rows)) (first (list_at from rows)) (last (list_at to rows))) where
-  -- the owners
+  -- the owners after the change
   moved_owner : (k : ℕ) → has k (list_at from rows) ≡ true → owner_at new k ≡ Some to
   moved_owner k there = rewires.owners k ∙ gives.owners k ∙ cond-true _ _ _ there
 
   same_owner : (k : ℕ) → has k (list_at from rows) ≡ false → owner_at new k ≡ owner_at nodes k
   same_owner k absent = rewires.owners k ∙ gives.owners k ∙ cond-false _ _ _ absent
 
-  -- a node off both lists keeps its links
+  -- a node that is not in the list `to` keeps its next node
   far_next : (k : ℕ) → has k (list_at to rows) ≡ false → next_at new k ≡ next_at nodes k
   far_next k absent = rewires.nexts k ∙ cond-false _ _ _ (last_off (list_at to rows) k absent) ∙ gives.nexts k
 
-  -- the same of the way back
+  -- a node that is not in the list `from` keeps its previous node
   far_previous : (k : ℕ) → has k (list_at from rows) ≡ false → previous_at new k ≡ previous_at nodes k
   far_previous k absent = rewires.previous k ∙ cond-false _ _ _ (first_off (list_at from rows) k absent) ∙ gives.previous k
 
-  -- the list that is joined is linked
+  -- the joined list is linked
   Linked-append : back ≡ (if is_none (last (list_at from rows)) then last (list_at to rows) else last (list_at from rows)) → Linked new (record { len = e'.len + (ends_at ends from).len; front = e'.front; back = back }) to (list_at to rows ++ list_at from rows)
   Linked-append back_is =
       let xs = list_at to rows in
@@ -332,26 +352,19 @@ module _ (nodes mid new : List Node) (ends : List Ends) (rows : Rows) (to from :
         leads_back = LeadsBack-join (previous_at nodes) (previous_at new) None None xs ys head.leads_back tail.leads_back parts
             (λ k. rewires.previous k ∙ ap (λ o. if is_some_of k (first ys) then last xs else o) (gives.previous k));
         apart = IsApart-append xs ys parts;
-        owned = λ k. elim (cases_Bool (has k ys)) [
-          | inl there ↦ has_right k xs ys there ∙ sym (is_some_of-same to (owner_at new k) (moved_owner k there))
-          | inr absent ↦
-              has-append k xs ys ∙ ap (λ b. has k xs || b) absent ∙ or_false (has k xs) ∙ head.owned k ∙ ap (is_some_of to) (sym (same_owner k absent))
-        ];
+        owned = λ k. grind (arith, nat_tests, has-append k xs ys, moved_owner k, same_owner k, head.owned k);
       }
 
   -- the list that has left is empty
-  emptied : Linked new no_ends from []
-  emptied = record {
+  Linked-empty : Linked new no_ends from []
+  Linked-empty = record {
     len = refl;
     front = refl;
     back = refl;
     leads_on = tt;
     leads_back = tt;
     apart = tt;
-    owned = λ k. elim (cases_Bool (has k (list_at from rows))) [
-      | inl there ↦ sym (ap (is_some_of from) (moved_owner k there) ∙ ne_eqb to from other)
-      | inr absent ↦ sym absent ∙ (sound.linked from from_within).owned k ∙ ap (is_some_of from) (sym (same_owner k absent))
-    ];
+    owned = λ k. grind (arith, nat_tests, other, moved_owner k, same_owner k, (sound.linked from from_within).owned k);
   }
 
   -- every other list stays linked
@@ -364,14 +377,9 @@ module _ (nodes mid new : List Node) (ends : List Ends) (rows : Rows) (to from :
       Linked-kept nodes new (ends_at ends m) m (list_at m rows) list
       (λ k there. far_next k (off to to_within not_to k there))
       (λ k there. far_previous k (off from from_within not_from k there))
-      (λ k. elim (cases_Bool (has k (list_at from rows))) [
-        | inl there ↦
-            ap (is_some_of m) (moved_owner k there) ∙ ne_eqb to m (λ same. not_to (sym same))
-            ∙ sym (ap (is_some_of m) (some_of from (owner_at nodes k) (sym ((sound.linked from from_within).owned k) ∙ there)) ∙ ne_eqb from m (λ same. not_from (sym same)))
-        | inr absent ↦ ap (is_some_of m) (same_owner k absent)
-      ])
+      (λ k. grind (arith, nat_tests, not_to, not_from, moved_owner k, same_owner k, (sound.linked from from_within).owned k))
 
-  -- a node that no list owns was free, and is on neither list
+  -- a node without an owner had none before, and is in neither list
   far_free : (k : ℕ) → owner_at new k ≡ None → (owner_at nodes k ≡ None) × (has k (list_at to rows) ≡ false) × (has k (list_at from rows) ≡ false)
   far_free k none =
       elim (cases_Bool (has k (list_at from rows))) [
@@ -381,7 +389,7 @@ module _ (nodes mid new : List Node) (ends : List Ends) (rows : Rows) (to from :
             (before, (sound.linked to to_within).owned k ∙ ap (is_some_of to) before, absent)
       ]
 
-  -- all of one list goes behind another
+  -- all is sound after one list has joined another
   pub IsSound-append : length new ≡ length nodes → back ≡ (if is_none (last (list_at from rows)) then last (list_at to rows) else last (list_at from rows))
       → IsSound new (set (set ends to (record { len = e'.len + (ends_at ends from).len; front = e'.front; back = back })) from no_ends) (record rows { lists = set (set rows.lists to (list_at to rows ++ list_at from rows)) from [] })
   IsSound-append long back_is =
@@ -396,16 +404,13 @@ module _ (nodes mid new : List Node) (ends : List Ends) (rows : Rows) (to from :
         few_nodes = sound.few_nodes;
         few_lists = omega (arith, sound.few_lists, all_long);
         known = λ k m owner.
-            let low : m < length rows.lists = elim (cases_Bool (has k (list_at from rows))) [
-              | inl there ↦ omega (arith, same_Some to m (sym (moved_owner k there) ∙ owner))
-              | inr absent ↦ sound.known k m (sym (same_owner k absent) ∙ owner)
-            ] in
+            let low : m < length rows.lists = grind (arith, nat_tests, moved_owner k, same_owner k, sound.known k m) in
             omega (arith, low, all_long);
         free_next = λ k none. let far = far_free k none in far_next k far.1 ∙ sound.free_next k far.0;
         free_previous = λ k none. let far = far_free k none in far_previous k far.2 ∙ sound.free_previous k far.0;
         linked = λ m inside.
             let low : m < length rows.lists = omega (arith, inside, all_long) in
-            Linked-set new (set ends to e) (set rows.lists to joined) from m no_ends [] (omega (arith, low, ends_long, sound.list_count)) (omega (arith, low, lists_long)) emptied
+            Linked-set new (set ends to e) (set rows.lists to joined) from m no_ends [] (omega (arith, low, ends_long, sound.list_count)) (omega (arith, low, lists_long)) Linked-empty
             (λ not_from.
             Linked-set new ends rows.lists to m e joined (omega (arith, low, sound.list_count)) low (Linked-append back_is)
             (λ not_to. far_linked m low not_to not_from));

@@ -1,5 +1,5 @@
--- A node joins a list before a given one, or leaves the one that it is in: the places, and what the writes leave.
-use Rattle.std.proofs.Common.{◌≡◌, ◌≢◌, ℕ, ◌+◌, ◌-◌, ◌<◌, ◌≤◌, true, ◌||◌, ◌==◌, List, [], ◌∷◌, ◌++◌, map, length, get_or, set, Option, Some, None, IsSome, IfSome, is_none, if◌then◌else◌, refl, sym, ap, ◌∙◌, subst, inl, inr, arith}
+-- A node joins a list before a given one, or leaves its list: the place, and what the writes leave.
+use Rattle.std.proofs.Common.{◌≡◌, ◌≢◌, ℕ, ◌+◌, ◌-◌, ◌<◌, ◌≤◌, true, ◌||◌, ◌==◌, List, [], ◌∷◌, ◌++◌, map, length, get_or, set, Option, Some, None, IsSome, is_none, if◌then◌else◌, refl, sym, ap, ◌∙◌, subst, inl, inr, arith}
 use Rattle.std.proofs.lemmas.Bool.{cond-true, eq-eqb, ne_eqb, or_cases, false≢true}
 use Rattle.std.proofs.lemmas.List.{append-nil, append_assoc, length-append}
 use Rattle.std.proofs.lemmas.Option.{none-some}
@@ -9,19 +9,18 @@ use Rattle.strm_links.specs.declared.links.Ends.{Ends}
 use Rattle.strm_links.specs.Rows.{Rows, has, IsApart, is_some_of, first, last, after, before, without, put_before, put_in, list_at, holder}
 use Rattle.strm_links.specs.Layout.{no_node, no_ends, node_at, walk, owner_at, previous_at, next_at, ends_at, IsSound}
 use Rattle.strm_links.proofs.lists.OneList.{has_tail, has_cases, has_left, has_right, upto, beyond, split_at, absent_upto, absent_around, before-at, after-at, without-at, put_before-at, has-append, has-push_back, has-put_before, IsApart-append, length_below, first_has, is_some_of-same, last_has, number_of}
-use Rattle.strm_links.proofs.linking.Giving.{Gives}
+use Rattle.strm_links.proofs.linking.Changes.{Rewires-same, Gives, Puts, Rewires, Puts-set, IsSound-insert, IsSound-remove, IsSound-append}
 use Rattle.strm_links.proofs.lists.AllLists.{map-without, holder-insert_here, holder-insert_other}
 use Rattle.strm_links.proofs.lists.ListLinks.{next_is, previous_is, walk_is}
 use Rattle.strm_links.proofs.linking.Shown.{node_read, holder-owner, owner_from, has_owned, listed_within, node_within, apart_all}
-use Rattle.strm_links.proofs.linking.Changes.{Puts, Rewires, Puts-set, IsSound-insert, IsSound-remove, IsSound-append}
 
--- ---- the place before a node, or behind all
+-- ---- the place before a node, or at the back
 
--- what stands before the place, and what stands behind it
+-- the part of the list before the place
 abbrev pub pre_of : Option ℕ → List ℕ → List ℕ
 pre_of next xs = option_map_or (λ at. upto at xs) next xs
 
--- what stands behind it
+-- the part of the list from the place on
 abbrev pub post_of : Option ℕ → List ℕ → List ℕ
 post_of next xs = option_map_or (λ at. at ∷ beyond at xs) next []
 
@@ -31,27 +30,27 @@ module _ (xs : List ℕ) where
   split_is None there = sym (append-nil xs)
   split_is (Some at) there = split_at at xs (there at refl)
 
-  -- the place is before what comes first behind it
+  -- the second part begins with the node that the place is before
   first-post_of : (next : Option ℕ) → first (post_of next xs) ≡ next
   first-post_of None = refl
   first-post_of (Some at) = refl
 
-  -- a node put there stands between the two parts
+  -- a node that joins at the place is between the two parts
   put_in-at : (next : Option ℕ) (n : ℕ) → ((at : ℕ) → next ≡ Some at → has at xs ≡ true) → put_in next n xs ≡ pre_of next xs ++ n ∷ post_of next xs
   put_in-at None n there = refl
   put_in-at (Some at) n there = ap (put_before at n) (split_at at xs (there at refl)) ∙ put_before-at (upto at xs) (beyond at xs) at n (absent_upto at xs)
 
-  -- what stands before the place is the last of the first part
+  -- the node before the place is the last of the first part
   ahead_is : (previous : ℕ → Option ℕ) (back : Option ℕ) (next : Option ℕ) → ((at : ℕ) → has at xs ≡ true → previous at ≡ last (upto at xs)) → back ≡ last xs → ((at : ℕ) → next ≡ Some at → has at xs ≡ true) → option_map_or previous next back ≡ last (pre_of next xs)
   ahead_is previous back None before end there = end
   ahead_is previous back (Some at) before end there = before at (there at refl)
 
--- what a list has then
+-- the list has the new node and what it had
 has-put_in : (next : Option ℕ) (n k : ℕ) (xs : List ℕ) → ((at : ℕ) → next ≡ Some at → has at xs ≡ true) → has k (put_in next n xs) ≡ ((n == k) || has k xs)
 has-put_in None n k xs there = has-push_back k n xs
 has-put_in (Some at) n k xs there = has-put_before k at n xs (there at refl)
 
--- the front of a list is the place of its front
+-- a node that joins before the front is the new front
 pub put_in-first : (n : ℕ) (xs : List ℕ) → put_in (first xs) n xs ≡ n ∷ xs
 put_in-first n [] = refl
 put_in-first n (x ∷ xs) = cond-true _ _ _ (eq-eqb x x refl)
@@ -59,24 +58,24 @@ put_in-first n (x ∷ xs) = cond-true _ _ _ (eq-eqb x x refl)
 -- ---- neighbours
 
 module _ (nodes : List Node) (ends : List Ends) (rows : Rows) (sound : IsSound nodes ends rows) (l : ℕ) (within : l < length rows.lists) where
-  -- the stored neighbours of a node of the list
+  -- the stored previous node is the last of those before k
   pub previous-last : (k : ℕ) → has k (list_at l rows) ≡ true → previous_at nodes k ≡ last (upto k (list_at l rows))
   previous-last k there =
       previous_is (previous_at nodes) None (list_at l rows) k (sound.linked l within).leads_back there
       ∙ ap (before k) (split_at k (list_at l rows) there) ∙ before-at (upto k (list_at l rows)) (beyond k (list_at l rows)) k (absent_upto k (list_at l rows))
 
-  -- the one behind it
+  -- the stored next node is the first of those after k
   pub next-first : (k : ℕ) → has k (list_at l rows) ≡ true → next_at nodes k ≡ first (beyond k (list_at l rows))
   next-first k there =
       next_is (next_at nodes) (list_at l rows) k (sound.linked l within).leads_on there
       ∙ ap (after k) (split_at k (list_at l rows) there) ∙ after-at (upto k (list_at l rows)) (beyond k (list_at l rows)) k (absent_upto k (list_at l rows))
 
-  -- the end of a part of the list is a node
+  -- the last of a part of the list is a node
   pub last_within : (pre post : List ℕ) (k : ℕ) → list_at l rows ≡ pre ++ post → last pre ≡ Some k → k < length nodes
   last_within pre post k split is =
       listed_within nodes ends rows sound l k within (ap (has k) split ∙ has_left k pre post (last_has pre k (is_some_of-same k (last pre) is)))
 
-  -- the same of the front of a part
+  -- the first of a part of the list is a node
   pub first_within : (pre post : List ℕ) (k : ℕ) → list_at l rows ≡ pre ++ post → first post ≡ Some k → k < length nodes
   first_within pre post k split is =
       listed_within nodes ends rows sound l k within (ap (has k) split ∙ has_right k pre post (first_has post k (is_some_of-same k (first post) is)))
@@ -85,58 +84,53 @@ module _ (nodes : List Node) (ends : List Ends) (rows : Rows) (sound : IsSound n
 
 module _ (nodes : List Node) (ends : List Ends) (rows : Rows) (sound : IsSound nodes ends rows) (l n : ℕ) (next : Option ℕ) (within : l < length rows.lists) (inside : n < rows.nodes) (free : holder n rows ≡ None) (there : (at : ℕ) → next ≡ Some at → holder at rows ≡ Some l) where
   -- the node has no owner
-  unowned : owner_at nodes n ≡ None
-  unowned = sym (holder-owner nodes ends rows sound n) ∙ free
+  owner_none : owner_at nodes n ≡ None
+  owner_none = sym (holder-owner nodes ends rows sound n) ∙ free
 
   -- the list has the node at the place
   joined_has : (at : ℕ) → next ≡ Some at → has at (list_at l rows) ≡ true
   joined_has at is = has_owned nodes ends rows sound l at (sym (holder-owner nodes ends rows sound at) ∙ there at is)
 
-  -- that is a node
+  -- the node at the place is a node of the arena
   pub joined_next_within : (at : ℕ) → next ≡ Some at → at < length nodes
   joined_next_within at is = listed_within nodes ends rows sound l at within (joined_has at is)
 
-  -- what stands before the place
+  -- what the code reads as the previous node is the last of the first part
   pub joined_ahead : option_map_or (λ k. previous_at nodes k) next (ends_at ends l).back ≡ last (pre_of next (list_at l rows))
   joined_ahead = ahead_is (list_at l rows) (previous_at nodes) (ends_at ends l).back next (previous-last nodes ends rows sound l within) (sound.linked l within).back joined_has
 
-  -- that is a node too
+  -- it is a node of the arena
   pub joined_ahead_within : (k : ℕ) → option_map_or (λ j. previous_at nodes j) next (ends_at ends l).back ≡ Some k → k < length nodes
   joined_ahead_within k is = last_within nodes ends rows sound l within (pre_of next (list_at l rows)) (post_of next (list_at l rows)) k (split_is (list_at l rows) next joined_has) (sym joined_ahead ∙ is)
 
-  -- a list that a node may join is shorter than the nodes are many
+  -- a list that lacks a node is shorter than the number of nodes
   pub joined_len : (ends_at ends l).len < rows.nodes
   joined_len =
       let list = sound.linked l within in
-      let most = length_below (length nodes) (n ∷ list_at l rows) (list.owned n ∙ ap (is_some_of l) unowned, list.apart)
+      let most = length_below (length nodes) (n ∷ list_at l rows) (list.owned n ∙ ap (is_some_of l) owner_none, list.apart)
       (λ k found. elim (has_cases n k (list_at l rows) found) [
         | inl same ↦ omega (arith, same, sound.node_count)
         | inr later ↦ listed_within nodes ends rows sound l k within later
       ]) in
       omega (arith, list.len, most, sound.node_count)
 
-  -- what the writes leave is sound
-  pub joined : (new : List Node) (list p own : Option ℕ) (e e' : Ends) → length new ≡ length nodes → list ≡ Some l → own ≡ Some n → e ≡ ends_at ends l → p ≡ option_map_or (λ k. previous_at nodes k) next e.back
+  -- the nodes and the ends are sound after the writes
+  pub IsSound-joined : (new : List Node) (list p own : Option ℕ) (e e' : Ends) → length new ≡ length nodes → list ≡ Some l → own ≡ Some n → e ≡ ends_at ends l → p ≡ option_map_or (λ k. previous_at nodes k) next e.back
       → Rewires (set nodes n (record { list = list; previous = p; next = next })) new e e' p next own own
       → IsSound new (set ends l (record e' { len = e'.len + 1 })) (record rows { lists = set rows.lists l (put_in next n (list_at l rows)) })
-  joined new list p own e e' long list_is own_is e_is p_is rewires =
+  IsSound-joined new list p own e e' long list_is own_is e_is p_is rewires =
       let pre = pre_of next (list_at l rows) in
       let post = post_of next (list_at l rows) in
       let mid = set nodes n (record { list = list; previous = p; next = next }) in
-      let Written : Option ℕ → Option ℕ → Option ℕ → Option ℕ → Ends → Type 0 =
-      λ m q a o f. Puts nodes mid n (record { list = m; previous = q; next = a }) × Rewires mid new f e' q a o o in
-      let given : Written list p next own e = (Puts-set nodes n _ (omega (arith, inside, sound.node_count)), rewires) in
-      let at_ends : Written list p next own (ends_at ends l) = subst (Written list p next own) e_is given in
-      let at_list : Written (Some l) p next own (ends_at ends l) = subst (λ m. Written m p next own (ends_at ends l)) list_is at_ends in
-      let at_own : Written (Some l) p next (Some n) (ends_at ends l) = subst (λ o. Written (Some l) p next o (ends_at ends l)) own_is at_list in
-      let ahead = p_is ∙ ap (λ (f : Ends). option_map_or (λ k. previous_at nodes k) next f.back) e_is ∙ joined_ahead in
-      let at_ahead : Written (Some l) (last pre) next (Some n) (ends_at ends l) = subst (λ q. Written (Some l) q next (Some n) (ends_at ends l)) ahead at_own in
-      let written : Written (Some l) (last pre) (first post) (Some n) (ends_at ends l) =
-      subst (λ a. Written (Some l) (last pre) a (Some n) (ends_at ends l)) (sym (first-post_of (list_at l rows) next)) at_ahead in
+      let ahead : p ≡ last pre = p_is ∙ ap (λ (f : Ends). option_map_or (λ k. previous_at nodes k) next f.back) e_is ∙ joined_ahead in
+      let on : next ≡ first post = sym (first-post_of (list_at l rows) next) in
+      let puts : Puts nodes mid n (record { list = Some l; previous = last pre; next = first post }) =
+      subst (Puts nodes mid n) (λ i. record { list = list_is i; previous = ahead i; next = on i }) (Puts-set nodes n _ (omega (arith, inside, sound.node_count))) in
+      let written : Rewires mid new (ends_at ends l) e' (last pre) (first post) (Some n) (Some n) = Rewires-same rewires e_is ahead on own_is own_is in
       rw (put_in-at (list_at l rows) next n joined_has)
-      (IsSound-insert nodes mid new ends rows l n pre post e' sound within long unowned (split_is (list_at l rows) next joined_has) written.0 written.1)
+      (IsSound-insert nodes mid new ends rows l n pre post e' sound within long owner_none (split_is (list_at l rows) next joined_has) puts written)
 
-  -- who holds what then
+  -- what the list has after the writes
   put_in_has : (k : ℕ) → has k (put_in next n (list_at l rows)) ≡ ((n == k) || has k (list_at l rows))
   put_in_has k = has-put_in next n k (list_at l rows) joined_has
 
@@ -144,16 +138,11 @@ module _ (nodes : List Node) (ends : List Ends) (rows : Rows) (sound : IsSound n
   pub joined_holder : holder n (record rows { lists = set rows.lists l (put_in next n (list_at l rows)) }) ≡ Some l
   joined_holder = holder-insert_here rows (apart_all nodes ends rows sound) n l _ within free (put_in_has n)
 
-  -- and every other node is held as before
+  -- every other node is held as before
   pub other_holder : (k : ℕ) → k ≢ n → holder k (record rows { lists = set rows.lists l (put_in next n (list_at l rows)) }) ≡ holder k rows
   other_holder k = holder-insert_other rows (apart_all nodes ends rows sound) n l k _ within free (put_in_has k)
 
--- ---- what the ends and the links name
-
--- what is true of the number, if there is one
-pub IfSome-from : (o : Option ℕ) (P : ℕ → Type 0) → ((k : ℕ) → o ≡ Some k → P k) → IfSome o P
-IfSome-from None P each = tt
-IfSome-from (Some k) P each = each k refl
+-- ---- what the stored ends and links name
 
 module _ (nodes : List Node) (ends : List Ends) (rows : Rows) (sound : IsSound nodes ends rows) (l : ℕ) (within : l < length rows.lists) (e : Ends) (e_is : e ≡ ends_at ends l) where
   -- the stored ends are those of the list
@@ -163,11 +152,11 @@ module _ (nodes : List Node) (ends : List Ends) (rows : Rows) (sound : IsSound n
   pub back_is : e.back ≡ last (list_at l rows)
   back_is = ap (λ (f : Ends). f.back) e_is ∙ (sound.linked l within).back
 
-  -- a node of the list is held by it
+  -- a node in the list is held by it
   pub listed_holder : (k : ℕ) → has k (list_at l rows) ≡ true → holder k rows ≡ Some l
   listed_holder k there = holder-owner nodes ends rows sound k ∙ owner_from nodes ends rows sound l k within there
 
-  -- so are the ends
+  -- the list holds its front and its back
   pub front_holder : (k : ℕ) → e.front ≡ Some k → holder k rows ≡ Some l
   front_holder k is = listed_holder k (first_has (list_at l rows) k (is_some_of-same k (first (list_at l rows)) (sym front_is ∙ is)))
 
@@ -175,92 +164,75 @@ module _ (nodes : List Node) (ends : List Ends) (rows : Rows) (sound : IsSound n
   back_holder k is = listed_holder k (last_has (list_at l rows) k (is_some_of-same k (last (list_at l rows)) (sym back_is ∙ is)))
 
 module _ (nodes : List Node) (ends : List Ends) (rows : Rows) (sound : IsSound nodes ends rows) where
-  -- a node that a list holds is a node
+  -- a node that a list holds is a node of the arena
   pub holder_within : (k l : ℕ) → holder k rows ≡ Some l → k < rows.nodes
   holder_within k l is = omega (arith, node_within nodes k l (sym (holder-owner nodes ends rows sound k) ∙ is), sound.node_count)
 
-  -- the list of a node that has a neighbour
-  next_list : (k j : ℕ) → next_at nodes k ≡ Some j → (l : ℕ) × (holder k rows ≡ Some l) × (holder j rows ≡ Some l)
-  next_list k j at =
-      elim (owner_at nodes k) as (λ o. owner_at nodes k ≡ o → (l : ℕ) × (holder k rows ≡ Some l) × (holder j rows ≡ Some l)) [
-        | None ↦ λ is. absurd (none-some j (sym (sound.free_next k is) ∙ at))
+  -- a node that is in the list of k is held as k is
+  neighbour : (k j : ℕ) → owner_at nodes k ≢ None → ((l : ℕ) → owner_at nodes k ≡ Some l → has j (list_at l rows) ≡ true) → (holder j rows ≡ holder k rows) × (j < rows.nodes)
+  neighbour k j owned beside =
+      elim (owner_at nodes k) as (λ o. owner_at nodes k ≡ o → (holder j rows ≡ holder k rows) × (j < rows.nodes)) [
+        | None ↦ λ is. absurd (owned is)
         | Some l ↦ λ is.
-            let within = sound.known k l is in
-            let xs = list_at l rows in
-            let there = has_owned nodes ends rows sound l k is in
-            let behind = first_has (beyond k xs) j (is_some_of-same j (first (beyond k xs)) (sym (next-first nodes ends rows sound l within k there) ∙ at)) in (
-              l,
-              holder-owner nodes ends rows sound k ∙ is,
-              listed_holder nodes ends rows sound l within (ends_at ends l) refl j
-                  (ap (has j) (split_at k xs there) ∙ has_right j (upto k xs) (k ∷ beyond k xs) (has_tail k j (beyond k xs) behind)),
-            )
+            let held = listed_holder nodes ends rows sound l (sound.known k l is) (ends_at ends l) refl j (beside l is) in
+            (held ∙ sym (holder-owner nodes ends rows sound k ∙ is), holder_within j l held)
       ] refl
 
-  -- the same of the node before it
-  previous_list : (k j : ℕ) → previous_at nodes k ≡ Some j → (l : ℕ) × (holder k rows ≡ Some l) × (holder j rows ≡ Some l)
-  previous_list k j at =
-      elim (owner_at nodes k) as (λ o. owner_at nodes k ≡ o → (l : ℕ) × (holder k rows ≡ Some l) × (holder j rows ≡ Some l)) [
-        | None ↦ λ is. absurd (none-some j (sym (sound.free_previous k is) ∙ at))
-        | Some l ↦ λ is.
-            let within = sound.known k l is in
-            let xs = list_at l rows in
-            let there = has_owned nodes ends rows sound l k is in
-            let ahead = last_has (upto k xs) j (is_some_of-same j (last (upto k xs)) (sym (previous-last nodes ends rows sound l within k there) ∙ at)) in (
-              l,
-              holder-owner nodes ends rows sound k ∙ is,
-              listed_holder nodes ends rows sound l within (ends_at ends l) refl j
-                  (ap (has j) (split_at k xs there) ∙ has_left j (upto k xs) (k ∷ beyond k xs) ahead),
-            )
-      ] refl
+  -- the next node is in the list of k
+  pub next_neighbour : (k j : ℕ) → next_at nodes k ≡ Some j → (holder j rows ≡ holder k rows) × (j < rows.nodes)
+  next_neighbour k j at =
+      neighbour k j (λ none. none-some j (sym (sound.free_next k none) ∙ at))
+      (λ l is.
+      let xs = list_at l rows in
+      let there = has_owned nodes ends rows sound l k is in
+      let behind = first_has (beyond k xs) j (is_some_of-same j (first (beyond k xs)) (sym (next-first nodes ends rows sound l (sound.known k l is) k there) ∙ at)) in
+      ap (has j) (split_at k xs there) ∙ has_right j (upto k xs) (k ∷ beyond k xs) (has_tail k j (beyond k xs) behind))
 
-  -- a neighbour is held by the same list, and is a node
-  pub next_holder : (k j : ℕ) → next_at nodes k ≡ Some j → holder j rows ≡ holder k rows
-  next_holder k j at = let list = next_list k j at in list.2 ∙ sym list.1
-
-  pub next_within : (k j : ℕ) → next_at nodes k ≡ Some j → j < rows.nodes
-  next_within k j at = let list = next_list k j at in holder_within j list.0 list.2
-
-  pub previous_holder : (k j : ℕ) → previous_at nodes k ≡ Some j → holder j rows ≡ holder k rows
-  previous_holder k j at = let list = previous_list k j at in list.2 ∙ sym list.1
-
-  pub previous_within : (k j : ℕ) → previous_at nodes k ≡ Some j → j < rows.nodes
-  previous_within k j at = let list = previous_list k j at in holder_within j list.0 list.2
+  -- the previous node is in the list of k
+  pub previous_neighbour : (k j : ℕ) → previous_at nodes k ≡ Some j → (holder j rows ≡ holder k rows) × (j < rows.nodes)
+  previous_neighbour k j at =
+      neighbour k j (λ none. none-some j (sym (sound.free_previous k none) ∙ at))
+      (λ l is.
+      let xs = list_at l rows in
+      let there = has_owned nodes ends rows sound l k is in
+      let ahead = last_has (upto k xs) j (is_some_of-same j (last (upto k xs)) (sym (previous-last nodes ends rows sound l (sound.known k l is) k there) ∙ at)) in
+      ap (has j) (split_at k xs there) ∙ has_left j (upto k xs) (k ∷ beyond k xs) ahead)
 
 -- ---- a node that some list holds
 
 module _ (nodes : List Node) (ends : List Ends) (rows : Rows) (sound : IsSound nodes ends rows) (n : ℕ) (some : IsSome (holder n rows)) where
-  -- it is a node
+  -- it is a node of the arena
   pub held_within : n < rows.nodes
   held_within =
       let list = number_of (holder n rows) some in
       omega (arith, node_within nodes n list.0 (sym (holder-owner nodes ends rows sound n) ∙ list.1), sound.node_count)
 
-  -- what is read of it
+  -- what the code reads is that node
   pub held_node : (x : Node) → x ≡ get_or nodes n x → x ≡ node_at nodes n
   held_node x read = node_read nodes ends rows sound n x held_within read
 
-  -- the list that is read holds it
+  -- the stored list holds it
   pub held_list : (x : Node) → x ≡ get_or nodes n x → holder n rows ≡ x.list
   held_list x read = holder-owner nodes ends rows sound n ∙ sym (ap (λ (y : Node). y.list) (held_node x read))
 
 -- ---- a node leaves
 
 module _ (nodes : List Node) (ends : List Ends) (rows : Rows) (sound : IsSound nodes ends rows) (l n : ℕ) (is : holder n rows ≡ Some l) where
-  -- its owner is that list
-  owned : owner_at nodes n ≡ Some l
-  owned = sym (holder-owner nodes ends rows sound n) ∙ is
+  -- its stored owner is that list
+  owner_is : owner_at nodes n ≡ Some l
+  owner_is = sym (holder-owner nodes ends rows sound n) ∙ is
 
   pub left_list : l < length rows.lists
-  left_list = sound.known n l owned
+  left_list = sound.known n l owner_is
 
   pub left_node : n < length nodes
-  left_node = node_within nodes n l owned
+  left_node = node_within nodes n l owner_is
 
   -- the list has it
   left_has : has n (list_at l rows) ≡ true
-  left_has = has_owned nodes ends rows sound l n owned
+  left_has = has_owned nodes ends rows sound l n owner_is
 
-  -- and is split at it
+  -- the list is the part before it, the node and the part after it
   left_split : list_at l rows ≡ upto n (list_at l rows) ++ n ∷ beyond n (list_at l rows)
   left_split = split_at n (list_at l rows) left_has
 
@@ -274,39 +246,36 @@ module _ (nodes : List Node) (ends : List Ends) (rows : Rows) (sound : IsSound n
   pub left_len : 0 < (ends_at ends l).len
   left_len = omega (arith, (sound.linked l left_list).len, ap length left_split, length-append (upto n (list_at l rows)) (n ∷ beyond n (list_at l rows)))
 
-  -- what the writes leave is sound
-  pub left : (new : List Node) (x free : Node) (e e' : Ends) → length new ≡ length nodes → x ≡ node_at nodes n → free ≡ no_node → e ≡ ends_at ends l
+  -- the nodes and the ends are sound after the writes
+  pub IsSound-left : (new : List Node) (x free : Node) (e e' : Ends) → length new ≡ length nodes → x ≡ node_at nodes n → free ≡ no_node → e ≡ ends_at ends l
       → Rewires (set nodes n free) new e e' x.previous x.next x.next x.previous
       → IsSound new (set ends l (record e' { len = e'.len - 1 })) (record rows { lists = map (without n) rows.lists })
-  left new x free e e' long x_is free_is e_is rewires =
+  IsSound-left new x free e e' long x_is free_is e_is rewires =
       let list = list_at l rows in
       let pre = upto n list in
       let post = beyond n list in
       let off = absent_around pre post n (subst IsApart left_split (sound.linked l left_list).apart) in
-      let Written : Node → Ends → Option ℕ → Option ℕ → Type 0 = λ y f q a. Rewires (set nodes n y) new f e' q a a q in
-      let at_free : Written no_node e x.previous x.next = subst (λ y. Written y e x.previous x.next) free_is rewires in
-      let at_ends : Written no_node (ends_at ends l) x.previous x.next = subst (λ f. Written no_node f x.previous x.next) e_is at_free in
-      let at_previous : Written no_node (ends_at ends l) (last pre) x.next =
-      subst (λ q. Written no_node (ends_at ends l) q x.next) (ap (λ (y : Node). y.previous) x_is ∙ previous-last nodes ends rows sound l left_list n left_has) at_ends in
-      let written : Written no_node (ends_at ends l) (last pre) (first post) =
-      subst (λ a. Written no_node (ends_at ends l) (last pre) a) (ap (λ (y : Node). y.next) x_is ∙ next-first nodes ends rows sound l left_list n left_has) at_previous in
+      let behind : x.next ≡ first post = ap (λ (y : Node). y.next) x_is ∙ next-first nodes ends rows sound l left_list n left_has in
+      let ahead : x.previous ≡ last pre = ap (λ (y : Node). y.previous) x_is ∙ previous-last nodes ends rows sound l left_list n left_has in
+      let puts : Puts nodes (set nodes n free) n no_node = subst (Puts nodes (set nodes n free) n) free_is (Puts-set nodes n free left_node) in
+      let written : Rewires (set nodes n free) new (ends_at ends l) e' (last pre) (first post) (first post) (last pre) = Rewires-same rewires e_is ahead behind behind ahead in
       let lists : map (without n) rows.lists ≡ set rows.lists l (pre ++ post) =
       map-without rows (apart_all nodes ends rows sound) n l is
       ∙ ap (set rows.lists l) (ap (without n) left_split ∙ without-at pre post n off.0 off.1) in
-      rw lists (IsSound-remove nodes (set nodes n no_node) new ends rows l n pre post e' sound left_list long left_split (Puts-set nodes n no_node left_node) written)
+      rw lists (IsSound-remove nodes (set nodes n free) new ends rows l n pre post e' sound left_list long left_split puts written)
 
 -- ---- a list joins another
 
 module _ (nodes : List Node) (ends : List Ends) (rows : Rows) (sound : IsSound nodes ends rows) (l : ℕ) (within : l < length rows.lists) (e : Ends) (e_is : e ≡ ends_at ends l) where
   -- the walk between the ends of a list finds it
-  pub walked : walk (next_at nodes) e.len e.front ≡ list_at l rows
-  walked =
+  pub walk_list : walk (next_at nodes) e.len e.front ≡ list_at l rows
+  walk_list =
       let list = sound.linked l within in
       rw (e_is, list.len, list.front) (walk_is (next_at nodes) (list_at l rows) None list.leads_on)
 
-  -- its nodes are nodes
-  pub walked_within : (k : ℕ) → has k (walk (next_at nodes) e.len e.front) ≡ true → k < length nodes
-  walked_within k found = listed_within nodes ends rows sound l k within (ap (has k) (sym walked) ∙ found)
+  -- each number that the walk finds is a node of the arena
+  pub walk_within : (k : ℕ) → has k (walk (next_at nodes) e.len e.front) ≡ true → k < length nodes
+  walk_within k found = listed_within nodes ends rows sound l k within (ap (has k) (sym walk_list) ∙ found)
 
   pub front_within : (k : ℕ) → e.front ≡ Some k → k < length nodes
   front_within k is = first_within nodes ends rows sound l within [] (list_at l rows) k refl (sym (ap (λ (f : Ends). f.front) e_is ∙ (sound.linked l within).front) ∙ is)
@@ -315,7 +284,7 @@ module _ (nodes : List Node) (ends : List Ends) (rows : Rows) (sound : IsSound n
   back_within k is = last_within nodes ends rows sound l within (list_at l rows) [] k (sym (append-nil (list_at l rows))) (sym (ap (λ (f : Ends). f.back) e_is ∙ (sound.linked l within).back) ∙ is)
 
 module _ (nodes : List Node) (ends : List Ends) (rows : Rows) (sound : IsSound nodes ends rows) (to from : ℕ) (to_within : to < length rows.lists) (from_within : from < length rows.lists) (other : to ≢ from) where
-  -- two lists together are no longer than the nodes are many
+  -- two lists together are no longer than the number of nodes
   pub both_len : (ends_at ends to).len + (ends_at ends from).len ≤ rows.nodes
   both_len =
       let head = sound.linked to to_within in
@@ -335,8 +304,8 @@ module _ (nodes : List Node) (ends : List Ends) (rows : Rows) (sound : IsSound n
       ]) in
       omega (arith, most, head.len, tail.len, sound.node_count, length-append xs ys)
 
-  -- what the writes leave is sound
-  pub appended : (mid new : List Node) (list : Option ℕ) (e f e' empty : Ends) (back : Option ℕ) → length new ≡ length nodes → list ≡ Some to → e ≡ ends_at ends to → f ≡ ends_at ends from → empty ≡ no_ends
+  -- the nodes and the ends are sound after the writes
+  pub IsSound-appended : (mid new : List Node) (list : Option ℕ) (e f e' empty : Ends) (back : Option ℕ) → length new ≡ length nodes → list ≡ Some to → e ≡ ends_at ends to → f ≡ ends_at ends from → empty ≡ no_ends
       → length mid ≡ length nodes
       → ((k : ℕ) → owner_at mid k ≡ (if has k (walk (next_at nodes) f.len f.front) then list else owner_at nodes k))
       → ((k : ℕ) → next_at mid k ≡ next_at nodes k)
@@ -344,22 +313,19 @@ module _ (nodes : List Node) (ends : List Ends) (rows : Rows) (sound : IsSound n
       → Rewires mid new e e' e.back f.front f.front e.back
       → back ≡ (if is_none f.back then e.back else f.back)
       → IsSound new (set (set ends to (record { len = e'.len + f.len; front = e'.front; back = back })) from empty) (record rows { lists = set (set rows.lists to (list_at to rows ++ list_at from rows)) from [] })
-  appended mid new list e f e' empty back long list_is e_is f_is empty_is mid_long owners nexts previous rewires back_is =
+  IsSound-appended mid new list e f e' empty back long list_is e_is f_is empty_is mid_long owners nexts previous rewires back_is =
       let head = sound.linked to to_within in
       let tail = sound.linked from from_within in
       let gives : Gives nodes mid (Some to) (list_at from rows) [] = record {
-        owners = λ k. owners k ∙ ap (λ ys. if has k ys then list else owner_at nodes k) (walked nodes ends rows sound from from_within f f_is) ∙ ap (λ o. if has k (list_at from rows) then o else owner_at nodes k) list_is;
+        owners = λ k. owners k ∙ ap (λ ys. if has k ys then list else owner_at nodes k) (walk_list nodes ends rows sound from from_within f f_is) ∙ ap (λ o. if has k (list_at from rows) then o else owner_at nodes k) list_is;
         nexts = nexts;
         previous = previous;
         within = λ k nowhere. absurd (false≢true nowhere);
         len = mid_long;
       } in
-      let Written : Ends → Option ℕ → Option ℕ → Type 0 = λ g b a. Rewires mid new g e' b a a b in
       let end_is : e.back ≡ last (list_at to rows) = ap (λ (g : Ends). g.back) e_is ∙ head.back in
-      let at_ends : Written (ends_at ends to) e.back f.front = subst (λ g. Written g e.back f.front) e_is rewires in
-      let at_back : Written (ends_at ends to) (last (list_at to rows)) f.front = subst (λ b. Written (ends_at ends to) b f.front) end_is at_ends in
-      let written : Written (ends_at ends to) (last (list_at to rows)) (first (list_at from rows)) =
-      subst (λ a. Written (ends_at ends to) (last (list_at to rows)) a) (ap (λ (g : Ends). g.front) f_is ∙ tail.front) at_back in
+      let front_is : f.front ≡ first (list_at from rows) = ap (λ (g : Ends). g.front) f_is ∙ tail.front in
+      let written : Rewires mid new (ends_at ends to) e' (last (list_at to rows)) (first (list_at from rows)) (first (list_at from rows)) (last (list_at to rows)) = Rewires-same rewires e_is end_is front_is front_is end_is in
       rw (empty_is, ap (λ (g : Ends). g.len) f_is)
       (IsSound-append nodes mid new ends rows to from e' back sound to_within from_within other gives written long
       (back_is ∙ ap (λ o. if is_none o then e.back else o) (ap (λ (g : Ends). g.back) f_is ∙ tail.back) ∙ ap (λ o. if is_none (last (list_at from rows)) then o else last (list_at from rows)) end_is))

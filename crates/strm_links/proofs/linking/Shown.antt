@@ -1,4 +1,4 @@
--- From the nodes and the ends to the rows that a contract sees.
+-- How `Links` stores the rows that a contract sees.
 use Rattle.std.proofs.Common.{◌≡◌, ℕ, suc, ◌+◌, ◌<◌, ◌≤◌, ◌^◌, true, false, ◌||◌, List, [], ◌∷◌, map, length, reverse, replicate, get_or, Option, Some, None, refl, sym, ap, ◌∙◌, subst, inl, inr, arith}
 use Rattle.std.proofs.lemmas.Bool.{cases_lt, false≢true, false_from_ne_true}
 use Rattle.std.proofs.lemmas.List.{length-map, get_or-map, get_or_past, get_or_default, same_lists, get_or_read, append-nil, get_or-replicate, length-replicate}
@@ -7,7 +7,7 @@ use Rattle.std.specs.List.{concat, All}
 use Rattle.std.specs.Option.{option_map_or}
 use Rattle.strm_links.specs.declared.links.Node.{Node}
 use Rattle.strm_links.specs.declared.links.Ends.{Ends}
-use Rattle.strm_links.specs.Rows.{Rows, IsParting, has, IsApart, is_some_of, first, last, after, before, Reads, list_at, holder, next_in, previous_in, linked_nodes}
+use Rattle.strm_links.specs.Rows.{Rows, row_of, IsParting, has, IsApart, is_some_of, first, last, after, before, Reads, list_at, holder, next_in, previous_in, linked_nodes}
 use Rattle.strm_links.specs.Layout.{no_node, no_ends, node_at, owner_at, previous_at, next_at, ends_at, nodes_between, rows_of, IsLinked, IsSound}
 use Rattle.strm_links.proofs.lists.OneList.{has_at, has-append, IsApart-append, is_some_of-same, some_of}
 use Rattle.strm_links.proofs.lists.AllLists.{holder_is}
@@ -15,12 +15,12 @@ use Rattle.strm_links.proofs.lists.ListLinks.{walk_is, next_is, previous_is, Rea
 
 -- ---- the view
 
--- linked nodes are what the walk finds
+-- the walk between the ends of a list finds it
 between_is : (nodes : List Node) (e : Ends) (l : ℕ) (xs : List ℕ) → IsLinked (owner_at nodes) (previous_at nodes) (next_at nodes) e l xs → nodes_between nodes e ≡ xs
 unfolding nodes_between
 between_is nodes e l xs linked = rw (linked.len, linked.front) (walk_is (next_at nodes) xs None linked.leads_on)
 
--- sound nodes and ends are seen as the rows that they hold
+-- a contract sees sound nodes and ends as the rows that they hold
 pub rows_of_is : (nodes : List Node) (ends : List Ends) (rows : Rows) → IsSound nodes ends rows → rows_of nodes ends ≡ rows
 rows_of_is nodes ends rows sound =
     let lists : map (nodes_between nodes) ends ≡ rows.lists =
@@ -32,17 +32,17 @@ rows_of_is nodes ends rows sound =
     ∙ get_or_default rows.lists l [] d within) in
     λ i. record { nodes = sound.node_count i; lists = lists i }
 
--- the invariant, at the rows that a contract sees
-pub seen : (nodes : List Node) (ends : List Ends) (rows : Rows) → rows_of nodes ends ≡ rows → IsSound nodes ends (rows_of nodes ends) → IsSound nodes ends rows
-seen nodes ends rows view sound = subst (IsSound nodes ends) view sound
+-- the stored invariant holds at the rows that a contract sees
+pub IsSound-rows : (nodes : List Node) (ends : List Ends) (rows : Rows) → rows_of nodes ends ≡ rows → IsSound nodes ends (rows_of nodes ends) → IsSound nodes ends rows
+IsSound-rows nodes ends rows view sound = subst (IsSound nodes ends) view sound
 
--- and back
-pub closed : (nodes : List Node) (ends : List Ends) (rows : Rows) → IsSound nodes ends rows → IsSound nodes ends (rows_of nodes ends)
-closed nodes ends rows sound = subst (IsSound nodes ends) (sym (rows_of_is nodes ends rows sound)) sound
+-- and the other way round
+pub IsSound-stored : (nodes : List Node) (ends : List Ends) (rows : Rows) → IsSound nodes ends rows → IsSound nodes ends (rows_of nodes ends)
+IsSound-stored nodes ends rows sound = subst (IsSound nodes ends) (sym (rows_of_is nodes ends rows sound)) sound
 
 -- ---- what sound nodes and ends say
 
--- a node with an owner is a node
+-- a number with an owner is a node
 pub node_within : (nodes : List Node) (k l : ℕ) → owner_at nodes k ≡ Some l → k < length nodes
 node_within nodes k l is =
     elim (cases_lt k (length nodes)) [
@@ -51,51 +51,48 @@ node_within nodes k l is =
     ]
 
 module _ (nodes : List Node) (ends : List Ends) (rows : Rows) (sound : IsSound nodes ends rows) where
-  -- the stored owner holds the node
+  -- the list that holds a node is its stored owner
   pub holder-owner : (k : ℕ) → holder k rows ≡ owner_at nodes k
   holder-owner k = holder_is k rows (owner_at nodes k) (λ l within. (sound.linked l within).owned k) (sound.known k)
 
-  -- what a read of a node and of the ends of a list gives
+  -- the code reads the node, and the ends of the list, at its number
   pub node_read : (k : ℕ) (x : Node) → k < rows.nodes → x ≡ get_or nodes k x → x ≡ node_at nodes k
   node_read k x within read = get_or_read nodes k x (omega (arith, sound.node_count)) read no_node
 
   pub ends_read : (l : ℕ) (e : Ends) → l < length rows.lists → e ≡ get_or ends l e → e ≡ ends_at ends l
   ends_read l e within read = get_or_read ends l e (omega (arith, sound.list_count)) read no_ends
 
-  -- a node of a list has that owner
+  -- the owner of a node in list l is l
   pub owner_from : (l k : ℕ) → l < length rows.lists → has k (list_at l rows) ≡ true → owner_at nodes k ≡ Some l
   owner_from l k within there = some_of l (owner_at nodes k) (sym ((sound.linked l within).owned k) ∙ there)
 
-  -- a node with an owner is in that list
+  -- a node with owner l is in list l
   pub has_owned : (l k : ℕ) → owner_at nodes k ≡ Some l → has k (list_at l rows) ≡ true
   has_owned l k is = (sound.linked l (sound.known k l is)).owned k ∙ is_some_of-same l (owner_at nodes k) is
 
-  -- a node of a list is a node
+  -- a number in a list is a node
   pub listed_within : (l k : ℕ) → l < length rows.lists → has k (list_at l rows) ≡ true → k < length nodes
   listed_within l k within there = node_within nodes k l (owner_from l k within there)
 
-  -- the stored links are those of the rows
+  -- a stored link is the neighbour in the rows, if it is in each list, and is none for a free node
+  neighbour-at : (k : ℕ) (link : Option ℕ) (beside : List ℕ → Option ℕ) → (owner_at nodes k ≡ None → beside [] ≡ link) → ((l : ℕ) → owner_at nodes k ≡ Some l → beside (list_at l rows) ≡ link) → beside (row_of k rows) ≡ link
+  neighbour-at k link beside free listed =
+      elim (owner_at nodes k) as (λ o. owner_at nodes k ≡ o → beside (row_of k rows) ≡ link) [
+        | None ↦ λ is. ap (λ o. beside (option_map_or (λ l. list_at l rows) o [])) (holder-owner k ∙ is) ∙ free is
+        | Some l ↦ λ is. ap (λ o. beside (option_map_or (λ l. list_at l rows) o [])) (holder-owner k ∙ is) ∙ listed l is
+      ] refl
+
   pub next_in-at : (k : ℕ) → next_in rows k ≡ next_at nodes k
   next_in-at k =
-      elim (owner_at nodes k) as (λ o. owner_at nodes k ≡ o → next_in rows k ≡ next_at nodes k) [
-        | None ↦ λ is.
-            ap (λ o. after k (option_map_or (λ l. list_at l rows) o [])) (holder-owner k ∙ is) ∙ sym (sound.free_next k is)
-        | Some l ↦ λ is.
-            ap (λ o. after k (option_map_or (λ l. list_at l rows) o [])) (holder-owner k ∙ is)
-            ∙ sym (next_is (next_at nodes) (list_at l rows) k (sound.linked l (sound.known k l is)).leads_on (has_owned l k is))
-      ] refl
+      neighbour-at k (next_at nodes k) (after k) (λ none. sym (sound.free_next k none))
+      (λ l is. sym (next_is (next_at nodes) (list_at l rows) k (sound.linked l (sound.known k l is)).leads_on (has_owned l k is)))
 
   pub previous_in-at : (k : ℕ) → previous_in rows k ≡ previous_at nodes k
   previous_in-at k =
-      elim (owner_at nodes k) as (λ o. owner_at nodes k ≡ o → previous_in rows k ≡ previous_at nodes k) [
-        | None ↦ λ is.
-            ap (λ o. before k (option_map_or (λ l. list_at l rows) o [])) (holder-owner k ∙ is) ∙ sym (sound.free_previous k is)
-        | Some l ↦ λ is.
-            ap (λ o. before k (option_map_or (λ l. list_at l rows) o [])) (holder-owner k ∙ is)
-            ∙ sym (previous_is (previous_at nodes) None (list_at l rows) k (sound.linked l (sound.known k l is)).leads_back (has_owned l k is))
-      ] refl
+      neighbour-at k (previous_at nodes k) (before k) (λ none. sym (sound.free_previous k none))
+      (λ l is. sym (previous_is (previous_at nodes) None (list_at l rows) k (sound.linked l (sound.known k l is)).leads_back (has_owned l k is)))
 
-  -- each list reads alike both ways
+  -- following `next` from the front reads the list
   pub reads_forward : (l : ℕ) → Reads (next_in rows) (first (list_at l rows)) (list_at l rows)
   reads_forward l =
       elim (cases_lt l (length rows.lists)) [
@@ -103,7 +100,7 @@ module _ (nodes : List Node) (ends : List Ends) (rows : Rows) (sound : IsSound n
         | inr past ↦ subst (λ xs. Reads (next_in rows) (first xs) xs) (sym (get_or_past rows.lists l [] past)) refl
       ]
 
-  -- and backwards
+  -- following `prev` from the back reads its reverse
   pub reads_backward : (l : ℕ) → Reads (previous_in rows) (last (list_at l rows)) (reverse (list_at l rows))
   reads_backward l =
       elim (cases_lt l (length rows.lists)) [
@@ -116,7 +113,7 @@ module _ (nodes : List Node) (ends : List Ends) (rows : Rows) (sound : IsSound n
 -- ---- no node twice
 
 module _ (owner : ℕ → Option ℕ) where
-  -- these lists, numbered from i on, have the nodes that they own, none of them twice
+  -- list l of these, numbered from i on, has exactly the nodes of owner i + l, and none twice
   Owns : ℕ → List (List ℕ) → Type 0
   Owns i lists = (l m : ℕ) → l < length lists → m ≡ i + l → IsApart (get_or lists l []) × ((k : ℕ) → has k (get_or lists l []) ≡ is_some_of m (owner k))
 
@@ -136,7 +133,7 @@ module _ (owner : ℕ → Option ℕ) where
             (rest.0, omega (arith, rest.1), rest.2)
       ] refl
 
-  -- so none is there twice
+  -- so no node is in them twice
   concat_apart : (i : ℕ) (lists : List (List ℕ)) → Owns i lists → IsApart (concat lists)
   unfolding Owns
   concat_apart i [] owns = tt
@@ -165,7 +162,7 @@ module _ (nodes : List Node) (ends : List Ends) (rows : Rows) (sound : IsSound n
   pub apart_all : IsApart (linked_nodes rows)
   apart_all = concat_apart (owner_at nodes) 0 rows.lists owns_all
 
-  -- and each is a node
+  -- each number in the rows is a node
   pub in_range : All (λ node. node < rows.nodes) (linked_nodes rows)
   in_range = λ i d within.
       let k = get_or (linked_nodes rows) i d in
@@ -207,6 +204,6 @@ IsSound-new n m few_nodes few_lists =
           });
     }
 
--- links that are sound part the nodes
+-- sound nodes and ends hold each node at most once
 pub parts : (nodes : List Node) (ends : List Ends) (rows : Rows) → IsSound nodes ends rows → IsParting rows
 parts nodes ends rows sound = record { apart = apart_all nodes ends rows sound; within = in_range nodes ends rows sound }

@@ -1,4 +1,4 @@
--- Chains of numbers of which one or two are changed, and how often a number stands in them.
+-- Chains of which one or two change, and how often a number is in them.
 use Rattle.std.proofs.Common.{◌≡◌, ◌≢◌, ℕ, zero, suc, ◌+◌, ◌<◌, ◌≤◌, true, List, [], ◌∷◌, length, replicate, set, Option, Some, None, IsSome, refl, sym, ap, ◌∙◌, arith, inl, inr, length-set, get_or-set_same, get_or-set_other}
 use Rattle.std.proofs.lemmas.Bool.{cases_lt}
 use Rattle.strm_links.specs.Rows.{has}
@@ -20,7 +20,7 @@ times_two k zero (suc h) (m ∷ chains) other = omega (arith, times-append k (it
 times_two k (suc g) zero (m ∷ chains) other = omega (arith, times-append k (items_of m) (items_in chains), times_one k g chains)
 times_two k (suc g) (suc h) (m ∷ chains) other = omega (arith, times-append k (items_of m) (items_in chains), times_two k g h chains (λ same. other (ap suc same)))
 
--- what stands in all stands in one
+-- a number in all chains together is in one of them
 pub some_chain : (k : ℕ) (chains : List (Option (List ℕ))) → 0 < times k (items_in chains) → (h : ℕ) × (has k (items_of (chain_in chains h)) ≡ true)
 some_chain k [] some = absurd (omega (arith, some))
 some_chain k (m ∷ chains) some =
@@ -29,12 +29,12 @@ some_chain k (m ∷ chains) some =
       | inr none ↦ let later = some_chain k chains (omega (arith, some, none, times-append k (items_of m) (items_in chains))) in (suc later.0, later.1)
     ]
 
--- a chain with an item is there
+-- a chain that has an item is there
 pub is_there : (m : Option (List ℕ)) (k : ℕ) → k < length (items_of m) → IsSome m
 is_there None k within = absurd (omega (arith, within))
 is_there (Some xs) k within = refl
 
--- where there is no chain, nothing stands
+-- no chain, no item
 pub items_none : (n : ℕ) → items_in {X = ℕ} (replicate n None) ≡ []
 items_none zero = refl
 items_none (suc n) = items_none n
@@ -48,7 +48,7 @@ times-set k zero m (o ∷ chains) within = omega (arith, times-append k (items_o
 times-set k (suc h) m (o ∷ chains) within =
     omega (arith, times-append k (items_of o) (items_in (set chains h m)), times-append k (items_of o) (items_in chains), times-set k h m chains (omega arith))
 
--- the chains now: `m` at a, `o` at b, and elsewhere what was
+-- after the change the chain at a is `m`, the one at b is `o`, and the others are as before
 pub record Changes (old new : List (Option (List ℕ))) (a b : ℕ) (m o : Option (List ℕ)) : Type 0 where
   pub long : length new ≡ length old
   pub here : chain_in new a ≡ m

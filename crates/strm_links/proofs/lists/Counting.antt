@@ -1,8 +1,8 @@
--- How often a number stands in a list, and what that says of the list. For callers too.
+-- How often a number is in a list, and what the counts say of the list. Callers cite these lemmas too.
 use Rattle.std.proofs.Common.{◌≡◌, ◌≢◌, ℕ, zero, suc, ◌+◌, zero-add, ◌<◌, ◌≤◌, Bool, true, false, not, ◌&&◌, ◌==◌, List, [], ◌∷◌, ◌++◌, length, get_or, drop, take, map, reverse, sum_by, if◌then◌else◌, refl, sym, ap, ◌∙◌, inl, inr, arith}
 use Rattle.std.specs.Prelude.{nat_lt, nat_le}
 use Rattle.std.specs.List.{range_with_len}
-use Rattle.std.proofs.lemmas.Bool.{cases_Bool, cases_eq, cond-true, cond-false, eq-eqb, ne_eqb, false≢true, false_from_ne_true, not_from_true, not_from_false, lt-ltb, le-ltb}
+use Rattle.std.proofs.lemmas.Bool.{cases_Bool, cases_eq, cond-true, cond-false, eq-eqb, ne_eqb, false≢true, false_from_ne_true, le-ltb}
 use Rattle.std.proofs.lemmas.Bool.Decides.{nat_tests}
 use Rattle.std.proofs.lemmas.List.{drop-drop, reverse-append, take-append-drop}
 use Rattle.std.proofs.lemmas.List.FromFn.{sum_by-map-range_with_len_more}
@@ -10,7 +10,7 @@ use Rattle.std.proofs.lemmas.List.Filters.{length-filter_both}
 use Rattle.std.proofs.lemmas.List.Sums.{length-filter, sum_by-cons, sum_by-append}
 use Rattle.strm_links.specs.Rows.{has, IsApart, without}
 use Rattle.strm_links.specs.Counting.{times}
-use Rattle.strm_links.proofs.lists.OneList.{absent_parts, has_cases}
+use Rattle.strm_links.proofs.lists.OneList.{absent_parts}
 
 -- ---- a list made longer
 
@@ -20,13 +20,13 @@ times-cons n x xs = sum_by-cons (λ y. if y == n then 1 else 0) x xs
 pub times-append : (n : ℕ) (xs ys : List ℕ) → times n (xs ++ ys) ≡ times n xs + times n ys
 times-append n xs ys = sum_by-append (λ y. if y == n then 1 else 0) xs ys
 
--- a list is its first, so many behind it, and the others
+-- a list is its first item, the next n items, and the others
 pub split_behind : (xs : List ℕ) (n : ℕ) → xs ≡ take 1 xs ++ (take n (drop 1 xs) ++ drop (n + 1) xs)
 split_behind xs n =
     let one_more : 1 + n ≡ n + 1 = omega arith in
     sym (take-append-drop 1 xs) ∙ ap (λ ys. take 1 xs ++ ys) (sym (take-append-drop n (drop 1 xs)) ∙ ap (λ ys. take n (drop 1 xs) ++ ys) (drop-drop n 1 xs ∙ ap (λ k. drop k xs) one_more))
 
--- a part of a list has a number no more often
+-- a part of a list has a number at most as often as the list
 pub times-take : (n k : ℕ) (xs : List ℕ) → times n (take k xs) ≤ times n xs
 times-take n k xs = omega (arith, times-append n (take k xs) (drop k xs), ap (times n) (take-append-drop k xs))
 
@@ -41,23 +41,20 @@ times_other n x xs other = times-cons n x xs ∙ ap (λ m. m + times n xs) (cond
 
 pub times-reverse : (n : ℕ) (xs : List ℕ) → times n (reverse xs) ≡ times n xs
 times-reverse n [] = refl
-times-reverse n (x ∷ xs) =
-    ap (times n) (reverse-append (x ∷ []) xs) ∙ times-append n (reverse xs) (x ∷ [])
-    ∙ omega (arith, times-reverse n xs, times-append n (x ∷ []) xs)
+times-reverse n (x ∷ xs) = grind (arith, reverse-append (x ∷ []) xs, times-append n (reverse xs) (x ∷ []), times-reverse n xs, times-append n (x ∷ []) xs)
 
--- the first number, and the others
+-- the first item, and the others
 pub times_first : (n : ℕ) (xs : List ℕ) → 0 < length xs → times n xs ≡ (if get_or xs 0 0 == n then 1 else 0) + times n (drop 1 xs)
 times_first n [] some = absurd (omega arith)
 times_first n (x ∷ xs) some = times-cons n x xs
 
 pub times_rest_same : (n : ℕ) (xs : List ℕ) → 0 < length xs → get_or xs 0 0 ≡ n → times n xs ≡ 1 + times n (drop 1 xs)
-times_rest_same n xs some same = times_first n xs some ∙ ap (λ m. m + times n (drop 1 xs)) (cond-true _ 1 0 (eq-eqb _ n same))
+times_rest_same n xs some same = grind (arith, nat_tests, times_first n xs some, same)
 
 pub times_rest_other : (n : ℕ) (xs : List ℕ) → 0 < length xs → get_or xs 0 0 ≢ n → times n (drop 1 xs) ≡ times n xs
-times_rest_other n xs some other =
-    sym (times_first n xs some ∙ ap (λ m. m + times n (drop 1 xs)) (cond-false _ 1 0 (ne_eqb _ n other)) ∙ zero-add (times n (drop 1 xs)))
+times_rest_other n xs some other = grind (arith, nat_tests, times_first n xs some, other)
 
--- a number that stands in some place
+-- the item at a place is in the list
 pub times_some : (xs : List ℕ) (k : ℕ) → k < length xs → 0 < times (get_or xs k 0) xs
 times_some [] k within = absurd (omega arith)
 times_some (x ∷ xs) zero within = omega (arith, times_here x x xs refl)
@@ -65,31 +62,27 @@ times_some (x ∷ xs) (suc k) within = omega (arith, times_some xs k (omega arit
 
 -- ---- what is in a list
 
--- a number that is not
+-- a number that is not in the list counts 0
 pub times_absent : (n : ℕ) (xs : List ℕ) → has n xs ≡ false → times n xs ≡ 0
 times_absent n [] absent = refl
 times_absent n (x ∷ xs) absent = let off = absent_parts x n xs absent in times_other n x xs off.0 ∙ times_absent n xs off.1
 
--- a number that is
+-- a number that is in the list counts at least 1
 pub times_has : (n : ℕ) (xs : List ℕ) → has n xs ≡ true → 0 < times n xs
 times_has n [] there = absurd (false≢true there)
-times_has n (x ∷ xs) there =
-    elim (has_cases x n xs there) [
-      | inl same ↦ omega (arith, times_here n x xs same)
-      | inr later ↦ omega (arith, times-cons n x xs, times_has n xs later)
-    ]
+times_has n (x ∷ xs) there = grind (arith, nat_tests, times-cons n x xs, times_has n xs)
 
--- and back
+-- a number that counts at least 1 is in the list
 pub has_times : (n : ℕ) (xs : List ℕ) → 0 < times n xs → has n xs ≡ true
 has_times n xs some = elim (cases_Bool (has n xs)) [ inl there ↦ there | inr absent ↦ absurd (omega (arith, some, times_absent n xs absent)) ]
 
--- what stands no time in a list isn't in it
+-- a number that counts 0 is not in the list
 pub absent : (n : ℕ) (xs : List ℕ) → times n xs ≡ 0 → has n xs ≡ false
 absent n xs none = false_from_ne_true _ (λ there. absurd (omega (arith, none, times_has n xs there)))
 
 -- ---- lists that have each number once at most
 
--- in such a list none stands twice
+-- if every count is at most 1, no number is in the list twice
 pub apart_once : (xs : List ℕ) → ((k : ℕ) → times k xs ≤ 1) → IsApart xs
 apart_once [] once = tt
 apart_once (x ∷ xs) once = (
@@ -99,7 +92,7 @@ apart_once (x ∷ xs) once = (
 
 -- ---- the numbers from one on
 
--- 1 where it is true
+-- 1 for true, 0 for false
 abbrev pub one_if : Bool → ℕ
 one_if b = if b then 1 else 0
 
@@ -118,7 +111,7 @@ times-range_with_len k a (suc n) =
 from_zero : (k n : ℕ) → one_if (nat_le 0 k && nat_lt k (0 + n)) ≡ one_if (nat_lt k n)
 from_zero k n = grind (arith, nat_tests)
 
--- each number below the bound stands once among those from 0 on
+-- each number below n is once among the numbers from 0 to n - 1
 pub times_below : (k n : ℕ) → times k (range_with_len 0 n) ≡ (if nat_lt k n then 1 else 0)
 times_below k n = times-range_with_len k 0 n ∙ from_zero k n
 
@@ -128,45 +121,25 @@ length-without : (n : ℕ) (xs : List ℕ) → times n xs + length (without n xs
 length-without n xs =
     ap (λ m. m + length (without n xs)) (sym (length-filter (λ x. x == n) xs)) ∙ length-filter_both (λ x. x == n) (λ x. not (x == n)) (λ x. refl) xs
 
-without_first : (n x : ℕ) (xs : List ℕ) → x ≡ n → without n (x ∷ xs) ≡ without n xs
-without_first n x xs same = cond-false _ _ _ (not_from_true _ (eq-eqb x n same))
-
-without_other : (n x : ℕ) (xs : List ℕ) → x ≢ n → without n (x ∷ xs) ≡ x ∷ without n xs
-without_other n x xs other = cond-true _ _ _ (not_from_false _ (ne_eqb x n other))
-
 times-without_same : (n : ℕ) (xs : List ℕ) → times n (without n xs) ≡ 0
 times-without_same n [] = refl
-times-without_same n (x ∷ xs) =
-    elim (cases_eq x n) [
-      | inl same ↦ ap (times n) (without_first n x xs same) ∙ times-without_same n xs
-      | inr other ↦ ap (times n) (without_other n x xs other) ∙ times_other n x (without n xs) other ∙ times-without_same n xs
-    ]
+times-without_same n (x ∷ xs) = grind (arith, nat_tests, times-cons n x (without n xs), times-without_same n xs)
 
 times-without_other : (k n : ℕ) (xs : List ℕ) → k ≢ n → times k (without n xs) ≡ times k xs
 times-without_other k n [] differs = refl
-times-without_other k n (x ∷ xs) differs =
-    elim (cases_eq x n) [
-      | inl same ↦
-          ap (times k) (without_first n x xs same) ∙ times-without_other k n xs differs ∙ sym (times_other k x xs (λ is. differs (sym is ∙ same)))
-      | inr other ↦
-          ap (times k) (without_other n x xs other) ∙ times-cons k x (without n xs) ∙ ap (λ m. (if x == k then 1 else 0) + m) (times-without_other k n xs differs)
-          ∙ sym (times-cons k x xs)
-    ]
+times-without_other k n (x ∷ xs) differs = grind (arith, nat_tests, times-cons k x xs, times-cons k x (without n xs), times-without_other k n xs)
 
 one_less : (k n : ℕ) → k ≢ n → one_if (nat_lt k (suc n)) ≡ one_if (nat_lt k n)
 one_less k n other = grind (arith, nat_tests)
 
--- no number stands there more often than it may: no more than all together may
+-- if each number below n counts at most `most`, the list is no longer than the sum of these bounds
 pub few_of : {X : Type 0} (most : X → ℕ) (f : ℕ → X) (n : ℕ) (xs : List ℕ) → ((k : ℕ) → times k xs ≤ most (f k)) → ((k : ℕ) → 0 < times k xs → k < n)
     → length xs ≤ sum_by most (map f (range_with_len 0 n))
 few_of most f zero [] each below = omega arith
 few_of most f zero (x ∷ xs) each below = absurd (omega (arith, below x (omega (arith, times_here x x xs refl))))
 few_of most f (suc n) xs each below =
     let fewer = few_of most f n (without n xs)
-    (λ k. elim (cases_eq k n) [
-      | inl same ↦ omega (arith, ap (λ j. times j (without n xs)) same, times-without_same n xs)
-      | inr other ↦ omega (arith, times-without_other k n xs other, each k)
-    ])
+    (λ k. grind (arith, nat_tests, times-without_same n xs, times-without_other k n xs, each k))
     (λ k some. elim (cases_eq k n) [
       | inl same ↦ absurd (omega (arith, ap (λ j. times j (without n xs)) same, times-without_same n xs))
       | inr other ↦ omega (arith, below k (omega (arith, times-without_other k n xs other)))
@@ -176,14 +149,10 @@ few_of most f (suc n) xs each below =
     ∙ sum_by-map-range_with_len_more most f 0 n n (zero-add n) in
     omega (arith, fewer, each n, length-without n xs, more)
 
--- each of them once, and no other number: as many as there are numbers
+-- a list with each number below n once, and no other, has n items
 pub as_many : (n : ℕ) (xs : List ℕ) → ((k : ℕ) → times k xs ≡ (if nat_lt k n then 1 else 0)) → length xs ≡ n
 as_many zero [] each = refl
 as_many zero (x ∷ xs) each = absurd (omega (arith, each x ∙ cond-false _ 1 0 (le-ltb x 0 (omega arith)), times_here x x xs refl))
 as_many (suc n) xs each =
-    let fewer = as_many n (without n xs)
-    (λ k. elim (cases_eq k n) [
-      | inl same ↦ ap (λ j. times j (without n xs)) same ∙ times-without_same n xs ∙ sym (cond-false _ 1 0 (le-ltb k n (omega (arith, same))))
-      | inr other ↦ times-without_other k n xs other ∙ each k ∙ one_less k n other
-    ]) in
-    omega (arith, fewer, each n ∙ cond-true _ 1 0 (lt-ltb n (suc n) (omega arith)), length-without n xs)
+    let fewer = as_many n (without n xs) (λ k. grind (arith, nat_tests, times-without_same n xs, times-without_other k n xs, each k)) in
+    grind (arith, nat_tests, fewer, each n, length-without n xs)

@@ -1,4 +1,4 @@
-//! Worked rows, and a long run beside plain vectors.
+//! Tests of `Links`: small cases by hand, and a random run beside plain vectors.
 ghost use Rattle.std.specs.Prelude.{◌≡◌, ◌<◌, IsSome, None, length};
 ghost use Rattle.strm_links.specs.Rows.{holder};
 
@@ -12,7 +12,7 @@ const NODES: u32 = 4000;
 
 const LISTS: u32 = 50;
 
-// A node is free.
+// Asserts that a node is free.
 fn assert_free(rt: &impl Abort, links: &Links, node: u32)
     requires { node < links.now.nodes }
     ensures { holder node links.now ≡ None }
@@ -20,7 +20,7 @@ fn assert_free(rt: &impl Abort, links: &Links, node: u32)
     assert!(rt; links.list_of(node).is_none());
 }
 
-// A node is in this list.
+// Asserts that a node is in this list.
 fn assert_held(rt: &impl Abort, links: &Links, node: u32, list: u32)
     requires { node < links.now.nodes }
     ensures { IsSome (holder node links.now) }
@@ -28,7 +28,7 @@ fn assert_held(rt: &impl Abort, links: &Links, node: u32, list: u32)
     assert!(rt; links.list_of(node) == Some(list));
 }
 
-// So many nodes and lists twice: linked by index, and as plain lists.
+// The same lists twice: as `Links`, and as plain lists.
 #[derive(Drop)]
 struct Twin {
     links: Links,
@@ -49,7 +49,7 @@ impl Twin {
         }
     }
 
-    // Puts a free node in front of a list.
+    // Puts a free node at the front of a list.
     fn push_front(&mut self, rt: &impl Abort, list: u32, node: u32) {
         assert!(rt; list < self.lists && node < self.nodes);
         assert_free(rt, &self.links, node);
@@ -57,7 +57,7 @@ impl Twin {
         self.plain.insert(rt, list, 0, node);
     }
 
-    // Puts a free node behind a list.
+    // Puts a free node at the back of a list.
     fn push_back(&mut self, rt: &impl Abort, list: u32, node: u32) {
         assert!(rt; list < self.lists && node < self.nodes);
         assert_free(rt, &self.links, node);
@@ -84,14 +84,14 @@ impl Twin {
         let _ = self.plain.remove(rt, list, place);
     }
 
-    // Puts one list behind another.
+    // Appends one list to another.
     fn append(&mut self, rt: &impl Abort, to: u32, from: u32) {
         assert!(rt; to < self.lists && from < self.lists && to != from);
         self.links.append(to, from);
         self.plain.append(rt, to, from);
     }
 
-    // The next call of the long run, drawn at random.
+    // Makes the next call of the run, drawn at random.
     fn step(&mut self, rt: &impl Abort, draw: &mut u32) {
         let node = below(draw, NODES);
         let list = below(draw, LISTS);
@@ -104,7 +104,7 @@ impl Twin {
         self.compare_node(rt, node);
     }
 
-    // Puts a free node into a list, at one end or before a node that is drawn too.
+    // Puts a free node into a list, at one end or before a node drawn at random.
     fn join(&mut self, rt: &impl Abort, draw: &mut u32, list: u32, node: u32) {
         let at = below(draw, NODES);
         match self.list_of(rt, at) {
@@ -114,7 +114,7 @@ impl Twin {
         }
     }
 
-    // The list that a node is in, if it is in one.
+    // The list that a node is in, if any.
     fn list_of(&self, rt: &impl Abort, node: u32) -> Option<u32> {
         assert!(rt; node < self.nodes);
         self.links.list_of(node)
@@ -124,26 +124,26 @@ impl Twin {
         assert!(rt; self.list_of(rt, node) == list);
     }
 
-    // A list has so many nodes.
+    // Asserts the number of nodes of a list.
     fn assert_len(&self, rt: &impl Abort, list: u32, len: usize) {
         assert!(rt; list < self.lists);
         assert!(rt; self.links.len(list) as usize == len);
     }
 
-    // A list has this front and this back.
+    // Asserts a list's front and back.
     fn assert_ends(&self, rt: &impl Abort, list: u32, ends: (Option<u32>, Option<u32>)) {
         assert!(rt; list < self.lists);
         assert!(rt; (self.links.front(list), self.links.back(list)) == ends);
     }
 
-    // The ends and the length of a list are those of its plain one.
+    // Asserts that a list's ends and length are those of its plain list.
     fn compare_ends(&self, rt: &impl Abort, list: u32) {
         let plain = self.plain.list(rt, list);
         self.assert_ends(rt, list, (plain.first().copied(), plain.last().copied()));
         self.assert_len(rt, list, plain.len());
     }
 
-    // A node has these before and behind it.
+    // Asserts the nodes before and after a node.
     fn assert_neighbours(
         &self,
         rt: &impl Abort,
@@ -154,7 +154,7 @@ impl Twin {
         assert!(rt; (self.links.prev(node), self.links.next(node)) == neighbours);
     }
 
-    // The neighbours of a node are those in the plain list.
+    // Asserts that a node's neighbours are those in the plain list.
     fn compare_node(&self, rt: &impl Abort, node: u32) {
         let neighbours = match self.list_of(rt, node) {
             None => (None, None),
@@ -163,7 +163,7 @@ impl Twin {
         self.assert_neighbours(rt, node, neighbours);
     }
 
-    // A list has these nodes, by `next` from its front.
+    // Asserts that `next` leads from a list's front along these nodes.
     fn assert_forward(&self, rt: &impl Abort, list: u32, nodes: &[u32]) {
         assert!(rt; list < self.lists);
         let mut at = self.links.front(list);
@@ -174,7 +174,7 @@ impl Twin {
         assert!(rt; at.is_none());
     }
 
-    // A list has these nodes, by `prev` from its back.
+    // Asserts that `prev` leads from a list's back along these nodes.
     fn assert_backward(&self, rt: &impl Abort, list: u32, nodes: &[u32]) {
         assert!(rt; list < self.lists);
         let mut at = self.links.back(list);
@@ -185,21 +185,21 @@ impl Twin {
         assert!(rt; at.is_none());
     }
 
-    // A list has these nodes, as many as it tells, read forward and backward.
+    // Asserts that a list has these nodes, both ways, and their number as its length.
     fn assert_reads(&self, rt: &impl Abort, list: u32, nodes: &[u32]) {
         self.assert_len(rt, list, nodes.len());
         self.assert_forward(rt, list, nodes);
         self.assert_backward(rt, list, nodes);
     }
 
-    // Each of these nodes is in this list.
+    // Asserts that each of these nodes is in this list.
     fn assert_all_held(&self, rt: &impl Abort, list: u32, nodes: &[u32]) {
         for node in nodes {
             self.assert_list_of(rt, *node, Some(list));
         }
     }
 
-    // How many nodes are free.
+    // The number of free nodes.
     fn free_len(&self) -> usize {
         let mut free = 0usize;
         for node in 0..self.nodes {
@@ -210,7 +210,7 @@ impl Twin {
         free
     }
 
-    // Every list reads as its plain one, both ways, and every other node is free.
+    // Asserts that every list reads as its plain list, both ways, and that every other node is free.
     fn compare_all(&self, rt: &impl Abort) {
         let mut listed = 0usize;
         for list in 0..self.lists {

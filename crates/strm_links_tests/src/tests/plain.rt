@@ -1,4 +1,4 @@
-//! Plain lists of numbers.
+//! Plain lists of numbers, to compare with.
 use std::alloc::Global;
 use std::mem;
 use std::process::Abort;
@@ -9,7 +9,7 @@ pub(super) struct Plain {
 }
 
 impl Plain {
-    // So many empty lists.
+    // Makes this number of empty lists.
     pub(super) fn new(rt: &impl Abort, alloc: Global, lists: u32) -> Plain {
         let mut plain = Plain {
             lists: Vec::new(alloc),
@@ -29,25 +29,25 @@ impl Plain {
         self.lists.get_mut(list as usize).expect(rt, "a list")
     }
 
-    // Puts a number behind a list.
+    // Puts a number at the end of a list.
     pub(super) fn push(&mut self, rt: &impl Abort, list: u32, number: u32) {
         let numbers = self.list_mut(rt, list);
         numbers.push(number).expect(rt, "memory");
     }
 
-    // Takes the last number off a list, if there is one.
+    // Removes the last number of a list and returns it, if any.
     pub(super) fn pop(&mut self, rt: &impl Abort, list: u32) -> Option<u32> {
         self.list_mut(rt, list).pop()
     }
 
-    // Puts a number at a place of a list.
+    // Inserts a number at a place of a list.
     pub(super) fn insert(&mut self, rt: &impl Abort, list: u32, place: usize, number: u32) {
         let numbers = self.list_mut(rt, list);
         assert!(rt; place <= numbers.len());
         numbers.insert(place, number).expect(rt, "memory");
     }
 
-    // Takes the number at a place out of a list, if there is one.
+    // Removes the number at a place of a list and returns it, if any.
     pub(super) fn remove(&mut self, rt: &impl Abort, list: u32, place: usize) -> Option<u32> {
         let numbers = self.list_mut(rt, list);
         if place < numbers.len() {
@@ -57,19 +57,19 @@ impl Plain {
         }
     }
 
-    // Takes all numbers off a list.
+    // Removes all numbers of a list and returns them.
     pub(super) fn take(&mut self, rt: &impl Abort, list: u32) -> Vec<u32> {
         mem::try_take(self.list_mut(rt, list)).expect(rt, "memory")
     }
 
-    // Puts the numbers of one list behind those of another.
+    // Appends the numbers of one list to another.
     pub(super) fn append(&mut self, rt: &impl Abort, to: u32, from: u32) {
         let tail = self.take(rt, from);
         let numbers = self.list_mut(rt, to);
         numbers.extend(tail.iter().copied()).expect(rt, "memory");
     }
 
-    // Leaves the first number in a list. The others are the list of the first of them, which is answered.
+    // Leaves only the first number in a list. The others become the list of the first of them, which is returned.
     pub(super) fn divide(&mut self, rt: &impl Abort, list: u32) -> Option<u32> {
         let first = self.remove(rt, list, 0).expect(rt, "a number");
         let others = self.take(rt, list);
@@ -79,7 +79,7 @@ impl Plain {
         Some(second)
     }
 
-    // Where a number stands in a list.
+    // The place of a number in a list.
     pub(super) fn place_of(&self, rt: &impl Abort, list: u32, number: u32) -> usize {
         for (place, other) in self.list(rt, list).iter().enumerate() {
             if *other == number {
@@ -89,7 +89,7 @@ impl Plain {
         panic!(rt; "no such number");
     }
 
-    // The numbers before and behind one of a list.
+    // The numbers before and after one of a list.
     pub(super) fn neighbours(
         &self,
         rt: &impl Abort,

@@ -1,4 +1,4 @@
-//! Worked rows, and a drawn run beside plain vectors.
+//! Tests of `Stacks`: small cases by hand, and a random run beside plain vectors.
 ghost use Rattle.std.specs.Prelude.{◌≡◌, ◌<◌, IfOk, IfSome, None, length};
 ghost use Rattle.strm_links.specs.Rows.{holder};
 
@@ -12,7 +12,7 @@ const NODES: u32 = 4000;
 
 const LISTS: u32 = 7;
 
-// So many stacks twice: linked by index, and as plain lists that end with the front.
+// The same stacks twice: as `Stacks`, and as plain lists that end with the front.
 #[derive(Drop)]
 struct Twin {
     stacks: Stacks,
@@ -21,7 +21,7 @@ struct Twin {
     ghost list_count: { length stacks.lists ≡ lists },
 }
 
-// The nodes, put on the stacks in turn.
+// Makes stacks, with the nodes put on them in turn.
 fn dealt(alloc: Global) -> Result<Stacks, AllocError>
     ensures { IfOk result (λ s. length s.lists ≡ 7) }
 {
@@ -32,7 +32,7 @@ fn dealt(alloc: Global) -> Result<Stacks, AllocError>
     Ok(stacks)
 }
 
-// Two stacks of four nodes, of which one is free.
+// Makes two stacks over four nodes, one of which is free.
 fn stacked(alloc: Global) -> Result<Stacks, AllocError>
     ensures { IfOk result (λ s. length s.lists ≡ 2) }
 {
@@ -44,7 +44,7 @@ fn stacked(alloc: Global) -> Result<Stacks, AllocError>
 }
 
 impl Twin {
-    // The nodes, put on the stacks in turn, twice.
+    // As the function `dealt`, for both forms.
     fn dealt(rt: &impl Abort, alloc: Global) -> Twin {
         let mut plain = Plain::new(rt, alloc, LISTS);
         for node in 0..NODES {
@@ -57,7 +57,7 @@ impl Twin {
         }
     }
 
-    // Two stacks of four nodes, of which one is free, twice.
+    // As the function `stacked`, for both forms.
     fn stacked(rt: &impl Abort, alloc: Global) -> Twin {
         let mut plain = Plain::new(rt, alloc, 2);
         for (list, node) in [(0, 1), (0, 3), (1, 0)] {
@@ -70,7 +70,7 @@ impl Twin {
         }
     }
 
-    // Takes the front off a stack.
+    // Removes the front of a stack.
     fn pop_front(&mut self, rt: &impl Abort, list: u32) -> Option<u32>
         ensures range { IfSome result (λ node. node < self.new.stacks.nodes) }
         ensures freed { IfSome result (λ node. holder node self.new.stacks ≡ None) }
@@ -81,7 +81,7 @@ impl Twin {
         node
     }
 
-    // Puts the front of one stack on another, or on its own again.
+    // Moves the front of one stack to another, or back to its own.
     fn move_front(&mut self, rt: &impl Abort, from: u32, to: u32) {
         let node = self.pop_front(rt, from);
         self.compare(rt, from);
@@ -93,7 +93,7 @@ impl Twin {
         }
     }
 
-    // Takes all nodes off a stack.
+    // Removes all nodes of a stack.
     fn drain(&mut self, rt: &impl Abort, list: u32) {
         assert!(rt; list < self.lists);
         for _ in 0..self.stacks.len(list) {
@@ -102,19 +102,19 @@ impl Twin {
         self.compare(rt, list);
     }
 
-    // The front of a stack is this one, and leaves it.
+    // Removes the front of a stack, which is this node.
     fn assert_popped(&mut self, rt: &impl Abort, list: u32, node: Option<u32>) {
         assert!(rt; self.pop_front(rt, list) == node);
     }
 
-    // A stack has this front and this length.
+    // Asserts a stack's front and length.
     fn assert_top(&self, rt: &impl Abort, list: u32, top: (Option<u32>, usize)) {
         assert!(rt; list < self.lists);
         let told = (self.stacks.front(list), self.stacks.len(list) as usize);
         assert!(rt; told == top);
     }
 
-    // They are those of its plain list.
+    // Asserts that a stack's front and length are those of its plain list.
     fn compare(&self, rt: &impl Abort, list: u32) {
         let plain = self.plain.list(rt, list);
         self.assert_top(rt, list, (plain.last().copied(), plain.len()));

@@ -1,4 +1,4 @@
-//! Worked rows, and a long run beside plain vectors.
+//! Tests of `Strands`: small cases by hand, and a random run beside plain vectors.
 ghost use Rattle.std.specs.Prelude.{◌≡◌, ◌<◌, IsSome, length};
 ghost use Rattle.strm_links.specs.Chains.{chain_in};
 
@@ -10,11 +10,10 @@ use strm_links::Strands;
 
 const NODES: u32 = 250;
 
-// The free nodes stand in the plain list behind those of the nodes, the next to be taken last.
+// The plain list of the free nodes, after those of all nodes. Its last node is taken next.
 const FREE: u32 = NODES;
 
-// The same chains twice: linked by number, and as plain lists, at each node the chain that begins with it; empty where
-// none does.
+// The same chains twice: as `Strands`, and as plain lists. The list of a node is the chain that begins with it, or empty.
 #[derive(Drop)]
 struct Twin {
     strands: Strands,
@@ -35,13 +34,13 @@ impl Twin {
         }
     }
 
-    // Whether a chain begins with this node.
+    // Says whether a chain begins with this node.
     fn begins_chain(&self, rt: &impl Abort, head: u32) -> bool {
         assert!(rt; head < NODES);
         self.strands.begins_chain(head)
     }
 
-    // A chain begins with this node.
+    // Asserts that a chain begins with this node.
     fn assert_chain(&self, rt: &impl Abort, head: u32)
         ensures { IsSome (chain_in self.now.strands.chains head) }
     {
@@ -49,7 +48,7 @@ impl Twin {
         assert!(rt; self.strands.begins_chain(head));
     }
 
-    // Begins a chain with the first free node, if one is free.
+    // Makes the first free node, if any, a chain.
     fn begin(&mut self, rt: &impl Abort) {
         let begun = self.strands.begin();
         assert!(rt; begun == self.plain.pop(rt, FREE));
@@ -58,7 +57,7 @@ impl Twin {
         }
     }
 
-    // Begins a chain with so many free nodes.
+    // Makes this number of free nodes a chain.
     fn begin_all(&mut self, rt: &impl Abort, count: u32) {
         assert!(rt; 0 < count && count <= self.strands.free_len());
         let head = self.strands.begin_all(count);
@@ -68,7 +67,7 @@ impl Twin {
         }
     }
 
-    // Puts a chain behind another.
+    // Appends a chain to another.
     fn join(&mut self, rt: &impl Abort, head: u32, tail: u32) {
         assert!(rt; head != tail);
         self.assert_chain(rt, head);
@@ -77,14 +76,14 @@ impl Twin {
         self.plain.append(rt, head, tail);
     }
 
-    // Parts a chain behind its first node.
+    // Divides a chain after its first node.
     fn divide(&mut self, rt: &impl Abort, head: u32) {
         self.assert_chain(rt, head);
         let rest = self.strands.divide(head);
         assert!(rt; rest == self.plain.divide(rt, head));
     }
 
-    // Takes the node at a place behind the first out of a chain, if there is one.
+    // Takes the node at a place out of a chain, if there is one. The place is after the first node.
     fn take_out(&mut self, rt: &impl Abort, head: u32, place: u32) {
         assert!(rt; 0 < place);
         self.assert_chain(rt, head);
@@ -95,7 +94,7 @@ impl Twin {
         }
     }
 
-    // Frees so many nodes behind the first of a chain, or all that there are.
+    // Frees `most` nodes after the first of a chain, or all of them if there are fewer.
     fn free_behind(&mut self, rt: &impl Abort, head: u32, most: u32) {
         self.assert_chain(rt, head);
         let len = self.strands.len(head);
@@ -115,7 +114,7 @@ impl Twin {
         self.plain.append(rt, FREE, head);
     }
 
-    // A chain has these nodes, by `next` from its head.
+    // Asserts that `next` leads from a chain's head along these nodes.
     fn assert_reads(&self, rt: &impl Abort, head: u32, nodes: &[u32]) {
         let mut at = Some(head);
         for node in nodes {
@@ -125,14 +124,14 @@ impl Twin {
         assert!(rt; at.is_none());
     }
 
-    // A chain reads as this list, and its length is that of the list.
+    // Asserts that a chain reads as this list, and has its length.
     fn compare(&self, rt: &impl Abort, head: u32, nodes: &[u32]) {
         self.assert_chain(rt, head);
         assert!(rt; self.strands.len(head) as usize == nodes.len());
         self.assert_reads(rt, head, nodes);
     }
 
-    // Every chain reads as its plain list, and as many nodes are free.
+    // Asserts that every chain reads as its plain list, and that the number of free nodes is right.
     fn compare_all(&self, rt: &impl Abort) {
         let free = self.plain.list(rt, FREE).len();
         assert!(rt; self.strands.free_len() as usize == free);
@@ -141,7 +140,7 @@ impl Twin {
         }
     }
 
-    // A chain begins with a node where its plain list has nodes, and reads as that list.
+    // Asserts that a chain begins with a node exactly if its plain list has nodes, and reads as that list.
     fn compare_at(&self, rt: &impl Abort, head: u32) {
         let plain = self.plain.list(rt, head);
         assert!(rt; self.begins_chain(rt, head) != plain.is_empty());
@@ -150,7 +149,7 @@ impl Twin {
         }
     }
 
-    // The next call of the long run, drawn at random.
+    // Makes the next call of the run, drawn at random.
     fn step(&mut self, rt: &impl Abort, draw: &mut u32) {
         let head = below(draw, NODES);
         let other = below(draw, NODES);
@@ -170,7 +169,7 @@ impl Twin {
         }
     }
 
-    // Begins a chain of one node or of several.
+    // Makes a chain of one node or of several.
     fn start(&mut self, rt: &impl Abort, count: u32, choice: u32) {
         if choice == 0 && 0 < count && count <= self.strands.free_len() {
             self.begin_all(rt, count);
@@ -200,7 +199,7 @@ fn worked_rows(rt: HostRuntime) {
     twin.compare(&rt, 1, &[1, 3]);
     twin.free(&rt, 1);
     twin.free(&rt, 4);
-    // The last freed is taken first.
+    // The node that was freed last is taken first.
     twin.begin_all(&rt, 4);
     twin.compare(&rt, 4, &[4, 3, 1, 5]);
     twin.free_behind(&rt, 4, 0);

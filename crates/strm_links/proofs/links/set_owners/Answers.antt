@@ -1,6 +1,6 @@
 use Rattle.std.proofs.Common.{suc, ◌≡◌, ◌+◌, ◌-◌, arith, ap, sym, ◌∙◌, Vec, Global}
 use Rattle.strm_links.specs.declared.links.Node.{Node}
-use Rattle.strm_links.proofs.linking.Giving.{Gives-some, Gives-none}
+use Rattle.strm_links.proofs.linking.Changes.{Gives-some, Gives-none}
 use Rattle.strm_links.proofs.links.set_owners.Goals as goal
 use Rattle.strm_links.proofs.links.set_owners.Goals.{in-Some, in_default}
 

@@ -1,6 +1,6 @@
 use Rattle.std.proofs.Common.{◌-◌}
 use Rattle.strm_links.specs.Layout.{next_at, walk}
-use Rattle.strm_links.proofs.linking.Giving.{Gives}
+use Rattle.strm_links.proofs.linking.Changes.{Gives}
 use Rattle.strm_links.proofs.links.set_owners.Given as goal
 
 abbrev pub invariant-loop-done : goal.invariant-loop-done

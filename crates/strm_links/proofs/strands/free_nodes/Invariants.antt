@@ -3,7 +3,7 @@ use Rattle.std.specs.Prelude.{nat_lt}
 use Rattle.strm_links.specs.StrandLayout.{no_node, node_at}
 use Rattle.strm_links.proofs.strands.free_nodes.Given as goal
 
--- so many nodes, of which those before this one lead on
+-- there are `nodes` nodes, and each before `number` leads on to the next number
 abbrev pub invariant-loop-number : goal.invariant-loop-number
 invariant-loop-number l = record {
   len : length l.free.items ≡ l.nodes;

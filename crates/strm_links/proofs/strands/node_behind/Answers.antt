@@ -2,11 +2,11 @@ use Rattle.std.proofs.Common.{◌≡◌, suc, ◌-◌, ◌+◌, arith, ap, sym, 
 use Rattle.std.proofs.lemmas.List.{get_or_read}
 use Rattle.strm_links.specs.declared.strands.Node.{Node}
 use Rattle.strm_links.specs.StrandLayout.{no_node, next_at, onward}
-use Rattle.strm_links.proofs.chaining.ChainLinks.{onward_some}
+use Rattle.strm_links.proofs.lists.ListLinks.{onward_some}
 use Rattle.strm_links.proofs.strands.node_behind.Goals as goal
 use Rattle.strm_links.proofs.strands.node_behind.Goals.{After-index-nodes-at}
 
--- the link that is read, and the steps that are left
+-- the link that the code reads, and the steps that are left
 link : (c : After-index-nodes-at) → c.index-nodes-at.result.next ≡ next_at c.args.nodes.now c.loop-step.at
 link c = ap (λ (x : Node). x.next) (get_or_read c.args.nodes.now c.loop-step.at c.index-nodes-at.result c.loop-step.invariant.within c.index-nodes-at.is no_node)
 

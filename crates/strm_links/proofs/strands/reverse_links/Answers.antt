@@ -5,14 +5,14 @@ use Rattle.strm_links.specs.Layout.{LeadsOn}
 use Rattle.strm_links.specs.StrandLayout.{next_at, onward, path}
 use Rattle.strm_links.specs.Rows.{first, first_or}
 use Rattle.strm_links.proofs.lists.OneList.{has_at}
-use Rattle.strm_links.proofs.chaining.ChainLinks.{has_first, LeadsOn-walk, walk_from}
+use Rattle.strm_links.proofs.lists.ListLinks.{has_first, LeadsOn-walk, walk_from}
 use Rattle.strm_links.proofs.chaining.Freed.{AreReversed, Reverses, Reverses-more, Reverses-start, reverse_at, reversed_all}
 use Rattle.strm_links.proofs.strands.reverse_links.Goals as goal
 use Rattle.strm_links.proofs.strands.reverse_links.Goals.{After-loop-reversed, After-number-number}
 
 -- ---- the first node
 
--- the nodes lead to where so many steps do
+-- the nodes of the path lead to where `len` steps do
 leads : (nodes : List Node) (h len : ℕ) → LeadsOn (next_at nodes) (path nodes len (Some h)) (onward (next_at nodes) len (Some h))
 unfolding path
 leads nodes h len = LeadsOn-walk (next_at nodes) len (Some h)
@@ -38,12 +38,12 @@ loop-reversed-init c =
     Reverses-more _ _ _ _ _ _ _ _ starts any c.requires.apart (leads c.args.nodes.now.items c.args.head c.args.len) c.args.head (same_Some _ _ (reverse_at _ _ _ _ _ _ _ _ starts any))
     (omega (arith, c.requires.within c.args.head (has_first _ c.args.head c.requires.begins))) c.index_mut-node.result.now _ _ _ c.index_mut-node.ensures.value refl refl c.some-onto.ensures
 
--- ---- each further one
+-- ---- each later node
 
 pub number-number-requires : goal.number-number-requires
 number-number-requires c = subst IsSome (sym (reverse_at _ _ _ _ _ _ _ _ c.loop-reversed.invariant (omega (arith, c.requires.len, c.loop-reversed-test.true)))) refl
 
--- there are more, and the walk is at the first of them, which is a node
+-- a node is left, and the walk is at the first that is
 more : (c : After-number-number) → c.loop-reversed._reversed < length (path c.args.nodes.now.items c.args.len (Some c.args.head))
 more c = omega (arith, c.requires.len, c.loop-reversed-test.true)
 
@@ -65,20 +65,17 @@ loop-reversed-preserved c =
     Reverses-more _ _ _ _ _ _ _ _ c.loop-reversed.invariant (more at) c.requires.apart (leads c.args.nodes.now.items c.args.head c.args.len) c.number-number.result (here at) (low at) c.index_mut-node-in-loop-reversed.result.now _ _ _ c.index_mut-node-in-loop-reversed.ensures.value refl refl
     c.some-onto-in-loop-reversed.ensures
 
--- ---- all of them
+-- ---- after the loop
 
-module _ (c : After-loop-reversed) where
-  all : AreReversed c.args.nodes.now.items c.loop-reversed.nodes.items c.args.beyond (onward (next_at c.args.nodes.now.items) c.args.len (Some c.args.head)) (path c.args.nodes.now.items c.args.len (Some c.args.head)) c.loop-reversed.at c.loop-reversed.onto
-  all = reversed_all _ _ _ _ _ _ _ _ c.loop-reversed.invariant (omega (arith, c.requires.len, c.loop-reversed-test.false))
-
-pub returns-clause-last : goal.returns-clause-last
-returns-clause-last c = (all (goal.at.returns-clause-last c).After-loop-reversed).onto_is
-
-pub returns-clause-next : goal.returns-clause-next
-returns-clause-next c = (all (goal.at.returns-clause-next c).After-loop-reversed).at_is
-
-pub returns-clause-reversed : goal.returns-clause-reversed
-returns-clause-reversed c = (all (goal.at.returns-clause-reversed c).After-loop-reversed).reversed
-
-pub returns-clause-others : goal.returns-clause-others
-returns-clause-others c = (all (goal.at.returns-clause-others c).After-loop-reversed).others
+pub returns : goal.returns
+returns c =
+    let all : AreReversed c.args.nodes.now.items c.loop-reversed.nodes.items c.args.beyond (onward (next_at c.args.nodes.now.items) c.args.len (Some c.args.head)) (path c.args.nodes.now.items c.args.len (Some c.args.head)) c.loop-reversed.at c.loop-reversed.onto =
+    reversed_all _ _ _ _ _ _ _ _ c.loop-reversed.invariant (omega (arith, c.requires.len, c.loop-reversed-test.false)) in
+    record {
+      last = all.onto_is;
+      next = all.at_is;
+      reversed = all.reversed;
+      others = all.others;
+      spans = c.loop-reversed.invariant.spans;
+      len = omega (arith, c.loop-reversed.invariant.len);
+    }

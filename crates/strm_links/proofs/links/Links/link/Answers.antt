@@ -1,65 +1,12 @@
-use Rattle.std.proofs.Common.{List, ◌+◌, set, arith, ap, sym, ◌∙◌}
-use Rattle.std.specs.Option.{option_map_or}
-use Rattle.strm_links.specs.declared.links.Node.{Node}
-use Rattle.strm_links.specs.declared.links.Ends.{Ends}
-use Rattle.strm_links.specs.Rows.{list_at, holder, put_in}
-use Rattle.strm_links.specs.Layout.{previous_at, IsSound}
-use Rattle.strm_links.proofs.linking.Shown.{seen, closed, rows_of_is, ends_read, parts}
-use Rattle.strm_links.proofs.linking.Changes.{Rewires-both}
-use Rattle.strm_links.proofs.linking.Places.{joined_next_within, joined_ahead_within, joined_len, joined, joined_holder, other_holder}
+use Rattle.std.proofs.Common.{◌<◌, arith}
+use Rattle.strm_links.proofs.lists.AllLists.{All-listed, holder_has}
 use Rattle.strm_links.proofs.links.Links.link.Goals as goal
-use Rattle.strm_links.proofs.links.Links.link.Goals.{After-index_mut-2}
 
-pub ahead_of-previous-requires : goal.ahead_of-previous-requires
-ahead_of-previous-requires c at is =
-    let sound = seen _ _ _ c.self.view_is c.self.invariant in
-    omega (arith, joined_next_within _ _ _ sound c.args.list c.args.node c.args.next c.requires.list c.requires.node c.requires.free c.requires.next at is)
-
-pub set_next-requires : goal.set_next-requires
-set_next-requires c k is =
-    let sound = seen _ _ _ c.self.view_is c.self.invariant in
-    let read = ends_read _ _ _ sound c.args.list _ c.requires.list c.index.ensures in
-    let ahead = c.ahead_of-previous.ensures ∙ ap (λ (xs : List Node). option_map_or (λ j. previous_at xs j) c.args.next c.index.result.now.back) c.deref.ensures.value ∙ ap (λ (e : Ends). option_map_or (λ j. previous_at c.self.inside.nodes.items j) c.args.next e.back) read in
-    omega (arith, joined_ahead_within _ _ _ sound c.args.list c.args.node c.args.next c.requires.list c.requires.node c.requires.free c.requires.next k (sym ahead ∙ is))
-
-pub set_previous-requires : goal.set_previous-requires
-set_previous-requires c at is =
-    let sound = seen _ _ _ c.self.view_is c.self.invariant in
-    omega (arith, joined_next_within _ _ _ sound c.args.list c.args.node c.args.next c.requires.list c.requires.node c.requires.free c.requires.next at is, c.set_next.ensures.len)
-
-pub overflow_add-ends : goal.overflow_add-ends
-overflow_add-ends c =
-    let sound = seen _ _ _ c.self.view_is c.self.invariant in
-    let read = ends_read _ _ _ sound c.args.list _ c.requires.list c.index.ensures in
-    let len = ap (λ (e : Ends). e.len) c.set_previous.ensures.ends ∙ ap (λ (e : Ends). e.len) c.set_next.ensures.ends ∙ ap (λ (e : Ends). e.len) read in
-    omega (arith, len, sound.few_nodes, joined_len _ _ _ sound c.args.list c.args.node c.args.next c.requires.list c.requires.node c.requires.free c.requires.next)
-
--- what the writes make of the fields
-changes : (c : After-index_mut-2) → IsSound c.set_previous.new.nodes.items (set c.self.inside.ends.items c.args.list (record c.set_previous.new.ends { len = c.set_previous.new.ends.len + 1 })) (record c.args.self.now { lists = set c.args.self.now.lists c.args.list (put_in c.args.next c.args.node (list_at c.args.list c.args.self.now)) })
-changes c =
-    let sound = seen _ _ _ c.self.view_is c.self.invariant in
-    joined _ _ _ sound c.args.list c.args.node c.args.next c.requires.list c.requires.node c.requires.free c.requires.next
-    _ _ _ _ _ _ (omega (arith, c.set_next.ensures.len, c.set_previous.ensures.len)) c.some.ensures c.some-own.ensures (ends_read _ _ _ sound c.args.list _ c.requires.list c.index.ensures)
-    (c.ahead_of-previous.ensures ∙ ap (λ (xs : List Node). option_map_or (λ j. previous_at xs j) c.args.next c.index.result.now.back) c.deref.ensures.value)
-    (Rewires-both _ _ _ _ _ _ _ _ _ _ c.set_next.ensures.nexts c.set_next.ensures.previous c.set_next.ensures.owners c.set_next.ensures.ends c.set_previous.ensures.previous c.set_previous.ensures.nexts c.set_previous.ensures.owners c.set_previous.ensures.ends)
-
-pub invariant_of-self : goal.invariant_of-self
-invariant_of-self c = closed _ _ _ (changes (goal.at.invariant_of-self c).After-index_mut-2)
-
-pub returns-clause-lists : goal.returns-clause-lists
-returns-clause-lists c = rows_of_is _ _ _ (changes (goal.at.returns-clause-lists c).After-index_mut-2)
-
-pub returns-clause-held : goal.returns-clause-held
-returns-clause-held c =
-    let sound = seen _ _ _ c.self.view_is c.self.invariant in
-    ap (holder c.args.node) (rows_of_is _ _ _ (changes (goal.at.returns-clause-held c).After-index_mut-2))
-    ∙ joined_holder _ _ _ sound c.args.list c.args.node c.args.next c.requires.list c.requires.node c.requires.free c.requires.next
-
-pub returns-clause-others : goal.returns-clause-others
-returns-clause-others c k other =
-    let sound = seen _ _ _ c.self.view_is c.self.invariant in
-    ap (holder k) (rows_of_is _ _ _ (changes (goal.at.returns-clause-others c).After-index_mut-2))
-    ∙ other_holder _ _ _ sound c.args.list c.args.node c.args.next c.requires.list c.requires.node c.requires.free c.requires.next k other
-
-pub returns-clause-parting : goal.returns-clause-parting
-returns-clause-parting c = parts _ _ _ (closed _ _ _ (changes (goal.at.returns-clause-parting c).After-index_mut-2))
+pub of-requires : goal.of-requires
+of-requires c at is =
+    omega (
+      arith,
+      All-listed (λ k. k < c.args.self.now.nodes) at c.args.list c.args.self.now.lists c.parts_nodes.ensures.parting.within
+          (holder_has at c.args.list c.args.self.now (c.requires.next at is)).1,
+      c.parts_nodes.ensures.few_nodes,
+    )

@@ -1,23 +1,16 @@
 use Rattle.std.proofs.Common.{ap, sym, ◌∙◌}
 use Rattle.strm_links.specs.declared.links.Node.{Node}
-use Rattle.strm_links.proofs.linking.Shown.{seen, node_read, next_in-at}
-use Rattle.strm_links.proofs.linking.Places.{IfSome-from, next_holder, next_within}
+use Rattle.strm_links.proofs.lists.OneList.{IfSome-from}
+use Rattle.strm_links.proofs.linking.Shown.{IsSound-rows, node_read, next_in-at}
+use Rattle.strm_links.proofs.linking.Places.{next_neighbour}
 use Rattle.strm_links.proofs.links.Links.next.Goals as goal
 
-pub returns-clause-value : goal.returns-clause-value
-returns-clause-value c =
-    let sound = seen _ _ _ c.self.view_is c.self.invariant in
-    let read = ap (λ (x : Node). x.next) (node_read _ _ _ sound c.args.node _ c.requires c.index.ensures) in
-    c.get.ensures ∙ read ∙ sym (next_in-at _ _ _ sound c.args.node)
-
-pub returns-clause-neighbour : goal.returns-clause-neighbour
-returns-clause-neighbour c =
-    let sound = seen _ _ _ c.self.view_is c.self.invariant in
-    let read = ap (λ (x : Node). x.next) (node_read _ _ _ sound c.args.node _ c.requires c.index.ensures) in
-    IfSome-from c.get.result _ (λ k is. next_holder _ _ _ sound c.args.node k (sym (c.get.ensures ∙ read) ∙ is))
-
-pub returns-clause-in_range : goal.returns-clause-in_range
-returns-clause-in_range c =
-    let sound = seen _ _ _ c.self.view_is c.self.invariant in
-    let read = ap (λ (x : Node). x.next) (node_read _ _ _ sound c.args.node _ c.requires c.index.ensures) in
-    IfSome-from c.get.result _ (λ k is. next_within _ _ _ sound c.args.node k (sym (c.get.ensures ∙ read) ∙ is))
+pub returns : goal.returns
+returns c =
+    let sound = IsSound-rows _ _ _ c.self.view_is c.self.invariant in
+    let is = c.get.ensures ∙ ap (λ (x : Node). x.next) (node_read _ _ _ sound c.args.node _ c.requires c.index.ensures) in
+    record {
+      value = is ∙ sym (next_in-at _ _ _ sound c.args.node);
+      neighbour = IfSome-from c.get.result _ (λ k some. (next_neighbour _ _ _ sound c.args.node k (sym is ∙ some)).0);
+      in_range = IfSome-from c.get.result _ (λ k some. (next_neighbour _ _ _ sound c.args.node k (sym is ∙ some)).1);
+    }

@@ -1,5 +1,5 @@
-use Rattle.strm_links.proofs.linking.Shown.{seen, parts}
+use Rattle.strm_links.proofs.linking.Shown.{IsSound-rows, parts}
 use Rattle.strm_links.proofs.links.Links.parts_nodes.Goals as goal
 
 pub returns-clause-parting : goal.returns-clause-parting
-returns-clause-parting c = parts _ _ _ (seen _ _ _ c.self.view_is c.self.invariant)
+returns-clause-parting c = parts _ _ _ (IsSound-rows _ _ _ c.self.view_is c.self.invariant)
