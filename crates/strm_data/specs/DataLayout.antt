@@ -1,4 +1,4 @@
--- How the data blocks lie in memory. No public clause cites this module.
+-- How `Data` lays out its data blocks. No public clause cites this module.
 use Rattle.std.specs.Prelude.{◌≡◌, ℕ, ◌+◌, ◌-◌, ◌*◌, ◌<◌, ◌≤◌, List, [], length, map, take, drop, slice_index_or, Vec}
 use Rattle.std.specs.declared.alloc.Global.{Global}
 use Rattle.std.specs.List.{range_with_len}
@@ -9,7 +9,7 @@ use Rattle.strm_data.specs.declared.msg_type.MsgType.TheVariants.{MData}
 use Rattle.strm_data.specs.CountedStore.{CountedStore, IsKept}
 use Rattle.strm_data.specs.DataStore as store
 
--- what is given where there is no such class or data block
+-- the results of reads past the classes and past the data blocks
 abbrev pub no_class : Class
 no_class = record { spec = record { size = 0; count = 0 }; first = 0 }
 
@@ -22,15 +22,15 @@ class_at classes c = slice_index_or classes c no_class
 abbrev pub block_at : List DataBlock → ℕ → DataBlock
 block_at blocks d = slice_index_or blocks d no_block
 
--- what these vectors hold
+-- the bytes that these vectors have
 abbrev pub bytes_of : List (Vec ℕ Global) → List (List ℕ)
 bytes_of regions = map (λ r. r.items) regions
 
--- the bytes of all data blocks of a class, one behind the other
+-- the bytes of all data blocks of a class, one block after the other
 abbrev pub region_at : List (List ℕ) → ℕ → List ℕ
 region_at regions c = slice_index_or regions c []
 
--- where the bytes of data block d of this class begin in the region
+-- the place in the region where the bytes of data block d of this class begin
 abbrev pub start_in : Class → ℕ → ℕ
 start_in c d = (d - c.first) * c.spec.size
 
@@ -38,17 +38,17 @@ start_in c d = (d - c.first) * c.spec.size
 abbrev pub bytes_in : Class → List ℕ → ℕ → List ℕ
 bytes_in c region d = take c.spec.size (drop (start_in c d) region)
 
--- data block d
+-- data block d as contracts see it
 abbrev pub seen_block : List Class → List (List ℕ) → List DataBlock → ℕ → store.DataBlock
 seen_block classes regions blocks d =
     let b = block_at blocks d in
     record { class = b.class; kind = b.kind; bytes = bytes_in (class_at classes b.class) (region_at regions b.class) d }
 
--- what the numbers below n stand for
+-- the values of f at the numbers below n
 abbrev pub tabulated : {X : Type 0} → (ℕ → X) → ℕ → List X
 tabulated f n = map f (range_with_len 0 n)
 
--- what a contract sees of classes, regions, data blocks and free lists
+-- the store and counts that classes, regions, data blocks and free lists mean, which contracts see
 abbrev pub counted : List Class → List (List ℕ) → List DataBlock → List (List ℕ) → CountedStore
 counted classes regions blocks free = record {
   store = record { classes = map (λ c. c.spec) classes; blocks = tabulated (seen_block classes regions blocks) (length blocks); free = free };
@@ -58,15 +58,15 @@ counted classes regions blocks free = record {
 abbrev pub counted_store : Inside → CountedStore
 counted_store a = counted a.classes.items (bytes_of a.regions.items) a.blocks.items a.free.lists
 
--- each class has a region with room for its data blocks, which have the numbers from its first one on
+-- each class has a region with room for its data blocks, whose numbers count up from its first one
 pub record IsPlaced (classes : List Class) (regions : List (List ℕ)) (blocks : List DataBlock) : Type 0 where
   pub regioned : length regions ≡ length classes
   pub filled : (c : ℕ) → length (region_at regions c) ≡ (class_at classes c).spec.size * (class_at classes c).spec.count
   pub from : (d : ℕ) → d < length blocks → (class_at classes (block_at blocks d).class).first ≤ d
   pub below : (d : ℕ) → d < length blocks → d < (class_at classes (block_at blocks d).class).first + (class_at classes (block_at blocks d).class).spec.count
 
--- what stands in which list is in order, and the free lists link all data blocks
-pub record IsLaidOut (a : Inside) : Type 0 where
+-- each data block is accounted for and has its place in a region, and the free lists have a node for each
+pub record IsSound (a : Inside) : Type 0 where
   pub kept : IsKept (counted_store a)
   pub placed : IsPlaced a.classes.items (bytes_of a.regions.items) a.blocks.items
   pub nodes : a.free.nodes ≡ length a.blocks.items

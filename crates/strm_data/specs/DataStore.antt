@@ -1,4 +1,4 @@
--- Data blocks by number, which of them are free, and which one a size takes.
+-- Data blocks by number, which of them are free, and which one `take` takes for a size.
 use Rattle.std.specs.Prelude.{◌≡◌, ℕ, ◌+◌, ◌<◌, ◌≤◌, Bool, ◌==◌, nat_le, List, [], ◌∷◌, ◌++◌, length, take, drop, replicate, count_by, map, Result, Ok, Err, ok_or, slice_get, slice_index_or, slice_set, if◌then◌else◌}
 use Rattle.std.specs.List.{flat_map, zip, enumerate_from, range_with_len}
 use Rattle.std.specs.Result.{is_ok}
@@ -11,19 +11,19 @@ use Rattle.strm_data.specs.declared.refusal.Refusal.{Refusal}
 use Rattle.strm_data.specs.declared.refusal.Refusal.TheVariants.{TooLarge, NoData}
 pub use Rattle.strm_links.specs.Counting.{times}
 
--- a data block: the number of its size class, its type, and its bytes, as many as its capacity
+-- a data block: the number of its size class, its type, and its bytes, which are as many as its capacity
 pub record DataBlock : Type 0 where
   pub class : ℕ
   pub kind : MsgType
   pub bytes : List ℕ
 
--- the size classes, the data blocks by number, and of each class the free ones, the next to be taken first
+-- the size classes, the data blocks by number, and for each class its free data blocks, the next to be taken first
 pub record DataStore : Type 0 where
   pub classes : List ClassSpec
   pub blocks : List DataBlock
   pub free : List (List ℕ)
 
--- what is given where there is no such data block
+-- the result of a read past the data blocks
 abbrev pub no_data_block : DataBlock
 no_data_block = record { class = 0; kind = MData; bytes = [] }
 
@@ -31,11 +31,11 @@ no_data_block = record { class = 0; kind = MData; bytes = [] }
 abbrev pub data_block_at : DataStore → ℕ → DataBlock
 data_block_at s d = slice_index_or s.blocks d no_data_block
 
--- the number of its size class
+-- the number of the data block's size class
 abbrev pub class_of : DataStore → ℕ → ℕ
 class_of s d = (data_block_at s d).class
 
--- what is given where there is no such class
+-- the result of a read past the classes
 abbrev pub no_class_spec : ClassSpec
 no_class_spec = record { size = 0; count = 0 }
 
@@ -43,23 +43,23 @@ no_class_spec = record { size = 0; count = 0 }
 abbrev pub class_spec_at : DataStore → ℕ → ClassSpec
 class_spec_at s c = slice_index_or s.classes c no_class_spec
 
--- how many data blocks are of class c
+-- the number of data blocks of class c
 abbrev pub blocks_in : DataStore → ℕ → ℕ
 blocks_in s c = count_by (λ b. b.class == c) s.blocks
 
--- how many bytes it has room for
+-- the capacity of data block d: its number of bytes
 abbrev pub capacity_of : DataStore → ℕ → ℕ
 capacity_of s d = length (data_block_at s d).bytes
 
--- the free data blocks of a class
+-- the free data blocks of class c
 abbrev pub free_of : DataStore → ℕ → List ℕ
 free_of s c = slice_index_or s.free c []
 
--- the free data blocks of the classes that fit, in order of class
+-- the free data blocks of the classes that fit the size, in order of class
 abbrev pub fitting : ℕ → DataStore → List ℕ
 fitting size s = flat_map (λ p. if nat_le size p.0.size then p.1 else []) (zip s.classes s.free)
 
--- which data block a size takes: the first free one of the smallest class that fits and has one
+-- the data block that is taken for a size: the first free one of the smallest class that fits and has one
 abbrev pub take_data : ℕ → DataStore → Result ℕ Refusal
 take_data size s = if fits_a_class size s.classes then ok_or (slice_get (fitting size s) 0) NoData else Err TooLarge
 
@@ -67,42 +67,42 @@ take_data size s = if fits_a_class size s.classes then ok_or (slice_get (fitting
 abbrev pub fits : ℕ → DataStore → Bool
 fits size s = is_ok (take_data size s)
 
--- the size takes from this class, which fits and has a free block (no public clause cites it)
+-- for this size a data block of class c is taken, which fits and has a free one (no public clause cites it)
 pub record IsTakenFrom (size : ℕ) (s : DataStore) (c : ℕ) : Type 0 where
   pub wide : size ≤ (class_spec_at s c).size
   pub some : 0 < length (free_of s c)
   pub front : take_data size s ≡ Ok (slice_index_or (free_of s c) 0 0)
 
--- the store once d, the first free one of its class, is taken: it is of type M_DATA, and its bytes stay
+-- the store after d, the first free one of its class, was taken: it has type M_DATA, and keeps its bytes
 abbrev pub with_data_taken : ℕ → DataStore → DataStore
 with_data_taken d s = record s {
   blocks = slice_set s.blocks d (record (data_block_at s d) { kind = MData });
   free = slice_set s.free (class_of s d) (drop 1 (free_of s (class_of s d)));
 }
 
--- the store once d is free again, at the front of its class's list
+-- the store after d became free, at the front of its class's list
 abbrev pub with_data_freed : ℕ → DataStore → DataStore
 with_data_freed d s = record s { free = slice_set s.free (class_of s d) (d ∷ free_of s (class_of s d)) }
 
--- the store once d is of this type
+-- the store after d got this type
 abbrev pub with_kind : ℕ → MsgType → DataStore → DataStore
 with_kind d kind s = record s { blocks = slice_set s.blocks d (record (data_block_at s d) { kind = kind }) }
 
--- bytes with others written over them from a place on
+-- bytes, overwritten with new ones from a place on
 abbrev pub overwritten : ℕ → List ℕ → List ℕ → List ℕ
 overwritten at new old = take at old ++ (new ++ drop (at + length new) old)
 
--- the store once these bytes stand in d from a place on
+-- the store after these bytes were written into d from a place on
 abbrev pub with_bytes_written : ℕ → ℕ → List ℕ → DataStore → DataStore
 with_bytes_written d at bytes s = record s {
   blocks = slice_set s.blocks d (record (data_block_at s d) { bytes = overwritten at bytes (data_block_at s d).bytes });
 }
 
--- the store once so many bytes of one data block, from a place on, stand in another, from a place on
+-- the store after `len` bytes of one data block, from a place on, were copied into another, from a place on
 abbrev pub with_bytes_copied : ℕ → ℕ → ℕ → ℕ → ℕ → DataStore → DataStore
 with_bytes_copied from at into to len s = with_bytes_written into to (take len (drop at (data_block_at s from).bytes)) s
 
--- of each class the size, how many of its data blocks are free, and how many there are
+-- for each class its size, the number of its free data blocks, and the number of all of them
 abbrev pub class_infos : DataStore → List ClassInfo
 class_infos s = map (λ p. record { size = p.0.size; free = length p.1; total = p.0.count }) (zip s.classes s.free)
 
@@ -110,12 +110,12 @@ class_infos s = map (λ p. record { size = p.0.size; free = length p.1; total = 
 abbrev pub fresh_data_block : ℕ → ClassSpec → DataBlock
 fresh_data_block number c = record { class = number; kind = MData; bytes = replicate c.size 0 }
 
--- the numbers of each class's blocks, class by class from this one on
+-- for each class the numbers of its data blocks, which count up from `first`, class by class
 abbrev pub numbers_from : ℕ → List ClassSpec → List (List ℕ)
 numbers_from first [] = []
 numbers_from first (c ∷ cs) = range_with_len first c.count ∷ numbers_from (first + c.count) cs
 
--- the store of a new pool: all blocks are free, in rising order
+-- the store of a new pool: all data blocks are free, in rising order
 abbrev pub opening_store : List ClassSpec → DataStore
 opening_store cs = record {
   classes = cs;

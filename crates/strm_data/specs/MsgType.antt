@@ -1,15 +1,15 @@
--- The message types, and the class and the name of each.
+-- The message types, which of them have high priority, and their names.
 use denote.Enum.Bare.{sameb}
 use Rattle.std.specs.Prelude.{ℕ, Bool, true, false, List, [], ◌∷◌, codes}
 use Rattle.strm_data.specs.contracts.msg_type.MsgType.{the_type}
 use Rattle.strm_data.specs.declared.msg_type.MsgType.{MsgType}
 use Rattle.strm_data.specs.declared.msg_type.MsgType.TheVariants.{MData, MProto, MBreak, MPassfp, MSig, MDelay, MCtl, MIoctl, MSetopts, MIocack, MIocnak, MPcproto, MPcsig, MRead, MFlush, MStop, MStart, MHangup, MError, MCopyin, MCopyout, MIocdata}
 
--- whether two types are one: what `==` answers
+-- whether two types are equal, as `==` returns
 unfoldable pub same_kind : MsgType → MsgType → Bool
 same_kind = sameb the_type
 
--- every type
+-- every type, in order of declaration
 abbrev pub all_types : List MsgType
 all_types =
     MData ∷ MProto ∷ MBreak ∷ MPassfp ∷ MSig ∷ MDelay ∷ MCtl ∷ MIoctl ∷ MSetopts ∷ MIocack ∷ MIocnak ∷ MPcproto ∷ MPcsig ∷ MRead

@@ -1,4 +1,4 @@
--- The number and the name of each refusal.
+-- The number and the name of each refusal, as transcripts show them.
 use Rattle.std.specs.Prelude.{ℕ, List, codes}
 use Rattle.strm_data.specs.declared.refusal.Refusal.{Refusal}
 use Rattle.strm_data.specs.declared.refusal.Refusal.TheVariants.{TooLarge, NoMblk, NoData, RefMax, NoSuchBlock, Shared, NoRoom, Short, NoSuchPlace, BadOrder, NoSuchQueue, Full, IdsSpent, NotPending, Stranger, TraceFull, Worn, DeskMissing, BadMarks, BadShared}

@@ -1,4 +1,4 @@
-//! Data blocks by number, and the free ones of each size class.
+//! Data blocks by number, and the free data blocks of each size class.
 ghost use Rattle.std.specs.Prelude.{◌≡◌, ℕ, ◌+◌, ◌-◌, ◌^◌, ◌<◌, ◌≤◌, ◌++◌, IfOk, IfErr, IfSome, IsTrue, OnOk, Err, None, [], length, nat_le, take, drop, replicate, slice_get, slice_set};
 ghost use Rattle.std.specs.List.{list_any, range_with_len};
 ghost use Rattle.strm_links.specs.Rows.{holder, list_at};
@@ -18,28 +18,29 @@ use std::marker::Model;
 use std::mem::size_of;
 use strm_links::Stacks;
 
-/// The number of a data block, from 0 on, class by class.
+/// The number of a data block. Data blocks are numbered from 0 on, class by class.
 pub type DataNo = u32;
 
-/// Data blocks in one to `MOST_CLASSES` size classes, and for each class a list of the free ones.
+/// Data blocks in 1 to `MOST_CLASSES` size classes, and for each class a list of its free data blocks.
 ///
-/// A data block has a capacity, a type, its bytes, and a count: how many message blocks name it. It is in use
-/// where that is above 0, and free where it is 0. A free one is taken from the front of its class's list and
-/// comes back to the front. No call but `new` takes memory.
+/// A data block has a capacity, a type, its bytes, and a count of references: the message blocks that use it. It is free
+/// if that count is 0, and in use otherwise. `take` takes it from the front of its class's list, and its last `drop_name`
+/// returns it there. Only `new` takes memory.
 ///
-/// Data blocks with a type and a count of references are those of UNIX System V Release 4 STREAMS (`datab`);
-/// the classes, the order of the free lists and the greatest count are this project's own choice.
+/// These are the data blocks of UNIX System V Release 4 STREAMS (`datab`), which have a type and a count of references.
+/// The limit on references is from STREAMS too, where `db_ref` is a byte. The classes and the order of the free lists
+/// are this project's own choice.
 #[derive(Debug, Drop)]
 pub struct Data {
     classes: Vec<Class>,
-    // For each class the bytes of its data blocks, one behind the other.
+    // For each class the bytes of its data blocks, one block after the other.
     regions: Vec<Vec<u8>>,
     blocks: Vec<DataBlock>,
-    // For each class the list of its free data blocks.
+    // For each class a stack of its free data blocks.
     free: Stacks,
 }
 
-// A size class, whose data blocks have the numbers from `first` on.
+// A size class. Its data blocks have the numbers from `first` on.
 #[derive(Clone, Copy, Debug)]
 struct Class {
     spec: ClassSpec,
@@ -50,7 +51,7 @@ struct Class {
 struct DataBlock {
     class: u8,
     kind: MsgType,
-    // How many message blocks name it.
+    // The number of references.
     names: u8,
 }
 
@@ -58,7 +59,7 @@ const _: () = prove!(size_of::<Class>() == 12 && size_of::<DataBlock>() == 3);
 
 const _: () = prove!(size_of::<Data>() == 120 && size_of::<Vec<u8>>() == 24);
 
-// Where bytes begin: at a place of the region of a class.
+// A place in the region of a class.
 #[derive(Clone, Copy, Debug)]
 struct RegionPlace {
     class: usize,
@@ -66,7 +67,7 @@ struct RegionPlace {
 }
 
 impl Class {
-    // Where the bytes of a data block of this class begin in the region.
+    // The place in the region where the bytes of a data block of this class begin.
     fn start_of(self, number: DataNo) -> usize
         requires { self.first ≤ number }
         ensures start { result ≡ start_in self number }
@@ -81,14 +82,14 @@ impl Model for Data {
 
     ghost Value = { CountedStore };
 
-    ghost use Rattle.strm_data.specs.DataLayout.{counted_store, IsLaidOut};
+    ghost use Rattle.strm_data.specs.DataLayout.{counted_store, IsSound};
 
     ghost view = { counted_store };
 
-    ghost invariant = { IsLaidOut };
+    ghost invariant = { IsSound };
 }
 
-// The number of all data blocks.
+// The number of data blocks of all classes together.
 fn total_of(specs: &[ClassSpec]) -> u32
     requires { total_of specs.now ≤ most_data_blocks }
     ensures { result ≡ total_of specs.now }
@@ -96,14 +97,14 @@ fn total_of(specs: &[ClassSpec]) -> u32
     specs.iter().map(|spec| spec.count).sum()
 }
 
-// Whether some class has blocks of a size or more.
+// Whether some class has blocks of `size` bytes or more.
 fn fits_a_class(size: u32, classes: &[Class]) -> bool
     ensures { result ≡ list_any (λ class. nat_le size class.spec.size) classes.now }
 {
     classes.iter().any(|class| class.spec.size >= size)
 }
 
-// Writes bytes over others from a place on.
+// Overwrites bytes with others, from place `at` on.
 fn overwrite(old: &mut [u8], at: usize, new: &[u8])
     requires { at + length new.now ≤ length old.old }
     ensures { old.new ≡ overwritten at new.now old.old }
@@ -111,7 +112,7 @@ fn overwrite(old: &mut [u8], at: usize, new: &[u8])
     old[at..at + new.len()].copy_from_slice(new);
 }
 
-// Where byte `at` of a data block stands.
+// The place of byte `at` of a data block.
 fn place_of(classes: &[Class], blocks: &[DataBlock], number: DataNo, at: u32) -> RegionPlace
     requires there { number < length blocks.now }
     requires class { (block_at blocks.now number).class < length classes.now }
@@ -127,8 +128,8 @@ fn place_of(classes: &[Class], blocks: &[DataBlock], number: DataNo, at: u32) ->
     }
 }
 
-// Copies so many bytes of a region from a place to another. Those of two data blocks lie apart, and are copied as those of two
-// regions are, all at once: `copy_within`, which serves places that overlap too, goes byte by byte.
+// Copies `len` bytes of a region from one place to another. If the places do not overlap, this is one slice copy, as
+// between two regions. `copy_within` allows overlap, and goes byte by byte.
 #[inline(always)]
 fn copy_inside(region: &mut [u8], from: usize, into: usize, len: usize)
     requires there { from + len ≤ length region.old }
@@ -146,7 +147,7 @@ fn copy_inside(region: &mut [u8], from: usize, into: usize, len: usize)
     }
 }
 
-// Copies so many bytes from a place to another, of the same region or another.
+// Copies `len` bytes from one place to another, in one region or between two.
 #[inline(always)]
 fn copy_bytes(regions: &mut [Vec<u8>], from: RegionPlace, into: RegionPlace, len: usize)
     requires from_class { from.class < length regions.old }
@@ -154,7 +155,9 @@ fn copy_bytes(regions: &mut [Vec<u8>], from: RegionPlace, into: RegionPlace, len
     requires low { from.start + len < 2 ^ 64 }
     requires there { from.start + len ≤ length (region_at (bytes_of regions.old) from.class) }
     requires room { into.start + len ≤ length (region_at (bytes_of regions.old) into.class) }
-    ensures { bytes_of regions.new ≡ slice_set (bytes_of regions.old) into.class (overwritten into.start (take len (drop from.start (region_at (bytes_of regions.old) from.class))) (region_at (bytes_of regions.old) into.class)) }
+    ensures { bytes_of regions.new ≡ slice_set (bytes_of regions.old) into.class
+        (overwritten into.start (take len (drop from.start (region_at (bytes_of regions.old) from.class)))
+        (region_at (bytes_of regions.old) into.class)) }
 {
     let bytes = from.start..from.start + len;
     if from.class == into.class {
@@ -168,7 +171,7 @@ fn copy_bytes(regions: &mut [Vec<u8>], from: RegionPlace, into: RegionPlace, len
     }
 }
 
-// Copies bytes out, from a place on.
+// Copies bytes from place `at` on into `into`, which they fill.
 fn copy_out(bytes: &[u8], at: usize, into: &mut [u8])
     requires { at + length into.old ≤ length bytes.now }
     ensures { into.new ≡ take (length into.old) (drop at bytes.now) }
@@ -176,7 +179,7 @@ fn copy_out(bytes: &[u8], at: usize, into: &mut [u8])
     into.copy_from_slice(&bytes[at..at + into.len()]);
 }
 
-// Puts so many free nodes, from `first` on, in an empty list: the last joins first, so that `first` comes to its front.
+// Puts `count` free nodes, from `first` on, into an empty list. The last joins first, so `first` ends up at the front.
 fn fill(free: &mut Stacks, list: u32, first: u32, count: u32)
     requires list { list < length free.old.lists }
     requires empty { list_at list free.old ≡ [] }
@@ -193,7 +196,7 @@ fn fill(free: &mut Stacks, list: u32, first: u32, count: u32)
     }
 }
 
-// For each class a list of its data blocks, in rising order.
+// Makes for each class a list of its data blocks, in rising order.
 fn free_lists(alloc: Global, specs: &[ClassSpec]) -> Result<Stacks, AllocError>
     requires few { length specs.now ≤ most_classes }
     requires total { total_of specs.now ≤ most_data_blocks }
@@ -209,9 +212,10 @@ fn free_lists(alloc: Global, specs: &[ClassSpec]) -> Result<Stacks, AllocError>
     Ok(free)
 }
 
-// Adds so many data blocks of a class, which nothing names.
+// Adds `count` data blocks of a class, without references.
 fn add_blocks(blocks: &mut Vec<DataBlock>, class: u8, count: u32) -> Result<(), AllocError>
-    ensures { OnOk result (blocks.new.items ≡ blocks.old.items ++ replicate count (record { class = class; kind = MData; names = 0 })) }
+    ensures { OnOk result (blocks.new.items ≡ blocks.old.items ++ replicate count
+        (record { class = class; kind = MData; names = 0 })) }
 {
     let block = DataBlock {
         class,
@@ -222,12 +226,13 @@ fn add_blocks(blocks: &mut Vec<DataBlock>, class: u8, count: u32) -> Result<(), 
 }
 
 impl Data {
-    /// The data blocks of these classes: all are free, in rising order, of type M_DATA, and their bytes are 0.
+    /// Makes the data blocks of these classes. All are free, in rising order, and of type M_DATA, and their bytes are 0.
     ///
-    /// The classes are lawful: 1 to `MOST_CLASSES`, each of a greater size than the one before, of 1 to `MOST_DATA_BLOCK_BYTES`
-    /// bytes, with one block at least, and with at most `MOST_DATA_BLOCKS` in all.
+    /// The classes must be lawful. There are 1 to `MOST_CLASSES`, each of a greater size than the one before. A size is 1
+    /// to `MOST_DATA_BLOCK_BYTES` bytes. Each class has one block at least, and all have at most `MOST_DATA_BLOCKS`
+    /// together.
     ///
-    /// Fails where the memory for them is refused, and then keeps none.
+    /// Fails if it runs out of memory, and then keeps none. Takes a step for each data block and each byte.
     pub fn new(alloc: Global, specs: &[ClassSpec]) -> Result<Data, AllocError>
         requires { IsTrue (are_lawful specs.now) }
         ensures opened { IfOk result (λ s. s ≡ opening_counted specs.now) }
@@ -269,11 +274,11 @@ impl Data {
         })
     }
 
-    /// Takes the first free data block of the smallest class that has blocks of `size` bytes or more and a free
-    /// one. It is of type M_DATA, one message block names it, and its bytes stay what they were.
+    /// Takes a data block for `size` bytes and returns its number: the first free one of the smallest class that fits the
+    /// size and has a free one. The data block gets type M_DATA and one reference, and keeps its bytes.
     ///
-    /// Refused as `TooLarge` where the size is above the largest class, else as `NoData` where no data block
-    /// that fits is free; nothing changes then.
+    /// Refused as `TooLarge` if the size is above the largest class, then as `NoData` if no data block that fits is free.
+    /// On an error nothing changes. Takes at most two steps for each class.
     pub fn take(&mut self, size: u32) -> Result<DataNo, Refusal>
         ensures answer { result ≡ take_data size self.old.store }
         ensures after { self.new ≡ after_take self.old (take_data size self.old.store) }
@@ -289,23 +294,22 @@ impl Data {
         Ok(number)
     }
 
-    /// Whether `take` would give a data block for this size now. Nothing changes.
+    /// Says whether `take` would succeed for this size now. Changes nothing. Takes at most two steps for each class.
     pub fn fits(&self, size: u32) -> bool
         ensures { result ≡ fits size self.now.store }
     {
         self.class_for(size).is_ok()
     }
 
-    /// Whether some class has blocks of `size` bytes or more, free or not: where none has, `take` is refused as
-    /// `TooLarge`. Nothing changes.
+    /// Says whether some class has blocks of `size` bytes or more, free or not. If none has, `take` refuses the size as
+    /// `TooLarge`. Changes nothing. Takes at most a step for each class.
     pub fn has_class_for(&self, size: u32) -> bool
         ensures { result ≡ fits_a_class size self.now.store.classes }
     {
         fits_a_class(size, &self.classes)
     }
 
-    /// One message block more names the data block, which is in use and has fewer than `MOST_DATA_BLOCK_NAMES` names. All else
-    /// stays.
+    /// Adds a reference to a data block that is in use and has fewer than `MOST_DATA_BLOCK_NAMES`. All else stays unchanged.
     pub fn name(&mut self, number: DataNo)
         requires there { number < length self.old.store.blocks }
         requires used { IsInUse self.old number }
@@ -316,8 +320,8 @@ impl Data {
         self.blocks[number as usize].names += 1;
     }
 
-    /// A message block names the data block, which is in use, no more: where it was the last, the data block is
-    /// free, at the front of its class's list. All else stays, its type and bytes too.
+    /// Removes a reference from a data block that is in use. If that was the last one, the data block becomes free, at
+    /// the front of its class's list. All else stays unchanged, its type and bytes too.
     pub fn drop_name(&mut self, number: DataNo)
         requires there { number < length self.old.store.blocks }
         requires used { IsInUse self.old number }
@@ -332,14 +336,14 @@ impl Data {
         }
     }
 
-    /// How many data blocks there are: their numbers are below it. Nothing changes.
+    /// Returns the number of data blocks. All data blocks have numbers below it. Changes nothing.
     pub fn len(&self) -> usize
         ensures { result ≡ length self.now.store.blocks }
     {
         self.blocks.len()
     }
 
-    /// How many message blocks name a data block, 0 to `MOST_DATA_BLOCK_NAMES`. Nothing changes.
+    /// Returns the number of references to a data block, 0 to `MOST_DATA_BLOCK_NAMES`. Changes nothing.
     pub fn count(&self, number: DataNo) -> u8
         requires { number < length self.now.store.blocks }
         ensures { result ≡ count_of self.now number }
@@ -347,7 +351,7 @@ impl Data {
         self.blocks[number as usize].names
     }
 
-    /// How many bytes a data block has room for, 1 to `MOST_DATA_BLOCK_BYTES`. Nothing changes.
+    /// Returns the capacity of a data block in bytes, 1 to `MOST_DATA_BLOCK_BYTES`. Changes nothing.
     pub fn cap(&self, number: DataNo) -> u32
         requires { number < length self.now.store.blocks }
         ensures answer { result ≡ capacity_of self.now.store number }
@@ -357,7 +361,7 @@ impl Data {
         self.classes[class].spec.size
     }
 
-    /// The type of a data block. Nothing changes.
+    /// Returns the type of a data block. Changes nothing.
     pub fn kind(&self, number: DataNo) -> MsgType
         requires { number < length self.now.store.blocks }
         ensures { result ≡ (data_block_at self.now.store number).kind }
@@ -365,7 +369,7 @@ impl Data {
         self.blocks[number as usize].kind
     }
 
-    /// Gives a data block another type. All else stays, its names and bytes too.
+    /// Gives a data block a type. All else stays unchanged, its references and bytes too.
     pub fn set_kind(&mut self, number: DataNo, kind: MsgType)
         requires { number < length self.old.store.blocks }
         ensures after { self.new ≡ record self.old { store = with_kind number kind self.old.store } }
@@ -374,22 +378,21 @@ impl Data {
         self.blocks[number as usize].kind = kind;
     }
 
-    /// Writes bytes over those of a data block, from place `at` on. They lie in its capacity. All other bytes, names and types
-    /// stay.
+    /// Overwrites bytes of a data block, from place `at` on, with `bytes`. They must fit into its capacity. All other
+    /// bytes, references and types stay unchanged.
     pub fn write(&mut self, number: DataNo, at: u32, bytes: &[u8])
         requires there { number < length self.old.store.blocks }
         requires room { at + length bytes.now ≤ capacity_of self.old.store number }
         ensures after { self.new ≡ record self.old { store = with_bytes_written number at bytes.now self.old.store } }
         ensures kept { IsKept self.new }
     {
-        let class = usize::from(self.blocks[number as usize].class);
-        let start = self.classes[class].start_of(number) + at as usize;
-        overwrite(&mut self.regions[class], start, bytes);
+        let place = place_of(&self.classes, &self.blocks, number, at);
+        overwrite(&mut self.regions[place.class], place.start, bytes);
     }
 
-    /// Copies `len` bytes of a data block, from place `at` on, over those of another, from place `to` on, or of the same. Both
-    /// lie in their block's capacity. All other bytes, names and types stay. Takes one slice copy; where the
-    /// places overlap in one block, a step for each byte.
+    /// Copies `len` bytes of data block `from`, from place `at` on, over those of data block `into`, from place `to` on.
+    /// Both may be the same block. The bytes must be within each block's capacity. All other bytes, references and types
+    /// stay unchanged. Takes one slice copy, or a step for each byte if the places overlap.
     #[inline(always)]
     pub fn copy(&mut self, from: DataNo, at: u32, into: DataNo, to: u32, len: u32)
         requires from { from < length self.old.store.blocks }
@@ -404,20 +407,19 @@ impl Data {
         copy_bytes(&mut self.regions, source, target, len as usize);
     }
 
-    /// Copies bytes of a data block out, from place `at` on, as many as `into` has room for. They lie in its
-    /// capacity. Nothing else changes.
+    /// Copies bytes of a data block, from place `at` on, into `into`, which they fill. They must be within the block's
+    /// capacity. Changes nothing else.
     pub fn read(&self, number: DataNo, at: u32, into: &mut [u8])
         requires there { number < length self.now.store.blocks }
         requires room { at + length into.old ≤ capacity_of self.now.store number }
         ensures { into.new ≡ take (length into.old) (drop at (data_block_at self.now.store number).bytes) }
     {
-        let class = usize::from(self.blocks[number as usize].class);
-        let start = self.classes[class].start_of(number) + at as usize;
-        copy_out(&self.regions[class], start, into);
+        let place = place_of(&self.classes, &self.blocks, number, at);
+        copy_out(&self.regions[place.class], place.start, into);
     }
 
-    /// The size of a class, how many of its data blocks are free, and how many it has; none where there is no
-    /// such class. Nothing changes.
+    /// Returns the size of a class, the number of its free data blocks and that of all of them, or none if there is no
+    /// such class. Classes count from 0, the smallest first. Changes nothing.
     pub fn class_info(&self, class: u8) -> Option<ClassInfo>
         ensures answer { result ≡ slice_get (class_infos self.now.store) class }
         ensures within { IfSome result (λ info. info.free ≤ info.total) }
@@ -430,18 +432,17 @@ impl Data {
         })
     }
 
-    /// How many data blocks of the largest class are free: as many can be taken one after the other, whatever their
-    /// sizes, where none is too large. Nothing changes.
+    /// Returns the number of free data blocks of the largest class. This many can be taken in turn, whatever their sizes,
+    /// if no size is too large. Changes nothing.
     pub fn free_in_largest(&self) -> u32
         ensures { result ≡ length (free_of self.now.store (length self.now.store.classes - 1)) }
     {
         self.free.len(self.classes.len() as u32 - 1)
     }
 
-    /// The law that every data block is accounted for. There are one to `MOST_CLASSES` size classes, and each has as
-    /// many data blocks as it says; each data block is in one of them and as long as that says. Where a message
-    /// block names it, `MOST_DATA_BLOCK_NAMES` do at most, and it is in no free list; where none does, it stands in
-    /// its own class's list, once. Does nothing.
+    /// Law: every data block is accounted for. There are 1 to `MOST_CLASSES` size classes, and each has its number of data blocks.
+    /// Each data block is in one class, and has that class's size. It has at most `MOST_DATA_BLOCK_NAMES` references. It is in its
+    /// class's free list, once, if it has none, and otherwise in no free list. Does nothing.
     pub fn accounts_for_blocks(&self)
         ensures kept { IsKept self.now }
     {

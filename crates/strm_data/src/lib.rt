@@ -1,4 +1,4 @@
-//! Data blocks in size classes, each with its type, its bytes and a count of the message blocks that name it.
+//! Data blocks in size classes. Each has a type, its bytes and a count of its references, the message blocks that use it.
 #![tactic(auto)]
 
 mod class_info;

@@ -1,62 +1,62 @@
-//! The type of a message.
+//! Message types: names, and which have high priority.
 ghost use Rattle.std.specs.Prelude.{◌≡◌};
 ghost use Rattle.strm_data.specs.MsgType.{all_types, is_high_priority, name_of};
 
-/// The type of a data block: that of a message is its first block's.
+/// The type of a data block. A message has the type of its first block.
 ///
-/// The types are those of the UNIX System V Release 4 Programmer's Guide: STREAMS, each ordinary or high
-/// priority there: the first nine are ordinary. A queue serves a high priority message before every ordinary one, whatever
-/// its band. What a type is for, modules and drivers agree on; here it decides priority, what a flush of data takes and
-/// which blocks `adjmsg`, `pullupmsg` and `msgdsize` go over.
+/// The types are those of the UNIX System V Release 4 Programmer's Guide: STREAMS. The first nine are ordinary, the
+/// others high priority. A queue serves a high priority message before every ordinary one, whatever its band. A type also
+/// decides which messages a flush of data frees, and which blocks `adjmsg`, `pullupmsg` and `msgdsize` use. Modules and
+/// drivers agree on all other uses of a type.
 #[derive(Clone, Copy, Debug, PartialEq, Eq)]
 pub enum MsgType {
     /// User data.
     MData,
     /// Protocol control information.
     MProto,
-    /// A driver is to send a break.
+    /// Tells a driver to send a break.
     MBreak,
-    /// A file pointer is passed.
+    /// Passes a file pointer.
     MPassfp,
-    /// A signal for the stream head, in its place among data.
+    /// A signal for the stream head, delivered in its place among data.
     MSig,
     /// A delay on output.
     MDelay,
-    /// From one module to another.
+    /// Control information for another module.
     MCtl,
-    /// A user asks for an `ioctl`.
+    /// A user's `ioctl` request.
     MIoctl,
-    /// Options of the stream head are set.
+    /// Sets options of the stream head.
     MSetopts,
-    /// An `ioctl` was done.
+    /// An `ioctl` succeeded.
     MIocack,
     /// An `ioctl` failed.
     MIocnak,
     /// Protocol control information of high priority.
     MPcproto,
-    /// A signal for the stream head, before all data.
+    /// A signal for the stream head, delivered before all data.
     MPcsig,
-    /// A user reads, and nothing is there.
+    /// A user reads, and there is no data.
     MRead,
-    /// Queues are to be flushed.
+    /// Tells modules, drivers and the stream head to flush their queues.
     MFlush,
-    /// Output is to stop.
+    /// Tells a driver to stop output.
     MStop,
-    /// Output is to start again.
+    /// Tells a driver to start output again.
     MStart,
     /// The line was hung up.
     MHangup,
     /// An error for the stream head.
     MError,
-    /// An `ioctl` asks for data of the user.
+    /// An `ioctl` needs data from the user.
     MCopyin,
     /// An `ioctl` has data for the user.
     MCopyout,
-    /// What became of an `MCopyin` or `MCopyout`.
+    /// The result of an `MCopyin` or `MCopyout`.
     MIocdata,
 }
 
-// Every type.
+// Every type, in order of declaration.
 const ALL: [MsgType; 22] = [
     MsgType::MData,
     MsgType::MProto,
@@ -83,14 +83,14 @@ const ALL: [MsgType; 22] = [
 ];
 
 impl MsgType {
-    /// Every type, in the order in which they are declared: the ordinary ones first.
+    /// Returns every type, in order of declaration: the ordinary types first.
     pub fn all() -> &'static [MsgType]
         ensures { result.now ≡ all_types }
     {
         &ALL
     }
 
-    /// Whether messages of this type go before all bands.
+    /// Says whether messages of this type have high priority, and so go before all bands.
     pub fn is_high_priority(self) -> bool
         ensures { result ≡ is_high_priority self }
     {
@@ -120,7 +120,7 @@ impl MsgType {
         }
     }
 
-    /// The type's name in STREAMS, such as `M_DATA`.
+    /// Returns the type's name in STREAMS, such as `M_DATA`.
     pub fn name(self) -> &'static str
         ensures { result.now ≡ name_of self }
     {

@@ -1,14 +1,14 @@
-//! Why a call is refused.
+//! Refusals: one type for all layers, with a number and a name for each.
 ghost use Rattle.std.specs.Prelude.{◌≡◌};
 ghost use Rattle.strm_data.specs.Refusal.{number_of, name_of};
 
 use thiserror::Error;
 
-/// Why a call is refused. A refused call changes nothing and gives its tokens back; but where a call at a shared pool is
-/// refused as `Worn` or `TraceFull`, its desk has seen the stamp that shows it.
+/// Why a call is refused. A refused call changes nothing and returns its tokens. One exception: when a shared pool
+/// refuses a call as `Worn` or `TraceFull`, the desk sees the stamp that shows why.
 ///
-/// Each refusal has a number, which is its discriminant and is what a transcript shows beside its name.
-/// 15 stands for no refusal. The numbers are this project's own choice.
+/// A refusal's number is its discriminant; transcripts show it beside the name. No refusal has number 15. The numbers are
+/// this project's own choice.
 #[derive(Clone, Copy, Debug, PartialEq, Eq, Error)]
 pub enum Refusal {
     /// `allocb`, `bufcall` or `pullupmsg` asks for more bytes than a data block of the largest class has.
@@ -17,73 +17,74 @@ pub enum Refusal {
     /// `allocb`, `dupb`, `dupmsg`, `copyb` or `copymsg` needs more message blocks than are free.
     #[error("fewer message blocks are free than the call needs")]
     NoMblk = 2,
-    /// `allocb`, `copyb`, `copymsg` or `pullupmsg` finds no free data block of so many bytes or more.
+    /// `allocb`, `copyb`, `copymsg` or `pullupmsg` finds no free data block that is large enough.
     #[error("no data block is free of a class that fits")]
     NoData = 3,
-    /// `dupb` or `dupmsg` would have more than `MOST_DATA_BLOCK_NAMES` message blocks name a data block.
+    /// `dupb` or `dupmsg` would give a data block more than `MOST_DATA_BLOCK_NAMES` references.
     #[error("too many message blocks would refer to one data block")]
     RefMax = 4,
-    /// `write`, `settype`, `block` or `rmvb` names a block, counted from 0, that the message has not.
+    /// `write`, `settype`, `block` or `rmvb` names a block that the message does not have. Blocks count from 0.
     #[error("the message has no such block")]
     NoSuchBlock = 5,
-    /// `write` or `settype` would change a data block that another message block names.
+    /// `write` or `settype` would change a data block that another message block refers to.
     #[error("more than one message block refers to the data block")]
     Shared = 6,
-    /// `write` has more bytes than fit behind the write place.
+    /// `write` has more bytes than fit after the write place.
     #[error("the bytes do not fit after the write place")]
     NoRoom = 7,
-    /// `adjmsg` asks for more bytes than the blocks of one type at the head have, or for a negative number at the tail; or
-    /// `pullupmsg` for more than those at the head have, or for fewer than -1.
+    /// `adjmsg` would remove more bytes than the blocks at that end have: at the head the leading blocks of the first
+    /// block's type, at the tail the trailing blocks of the last block's type. Or `pullupmsg` asks for more bytes than
+    /// the leading blocks have, or its count is below -1.
     #[error("the message has too few bytes of one type")]
     Short = 8,
-    /// `insq` names a place behind the end of the queue, or `rmvq` one where no message stands, counted from 0.
+    /// `insq` names a place after the queue's end, or `rmvq` a place without a message. Places count from 0.
     #[error("the queue has no such place")]
     NoSuchPlace = 9,
-    /// `insq` would have a message stand before one of a greater rank, or behind one of a lesser.
+    /// `insq` would put a message before one of a greater rank, or after one of a lesser rank.
     #[error("the ranks would rise from front to back")]
     BadOrder = 10,
-    /// A call names a queue, counted from 0, that the pool has not.
+    /// A call names a queue that the pool does not have. Queues count from 0.
     #[error("there is no such queue")]
     NoSuchQueue = 11,
-    /// `bufcall` finds as many wishes as there may be.
+    /// `bufcall` is called while the greatest number of wishes is recorded.
     #[error("no more wishes can be recorded")]
     Full = 12,
-    /// `bufcall` finds that the last id was given.
+    /// `bufcall` has no id left: it gave the last one.
     #[error("the last id was given")]
     IdsSpent = 13,
     /// `unbufcall` names a wish that is not recorded.
     #[error("no wish has this id")]
     NotPending = 14,
-    /// Never answered: a token is of the pool that gave it, and is spent once.
+    /// Reserved and never returned. A token belongs to the pool that gave it, and is spent once.
     #[error("reserved: no call returns this refusal")]
     Stranger = 16,
-    /// A call at a shared pool finds as many calls in its trace as that keeps.
+    /// A shared pool has no room in its trace for another call.
     #[error("the trace is full")]
     TraceFull = 17,
-    /// A call at a shared pool finds that the last stamp was given.
+    /// A shared pool has no stamp left: it gave the last one.
     #[error("the last stamp was given")]
     Worn = 18,
-    /// A shared pool is to be given up, and a desk that it handed out is not there.
+    /// A shared pool is to be taken apart, but a desk that it handed out is missing.
     #[error("a desk that was handed out is not among those gathered")]
     DeskMissing = 19,
-    /// `strqset` has a low water mark that is not below the high one.
+    /// `strqset` gets a low water mark that is not below the high one.
     #[error("the low water mark is not below the high one")]
     BadMarks = 20,
-    /// A pool is to be shared with no desk or too many, with a trace of no entry or too many, or from a first stamp that is too
-    /// great.
+    /// A pool is to be shared with no desk or too many, with a trace of no entries or too many, or from a first stamp
+    /// that is too great.
     #[error("the number of desks, the length of the trace or the first stamp is out of range")]
     BadShared = 21,
 }
 
 impl Refusal {
-    /// The refusal's number.
+    /// Returns the refusal's number.
     pub fn number(self) -> u8
         ensures { result ≡ number_of self }
     {
         self as u8
     }
 
-    /// The refusal's name, as a transcript shows it.
+    /// Returns the refusal's name, as transcripts show it.
     pub fn name(self) -> &'static str
         ensures { result.now ≡ name_of self }
     {

@@ -1,4 +1,4 @@
-//! Tests of strm_data, counted data blocks in size classes, by its public calls.
+//! Tests of strm_data by its public calls: data blocks, free lists, types and refusals.
 #![tactic(auto)]
 
 #[cfg(test)]

@@ -15,7 +15,7 @@ const fn class(size: u32, count: u32) -> ClassSpec
     ClassSpec { size, count }
 }
 
-// What is free of a class.
+// What `class_info` returns for such a class.
 const fn info(size: u32, free: u32, total: u32) -> Option<ClassInfo> {
     Some(ClassInfo { size, free, total })
 }

@@ -15,12 +15,7 @@ pub filled_more : (rows start : Rows) (list n number next : ℕ) → list < leng
     → record rows { lists = set rows.lists list (number ∷ list_at list rows) } ≡ record start { lists = set start.lists list (range_with_len number (n + 1)) }
 filled_more rows start list n number next within above so_far =
     let xs = range_with_len next n in
-    ap (λ (r : Rows). record r { lists = set r.lists list (number ∷ list_at list r) }) so_far
-    ∙ ap (λ ys. record start { lists = ys })
-    (set-set start.lists list xs (number ∷ get_or (set start.lists list xs) list [])
-    ∙ ap (λ ys. set start.lists list (number ∷ ys)) (get_or-set_same start.lists list xs [] within)
-    ∙ ap (λ m. set start.lists list (number ∷ range_with_len m n)) (sym above)
-    ∙ ap (λ m. set start.lists list (range_with_len number m)) (let e : suc n ≡ n + 1 = omega arith in e))
+    cc (so_far, set-set start.lists list xs (number ∷ get_or (set start.lists list xs) list []), get_or-set_same start.lists list xs [] within, above, (let e : suc n ≡ n + 1 = omega arith in e))
 
 -- ---- class by class
 

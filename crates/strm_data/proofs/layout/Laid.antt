@@ -1,5 +1,5 @@
 -- What a contract sees of the data blocks once one of them, a region or a free list is written to in memory.
-use Rattle.std.proofs.Common.{◌≡◌, ◌≢◌, ℕ, zero, suc, ◌+◌, ◌-◌, ◌*◌, ◌<◌, ◌≤◌, List, [], ◌∷◌, length, get_or, set, map, refl, sym, ap, ◌∙◌, subst, inl, inr, arith, Some, None, Vec, Global, length-set, get_or-set_same, get_or-set_other}
+use Rattle.std.proofs.Common.{◌≡◌, ◌≢◌, ℕ, zero, suc, ◌+◌, ◌-◌, ◌*◌, ◌<◌, ◌≤◌, List, [], ◌∷◌, length, get_or, set, map, refl, sym, ap, ◌∙◌, subst, inl, inr, arith, Some, None, length-set, get_or-set_same, get_or-set_other}
 use Rattle.std.proofs.lemmas.Bool.{cases_eq, cases_lt}
 use Rattle.std.proofs.lemmas.List.{map-set, get_or-map, length-map, set-get_or, get_or_past, get_or_default}
 use Rattle.std.proofs.lemmas.Option.{slice_get-get_or, slice_get_past}
@@ -18,15 +18,15 @@ use Rattle.strm_data.specs.DataStore.{class_infos, no_data_block, data_block_at,
 use Rattle.strm_data.proofs.lists.Tables.{length-tabulated, get_or-tabulated, tabulated-set, length-part, length-overwritten, part_before, part_behind, part_over}
 use Rattle.strm_data.proofs.store.Kept.{free_within}
 
--- ---- one data block more or less to the right
+-- ---- where the bytes of a data block are
 
--- the place behind a data block is at most that of a later one
+-- the bytes of a data block end before those of a later one begin
 start_later : (k : Class) (d e : ℕ) → k.first ≤ d → d < e → start_in k d + k.spec.size ≤ start_in k e
 start_later k d e from later =
     let next : (d - k.first + 1) * k.spec.size ≤ (e - k.first) * k.spec.size = mul-le-mul_right k.spec.size (let l : d - k.first + 1 ≤ e - k.first = omega arith in l) in
     omega (arith, next)
 
--- and the region goes on to behind it
+-- and before the region ends
 pub start_within : (k : Class) (d : ℕ) → k.first ≤ d → d < k.first + k.spec.count → start_in k d + k.spec.size ≤ k.spec.size * k.spec.count
 start_within k d from below =
     let next : (d - k.first + 1) * k.spec.size ≤ k.spec.count * k.spec.size = mul-le-mul_right k.spec.size (let l : d - k.first + 1 ≤ k.spec.count = omega arith in l) in
@@ -62,15 +62,12 @@ module _ (classes : List Class) (regions : List (List ℕ)) (blocks : List DataB
 
       class_stays : (e : ℕ) → (block_at new e).class ≡ (block_at blocks e).class
       class_stays e = elim (cases_eq e d) [
-        | inl same ↦ ap (λ j. (block_at new j).class) same ∙ ap (λ (x : DataBlock). x.class) here ∙ class ∙ ap (λ j. (block_at blocks j).class) (sym same)
+        | inl same ↦ cc (same, here, class)
         | inr other ↦ ap (λ (x : DataBlock). x.class) (elsewhere e other)
       ]
 
       altered_here : seen_block classes regions new d ≡ record (data_block_at s.store d) { kind = b.kind }
-      altered_here =
-          ap (λ (x : DataBlock). record { class = x.class; kind = x.kind; bytes = bytes_in (class_at classes x.class) (region_at regions x.class) d }) here
-          ∙ ap (λ c. record { class = c; kind = b.kind; bytes = bytes_in (class_at classes c) (region_at regions c) d }) class
-          ∙ ap (λ (x : store.DataBlock). record x { kind = b.kind }) (sym seen_at)
+      altered_here = cc (here, class, seen_at)
 
       altered_blocks : tabulated (seen_block classes regions new) (length new) ≡ set s.store.blocks d (record (data_block_at s.store d) { kind = b.kind })
       altered_blocks =
@@ -95,9 +92,7 @@ module _ (classes : List Class) (regions : List (List ℕ)) (blocks : List DataB
 
       -- of the same type too
       renamed_blocks : b.kind ≡ (block_at blocks d).kind → tabulated (seen_block classes regions new) (length new) ≡ s.store.blocks
-      renamed_blocks kind =
-          altered_blocks ∙ ap (λ k. set s.store.blocks d (record (data_block_at s.store d) { kind = k })) (kind ∙ ap (λ (x : store.DataBlock). x.kind) (sym seen_at))
-          ∙ set-get_or s.store.blocks d no_data_block
+      renamed_blocks kind = cc (altered_blocks, kind, seen_at, set-get_or s.store.blocks d no_data_block)
 
       -- and of as many names
       pub seen_recounted : (lists : List (List ℕ)) → b.kind ≡ (block_at blocks d).kind → counted classes regions new lists
@@ -151,32 +146,23 @@ module _ (classes : List Class) (regions : List (List ℕ)) (blocks : List DataB
         written_there e there same other =
             let wide : start_in k d + at + length bytes ≤ length region = omega (arith, whole) in
             let from : k.first ≤ e = subst (λ j. (class_at classes j).first ≤ e) same (placed.from e there) in
-            let below : e < k.first + k.spec.count = subst (λ j. e < (class_at classes j).first + (class_at classes j).spec.count) same (placed.below e there) in
             elim (cases_lt e d) [
               | inl earlier ↦ part_before (start_in k d + at) bytes region wide k.spec.size (start_in k e) (omega (arith, start_later k e d from earlier))
               | inr later ↦
-                  part_behind (start_in k d + at) bytes region wide k.spec.size (start_in k e)
-                  (omega (arith, start_later k d e (placed.from d within) (omega (arith, other))))
-                  (omega (arith, start_within k e from below, placed.filled c))
+                  part_behind (start_in k d + at) bytes region wide k.spec.size (start_in k e) (omega (arith, start_later k d e (placed.from d within) (omega (arith, other))))
             ]
 
         abbrev entry_with : List ℕ → ℕ → store.DataBlock
         entry_with bytes e = record { class = (block_at blocks e).class; kind = (block_at blocks e).kind; bytes = bytes }
 
         seen_here : seen_block classes after blocks d ≡ record (data_block_at s.store d) { bytes = overwritten at bytes (data_block_at s.store d).bytes }
-        seen_here =
-            ap (λ r. entry_with (bytes_in k r d) d) (get_or-set_same regions c written [] in_regions) ∙ ap (λ xs. entry_with xs d) written_here
-            ∙ ap (λ (x : store.DataBlock). record x { bytes = overwritten at bytes x.bytes }) (sym seen_at)
+        seen_here = cc (get_or-set_same regions c written [] in_regions, written_here, seen_at)
 
         seen_there : (e : ℕ) → e < length blocks → e ≢ d → seen_block classes after blocks e ≡ seen_block classes regions blocks e
         seen_there e there other =
             let m = (block_at blocks e).class in
             elim (cases_eq m c) [
-              | inl same ↦
-                  let of_class : (j : ℕ) → j ≡ c → bytes_in (class_at classes j) (region_at after j) e ≡ bytes_in (class_at classes j) (region_at regions j) e =
-                  λ j is. subst (λ i. bytes_in (class_at classes i) (region_at after i) e ≡ bytes_in (class_at classes i) (region_at regions i) e) (sym is)
-                  (ap (λ r. bytes_in k r e) (get_or-set_same regions c written [] in_regions) ∙ written_there e there same other) in
-                  ap (λ xs. entry_with xs e) (of_class m same)
+              | inl same ↦ cc (get_or-set_same regions c written [] in_regions, written_there e there same other, same)
               | inr differs ↦ ap (λ r. entry_with (bytes_in (class_at classes m) r e) e) (get_or-set_other regions c m written [] differs)
             ]
 
@@ -187,9 +173,7 @@ module _ (classes : List Class) (regions : List (List ℕ)) (blocks : List DataB
         IsPlaced-written = record {
           regioned = omega (arith, placed.regioned, length-set regions c written);
           filled = λ j. elim (cases_eq j c) [
-            | inl same ↦
-                subst (λ i. length (region_at after i) ≡ (class_at classes i).spec.size * (class_at classes i).spec.count) (sym same)
-                (ap length (get_or-set_same regions c written [] in_regions) ∙ length_written ∙ placed.filled c)
+            | inl same ↦ cc (same, get_or-set_same regions c written [] in_regions, length_written, placed.filled c)
             | inr other ↦ ap length (get_or-set_other regions c j written [] other) ∙ placed.filled j
           ];
           from = placed.from;
@@ -211,19 +195,13 @@ module _ (a : Inside) (v : CountedStore) (view : counted_store a ≡ v) (d : ℕ
     block_is = read ∙ get_or_default a.blocks.items d b no_block block_within
 
     pub count_is : b.names ≡ count_of v d
-    count_is =
-        ap (λ (x : DataBlock). x.names) block_is ∙ sym (seen_count a.classes.items regions_of a.blocks.items a.free.lists d block_within)
-        ∙ ap (λ (s : CountedStore). count_of s d) view
+    count_is = cc (block_is, seen_count a.classes.items regions_of a.blocks.items a.free.lists d block_within, view)
 
     pub kind_is : b.kind ≡ (data_block_at v.store d).kind
-    kind_is =
-        ap (λ (x : DataBlock). x.kind) block_is ∙ ap (λ (x : store.DataBlock). x.kind) (sym (seen_at a.classes.items regions_of a.blocks.items a.free.lists d block_within))
-        ∙ ap (λ (s : CountedStore). (data_block_at s.store d).kind) view
+    kind_is = cc (block_is, seen_at a.classes.items regions_of a.blocks.items a.free.lists d block_within, view)
 
     pub class_of_is : b.class ≡ class_of v.store d
-    class_of_is =
-        ap (λ (x : DataBlock). x.class) block_is ∙ sym (seen_class a.classes.items regions_of a.blocks.items a.free.lists d block_within)
-        ∙ ap (λ (s : CountedStore). class_of s.store d) view
+    class_of_is = cc (block_is, seen_class a.classes.items regions_of a.blocks.items a.free.lists d block_within, view)
 
     -- in class i, which k is
     module _ (placed : IsPlaced a.classes.items regions_of a.blocks.items) (i : ℕ) (index : i ≡ b.class) where
@@ -233,13 +211,6 @@ module _ (a : Inside) (v : CountedStore) (view : counted_store a ≡ v) (d : ℕ
       pub class_within : i < length a.classes.items
       class_within = omega (arith, same_class, in_classes a.classes.items regions_of a.blocks.items a.free.lists d block_within placed)
 
-      pub region_within : i < length a.regions.items
-      region_within = omega (arith, class_within, placed.regioned, length-map a.regions.items (λ r. r.items))
-
-      -- r is its region
-      pub region_is : (r : Vec ℕ Global) → r ≡ get_or a.regions.items i r → region_at regions_of i ≡ r.items
-      region_is r read_region = get_or-map (λ (x : Vec ℕ Global). x.items) a.regions.items i r [] region_within ∙ ap (λ (x : Vec ℕ Global). x.items) (sym read_region)
-
       pub list_within : IsKept (counted_store a) → i < length a.free.lists
       list_within kept = omega (arith, class_within, kept.lists, length-map a.classes.items (λ k. k.spec))
 
@@ -247,25 +218,10 @@ module _ (a : Inside) (v : CountedStore) (view : counted_store a ≡ v) (d : ℕ
         pub class_is : k ≡ class_at a.classes.items (block_at a.blocks.items d).class
         class_is = read_class ∙ get_or_default a.classes.items i k no_class class_within ∙ ap (class_at a.classes.items) same_class
 
-        pub first_is : k.first ≤ d
-        first_is = rw class_is (placed.from d block_within)
-
         pub capacity_is : k.spec.size ≡ capacity_of v.store d
-        capacity_is =
-            ap (λ (x : Class). x.spec.size) class_is ∙ sym (seen_capacity a.classes.items regions_of a.blocks.items a.free.lists d block_within placed)
-            ∙ ap (λ (s : CountedStore). capacity_of s.store d) view
+        capacity_is = cc (class_is, seen_capacity a.classes.items regions_of a.blocks.items a.free.lists d block_within placed, view)
 
-        -- where its bytes lie
-        pub range_within : start_in k d + k.spec.size ≤ length (region_at regions_of i)
-        range_within = rw (class_is, same_class) (whole a.classes.items regions_of a.blocks.items a.free.lists d block_within placed)
-
-        pub bytes_are : bytes_in k (region_at regions_of i) d ≡ (data_block_at v.store d).bytes
-        bytes_are =
-            (λ j. bytes_in (class_is j) (region_at regions_of (same_class j)) d)
-            ∙ ap (λ (x : store.DataBlock). x.bytes) (sym (seen_at a.classes.items regions_of a.blocks.items a.free.lists d block_within))
-            ∙ ap (λ (s : CountedStore). (data_block_at s.store d).bytes) view
-
--- ---- what is told of a class
+-- ---- what `class_info` returns for a class
 
 abbrev pub info_of : ClassSpec × List ℕ → ClassInfo
 info_of p = record { size = p.0.size; free = length p.1; total = p.0.count }
@@ -280,14 +236,11 @@ infos-get (k ∷ classes) (xs ∷ lists) (suc c) long = infos-get classes lists 
 
 module _ (a : Inside) (v : CountedStore) (view : counted_store a ≡ v) (kept : IsKept (counted_store a)) (c : ℕ) where
   info_is : slice_get (class_infos v.store) c ≡ option_map (λ k. info_of (k.spec, get_or a.free.lists c [])) (slice_get a.classes.items c)
-  info_is =
-      ap (λ (s : CountedStore). slice_get (class_infos s.store) c) (sym view)
-      ∙ infos-get a.classes.items a.free.lists c (kept.lists ∙ length-map a.classes.items (λ k. k.spec))
+  info_is = cc (view, infos-get a.classes.items a.free.lists c (kept.lists ∙ length-map a.classes.items (λ k. k.spec)))
 
   -- of a class that is there
   pub info_there : (k : Class) → c < length a.classes.items → k ≡ get_or a.classes.items c k → Some (info_of (k.spec, get_or a.free.lists c [])) ≡ slice_get (class_infos v.store) c
-  info_there k within read =
-      sym (info_is ∙ ap (option_map (λ (x : Class). info_of (x.spec, get_or a.free.lists c []))) (slice_get-get_or a.classes.items c k within ∙ ap Some (sym read)))
+  info_there k within read = cc (info_is, slice_get-get_or a.classes.items c k within, read)
 
   -- no more of it are free than there are
   pub free_there : (k : Class) → c < length a.classes.items → k ≡ get_or a.classes.items c k → length (get_or a.free.lists c []) ≤ k.spec.count

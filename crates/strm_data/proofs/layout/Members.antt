@@ -1,4 +1,4 @@
--- Free lists as contracts of `Stacks` tell of them, where each data block stands in the list of its class alone.
+-- Free lists as contracts of `Stacks` see them. A free data block is only in the list of its class.
 use Rattle.std.proofs.Common.{◌≡◌, ℕ, ◌<◌, List, [], ◌∷◌, get_or, Some, None, inl, inr, arith}
 use Rattle.std.proofs.lemmas.Bool.{cases_eq}
 use Rattle.strm_links.specs.Rows.{holder, first}
@@ -9,7 +9,7 @@ use Rattle.strm_data.specs.CountedStore.{CountedStore, IsKept, count_of}
 use Rattle.strm_data.specs.DataStore.{times, free_of}
 use Rattle.strm_data.proofs.store.Kept.{listed_unnamed}
 
--- the first, as what stands at place 0
+-- the first item is the one at place 0
 pub get_or_first : (xs : List ℕ) (n : ℕ) → first xs ≡ Some n → get_or xs 0 0 ≡ n
 get_or_first [] n is = absurd (none-some n is)
 get_or_first (x ∷ xs) n is = same_Some x n is

@@ -80,8 +80,7 @@ module _ (specs : List ClassSpec) (classes : List Class) (regions : List (List �
 
   new_region : region_at regions' c ≡ replicate (spec.size * spec.count) 0
   new_region =
-      get_or-append_right regions (replicate (spec.size * spec.count) 0 ∷ []) c c [] opened.placed.regioned (omega arith)
-      ∙ ap (λ j. get_or (replicate (spec.size * spec.count) 0 ∷ []) j []) (let e : c - c ≡ 0 = omega arith in e)
+      cc (get_or-append_right regions (replicate (spec.size * spec.count) 0 ∷ []) c c [] opened.placed.regioned (omega arith), (let e : c - c ≡ 0 = omega arith in e))
 
   new_block : (d : ℕ) → n ≤ d → d < n + spec.count → block_at blocks' d ≡ block
   new_block d past within = get_or-append_right blocks (replicate spec.count block) n d no_block refl past ∙ get_or-replicate spec.count (d - n) block no_block (omega arith)
@@ -96,14 +95,10 @@ module _ (specs : List ClassSpec) (classes : List Class) (regions : List (List �
   seen_old : (d : ℕ) → d < n → seen_block classes' regions' blocks' d ≡ seen_block classes regions blocks d
   seen_old d within =
       let b = block_at blocks d in
-      ap (λ (x : DataBlock). record { class = x.class; kind = x.kind; bytes = bytes_in (class_at classes' x.class) (region_at regions' x.class) d }) (old_block d within)
-      ∙ (λ i. record { class = b.class; kind = b.kind; bytes = bytes_in (old_class b.class (opened.classed d within) i) (old_region b.class (opened.classed d within) i) d })
+      cc (old_block d within, old_class b.class (opened.classed d within), old_region b.class (opened.classed d within))
 
   seen_new : (d : ℕ) → n ≤ d → d < n + spec.count → seen_block classes' regions' blocks' d ≡ fresh_data_block c spec
-  seen_new d past within =
-      ap (λ (x : DataBlock). record { class = x.class; kind = x.kind; bytes = bytes_in (class_at classes' x.class) (region_at regions' x.class) d }) (new_block d past within)
-      ∙ (λ i. record { class = c; kind = MData; bytes = bytes_in (new_class i) (new_region i) d })
-      ∙ ap (λ bs. record { class = c; kind = MData; bytes = bs }) (zeros class d past within)
+  seen_new d past within = cc (new_block d past within, new_class, new_region, zeros class d past within)
 
   pub AreOpened-push : AreOpened (specs ++ spec ∷ []) classes' regions' blocks'
   AreOpened-push = record {
@@ -156,6 +151,4 @@ module _ (specs : List ClassSpec) (classes : List Class) (regions : List (List �
   classes_opened = omega (arith, ap length opened.specs_are, length-map classes (λ (k : Class). k.spec))
 
   pub opened_is : counted classes regions blocks (numbers_from 0 specs) ≡ opening_counted specs
-  opened_is =
-      (λ i. record { store = record { classes = opened.specs_are i; blocks = opened.fresh i; free = numbers_from 0 specs }; counts = opened.unnamed i })
-      ∙ ap (λ n. record { store = (opening_counted specs).store; counts = replicate n 0 }) (length_opened ∙ sym (length-blocks_from 0 specs))
+  opened_is = cc (opened.unnamed, opened.specs_are, opened.fresh, length_opened, length-blocks_from 0 specs)

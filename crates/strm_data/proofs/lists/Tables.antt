@@ -1,7 +1,9 @@
--- Lists given by what each number stands for, and lists with others written over a part of them.
-use Rattle.std.proofs.Common.{◌≡◌, ◌≢◌, ℕ, zero, suc, ◌+◌, ◌-◌, ◌<◌, ◌≤◌, List, ◌∷◌, [], ◌++◌, length, get_or, set, take, drop, replicate, refl, sym, ap, ◌∙◌, inl, inr, arith, length-set, get_or-set_same, get_or-set_other, length-append, append_assoc}
-use Rattle.std.proofs.lemmas.Bool.{cases_eq, cases_lt}
-use Rattle.std.proofs.lemmas.List.{append-nil, ext_get_or, get_or_append_left, get_or-append_right, get_or-take, get_or-drop, length-take, length-take-le, length-drop, take-take, drop-drop, drop-take}
+-- Lists made from a function of the place, and lists with other items written over a part of them.
+use Rattle.std.proofs.Common.{◌≡◌, ◌≢◌, ℕ, zero, suc, ◌+◌, ◌-◌, ◌<◌, ◌≤◌, List, ◌∷◌, [], ◌++◌, length, get_or, set, take, drop, replicate, sym, ap, ◌∙◌, inl, inr, arith, length-set, get_or-set_same, get_or-set_other, length-append, append_assoc}
+use Rattle.std.proofs.lemmas.Bool.{cases_eq}
+use Rattle.std.proofs.lemmas.List.{append-nil, ext_get_or, length-take, length-take-le, length-drop, take-take, take-append-le, drop-append-le, drop-drop, drop-take}
+use Rattle.std.proofs.lemmas.Slice.{drop-append-drop}
+use Rattle.std.proofs.Math.Seq.{take-append-add}
 use Rattle.std.proofs.lemmas.Grind.{replicate_next}
 use Rattle.std.proofs.lemmas.List.FromFn.{length-map-range_with_len, get_or-map-range_with_len, map-range_with_len_more}
 use Rattle.strm_data.specs.DataStore.{overwritten}
@@ -55,79 +57,47 @@ tabulated-more f g n (suc m) x same alike =
 
 -- ---- a part of a list
 
-pub get_or-part : (n from : ℕ) (xs : List ℕ) (i : ℕ) → i < n → get_or (take n (drop from xs)) i 0 ≡ get_or xs (from + i) 0
-get_or-part n from xs i within = get_or-take n (drop from xs) i 0 within ∙ get_or-drop from xs i 0
-
 pub length-part : (n from : ℕ) (xs : List ℕ) → from + n ≤ length xs → length (take n (drop from xs)) ≡ n
 length-part n from xs within = omega (arith, length-take n (drop from xs), length-drop from xs)
 
 -- a part of a part is a part of the whole
 pub part_of : (n at from size : ℕ) (xs : List ℕ) → at + n ≤ size → take n (drop (from + at) xs) ≡ take n (drop at (take size (drop from xs)))
 part_of n at from size xs room =
-    ap (take n) (sym (drop-drop at from xs))
-    ∙ sym (ap (λ m. take n (drop at (take m (drop from xs)))) (let e : size ≡ at + (size - at) = omega arith in e)
-    ∙ ap (take n) (drop-take at (size - at) (drop from xs)) ∙ take-take n (size - at) (drop at (drop from xs)) (omega arith))
+    cc (drop-drop at from xs, (let e : size ≡ at + (size - at) = omega arith in e), drop-take at (size - at) (drop from xs), take-take n (size - at) (drop at (drop from xs)) (omega arith))
 
 pub length-overwritten : (at : ℕ) (new old : List ℕ) → at + length new ≤ length old → length (overwritten at new old) ≡ length old
 length-overwritten at new old within = simp (length-append, length-take, length-drop) (omega arith)
 
+-- a part that ends before what is written, or begins after it, stays the same
 module _ (at : ℕ) (new old : List ℕ) (room : at + length new ≤ length old) where
-  get_or-before : (i : ℕ) → i < at → get_or (overwritten at new old) i 0 ≡ get_or old i 0
-  get_or-before i before =
-      get_or_append_left (take at old) (new ++ drop (at + length new) old) 0 i (omega (arith, length-take-le at old (omega arith)))
-      ∙ get_or-take at old i 0 before
+  long : length (take at old) ≡ at
+  long = length-take-le at old (omega arith)
 
-  get_or-inside : (i : ℕ) → at ≤ i → i < at + length new → get_or (overwritten at new old) i 0 ≡ get_or new (i - at) 0
-  get_or-inside i from below =
-      get_or-append_right (take at old) (new ++ drop (at + length new) old) at i 0 (length-take-le at old (omega arith)) from
-      ∙ get_or_append_left new (drop (at + length new) old) 0 (i - at) (omega arith)
-
-  get_or-behind : (i : ℕ) → at + length new ≤ i → get_or (overwritten at new old) i 0 ≡ get_or old i 0
-  get_or-behind i past =
-      get_or-append_right (take at old) (new ++ drop (at + length new) old) at i 0 (length-take-le at old (omega arith)) (omega arith)
-      ∙ get_or-append_right new (drop (at + length new) old) (length new) (i - at) 0 refl (omega arith)
-      ∙ get_or-drop (at + length new) old (i - at - length new) 0
-      ∙ ap (λ j. get_or old j 0) (let e : at + length new + (i - at - length new) ≡ i = omega arith in e)
-
-  -- a part that ends before what is written, or begins behind it, stays
   pub part_before : (n from : ℕ) → from + n ≤ at → take n (drop from (overwritten at new old)) ≡ take n (drop from old)
   part_before n from before =
-      ext_get_or 0 (take n (drop from (overwritten at new old))) (take n (drop from old))
-      (length-part n from (overwritten at new old) (omega (arith, length-overwritten at new old room)) ∙ sym (length-part n from old (omega arith)))
-      (λ i within.
-      let inside : i < n = omega (arith, length-part n from (overwritten at new old) (omega (arith, length-overwritten at new old room))) in
-      get_or-part n from (overwritten at new old) i inside ∙ get_or-before (from + i) (omega arith) ∙ sym (get_or-part n from old i inside))
+      let front = take at old in
+      let back = new ++ drop (at + length new) old in
+      let split : at ≡ from + (at - from) = omega arith in
+      let left = drop-append-le from front back (omega (arith, long)) in
+      let part = take-append-le n (drop from front) back (omega (arith, long, length-drop from front)) in
+      cc (left, part, split, drop-take from (at - from) old, take-take n (at - from) (drop from old) (omega arith))
 
-  pub part_behind : (n from : ℕ) → at + length new ≤ from → from + n ≤ length old → take n (drop from (overwritten at new old)) ≡ take n (drop from old)
-  part_behind n from behind whole =
-      ext_get_or 0 (take n (drop from (overwritten at new old))) (take n (drop from old))
-      (length-part n from (overwritten at new old) (omega (arith, length-overwritten at new old room)) ∙ sym (length-part n from old whole))
-      (λ i within.
-      let inside : i < n = omega (arith, length-part n from (overwritten at new old) (omega (arith, length-overwritten at new old room))) in
-      get_or-part n from (overwritten at new old) i inside ∙ get_or-behind (from + i) (omega arith) ∙ sym (get_or-part n from old i inside))
+  pub part_behind : (n from : ℕ) → at + length new ≤ from → take n (drop from (overwritten at new old)) ≡ take n (drop from old)
+  part_behind n from behind =
+      let front = take at old ++ new in
+      cc (append_assoc (take at old) new (drop (at + length new) old), drop-append-drop (at + length new) old front from behind (omega (arith, long, length-append (take at old) new)))
 
--- what is written within a part
+-- a part in which all that is written lies
 pub part_over : (n from at : ℕ) (new old : List ℕ) → at + length new ≤ n → from + n ≤ length old → take n (drop from (overwritten (from + at) new old)) ≡ overwritten at new (take n (drop from old))
 part_over n from at new old room whole =
-    let wide : from + at + length new ≤ length old = omega arith in
-    let part = take n (drop from old) in
-    let long : length part ≡ n = length-part n from old whole in
-    let narrow : at + length new ≤ length part = omega (arith, long) in
-    let left = length-part n from (overwritten (from + at) new old) (omega (arith, length-overwritten (from + at) new old wide, whole)) in
-    ext_get_or 0 (take n (drop from (overwritten (from + at) new old))) (overwritten at new part)
-    (left ∙ sym (length-overwritten at new part narrow ∙ long))
-    (λ i within.
-    let inside : i < n = omega (arith, left) in
-    get_or-part n from (overwritten (from + at) new old) i inside
-    ∙ elim (cases_lt i at) [
-      | inl before ↦
-          get_or-before (from + at) new old wide (from + i) (omega arith) ∙ sym (get_or-before at new part narrow i before ∙ get_or-part n from old i inside)
-      | inr past ↦
-          elim (cases_lt i (at + length new)) [
-            | inl below ↦
-                get_or-inside (from + at) new old wide (from + i) (omega arith) (omega arith)
-                ∙ ap (λ j. get_or new j 0) (let e : from + i - (from + at) ≡ i - at = omega arith in e) ∙ sym (get_or-inside at new part narrow i past below)
-            | inr behind ↦
-                get_or-behind (from + at) new old wide (from + i) (omega arith) ∙ sym (get_or-behind at new part narrow i behind ∙ get_or-part n from old i inside)
-          ]
-    ])
+    let part = drop from old in
+    let back = drop (from + at + length new) old in
+    let rest = n - (at + length new) in
+    let low : length (take at part) ≡ at = length-take-le at part (omega (arith, length-drop from old)) in
+    let all : n ≡ length (take at part) + (length new + rest) = omega (arith, low) in
+    let behind : from + (at + length new) ≡ from + at + length new = omega arith in
+    let end : at + length new + rest ≡ n = omega arith in
+    let left = drop-append-le from (take (from + at) old) (new ++ back) (omega (arith, length-take-le (from + at) old (omega arith))) in
+    let front = take-append-add (take at part) (new ++ back) (length new + rest) in
+    let past = drop-drop (at + length new) from old in
+    cc (left, drop-take from at old, all, front, take-append-add new back rest, behind, past, end, drop-take (at + length new) rest part, take-take at n part (omega arith))

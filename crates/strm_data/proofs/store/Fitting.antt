@@ -51,7 +51,7 @@ pub IsTakenFrom-found : (size : ℕ) (s : DataStore) (i : ℕ) → i < length s.
 IsTakenFrom-found size s i in_classes in_free wide some left =
     let fits : nat_le size (class_spec_at s i).size ≡ true = le-leb size _ wide in
     let found : fitting size s ≡ free_of s i ++ fitting_from size s (i + 1) =
-    left ∙ fitting_from-here size s i no_class_spec in_classes in_free ∙ ap (λ xs. xs ++ fitting_from size s (i + 1)) (cond-true _ (free_of s i) [] fits) in
+    cc (left, fitting_from-here size s i no_class_spec in_classes in_free, cond-true _ (free_of s i) [] fits) in
     record {
       wide = wide;
       some = some;

@@ -1,4 +1,4 @@
--- How the data blocks stay in order when one is taken, named less, or written to.
+-- A data block is taken, gets or loses a reference, or is written to: `IsKept` still holds.
 use Rattle.std.proofs.Common.{◌≡◌, ◌≢◌, ℕ, ◌+◌, ◌-◌, ◌<◌, ◌≤◌, true, false, ◌&&◌, ◌==◌, List, [], ◌∷◌, length, get_or, set, drop, Ok, refl, sym, ap, ◌∙◌, inl, inr, subst, arith, if◌then◌else◌, length-set, get_or-set_same, get_or-set_other, count_by, suc}
 use Rattle.std.specs.Prelude.{nat_lt}
 use Rattle.std.specs.List.{zip}
@@ -41,7 +41,7 @@ same_is : (s new : CountedStore) (c d : ℕ) → length new.store.blocks ≡ len
 same_is s new c d long class count = λ i. nat_lt d (long i) && (class i == c && count i == 0)
 
 module _ (s : CountedStore) (kept : IsKept s) where
-  -- what stands in a free list
+  -- a data block in a free list
   listed_is : (c d : ℕ) → 0 < times d (free_of s.store c) → is_unused s c d ≡ true
   listed_is c d some = cond_both (is_unused s c d) 1 0 (λ n. 0 < n → is_unused s c d ≡ true) (λ is _. is) (λ _ none. absurd (omega arith)) (omega (arith, kept.listed c d))
 
@@ -87,7 +87,7 @@ module _ (s : CountedStore) (kept : IsKept s) where
   pub free_within : (c : ℕ) → length (free_of s.store c) ≤ (class_spec_at s.store c).count
   free_within c = omega (arith, free_few c, kept.complete c)
 
-  -- a store that differs in what names one data block, and in whether that stands in its free list
+  -- a store that differs in the references of one data block, and in whether its free list has it
   kept_but : (new : CountedStore) (d : ℕ) → new.store.classes ≡ s.store.classes → length new.store.free ≡ length s.store.free
       → length new.store.blocks ≡ length s.store.blocks → length new.counts ≡ length s.counts
       → ((k : ℕ) → class_of new.store k ≡ class_of s.store k) → ((k : ℕ) → capacity_of new.store k ≡ capacity_of s.store k) → ((k : ℕ) → k ≢ d → count_of new k ≡ count_of s k)
@@ -122,9 +122,7 @@ part-set part bs d k b stays =
       | inl same ↦
           elim (cases_lt d (length bs)) [
             | inr past ↦ ap (λ xs. part (get_or xs k no_data_block)) (set_past bs d b past)
-            | inl within ↦
-                ap (λ j. part (get_or (set bs d b) j no_data_block)) same ∙ ap part (get_or-set_same bs d b no_data_block within) ∙ stays
-                ∙ ap (λ j. part (get_or bs j no_data_block)) (sym same)
+            | inl within ↦ cc (same, get_or-set_same bs d b no_data_block within, stays)
           ]
     ]
 
@@ -235,6 +233,6 @@ capacity_range s d kept there =
     let sizes = lawful_size s.store.classes kept.lawful (class_of s.store d) (kept.classed d there) in
     (omega (arith, sizes.0, kept.sized d there), omega (arith, sizes.1, kept.sized d there))
 
--- something is told of as many classes as there are
+-- there is a `class_info` for each class
 pub length-class_infos : (s : CountedStore) → IsKept s → length (class_infos s.store) ≡ length s.store.classes
 length-class_infos s kept = length-map (zip s.store.classes s.store.free) _ ∙ omega (arith, length-zip s.store.classes s.store.free, kept.lists)

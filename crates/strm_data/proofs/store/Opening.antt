@@ -23,8 +23,7 @@ total_of-cons c cs = sum_by-cons (λ (x : ClassSpec). x.count) c cs
 pub length-blocks_from : (n : ℕ) (cs : List ClassSpec) → length (blocks_from n cs) ≡ total_of cs
 length-blocks_from n [] = refl
 length-blocks_from n (c ∷ cs) =
-    length-append (replicate c.count (fresh_data_block n c)) (blocks_from (n + 1) cs)
-    ∙ (λ i. length-replicate c.count (fresh_data_block n c) i + length-blocks_from (n + 1) cs i) ∙ sym (total_of-cons c cs)
+    cc (length-append (replicate c.count (fresh_data_block n c)) (blocks_from (n + 1) cs), length-replicate c.count (fresh_data_block n c), length-blocks_from (n + 1) cs, total_of-cons c cs)
 
 -- ---- one class more
 
@@ -95,7 +94,7 @@ bytes_within n (x ∷ xs) e within =
     elim (cases_lt e x.count) [
       | inl here ↦
           let is : block ≡ fresh_data_block n x =
-          get_or_append_left first rest no_data_block e (omega (arith, long)) ∙ get_or-replicate x.count e (fresh_data_block n x) no_data_block here in
+          cc (get_or_append_left first rest no_data_block e (omega (arith, long)), get_or-replicate x.count e (fresh_data_block n x) no_data_block here) in
           let place : 0 ≡ block.class - n = omega (arith, ap (λ (b : DataBlock). b.class) is) in
           ap (λ (b : DataBlock). length b.bytes) is ∙ length-replicate x.size 0 ∙ ap (λ m. (get_or (x ∷ xs) m no_class_spec).size) place
       | inr past ↦
@@ -113,8 +112,7 @@ first_counted : (n m : ℕ) (c : ClassSpec) (cs : List ClassSpec)
     → count_by (λ (b : DataBlock). b.class == m) (blocks_from n (c ∷ cs)) ≡ c.count * (if n == m then 1 else 0) + count_by (λ (b : DataBlock). b.class == m) (blocks_from (n + 1) cs)
 first_counted n m c cs =
     let one_if : DataBlock → ℕ = λ b. if b.class == m then 1 else 0 in
-    sum_by-append one_if (replicate c.count (fresh_data_block n c)) (blocks_from (n + 1) cs)
-    ∙ ap (λ k. k + count_by (λ (b : DataBlock). b.class == m) (blocks_from (n + 1) cs)) (sum_by-replicate one_if c.count (fresh_data_block n c))
+    cc (sum_by-append one_if (replicate c.count (fresh_data_block n c)) (blocks_from (n + 1) cs), sum_by-replicate one_if c.count (fresh_data_block n c))
 
 -- all of them, or none
 first_is : (n m k : ℕ) → n ≡ m → k * (if n == m then 1 else 0) ≡ k
@@ -144,9 +142,9 @@ blocks_counted n (x ∷ xs) (suc c) =
       blocks_counted (n + 1) xs c,
     )
 
--- ---- which data block stands in which list
+-- ---- which data block is in which free list
 
--- each number stands in the list of its data block's class, once
+-- each number is in the list of its data block's class once, and in no other list
 numbers_listed : (first n : ℕ) (cs : List ClassSpec) (c e : ℕ) → times (first + e) (get_or (numbers_from first cs) c []) ≡ (if is_of (blocks_from n cs) (n + c) e then 1 else 0)
 numbers_listed first n [] c e = sym (cond-false _ 1 0 (and_left _ _ (le-ltb e 0 (omega arith))))
 numbers_listed first n (x ∷ xs) zero e =
@@ -178,9 +176,7 @@ numbers_listed first n (x ∷ xs) (suc c) e =
       | inr past ↦
           let place : first + e ≡ first + x.count + (e - x.count) = omega arith in
           let class : n + 1 + c ≡ n + suc c = omega arith in
-          ap (λ k. times k (get_or (numbers_from (first + x.count) xs) c [])) place
-          ∙ numbers_listed (first + x.count) (n + 1) xs c (e - x.count)
-          ∙ ap (λ b. if b then 1 else 0) (ap (λ m. is_of rest m (e - x.count)) class ∙ sym (is_of-right front rest x.count (n + suc c) e long past))
+          cc (place, numbers_listed (first + x.count) (n + 1) xs c (e - x.count), class, is_of-right front rest x.count (n + suc c) e long past)
     ]
 
 pub length-numbers_from : (first : ℕ) (cs : List ClassSpec) → length (numbers_from first cs) ≡ length cs

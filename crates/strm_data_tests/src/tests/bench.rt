@@ -1,4 +1,4 @@
-//! Data blocks, with the tests that each call asks for.
+//! A `Data` to test, whose methods assert what each call requires.
 ghost use Rattle.std.specs.Prelude.{◌+◌, ◌<◌, ◌≤◌, IsTrue, length};
 ghost use Rattle.strm_data.specs.Classes.{are_lawful};
 ghost use Rattle.strm_data.specs.CountedStore.{IsInUse};
@@ -22,14 +22,14 @@ impl Bench {
         }
     }
 
-    // There is such a data block.
+    // Asserts that there is such a data block.
     fn assert_there(&self, rt: &impl Abort, number: u32)
         ensures { number < length self.now.blocks.store.blocks }
     {
         assert!(rt; (number as usize) < self.blocks.len());
     }
 
-    // It is in use.
+    // Asserts that the data block is in use.
     fn assert_used(&self, rt: &impl Abort, number: u32)
         ensures there { number < length self.now.blocks.store.blocks }
         ensures used { IsInUse self.now.blocks number }
@@ -38,7 +38,7 @@ impl Bench {
         assert!(rt; self.blocks.count(number) > 0);
     }
 
-    // It has so many bytes from a place on.
+    // Asserts that the data block has `len` bytes from place `at` on.
     fn assert_room(&self, rt: &impl Abort, number: u32, at: u32, len: usize)
         ensures there { number < length self.now.blocks.store.blocks }
         ensures room { at + len ≤ capacity_of self.now.blocks.store number }
@@ -49,19 +49,19 @@ impl Bench {
         assert!(rt; len <= (cap - at) as usize);
     }
 
-    // Takes a data block, with this answer.
+    // Takes a data block, and asserts this answer.
     pub(super) fn take(&mut self, rt: &impl Abort, size: u32, answer: Result<u32, Refusal>) {
         assert!(rt; self.blocks.take(size) == answer);
     }
 
-    // Names a data block once more.
+    // Adds a reference to a data block.
     pub(super) fn name(&mut self, rt: &impl Abort, number: u32) {
         self.assert_used(rt, number);
         assert!(rt; self.blocks.count(number) < MOST_DATA_BLOCK_NAMES);
         self.blocks.name(number);
     }
 
-    // Names a data block once less.
+    // Removes a reference from a data block.
     pub(super) fn drop_name(&mut self, rt: &impl Abort, number: u32) {
         self.assert_used(rt, number);
         self.blocks.drop_name(number);
@@ -77,7 +77,7 @@ impl Bench {
         self.blocks.write(number, at, bytes);
     }
 
-    // Copies so many bytes, from a place of a data block to a place of another or of the same.
+    // Copies `len` bytes from a place of a data block to a place of another or of the same.
     pub(super) fn copy(&mut self, rt: &impl Abort, from: (u32, u32), into: (u32, u32), len: u32) {
         self.assert_room(rt, from.0, from.1, len as usize);
         self.assert_room(rt, into.0, into.1, len as usize);
@@ -89,37 +89,37 @@ impl Bench {
         self.blocks.read(number, at, into);
     }
 
-    // The names, the type and the capacity of a data block.
+    // The references, the type and the capacity of a data block.
     fn block(&self, rt: &impl Abort, number: u32) -> (u8, MsgType, usize) {
         self.assert_there(rt, number);
         let (count, kind) = (self.blocks.count(number), self.blocks.kind(number));
         (count, kind, self.blocks.cap(number) as usize)
     }
 
-    // They are these.
+    // Asserts a data block's references, type and capacity.
     pub(super) fn assert_block(&self, rt: &impl Abort, number: u32, block: (u8, MsgType, usize)) {
         assert!(rt; self.block(rt, number) == block);
     }
 
-    // The first four bytes of a data block are these.
+    // Asserts the first four bytes of a data block.
     pub(super) fn assert_holds(&self, rt: &impl Abort, number: u32, bytes: [u8; 4]) {
         let mut read = [9; 4];
         self.read(rt, number, 0, &mut read);
         assert!(rt; read == bytes);
     }
 
-    // Whether a class has blocks of so many bytes, and whether one of them is free.
+    // Asserts whether a class has blocks of `size` bytes or more, and whether one of them is free.
     pub(super) fn assert_fits(&self, rt: &impl Abort, size: u32, has: bool, fits: bool) {
         let told = (self.blocks.has_class_for(size), self.blocks.fits(size));
         assert!(rt; told == (has, fits));
     }
 
-    // So many data blocks of the largest class are free.
+    // Asserts the number of free data blocks of the largest class.
     pub(super) fn assert_free_in_largest(&self, rt: &impl Abort, free: u32) {
         assert!(rt; self.blocks.free_in_largest() == free);
     }
 
-    // What there is to tell of a class, if there is one.
+    // Asserts what `class_info` returns for a class.
     pub(super) fn assert_class(&self, rt: &impl Abort, class: u8, info: Option<ClassInfo>) {
         assert!(rt; self.blocks.class_info(class) == info);
     }

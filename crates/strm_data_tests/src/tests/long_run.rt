@@ -1,4 +1,4 @@
-//! A long run beside plain vectors.
+//! A random run of `Data` beside plain vectors.
 ghost use Rattle.std.specs.Prelude.{◌<◌};
 
 use super::bench::Bench;
@@ -7,7 +7,7 @@ use std::alloc::Global;
 use std::process::Abort;
 use strm_data::{ClassSpec, MOST_DATA_BLOCK_NAMES, MsgType, Refusal};
 
-// The most bytes that a data block has.
+// The number of bytes of the largest data blocks.
 const LARGEST: u32 = 40;
 
 const CLASSES: [ClassSpec; 3] = [
@@ -19,7 +19,7 @@ const CLASSES: [ClassSpec; 3] = [
     },
 ];
 
-// How many data blocks there are.
+// The number of data blocks.
 const BLOCKS: u32 = CLASSES[0].count + CLASSES[1].count + CLASSES[2].count;
 
 const MOST_BYTES: usize = LARGEST as usize;
@@ -31,12 +31,12 @@ const KINDS: [MsgType; 4] = [
     MsgType::MIocdata,
 ];
 
-// The same data blocks twice: in size classes, and as plain vectors.
+// The same data blocks twice: as `Data`, and as plain vectors.
 #[derive(Drop)]
 struct Twin {
     data: Bench,
     blocks: Vec<Plain>,
-    // Of each class the free data blocks, the next to be taken first.
+    // For each class its free data blocks, the next to be taken first.
     free: Vec<Vec<u32>>,
 }
 
@@ -49,7 +49,7 @@ struct Plain {
 }
 
 impl Plain {
-    // A free data block of so many bytes, which are 0.
+    // Makes a free data block of `size` bytes, all 0.
     fn free(rt: &impl Abort, alloc: Global, class: usize, size: u32) -> Plain {
         Plain {
             class,
@@ -59,12 +59,12 @@ impl Plain {
         }
     }
 
-    // Whether it has so many bytes from a place on.
+    // Says whether the data block has `len` bytes from place `at` on.
     fn has_room(&self, at: u32, len: u32) -> bool {
         at.saturating_add(len) as usize <= self.bytes.len()
     }
 
-    // The bytes from a place on, and zeros behind them.
+    // The bytes from place `at` on, then zeros.
     fn bytes_from(&self, at: u32) -> [u8; MOST_BYTES] {
         let mut bytes = [0; MOST_BYTES];
         for (place, byte) in bytes.iter_mut().enumerate() {
@@ -74,7 +74,7 @@ impl Plain {
         bytes
     }
 
-    // Writes so many of these bytes, from a place on.
+    // Writes the first `len` of these bytes, from place `at` on.
     fn write(&mut self, rt: &impl Abort, at: u32, bytes: &[u8], len: u32) {
         for (place, new) in bytes.iter().take(len as usize).enumerate() {
             let place = (at as usize).saturating_add(place);
@@ -121,7 +121,7 @@ impl Twin {
         self.free.get_mut(class).expect(rt, "a class")
     }
 
-    // The data block that the plain vectors give for a size.
+    // The data block that the plain vectors take for a size.
     fn plain_take(&mut self, rt: &impl Abort, size: u32) -> Result<u32, Refusal> {
         for (class, spec) in CLASSES.iter().enumerate() {
             let list = self.free_mut(rt, class);
@@ -136,7 +136,7 @@ impl Twin {
         })
     }
 
-    // Takes a data block.
+    // Takes a data block, in both forms.
     fn take(&mut self, rt: &impl Abort, size: u32) {
         let answer = self.plain_take(rt, size);
         self.data
@@ -149,7 +149,7 @@ impl Twin {
         }
     }
 
-    // Names a data block once more, where it is in use and can be.
+    // Adds a reference to a data block that is in use and can have one more.
     fn name(&mut self, rt: &impl Abort, number: u32) {
         let plain = self.plain_mut(rt, number);
         if plain.count > 0 && plain.count < MOST_DATA_BLOCK_NAMES {
@@ -158,7 +158,7 @@ impl Twin {
         }
     }
 
-    // Names a data block once less, where it is in use.
+    // Removes a reference from a data block that is in use.
     fn drop_name(&mut self, rt: &impl Abort, number: u32) {
         let plain = self.plain_mut(rt, number);
         if plain.count == 0 {
@@ -179,7 +179,7 @@ impl Twin {
         self.plain_mut(rt, number).kind = kind;
     }
 
-    // Writes a few bytes, from a place on that is drawn too, where there is room.
+    // Writes a few bytes from a place drawn at random on, if they fit.
     fn write(&mut self, rt: &impl Abort, number: u32, draw: &mut u32) {
         let bytes = [below(draw, 256) as u8, below(draw, 256) as u8, 255];
         let len = below(draw, 4);
@@ -191,8 +191,7 @@ impl Twin {
         }
     }
 
-    // Copies a few bytes of a data block to another, or to the same, from places on that are drawn too, where there is
-    // room.
+    // Copies a few bytes of a data block to another, or to the same, if they fit. Both places are drawn at random.
     fn copy(&mut self, rt: &impl Abort, from: u32, draw: &mut u32) {
         let into = below(draw, BLOCKS);
         let at = below(draw, 6);
@@ -206,7 +205,7 @@ impl Twin {
         }
     }
 
-    // The next call of the long run, drawn at random.
+    // Makes the next call of the run, drawn at random.
     fn step(&mut self, rt: &impl Abort, draw: &mut u32) {
         let number = below(draw, BLOCKS);
         match below(draw, 18) {
@@ -222,7 +221,7 @@ impl Twin {
         self.compare_classes(rt);
     }
 
-    // A data block is as its plain one says.
+    // Asserts that a data block is as its plain one.
     fn compare_block(&self, rt: &impl Abort, number: u32) {
         let plain = self.plain(rt, number);
         let block = (plain.count, plain.kind, plain.bytes.len());
@@ -230,7 +229,7 @@ impl Twin {
         self.compare_bytes(rt, number, 0);
     }
 
-    // The bytes of a data block from a place on are those of its plain one.
+    // Asserts that the bytes of a data block from a place on are those of its plain one.
     fn compare_bytes(&self, rt: &impl Abort, number: u32, at: u32) {
         let plain = self.plain(rt, number);
         let count = plain.bytes.len().saturating_sub(at as usize);
@@ -240,7 +239,7 @@ impl Twin {
         assert!(rt; bytes == plain.bytes_from(at));
     }
 
-    // A class has as many free data blocks as its plain list.
+    // Asserts that a class has the number of free data blocks of its plain list.
     fn compare_class(&self, rt: &impl Abort, class: u8, spec: ClassSpec) {
         let list = self.free.get(usize::from(class)).expect(rt, "a class");
         let free = u32::try_from(list.len()).unwrap_or(u32::MAX);
@@ -248,7 +247,7 @@ impl Twin {
             .assert_class(rt, class, info(spec.size, free, spec.count));
     }
 
-    // So has each class, and there are no others.
+    // Does the same for each class, and asserts that there are no others.
     fn compare_classes(&self, rt: &impl Abort) {
         for (class, spec) in CLASSES.iter().enumerate() {
             self.compare_class(rt, class as u8, *spec);
@@ -257,7 +256,7 @@ impl Twin {
         self.data.assert_class(rt, u8::MAX, None);
     }
 
-    // Everything is as the plain vectors say.
+    // Asserts that everything is as in the plain vectors.
     fn compare_all(&self, rt: &impl Abort) {
         for number in 0..BLOCKS {
             self.compare_block(rt, number);
@@ -265,14 +264,14 @@ impl Twin {
         self.compare_classes(rt);
     }
 
-    // The plain vectors give a data block so many names.
+    // Asserts the number of references that the plain vectors have for a data block.
     fn assert_names(&self, rt: &impl Abort, number: u32, count: u8) {
         assert!(rt; self.plain(rt, number).count == count);
         self.compare_all(rt);
     }
 }
 
-// The next number below `limit` of a fixed sequence.
+// Draws the next number below `limit` of a fixed sequence.
 fn below(draw: &mut u32, limit: u32) -> u32
     requires { 0 < limit }
     ensures { result < limit }

@@ -3,13 +3,13 @@ use strm_data::{
     MOST_CLASSES, MOST_DATA_BLOCK_BYTES, MOST_DATA_BLOCK_NAMES, MOST_DATA_BLOCKS, MsgType, Refusal,
 };
 
-// A refusal has this number and this name.
+// Asserts a refusal's number and name.
 fn assert_refusal(rt: &impl Abort, refusal: Refusal, number: u8, name: &str) {
     assert!(rt; refusal.number() == number);
     assert!(rt; refusal.name() == name);
 }
 
-// A type has this name, and is of high priority or not.
+// Asserts a type's name, and whether it has high priority.
 fn assert_type(rt: &impl Abort, kind: MsgType, name: &str, high: bool) {
     assert!(rt; kind.name() == name);
     assert!(rt; kind.is_high_priority() == high);

@@ -17,13 +17,12 @@ returns-then-from-into c =
     let many : c.args.len ≡ from + c.args.len - from = omega arith in
     let v = with_items (get_or c.args.regions.now c.args.into.class target) c.copy_inside.new.region in
     let same = ap (λ k. region_at (bytes_of c.args.regions.now) k) c.if-from-into.true in
-    map-set (λ (x : Vec ℕ Global). x.items) c.args.regions.now c.args.into.class v
-    ∙ ap (set (bytes_of c.args.regions.now) c.args.into.class)
-    (over_region (get_or c.args.regions.now c.args.into.class target) from into c.args.len now now c.copy_inside.new.region
-    (omega (arith, c.requires.there, ap length old, ap length same)) (omega (arith, c.requires.room, ap length old)) c.deref_mut.ensures.len
-    (c.copy_inside.ensures ∙ ap (λ n. overwritten into (take n (drop from now)) now) many)
-    ∙ (λ i. overwritten into (part from c.args.len (old i)) (old i))
-    ∙ ap (λ bytes. overwritten into (part from c.args.len bytes) (region_at (bytes_of c.args.regions.now) c.args.into.class)) (sym same))
+    cc (
+      map-set (λ (x : Vec ℕ Global). x.items) c.args.regions.now c.args.into.class v,
+      over_region (get_or c.args.regions.now c.args.into.class target) from into c.args.len now now c.copy_inside.new.region (omega (arith, c.requires.there, ap length old, ap length same)) (omega (arith, c.requires.room, ap length old)) c.deref_mut.ensures.len (c.copy_inside.ensures ∙ ap (λ n. overwritten into (take n (drop from now)) now) many),
+      old,
+      same,
+    )
 
 pub returns-then-from-into-2 : goal.returns-then-from-into-2
 returns-then-from-into-2 c =

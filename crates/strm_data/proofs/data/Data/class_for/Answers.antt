@@ -1,4 +1,4 @@
-use Rattle.std.proofs.Common.{◌≡◌, ◌<◌, length, get_or, ap, sym, ◌∙◌, subst, arith}
+use Rattle.std.proofs.Common.{◌≡◌, ◌<◌, length, get_or, subst, arith}
 use Rattle.std.proofs.lemmas.List.{length-map, get_or-map}
 use Rattle.strm_data.specs.declared.data.Class.{Class}
 use Rattle.strm_data.specs.DataLayout.{counted_store, no_class}
@@ -19,8 +19,7 @@ in_free c = omega (arith, in_classes c, c.self.invariant.kept.lists)
 
 spec_is : (c : In-loop-number) → get_or (counted_store c.self.inside).store.classes c.loop-number.number no_class_spec ≡ (get_or c.deref-class-items.result.now c.loop-number.number no_class).spec
 spec_is c =
-    get_or-map (λ (k : Class). k.spec) c.self.inside.classes.items c.loop-number.number no_class no_class_spec (there c)
-    ∙ ap (λ ks. (get_or ks c.loop-number.number no_class).spec) (sym c.deref-class-items.ensures.value)
+    cc (get_or-map (λ (k : Class). k.spec) c.self.inside.classes.items c.loop-number.number no_class no_class_spec (there c), c.deref-class-items.ensures.value)
 
 pub returns-then-len-gt0-clause-found : goal.returns-then-len-gt0-clause-found
 returns-then-len-gt0-clause-found c =

@@ -6,8 +6,7 @@ use Rattle.strm_data.proofs.data.Data.class_info.Goals as goal
 pub returns-in_err-spec-clause-answer : goal.returns-in_err-spec-clause-answer
 returns-in_err-spec-clause-answer c =
     let past = ltb-false _ _ (sym c.in_err-spec.ensures.lookup.0) in
-    c.from_residual.ensures
-    ∙ info_past c.self.inside c.args.self.now c.self.view_is c.self.invariant.kept c.args.class (omega (arith, past, c.from.ensures, ap length c.deref.ensures.value))
+    cc (c.from_residual.ensures, info_past c.self.inside c.args.self.now c.self.view_is c.self.invariant.kept c.args.class (omega (arith, past, c.from.ensures, ap length c.deref.ensures.value)))
 
 pub returns-clause-answer : goal.returns-clause-answer
 returns-clause-answer c =

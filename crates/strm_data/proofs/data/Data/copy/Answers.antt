@@ -2,26 +2,20 @@ use Rattle.std.proofs.Common.{◌≡◌, ℕ, ◌+◌, ◌≤◌, List, Vec, Glo
 use Rattle.std.specs.Vec.{with_items}
 use Rattle.std.proofs.lemmas.List.{with_items_is}
 use Rattle.strm_data.specs.CountedStore.{IsKept}
-use Rattle.strm_data.specs.DataLayout.{block_at, bytes_of, class_at, counted, region_at, start_in, IsPlaced}
+use Rattle.strm_data.specs.DataLayout.{bytes_of, counted, region_at, IsPlaced}
 use Rattle.strm_data.specs.DataStore.{capacity_of, data_block_at, overwritten, with_bytes_written}
-use Rattle.strm_data.proofs.layout.Copying.{in_region, overwrites, part_is, IsPlaced-overwrites}
+use Rattle.strm_data.proofs.layout.Copying.{IsPlaceOf, in_region, overwrites, part_is, IsPlaced-overwrites}
 use Rattle.strm_data.proofs.store.Kept.{IsKept-altered, capacity_range}
 use Rattle.strm_data.proofs.lists.Tables.{length-overwritten, length-part}
 use Rattle.strm_data.proofs.data.Data.copy.Goals as goal
 use Rattle.strm_data.proofs.data.Data.copy.Goals.{After-deref_mut}
 
 module _ (c : After-deref_mut) where
-  from_class : c.place_of-source.result.class ≡ (block_at c.self.inside.blocks.items c.args.from).class
-  from_class = c.place_of-source.ensures.class ∙ ap (λ bs. (block_at bs c.args.from).class) c.deref-2.ensures.value
+  source : IsPlaceOf c.self.inside c.args.from c.args.at c.place_of-source.result
+  source = record { class = cc; start = cc }
 
-  from_start : c.place_of-source.result.start ≡ start_in (class_at c.self.inside.classes.items c.place_of-source.result.class) c.args.from + c.args.at
-  from_start = c.place_of-source.ensures.start ∙ ap (λ ks. start_in (class_at ks c.place_of-source.result.class) c.args.from + c.args.at) c.deref.ensures.value
-
-  into_class : c.place_of-target.result.class ≡ (block_at c.self.inside.blocks.items c.args.into).class
-  into_class = c.place_of-target.ensures.class ∙ ap (λ bs. (block_at bs c.args.into).class) c.deref-4.ensures.value
-
-  into_start : c.place_of-target.result.start ≡ start_in (class_at c.self.inside.classes.items c.place_of-target.result.class) c.args.into + c.args.to
-  into_start = c.place_of-target.ensures.start ∙ ap (λ ks. start_in (class_at ks c.place_of-target.result.class) c.args.into + c.args.to) c.deref-3.ensures.value
+  target : IsPlaceOf c.self.inside c.args.into c.args.to c.place_of-target.result
+  target = record { class = cc; start = cc }
 
   -- the bytes that are copied
   abbrev bytes : List ℕ
@@ -36,18 +30,20 @@ copy_bytes-requires-clause-low c =
 
 pub copy_bytes-requires-clause-there : goal.copy_bytes-requires-clause-there
 copy_bytes-requires-clause-there c =
+    let at = (goal.at.copy_bytes-requires-clause-there c).After-deref_mut in
     omega (
       arith,
       ap (λ rs. length (region_at (bytes_of rs) c.place_of-source.result.class)) c.deref_mut.ensures.value,
-      in_region c.self.inside c.args.self.now c.self.view_is c.self.invariant c.args.from c.requires.from c.args.at c.place_of-source.result (from_class c) (from_start c) c.args.len c.requires.there,
+      in_region c.self.inside c.args.self.now c.self.view_is c.self.invariant c.args.from c.requires.from c.args.at _ (source at) c.args.len c.requires.there,
     )
 
 pub copy_bytes-requires-clause-room : goal.copy_bytes-requires-clause-room
 copy_bytes-requires-clause-room c =
+    let at = (goal.at.copy_bytes-requires-clause-room c).After-deref_mut in
     omega (
       arith,
       ap (λ rs. length (region_at (bytes_of rs) c.place_of-target.result.class)) c.deref_mut.ensures.value,
-      in_region c.self.inside c.args.self.now c.self.view_is c.self.invariant c.args.into c.requires.into c.args.to c.place_of-target.result (into_class c) (into_start c) c.args.len c.requires.room,
+      in_region c.self.inside c.args.self.now c.self.view_is c.self.invariant c.args.into c.requires.into c.args.to _ (target at) c.args.len c.requires.room,
     )
 
 module _ (c : After-deref_mut) where
@@ -70,18 +66,17 @@ module _ (c : After-deref_mut) where
         (overwritten c.place_of-target.result.start (take c.args.len (drop c.place_of-source.result.start (region_at (bytes_of rs) c.place_of-source.result.class))) (region_at (bytes_of rs) c.place_of-target.result.class)))
         c.deref_mut.ensures.value
         ∙ ap (λ bs. set regions c.place_of-target.result.class (overwritten c.place_of-target.result.start bs (region_at regions c.place_of-target.result.class)))
-        (part_is c.self.inside c.args.self.now c.self.view_is c.self.invariant c.args.from c.requires.from c.args.at c.place_of-source.result (from_class c) (from_start c) c.args.len c.requires.there)
+        (part_is c.self.inside c.args.self.now c.self.view_is c.self.invariant c.args.from c.requires.from c.args.at _ (source c) c.args.len c.requires.there)
 
     copied : counted c.self.inside.classes.items (bytes_of (with_items c.self.inside.regions new).items) c.self.inside.blocks.items c.self.inside.free.lists
         ≡ record c.args.self.now { store = with_bytes_written c.args.into c.args.to (bytes c) c.args.self.now.store }
     copied =
-        ap (λ rs. counted c.self.inside.classes.items rs c.self.inside.blocks.items c.self.inside.free.lists) regions_are
-        ∙ overwrites c.self.inside c.args.self.now c.self.view_is c.self.invariant c.args.into c.requires.into c.args.to c.place_of-target.result (into_class c) (into_start c) (bytes c) room
+        cc (regions_are, overwrites c.self.inside c.args.self.now c.self.view_is c.self.invariant c.args.into c.requires.into c.args.to _ (target c) (bytes c) room)
 
     placed : IsPlaced c.self.inside.classes.items (bytes_of (with_items c.self.inside.regions new).items) c.self.inside.blocks.items
     placed =
         subst (λ rs. IsPlaced c.self.inside.classes.items rs c.self.inside.blocks.items) (sym regions_are)
-        (IsPlaced-overwrites c.self.inside c.args.self.now c.self.view_is c.self.invariant c.args.into c.requires.into c.args.to c.place_of-target.result (into_class c) (into_start c) (bytes c) room)
+        (IsPlaced-overwrites c.self.inside c.args.self.now c.self.view_is c.self.invariant c.args.into c.requires.into c.args.to _ (target c) (bytes c) room)
 
 pub returns-clause-after : goal.returns-clause-after
 returns-clause-after c = copied (goal.at.returns-clause-after c).After-deref_mut c.copy_bytes.new.regions c.copy_bytes.auto.regions c.copy_bytes.ensures

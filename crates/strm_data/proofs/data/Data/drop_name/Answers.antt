@@ -2,18 +2,15 @@ use Rattle.std.proofs.Common.{◌≢◌, ◌∷◌, [], get_or, set, refl, sym, 
 use Rattle.strm_links.specs.Rows.{Rows}
 use Rattle.strm_data.specs.CountedStore.{IsKept, IsInUse, without_name}
 use Rattle.strm_data.specs.DataLayout.{counted_store}
-use Rattle.strm_data.proofs.layout.Alterations.{kept, lowered, released, IsLaidOut-altered}
+use Rattle.strm_data.proofs.layout.Alterations.{lowered, released, IsSound-altered}
 use Rattle.strm_data.proofs.store.Kept.{IsKept-without_name}
 use Rattle.strm_data.proofs.layout.Laid.{count_is, list_within}
 use Rattle.strm_data.proofs.layout.Members.{holder_unlisted}
 use Rattle.strm_data.proofs.data.Data.drop_name.Goals as goal
 use Rattle.strm_data.proofs.data.Data.drop_name.Goals.{After-index_mut-block}
 
-kept_before : (c : After-index_mut-block) → IsKept c.args.self.now
-kept_before c = kept c.self.inside _ c.self.view_is c.self.invariant c.args.number c.requires.there c.index_mut-block.result.now c.index_mut-block.ensures.value
-
 kept_after : (c : After-index_mut-block) → IsKept (without_name c.args.number c.args.self.now)
-kept_after c = IsKept-without_name c.args.self.now c.args.number (kept_before c) c.requires.used c.requires.there
+kept_after c = IsKept-without_name c.args.self.now c.args.number (subst IsKept c.self.view_is c.self.invariant.kept) c.requires.used c.requires.there
 
 pub push_front-requires-clause-list : goal.push_front-requires-clause-list
 push_front-requires-clause-list c =
@@ -36,7 +33,7 @@ returns-then-block-eq0-clause-kept c = subst IsKept (sym (returns-then-block-eq0
 
 pub invariant_of-self : goal.invariant_of-self
 invariant_of-self c =
-    IsLaidOut-altered c.self.inside _ c.self.view_is c.self.invariant c.args.number c.requires.there c.index_mut-block.result.now c.index_mut-block.ensures.value _ refl
+    IsSound-altered c.self.inside _ c.self.view_is c.self.invariant c.args.number c.requires.there c.index_mut-block.result.now c.index_mut-block.ensures.value _ refl
     c.push_front.new.self (ap (λ (r : Rows). r.nodes) c.push_front.ensures.lists) (returns-then-block-eq0-clause-kept c)
 
 pub returns-else-block-eq0-clause-after : goal.returns-else-block-eq0-clause-after
@@ -49,4 +46,4 @@ returns-else-block-eq0-clause-kept c = subst IsKept (sym (returns-else-block-eq0
 
 pub invariant_of-self-else-block-eq0 : goal.invariant_of-self-else-block-eq0
 invariant_of-self-else-block-eq0 c =
-    IsLaidOut-altered c.self.inside _ c.self.view_is c.self.invariant c.args.number c.requires.there c.index_mut-block.result.now c.index_mut-block.ensures.value _ refl c.self.inside.free refl (returns-else-block-eq0-clause-kept c)
+    IsSound-altered c.self.inside _ c.self.view_is c.self.invariant c.args.number c.requires.there c.index_mut-block.result.now c.index_mut-block.ensures.value _ refl c.self.inside.free refl (returns-else-block-eq0-clause-kept c)

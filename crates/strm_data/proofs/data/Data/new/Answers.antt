@@ -9,7 +9,7 @@ use Rattle.strm_data.specs.CountedStore.{IsKept}
 use Rattle.strm_data.specs.DataLayout.{counted}
 use Rattle.strm_data.specs.DataStore.{no_class_spec}
 use Rattle.strm_data.proofs.layout.Filling.{total_of_more}
-use Rattle.strm_data.proofs.layout.Opened.{AreOpened, AreOpened-nil, AreOpened-push, length_opened, classes_opened, opened_is}
+use Rattle.strm_data.proofs.layout.Opened.{AreOpened, AreOpened-push, length_opened, classes_opened, opened_is}
 use Rattle.strm_data.proofs.store.Lawful.{lawful_few, lawful_total}
 use Rattle.strm_data.proofs.store.Opening.{IsKept-opening}
 use Rattle.strm_data.proofs.data.Data.new.Goals as goal
@@ -17,12 +17,6 @@ use Rattle.strm_data.proofs.data.Data.new.Goals.{After-loop-spec}
 
 abbrev bytes_of : Vec ℕ Global → List ℕ
 bytes_of r = r.items
-
-pub loop-spec-init : goal.loop-spec-init
-loop-spec-init c =
-    subst (λ bs. AreOpened [] c.in_ok-classes.classes.items (map bytes_of c.in_ok-regions.regions.items) bs) (sym c.in_ok-blocks.ensures.items)
-    (subst (λ rs. AreOpened [] c.in_ok-classes.classes.items (map bytes_of rs) []) (sym c.in_ok-regions.ensures.items)
-    (subst (λ ks. AreOpened [] ks [] []) (sym c.in_ok-classes.ensures.items) AreOpened-nil))
 
 pub overflow_cast-first : goal.overflow_cast-first
 overflow_cast-first c =

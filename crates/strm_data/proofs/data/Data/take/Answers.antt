@@ -1,7 +1,7 @@
 use Rattle.std.proofs.Common.{◌≡◌, Some, refl, sym, ap, ◌∙◌, subst}
 use Rattle.strm_links.specs.Rows.{Rows, first, list_at}
 use Rattle.strm_data.specs.CountedStore.{IsKept}
-use Rattle.strm_data.proofs.layout.Alterations.{unused, room, taken, IsLaidOut-altered}
+use Rattle.strm_data.proofs.layout.Alterations.{unused, room, taken, IsSound-altered}
 use Rattle.strm_data.proofs.store.Kept.{IsKept-take}
 use Rattle.strm_data.proofs.data.Data.take.Goals as goal
 use Rattle.strm_data.proofs.data.Data.take.Goals.{After-unwrap-number}
@@ -31,5 +31,5 @@ returns-clause-kept c =
 
 pub invariant_of-self : goal.invariant_of-self
 invariant_of-self c =
-    IsLaidOut-altered c.self.inside _ c.self.view_is c.self.invariant c.unwrap-number.result (returns-clause-unused c).there c.index_mut-block.result.now c.index_mut-block.ensures.value _ refl
+    IsSound-altered c.self.inside _ c.self.view_is c.self.invariant c.unwrap-number.result (returns-clause-unused c).there c.index_mut-block.result.now c.index_mut-block.ensures.value _ refl
     c.pop_front.new.self (ap (λ (r : Rows). r.nodes) c.pop_front.ensures.lists) (returns-clause-kept c)
