@@ -1,5 +1,4 @@
 mod Constants
-mod Rows
 pub mod lists
 mod chaining
 pub mod arena

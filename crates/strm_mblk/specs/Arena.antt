@@ -1,4 +1,4 @@
--- All message blocks: free, in messages held as tokens, or in messages on shelves.
+-- What a contract sees of message blocks: which are free, and the messages of the others, held or on shelves.
 use Rattle.std.specs.Prelude.{◌≡◌, ℕ, ◌+◌, ◌<◌, ◌≤◌, Bool, false, ◌&&◌, ◌==◌, nat_lt, List, [], ◌++◌, length, map, count_by, replicate, Option, None, Some, IfSome, slice_set, if◌then◌else◌}
 use Rattle.std.specs.List.{All, range_with_len}
 use Rattle.strm_data.specs.declared.class_spec.ClassSpec.{ClassSpec}
@@ -10,8 +10,8 @@ use Rattle.strm_mblk.specs.declared.token.TokenValue.{TokenValue}
 use Rattle.strm_mblk.specs.Block.{Block, Message, head_of, is_naming, numbers_of}
 use Rattle.strm_mblk.specs.Messages.{blocks_of, held_in, shelf_in, blocks_on, blocks_held}
 
--- the pool's id; the data blocks; the free message blocks, the next to be taken first; for each block number
--- the held message that begins with it, if there is one; and the messages on each shelf, front to back
+-- the pool's id and data blocks, and the free message blocks, the next to be taken first. For each block number the held message that
+-- begins with it, if any. The messages on each shelf, front to back
 pub record Arena : Type 0 where
   pub id : ℕ
   pub store : DataStore
@@ -19,7 +19,7 @@ pub record Arena : Type 0 where
   pub held : List (Option Message)
   pub shelves : List (List Message)
 
--- an arena of free blocks, in rising order, with so many message blocks and empty shelves
+-- new message blocks: all are free, in rising order, and all shelves are empty
 abbrev pub opening_arena : ℕ → ℕ → List ClassSpec → ℕ → Arena
 opening_arena id mblks classes shelves = record {
   id = id;
@@ -29,13 +29,13 @@ opening_arena id mblks classes shelves = record {
   shelves = replicate shelves [];
 }
 
--- ---- what stands where
+-- ---- what is where
 
--- the message held at h, if there is one
+-- the message held at h, if any
 abbrev pub held_at : Arena → ℕ → Option Message
 held_at a h = held_in a.held h
 
--- its blocks, none where there is none
+-- the blocks of the message held at h; none if there is no such message
 abbrev pub message_at : Arena → ℕ → Message
 message_at a h = blocks_of (held_at a h)
 
@@ -55,38 +55,38 @@ held_blocks a = blocks_held a.held
 abbrev pub blocks_in : Arena → List Block
 blocks_in a = shelved_blocks a ++ held_blocks a
 
--- how many blocks, over all messages, name a data block
+-- the number of references to data block d: the blocks of all messages that use it
 abbrev pub names_of : Arena → ℕ → ℕ
 names_of a d = count_by (is_naming d) (blocks_in a)
 
--- how many message blocks are free, in messages on shelves, and in held messages
+-- the numbers of message blocks that are free, on shelves and held
 abbrev pub census_of : Arena → Census
 census_of a = record { free = length a.free; queued = length (shelved_blocks a); held = length (held_blocks a) }
 
--- the arena once no message is held at h
+-- the arena after the message held at h has left
 abbrev pub without_held : ℕ → Arena → Arena
 without_held h a = record a { held = slice_set a.held h None }
 
--- the arena once this is the message at h
+-- the arena after m became the message held at h
 abbrev pub with_message : ℕ → Message → Arena → Arena
 with_message h m a = record a { held = slice_set a.held h (Some m) }
 
--- the arena once this message is held at its own head
+-- the arena after m became held, at its own head
 abbrev pub with_held : Message → Arena → Arena
 with_held m a = with_message (head_of m) m a
 
--- the arena once these are the messages on shelf s
+-- the arena with these messages on shelf s
 abbrev pub with_shelf : ℕ → List Message → Arena → Arena
 with_shelf s ms a = record a { shelves = slice_set a.shelves s ms }
 
 -- ---- tokens
 
--- whether there is a message, and has so many blocks
+-- whether there is a message with this number of blocks
 abbrev pub is_of_length : ℕ → Option Message → Bool
 is_of_length n None = false
 is_of_length n (Some m) = length m == n
 
--- whether the token carries this id, and a held message has its head and its number of blocks
+-- whether the arena has the token: it has the arena's id, and a held message has its head and its number of blocks
 abbrev pub has : Arena → TokenValue → Bool
 has a t = t.pool == a.id && is_of_length t.blocks (held_at a t.head)
 
@@ -94,15 +94,15 @@ has a t = t.pool == a.id && is_of_length t.blocks (held_at a t.head)
 abbrev pub token_of : Arena → ℕ → TokenValue
 token_of a h = record { pool = a.id; head = h; blocks = length (message_at a h) }
 
--- ---- parted
+-- ---- each block is in one place
 
--- whether d is a data block of class c that nothing names
+-- whether d is a data block of class c without references
 abbrev pub is_free_in : Arena → ℕ → ℕ → Bool
 is_free_in a c d = nat_lt d (length a.store.blocks) && (class_of a.store d == c && names_of a d == 0)
 
--- Each message block stands once in all: free, in one message on one shelf, or in one held message, which
--- stands at its head. Each data block stands once in its class's free list and nothing names it, or in none
--- and 1 to most_data_block_names message blocks name it.
+-- Each message block is in exactly one place: free, in one message on one shelf, or in one held message, which is at its head. Each
+-- data block either has no references, and is once in its class's free list, or has 1 to most_data_block_names references, and is
+-- in no free list.
 pub record IsParted (a : Arena) : Type 0 where
   pub blocks : (n : ℕ) → times n (a.free ++ numbers_of (blocks_in a)) ≡ (if nat_lt n (length a.held) then 1 else 0)
   pub heads : (h : ℕ) → IfSome (held_at a h) (λ m. (0 < length m) × (head_of m ≡ h))
@@ -111,12 +111,12 @@ pub record IsParted (a : Arena) : Type 0 where
   pub named : (d : ℕ) → 0 < names_of a d → d < length a.store.blocks
   pub few_names : (d : ℕ) → names_of a d ≤ most_data_block_names
 
--- ---- what lies in what
+-- ---- data blocks and the blocks of messages
 
--- the data blocks, and of each how many blocks name it
+-- the data blocks, each with its number of references
 abbrev pub counted_in : Arena → CountedStore
 counted_in a = record { store = a.store; counts = map (names_of a) (range_with_len 0 (length a.store.blocks)) }
 
--- the places of a block lie in its data block
+-- the places of the block are inside its data block
 abbrev pub IsWithin : DataStore → Block → Type 0
 IsWithin s b = b.offset + b.len ≤ capacity_of s b.data_number

@@ -1,4 +1,4 @@
--- What each call on the blocks of messages does to the arena. The message that a call names is given by its head.
+-- What each call on blocks of messages does to the arena. A call gets the head of a message instead of its token.
 use Rattle.std.specs.Prelude.{ℕ, ◌+◌, ◌-◌, Bool, ◌==◌, nat_lt, List, [], ◌∷◌, length, map, take, drop, Option, None, Some, Result, Ok, Err, slice_get, slice_set, count_by, if◌then◌else◌}
 use Rattle.std.specs.List.{list_any, zip}
 use Rattle.std.specs.Result.{is_ok}
@@ -17,7 +17,7 @@ use Rattle.strm_mblk.specs.Messages.{divided, joined, without_place}
 
 -- ---- new messages
 
--- a message of one block over a data block, held: n is the first free number, and ns are the others
+-- a held message of one block over the data block just taken, if any; n is the first free number, and ns are the others
 abbrev pub held_new : ℕ → List ℕ → Arena → Result ℕ Refusal → Given Arena ℕ
 held_new n ns a (Err why) = Err why
 held_new n ns a (Ok d) = Ok (n, with_held (new_block n d ∷ []) (record a { free = ns; store = with_data_taken d a.store }))
@@ -26,70 +26,70 @@ abbrev pub allocb_from : List ℕ → ℕ → Arena → Given Arena ℕ
 allocb_from [] size a = Err NoMblk
 allocb_from (n ∷ ns) size a = held_new n ns a (take_data size a.store)
 
--- a message of one new block over what the size takes; the answer is its number
+-- makes a message of one new block over the data block that is taken for the size, and returns its head
 abbrev pub allocb : ℕ → Arena → Given Arena ℕ
 allocb size a = if fits_a_class size a.store.classes then allocb_from a.free size a else Err TooLarge
 
--- whether a message can be allocated for this size now
+-- whether `allocb` would succeed for this size now
 abbrev pub testb : ℕ → Arena → Bool
 testb size a = is_ok (allocb size a)
 
--- these blocks under other numbers
+-- these blocks with other numbers
 abbrev pub renumbered : List ℕ → List Block → List Block
 renumbered ns bs = map (λ p. record p.1 { number = p.0 }) (zip ns bs)
 
--- whether some data block would have more than most_data_block_names names once each of these blocks has a duplicate
+-- whether some data block would have more than most_data_block_names references after each of these blocks got a duplicate
 abbrev pub exceeds_names : List Block → Arena → Bool
 exceeds_names bs a = list_any (λ b. nat_lt most_data_block_names (names_of a b.data_number + count_by (is_naming b.data_number) bs)) bs
 
--- a held message of these blocks, under the first free numbers, over this store
+-- the head of a held message of these blocks with the first free numbers, and the arena with that message and this store
 abbrev pub held_under : List Block → DataStore → Arena → ℕ × Arena
 held_under bs s a =
     let m = renumbered (take (length bs) a.free) bs in
     (head_of m, with_held m (record a { free = drop (length bs) a.free; store = s }))
 
--- a message of new blocks that name the data blocks of these, with their places and bands
+-- makes a message of new blocks, one for each of these, with its data block, places and band
 abbrev pub duplicated : List Block → Arena → Given Arena ℕ
 duplicated bs a =
     if nat_lt (length a.free) (length bs) then Err NoMblk
     else (if exceeds_names bs a then Err RefMax
     else Ok (held_under bs a.store a))
 
--- of the first block of the message held at h
+-- duplicates the first block of the message held at h
 abbrev pub dupb : ℕ → Arena → Given Arena ℕ
 dupb h a = duplicated (take 1 (message_at a h)) a
 
--- of all its blocks
+-- duplicates all blocks of the message held at h
 abbrev pub dupmsg : ℕ → Arena → Given Arena ℕ
 dupmsg h a = duplicated (message_at a h) a
 
--- the store once d, taken for a copy of b, has the type of b and its bytes at their places
+-- the store after d was taken for a copy of b: it has b's type, and b's bytes at the same places
 abbrev pub copied_into : Block → DataStore → ℕ → DataStore
 copied_into b s d = with_bytes_written d b.offset (bytes_of_block s b) (with_kind d (kind_of s b) (with_data_taken d s))
 
--- these blocks over copies of their data, of which each takes the capacity of the one it is of, in order
+-- these blocks over copies of their data blocks, each of which is taken for the old one's capacity, in order
 abbrev pub copies : List Block → DataStore → Given DataStore (List Block)
 copies [] s = Ok ([], s)
 copies (b ∷ bs) s =
     and_then (λ d. answer_map (λ g. (record b { data_number = d } ∷ g.0, g.1)) (copies bs (copied_into b s d))) (take_data (capacity_of s b.data_number) s)
 
--- a message of new blocks over copies of the data of these, with their places and bands
+-- makes a message of new blocks, one for each of these, over a copy of its data block, with its places and band
 abbrev pub copied : List Block → Arena → Given Arena ℕ
 copied bs a =
     if nat_lt (length a.free) (length bs) then Err NoMblk
     else answer_map (λ g. held_under g.0 g.1 a) (copies bs a.store)
 
--- of the first block of the message held at h
+-- copies the first block of the message held at h
 abbrev pub copyb : ℕ → Arena → Given Arena ℕ
 copyb h a = copied (take 1 (message_at a h)) a
 
--- of all its blocks
+-- copies all blocks of the message held at h
 abbrev pub copymsg : ℕ → Arena → Given Arena ℕ
 copymsg h a = copied (message_at a h) a
 
 -- ---- one block
 
--- the bytes behind the write place of b, which is block k of the message m, held at h
+-- writes bytes after the write place of b, block k of the message m held at h
 abbrev pub write_block : ℕ → ℕ → List ℕ → Arena → Message → Option Block → Given Arena (Unit {0})
 write_block h k bytes a m None = Err NoSuchBlock
 write_block h k bytes a m (Some b) =
@@ -103,31 +103,31 @@ write_block h k bytes a m (Some b) =
       },
     ))
 
--- bytes behind the write place of block k of the message held at h, and the write place behind them
+-- writes bytes after the write place of block k of the message held at h, and moves the write place after them
 abbrev pub write : ℕ → ℕ → List ℕ → Arena → Given Arena (Unit {0})
 write h k bytes a = write_block h k bytes a (message_at a h) (slice_get (message_at a h) k)
 
--- this type of the data block of a block of a message, which no other block may name
+-- gives the data block of this block of a message a type; no other block may use it
 abbrev pub settype_of : MsgType → Arena → Option Block → Given Arena (Unit {0})
 settype_of kind a None = Err NoSuchBlock
 settype_of kind a (Some b) =
     if nat_lt 1 (names_of a b.data_number) then Err Shared
     else Ok (tt, record a { store = with_kind b.data_number kind a.store })
 
--- the type of the data block of block k
+-- gives the data block of block k of the message held at h a type
 abbrev pub settype : ℕ → ℕ → MsgType → Arena → Given Arena (Unit {0})
 settype h k kind a = settype_of kind a (slice_get (message_at a h) k)
 
--- the message once its first block is of this band
+-- the message after its first block got this band
 abbrev pub banded : ℕ → Message → Message
 banded band [] = []
 banded band (b ∷ bs) = record b { band = band } ∷ bs
 
--- the message held at h, with this band
+-- gives the first block of the message held at h a band
 abbrev pub setband : ℕ → ℕ → Arena → Arena
 setband h band a = with_message h (banded band (message_at a h)) a
 
--- what there is to tell of a block of a message, if there is one
+-- type, length, band, room and references of a block of a message, if any
 abbrev pub info_of : Arena → Option Block → Given Arena BlockInfo
 info_of a None = Err NoSuchBlock
 info_of a (Some b) = Ok (
@@ -141,44 +141,44 @@ info_of a (Some b) = Ok (
   a,
 )
 
--- what there is to tell of block k
+-- returns type, length, band, room and references of block k of the message held at h
 abbrev pub block : ℕ → ℕ → Arena → Given Arena BlockInfo
 block h k a = info_of a (slice_get (message_at a h) k)
 
--- ---- joining and parting
+-- ---- joining and dividing
 
--- the number of the first block, if there is one
+-- the number of the first block, if any
 abbrev pub head_in : Message → Option ℕ
 head_in [] = None
 head_in (b ∷ bs) = Some b.number
 
--- these blocks are a held message, if there are any
+-- the arena after these blocks, if any, became a held message
 abbrev pub with_rest : Message → Arena → Arena
 with_rest [] a = a
 with_rest (b ∷ bs) a = with_held (b ∷ bs) a
 
--- the message at g goes behind the one at h; two tokens of one message leave it as it is
+-- appends the message at g to the one at h; if both are one message, nothing changes
 abbrev pub linkb : ℕ → ℕ → Arena → Arena
 linkb h g a = if h == g then a else record a { held = joined h g a.held }
 
--- the first block stays; the others are a message, if there are any, which is the answer
+-- makes the blocks after the first, if any, a message of their own, and returns its head
 abbrev pub unlinkb : ℕ → Arena → Option ℕ × Arena
 unlinkb h a = (head_in (drop 1 (message_at a h)), record a { held = divided (λ b. b.number) h (message_at a h) a.held })
 
--- this block of the message held at h is a message, and the rest is one, if there is any
+-- makes this block of the message held at h a message, and also the rest, if any; returns their heads
 abbrev pub rmvb_of : ℕ → Arena → Message → Option Block → Given Arena (ℕ × Option ℕ)
 rmvb_of h a rest None = Err NoSuchBlock
 rmvb_of h a rest (Some b) = Ok ((b.number, head_in rest), with_held (b ∷ []) (with_rest rest (without_held h a)))
 
--- block k is a message, and the others are one, if there are any; both are the answer
+-- makes block k of the message held at h a message, and also the other blocks, if any; returns their heads
 abbrev pub rmvb : ℕ → ℕ → Arena → Given Arena (ℕ × Option ℕ)
 rmvb h k a = rmvb_of h a (without_place k (message_at a h)) (slice_get (message_at a h) k)
 
--- the first of the blocks of the message held at h is free, and the rest is a message, if there is any
+-- frees the first of these blocks of the message held at h; the rest, if any, becomes a message, whose head is returned
 abbrev pub freeb_from : ℕ → Arena → Message → Option ℕ × Arena
 freeb_from h a [] = (None, a)
 freeb_from h a (b ∷ rest) = (head_in rest, with_block_freed b [] (with_rest rest (without_held h a)))
 
--- the first block is free; the others are a message, if there are any, which is the answer
+-- frees the first block of the message held at h; the others, if any, become a message, whose head is returned
 abbrev pub freeb : ℕ → Arena → Option ℕ × Arena
 freeb h a = freeb_from h a (message_at a h)

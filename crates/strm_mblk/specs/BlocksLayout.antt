@@ -1,4 +1,4 @@
--- How message blocks lie in memory. No public clause cites this module.
+-- How `Blocks` lays out message blocks. No public clause cites this module.
 use Rattle.std.specs.Prelude.{◌≡◌, ℕ, ◌+◌, ◌^◌, ◌<◌, ◌≤◌, Bool, List, [], ◌∷◌, length, map, Some, option_map, slice_get, slice_index_or, slice_set, nat_lt}
 use Rattle.strm_data.specs.CountedStore.{CountedStore, IsKept, count_of, without_name, with_name}
 use Rattle.strm_data.specs.DataStore.{DataStore, capacity_of, times}
@@ -12,18 +12,18 @@ use Rattle.strm_mblk.specs.Block as model
 use Rattle.strm_mblk.specs.NodeLists.{NodeLists, IsNodesParted}
 use Rattle.strm_mblk.specs.Limits.{most_message_blocks}
 
--- what is given where there is no such message block
+-- the result of a read past the message blocks
 abbrev pub no_fields : Fields
 no_fields = record { data_number = 0; offset = 0; len = 0; band = 0 }
 
 abbrev pub fields_at : List Fields → ℕ → Fields
 fields_at fields n = slice_index_or fields n no_fields
 
--- message block n, where it says so
+-- message block n with these fields
 abbrev pub block_of : ℕ → Fields → model.Block
 block_of n f = record { number = n; data_number = f.data_number; offset = f.offset; len = f.len; band = f.band }
 
--- what a message block says, beside its number
+-- the fields of a message block, which are all but its number
 abbrev pub fields_of : model.Block → Fields
 fields_of b = record { data_number = b.data_number; offset = b.offset; len = b.len; band = b.band }
 
@@ -31,30 +31,30 @@ fields_of b = record { data_number = b.data_number; offset = b.offset; len = b.l
 abbrev pub block_at : List Fields → ℕ → model.Block
 block_at fields n = block_of n (fields_at fields n)
 
--- the blocks of a message
+-- the message with these block numbers
 abbrev pub message_of : List Fields → List ℕ → model.Message
 message_of fields ns = map (block_at fields) ns
 
--- the data blocks that message blocks name
+-- the data blocks of these message blocks
 abbrev pub named_by : List Fields → List ℕ → List ℕ
 named_by fields ns = map (λ n. (fields_at fields n).data_number) ns
 
--- once these message blocks say this, each what stands at its place
+-- the fields after each of these message blocks got new ones
 abbrev pub with_fields : List ℕ → List Fields → List Fields → List Fields
 with_fields [] xs fields = fields
 with_fields (n ∷ ns) [] fields = fields
 with_fields (n ∷ ns) (x ∷ xs) fields = with_fields ns xs (slice_set fields n x)
 
--- the store once each of these data blocks, first to last, has a name more
+-- the store after each of these data blocks, first to last, got a reference
 abbrev pub with_names_given : List ℕ → CountedStore → CountedStore
 with_names_given [] s = s
 with_names_given (d ∷ ds) s = with_names_given ds (with_name d s)
 
--- whether some data block would have more than most_data_block_names names once each of these has a name more
+-- whether some data block would have more than most_data_block_names references after each of these got one
 abbrev pub exceeds_counts : List ℕ → CountedStore → Bool
 exceeds_counts ds s = list_any (λ d. nat_lt most_data_block_names (count_of s d + times d ds)) ds
 
--- the store once each of these data blocks, first to last, has a name less
+-- the store after each of these data blocks, first to last, lost a reference
 abbrev pub with_names_dropped : List ℕ → CountedStore → CountedStore
 with_names_dropped [] s = s
 with_names_dropped (d ∷ ds) s = with_names_dropped ds (without_name d s)
@@ -71,21 +71,20 @@ arena_of id store fields lists = record {
 abbrev pub arena_in : Inside → Arena
 arena_in a = arena_of a.id a.data.store a.blocks.items a.chains
 
--- the data block is there, the places lie in its capacity, and the band is one
+-- the data block exists, the places are inside it, and the band is below 256
 pub record IsPlaced (s : DataStore) (f : Fields) : Type 0 where
   pub there : f.data_number < length s.blocks
   pub within : f.offset + f.len ≤ capacity_of s f.data_number
   pub banded : f.band < 2 ^ 8
 
--- a message that begins with `head`, over message blocks that name data blocks that are there, and has so few bytes that
--- they are counted in 32 bits
+-- every message block has an existing data block, and the bytes of the message that begins with `head` number less than 2^32
 pub record IsSummable (strands : StrandLists) (fields : List Fields) (s : DataStore) (head : ℕ) : Type 0 where
   pub begins : slice_get (strand_at strands head) 0 ≡ Some head
   pub listed : length fields ≡ length strands.chains
   pub named : (n : ℕ) → n < length fields → (fields_at fields n).data_number < length s.blocks
   pub small : model.size_of (message_of fields (strand_at strands head)) < 2 ^ 32
 
--- every message block, a free one too, has its places in a data block; and data blocks count the names that they have
+-- every message block, free ones too, has its places inside a data block, and the stored counts are the numbers of references
 pub record IsFilled (s : CountedStore) (fields : List Fields) (lists : NodeLists) (arena : Arena) : Type 0 where
   pub kept : IsKept s
   pub parted : IsNodesParted lists
@@ -94,6 +93,6 @@ pub record IsFilled (s : CountedStore) (fields : List Fields) (lists : NodeLists
   pub placed : (n : ℕ) → n < length fields → IsPlaced s.store (fields_at fields n)
   pub counts : (d : ℕ) → count_of s d ≡ names_of arena d
 
-pub record IsWhole (a : Inside) : Type 0 where
+pub record IsSound (a : Inside) : Type 0 where
   pub filled : IsFilled a.data a.blocks.items a.chains (arena_in a)
   pub queued : a.queued ≡ length (shelved_blocks (arena_in a))

@@ -1,6 +1,6 @@
--- What a call does with messages, by its shape. Each record is about a value that has message blocks, which `arena` finds in it. `call` is
--- what the definition of the call gives for the old value, and `result` is what the call answered: `Ok result` for a call that is never
--- refused, and `Ok tt` for one that answers nothing. A refused call changes nothing.
+-- What a call does with messages: a record for each shape of a call. The records are about a value with an arena, which `arena` finds in
+-- it. `call` is the result of the call's definition for the old value. `result` is what the call returns: `Ok result` if it is never
+-- refused, and `Ok tt` if it returns nothing. A refused call changes nothing.
 use Rattle.std.specs.Prelude.{◌≡◌, ◌≢◌, ◌⊎◌, ℕ, IsTrue, [], ◌∷◌, Option, None, Some, Result, IfOk, IfSome, MatchResult, option_map}
 use Rattle.strm_data.specs.declared.refusal.Refusal.{Refusal}
 use Rattle.strm_mblk.specs.declared.rejected.Rejected.{Rejected}
@@ -9,13 +9,13 @@ use Rattle.strm_mblk.specs.Arena.{Arena, has, held_at, token_of}
 use Rattle.strm_mblk.specs.Frame.{LeavesOthers, LeavesShelves, head_answered, heads_answered, heads_parted}
 use Rattle.strm_mblk.specs.Given.{Given, answer_map, answer_of, or_rejected, value_after}
 
--- the message blocks of an arena
+-- an arena is its own arena
 abbrev pub itself : Arena → Arena
 itself a = a
 
 -- ---- calls that change no shelf
 
--- A call that makes a message, perhaps out of a held one, its source.
+-- A call that makes a message, perhaps from a held one, its source.
 pub record Gives {V : Type 0} (arena : V → Arena) (source : Option TokenValue) (call : Given V ℕ) (old new : V) (result : Result TokenValue Refusal) : Type 0 where
   pub after : new ≡ value_after old call
   pub token : result ≡ answer_map (token_of (arena new)) (answer_of call)
@@ -27,7 +27,7 @@ pub record Gives {V : Type 0} (arena : V → Arena) (source : Option TokenValue)
   pub others : LeavesOthers (head_answered result) (arena old) (arena new)
   pub shelves : LeavesShelves (head_answered result) (arena old) (arena new)
 
--- A call that alters the message of a token t, which is u after it.
+-- A call that alters the message of token t, which becomes u.
 pub record Alters {V : Type 0} (arena : V → Arena) (t u : TokenValue) (call : Given V (Unit {0})) (old new : V) (result : Result (Unit {0}) Refusal) : Type 0 where
   pub after : new ≡ value_after old call
   pub answer : result ≡ answer_of call
@@ -37,18 +37,18 @@ pub record Alters {V : Type 0} (arena : V → Arena) (t u : TokenValue) (call : 
   pub others : LeavesOthers (t.head ∷ []) (arena old) (arena new)
   pub shelves : LeavesShelves (t.head ∷ []) (arena old) (arena new)
 
--- A call that joins the message of a token u, which is spent, to that of a token s, which is t after it. `next` is the value that the
+-- A call that appends the message of token u, which is spent, to that of token s, which becomes t. `next` is the value that the
 -- definition gives.
 pub record Joins {V : Type 0} (arena : V → Arena) (s t u : TokenValue) (next old new : V) : Type 0 where
   pub after : new ≡ next
-  -- the first message is still held at its head, and none is at that of the other
+  -- the first message is still held at its head, and none at the other's head
   pub token : t ≡ token_of (arena new) s.head
   pub had : IsTrue (has (arena new) t)
   pub gone : s.head ≢ u.head → held_at (arena new) u.head ≡ None
   pub others : LeavesOthers (s.head ∷ u.head ∷ []) (arena old) (arena new)
   pub shelves : LeavesShelves (s.head ∷ u.head ∷ []) (arena old) (arena new)
 
--- A call that leaves the first block in the message of a token t, which is u after it, and answers the token of the rest, if there is one.
+-- A call that leaves only the first block in the message of token t, which becomes u, and returns the token of the rest, if any.
 pub record Unlinks {V : Type 0} (arena : V → Arena) (t u : TokenValue) (call : Given V (Option ℕ)) (old new : V) (result : Result (Option TokenValue) Refusal) : Type 0 where
   pub after : new ≡ value_after old call
   pub rest : result ≡ answer_map (option_map (token_of (arena new))) (answer_of call)
@@ -60,7 +60,7 @@ pub record Unlinks {V : Type 0} (arena : V → Arena) (t u : TokenValue) (call :
   pub others : LeavesOthers (t.head ∷ heads_answered result) (arena old) (arena new)
   pub shelves : LeavesShelves (t.head ∷ heads_answered result) (arena old) (arena new)
 
--- A call that frees the first block of the message of a token t, which is spent, and answers the token of the rest, if there is one.
+-- A call that frees the first block of the message of token t, which is spent, and returns the token of the rest, if any.
 pub record Frees {V : Type 0} (arena : V → Arena) (t : TokenValue) (call : Given V (Option ℕ)) (old new : V) (result : Result (Option TokenValue) Refusal) : Type 0 where
   pub after : new ≡ value_after old call
   pub rest : result ≡ answer_map (option_map (token_of (arena new))) (answer_of call)
@@ -72,12 +72,12 @@ pub record Frees {V : Type 0} (arena : V → Arena) (t : TokenValue) (call : Giv
   pub others : LeavesOthers (t.head ∷ heads_answered result) (arena old) (arena new)
   pub shelves : LeavesShelves (t.head ∷ heads_answered result) (arena old) (arena new)
 
--- A call that parts the message of a token t, which is spent, into two, or into one if all its blocks are in the first. It answers their
--- tokens, or gives t back.
+-- A call that divides the message of token t, which is spent, into two, or into one if the first gets all blocks. It returns their
+-- tokens, or t if it is refused.
 pub record Parts {V : Type 0} (arena : V → Arena) (t : TokenValue) (call : Given V (ℕ × Option ℕ)) (old new : V) (result : Result (TokenValue × Option TokenValue) Rejected) : Type 0 where
   pub after : new ≡ value_after old call
   pub answer : result ≡ or_rejected t (answer_map (λ heads. (token_of (arena new) heads.0, option_map (token_of (arena new)) heads.1)) (answer_of call))
-  -- both messages are held; one has the old head, and no message was held at the head of the other before
+  -- both messages are held; one has the old head, and no message was held at the other's head before
   pub kept : IfOk result (λ tokens. (tokens.0.head ≡ t.head) ⊎ (option_map (λ r. r.head) tokens.1 ≡ Some t.head))
   pub had : IfOk result (λ tokens. IsTrue (has (arena new) tokens.0))
   pub rest_had : IfOk result (λ tokens. IfSome tokens.1 (λ r. IsTrue (has (arena new) r)))
@@ -87,21 +87,21 @@ pub record Parts {V : Type 0} (arena : V → Arena) (t : TokenValue) (call : Giv
   pub others : LeavesOthers (t.head ∷ heads_parted result) (arena old) (arena new)
   pub shelves : LeavesShelves (t.head ∷ heads_parted result) (arena old) (arena new)
 
--- A call that spends a token t, and frees its message if it is held. `next` is the value that the definition gives.
+-- A call that spends token t, and frees its message if it is held. `next` is the value that the definition gives.
 pub record Spends {V : Type 0} (arena : V → Arena) (t : TokenValue) (next old new : V) : Type 0 where
   pub after : new ≡ next
-  -- no message is held at the head then
+  -- no message is held at its head any more
   pub gone : IsTrue (has (arena old) t) → held_at (arena new) t.head ≡ None
   pub others : LeavesOthers (t.head ∷ []) (arena old) (arena new)
   pub shelves : LeavesShelves (t.head ∷ []) (arena old) (arena new)
 
--- ---- calls that change shelves, or what queues say besides
+-- ---- calls that change shelves, or what queues store
 
--- A call that puts the message of a token t on a shelf, or gives the token back.
+-- A call that puts the message of token t on a shelf, or returns t if it is refused.
 pub record Puts {V : Type 0} (arena : V → Arena) (t : TokenValue) (call : Given V (Unit {0})) (old new : V) (result : Result (Unit {0}) Rejected) : Type 0 where
   pub after : new ≡ value_after old call
   pub answer : result ≡ or_rejected t (answer_of call)
-  -- no message is held at its head, or the token is of a held message still
+  -- no message is held at its head any more, or the token is of a held message still
   pub gone : MatchResult result (λ done. held_at (arena new) t.head ≡ None) (λ rejected. IsTrue (has (arena new) t))
   pub others : LeavesOthers (t.head ∷ []) (arena old) (arena new)
 
@@ -114,7 +114,7 @@ pub record Takes {V : Type 0} (arena : V → Arena) (call : Given V ℕ) (old ne
   pub unheld : IfOk result (λ t. held_at (arena old) t.head ≡ None)
   pub others : LeavesOthers (head_answered result) (arena old) (arena new)
 
--- A call that takes a message off a shelf, if there is one.
+-- A call that takes a message off a shelf, if any.
 pub record TakesAny {V : Type 0} (arena : V → Arena) (call : Given V (Option ℕ)) (old new : V) (result : Result (Option TokenValue) Refusal) : Type 0 where
   pub after : new ≡ value_after old call
   pub token : result ≡ answer_map (option_map (token_of (arena new))) (answer_of call)
@@ -123,7 +123,7 @@ pub record TakesAny {V : Type 0} (arena : V → Arena) (call : Given V (Option �
   pub unheld : IfOk result (λ given. IfSome given (λ t. held_at (arena old) t.head ≡ None))
   pub others : LeavesOthers (heads_answered result) (arena old) (arena new)
 
--- A call that frees messages on shelves, and leaves the held ones.
+-- A call that frees messages on shelves, and leaves held messages unchanged.
 pub record Flushes {V : Type 0} (arena : V → Arena) (call : Given V (Unit {0})) (old new : V) (result : Result (Unit {0}) Refusal) : Type 0 where
   pub after : new ≡ value_after old call
   pub answer : result ≡ answer_of call

@@ -1,4 +1,4 @@
--- How messages lie in strands, and their heads on shelves. No public clause cites this module.
+-- How `Chains` lays out messages, as strands, and shelves, as lists of heads. No public clause cites this module.
 use Rattle.std.specs.Prelude.{◌≡◌, ℕ, List, [], ◌∷◌, length, map, Option, None, IsSome, slice_set}
 use Rattle.strm_links.specs.Rows.{IsParting, Rows, holder, linked_nodes}
 use Rattle.strm_links.specs.Chains.{chain_in}
@@ -11,7 +11,7 @@ abbrev pub strands_but : List ℕ → List (Option (List ℕ)) → List (Option 
 strands_but [] held = held
 strands_but (h ∷ hs) held = strands_but hs (slice_set held h None)
 
--- what a contract sees: a strand whose head stands on a shelf is a message there, and any other is a held message
+-- the lists that strands and heads mean: a strand whose head is on a shelf is a message there, and any other is a held message
 abbrev pub nodes_of : StrandLists → Rows → NodeLists
 nodes_of strands heads = record {
   free = strands.free;

@@ -1,4 +1,4 @@
--- How copies of blocks are made. No public clause cites this module.
+-- How copies of blocks are made, step by step. No public clause cites this module.
 use Rattle.std.specs.Prelude.{◌≡◌, ℕ, ◌+◌, ◌<◌, ◌≤◌, List, Ok, count_by, length, map, slice_index_or, slice_set}
 use Rattle.std.specs.List.{All}
 use Rattle.strm_data.specs.declared.class_spec.ClassSpec.{ClassSpec}
@@ -9,21 +9,21 @@ use Rattle.strm_mblk.specs.declared.blocks.Fields.{Fields}
 use Rattle.strm_mblk.specs.BlocksLayout.{IsPlaced, fields_of, with_fields}
 use Rattle.strm_mblk.specs.BlockCalls.{copied_into, copies}
 
--- of each class as many data blocks are left as are free in this store
+-- for each class, `left` has the number of its free data blocks in this store
 abbrev pub AreLeft : List ℕ → DataStore → Type 0
 AreLeft left s = (c : ℕ) → slice_index_or left c 0 ≡ length (free_of s c)
 
--- the class fits the size, and a data block of it is left
+-- the class fits the size, and has a data block left
 pub record IsLeft (size : ℕ) (classes : List ClassSpec) (left : List ℕ) (c : ℕ) : Type 0 where
   pub there : c < length classes
   pub wide : size ≤ (slice_index_or classes c no_class_spec).size
   pub some : 0 < slice_index_or left c 0
 
--- the store once d, taken for a copy of b, has the type of b and its bytes; one message block names it
+-- the store after d was taken for a copy of b, with its type and bytes; d has one reference
 abbrev pub with_copy : Block → CountedStore → ℕ → CountedStore
 with_copy b s d = record { store = copied_into b s.store d; counts = slice_set s.counts d 1 }
 
--- there are copies of these blocks: message blocks ns say what the copies do, over data blocks that have one name each
+-- message blocks ns have become copies of these blocks, over data blocks with one reference each
 pub record AreCopied (bs : List Block) (ns : List ℕ) (old new : List Fields) (s t : CountedStore) : Type 0 where
   pub made : List Block
   pub answer : copies bs s.store ≡ Ok (made, t.store)

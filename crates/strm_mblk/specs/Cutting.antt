@@ -1,4 +1,4 @@
--- Blocks of one type at an end of a message, and blocks that lose bytes. No public clause cites this module.
+-- Runs of one type at an end of a message, and blocks that lose bytes. No public clause cites this module.
 use Rattle.std.specs.Prelude.{◌≡◌, ℕ, ◌+◌, ◌-◌, ◌≤◌, min, Bool, true, false, List, [], ◌∷◌, length, take, Some, slice_get, slice_set, if◌then◌else◌}
 use Rattle.strm_data.specs.declared.msg_type.MsgType.{MsgType}
 use Rattle.strm_data.specs.DataStore.{DataStore}
@@ -10,12 +10,12 @@ use Rattle.strm_mblk.specs.BlocksLayout.{fields_at, message_of}
 use Rattle.strm_mblk.specs.NodeLists.{NodeLists, nodes_at}
 use Rattle.strm_mblk.specs.Trimming.{along, run_of}
 
--- a run with one block more, behind which and with which there are so many; one of another type begins a run of its own
+-- the run with one more block, the first of the message's last `blocks` ones; a block of another type begins a new run
 abbrev pub run_with : ℕ → ℕ → MsgType → ℕ → Run → Run
 run_with node blocks kind len r = if same_kind kind r.kind then record r { size = r.size + len } else record { first = node; blocks = blocks; size = len; kind = kind }
 
--- of the message that has these blocks, the leading ones that have the type of the first, or the trailing ones that have
--- that of the last: how many bytes they have, and at which block they begin
+-- r is a run of the message with these block numbers: the leading blocks with the first block's type, or the trailing ones with the last
+-- block's type. It has their number of bytes and their first block
 pub record IsRun (from_tail : Bool) (s : DataStore) (fields : List Fields) (ns : List ℕ) (r : Run) : Type 0 where
   pub size : r.size ≡ size_of (run_of s (along from_tail (message_of fields ns)))
   pub few : r.blocks ≤ length ns
@@ -23,18 +23,18 @@ pub record IsRun (from_tail : Bool) (s : DataStore) (fields : List Fields) (ns :
   pub leading : from_tail ≡ false → r.blocks ≡ length ns
   pub trailing : from_tail ≡ true → size_of (message_of fields (take (length ns - r.blocks) ns)) + r.size ≡ size_of (message_of fields ns)
 
--- from this block on there are so many to the end of a message
+-- some message has block `first`, and `count` blocks from it on
 pub record IsTail (v : NodeLists) (first count : ℕ) : Type 0 where
   pub head : ℕ
   pub place : ℕ
   pub at : slice_get (nodes_at v head) place ≡ Some first
   pub len : place + count ≡ length (nodes_at v head)
 
--- what a message block says without its first n bytes, or with only those, as far as it has them
+-- the fields of a block after it lost its first n bytes, or all others; fewer if it has fewer
 abbrev pub fields_cut : Bool → ℕ → Fields → Fields
 fields_cut from_tail n f = record f { offset = if from_tail then f.offset else f.offset + min n f.len; len = if from_tail then min n f.len else f.len - n }
 
--- the message blocks once these have lost their first n bytes, or all others: each gives what it has
+-- the fields after these blocks lost their first n bytes together, or all others; each block loses those that it has
 abbrev pub with_bytes_cut : Bool → ℕ → List ℕ → List Fields → List Fields
 with_bytes_cut from_tail n [] fields = fields
 with_bytes_cut from_tail n (k ∷ ks) fields =

@@ -1,6 +1,6 @@
--- How many message blocks there may be. The number stands here once, and src/limits.rt has a constant of its name.
+-- The limit of this crate. The number is here once, and src/limits.rt has a constant of the same name.
 use Rattle.std.specs.Prelude.{ℕ}
 
--- the message blocks: free, held and shelved
+-- the most message blocks: free, held and on shelves together
 abbrev pub most_message_blocks : ℕ
 most_message_blocks = 16383

@@ -1,12 +1,12 @@
--- Message blocks as mere numbers: the free ones, and the messages that the others make. No public clause cites this module.
+-- Message blocks as numbers only: the free ones, and the messages of the others. No public clause cites this module.
 use Rattle.std.specs.Prelude.{◌≡◌, ℕ, ◌+◌, ◌<◌, nat_lt, List, [], ◌∷◌, ◌++◌, length, map, replicate, reverse, take, drop, Option, None, Some, IfSome, slice_get, slice_index_or, slice_set, if◌then◌else◌}
 use Rattle.std.specs.List.{All, range_with_len}
 use Rattle.strm_links.specs.Rows.{first}
 use Rattle.strm_data.specs.DataStore.{times}
 use Rattle.strm_mblk.specs.Messages.{blocks_of, held_in, shelf_in, blocks_on, blocks_held}
 
--- the free numbers, the next to be taken first; for each number the held message that begins with it, if there is
--- one; and the messages on each shelf, front to back
+-- the free numbers, the next to be taken first; for each number the held message that begins with it, if any; and the messages on each
+-- shelf, front to back
 pub record NodeLists : Type 0 where
   pub free : List ℕ
   pub held : List (Option (List ℕ))
@@ -16,16 +16,16 @@ pub record NodeLists : Type 0 where
 abbrev pub nodes_at : NodeLists → ℕ → List ℕ
 nodes_at v h = blocks_of (held_in v.held h)
 
--- a walk along the message held at h has come to n, its block i, or is past the last one
+-- a walk along the message held at h has reached n, its block i, or has passed its end
 pub record IsReached (v : NodeLists) (h i n : ℕ) : Type 0 where
   pub here : i < length (nodes_at v h) → slice_get (nodes_at v h) i ≡ Some n
   pub in_range : i < length (nodes_at v h) → n < length v.held
 
--- the number that a message begins with
+-- the number of a message's first block
 abbrev pub head_node : List ℕ → ℕ
 head_node m = slice_index_or m 0 0
 
--- the numbers that the messages on a shelf begin with
+-- the heads of the messages on a shelf
 abbrev pub heads_on : NodeLists → ℕ → List ℕ
 heads_on v s = map head_node (shelf_in v.shelves s)
 
@@ -33,26 +33,26 @@ heads_on v s = map head_node (shelf_in v.shelves s)
 abbrev pub shelved_nodes : NodeLists → ℕ → ℕ → List ℕ
 shelved_nodes v s k = slice_index_or (shelf_in v.shelves s) k []
 
--- all numbers, free or of a message
+-- all numbers, whether free or of a message
 abbrev pub all_nodes : NodeLists → List ℕ
 all_nodes v = v.free ++ (blocks_on v.shelves ++ blocks_held v.held)
 
--- each number stands once in all; a held message stands at its first number, and no message is empty
+-- each number is in exactly one place, each held message is at its first number, and no message is empty
 pub record IsNodesParted (v : NodeLists) : Type 0 where
   pub once : (n : ℕ) → times n (all_nodes v) ≡ (if nat_lt n (length v.held) then 1 else 0)
   pub heads : (h : ℕ) → IfSome (held_in v.held h) (λ m. first m ≡ Some h)
   pub shelved : (s : ℕ) → All (λ m. 0 < length m) (shelf_in v.shelves s)
 
--- so many free numbers, in rising order, and so many empty shelves
+-- new lists: all numbers are free, in rising order, and all shelves are empty
 abbrev pub opening_nodes : ℕ → ℕ → NodeLists
 opening_nodes nodes shelves = record { free = range_with_len 0 nodes; held = replicate nodes None; shelves = replicate shelves [] }
 
--- the first free number, if there is one, is a held message
+-- the first free number, if any, becomes a held message
 abbrev pub after_begin : NodeLists → List ℕ → NodeLists
 after_begin v [] = v
 after_begin v (n ∷ ns) = record v { free = ns; held = slice_set v.held n (Some (n ∷ [])) }
 
--- of these numbers, which stand at h, so many behind the first are free, the last in front; the others stay
+-- of the message held at h, which has numbers ns, `count` numbers after the first are freed, the last to the front; the others stay
 abbrev pub after_behind_freed : ℕ → ℕ → List ℕ → NodeLists → NodeLists
 after_behind_freed h count ns v = record v {
   free = reverse (take count (drop 1 ns)) ++ v.free;

@@ -1,4 +1,4 @@
--- How bytes are pulled up into the first block of a message, step by step. No public clause cites this module.
+-- How bytes are brought into the first block of a message, step by step. No public clause cites this module.
 use Rattle.std.specs.Prelude.{ℕ, List, [], ◌∷◌, take}
 use Rattle.strm_data.specs.CountedStore.{CountedStore}
 use Rattle.strm_data.specs.DataStore.{take_data, with_bytes_written}
@@ -10,15 +10,16 @@ use Rattle.strm_mblk.specs.Trimming.{left_over, pulled_into, used_up}
 
 -- ---- the first block
 
--- the store once the first n bytes of these blocks stand in d, from its first byte on
+-- the store after the first n bytes of these blocks were written into d, from its first byte on
 abbrev pub with_front_copied : ℕ → ℕ → List Block → CountedStore → CountedStore
 with_front_copied d n bs s = record s { store = with_bytes_written d 0 (take n (bytes_of s.store bs)) s.store }
 
--- a block that names d, from its first byte on
+-- the block over data block d, with n bytes from the first on
 abbrev pub over_data : ℕ → ℕ → Block → Block
 over_data d n b = record b { data_number = d; offset = 0; len = n }
 
--- the first block has the first n bytes of the message, and the others still have theirs
+-- The first block has data block d with the first n bytes of the message, and its old data block has lost a reference. The
+-- other blocks are unchanged.
 abbrev pub front_pulled : ℕ → ℕ → Message → Arena → ℕ → Arena
 front_pulled h n [] a d = a
 front_pulled h n (b ∷ bs) a d =
@@ -27,9 +28,9 @@ front_pulled h n (b ∷ bs) a d =
 abbrev pub pull_front : ℕ → ℕ → Arena → Given Arena (Unit {0})
 pull_front h n a = answer_map (λ d. (tt, front_pulled h n (message_at a h) a d)) (take_data n a.store)
 
--- ---- the blocks behind it
+-- ---- the blocks after it
 
--- n bytes are taken from the blocks behind the first
+-- n bytes are removed from the blocks after the first, and the used-up blocks are freed
 abbrev pub drained : ℕ → ℕ → Message → Arena → Arena
 drained h n [] a = a
 drained h n (b ∷ bs) a = with_blocks_freed (used_up n bs) (with_message h (b ∷ left_over n bs) a)

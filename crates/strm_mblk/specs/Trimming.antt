@@ -1,4 +1,4 @@
--- Bytes that a message loses at an end, and bytes that are pulled up into its first block.
+-- Removing bytes at an end of a message (`adjmsg`), and bringing bytes into its first block (`pullupmsg`).
 use Rattle.std.specs.Prelude.{ℕ, zero, suc, ◌+◌, ◌-◌, ℤ, pos, negsuc, min, Bool, ◌&&◌, nat_lt, nat_le, List, [], ◌∷◌, reverse, take, Option, None, Some, Result, Ok, Err, slice_set, if◌then◌else◌}
 use Rattle.std.specs.List.{take_while}
 use Rattle.strm_data.specs.declared.refusal.Refusal.{Refusal}
@@ -15,61 +15,61 @@ abbrev pub run_of : DataStore → List Block → List Block
 run_of s [] = []
 run_of s (b ∷ bs) = b ∷ take_while (λ c. same_kind (kind_of s c) (kind_of s b)) bs
 
--- a list as it stands, or from its last to its first
+-- a list, from its last item to its first if `from_tail`
 abbrev pub along : {X : Type 0} → Bool → List X → List X
 along from_tail xs = if from_tail then reverse xs else xs
 
 -- ---- adjmsg
 
--- the blocks without their first n bytes: each gives what it has, and the empty ones stay
+-- the blocks without their first n bytes: each loses those that it has, and emptied blocks stay
 abbrev pub cut_front : ℕ → List Block → List Block
 cut_front n [] = []
 cut_front n (b ∷ bs) = record b { offset = b.offset + min n b.len; len = b.len - n } ∷ cut_front (n - b.len) bs
 
--- the same from the tail, for blocks that are listed from the last to the first
+-- the blocks, listed last to first, without their last n bytes: each loses those that it has, and emptied blocks stay
 abbrev pub cut_back : ℕ → List Block → List Block
 cut_back n [] = []
 cut_back n (b ∷ bs) = record b { len = b.len - n } ∷ cut_back (n - b.len) bs
 
--- n bytes less at the head, for n above 0 or 0, else -n less at the tail
+-- The message without its first n bytes or, if n is below 0, without its last -n bytes. Refused as `Short` if the blocks of one
+-- type at that end have fewer.
 abbrev pub cut : ℤ → DataStore → Message → Result Message Refusal
 cut (pos n) s m = if nat_lt (size_of (run_of s m)) n then Err Short else Ok (cut_front n m)
 cut (negsuc n) s m =
     if nat_lt (size_of (run_of s (reverse m))) (suc n) then Err Short else Ok (reverse (cut_back (suc n) (reverse m)))
 
--- the message held at h, cut by n
+-- removes n bytes at the head of the message held at h or, if n is below 0, -n bytes at its tail
 abbrev pub adjmsg : ℕ → ℤ → Arena → Given Arena (Unit {0})
 adjmsg h n a = answer_map (λ m. (tt, with_message h m a)) (cut n a.store (message_at a h))
 
 -- ---- pullupmsg
 
--- how many bytes are asked for: -1 stands for all of the run, and a number below it for none that there are
+-- the number of bytes that are asked for: -1 asks for all of the run; none if the number is below -1
 abbrev pub bytes_asked : ℤ → List Block → Option ℕ
 bytes_asked (pos n) run = Some n
 bytes_asked (negsuc zero) run = Some (size_of run)
 bytes_asked (negsuc (suc n)) run = None
 
--- whether the next n bytes, of which there are some, are all that the block has, or more
+-- whether the block has no more than the next n bytes, and n is above 0
 abbrev pub is_used_up : ℕ → Block → Bool
 is_used_up n b = nat_lt 0 n && nat_le b.len n
 
--- of the blocks behind the first, those that the next n bytes use up
+-- of the blocks after the first, those that the next n bytes use up
 abbrev pub used_up : ℕ → List Block → List Block
 used_up n [] = []
 used_up n (b ∷ bs) = if is_used_up n b then b ∷ used_up (n - b.len) bs else []
 
--- and those that stay, of which the first has lost what was left to take
+-- of the blocks after the first, those that stay; the first of them loses the bytes that are left to remove
 abbrev pub left_over : ℕ → List Block → List Block
 left_over n [] = []
 left_over n (b ∷ bs) = if is_used_up n b then left_over (n - b.len) bs else record b { offset = b.offset + n; len = b.len - n } ∷ bs
 
--- the store once d has the first n bytes of the message, and the type of its first block
+-- the store after d was taken for the first n bytes of the message, with the type of its first block
 abbrev pub pulled_into : ℕ → Message → DataStore → ℕ → DataStore
 pulled_into n [] s d = s
 pulled_into n (b ∷ bs) s d = with_bytes_written d 0 (take n (bytes_of s (b ∷ bs))) (with_kind d (kind_of s b) (with_data_taken d s))
 
--- the first block names d, which has the first n bytes; its former data loses its name, and then the blocks that
--- are used up are free
+-- the first block has data block d, with the first n bytes; the old data block loses its reference, and then the used-up blocks are freed
 abbrev pub pulled : ℕ → ℕ → Message → Arena → ℕ → Arena
 pulled h n [] a d = a
 pulled h n (b ∷ bs) a d =
@@ -79,7 +79,7 @@ pulled h n (b ∷ bs) a d =
       held = slice_set a.held h (Some (record b { data_number = d; offset = 0; len = n } ∷ left_over (n - b.len) bs));
     }))
 
--- n bytes in the first block, which has them already or takes a data block for them
+-- brings n bytes of the message m held at h into its first block, which has them already or takes a data block for them
 abbrev pub pull : ℕ → ℕ → Message → Arena → Given Arena (Unit {0})
 pull h n [] a = Err Short
 pull h n (b ∷ bs) a =
@@ -87,11 +87,11 @@ pull h n (b ∷ bs) a =
     else (if nat_le n b.len then Ok (tt, a)
     else answer_map (λ d. (tt, pulled h n (b ∷ bs) a d)) (take_data n a.store))
 
--- so many bytes of the message m, which is held at h, are in its first block; `Short` where no number is given
+-- brings the given number of bytes of the message m held at h into its first block; refused as `Short` if no number is given
 abbrev pub pull_asked : ℕ → Option ℕ → Message → Arena → Given Arena (Unit {0})
 pull_asked h None m a = Err Short
 pull_asked h (Some n) m a = pull h n m a
 
--- n bytes of the message held at h, or all of its run, are in its first block
+-- brings n bytes of the message held at h, or with -1 all of its run, into its first block
 abbrev pub pullupmsg : ℕ → ℤ → Arena → Given Arena (Unit {0})
 pullupmsg h n a = pull_asked h (bytes_asked n (run_of a.store (message_at a h))) (message_at a h) a

@@ -1,4 +1,4 @@
-//! Message blocks by number, and the messages that they make.
+//! Message blocks by number, the messages that they make, and the calls on them.
 ghost use Rattle.std.specs.Prelude.{◌≡◌, ◌+◌, ◌^◌, ◌<◌, ◌≤◌, IfOk, IfSome, IsTrue, Some, None, is_some, length, slice_get};
 ghost use Rattle.std.specs.List.{All};
 ghost use Rattle.strm_data.specs.Classes.{are_lawful, fits_a_class};
@@ -31,28 +31,30 @@ use std::marker::Model;
 use std::mem::size_of;
 use strm_data::{ClassInfo, ClassSpec, Data, Refusal};
 
-/// The number of a message block, from 0 on.
+/// The number of a message block. Message blocks are numbered from 0 on.
 pub type BlockNo = u32;
 
-/// Message blocks over data blocks. Each is free, or one of the blocks of a message, which is held as a token or stands
-/// on a shelf.
+/// Message blocks over data blocks. Each message block is free or in one message. A message is held or on a shelf. A held
+/// message has a token, unless that was lost. The number of its first block, its head, identifies it. Calls with a token,
+/// except `has` and `freemsg`, need one that these blocks have. Only `new` takes memory.
 ///
-/// A message is named by the number of its first block, its head. No call but `new` takes memory. Message blocks, and
-/// data blocks that several of them name, are those of UNIX System V Release 4 STREAMS (`msgb` and `datab`); tokens,
-/// shelves and the order of the free list are this project's own choice.
+/// Message blocks and data blocks are those of UNIX System V Release 4 STREAMS (`msgb`, `datab`). A call with the name of a
+/// routine in its Programmer's Guide: STREAMS does what that routine does, with tokens instead of pointers. docs/MODEL.md marks
+/// each rule that differs as own, such as that of `adjmsg` at the tail. Tokens, shelves and the order of the free list are this
+/// project's own choice.
 #[derive(Debug, Drop)]
 pub struct Blocks {
     id: u32,
     data: Data,
-    // What each message block says, under its number.
+    // The fields of each message block, by its number.
     blocks: Vec<Fields>,
     chains: Chains,
-    // How many message blocks stand in messages on shelves.
+    // The number of message blocks in messages on shelves.
     queued: u32,
 }
 
-// What a message block says: the data block that it names, its read place, how many bytes stand from there up to its
-// write place, and its band.
+// What a message block stores: its data block, its read place, its number of bytes from there to its write place, and its
+// band.
 #[derive(Clone, Copy, Debug)]
 struct Fields {
     data_number: u32,
@@ -64,7 +66,7 @@ struct Fields {
 const _: () = prove!(size_of::<Fields>() == 16 && size_of::<Blocks>() == 240);
 
 impl Fields {
-    // Both places at 0, and band 0.
+    // A message block over this data block: both places and the band are 0.
     fn over(data_number: u32) -> Fields
         ensures { result ≡ record { data_number = data_number; offset = 0; len = 0; band = 0 } }
     {
@@ -82,14 +84,14 @@ impl Model for Blocks {
 
     ghost Value = { Arena };
 
-    ghost use Rattle.strm_mblk.specs.BlocksLayout.{arena_in, IsWhole};
+    ghost use Rattle.strm_mblk.specs.BlocksLayout.{arena_in, IsSound};
 
     ghost view = { arena_in };
 
-    ghost invariant = { IsWhole };
+    ghost invariant = { IsSound };
 }
 
-// The number of block `place` of a message, counted from 0, if it has so many. Takes as many steps.
+// The number of a message's block `place`, if any. Places count from 0. Takes at most `place` steps.
 fn node_at(chains: &Chains, head: u32, place: u32) -> Option<u32>
     requires { slice_get (nodes_at chains.now head) 0 ≡ Some head }
     ensures value { result ≡ slice_get (nodes_at chains.now head) place }
@@ -105,11 +107,11 @@ fn node_at(chains: &Chains, head: u32, place: u32) -> Option<u32>
 impl Blocks {
     ghost use Rattle.strm_mblk.specs.BlockCalls as model;
 
-    /// So many free message blocks, in rising order, over the data blocks of these classes, and so many empty shelves:
-    /// 0 to `MOST_MESSAGE_BLOCKS` message blocks, lawful classes as `Data::new` asks for them, and 0 to 255 shelves. Tokens
-    /// will carry the id.
+    /// Makes `mblks` message blocks, 0 to `MOST_MESSAGE_BLOCKS`, and `shelves` shelves, 0 to 255. All message blocks are
+    /// free, in rising order, and all shelves are empty. The data blocks are those of `classes`, which must be lawful as
+    /// [`Data::new`] of strm_data says. Tokens will carry `id`.
     ///
-    /// Fails where the memory for them is refused, and then keeps none.
+    /// Fails if it runs out of memory, and then keeps none. Takes a step for each message block, data block, byte and shelf.
     pub fn new(
         alloc: Global,
         id: u32,
@@ -130,33 +132,34 @@ impl Blocks {
         })
     }
 
-    /// The law of every `Blocks`, whatever calls made it so. Does nothing.
+    /// Law: every message block and every data block is accounted for, whatever calls were made. Does nothing.
     pub fn lawful(&self)
-        // Each message block is free, or in one message, held or on one shelf; each data block is free, or named by 1
-        // to `MOST_DATA_BLOCK_NAMES` message blocks.
+        // Each message block is free or in one message, which is held or on one shelf. Each data block is free, or has 1
+        // to `MOST_DATA_BLOCK_NAMES` references.
         ensures parted { IsParted self.now }
-        // Data blocks are kept: the classes are lawful, each has as many data blocks as it says, and each of these is in
-        // one and as long as that says.
+        // Data blocks are accounted for, as `Data::accounts_for_blocks` says. The counts are those of these message
+        // blocks.
         ensures kept { IsKept (counted_in self.now) }
-        // The places of each block of a message lie in its data block.
+        // The places of each block of a message are inside its data block.
         ensures within { All (IsWithin self.now.store) (blocks_in self.now) }
         // The band of each block of a message is below 256.
         ensures bands { All (λ b. b.band < 2 ^ 8) (blocks_in self.now) }
-        // Free, shelved and held message blocks are all there are, and no more than `MOST_MESSAGE_BLOCKS`.
+        // The census counts each message block once, and there are at most `MOST_MESSAGE_BLOCKS`.
         ensures few { length self.now.held ≤ most_message_blocks }
-        ensures whole { (census_of self.now).free + (census_of self.now).queued + (census_of self.now).held ≡ length self.now.held }
+        ensures whole { (census_of self.now).free + (census_of self.now).queued + (census_of self.now).held
+            ≡ length self.now.held }
     {
         let _ = &self.chains;
     }
 
-    /// The data blocks, lent to look at: their counts are how many blocks of messages name each. Nothing changes.
+    /// Returns the data blocks to look at. The count of each is the number of blocks of messages that use it. Changes nothing.
     pub fn data(&self) -> &Data
         ensures { result.now ≡ counted_in self.now }
     {
         &self.data
     }
 
-    /// Whether the token carries this id and a held message has its head and its number of blocks. Nothing changes.
+    /// Says whether the token carries this id, and a held message has its head and its number of blocks. Changes nothing.
     pub fn has(&self, token: &Token) -> bool
         ensures { result ≡ has self.now token.now }
     {
@@ -167,23 +170,22 @@ impl Blocks {
             && self.chains.len(head) == token.blocks()
     }
 
-    /// The size of a class, how many of its data blocks are free, and how many it has; none where there is no such
-    /// class. Classes are counted from 0, the smallest first. Nothing changes.
+    /// Returns a class's size and numbers of data blocks, as [`Data::class_info`] of strm_data. Changes nothing.
     pub fn class_info(&self, class: u8) -> Option<ClassInfo>
         ensures { result ≡ slice_get (class_infos self.now.store) class }
     {
         self.data.class_info(class)
     }
 
-    /// Whether some class has data blocks of `size` bytes or more, free or not: where none has, `allocb` is refused as
-    /// `TooLarge`. Nothing changes.
+    /// Says whether some class has data blocks of `size` bytes or more, as [`Data::has_class_for`] of strm_data. If none
+    /// has, `allocb` refuses the size as `TooLarge`. Changes nothing.
     pub fn has_class_for(&self, size: u32) -> bool
         ensures { result ≡ fits_a_class size self.now.store.classes }
     {
         self.data.has_class_for(size)
     }
 
-    /// How many message blocks are free, in messages on shelves, and in messages held as tokens. Nothing changes.
+    /// Returns the numbers of message blocks that are free, on shelves and held. Changes nothing.
     pub fn census(&self) -> Census
         ensures { result ≡ census_of self.now }
     {
@@ -195,7 +197,7 @@ impl Blocks {
         }
     }
 
-    // The token of a held message.
+    // Makes the token of a held message.
     fn token(&self, head: u32) -> Token
         requires { IsTrue (is_some (held_at self.now head)) }
         ensures { result ≡ token_of self.now head }
@@ -207,12 +209,11 @@ impl Blocks {
         })
     }
 
-    /// Takes the first free message block, and a data block of `size` bytes or more, for a new message of no bytes, type
-    /// M_DATA and band 0. The data block is the first free one of the smallest class that fits and has one. Takes at most
-    /// two steps for each class.
+    /// Makes a message of one block, the first free one, and returns its token. The message has no bytes, type M_DATA and
+    /// band 0. Its data block has `size` bytes or more: the one that [`Data::take`] of strm_data takes.
     ///
-    /// Refused as `TooLarge` where the size is above the largest class, then as `NoMblk` where no message block is
-    /// free, then as `NoData` where no data block is that fits; nothing changes then.
+    /// Refused as `TooLarge` if the size is above the largest class, then as `NoMblk` if no message block is free, then as `NoData`
+    /// if no data block that fits is free. On an error nothing changes. Takes at most two steps for each class.
     pub fn allocb(&mut self, size: u32) -> Result<Token, Refusal>
         ensures { Gives itself None (model.allocb size self.old) self.old self.new result }
     {
@@ -228,16 +229,16 @@ impl Blocks {
         Ok(self.token(head))
     }
 
-    /// Whether `allocb` would give a message for this size now. Nothing changes.
+    /// Says whether `allocb` would succeed for this size now. Changes nothing. Takes at most two steps for each class.
     pub fn testb(&self, size: u32) -> bool
         ensures { result ≡ model.testb size self.now }
     {
         self.chains.free_len() > 0 && self.data.fits(size)
     }
 
-    /// What there is to tell of a message's block `place`, counted from 0. Takes `place` steps. Nothing changes.
+    /// Returns type, length, band, room and references of a message's block `place`. Places count from 0. Changes nothing.
     ///
-    /// Refused as `NoSuchBlock` where the message has no such block.
+    /// Refused as `NoSuchBlock` if the message has no such block. Takes at most `place` steps.
     pub fn block(&self, token: &Token, place: u32) -> Result<BlockInfo, Refusal>
         requires { IsTrue (has self.now token.now) }
         ensures { result ≡ answer_of (model.block token.now.head place self.now) }

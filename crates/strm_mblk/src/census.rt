@@ -1,12 +1,12 @@
-//! How many message blocks are where.
+//! The census: how many message blocks are where.
 
-/// How many message blocks are free, in messages on shelves, where they are queued, and in messages held as tokens.
+/// The numbers of message blocks that are free, queued (in messages on shelves), and held (in messages on no shelf).
 #[derive(Clone, Copy, Debug, PartialEq, Eq)]
 pub struct Census {
-    /// Those that are free.
+    /// The number of free message blocks.
     pub free: u32,
-    /// Those of messages on shelves.
+    /// The number of message blocks in messages on shelves.
     pub queued: u32,
-    /// Those of held messages.
+    /// The number of message blocks in held messages.
     pub held: u32,
 }

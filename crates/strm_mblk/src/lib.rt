@@ -1,4 +1,4 @@
-//! Message blocks over counted data blocks, and the messages that they make: held as tokens, or standing on shelves.
+//! Message blocks over counted data blocks. They make messages, which are held as tokens or are on shelves.
 #![tactic(auto)]
 
 mod block_info;

@@ -1,8 +1,9 @@
-//! The definitions of the calls on message blocks as a plain, slow program over lists, for tests to run beside
-//! `Blocks`. A function with the name of a definition gives what that says, by its contract, and the few others say
-//! in the same words what they give; there are no links, counts or stored names. What is lent is left as it is, and
-//! copied where it has to be; a message that a call names is given by its head. Where memory is refused, or a number
-//! is too large, the program gives up.
+//! The definitions of the calls on message blocks as a slow program over lists, which tests run beside `Blocks`.
+//!
+//! A function with the name of a definition returns what the definition says, as its contract states. The contract of
+//! each other function says in the same terms what that returns. There are no links and no stored counts. Functions
+//! leave what they borrow unchanged, and copy it if needed. A call gets the head of a message instead of its token. The
+//! program stops if it runs out of memory or a number is too large.
 mod altering;
 pub(crate) mod arena;
 pub(crate) mod block;

@@ -6,6 +6,7 @@ use strm_data::{ClassSpec, MsgType};
 mod alterations;
 mod bench;
 mod beside;
+mod by_number;
 mod copies;
 mod duplicates;
 mod joining;
@@ -20,21 +21,21 @@ mod tally;
 mod tokens;
 mod trimming;
 
-// Data blocks of 16 bytes, four, and of 64 bytes, two.
+// Four data blocks of 16 bytes, and two of 64 bytes.
 const CLASSES: [ClassSpec; 2] = [
     ClassSpec { size: 16, count: 4 },
     ClassSpec { size: 64, count: 2 },
 ];
 
-// What was given is what was wanted.
+// Asserts that what was given is as wanted.
 pub(crate) fn assert_is<T: PartialEq + Debug>(rt: &impl Abort, given: &T, wanted: &T) {
     assert_eq!(rt; given, wanted);
 }
 
-// What there is to tell of a block: its type, its length, its band, its room, and how many names its data block has.
+// What `block` returns of a block: type, length, band, room, and references to its data block.
 type Told = (MsgType, u32, u8, u32, u8);
 
-// All that in one.
+// The same as a `BlockInfo`.
 fn info(told: Told) -> BlockInfo {
     let (kind, len, band, room, names) = told;
     BlockInfo {

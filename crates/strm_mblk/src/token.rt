@@ -1,24 +1,25 @@
-//! The right to a message.
+//! Tokens: the right to a held message.
 ghost use Rattle.std.specs.Prelude.{◌≡◌};
 
 use std::marker::Model;
 
-/// What a token says.
+/// What a token says of its message.
 #[derive(Clone, Copy, Debug)]
 pub struct TokenValue {
-    /// The id of the pool that gave it.
+    /// The id of the pool that gave the token.
     pub pool: u32,
     /// The number of the message's first block.
     pub head: u32,
-    /// How many blocks the message has.
+    /// The number of the message's blocks.
     pub blocks: u32,
 }
 
 /// The right to one held message.
 ///
-/// A token is given by the call that makes a message or takes it off a shelf, and must be spent: it can be
-/// neither cloned nor dropped, so no message is freed twice, and save by `forget` none is lost. A token carries
-/// the id of the pool that gave it. STREAMS passes a pointer to the message here.
+/// Calls that make a message, divide one, or take one off a shelf give its token. A token must be spent: it can be
+/// neither copied nor dropped. So no message is freed twice. This needs pools with different ids, because a token
+/// carries the id of its pool, not the pool. Only `forget`, and `freemsg` of blocks that do not have the token, lose a
+/// message: it stays held. STREAMS passes a pointer to the message instead.
 #[must_use]
 #[derive(Debug)]
 pub struct Token {
@@ -34,14 +35,14 @@ impl Model for Token {
 }
 
 impl Token {
-    // The token that says so. Only a call that gives a message makes one.
+    // Makes a token of this value. Only calls that give a message use it.
     pub(crate) fn of(value: TokenValue) -> Token
         ensures { result ≡ value }
     {
         Token { value }
     }
 
-    // Spends the token.
+    // Spends the token, and returns its value.
     pub(crate) fn spend(self) -> TokenValue
         ensures { result ≡ self }
     {
@@ -49,33 +50,33 @@ impl Token {
         value
     }
 
-    // Says another number of blocks.
+    // Sets the number of blocks.
     pub(crate) fn set_blocks(&mut self, blocks: u32)
         ensures { self.new ≡ record self.old { blocks = blocks } }
     {
         self.value.blocks = blocks;
     }
 
-    /// Gives the token up. Its message stays held, and nothing can reach it any more.
+    /// Spends the token and nothing else. Its message stays held, and no call can reach it any more.
     pub fn forget(self) {
         let Token { value: _ } = self;
     }
 
-    /// The id of the pool that gave the token.
+    /// Returns the id of the pool that gave the token.
     pub fn pool(&self) -> u32
         ensures { result ≡ self.now.pool }
     {
         self.value.pool
     }
 
-    /// The number of the message's first block.
+    /// Returns the number of the message's first block.
     pub fn head(&self) -> u32
         ensures { result ≡ self.now.head }
     {
         self.value.head
     }
 
-    /// How many blocks the message has.
+    /// Returns the number of the message's blocks.
     pub fn blocks(&self) -> u32
         ensures { result ≡ self.now.blocks }
     {

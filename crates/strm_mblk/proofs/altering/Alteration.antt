@@ -1,5 +1,5 @@
--- `write` and `settype`, by what stands at the place.
-use Rattle.std.proofs.Common.{◌≡◌, ℕ, ◌+◌, ◌<◌, ◌≤◌, List, length, None, Some, Ok, Err, ap, ◌∙◌, set}
+-- `write` and `settype`, by what is at the place.
+use Rattle.std.proofs.Common.{◌≡◌, ℕ, ◌+◌, ◌<◌, ◌≤◌, List, length, None, Some, Ok, Err, ap, ◌∙◌, set, arith}
 use Rattle.std.specs.Prelude.{slice_get}
 use Rattle.std.proofs.lemmas.Bool.{cond-true, cond-false, lt-ltb, le-ltb}
 use Rattle.strm_data.specs.declared.msg_type.MsgType.{MsgType}
@@ -8,6 +8,7 @@ use Rattle.strm_data.specs.DataStore.{capacity_of, with_kind, with_bytes_written
 use Rattle.strm_mblk.specs.Arena.{Arena, message_at, names_of}
 use Rattle.strm_mblk.specs.Block.{Block}
 use Rattle.strm_mblk.specs.BlockCalls.{settype, settype_of, write, write_block}
+use Rattle.std.proofs.lemmas.Grind.{common_steps}
 
 module _ (a : Arena) (h k : ℕ) where
   module _ (kind : MsgType) where
@@ -30,9 +31,7 @@ module _ (a : Arena) (h k : ℕ) where
       write_shared many = ap (write_block h k bytes a (message_at a h)) at ∙ cond-true _ _ _ (lt-ltb 1 (names_of a b.data_number) many)
 
       pub write_full : names_of a b.data_number ≤ 1 → capacity_of a.store b.data_number < b.offset + b.len + length bytes → write h k bytes a ≡ Err NoRoom
-      write_full one full =
-          ap (write_block h k bytes a (message_at a h)) at ∙ cond-false _ _ _ (le-ltb 1 (names_of a b.data_number) one)
-          ∙ cond-true _ _ _ (lt-ltb (capacity_of a.store b.data_number) (b.offset + b.len + length bytes) full)
+      write_full one full = grind (arith, common_steps, cond-false, le-ltb, cond-true, lt-ltb)
 
       pub write_done : names_of a b.data_number ≤ 1 → b.offset + b.len + length bytes ≤ capacity_of a.store b.data_number
           → write h k bytes a ≡ Ok (
@@ -42,6 +41,4 @@ module _ (a : Arena) (h k : ℕ) where
               held = set a.held h (Some (set (message_at a h) k (record b { len = b.len + length bytes })));
             },
           )
-      write_done one room =
-          ap (write_block h k bytes a (message_at a h)) at ∙ cond-false _ _ _ (le-ltb 1 (names_of a b.data_number) one)
-          ∙ cond-false _ _ _ (le-ltb (capacity_of a.store b.data_number) (b.offset + b.len + length bytes) room)
+      write_done one room = grind (arith, common_steps, cond-false, le-ltb)

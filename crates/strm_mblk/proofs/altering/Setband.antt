@@ -1,14 +1,14 @@
 -- `setband`: the first block of a held message is of another band.
-use Rattle.std.proofs.Common.{◌≡◌, ℕ, ◌^◌, ◌<◌, true, List, [], ◌∷◌, length, set, Some, None, refl, sym, ap, ◌∙◌, subst, get_or-set_same, length-set}
+use Rattle.std.proofs.Common.{◌≡◌, ℕ, ◌^◌, ◌<◌, true, List, [], ◌∷◌, length, set, Some, None, refl, sym, ap, ◌∙◌, subst, get_or-set_same, length-set, arith}
 use Rattle.std.proofs.lemmas.Option.{same_Some, none-some}
 use Rattle.strm_links.specs.Rows.{first}
 use Rattle.strm_data.specs.CountedStore.{CountedStore}
 use Rattle.strm_mblk.specs.declared.blocks.Fields.{Fields}
 use Rattle.strm_mblk.specs.declared.token.TokenValue.{TokenValue}
 use Rattle.strm_mblk.specs.Arena.{Arena, has, held_at, shelved_blocks}
-use Rattle.strm_mblk.specs.Block.{Block, Message}
+use Rattle.strm_mblk.specs.Block.{Message}
 use Rattle.strm_mblk.specs.BlockCalls.{banded, setband}
-use Rattle.strm_mblk.specs.BlocksLayout.{IsFilled, IsPlaced, arena_of, block_at, fields_at, message_of, no_fields}
+use Rattle.strm_mblk.specs.BlocksLayout.{IsFilled, IsPlaced, arena_of, block_at, fields_at, message_of}
 use Rattle.strm_mblk.specs.Messages.{blocks_of}
 use Rattle.strm_mblk.specs.NodeLists.{NodeLists}
 use Rattle.strm_mblk.proofs.arena.Moves.{held_within}
@@ -16,6 +16,7 @@ use Rattle.strm_mblk.proofs.chaining.Standing.{begins_with}
 use Rattle.strm_mblk.proofs.layout.Rewriting.{AreHeld, held_nodes, node_room, rewrite_filled, rewrite_shows}
 use Rattle.strm_mblk.proofs.arena.Tokens.{IsHad, had_again, had_message}
 use Rattle.strm_mblk.proofs.lists.Numbers.{at_first}
+use Rattle.std.proofs.lemmas.Grind.{common_steps}
 
 pub record IsBanded (a : Arena) (s : CountedStore) (fields : List Fields) (v : NodeLists) (id band : ℕ) (t : TokenValue) : Type 0 where
   pub filled : IsFilled s fields v (arena_of id s.store fields v)
@@ -46,14 +47,11 @@ module _ (id : ℕ) (s : CountedStore) (fields : List Fields) (v : NodeLists) (f
 
     -- the block as it is now
     block_is : block_at now t.head ≡ record (block_at fields t.head) { band = band }
-    block_is =
-        ap (λ (f : Fields). let b : Block = record { number = t.head; data_number = f.data_number; offset = f.offset; len = f.len; band = f.band } in b)
-        (get_or-set_same fields t.head x no_fields head_there ∙ x_is)
+    block_is = grind (arith, common_steps, get_or-set_same, head_there)
 
     banded_is : (ns : List ℕ) → first ns ≡ Some t.head → set (message_of fields ns) 0 (block_at now t.head) ≡ banded band (message_of fields ns)
     banded_is [] is = absurd (none-some t.head is)
-    banded_is (n ∷ ns) is =
-        λ i. (block_is ∙ ap (λ k. record (block_at fields k) { band = band }) (sym (same_Some n t.head is))) i ∷ message_of fields ns
+    banded_is (n ∷ ns) is = grind (arith, common_steps, block_is, same_Some)
 
     placed : IsPlaced s.store x
     placed = subst (IsPlaced s.store) (sym x_is) (record { there = (filled.placed t.head head_there).there; within = (filled.placed t.head head_there).within; banded = is_band })

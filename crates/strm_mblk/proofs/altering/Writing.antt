@@ -1,14 +1,13 @@
--- `write`: bytes behind the write place of a held message's block.
+-- `write`: bytes after the write place of a held message's block.
 use Rattle.std.proofs.Common.{◌≡◌, ℕ, ◌+◌, ◌≤◌, true, List, length, set, Some, None, Ok, refl, sym, ap, ◌∙◌, subst, arith, get_or-set_same, length-set}
 use Rattle.strm_data.specs.CountedStore.{CountedStore, IsKept}
-use Rattle.strm_data.specs.DataStore.{DataStore, capacity_of, data_block_at, overwritten, with_bytes_written}
+use Rattle.strm_data.specs.DataStore.{DataStore, capacity_of, with_bytes_written}
 use Rattle.strm_data.proofs.lists.Tables.{length-overwritten}
 use Rattle.strm_mblk.specs.declared.blocks.Fields.{Fields}
 use Rattle.strm_mblk.specs.declared.token.TokenValue.{TokenValue}
 use Rattle.strm_mblk.specs.Arena.{Arena, has, held_at, names_of, shelved_blocks}
-use Rattle.strm_mblk.specs.Block.{Block}
 use Rattle.strm_mblk.specs.BlockCalls.{write}
-use Rattle.strm_mblk.specs.BlocksLayout.{IsFilled, IsPlaced, arena_of, block_at, fields_at, message_of, no_fields}
+use Rattle.strm_mblk.specs.BlocksLayout.{IsFilled, IsPlaced, arena_of, block_at, fields_at, message_of}
 use Rattle.strm_mblk.specs.NodeLists.{NodeLists, nodes_at}
 use Rattle.strm_mblk.proofs.altering.Alteration.{write_done}
 use Rattle.strm_mblk.proofs.arena.Moves.{held_within}
@@ -16,10 +15,10 @@ use Rattle.strm_mblk.proofs.layout.Places.{IsAt}
 use Rattle.strm_mblk.proofs.layout.Rewriting.{rewrite_filled, rewrite_shows}
 use Rattle.strm_mblk.proofs.layout.Rooms.{HasRooms, rooms-set}
 use Rattle.strm_mblk.proofs.arena.Tokens.{had_again, had_message}
+use Rattle.std.proofs.lemmas.Grind.{common_steps}
 
 pub rooms-written : (s : DataStore) (d at : ℕ) (bytes : List ℕ) → at + length bytes ≤ capacity_of s d → HasRooms s (with_bytes_written d at bytes s)
-rooms-written s d at bytes within =
-    rooms-set s d (record (data_block_at s d) { bytes = overwritten at bytes (data_block_at s d).bytes }) (length-overwritten at bytes (data_block_at s d).bytes within)
+rooms-written s d at bytes within = grind (arith, common_steps, rooms-set, length-overwritten)
 
 -- what is there once the bytes are written: `a` is what was there
 pub record IsWritten (a : Arena) (s : CountedStore) (fields : List Fields) (v : NodeLists) (id k : ℕ) (bytes : List ℕ) (t : TokenValue) : Type 0 where
@@ -57,9 +56,7 @@ module _ (id : ℕ) (s : CountedStore) (fields : List Fields) (v : NodeLists) (f
     shows = rewrite_shows id s fields v filled t.head k n (nodes_at v t.head) at.held at.at new x kept same_counts rooms placed named
 
     block_is : block_at now n ≡ record (block_at fields n) { len = was.len + length bytes }
-    block_is =
-        ap (λ (f : Fields). let b : Block = record { number = n; data_number = f.data_number; offset = f.offset; len = f.len; band = f.band } in b)
-        (get_or-set_same fields n x no_fields at.there ∙ x_is)
+    block_is = grind (arith, common_steps, get_or-set_same)
 
     pub writes : IsWritten old new now v id k bytes t
     writes =

@@ -24,6 +24,6 @@ module _ {m : List Block → ℕ} (adds : IsAdditive m) (a : Arena) where
   shelf_moves q ms within =
       omega (arith, adds.both (flat_map (flat_map (λ x. x)) (set a.shelves q ms)) (held_blocks a), blocks_in_adds, flat_map-set_adds adds (flat_map (λ x. x)) a.shelves q ms [] within)
 
--- where a number stands: in the free list, or in messages
+-- a number is in the free list, or in messages
 pub times-all : (n : ℕ) (a : Arena) → times n (a.free ++ numbers_of (blocks_in a)) ≡ times n a.free + count_by (λ b. eqb b.number n) (blocks_in a)
 times-all n a = (count_adds (λ x. eqb x n)).both a.free (numbers_of (blocks_in a)) ∙ ap (λ k. times n a.free + k) (count_by-map (λ x. eqb x n) (λ b. b.number) (blocks_in a))

@@ -9,26 +9,42 @@ use Rattle.std.proofs.lemmas.Option.{none-some, same_Some}
 use Rattle.strm_data.specs.declared.class_spec.ClassSpec.{ClassSpec}
 use Rattle.strm_data.specs.declared.msg_type.MsgType.{MsgType}
 use Rattle.strm_data.specs.declared.refusal.Refusal.{Refusal}
-use Rattle.strm_data.specs.declared.refusal.Refusal.TheVariants.{NoData, NoMblk, NoRoom, RefMax, Shared, Short, TooLarge}
+use Rattle.strm_data.specs.declared.refusal.Refusal.TheVariants.{NoData, NoMblk, NoRoom, Shared, TooLarge}
 use Rattle.strm_data.specs.Classes.{fits_a_class}
-use Rattle.strm_data.specs.DataStore.{DataStore, capacity_of, class_of, data_block_at, fitting, free_of, no_data_block, take_data, times, with_bytes_written, with_data_freed, with_data_taken, with_kind}
+use Rattle.strm_data.specs.DataStore.{DataStore, capacity_of, class_of, data_block_at, fitting, free_of, no_data_block, take_data, times, with_bytes_written, with_data_taken, with_kind}
 use Rattle.strm_data.proofs.store.Fitting.{if_fits}
 use Rattle.strm_links.proofs.lists.Counting.{one_if, times-append, times-cons, times_here}
 use Rattle.strm_links.specs.Rows.{has}
 use Rattle.strm_links.proofs.lists.OneList.{has_head}
 use Rattle.strm_mblk.specs.declared.token.TokenValue.{TokenValue}
-use Rattle.strm_mblk.specs.Arena.{has as has_token}
-use Rattle.strm_mblk.specs.Arena.{Arena, IsParted, held_at, message_at, names_of, shelved_blocks, token_of, with_held, without_held}
-use Rattle.strm_mblk.specs.Block.{Block, Message, bytes_of, bytes_of_block, is_naming, kind_of, new_block, size_of}
-use Rattle.strm_mblk.specs.BlockCalls.{allocb, allocb_from, banded, copied, copied_into, copies, duplicated, exceeds_names, freeb, freeb_from, head_in, held_new, held_under, linkb, rmvb, rmvb_of, setband, settype, settype_of, unlinkb, with_rest, write, write_block}
+use Rattle.strm_mblk.specs.Arena.{has as has_token, Arena, IsParted, held_at, message_at, names_of, shelved_blocks, token_of, with_held, without_held}
+use Rattle.strm_mblk.specs.Block.{Block, Message, bytes_of, bytes_of_block, is_naming, kind_of, new_block}
+use Rattle.strm_mblk.specs.BlockCalls.{allocb, allocb_from, banded, copied, copied_into, copies, duplicated, freeb, freeb_from, head_in, held_new, held_under, linkb, rmvb, rmvb_of, setband, settype, settype_of, unlinkb, with_rest, write, write_block}
 use Rattle.strm_mblk.specs.Frame.{IsSameData, LeavesOthers, LeavesShelves, head_given, heads_parted}
 use Rattle.strm_mblk.specs.Freeing.{freemsg, spent, with_block_freed, with_blocks_freed, with_name_dropped}
 use Rattle.strm_mblk.specs.Given.{Given, value_after, and_then, answer_map, answer_of, or_rejected}
 use Rattle.strm_mblk.specs.Messages.{blocks_of, divided, held_in, joined}
-use Rattle.strm_mblk.specs.Trimming.{adjmsg, bytes_asked, cut, left_over, pull, pull_asked, pulled, pulled_into, pullupmsg, run_of, used_up}
+use Rattle.strm_mblk.specs.Trimming.{adjmsg, bytes_asked, left_over, pull, pull_asked, pulled, pulled_into, pullupmsg, run_of, used_up}
 use Rattle.strm_mblk.proofs.lists.Additive.{count_adds}
 use Rattle.strm_mblk.proofs.arena.Counts.{blocks_in_adds}
 use Rattle.strm_mblk.proofs.arena.Moves.{held_among, out_of_held}
+use Rattle.std.proofs.lemmas.Grind.{common_steps}
+
+-- ---- either way
+
+-- what holds of both ways of a choice
+chosen : {X : Type 0} (P : X → Type 0) (b : Bool) (x y : X) → P x → (b ≡ false → P y) → P (if b then x else y)
+chosen P true x y here there = here
+chosen P false x y here there = there refl
+
+-- what holds of an answer made of another, and of what goes on from one
+answered : {A B : Type 0} (P : B → Type 0) (f : A → B) (r : Result A Refusal) → ((x : A) → r ≡ Ok x → P (f x)) → IfOk (answer_map f r) P
+answered P f (Ok x) holds = holds x refl
+answered P f (Err why) holds = tt
+
+gone_on : {A B : Type 0} (P : B → Type 0) (f : A → Result B Refusal) (r : Result A Refusal) → ((x : A) → r ≡ Ok x → IfOk (f x) P) → IfOk (and_then f r) P
+gone_on P f (Ok x) holds = holds x refl
+gone_on P f (Err why) holds = tt
 
 -- ---- heads that are not among some
 
@@ -46,33 +62,22 @@ other_heads h g gs absent = later (g == h) (has h gs) absent
 
 -- nor among all but the second
 without_second : (k h g : ℕ) (gs : List ℕ) → has k (h ∷ g ∷ gs) ≡ false → has k (h ∷ gs) ≡ false
-without_second k h g gs = outer (h == k) (g == k) (has k gs)
-  where
-    outer : (b c d : Bool) → (b || (c || d)) ≡ false → (b || d) ≡ false
-    outer true c d is = is
-    outer false true d is = cc
-    outer false false d is = is
+without_second k h g gs = grind (arith, common_steps)
 
 -- ---- data blocks that stay
 
 -- the data blocks that these blocks name are the same, where each that is named so is
 same_data : (s t : DataStore) (bs : List Block) → ((d : ℕ) → 0 < count_by (is_naming d) bs → data_block_at t d ≡ data_block_at s d) → All (IsSameData s t) bs
 same_data s t [] same k e within = absurd (omega arith)
-same_data s t (b ∷ bs) same zero e within =
-    same b.data_number (omega (arith, (count_adds (is_naming b.data_number)).both (b ∷ []) bs, ap one_if (eq-eqb b.data_number b.data_number refl)))
-same_data s t (b ∷ bs) same (suc k) e within =
-    same_data s t bs (λ d some. same d (omega (arith, some, (count_adds (is_naming d)).both (b ∷ []) bs))) k e (omega arith)
+same_data s t (b ∷ bs) same zero e within = grind (arith, common_steps, count_adds, one_if, eq-eqb)
+same_data s t (b ∷ bs) same (suc k) e within = grind (arith, common_steps, (same_data s t bs), count_adds)
 
 -- the blocks on shelves, and those of a held message, are among those that name a data block
 shelved_named : (a : Arena) (d : ℕ) → count_by (is_naming d) (shelved_blocks a) ≤ names_of a d
 shelved_named a d = omega (arith, blocks_in_adds (count_adds (is_naming d)) a)
 
 held_named : (a : Arena) (h d : ℕ) → count_by (is_naming d) (message_at a h) ≤ names_of a d
-held_named a h d =
-    elim (cases_lt h (length a.held)) [
-      | inl inside ↦ omega (arith, held_among a (is_naming d) h inside, blocks_in_adds (count_adds (is_naming d)) a)
-      | inr past ↦ omega (arith, ap (λ o. count_by (is_naming d) (blocks_of o)) (get_or_past a.held h None past), (count_adds (is_naming d)).none)
-    ]
+held_named a h d = grind (arith, common_steps, held_among, blocks_in_adds, count_adds, get_or_past)
 
 -- ---- what stays
 
@@ -83,37 +88,29 @@ pub record Leaves (heads : List ℕ) (old new : Arena) : Type 0 where
 
 -- nothing changes
 pub leaves_same : (a : Arena) (heads : List ℕ) → Leaves heads a a
-leaves_same a heads = record {
-  others = record { id = refl; size = refl; held = λ h other. refl };
-  shelves = record { shelves = refl; shelved_data = λ k e within. refl; held_data = λ h other k e within. refl };
-}
+leaves_same a heads = grind (arith, common_steps)
 
 -- what is held changes at one head more
 others_set : (a b c : Arena) (heads : List ℕ) → LeavesOthers heads a b → (g : ℕ) (o : Option Message) → ((h : ℕ) → has h heads ≡ false → h ≢ g) → c.id ≡ b.id → c.held ≡ set b.held g o → LeavesOthers heads a c
-others_set a b c heads left g o is_head id held = record {
-  id = id ∙ left.id;
-  size = ap length held ∙ length-set b.held g o ∙ left.size;
-  held = λ h other. ap (λ hs. held_in hs h) held ∙ get_or-set_other b.held g h o None (is_head h other) ∙ left.held h other;
-}
+others_set a b c heads left g o is_head id held = grind (arith, common_steps, length-set, get_or-set_other)
 
 -- and at one alone
 pub others_one : (a b : Arena) (h : ℕ) (o : Option Message) → b.id ≡ a.id → b.held ≡ set a.held h o → LeavesOthers (h ∷ []) a b
 others_one a b h o = others_set a a b (h ∷ []) (leaves_same a (h ∷ [])).others h o (λ g other. other_head g h [] other)
 
 module _ (a b : Arena) (heads : List ℕ) (others : LeavesOthers heads a b) (shelves : b.shelves ≡ a.shelves) where
-  -- each data block that some message names stays
+  -- each data block stays that is named on a shelf, or in a message held at another head
+  leaves_data : ((d : ℕ) → 0 < count_by (is_naming d) (shelved_blocks a) → data_block_at b.store d ≡ data_block_at a.store d)
+      → ((h d : ℕ) → has h heads ≡ false → 0 < count_by (is_naming d) (message_at a h) → data_block_at b.store d ≡ data_block_at a.store d) → Leaves heads a b
+  leaves_data shelved held = grind (arith, common_steps, same_data)
+
+  -- each stays that some message names
   pub leaves_named : ((d : ℕ) → 0 < names_of a d → data_block_at b.store d ≡ data_block_at a.store d) → Leaves heads a b
-  leaves_named same = record {
-    others = others;
-    shelves = record {
-      shelves = shelves;
-      shelved_data = same_data a.store b.store (shelved_blocks a) (λ d some. same d (omega (arith, some, shelved_named a d)));
-      held_data = λ h other. same_data a.store b.store (message_at a h) (λ d some. same d (omega (arith, some, held_named a h d)));
-    };
-  }
+  leaves_named same = leaves_data (λ d some. same d (omega (arith, some, shelved_named a d))) (λ h d other some. same d (omega (arith, some, held_named a h d)))
 
   -- each but one stays, which a message alone names that is held at one of the heads
   module _ (g d : ℕ) (is_head : (h : ℕ) → has h heads ≡ false → h ≢ g) (m : Message) (is : held_at a g ≡ Some m) (once : names_of a d ≤ 1) (some : 0 < count_by (is_naming d) m) where
+    -- no other message names it
     beside : (h : ℕ) → h ≢ g → count_by (is_naming d) (message_at a h) ≡ 0
     beside h other =
         omega (
@@ -124,29 +121,15 @@ module _ (a b : Arena) (heads : List ℕ) (others : LeavesOthers heads a b) (she
         )
 
     pub leaves_own : ((e : ℕ) → e ≢ d → data_block_at b.store e ≡ data_block_at a.store e) → Leaves heads a b
-    leaves_own same = record {
-      others = others;
-      shelves = record {
-        shelves = shelves;
-        shelved_data = same_data a.store b.store (shelved_blocks a) (λ e named. same e (λ one. absurd (omega (
-          arith,
-          named,
-          ap (λ i. count_by (is_naming i) (shelved_blocks a)) one,
-          out_of_held a g m (is_naming d) is,
-          shelved_named (without_held g a) d,
-        ))));
-        held_data = λ h other. same_data a.store b.store (message_at a h) (λ e named. same e (λ one. absurd (omega (
-          arith,
-          named,
-          ap (λ i. count_by (is_naming i) (message_at a h)) one,
-          beside h (is_head h other),
-        ))));
-      };
-    }
+    leaves_own same =
+        leaves_data
+        (λ e named. same e (λ one.
+        absurd (omega (arith, named, ap (λ i. count_by (is_naming i) (shelved_blocks a)) one, out_of_held a g m (is_naming d) is, shelved_named (without_held g a) d))))
+        (λ h e other named. same e (λ one. absurd (omega (arith, named, ap (λ i. count_by (is_naming i) (message_at a h)) one, beside h (is_head h other)))))
 
 -- ---- data blocks that are taken, and altered
 
--- the data block stands in no free list
+-- the data block is in no free list
 abbrev IsTaken : ℕ → DataStore → Type 0
 IsTaken d s = (c : ℕ) → times d (free_of s c) ≡ 0
 
@@ -163,22 +146,13 @@ none_fitting d size (c ∷ cs) (xs ∷ free) none =
 
 first_other : (d e : ℕ) (xs : List ℕ) → times e xs ≡ 0 → ok_or (slice_get xs 0) NoData ≡ Ok d → e ≢ d
 first_other d e [] none is same = cc
-first_other d e (x ∷ xs) none is same =
-    let first : x ≡ d = cc in
-    absurd (omega (arith, none, times_here e x xs (first ∙ sym same)))
+first_other d e (x ∷ xs) none is same = grind (arith, common_steps, times_here)
 
 -- another is taken
 take_other : (size d e : ℕ) (s : DataStore) → IsTaken e s → take_data size s ≡ Ok d → e ≢ d
-take_other size d e s taken is =
-    elim (cases_Bool (fits_a_class size s.classes)) [
-      | inl fits ↦
-          first_other d e (fitting size s) (none_fitting e size s.classes s.free taken)
-          (sym (cond-true _ (ok_or (slice_get (fitting size s) 0) NoData) (Err TooLarge) fits) ∙ is)
-      | inr large ↦ none_ok (sym (cond-false _ (ok_or (slice_get (fitting size s) 0) NoData) (Err TooLarge) large) ∙ is)
-    ]
-  where
-    none_ok : Err TooLarge ≡ Ok d → e ≢ d
-    none_ok is same = cc
+take_other size d e s taken =
+    chosen (λ r. r ≡ Ok d → e ≢ d) (fits_a_class size s.classes) (ok_or (slice_get (fitting size s) 0) NoData) (Err TooLarge) (first_other d e (fitting size s) (none_fitting e size s.classes s.free taken))
+    (λ large is. absurd (cc is))
 
 -- and it stays in none
 taken_stays : (d e : ℕ) (s : DataStore) → IsTaken e s → IsTaken e (with_data_taken d s)
@@ -199,28 +173,18 @@ taken_stays d e s taken c =
     fewer [] none = none
     fewer (x ∷ xs) none = omega (arith, none, times-cons e x xs)
 
--- a data block that is taken, with a type and bytes of its own, leaves every other as it was
+-- taking a data block, and giving it a type and bytes, leaves every other as it was
 filled_other : (d e at : ℕ) (kind : MsgType) (bytes : List ℕ) (s : DataStore) → e ≢ d → data_block_at (with_bytes_written d at bytes (with_kind d kind (with_data_taken d s))) e ≡ data_block_at s e
-filled_other d e at kind bytes s other =
-    get_or-set_other (with_kind d kind (with_data_taken d s)).blocks d e _ no_data_block other
-    ∙ get_or-set_other (with_data_taken d s).blocks d e _ no_data_block other ∙ get_or-set_other s.blocks d e _ no_data_block other
+filled_other d e at kind bytes s other = grind (arith, common_steps, get_or-set_other)
 
 -- copies leave every data block that was in use
 copies_leave : (bs : List Block) (s : DataStore) (e : ℕ) → IsTaken e s → IfOk (copies bs s) (λ g. data_block_at g.1 e ≡ data_block_at s e)
 copies_leave [] s e taken = refl
 copies_leave (b ∷ bs) s e taken =
-    elim (take_data (capacity_of s b.data_number) s) as (λ r. take_data (capacity_of s b.data_number) s ≡ r
-    → IfOk {T = List Block × DataStore} (and_then (λ d. answer_map (λ g. (record b { data_number = d } ∷ g.0, g.1)) (copies bs (copied_into b s d))) r) (λ g. data_block_at g.1 e ≡ data_block_at s e)) [
-      | Err why ↦ λ is. tt
-      | Ok d ↦ λ is.
-          let same = filled_other d e b.offset (kind_of s b) (bytes_of_block s b) s (take_other (capacity_of s b.data_number) d e s taken is) in
-          beside d (copies bs (copied_into b s d)) same (copies_leave bs (copied_into b s d) e (taken_stays d e s taken))
-    ] refl
-  where
-    beside : (d : ℕ) (r : Given DataStore (List Block)) → data_block_at (copied_into b s d) e ≡ data_block_at s e → IfOk r (λ g. data_block_at g.1 e ≡ data_block_at (copied_into b s d) e)
-        → IfOk {T = List Block × DataStore} (answer_map (λ g. (record b { data_number = d } ∷ g.0, g.1)) r) (λ g. data_block_at g.1 e ≡ data_block_at s e)
-    beside d (Ok g) same left = left ∙ same
-    beside d (Err why) same left = tt
+    gone_on (λ (g : List Block × DataStore). data_block_at g.1 e ≡ data_block_at s e) _ (take_data (capacity_of s b.data_number) s) (λ d is.
+    answered (λ (g : List Block × DataStore). data_block_at g.1 e ≡ data_block_at s e) (λ g. (record b { data_number = d } ∷ g.0, g.1)) (copies bs (copied_into b s d)) (λ g made.
+    subst (λ r. IfOk r (λ (g : List Block × DataStore). data_block_at g.1 e ≡ data_block_at (copied_into b s d) e)) made (copies_leave bs (copied_into b s d) e (taken_stays d e s taken))
+    ∙ filled_other d e b.offset (kind_of s b) (bytes_of_block s b) s (take_other (capacity_of s b.data_number) d e s taken is)))
 
 -- ---- blocks that are freed
 
@@ -232,28 +196,14 @@ record AreFreed (old new : Arena) : Type 0 where
   blocks : new.store.blocks ≡ old.store.blocks
 
 name_drops : (d : ℕ) (loose : List Block) (a : Arena) → AreFreed a (with_name_dropped d loose a)
-name_drops d loose a = record {
-  id = refl;
-  shelves = refl;
-  held = refl;
-  blocks = either (names_of a d + count_by (is_naming d) loose == 0);
-}
-  where
-    either : (b : Bool) → (if b then with_data_freed d a.store else a.store).blocks ≡ a.store.blocks
-    either true = refl
-    either false = refl
+name_drops d loose a = grind (arith, common_steps, chosen)
 
 block_frees : (b : Block) (loose : List Block) (a : Arena) → AreFreed a (with_block_freed b loose a)
-block_frees b loose a =
-    let dropped = name_drops b.data_number loose (record a { free = b.number ∷ a.free }) in
-    record { id = dropped.id; shelves = dropped.shelves; held = dropped.held; blocks = dropped.blocks }
+block_frees b loose a = grind (arith, common_steps, name_drops)
 
 blocks_free : (bs : List Block) (a : Arena) → AreFreed a (with_blocks_freed bs a)
 blocks_free [] a = record { id = refl; shelves = refl; held = refl; blocks = refl }
-blocks_free (b ∷ loose) a =
-    let one = block_frees b loose a in
-    let others = blocks_free loose (with_block_freed b loose a) in
-    record { id = others.id ∙ one.id; shelves = others.shelves ∙ one.shelves; held = others.held ∙ one.held; blocks = others.blocks ∙ one.blocks }
+blocks_free (b ∷ loose) a = grind (arith, common_steps, (blocks_free loose (with_block_freed b loose a)), block_frees)
 
 -- ---- what calls leave that give an answer
 
@@ -284,37 +234,22 @@ module _ (a : Arena) where
   -- at two, first to last
   others_two : (b : Arena) (h g : ℕ) (o p : Option Message) (heads : List ℕ) → ((k : ℕ) → has k heads ≡ false → k ≢ h) → ((k : ℕ) → has k heads ≡ false → k ≢ g) → b.id ≡ a.id → b.held ≡ set (set a.held h o) g p
       → LeavesOthers heads a b
-  others_two b h g o p heads first second =
-      others_set a (record a { held = set a.held h o }) b heads (others_set a a (record a { held = set a.held h o }) heads (leaves_same a heads).others h o first refl refl) g p second
+  others_two b h g o p heads first second = grind (arith, common_steps, others_set, leaves_same)
 
   pub leaves_setband : (h band : ℕ) → Leaves (h ∷ []) a (setband h band a)
   leaves_setband h band = leaves_one h (Some (banded band (message_at a h)))
 
   pub leaves_adjmsg : (h : ℕ) (n : ℤ) → Leaves (h ∷ []) a (value_after a (adjmsg h n a))
-  leaves_adjmsg h n =
-      leaves_after a (h ∷ []) (adjmsg h n a)
-      (elim (cut n a.store (message_at a h)) as (λ r. Leaving {X = Unit {0}} (h ∷ []) a (answer_map (λ m. (tt, record a { held = set a.held h (Some m) })) r)) [
-        | Ok m ↦ leaves_one h (Some m)
-        | Err why ↦ tt
-      ])
+  leaves_adjmsg h n = grind (arith, common_steps, leaves_after, answered, leaves_one)
 
   pub leaves_linkb : (h g : ℕ) → Leaves (h ∷ g ∷ []) a (linkb h g a)
-  leaves_linkb h g =
-      elim (h == g) as (λ b. Leaves (h ∷ g ∷ []) a (if b then a else record a { held = joined h g a.held })) [
-        | true ↦ leaves_same a (h ∷ g ∷ [])
-        | false ↦
-            leaves_held (h ∷ g ∷ []) (joined h g a.held)
-            (others_two (record a { held = joined h g a.held }) g h None _ (h ∷ g ∷ []) (λ k other. other_head k g [] (other_heads k h (g ∷ []) other)) (λ k other. other_head k h (g ∷ []) other) refl refl)
-      ]
+  leaves_linkb h g = grind (arith, common_steps, chosen, leaves_same, leaves_held, others_two, other_head, other_heads)
 
-  -- the blocks behind the first become a message
+  -- the blocks after the first become a message
   parts : (x : Arena) (h : ℕ) (m : Message) → Leaves (h ∷ head_given (option_map (token_of x) (head_in (drop 1 m)))) a (record a { held = divided (λ (b : Block). b.number) h m a.held })
   parts x h [] = leaves_same a (h ∷ [])
   parts x h (b ∷ []) = leaves_same a (h ∷ [])
-  parts x h (b ∷ c ∷ bs) =
-      leaves_held (h ∷ c.number ∷ []) (divided (λ (b : Block). b.number) h (b ∷ c ∷ bs) a.held)
-      (others_two (record a { held = divided (λ (b : Block). b.number) h (b ∷ c ∷ bs) a.held }) h c.number _ _ (h ∷ c.number ∷ []) (λ k other. other_head k h (c.number ∷ []) other)
-      (λ k other. other_head k c.number [] (other_heads k h (c.number ∷ []) other)) refl refl)
+  parts x h (b ∷ c ∷ bs) = grind (arith, common_steps, leaves_held, others_two, other_head, other_heads)
 
   pub leaves_unlinkb : (x : Arena) (h : ℕ) → Leaves (h ∷ head_given (option_map (token_of x) (unlinkb h a).0)) a (unlinkb h a).1
   leaves_unlinkb x h = parts x h (message_at a h)
@@ -323,9 +258,7 @@ module _ (a : Arena) where
   rest_others : (heads : List ℕ) (h : ℕ) (x : Arena) (rest : Message) → ((k : ℕ) → has k heads ≡ false → has k (h ∷ head_given (option_map (token_of x) (head_in rest))) ≡ false)
       → LeavesOthers heads a (with_rest rest (without_held h a))
   rest_others heads h x [] among = others_set a a (without_held h a) heads (leaves_same a heads).others h None (λ k other. other_head k h [] (among k other)) refl refl
-  rest_others heads h x (c ∷ cs) among =
-      others_two (with_rest (c ∷ cs) (without_held h a)) h c.number None (Some (c ∷ cs)) heads (λ k other. other_head k h (c.number ∷ []) (among k other))
-      (λ k other. other_head k c.number [] (other_heads k h (c.number ∷ []) (among k other))) refl refl
+  rest_others heads h x (c ∷ cs) among = grind (arith, common_steps, others_two, other_head, other_heads)
 
   rest_shelves : (h : ℕ) (rest : Message) → (with_rest rest (without_held h a)).shelves ≡ a.shelves
   rest_shelves h [] = refl
@@ -373,18 +306,13 @@ module _ (a : Arena) where
     where
       of_blocks : (m : Message) → Leaves (h ∷ head_given (option_map (token_of x) (freeb_from h a m).0)) a (freeb_from h a m).1
       of_blocks [] = leaves_same a (h ∷ [])
-      of_blocks (b ∷ rest) =
-          let heads = h ∷ head_given (option_map (token_of x) (head_in rest)) in
-          let out = with_rest rest (without_held h a) in
-          leaves_freed heads out (with_block_freed b [] out) (block_frees b [] out)
-          (leaves_named a out heads (rest_others heads h x rest (λ k other. other)) (rest_shelves h rest) (λ d some. ap (λ s. data_block_at s d) (rest_store h rest)))
+      of_blocks (b ∷ rest) = grind (arith, common_steps, leaves_freed, block_frees, rest_others, rest_shelves, rest_store)
 
   pub leaves_spent : (t : TokenValue) → Leaves (t.head ∷ []) a (spent a t)
   leaves_spent t =
-      elim (has_token a t) as (λ b. Leaves (t.head ∷ []) a (if b then freemsg t.head a else a)) [
-        | true ↦ leaves_freed (t.head ∷ []) (without_held t.head a) (freemsg t.head a) (blocks_free (message_at a t.head) (without_held t.head a)) (leaves_one t.head None)
-        | false ↦ leaves_same a (t.head ∷ [])
-      ]
+      chosen (Leaves (t.head ∷ []) a) (has_token a t) (freemsg t.head a) a
+      (leaves_freed (t.head ∷ []) (without_held t.head a) (freemsg t.head a) (blocks_free (message_at a t.head) (without_held t.head a)) (leaves_one t.head None))
+      (λ none. leaves_same a (t.head ∷ []))
 
 -- nothing is held where a message was taken out
 pub none_at : {X : Type 0} (xs : List (Option X)) (i : ℕ) → get_or (set xs i None) i None ≡ None
@@ -398,7 +326,7 @@ spent_gone a t had =
     ap (λ x. held_at x t.head) (cond-true (has_token a t) (freemsg t.head a) a had)
     ∙ ap (λ (held : List (Option Message)). get_or held t.head None) (blocks_free (message_at a t.head) (without_held t.head a)).held ∙ none_at a.held t.head
 
--- the one behind, of two that are joined
+-- of two messages that are joined, the second is gone
 pub linkb_gone : (a : Arena) (h g : ℕ) → h ≢ g → held_at (linkb h g a) g ≡ None
 linkb_gone a h g other =
     ap (λ (x : Arena). held_at x g) (cond-false (h == g) a (record a { held = joined h g a.held }) (ne_eqb h g other))
@@ -420,11 +348,7 @@ module _ (a : Arena) (parted : IsParted a) where
       neither false c = refl
 
   pub leaves_allocb : (size : ℕ) → Making a (allocb size a)
-  leaves_allocb size =
-      elim (fits_a_class size a.store.classes) as (λ b. Making a (if b then allocb_from a.free size a else Err TooLarge)) [
-        | true ↦ from a.free
-        | false ↦ tt
-      ]
+  leaves_allocb size = chosen (Making a) (fits_a_class size a.store.classes) (allocb_from a.free size a) (Err TooLarge) (from a.free) (λ large. tt)
     where
       from : (ns : List ℕ) → Making a (allocb_from ns size a)
       from [] = tt
@@ -442,34 +366,19 @@ module _ (a : Arena) (parted : IsParted a) where
       leaves_named a (held_under bs s a).1 ((held_under bs s a).0 ∷ []) (others_one a (held_under bs s a).1 (held_under bs s a).0 _ refl refl) refl same
 
   pub leaves_duplicated : (bs : List Block) → Making a (duplicated bs a)
-  leaves_duplicated bs =
-      elim (nat_lt (length a.free) (length bs)) as (λ b. Making a (if b then Err NoMblk else (if exceeds_names bs a then Err RefMax else Ok (held_under bs a.store a)))) [
-        | true ↦ tt
-        | false ↦
-            elim (exceeds_names bs a) as (λ b. Making a (if b then Err RefMax else Ok (held_under bs a.store a))) [
-              | true ↦ tt
-              | false ↦ under_leaves bs a.store (λ d some. refl)
-            ]
-      ]
+  leaves_duplicated bs = grind (arith, common_steps, chosen, under_leaves)
 
   pub leaves_copied : (bs : List Block) → Making a (copied bs a)
   leaves_copied bs =
-      elim (nat_lt (length a.free) (length bs)) as (λ b. Making a (if b then Err NoMblk else answer_map (λ g. held_under g.0 g.1 a) (copies bs a.store))) [
-        | true ↦ tt
-        | false ↦ of_copies (copies bs a.store) (λ d some. copies_leave bs a.store d (named_taken d some))
-      ]
-    where
-      of_copies : (r : Given DataStore (List Block)) → ((d : ℕ) → 0 < names_of a d → IfOk r (λ g. data_block_at g.1 d ≡ data_block_at a.store d))
-          → Making a (answer_map (λ g. held_under g.0 g.1 a) r)
-      of_copies (Ok g) same = under_leaves g.0 g.1 same
-      of_copies (Err why) same = tt
+      chosen (Making a) (nat_lt (length a.free) (length bs)) (Err NoMblk) (answer_map (λ g. held_under g.0 g.1 a) (copies bs a.store)) tt (λ enough.
+      answered (λ (g : ℕ × Arena). Leaves (g.0 ∷ []) a g.1) (λ g. held_under g.0 g.1 a) (copies bs a.store) (λ g made. under_leaves g.0 g.1 (λ d some.
+      subst (λ r. IfOk r (λ (g : List Block × DataStore). data_block_at g.1 d ≡ data_block_at a.store d)) made (copies_leave bs a.store d (named_taken d some)))))
 
   pub leaves_pullupmsg : (h : ℕ) (n : ℤ) → Leaves (h ∷ []) a (value_after a (pullupmsg h n a))
   leaves_pullupmsg h n = leaves_after a (h ∷ []) (pullupmsg h n a) (asked (bytes_asked n (run_of a.store (message_at a h))) (message_at a h))
     where
-      taken : (n : ℕ) (b : Block) (bs : Message) (r : Result ℕ Refusal) → take_data n a.store ≡ r → Leaving {X = Unit {0}} (h ∷ []) a (answer_map (λ d. (tt, pulled h n (b ∷ bs) a d)) r)
-      taken n b bs (Err why) is = tt
-      taken n b bs (Ok d) is =
+      taken : (n : ℕ) (b : Block) (bs : Message) (d : ℕ) → take_data n a.store ≡ Ok d → Leaves (h ∷ []) a (pulled h n (b ∷ bs) a d)
+      taken n b bs d is =
           let out = used_up (n - b.len) bs in
           let new : Arena = record a {
             store = pulled_into n (b ∷ bs) a.store d;
@@ -482,15 +391,7 @@ module _ (a : Arena) (parted : IsParted a) where
 
       pulls : (n : ℕ) (m : Message) → Leaving {X = Unit {0}} (h ∷ []) a (pull h n m a)
       pulls n [] = tt
-      pulls n (b ∷ bs) =
-          elim (nat_lt (size_of (run_of a.store (b ∷ bs))) n) as (λ c. Leaving {X = Unit {0}} (h ∷ []) a (if c then Err Short else (if nat_le n b.len then Ok (tt, a) else answer_map (λ d. (tt, pulled h n (b ∷ bs) a d)) (take_data n a.store)))) [
-            | true ↦ tt
-            | false ↦
-                elim (nat_le n b.len) as (λ c. Leaving {X = Unit {0}} (h ∷ []) a (if c then Ok (tt, a) else answer_map (λ d. (tt, pulled h n (b ∷ bs) a d)) (take_data n a.store))) [
-                  | true ↦ leaves_same a (h ∷ [])
-                  | false ↦ taken n b bs (take_data n a.store) refl
-                ]
-          ]
+      pulls n (b ∷ bs) = grind (arith, common_steps, chosen, leaves_same, answered, taken)
 
       asked : (o : Option ℕ) (m : Message) → Leaving {X = Unit {0}} (h ∷ []) a (pull_asked h o m a)
       asked None m = tt
@@ -499,8 +400,7 @@ module _ (a : Arena) (parted : IsParted a) where
 -- a block is one of those that name its data block
 naming_at : (m : Message) (k : ℕ) (b : Block) → slice_get m k ≡ Some b → 0 < count_by (is_naming b.data_number) m
 naming_at [] k b is = absurd (none-some b is)
-naming_at (c ∷ m) zero b is =
-    omega (arith, (count_adds (is_naming b.data_number)).both (c ∷ []) m, ap one_if (eq-eqb c.data_number b.data_number (ap (λ (x : Block). x.data_number) (same_Some c b is))))
+naming_at (c ∷ m) zero b is = grind (arith, common_steps, count_adds, one_if, eq-eqb, same_Some)
 naming_at (c ∷ m) (suc k) b is = omega (arith, naming_at m k b is, (count_adds (is_naming b.data_number)).both (c ∷ []) m)
 
 module _ (a : Arena) (h : ℕ) (m : Message) (is : held_at a h ≡ Some m) where
@@ -514,7 +414,7 @@ module _ (a : Arena) (h : ℕ) (m : Message) (is : held_at a h ≡ Some m) where
       most : (n : ℕ) → nat_lt 1 n ≡ false → n ≤ 1
       most n lone = grind (arith, nat_tests)
 
-  -- the arena once the bytes stand behind the write place of block k, which is b
+  -- the arena once the bytes are after the write place of block k, which is b
   abbrev written : ℕ → List ℕ → Block → Arena
   written k bytes b = record a {
     store = with_bytes_written b.data_number (b.offset + b.len) bytes a.store;
@@ -524,24 +424,14 @@ module _ (a : Arena) (h : ℕ) (m : Message) (is : held_at a h ≡ Some m) where
   pub leaves_write : (k : ℕ) (bytes : List ℕ) → Leaves (h ∷ []) a (value_after a (write h k bytes a))
   leaves_write k bytes = leaves_after a (h ∷ []) (write h k bytes a) (at (slice_get (message_at a h) k) refl)
     where
-      room : (b : Block) → slice_get (message_at a h) k ≡ Some b → nat_lt 1 (names_of a b.data_number) ≡ false
-          → Leaving {X = Unit {0}} (h ∷ []) a (if nat_lt (capacity_of a.store b.data_number) (b.offset + b.len + length bytes) then Err NoRoom else Ok (tt, written k bytes b))
-      room b there lone =
-          elim (nat_lt (capacity_of a.store b.data_number) (b.offset + b.len + length bytes)) as (λ c. Leaving {X = Unit {0}} (h ∷ []) a (if c then Err NoRoom else Ok (tt, written k bytes b))) [
-            | true ↦ tt
-            | false ↦
-                altered k b (written k bytes b) there lone (others_one a (written k bytes b) h _ refl refl) refl
-                (λ d other. get_or-set_other a.store.blocks b.data_number d _ no_data_block other)
-          ]
-
       at : (o : Option Block) → slice_get (message_at a h) k ≡ o → Leaving {X = Unit {0}} (h ∷ []) a (write_block h k bytes a (message_at a h) o)
       at None there = tt
       at (Some b) there =
-          elim (nat_lt 1 (names_of a b.data_number)) as (λ c. nat_lt 1 (names_of a b.data_number) ≡ c
-          → Leaving {X = Unit {0}} (h ∷ []) a (if c then Err Shared else (if nat_lt (capacity_of a.store b.data_number) (b.offset + b.len + length bytes) then Err NoRoom else Ok (tt, written k bytes b)))) [
-            | true ↦ λ many. tt
-            | false ↦ λ lone. room b there lone
-          ] refl
+          let full = nat_lt (capacity_of a.store b.data_number) (b.offset + b.len + length bytes) in
+          chosen (Leaving {X = Unit {0}} (h ∷ []) a) (nat_lt 1 (names_of a b.data_number)) (Err Shared) (if full then Err NoRoom else Ok (tt, written k bytes b)) tt (λ lone.
+          chosen (Leaving {X = Unit {0}} (h ∷ []) a) full (Err NoRoom) (Ok (tt, written k bytes b)) tt (λ fits.
+          altered k b (written k bytes b) there lone (others_one a (written k bytes b) h _ refl refl) refl
+          (λ d other. get_or-set_other a.store.blocks b.data_number d _ no_data_block other)))
 
   pub leaves_settype : (k : ℕ) (kind : MsgType) → Leaves (h ∷ []) a (value_after a (settype h k kind a))
   leaves_settype k kind = leaves_after a (h ∷ []) (settype h k kind a) (at (slice_get (message_at a h) k) refl)
@@ -549,11 +439,7 @@ module _ (a : Arena) (h : ℕ) (m : Message) (is : held_at a h ≡ Some m) where
       at : (o : Option Block) → slice_get (message_at a h) k ≡ o → Leaving {X = Unit {0}} (h ∷ []) a (settype_of kind a o)
       at None there = tt
       at (Some b) there =
-          elim (nat_lt 1 (names_of a b.data_number)) as (λ c. nat_lt 1 (names_of a b.data_number) ≡ c
-          → Leaving {X = Unit {0}} (h ∷ []) a (if c then Err Shared else Ok (tt, record a { store = with_kind b.data_number kind a.store }))) [
-            | true ↦ λ many. tt
-            | false ↦ λ lone.
-                altered k b (record a { store = with_kind b.data_number kind a.store }) there lone
-                (record { id = refl; size = refl; held = λ g other. refl }) refl
-                (λ d other. get_or-set_other a.store.blocks b.data_number d _ no_data_block other)
-          ] refl
+          chosen (Leaving {X = Unit {0}} (h ∷ []) a) (nat_lt 1 (names_of a b.data_number)) (Err Shared) (Ok (tt, record a { store = with_kind b.data_number kind a.store })) tt (λ lone.
+          altered k b (record a { store = with_kind b.data_number kind a.store }) there lone
+          (record { id = refl; size = refl; held = λ g other. refl }) refl
+          (λ d other. get_or-set_other a.store.blocks b.data_number d _ no_data_block other))

@@ -1,14 +1,13 @@
--- The first block of a held message, and those behind it, on arenas as contracts see them.
-use Rattle.std.proofs.Common.{◌≡◌, ◌≢◌, ℕ, zero, suc, ◌+◌, ◌<◌, ◌≤◌, ◌⊎◌, inl, inr, true, List, [], ◌∷◌, ◌++◌, length, set, Option, Some, None, Ok, refl, sym, ap, ◌∙◌, subst, arith, get_or-set_same, get_or-set_other, length-set, Err}
+-- The first block of a held message, and those after it, on arenas as contracts see them.
+use Rattle.std.proofs.Common.{◌≡◌, ◌≢◌, ℕ, zero, suc, ◌+◌, ◌<◌, ◌≤◌, ◌⊎◌, inl, inr, true, List, [], ◌∷◌, ◌++◌, length, set, Option, Some, None, Ok, refl, sym, ap, ◌∙◌, subst, arith, get_or-set_same, get_or-set_other, length-set}
 use Rattle.std.specs.Prelude.{count_by, drop, nat_lt, option_map, slice_get, take}
 use Rattle.std.specs.Option.{IfSome}
-use Rattle.std.proofs.lemmas.Bool.{eq-eqb, cond-true, lt-ltb}
+use Rattle.std.proofs.lemmas.Bool.{eq-eqb}
 use Rattle.std.proofs.lemmas.List.{set-get_or, set-set, length-take-le}
-use Rattle.strm_data.specs.declared.refusal.Refusal.TheVariants.{NoMblk}
 use Rattle.strm_mblk.specs.declared.token.TokenValue.{TokenValue}
 use Rattle.strm_mblk.specs.Arena.{Arena, IsParted, has, held_at, message_at, token_of, without_held}
 use Rattle.strm_mblk.specs.Block.{Block, Message, head_of}
-use Rattle.strm_mblk.specs.BlockCalls.{freeb_from, head_in, rmvb, rmvb_of, unlinkb, with_rest, copied, duplicated}
+use Rattle.strm_mblk.specs.BlockCalls.{freeb_from, head_in, rmvb, rmvb_of, unlinkb, with_rest}
 use Rattle.strm_mblk.specs.Freeing.{spent, with_block_freed, with_blocks_freed}
 use Rattle.strm_mblk.specs.Given.{Given}
 use Rattle.strm_mblk.specs.Messages.{blocks_of, divided}
@@ -18,6 +17,7 @@ use Rattle.strm_mblk.proofs.arena.Tokens.{had_message, spent_had, token_had}
 use Rattle.strm_mblk.proofs.lists.Numbers.{in_range, one_most}
 use Rattle.strm_mblk.proofs.arena.Moves.{blocks_numbered, held_among, held_within, number_is}
 use Rattle.strm_links.proofs.lists.Counting.{one_if}
+use Rattle.std.proofs.lemmas.Grind.{common_steps}
 
 -- two places that are written in either order
 pub set_apart : {X : Type 0} (xs : List X) (i j : ℕ) (x y : X) → i ≢ j → set (set xs i x) j y ≡ set (set xs j y) i x
@@ -36,7 +36,7 @@ module _ (a : Arena) (parted : IsParted a) (h : ℕ) where
   pub has_head : (m : Message) → held_at a h ≡ Some m → (0 < length m) × (head_of m ≡ h)
   has_head m is = subst (λ o. IfSome o (λ x. (0 < length x) × (head_of x ≡ h))) is (parted.heads h)
 
-  -- the blocks of a held message stand once in all
+  -- each block of a held message counts once in all
   among : (m : Message) → held_at a h ≡ Some m → (n : ℕ) → count_by (number_is n) m ≤ blocks_numbered a n
   among m is n =
       omega (
@@ -48,8 +48,7 @@ module _ (a : Arena) (parted : IsParted a) (h : ℕ) where
 
   module _ (b c : Block) (cs : List Block) (is : held_at a h ≡ Some (b ∷ c ∷ cs)) where
     counts_two : (n : ℕ) → count_by (number_is n) (b ∷ c ∷ cs) ≡ one_if (number_is n b) + (one_if (number_is n c) + count_by (number_is n) cs)
-    counts_two n =
-        omega (arith, (count_adds (number_is n)).both (b ∷ []) (c ∷ cs), (count_adds (number_is n)).both (c ∷ []) cs, count_one (number_is n) b, count_one (number_is n) c)
+    counts_two n = grind (arith, common_steps, count_adds, number_is, count_one)
 
     -- the second block is one of those that there are
     pub second_inside : c.number < length a.held
@@ -79,20 +78,14 @@ module _ (a : Arena) (parted : IsParted a) (h : ℕ) where
 
     -- the message at h is its first block alone
     pub first_apart : held_at (apart (b ∷ c ∷ cs)).1 h ≡ Some (b ∷ [])
-    first_apart =
-        get_or-set_other (set a.held h (Some (b ∷ []))) c.number h (Some (c ∷ cs)) None second_other
-        ∙ get_or-set_same a.held h (Some (b ∷ [])) None (held_within a h (b ∷ c ∷ cs) is)
+    first_apart = grind (arith, common_steps, get_or-set_other, second_other, get_or-set_same, held_within)
 
     pub rest_apart : held_at (apart (b ∷ c ∷ cs)).1 c.number ≡ Some (c ∷ cs)
-    rest_apart =
-        get_or-set_same (set a.held h (Some (b ∷ []))) c.number (Some (c ∷ cs)) None (omega (arith, second_inside, length-set a.held h (Some (b ∷ []))))
+    rest_apart = grind (arith, common_steps, get_or-set_same, second_inside, length-set)
 
     -- without it, the others are there
     pub rest_alone : without_held h (apart (b ∷ c ∷ cs)).1 ≡ with_rest (c ∷ cs) (without_held h a)
-    rest_alone =
-        ap (λ held. record a { held = held })
-        (set_apart (set a.held h (Some (b ∷ []))) c.number h (Some (c ∷ cs)) None (λ same. second_other (sym same))
-        ∙ ap (λ held. set held c.number (Some (c ∷ cs))) (set-set a.held h (Some (b ∷ [])) None))
+    rest_alone = grind (arith, common_steps, set_apart, second_other, set-set)
 
     pub rest_there : held_at (with_rest (c ∷ cs) (without_held h a)) c.number ≡ Some (c ∷ cs)
     rest_there = get_or-set_same (set a.held h None) c.number (Some (c ∷ cs)) None (omega (arith, second_inside, length-set a.held h None))
@@ -104,9 +97,7 @@ module _ (a : Arena) (parted : IsParted a) (h : ℕ) where
     pub had : IfSome (option_map (token_of (freeb_from h a m).1) (freeb_from h a m).0) (λ r. has (freeb_from h a m).1 r ≡ true)
 
   spends : (x : Arena) (t : TokenValue) (m : Message) → t.head ≡ h → has x t ≡ true → held_at x h ≡ Some m → spent x t ≡ with_blocks_freed m (without_held h x)
-  spends x t m head had is =
-      sym (spent_had x t t refl had) ∙ ap (λ k. with_blocks_freed (message_at x k) (without_held k x)) head
-      ∙ ap (λ o. with_blocks_freed (blocks_of o) (without_held h x)) is
+  spends x t m head had is = grind (arith, common_steps, spent_had)
 
   one_freed : (m : Message) → held_at a h ≡ Some m → (t : TokenValue) → t.head ≡ h → has (apart m).1 t ≡ true → IsOneFreed t m
   one_freed [] is t head had = absurd (omega (arith, (has_head [] is).0))
@@ -138,12 +129,7 @@ module _ (a : Arena) (parted : IsParted a) (h : ℕ) where
 
   out_apart : (m : Message) → held_at a h ≡ Some m → OutIsApart m
   out_apart [] is = absurd (omega (arith, (has_head a parted h [] is).0))
-  out_apart (b ∷ []) is =
-      let same : b.number ≡ h = (has_head a parted h (b ∷ []) is).1 in
-      let back : set (set a.held h None) h (Some (b ∷ [])) ≡ a.held =
-      set-set a.held h None (Some (b ∷ [])) ∙ ap (set a.held h) (sym is) ∙ set-get_or a.held h None in
-      ap (λ n. Ok ((n, None), record a { held = set (set a.held h None) n (Some (b ∷ [])) })) same
-      ∙ ap (λ held. Ok ((h, None), record a { held = held })) back
+  out_apart (b ∷ []) is = grind (arith, common_steps, set-set, set-get_or)
   out_apart (b ∷ c ∷ cs) is =
       let same : b.number ≡ h = (has_head a parted h (b ∷ c ∷ cs) is).1 in
       let back : set (set (set a.held h None) c.number (Some (c ∷ cs))) h (Some (b ∷ [])) ≡ set (set a.held h (Some (b ∷ []))) c.number (Some (c ∷ cs)) =
@@ -156,29 +142,18 @@ module _ (a : Arena) (parted : IsParted a) (h : ℕ) where
   pub rmvb_first : (m : Message) → held_at a h ≡ Some m → rmvb h 0 a ≡ Ok ((h, (unlinkb h a).0), (unlinkb h a).1)
   rmvb_first m is = subst OutIsApart (sym (ap blocks_of is)) (out_apart m is)
 
--- ---- how many blocks a token tells
+-- ---- the number of blocks that a token tells
 
 module _ (a : Arena) (parted : IsParted a) (t : TokenValue) (had : has a t ≡ true) where
   -- one at least
   pub some_blocks : 0 < t.blocks
-  some_blocks =
-      let message = had_message a t had in
-      omega (arith, (has_head a parted t.head message.0 message.1.held).0, message.1.blocks)
+  some_blocks = grind (arith, common_steps, had_message)
 
   -- so one of them, or all, are some and no more
   pub of_blocks : (count : ℕ) → (count ≡ 1) ⊎ (count ≡ t.blocks) → (0 < count) × (count ≤ t.blocks)
   of_blocks count (inl one) = (omega (arith, one), omega (arith, one, some_blocks))
   of_blocks count (inr all) = (omega (arith, all, some_blocks), omega (arith, all))
 
-  -- and so many does the message have, of which as many are taken
+  -- the message has them, so that many are taken
   pub taken_many : (count : ℕ) → (count ≡ 1) ⊎ (count ≡ t.blocks) → length (take count (message_at a t.head)) ≡ count
-  taken_many count is =
-      let message = had_message a t had in
-      length-take-le count (message_at a t.head) (omega (arith, (of_blocks count is).1, ap (λ o. length (blocks_of o)) message.1.held, message.1.blocks))
-
--- too few message blocks are free
-pub few_free_duplicated : (a : Arena) (bs : List Block) → length a.free < length bs → duplicated bs a ≡ Err NoMblk
-few_free_duplicated a bs few = cond-true _ _ _ (lt-ltb (length a.free) (length bs) few)
-
-pub few_free_copied : (a : Arena) (bs : List Block) → length a.free < length bs → copied bs a ≡ Err NoMblk
-few_free_copied a bs few = cond-true _ _ _ (lt-ltb (length a.free) (length bs) few)
+  taken_many count is = grind (arith, common_steps, had_message, length-take-le, of_blocks)

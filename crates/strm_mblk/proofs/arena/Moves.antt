@@ -1,11 +1,11 @@
 -- Each block stays counted once, and each name, when a call moves a message.
-use Rattle.std.proofs.Common.{◌≡◌, ◌≢◌, ℕ, ◌+◌, ◌<◌, ◌≤◌, Bool, eqb, ltb, [], ◌∷◌, ◌++◌, length, get_or, set, Option, Some, None, refl, sym, ap, ◌∙◌, subst, inl, inr, arith, if◌then◌else◌, get_or-set_same, get_or-set_other, length-set, length-append}
+use Rattle.std.proofs.Common.{◌≡◌, ℕ, ◌+◌, ◌<◌, ◌≤◌, Bool, eqb, ltb, [], ◌∷◌, ◌++◌, length, Some, None, refl, sym, ap, ◌∙◌, subst, arith, if◌then◌else◌, length-append}
 use Rattle.std.specs.Prelude.{count_by}
 use Rattle.std.specs.Option.{IfSome}
-use Rattle.std.proofs.lemmas.Bool.{cases_eq, cases_lt, eq-eqb}
+use Rattle.std.proofs.lemmas.Bool.{eq-eqb}
 use Rattle.std.proofs.lemmas.List.{get_or_past, length-map}
 use Rattle.strm_mblk.specs.Arena.{Arena, held_at, shelved_blocks, held_blocks, blocks_in, names_of, without_held}
-use Rattle.strm_mblk.specs.Block.{Block, Message, head_of, is_naming, numbers_of}
+use Rattle.strm_mblk.specs.Block.{Block, Message, head_of, numbers_of}
 use Rattle.strm_mblk.specs.Messages.{blocks_of}
 use Rattle.strm_data.specs.DataStore.{times}
 use Rattle.strm_data.specs.CountedStore.{CountedStore, count_of}
@@ -14,6 +14,7 @@ use Rattle.strm_mblk.proofs.lists.Additive.{count_adds, flat_map-set_adds}
 use Rattle.strm_mblk.proofs.arena.Counts.{blocks_in_adds, held_moves, times-all}
 pub use Rattle.strm_mblk.proofs.lists.Numbers.{one_most}
 use Rattle.strm_mblk.proofs.lists.Numbers.{in_range}
+use Rattle.std.proofs.lemmas.Grind.{common_steps}
 
 abbrev pub number_is : ℕ → Block → Bool
 number_is n b = eqb b.number n
@@ -22,7 +23,7 @@ number_is n b = eqb b.number n
 abbrev pub blocks_numbered : Arena → ℕ → ℕ
 blocks_numbered a n = count_by (number_is n) (blocks_in a)
 
--- each number stands once, a held message at its head, and counts are names
+-- each number is in one place, each held message is at its head, and counts are names
 pub record IsCounted (a : Arena) (s : CountedStore) : Type 0 where
   pub numbers : (n : ℕ) → times n (a.free ++ numbers_of (blocks_in a)) ≡ (if ltb n (length a.held) then 1 else 0)
   pub heads : (h : ℕ) → IfSome (held_at a h) (λ m. (0 < length m) × (head_of m ≡ h))
@@ -41,8 +42,7 @@ module _ (a : Arena) (s : CountedStore) (counted : IsCounted a s) where
 -- a message has its head
 pub head_counts : (m : Message) (n : ℕ) → 0 < length m → head_of m ≡ n → 0 < count_by (number_is n) m
 head_counts [] n some is = absurd (omega arith)
-head_counts (b ∷ bs) n some is =
-    omega (arith, (count_adds (number_is n)).both (b ∷ []) bs, ap one_if (eq-eqb b.number n is))
+head_counts (b ∷ bs) n some is = grind (arith, common_steps, count_adds, one_if, eq-eqb)
 
 -- the blocks of a held message are among those of held messages
 pub held_among : (a : Arena) (p : Block → Bool) (h : ℕ) → h < length a.held → count_by p (blocks_of (held_at a h)) ≤ count_by p (held_blocks a)
@@ -50,8 +50,7 @@ held_among a p h inside = omega (arith, flat_map-set_adds (count_adds p) blocks_
 
 -- a held message lies in range
 pub held_within : (a : Arena) (h : ℕ) (m : Message) → held_at a h ≡ Some m → h < length a.held
-held_within a h m is =
-    elim (cases_lt h (length a.held)) [ inl inside ↦ inside | inr past ↦ absurd (cc (get_or_past a.held h None past)) ]
+held_within a h m is = grind (arith, common_steps, get_or_past)
 
 module _ (a : Arena) (s : CountedStore) (counted : IsCounted a s) where
   -- a held message is found where its number would be
@@ -60,7 +59,7 @@ module _ (a : Arena) (s : CountedStore) (counted : IsCounted a s) where
       let facts : (0 < length m) × (head_of m ≡ h) = subst (λ o. IfSome o (λ x. (0 < length x) × (head_of x ≡ h))) is (counted.heads h) in
       omega (arith, head_counts m h facts.0 facts.1, held_among a (number_is h) h (held_within a h m is), ap (λ o. count_by (number_is h) (blocks_of o)) is)
 
-  -- no held message begins with a number that stands elsewhere
+  -- no held message begins with a number that is free or on a shelf
   pub not_held : (n : ℕ) → 0 < times n a.free + count_by (number_is n) (shelved_blocks a) → held_at a n ≡ None
   not_held n elsewhere =
       elim (held_at a n) as (λ o. held_at a n ≡ o → o ≡ None) [
@@ -68,48 +67,10 @@ module _ (a : Arena) (s : CountedStore) (counted : IsCounted a s) where
         | Some m ↦ λ is. absurd (omega (arith, held_there n m is, once a s counted n, blocks_in_adds (count_adds (number_is n)) a))
       ] refl
 
--- what stands at one place of the held messages
-pub held_at-set_same : (a : Arena) (h : ℕ) (o : Option Message) → h < length a.held → held_at (record a { held = set a.held h o }) h ≡ o
-held_at-set_same a h o inside = get_or-set_same a.held h o None inside
-
-pub held_at-set_other : (a : Arena) (h k : ℕ) (o : Option Message) → k ≢ h → held_at (record a { held = set a.held h o }) k ≡ held_at a k
-held_at-set_other a h k o other = get_or-set_other a.held h k o None other
-
--- heads stay where one held message is replaced by one with its head, or by none
-heads_kept : (a : Arena) (h : ℕ) (o : Option Message) → h < length a.held
-    → ((k : ℕ) → IfSome (held_at a k) (λ m. (0 < length m) × (head_of m ≡ k))) → IfSome o (λ m. (0 < length m) × (head_of m ≡ h))
-    → (k : ℕ) → IfSome (held_at (record a { held = set a.held h o }) k) (λ m. (0 < length m) × (head_of m ≡ k))
-heads_kept a h o inside heads new k =
-    elim (cases_eq k h) [
-      | inl same ↦
-          subst (λ j. IfSome (held_at (record a { held = set a.held h o }) j) (λ m. (0 < length m) × (head_of m ≡ j))) (sym same)
-          (subst (λ x. IfSome x (λ m. (0 < length m) × (head_of m ≡ h))) (sym (held_at-set_same a h o inside)) new)
-      | inr other ↦ subst (λ x. IfSome x (λ m. (0 < length m) × (head_of m ≡ k))) (sym (held_at-set_other a h k o other)) (heads k)
-    ]
-
 -- what leaves the held messages
 pub out_of_held : (a : Arena) (h : ℕ) (m : Message) (p : Block → Bool) → held_at a h ≡ Some m → count_by p (blocks_in (without_held h a)) + count_by p m ≡ count_by p (blocks_in a)
 out_of_held a h m p is =
     omega (arith, held_moves (count_adds p) a h None (held_within a h m is), (count_adds p).none, ap (λ o. count_by p (blocks_of o)) is)
-
--- a held message is replaced by one with the same numbers and names
-pub rewritten : (a : Arena) (s t : CountedStore) (h : ℕ) (m n : Message) → IsCounted a s → held_at a h ≡ Some m
-    → ((p : Block → Bool) → ((b c : Block) → b.number ≡ c.number → b.data_number ≡ c.data_number → p b ≡ p c) → count_by p n ≡ count_by p m)
-    → 0 < length n → head_of n ≡ h → t.counts ≡ s.counts
-    → IsCounted (record a { store = t.store; held = set a.held h (Some n) }) t
-rewritten a s t h m n counted is alike some head same_counts =
-    let inside = held_within a h m is in
-    let new = record a { store = t.store; held = set a.held h (Some n) } in
-    let moves : (p : Block → Bool) → ((b c : Block) → b.number ≡ c.number → b.data_number ≡ c.data_number → p b ≡ p c) → count_by p (blocks_in new) ≡ count_by p (blocks_in a) =
-    λ p blind. omega (arith, held_moves (count_adds p) a h (Some n) inside, alike p blind, ap (λ o. count_by p (blocks_of o)) is) in
-    record {
-      numbers = λ k.
-          times-all k new
-          ∙ (let sum : times k a.free + count_by (number_is k) (blocks_in new) ≡ times k a.free + blocks_numbered a k = omega (arith, moves (number_is k) (λ b c same _. ap (λ j. eqb j k) same)) in
-          sum ∙ numbers_sum a s counted k ∙ ap (λ l. if ltb k l then 1 else 0) (sym (length-set a.held h (Some n))));
-      heads = heads_kept a h (Some n) inside counted.heads (some, head);
-      counts = λ k. ap (λ l. get_or l k 0) same_counts ∙ counted.counts k ∙ sym (moves (is_naming k) (λ b c _ same. ap (λ j. eqb j k) same));
-    }
 
 -- free blocks, those of messages on shelves and those of held messages make the arena
 pub makes_arena : (a : Arena) (s : CountedStore) → IsCounted a s → length a.free + length (shelved_blocks a) + length (held_blocks a) ≡ length a.held

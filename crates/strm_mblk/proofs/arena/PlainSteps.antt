@@ -4,8 +4,9 @@ use Rattle.std.proofs.lemmas.List.{take_all}
 use Rattle.strm_mblk.specs.Arena.{Arena}
 use Rattle.strm_mblk.specs.Block.{Block}
 use Rattle.strm_mblk.specs.Freeing.{with_block_freed, with_name_dropped}
+use Rattle.std.proofs.lemmas.Grind.{common_steps}
 
--- an item that stands first, and the others, are the list
+-- a list is its first item and the others
 pub first_and_rest : {X : Type 0} → (xs : List X) (x : X) → 1 ≤ length xs → x ≡ get_or xs 0 x → x ∷ take (length xs - 1) (drop 1 xs) ≡ xs
 first_and_rest [] x some is = absurd (omega arith)
 first_and_rest (y ∷ xs) x some is = ap (λ z. z ∷ take (length (y ∷ xs) - 1) xs) is ∙ ap (λ zs. y ∷ zs) (take_all (length (y ∷ xs) - 1) xs (omega arith))
@@ -13,7 +14,4 @@ first_and_rest (y ∷ xs) x some is = ap (λ z. z ∷ take (length (y ∷ xs) - 
 -- the name of a block is dropped once its number is free
 pub freed_by : (b : Block) (loose : List Block) (a next : Arena) (n d : ℕ) (old free : List ℕ) → n ≡ b.number → d ≡ b.data_number → old ≡ a.free → free ≡ n ∷ old → next ≡ record a { free = free }
     → with_name_dropped d loose next ≡ with_block_freed b loose a
-freed_by b loose a next n d old free number data_number was first new =
-    ap (λ (x : Arena). with_name_dropped d loose x) new
-    ∙ ap (λ (xs : List ℕ). with_name_dropped d loose (record a { free = xs })) (first ∙ ap (λ (k : ℕ). k ∷ old) number ∙ ap (λ (xs : List ℕ). b.number ∷ xs) was)
-    ∙ ap (λ (k : ℕ). with_name_dropped k loose (record a { free = b.number ∷ a.free })) data_number
+freed_by b loose a next n d old free number data_number was first new = grind (arith, common_steps)

@@ -1,7 +1,7 @@
--- A message that stands on a shelf has one, and stands there once.
-use Rattle.std.proofs.Common.{◌≡◌, ℕ, zero, suc, ◌<◌, ◌≤◌, Bool, true, List, [], ◌∷◌, map, length, get_or, refl, ap, sym, ◌∙◌, inl, inr, arith}
+-- A message on a shelf has one shelf, and is there once.
+use Rattle.std.proofs.Common.{◌≡◌, ℕ, zero, suc, ◌<◌, ◌≤◌, Bool, true, List, [], ◌∷◌, map, length, get_or, refl, ap, inl, inr, arith}
 use Rattle.std.specs.Prelude.{count_by, is_some, nat_lt, if◌then◌else◌}
-use Rattle.std.specs.List.{All, flat_map, position_or_len}
+use Rattle.std.specs.List.{All, flat_map}
 use Rattle.std.proofs.lemmas.Bool.{cases_lt, cond-true, le-ltb, lt-ltb, cases_eq, false_from_ne_true, false≢true}
 use Rattle.std.proofs.lemmas.List.{get_or_past}
 use Rattle.std.proofs.lemmas.List.Sums.{fails_before_first}
@@ -16,30 +16,18 @@ use Rattle.strm_mblk.proofs.lists.Additive.{count_adds}
 use Rattle.strm_mblk.proofs.arena.Counts.{blocks_in_adds, times-all}
 use Rattle.strm_mblk.proofs.lists.Numbers.{one_most}
 use Rattle.strm_mblk.proofs.arena.Moves.{head_counts, number_is}
+use Rattle.std.proofs.lemmas.Grind.{common_steps}
 
 module _ (a : Arena) (s h : ℕ) (there : stands_on a s h ≡ true) where
   pub shelf_of-there : is_some (shelf_of a h) ≡ true
-  shelf_of-there =
-      elim (cases_lt (position_or_len (λ ms. has h (map head_of ms)) a.shelves) (length a.shelves)) [
-        | inl found ↦ ap is_some (cond-true _ _ _ (lt-ltb _ _ found))
-        | inr none ↦
-            elim (cases_lt s (length a.shelves)) [
-              | inl within ↦
-                  absurd (false≢true (sym (fails_before_first (λ ms. has h (map head_of ms)) a.shelves s [] (omega (arith, none, within))) ∙ there))
-              | inr past ↦ absurd (false≢true (ap (λ (ms : List Message). has h (map head_of ms)) (sym (get_or_past a.shelves s [] past)) ∙ there))
-            ]
-      ]
+  shelf_of-there = grind (arith, common_steps, cond-true, lt-ltb, fails_before_first, get_or_past)
 
--- ---- no head stands twice
+-- ---- no head is there twice
 
--- a number of a list stands there
+-- a number that a list has is counted in it
 times_has : (n : ℕ) (xs : List ℕ) → has n xs ≡ true → 0 < times n xs
 times_has n [] there = absurd (false≢true there)
-times_has n (x ∷ xs) there =
-    elim (has_cases x n xs there) [
-      | inl same ↦ omega (arith, times_here n x xs same)
-      | inr later ↦ omega (arith, times_has n xs later, times-cons n x xs)
-    ]
+times_has n (x ∷ xs) there = grind (arith, common_steps, (times_has n xs), has_cases, times_here, times-cons)
 
 once_apart : (xs : List ℕ) → ((n : ℕ) → times n xs ≤ 1) → IsApart xs
 once_apart [] once = tt
@@ -63,8 +51,7 @@ heads_count (m ∷ ms) n some =
 shelf_count : (shelves : List (List Message)) (s n : ℕ) → count_by (number_is n) (flat_map (λ m. m) (get_or shelves s [])) ≤ count_by (number_is n) (flat_map (flat_map (λ m. m)) shelves)
 shelf_count [] s n = omega arith
 shelf_count (ms ∷ shelves) zero n = omega (arith, (count_adds (number_is n)).both (flat_map (λ m. m) ms) (flat_map (flat_map (λ m. m)) shelves))
-shelf_count (ms ∷ shelves) (suc s) n =
-    omega (arith, shelf_count shelves s n, (count_adds (number_is n)).both (flat_map (λ m. m) ms) (flat_map (flat_map (λ m. m)) shelves))
+shelf_count (ms ∷ shelves) (suc s) n = grind (arith, common_steps, (shelf_count shelves s n), count_adds, number_is)
 
 -- and no number heads more messages of a shelf than it has blocks
 head_once : (a : Arena) → IsParted a → (s n : ℕ) → times n (heads_at a s) ≤ (if nat_lt n (length a.held) then 1 else 0)

@@ -1,20 +1,19 @@
 -- Tokens of held messages, and what a call leaves and answers.
-use Rattle.std.proofs.Common.{◌≡◌, ℕ, ◌==◌, arith, true, List, length, Option, Some, None, refl, sym, ap, ◌∙◌, Bool, if◌then◌else◌}
+use Rattle.std.proofs.Common.{◌≡◌, ℕ, arith, true, List, length, Option, Some, None, refl, sym, ap, ◌∙◌, Bool, if◌then◌else◌}
 use Rattle.std.specs.Prelude.{take}
 use Rattle.std.specs.Option.{IsSome}
 use Rattle.std.proofs.lemmas.List.{take_all}
 use Rattle.std.proofs.lemmas.Bool.{and_from, eq-eqb, eqb-true, and_parts, false≢true}
 use Rattle.strm_mblk.specs.declared.token.TokenValue.{TokenValue}
-use Rattle.strm_mblk.specs.Arena.{Arena, has, held_at, is_of_length, message_at, token_of}
+use Rattle.strm_mblk.specs.Arena.{Arena, has, held_at, message_at, token_of}
 use Rattle.strm_mblk.specs.Block.{Message}
 use Rattle.strm_mblk.specs.Messages.{blocks_of}
 use Rattle.strm_mblk.specs.Freeing.{freemsg, spent}
+use Rattle.std.proofs.lemmas.Grind.{common_steps}
 
 -- the token of a held message is had
 pub token_had : (a : Arena) (h : ℕ) (m : Message) → held_at a h ≡ Some m → has a (token_of a h) ≡ true
-token_had a h m is =
-    and_from _ _ (eq-eqb a.id a.id refl)
-    (ap (λ o. is_of_length (length (blocks_of o)) o) is ∙ eq-eqb (length m) (length m) refl)
+token_had a h m is = grind (arith, common_steps, and_from, eq-eqb)
 
 -- a message that is held is its blocks
 pub held_is : {X : Type 0} (o : Option (List X)) → IsSome o → o ≡ Some (blocks_of o)
@@ -28,19 +27,11 @@ pub record IsHad (a : Arena) (t : TokenValue) (m : Message) : Type 0 where
   pub blocks : length m ≡ t.blocks
 
 pub had_message : (a : Arena) (t : TokenValue) → has a t ≡ true → (m : Message) × IsHad a t m
-had_message a t is = of_held (held_at a t.head) refl
-  where
-    parts : (t.pool ≡ a.id) × (is_of_length t.blocks (held_at a t.head) ≡ true)
-    parts = let both = and_parts (t.pool == a.id) _ is in (eqb-true t.pool a.id both.0, both.1)
-
-    of_held : (o : Option Message) → held_at a t.head ≡ o → (m : Message) × IsHad a t m
-    of_held None none = absurd (cc (parts.1, none))
-    of_held (Some m) some = (m, record { held = some; pool = parts.0; blocks = eqb-true (length m) t.blocks (sym (ap (is_of_length t.blocks) some) ∙ parts.1) })
+had_message a t is = grind (arith, common_steps, and_parts, eqb-true)
 
 -- a token is had again once its message is one of as many blocks
 pub had_again : (a b : Arena) (t : TokenValue) (m n : Message) → IsHad a t m → held_at b t.head ≡ Some n → length n ≡ length m → b.id ≡ a.id → has b t ≡ true
-had_again a b t m n had held same id =
-    and_from _ _ (eq-eqb t.pool b.id (had.pool ∙ sym id)) (ap (is_of_length t.blocks) held ∙ eq-eqb (length n) t.blocks (same ∙ had.blocks))
+had_again a b t m n had held same id = grind (arith, common_steps, and_from, eq-eqb)
 
 -- a token that is had is spent on its message
 pub spent_had : (a : Arena) (t u : TokenValue) → u ≡ t → has a t ≡ true → freemsg u.head a ≡ spent a t
@@ -48,12 +39,8 @@ spent_had a t u same had = ap (λ (x : TokenValue). freemsg x.head a) same ∙ a
 
 -- as many blocks as it says are all of its message
 pub all_taken : (a : Arena) (t : TokenValue) (n : ℕ) → has a t ≡ true → n ≡ t.blocks → take n (message_at a t.head) ≡ message_at a t.head
-all_taken a t n had all =
-    let message = had_message a t had in
-    take_all n (message_at a t.head) (omega (arith, all, ap (λ (o : Option Message). length (blocks_of o)) message.1.held, message.1.blocks))
+all_taken a t n had all = grind (arith, common_steps, had_message, take_all)
 
 -- a token that is had is that of its message
 pub had_is : (a : Arena) (t : TokenValue) → has a t ≡ true → t ≡ token_of a t.head
-had_is a t had =
-    let message = had_message a t had in
-    λ i. record { pool = message.1.pool i; head = t.head; blocks = (sym message.1.blocks ∙ sym (ap (λ (o : Option Message). length (blocks_of o)) message.1.held)) i }
+had_is a t had = grind (arith, common_steps, had_message)

@@ -1,7 +1,5 @@
 -- A message that comes on a shelf, or leaves it.
-use Rattle.std.proofs.Common.{◌≡◌, ◌≢◌, ℕ, ◌<◌, true, ◌==◌, List, [], ◌∷◌, map, length, set, Option, Some, None, IsSome, is_some, refl, sym, ap, ◌∙◌, subst, inl, inr, arith, get_or-set_same, get_or-set_other, length-set}
-use Rattle.std.specs.Prelude.{filter}
-use Rattle.std.specs.List.{slice_get}
+use Rattle.std.proofs.Common.{◌≡◌, ◌≢◌, ℕ, ◌<◌, true, List, [], ◌∷◌, map, length, set, Option, Some, None, IsSome, is_some, refl, sym, ap, ◌∙◌, subst, inl, inr, arith, get_or-set_same, get_or-set_other, length-set}
 use Rattle.std.proofs.lemmas.Bool.{cases_eq, cases_lt, cond-true, cond-false, eq-eqb, ne_eqb, false≢true, not_from_true, not_from_false}
 use Rattle.std.proofs.lemmas.List.{get_or_past, map-append, map-set}
 use Rattle.strm_links.specs.Rows.{IsParting, Rows, has, without, put_before, put_in, holder}
@@ -12,6 +10,7 @@ use Rattle.strm_mblk.specs.ChainLayout.{nodes_of, IsChained}
 use Rattle.strm_mblk.specs.Messages.{put_before_head, with_head, without_head}
 use Rattle.strm_mblk.specs.NodeLists.{NodeLists, head_node}
 use Rattle.strm_mblk.proofs.chaining.Seen.{held_as, held_off, held_on, length-held}
+use Rattle.std.proofs.lemmas.Grind.{common_steps}
 
 -- ---- a row of messages that begin with the numbers of a row
 
@@ -20,20 +19,9 @@ module _ (v : StrandLists) where
   put_before_head-map : (at h : ℕ) (xs : List ℕ) → ((g : ℕ) → has g xs ≡ true → head_node (strand_at v g) ≡ g) → has at xs ≡ true
       → map (strand_at v) (put_before at h xs) ≡ put_before_head head_node (Some at) (strand_at v h) (map (strand_at v) xs)
   put_before_head-map at h [] each there = absurd (false≢true there)
-  put_before_head-map at h (x ∷ xs) each there =
-      let begins : head_node (strand_at v x) ≡ x = each x (has_head x x xs refl) in
-      elim (cases_eq x at) [
-        | inl same ↦
-            ap (map (strand_at v)) (cond-true _ (h ∷ x ∷ xs) (x ∷ put_before at h xs) (eq-eqb x at same))
-            ∙ sym (cond-true _ _ _ (eq-eqb (head_node (strand_at v x)) at (begins ∙ same)))
-        | inr other ↦
-            let later : has at xs ≡ true = elim (has_cases x at xs there) [ inl here ↦ absurd (other here) | inr rest ↦ rest ] in
-            ap (map (strand_at v)) (cond-false _ (h ∷ x ∷ xs) (x ∷ put_before at h xs) (ne_eqb x at other))
-            ∙ ap (λ ms. strand_at v x ∷ ms) (put_before_head-map at h xs (λ g found. each g (has_tail x g xs found)) later)
-            ∙ sym (cond-false _ _ _ (ne_eqb (head_node (strand_at v x)) at (λ is. other (sym begins ∙ is))))
-      ]
+  put_before_head-map at h (x ∷ xs) each there = grind (arith, common_steps, (put_before_head-map at h xs), has_head, cond-true, eq-eqb, has_cases, cond-false, ne_eqb, has_tail)
 
-  -- the same, or last where none is given
+  -- the same, or last if none is given
   pub placed_in : (before : Option ℕ) (h : ℕ) (xs : List ℕ) → ((g : ℕ) → has g xs ≡ true → head_node (strand_at v g) ≡ g) → ((at : ℕ) → before ≡ Some at → has at xs ≡ true)
       → map (strand_at v) (put_in before h xs) ≡ put_before_head head_node before (strand_at v h) (map (strand_at v) xs)
   placed_in None h xs each there = map-append (strand_at v) xs (h ∷ [])
@@ -43,33 +31,13 @@ module _ (v : StrandLists) where
   pub without-map : (h : ℕ) (xs : List ℕ) → ((g : ℕ) → has g xs ≡ true → head_node (strand_at v g) ≡ g)
       → map (strand_at v) (without h xs) ≡ without_head head_node h (map (strand_at v) xs)
   without-map h [] each = refl
-  without-map h (x ∷ xs) each =
-      let begins : head_node (strand_at v x) ≡ x = each x (has_head x x xs refl) in
-      let rest = without-map h xs (λ g found. each g (has_tail x g xs found)) in
-      elim (cases_eq x h) [
-        | inl same ↦
-            ap (map (strand_at v)) (cond-false _ (x ∷ without h xs) (without h xs) (not_from_true _ (eq-eqb x h same))) ∙ rest
-            ∙ sym (cond-false _ _ _ (not_from_true _ (eq-eqb (head_node (strand_at v x)) h (begins ∙ same))))
-        | inr other ↦
-            ap (map (strand_at v)) (cond-true _ (x ∷ without h xs) (without h xs) (not_from_false _ (ne_eqb x h other))) ∙ ap (λ ms. strand_at v x ∷ ms) rest
-            ∙ sym (cond-true _ _ _ (not_from_false _ (ne_eqb (head_node (strand_at v x)) h (λ is. other (sym begins ∙ is)))))
-      ]
+  without-map h (x ∷ xs) each = grind (arith, common_steps, (without-map h xs), has_head, has_tail, cond-false, not_from_true, eq-eqb, cond-true, not_from_false, ne_eqb)
 
   -- and which one that is
   pub with-map : (h : ℕ) (xs : List ℕ) → ((g : ℕ) → has g xs ≡ true → head_node (strand_at v g) ≡ g) → has h xs ≡ true
       → Some (strand_at v h) ≡ with_head head_node h (map (strand_at v) xs)
   with-map h [] each there = absurd (false≢true there)
-  with-map h (x ∷ xs) each there =
-      let begins : head_node (strand_at v x) ≡ x = each x (has_head x x xs refl) in
-      elim (cases_eq x h) [
-        | inl same ↦
-            ap (λ g. Some (strand_at v g)) (sym same)
-            ∙ sym (ap (λ ms. slice_get ms 0) (cond-true _ (strand_at v x ∷ filter (λ m. head_node m == h) (map (strand_at v) xs)) _ (eq-eqb (head_node (strand_at v x)) h (begins ∙ same))))
-        | inr other ↦
-            let later : has h xs ≡ true = elim (has_cases x h xs there) [ inl here ↦ absurd (other here) | inr rest ↦ rest ] in
-            with-map h xs (λ g found. each g (has_tail x g xs found)) later
-            ∙ sym (ap (λ ms. slice_get ms 0) (cond-false _ _ (filter (λ m. head_node m == h) (map (strand_at v) xs)) (ne_eqb (head_node (strand_at v x)) h (λ is. other (sym begins ∙ is)))))
-      ]
+  with-map h (x ∷ xs) each there = grind (arith, common_steps, (with-map h xs), has_head, cond-true, eq-eqb, has_cases, has_tail, cond-false, ne_eqb)
 
 -- ---- one head comes or leaves
 
@@ -81,16 +49,7 @@ module _ (v : StrandLists) (heads : Rows) (laid : IsChained v heads) (w : NodeLi
     (new : Rows) (lists : new ≡ record heads { lists = set heads.lists shelf ys }) (others : (k : ℕ) → k ≢ head → holder k new ≡ holder k heads) (begun : IsSome (held_in v.chains head)) (parting : IsParting new) where
   -- the layout holds
   pub reheaded_laid : IsChained v new
-  reheaded_laid = record {
-    head_nodes = ap (λ (r : Rows). r.nodes) lists ∙ laid.head_nodes;
-    begun = λ k on.
-        elim (cases_eq k head) [
-          | inl same ↦ subst (λ j. IsSome (held_in v.chains j)) (sym same) begun
-          | inr differs ↦ laid.begun k (subst IsSome (others k differs) on)
-        ];
-    strands_parted = laid.strands_parted;
-    heads_parting = parting;
-  }
+  reheaded_laid = grind (arith, common_steps)
 
   -- what is seen, where the message at the head is held or not, and the shelf has these messages
   pub reheaded_is : (o : Option (List ℕ)) → (holder head new ≡ None → o ≡ held_in v.chains head) → (IsSome (holder head new) → o ≡ None) → (ms : List (List ℕ)) → map (strand_at v) ys ≡ ms

@@ -1,4 +1,4 @@
--- Each message block is free, or stands in one message, held or on one shelf.
+-- Each message block is free, or in one message, held or on one shelf.
 use Rattle.std.proofs.Common.{◌≡◌, ℕ, zero, suc, ◌+◌, ◌<◌, ◌==◌, true, List, [], ◌∷◌, ◌++◌, map, length, set, Option, Some, None, is_some, refl, sym, ap, ◌∙◌, subst, arith, if◌then◌else◌, get_or-set_other, length-set}
 use Rattle.std.specs.Prelude.{nat_lt, IfSome}
 use Rattle.std.specs.List.{All, concat, flat_map}
@@ -17,7 +17,7 @@ use Rattle.strm_mblk.proofs.lists.Numbers.{nonempty}
 use Rattle.strm_mblk.proofs.chaining.Seen.{held_off, held_on, length-held, shelf-get}
 use Rattle.strm_mblk.proofs.chaining.Readings.{begins, on_list}
 
--- strands alone, where no head stands on a shelf
+-- strands alone, with no head on a shelf
 abbrev pub alone : StrandLists → NodeLists
 alone v = record { free = v.free; held = v.chains; shelves = [] }
 
@@ -34,7 +34,7 @@ shelves_flat : (f : ℕ → List ℕ) (lists : List (List ℕ)) → blocks_on (m
 shelves_flat f [] = refl
 shelves_flat f (xs ∷ lists) = (λ i. flat_map-map (λ m. m) f xs i ++ shelves_flat f lists i) ∙ sym (flat_map-append f xs (concat lists))
 
--- a number stands in the strands as often as in those that go and those that stay
+-- a number is in all strands as often as in those that go and those that stay
 parts_sum : (n : ℕ) (hs : List ℕ) (held : List (Option (List ℕ))) → IsApart hs → ((h : ℕ) → has h hs ≡ true → h < length held)
     → times n (flat_map (λ h. blocks_of (held_in held h)) hs) + times n (blocks_held (strands_but hs held)) ≡ times n (blocks_held held)
 parts_sum n [] held apart within = omega (arith, (count_adds (λ (x : ℕ). x == n)).none)

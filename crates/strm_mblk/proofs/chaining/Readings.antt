@@ -1,7 +1,6 @@
 -- What a caller reads off the value that it sees, in strands and on shelves.
 use Rattle.std.proofs.Common.{◌≡◌, ℕ, ◌+◌, true, ◌&&◌, List, [], ◌∷◌, map, length, get_or, Option, Some, None, IsSome, is_some, refl, sym, ap, ◌∙◌, subst, inl, inr, ◌⊎◌, arith}
-use Rattle.std.specs.Prelude.{not, slice_get, IfSome}
-use Rattle.std.proofs.lemmas.Bool.{cases_lt, false≢true}
+use Rattle.std.specs.Prelude.{not, slice_get}
 use Rattle.std.proofs.Math.Bool.{and-true, and-false}
 use Rattle.std.proofs.lemmas.List.{get_or_past, get_or-map, length-map}
 use Rattle.std.proofs.lemmas.Option.{none-some, same_Some}
@@ -16,8 +15,9 @@ use Rattle.strm_mblk.specs.Messages.{shelf_in}
 use Rattle.strm_mblk.specs.NodeLists.{NodeLists, head_node, heads_on, nodes_at, shelved_nodes}
 use Rattle.strm_mblk.proofs.lists.Numbers.{at_first}
 use Rattle.strm_mblk.proofs.chaining.Seen.{held_off, held_on, length-held, length-shelves, off_shelf, shelf-get}
+use Rattle.std.proofs.lemmas.Grind.{common_steps}
 
--- a list in which something stands is there
+-- a list that has an element is there
 pub there_is : (o : Option (List ℕ)) (i x : ℕ) → slice_get (items_of o) i ≡ Some x → IsSome o
 there_is None i x at = absurd (none-some x at)
 there_is (Some ns) i x at = refl
@@ -30,13 +30,9 @@ first_node (y ∷ ys) x is = same_Some y x is
 module _ (v : StrandLists) (heads : Rows) (laid : IsChained v heads) where
   -- a strand that is there begins with its number
   pub begins : (h : ℕ) → IsSome (held_in v.chains h) → first (strand_at v h) ≡ Some h
-  begins h some = by_case (held_in v.chains h) some (laid.strands_parted.heads h)
-    where
-      by_case : (o : Option (List ℕ)) → IsSome o → IfSome o (λ xs. first xs ≡ Some h) → first (items_of o) ≡ Some h
-      by_case None some is = absurd (false≢true some)
-      by_case (Some xs) some is = is
+  begins h some = grind (arith, common_steps)
 
-  -- a head on a shelf stands on that list
+  -- a head on a shelf is on that list
   pub on_list : (x k : ℕ) → has x (list_at k heads) ≡ true → holder x heads ≡ Some k
   on_list x k there = some_of k (holder x heads) (sym (has-holder x k heads laid.heads_parting.apart) ∙ there)
 
@@ -53,7 +49,7 @@ module _ (v : StrandLists) (heads : Rows) (laid : IsChained v heads) where
     pub shelves_within : length w.shelves ≡ length heads.lists
     shelves_within = ap (λ (u : NodeLists). length u.shelves) (sym is) ∙ length-shelves v heads
 
-    -- a message that is held stands on no shelf
+    -- a message that is held is on no shelf
     pub off : (h : ℕ) → IsSome (held_in w.held h) → holder h heads ≡ None
     off h some = off_shelf v heads h (subst (λ (u : NodeLists). IsSome (held_in u.held h)) (sym is) some)
 
@@ -69,20 +65,13 @@ module _ (v : StrandLists) (heads : Rows) (laid : IsChained v heads) where
 
     -- whether a number is seen as held
     pub is_held_at : (h : ℕ) → is_some (held_in w.held h) ≡ (is_some (held_in v.chains h) && not (is_some (holder h heads)))
-    is_held_at h =
-        ap (λ (u : NodeLists). is_some (held_in u.held h)) (sym is)
-        ∙ elim (holder h heads) as (λ o. holder h heads ≡ o → is_some (held_in (nodes_of v heads).held h) ≡ (is_some (held_in v.chains h) && not (is_some o))) [
-          | None ↦ λ none. ap is_some (held_off v heads h none) ∙ sym (and-true (is_some (held_in v.chains h)))
-          | Some k ↦ λ some. ap is_some (held_on v heads h (ap is_some some)) ∙ sym (and-false (is_some (held_in v.chains h)))
-        ] refl
+    is_held_at h = grind (arith, common_steps, held_off, and-true, held_on, and-false)
 
-    -- ---- what stands behind
+    -- ---- the next block
 
     -- in a held message
     pub next_held : (h i x : ℕ) → slice_get (nodes_at w h) i ≡ Some x → (o : Option ℕ) → ((g j : ℕ) → slice_get (strand_at v g) j ≡ Some x → o ≡ slice_get (strand_at v g) (j + 1)) → o ≡ slice_get (nodes_at w h) (i + 1)
-    next_held h i x at o next =
-        let same = nodes_is h (there_is (held_in w.held h) i x at) in
-        next h i (ap (λ ns. slice_get ns i) (sym same) ∙ at) ∙ ap (λ ns. slice_get ns (i + 1)) (sym same)
+    next_held h i x at o next = grind (arith, common_steps, nodes_is, there_is)
 
     -- the messages on a shelf
     pub shelf_is : (k : ℕ) → shelf_in w.shelves k ≡ map (strand_at v) (list_at k heads)
@@ -90,12 +79,7 @@ module _ (v : StrandLists) (heads : Rows) (laid : IsChained v heads) where
 
     -- in a message on a shelf
     shelved_along : (k j : ℕ) → (shelved_nodes w k j ≡ strand_at v (get_or (list_at k heads) j 0)) ⊎ (shelved_nodes w k j ≡ [])
-    shelved_along k j =
-        let seen : shelved_nodes w k j ≡ get_or (map (strand_at v) (list_at k heads)) j [] = ap (λ (ms : List (List ℕ)). get_or ms j []) (shelf_is k) in
-        elim (cases_lt j (length (list_at k heads))) [
-          | inl inside ↦ inl (seen ∙ get_or-map (strand_at v) (list_at k heads) j 0 [] inside)
-          | inr past ↦ inr (seen ∙ get_or_past (map (strand_at v) (list_at k heads)) j [] (omega (arith, past, length-map (list_at k heads) (strand_at v))))
-        ]
+    shelved_along k j = grind (arith, common_steps, shelf_is, get_or-map, get_or_past, length-map)
 
     -- which is the strand of its head
     pub strand_shelved : (k j h : ℕ) → slice_get (shelved_nodes w k j) 0 ≡ Some h → strand_at v h ≡ shelved_nodes w k j
@@ -122,7 +106,7 @@ module _ (v : StrandLists) (heads : Rows) (laid : IsChained v heads) where
     pub shelved_at : (x k : ℕ) → has x (heads_on w k) ≡ true → holder x heads ≡ Some k
     shelved_at x k there = on_list x k (ap (has x) (sym (heads_at k)) ∙ there)
 
-    -- the head behind one
+    -- the head after one
     pub after_at : (x k : ℕ) → has x (heads_on w k) ≡ true → next_in heads x ≡ after x (heads_on w k)
     after_at x k there = ap (λ o. after x (option_map_or (λ l. list_at l heads) o [])) (shelved_at x k there) ∙ ap (after x) (sym (heads_at k))
 

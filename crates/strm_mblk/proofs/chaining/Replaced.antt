@@ -1,11 +1,11 @@
--- Strands that stand on no shelf are replaced.
-use Rattle.std.proofs.Common.{◌≡◌, ◌≢◌, ℕ, ◌+◌, ◌-◌, ◌<◌, false, List, [], ◌∷◌, ◌++◌, map, length, set, take, Option, Some, None, IsSome, is_some, reverse, refl, sym, ap, ◌∙◌, subst, arith, get_or-set_other, length-set}
+-- Strands that are on no shelf are replaced.
+use Rattle.std.proofs.Common.{◌≡◌, ◌≢◌, ℕ, ◌+◌, ◌-◌, ◌<◌, false, List, [], ◌∷◌, ◌++◌, map, set, take, Option, Some, None, IsSome, is_some, reverse, refl, sym, ap, ◌∙◌, subst, arith, get_or-set_other, length-set}
 use Rattle.std.specs.Prelude.{drop, slice_get}
 use Rattle.std.specs.List.{concat}
 use Rattle.std.proofs.lemmas.Bool.{false≢true}
 use Rattle.std.proofs.lemmas.List.{set-set}
 use Rattle.strm_links.specs.Rows.{Rows, first, has, holder, linked_nodes}
-use Rattle.strm_links.specs.Chains.{items_of, chain_in as held_in, joined, divided, set_apart, taken_out}
+use Rattle.strm_links.specs.Chains.{items_of, chain_in as held_in, joined, divided, taken_out}
 use Rattle.strm_links.specs.StrandLists.{IsParted, StrandLists, strand_at, with_behind_freed, with_first_begun}
 use Rattle.strm_links.proofs.lists.OneList.{absent_both}
 use Rattle.strm_data.specs.DataStore.{times}
@@ -15,6 +15,7 @@ use Rattle.strm_mblk.proofs.chaining.Standing.{free_unheld, not_begun, not_head}
 use Rattle.strm_mblk.proofs.lists.Numbers.{at_first, times_at}
 use Rattle.strm_mblk.proofs.chaining.Parted.{alone, alone_parted}
 use Rattle.strm_mblk.proofs.chaining.Seen.{but_set, held_off, map_members, unlinked}
+use Rattle.std.proofs.lemmas.Grind.{common_steps}
 
 -- a list that is there
 pub there : (o : Option (List ℕ)) → IsSome o → o ≡ Some (items_of o)
@@ -24,9 +25,7 @@ there (Some ns) some = refl
 -- messages on shelves are as they were
 shelves_alike : (h : ℕ) (f g : ℕ → List ℕ) (lists : List (List ℕ)) → has h (concat lists) ≡ false → ((k : ℕ) → k ≢ h → f k ≡ g k) → map (map f) lists ≡ map (map g) lists
 shelves_alike h f g [] off same = refl
-shelves_alike h f g (xs ∷ lists) off same =
-    let parts = absent_both h xs (concat lists) off in
-    λ i. map_members f g xs (λ k there. same k (λ is. false≢true (sym parts.0 ∙ ap (λ j. has j xs) (sym is) ∙ there))) i ∷ shelves_alike h f g lists parts.1 same i
+shelves_alike h f g (xs ∷ lists) off same = grind (arith, common_steps, (shelves_alike h f g lists), absent_both, map_members, there)
 
 -- one strand is another
 replaced : (v : StrandLists) (heads : Rows) (h : ℕ) (o : Option (List ℕ)) → holder h heads ≡ None → nodes_of (record v { chains = set v.chains h o }) heads ≡ record (nodes_of v heads) { held = set (nodes_of v heads).held h o }
@@ -39,19 +38,15 @@ replaced v heads h o off =
     }
 
 module _ (v : StrandLists) (heads : Rows) (laid : IsChained v heads) (w : NodeLists) (is : nodes_of v heads ≡ w) where
-  -- a number with which no strand begins stands on no shelf
+  -- a number with which no strand begins is on no shelf
   unheld_off : (h : ℕ) → held_in v.chains h ≡ None → holder h heads ≡ None
-  unheld_off h none =
-      elim (holder h heads) as (λ o. holder h heads ≡ o → holder h heads ≡ None) [
-        | None ↦ λ off. off
-        | Some l ↦ λ on. absurd (false≢true (sym (ap is_some none) ∙ laid.begun h (ap is_some on)))
-      ] refl
+  unheld_off h none = grind (arith, common_steps)
 
   -- such are the free ones
   pub free_off : (n : ℕ) → 0 < times n v.free → holder n heads ≡ None
   free_off n free = unheld_off n (free_unheld (alone v) (alone_parted v laid.strands_parted) n free)
 
-  -- and those behind the first of a strand
+  -- nor are those after the first of a strand
   pub behind_off : (h i n : ℕ) (ns : List ℕ) → held_in v.chains h ≡ Some ns → slice_get ns i ≡ Some n → n ≢ h → holder n heads ≡ None
   behind_off h i n ns held at other = unheld_off n (not_begun (alone v) (alone_parted v laid.strands_parted) h i n ns held at other)
 
@@ -62,8 +57,7 @@ module _ (v : StrandLists) (heads : Rows) (laid : IsChained v heads) (w : NodeLi
     kept g on = get_or-set_other v.chains h g o None (λ same. false≢true (sym (ap (λ k. is_some (holder k heads)) same ∙ ap is_some off) ∙ on))
 
     pub one_is : new ≡ record { free = free; chains = set v.chains h o } → nodes_of new heads ≡ record w { free = free; held = set w.held h o }
-    one_is now =
-        ap (λ u. nodes_of u heads) now ∙ ap (λ (u : NodeLists). record u { free = free }) (replaced v heads h o off) ∙ ap (λ (u : NodeLists). record u { free = free; held = set u.held h o }) is
+    one_is now = grind (arith, common_steps, replaced)
 
     -- ---- and so is another, that begins with g
 
@@ -75,16 +69,7 @@ module _ (v : StrandLists) (heads : Rows) (laid : IsChained v heads) (w : NodeLi
 
       -- the layout holds
       pub two_laid : new ≡ record { free = free; chains = set (set v.chains h o) g p } → IsParted new → IsChained new heads
-      two_laid now parted = record {
-        head_nodes = laid.head_nodes ∙ sym (ap (λ (u : StrandLists). length u.chains) now ∙ length-set (set v.chains h o) g p ∙ length-set v.chains h o);
-        begun = λ k on.
-            subst IsSome
-            (sym (ap (λ (u : StrandLists). held_in u.chains k) now
-            ∙ get_or-set_other (set v.chains h o) g k p None (λ same. false≢true (sym (ap (λ j. is_some (holder j heads)) same ∙ ap is_some off_g) ∙ on)) ∙ kept k on))
-            (laid.begun k on);
-        strands_parted = parted;
-        heads_parting = laid.heads_parting;
-      }
+      two_laid now parted = grind (arith, common_steps, length-set, get_or-set_other, kept)
 
     pub one_laid : new ≡ record { free = free; chains = set v.chains h o } → IsParted new → IsChained new heads
     one_laid now parted = two_laid h o off (now ∙ ap (λ chains. record { free = free; chains = chains }) (sym (set-set v.chains h o o))) parted
@@ -140,7 +125,7 @@ module _ (v : StrandLists) (heads : Rows) (laid : IsChained v heads) (w : NodeLi
       one_laid new (reverse (strand_at v h) ++ v.free) h None off now parted,
     )
 
-    -- so many behind the first are
+    -- the `count` blocks after the first are free
     pub frees_behind : (h count : ℕ) → holder h heads ≡ None → new ≡ with_behind_freed h count (strand_at v h) v → IsNow (after_behind_freed h count (nodes_at w h) w)
     frees_behind h count off now =
         let out = reverse (take count (drop 1 (strand_at v h))) in
@@ -151,7 +136,7 @@ module _ (v : StrandLists) (heads : Rows) (laid : IsChained v heads) (w : NodeLi
           one_laid new (out ++ v.free) h (Some rest) off now parted,
         )
 
-    -- what stands behind the first of a message
+    -- a block after the first of a message
     set_off : (h : ℕ) (ns : List ℕ) → held_in v.chains h ≡ Some ns → holder h heads ≡ None → (k n : ℕ) → slice_get ns k ≡ Some n → 0 < k → (ms ls : List ℕ)
         → new ≡ record v { chains = set (set v.chains h (Some ms)) n (Some ls) } → IsNow (record w { held = set (set w.held h (Some ms)) n (Some ls) })
     set_off h ns held off k n at behind ms ls now =
@@ -174,11 +159,8 @@ module _ (v : StrandLists) (heads : Rows) (laid : IsChained v heads) (w : NodeLi
         by_case (x ∷ []) held same = unchanged same
         by_case (x ∷ y ∷ rest) held same = set_off h (x ∷ y ∷ rest) held off 1 y refl (omega arith) (x ∷ []) (y ∷ rest) same
 
-    -- a block behind the first is one
+    -- a block after the first becomes a message
     pub takes_out : (h k n : ℕ) → held_in v.chains h ≡ Some (strand_at v h) → holder h heads ≡ None → slice_get (strand_at v h) k ≡ Some n → 0 < k
         → new ≡ record v { chains = taken_out (λ n. n) h k (strand_at v h) v.chains }
         → IsNow (record w { held = set (set w.held h (Some (take k (nodes_at w h) ++ drop (k + 1) (nodes_at w h)))) n (Some (n ∷ [])) })
-    takes_out h k n held off at behind now =
-        let rest = take k (strand_at v h) ++ drop (k + 1) (strand_at v h) in
-        subst (λ ns. IsNow (record w { held = set (set w.held h (Some (take k ns ++ drop (k + 1) ns))) n (Some (n ∷ [])) })) (sym (nodes_are h off))
-        (set_off h (strand_at v h) held off k n at behind rest (n ∷ []) (now ∙ ap (λ o. record v { chains = set_apart (λ n. n) h rest o v.chains }) at))
+    takes_out h k n held off at behind now = grind (arith, common_steps, nodes_are, set_off)

@@ -1,7 +1,7 @@
 -- What a contract sees of strands and of heads on shelves: message block by message block, and shelf by shelf.
-use Rattle.std.proofs.Common.{◌≡◌, ℕ, zero, suc, true, false, List, [], ◌∷◌, map, length, get_or, set, Option, Some, None, IsSome, is_some, refl, sym, ap, ◌∙◌, inl, inr, get_or-set_same, get_or-set_other, length-set}
+use Rattle.std.proofs.Common.{◌≡◌, ℕ, suc, true, false, List, [], ◌∷◌, map, length, get_or, set, Option, Some, None, IsSome, is_some, refl, sym, ap, ◌∙◌, inl, inr, get_or-set_same, get_or-set_other, length-set, arith}
 use Rattle.std.specs.List.{concat}
-use Rattle.std.proofs.lemmas.Bool.{cases_eq, cases_lt, false≢true, false_from_ne_true, or_cases}
+use Rattle.std.proofs.lemmas.Bool.{false≢true, false_from_ne_true, or_cases}
 use Rattle.std.proofs.lemmas.List.{ext_get_or, get_or_past, length-map, set_comm, set_past}
 use Rattle.strm_links.specs.Rows.{Rows, has, list_at, holder, linked_nodes}
 use Rattle.strm_links.specs.Chains.{chain_in as held_in}
@@ -10,6 +10,7 @@ use Rattle.strm_links.proofs.lists.OneList.{absent_parts, has-append, has_cases,
 use Rattle.strm_links.proofs.lists.AllLists.{holder_has, holder_none, has_linked}
 use Rattle.strm_mblk.specs.ChainLayout.{nodes_of, strands_but}
 use Rattle.strm_mblk.specs.Messages.{shelf_in}
+use Rattle.std.proofs.lemmas.Grind.{common_steps}
 
 -- ---- strands without those that begin with some numbers
 
@@ -18,42 +19,28 @@ length-but [] held = refl
 length-but (h ∷ hs) held = length-but hs (set held h None) ∙ length-set held h None
 
 none_here : (held : List (Option (List ℕ))) (h : ℕ) → held_in (set held h None) h ≡ None
-none_here held h =
-    elim (cases_lt h (length held)) [
-      | inl within ↦ get_or-set_same held h None None within
-      | inr past ↦ ap (λ xs. held_in xs h) (set_past held h None past) ∙ get_or_past held h None past
-    ]
+none_here held h = grind (arith, common_steps, get_or-set_same, set_past, get_or_past)
 
 -- any other strand stays
 but_absent : (k : ℕ) (hs : List ℕ) (held : List (Option (List ℕ))) → has k hs ≡ false → held_in (strands_but hs held) k ≡ held_in held k
 but_absent k [] held off = refl
-but_absent k (h ∷ hs) held off =
-    let parts = absent_parts h k hs off in but_absent k hs (set held h None) parts.1 ∙ get_or-set_other held h k None None (λ same. parts.0 (sym same))
+but_absent k (h ∷ hs) held off = grind (arith, common_steps, (but_absent k hs (set held h None)), absent_parts, get_or-set_other)
 
 but_none : (k : ℕ) (hs : List ℕ) (held : List (Option (List ℕ))) → held_in held k ≡ None → held_in (strands_but hs held) k ≡ None
 but_none k [] held none = none
-but_none k (h ∷ hs) held none =
-    but_none k hs (set held h None) (elim (cases_eq k h) [
-      | inl same ↦ ap (held_in (set held h None)) same ∙ none_here held h
-      | inr other ↦ get_or-set_other held h k None None other ∙ none
-    ])
+but_none k (h ∷ hs) held none = grind (arith, common_steps, (but_none k hs (set held h None)), none_here, get_or-set_other)
 
 -- and these have gone
 but_there : (k : ℕ) (hs : List ℕ) (held : List (Option (List ℕ))) → has k hs ≡ true → held_in (strands_but hs held) k ≡ None
 but_there k [] held on = absurd (false≢true on)
-but_there k (h ∷ hs) held on =
-    elim (has_cases h k hs on) [
-      | inl same ↦ but_none k hs (set held h None) (ap (held_in (set held h None)) (sym same) ∙ none_here held h)
-      | inr later ↦ but_there k hs (set held h None) later
-    ]
+but_there k (h ∷ hs) held on = grind (arith, common_steps, (but_there k hs (set held h None)), has_cases, but_none, none_here)
 
 -- a strand that is none of these may be replaced before or after
 pub but_set : (h : ℕ) (o : Option (List ℕ)) (hs : List ℕ) (held : List (Option (List ℕ))) → has h hs ≡ false → strands_but hs (set held h o) ≡ set (strands_but hs held) h o
 but_set h o [] held off = refl
-but_set h o (g ∷ hs) held off =
-    let parts = absent_parts g h hs off in ap (strands_but hs) (set_comm held h g o None (λ same. parts.0 (sym same))) ∙ but_set h o hs (set held g None) parts.1
+but_set h o (g ∷ hs) held off = grind (arith, common_steps, (but_set h o hs (set held g None)), absent_parts, set_comm)
 
--- ---- numbers that stand on a shelf
+-- ---- numbers that are on a shelf
 
 listed : (k : ℕ) (lists : List (List ℕ)) → has k (concat lists) ≡ true → (l : ℕ) × (has k (get_or lists l []) ≡ true)
 listed k [] on = absurd (false≢true on)
@@ -63,7 +50,7 @@ listed k (xs ∷ lists) on =
       | inr later ↦ let rest = listed k lists later in (suc rest.0, rest.1)
     ]
 
--- one that stands on none is not linked
+-- a number that is on no shelf is not linked
 pub unlinked : (k : ℕ) (heads : Rows) → holder k heads ≡ None → has k (linked_nodes heads) ≡ false
 unlinked k heads none = false_from_ne_true _ (λ on. let at = listed k heads.lists on in false≢true (sym (holder_none k at.0 heads none) ∙ at.1))
 
@@ -78,7 +65,7 @@ map_members f g (x ∷ xs) same = λ i. same x (has_head x x xs refl) i ∷ map_
 -- ---- what is seen
 
 module _ (v : StrandLists) (heads : Rows) where
-  -- a strand whose head stands on no shelf is held
+  -- a strand whose head is on no shelf is held
   pub held_off : (h : ℕ) → holder h heads ≡ None → held_in (nodes_of v heads).held h ≡ held_in v.chains h
   held_off h off = but_absent h (linked_nodes heads) v.chains (unlinked h heads off)
 
@@ -86,13 +73,9 @@ module _ (v : StrandLists) (heads : Rows) where
   pub held_on : (h : ℕ) → IsSome (holder h heads) → held_in (nodes_of v heads).held h ≡ None
   held_on h on = but_there h (linked_nodes heads) v.chains (linked h heads on)
 
-  -- what is held stands on no shelf
+  -- what is held is on no shelf
   pub off_shelf : (h : ℕ) → IsSome (held_in (nodes_of v heads).held h) → holder h heads ≡ None
-  off_shelf h some =
-      elim (holder h heads) as (λ o. holder h heads ≡ o → holder h heads ≡ None) [
-        | None ↦ λ none. none
-        | Some s ↦ λ on. absurd (false≢true (sym (ap is_some (held_on h (ap is_some on))) ∙ some))
-      ] refl
+  off_shelf h some = grind (arith, common_steps, held_on)
 
   -- as many places as numbers, and as many shelves as lists of heads
   pub length-held : length (nodes_of v heads).held ≡ length v.chains
@@ -103,12 +86,7 @@ module _ (v : StrandLists) (heads : Rows) where
 
   -- the messages on a shelf
   pub shelf-get : (s : ℕ) → shelf_in (nodes_of v heads).shelves s ≡ map (strand_at v) (list_at s heads)
-  shelf-get s = by_place heads.lists s
-    where
-      by_place : (lists : List (List ℕ)) (k : ℕ) → get_or (map (map (strand_at v)) lists) k [] ≡ map (strand_at v) (get_or lists k [])
-      by_place [] k = refl
-      by_place (xs ∷ lists) zero = refl
-      by_place (xs ∷ lists) (suc k) = by_place lists k
+  shelf-get s = grind (arith, common_steps)
 
   -- what is held is this, where it is so number by number
   pub held_as : (w : List (Option (List ℕ))) → length w ≡ length v.chains → ((h : ℕ) → holder h heads ≡ None → held_in w h ≡ held_in v.chains h) → ((h : ℕ) → IsSome (holder h heads) → held_in w h ≡ None)

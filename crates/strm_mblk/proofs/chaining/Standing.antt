@@ -1,8 +1,7 @@
--- Where a number stands that is free, or one of the blocks of a held message.
-use Rattle.std.proofs.Common.{◌≡◌, ℕ, suc, ◌+◌, ◌<◌, ◌≤◌, ◌==◌, ltb, List, [], ◌∷◌, length, set, Some, None, refl, sym, ap, ◌∙◌, subst, inl, inr, arith, get_or-set_other, length-set, ◌≢◌, ◌++◌}
+-- A number that is free, or that of a block of a held message.
+use Rattle.std.proofs.Common.{if◌then◌else◌, ◌≡◌, ℕ, suc, ◌+◌, ◌<◌, ◌≤◌, ◌==◌, List, [], ◌∷◌, length, set, Some, None, refl, sym, ap, ◌∙◌, subst, arith, get_or-set_other, ◌≢◌, ◌++◌}
 use Rattle.std.specs.Prelude.{slice_get, nat_lt}
 use Rattle.std.specs.Option.{IfSome}
-use Rattle.std.proofs.lemmas.Bool.{cases_lt}
 use Rattle.std.proofs.lemmas.List.{get_or_past}
 use Rattle.std.proofs.lemmas.Option.{same_Some, none-some}
 use Rattle.strm_links.specs.Rows.{first}
@@ -12,6 +11,7 @@ use Rattle.strm_mblk.specs.Messages.{blocks_of, blocks_held, blocks_on, held_in}
 use Rattle.strm_mblk.specs.NodeLists.{IsNodesParted, NodeLists}
 use Rattle.strm_mblk.proofs.lists.Additive.{count_adds, flat_map-set_adds}
 use Rattle.strm_mblk.proofs.lists.Numbers.{at_first, in_range, one_most, times_at}
+use Rattle.std.proofs.lemmas.Grind.{common_steps}
 
 -- a held message begins with its head
 pub begins_with : (v : NodeLists) → IsNodesParted v → (h : ℕ) (ns : List ℕ) → held_in v.held h ≡ Some ns → first ns ≡ Some h
@@ -19,39 +19,30 @@ begins_with v parted h ns held = subst (λ o. IfSome o (λ m. first m ≡ Some h
 
 -- a held message lies in range
 pub held_room : (v : NodeLists) (h : ℕ) (ns : List ℕ) → held_in v.held h ≡ Some ns → h < length v.held
-held_room v h ns held =
-    elim (cases_lt h (length v.held)) [ inl inside ↦ inside | inr past ↦ absurd (none-some ns (sym (get_or_past v.held h None past) ∙ held)) ]
+held_room v h ns held = grind (arith, common_steps, none-some, get_or_past)
+
+-- how often a number is in a held message, and in the others
+pub held_parts : (v : NodeLists) (h n : ℕ) (ns : List ℕ) → held_in v.held h ≡ Some ns → times n (blocks_held (set v.held h None)) + times n ns ≡ times n (blocks_held v.held)
+held_parts v h n ns held =
+    omega (arith, flat_map-set_adds (count_adds (λ x. x == n)) blocks_of v.held h None None (held_room v h ns held), ap (λ o. times n (blocks_of o)) held, (count_adds (λ x. x == n)).none)
+
+-- and in all
+pub all_parts : (v : NodeLists) → IsNodesParted v → (n : ℕ) → times n v.free + (times n (blocks_on v.shelves) + times n (blocks_held v.held)) ≡ (if nat_lt n (length v.held) then 1 else 0)
+all_parts v parted n = omega (arith, times-append n v.free (blocks_on v.shelves ++ blocks_held v.held), times-append n (blocks_on v.shelves) (blocks_held v.held), parted.once n)
+
+pub one_of_all : (v : NodeLists) → IsNodesParted v → (n : ℕ) → times n v.free + (times n (blocks_on v.shelves) + times n (blocks_held v.held)) ≤ 1
+one_of_all v parted n = omega (arith, all_parts v parted n, one_most (nat_lt n (length v.held)))
 
 module _ (v : NodeLists) (parted : IsNodesParted v) (h k n : ℕ) (ns : List ℕ) (held : held_in v.held h ≡ Some ns) (at : slice_get ns k ≡ Some n) where
-  -- how often it stands in held messages, without the one at h
+  -- how often it is in held messages, without the one at h
   pub beside : times n (blocks_held (set v.held h None)) + times n ns ≤ 1
-  beside =
-      omega (
-        arith,
-        flat_map-set_adds (count_adds (λ x. x == n)) blocks_of v.held h None None (held_room v h ns held),
-        ap (λ o. times n (blocks_of o)) held,
-        (count_adds (λ x. x == n)).none,
-        times-append n (blocks_on v.shelves) (blocks_held v.held),
-        times-append n v.free ((blocks_on v.shelves ++ blocks_held v.held)),
-        parted.once n,
-        one_most (nat_lt n (length v.held)),
-      )
+  beside = omega (arith, held_parts v h n ns held, one_of_all v parted n)
 
   -- it is one of those that there are
   pub block_room : n < length v.held
-  block_room =
-      in_range n (length v.held) (omega (
-        arith,
-        flat_map-set_adds (count_adds (λ x. x == n)) blocks_of v.held h None None (held_room v h ns held),
-        ap (λ o. times n (blocks_of o)) held,
-        (count_adds (λ x. x == n)).none,
-        times-append n (blocks_on v.shelves) (blocks_held v.held),
-        times-append n v.free ((blocks_on v.shelves ++ blocks_held v.held)),
-        parted.once n,
-        times_at n ns k at,
-      ))
+  block_room = in_range n (length v.held) (omega (arith, held_parts v h n ns held, all_parts v parted n, times_at n ns k at))
 
-  -- a block behind the first is not the first
+  -- a block after the first is not the first
   pub not_head : (j : ℕ) → k ≡ suc j → n ≢ h
   not_head j behind same =
       two_places ns (begins_with v parted h ns held) (subst (λ i. slice_get ns i ≡ Some n) behind at) (omega (arith, beside))
@@ -68,9 +59,7 @@ module _ (v : NodeLists) (parted : IsNodesParted v) (h k n : ℕ) (ns : List ℕ
         | Some m ↦ λ is. absurd (omega (
           arith,
           beside,
-          flat_map-set_adds (count_adds (λ x. x == n)) blocks_of (set v.held h None) n None None (omega (arith, block_room, length-set v.held h None)),
-          ap (λ o. times n (blocks_of o)) (get_or-set_other v.held h n None None other ∙ is),
-          (count_adds (λ x. x == n)).none,
+          held_parts (record v { held = set v.held h None }) n n m (get_or-set_other v.held h n None None other ∙ is),
           times_at n ns k at,
           times_at n m 0 (at_first m n (begins_with v parted n m is)),
         ))
@@ -79,24 +68,12 @@ module _ (v : NodeLists) (parted : IsNodesParted v) (h k n : ℕ) (ns : List ℕ
 module _ (v : NodeLists) (parted : IsNodesParted v) (n : ℕ) (free : 0 < times n v.free) where
   -- a free number is in range
   pub free_room : n < length v.held
-  free_room = in_range n (length v.held) (omega (arith, free, parted.once n, times-append n v.free (blocks_on v.shelves ++ blocks_held v.held)))
+  free_room = in_range n (length v.held) (omega (arith, free, all_parts v parted n))
 
   -- and no held message begins with it
   pub free_unheld : held_in v.held n ≡ None
   free_unheld =
       elim (held_in v.held n) as (λ o. held_in v.held n ≡ o → o ≡ None) [
         | None ↦ λ _. refl
-        | Some ns ↦ λ is.
-            absurd (omega (
-              arith,
-              free,
-              parted.once n,
-              one_most (ltb n (length v.held)),
-              times-append n v.free (blocks_on v.shelves ++ blocks_held v.held),
-              times-append n (blocks_on v.shelves) (blocks_held v.held),
-              flat_map-set_adds (count_adds (λ x. x == n)) blocks_of v.held n None None free_room,
-              (count_adds (λ (x : ℕ). x == n)).none,
-              ap (λ o. times n (blocks_of o)) is,
-              times_at n ns 0 (at_first ns n (begins_with v parted n ns is)),
-            ))
+        | Some ns ↦ λ is. absurd (omega (arith, free, one_of_all v parted n, held_parts v n n ns is, times_at n ns 0 (at_first ns n (begins_with v parted n ns is))))
       ] refl

@@ -1,7 +1,8 @@
 -- Names that blocks taken out of all messages had are dropped, one after the other.
-use Rattle.std.proofs.Common.{◌≡◌, ℕ, suc, ◌+◌, ◌-◌, ◌<◌, ◌≤◌, ◌==◌, Bool, true, false, eqb, List, [], ◌∷◌, ◌++◌, length, Option, Some, refl, sym, ap, ◌∙◌, inl, inr, arith, if◌then◌else◌}
+use Rattle.std.proofs.Common.{◌≡◌, ℕ, suc, ◌+◌, ◌<◌, ◌≤◌, ◌==◌, Bool, true, false, eqb, List, [], ◌∷◌, ◌++◌, length, Option, Some, refl, sym, ap, ◌∙◌, inl, inr, arith, if◌then◌else◌}
+use Rattle.std.proofs.lemmas.Option.{slice_get-map}
 use Rattle.std.specs.Prelude.{count_by, drop, reverse, slice_get, option_map}
-use Rattle.std.proofs.lemmas.Bool.{cases_eq, cases_lt, eq-eqb, ne_eqb}
+use Rattle.std.proofs.lemmas.Bool.{cases_lt, eq-eqb, ne_eqb}
 use Rattle.std.proofs.lemmas.Bool.Decides.{eqb_tells}
 use Rattle.std.proofs.lemmas.List.{append_assoc, get_or_past, reverse-append}
 use Rattle.strm_data.specs.CountedStore.{CountedStore, count_of, without_name}
@@ -15,12 +16,12 @@ use Rattle.strm_mblk.specs.Freeing.{with_block_freed, with_blocks_freed}
 use Rattle.strm_mblk.specs.Messages.{blocks_held, blocks_on}
 use Rattle.strm_mblk.proofs.lists.Additive.{count_by-map}
 use Rattle.strm_mblk.proofs.lists.ListParts.{drop_from}
-use Rattle.strm_mblk.proofs.layout.Rooms.{HasRooms, count_of-set}
-use Rattle.strm_mblk.proofs.layout.Shown.{slice_get-mapped}
+use Rattle.strm_mblk.proofs.layout.Rooms.{HasRooms, count_of-set, rooms-both}
+use Rattle.std.proofs.lemmas.Grind.{common_steps}
 
 -- the data block that a block of a list names
 pub named-get : (fields : List Fields) (ns : List ℕ) (i n : ℕ) → slice_get ns i ≡ Some n → slice_get (named_by fields ns) i ≡ Some (fields_at fields n).data_number
-named-get fields ns i n is = slice_get-mapped (λ k. (fields_at fields k).data_number) ns i ∙ ap (option_map (λ k. (fields_at fields k).data_number)) is
+named-get fields ns i n is = slice_get-map (λ k. (fields_at fields k).data_number) ns i ∙ ap (option_map (λ k. (fields_at fields k).data_number)) is
 
 -- a data block that has a name has a count
 pub counted_there : (s : CountedStore) (d : ℕ) → 0 < count_of s d → d < length s.counts
@@ -28,12 +29,7 @@ counted_there s d used = elim (cases_lt d (length s.counts)) [ inl there ↦ the
 
 -- the counts once d has a name less
 pub named_less : (s : CountedStore) (d : ℕ) → 0 < count_of s d → (k : ℕ) → count_of (without_name d s) k + one_if (eqb d k) ≡ count_of s k
-named_less s d used k =
-    ap (λ c. c + one_if (eqb d k)) (count_of-set s (without_name d s).store d (count_of s d - 1) k (counted_there s d used))
-    ∙ elim (eqb_tells d k) [
-      | inl same ↦ rw same.0 (omega (arith, used, ap (count_of s) same.1))
-      | inr other ↦ rw other.0 (omega arith)
-    ]
+named_less s d used k = grind (arith, common_steps, one_if, count_of-set, counted_there, eqb_tells)
 
 rooms-if : (s : DataStore) (d : ℕ) (last : Bool) → HasRooms s (if last then with_data_freed d s else s)
 rooms-if s d true = record { many = refl; room = λ k. refl }
@@ -46,10 +42,7 @@ rooms-less s d = rooms-if s.store d (count_of s d == 1)
 -- and when several do
 pub rooms-dropped : (ds : List ℕ) (s : CountedStore) → HasRooms s.store (with_names_dropped ds s).store
 rooms-dropped [] s = record { many = refl; room = λ k. refl }
-rooms-dropped (d ∷ ds) s =
-    let less = rooms-less s d in
-    let rest = rooms-dropped ds (without_name d s) in
-    record { many = rest.many ∙ less.many; room = λ k. rest.room k ∙ less.room k }
+rooms-dropped (d ∷ ds) s = rooms-both (rooms-less s d) (rooms-dropped ds (without_name d s))
 
 -- ---- one step of the loop
 
@@ -79,18 +72,13 @@ module _ (ds : List ℕ) (i : ℕ) (old s : CountedStore) (dropping : IsDropping
 
 -- how many blocks name a data block
 pub naming-named : (fields : List Fields) (d : ℕ) (ns : List ℕ) → count_by (is_naming d) (message_of fields ns) ≡ times d (named_by fields ns)
-naming-named fields d ns =
-    count_by-map (is_naming d) (block_at fields) ns ∙ sym (count_by-map (λ x. x == d) (λ n. (fields_at fields n).data_number) ns)
+naming-named fields d ns = grind (arith, common_steps, count_by-map)
 
 -- none is left after one of two where one was all
 pub last_one : (x y : ℕ) → y ≡ suc x → (x == 0) ≡ (y == 1)
-last_one x y is =
-    elim (cases_eq x 0) [
-      | inl none ↦ eq-eqb x 0 none ∙ sym (eq-eqb y 1 (omega (arith, is, none)))
-      | inr some ↦ ne_eqb x 0 some ∙ sym (ne_eqb y 1 (λ one. some (omega (arith, is, one))))
-    ]
+last_one x y is = grind (arith, common_steps, eq-eqb, ne_eqb)
 
--- an element joins the front of a list after those behind it
+-- an element joins the front of a list after the elements that follow it
 pub reverse_onto : {X : Type 0} (n : X) (ns free : List X) → reverse ns ++ (n ∷ free) ≡ reverse (n ∷ ns) ++ free
 reverse_onto n ns free = sym (ap (λ xs. xs ++ free) (reverse-append (n ∷ []) ns) ∙ append_assoc (reverse ns) (n ∷ []) free)
 
@@ -107,14 +95,10 @@ module _ (id : ℕ) (fields : List Fields) (held : List (Option Message)) (shelv
   AreCounted s ns = (d : ℕ) → count_of s d ≡ names d + times d (named_by fields ns)
 
   first_used : (s : CountedStore) (n : ℕ) (ns : List ℕ) → AreCounted s (n ∷ ns) → 0 < count_of s (fields_at fields n).data_number
-  first_used s n ns counts =
-      let d = (fields_at fields n).data_number in
-      omega (arith, counts d, times-cons d d (named_by fields ns), ap one_if (eq-eqb d d refl))
+  first_used s n ns counts = grind (arith, common_steps, times-cons, one_if, eq-eqb)
 
   counted_less : (s : CountedStore) (n : ℕ) (ns : List ℕ) → AreCounted s (n ∷ ns) → AreCounted (without_name (fields_at fields n).data_number s) ns
-  counted_less s n ns counts k =
-      let d = (fields_at fields n).data_number in
-      omega (arith, counts k, times-cons k d (named_by fields ns), named_less s d (first_used s n ns counts) k)
+  counted_less s n ns counts k = grind (arith, common_steps, times-cons, named_less, first_used)
 
   -- counts are names again
   pub counts_left : (ns : List ℕ) (s : CountedStore) → AreCounted s ns → (d : ℕ) → count_of (with_names_dropped (named_by fields ns) s) d ≡ names d
@@ -123,12 +107,7 @@ module _ (id : ℕ) (fields : List Fields) (held : List (Option Message)) (shelv
 
   one_freed : (n : ℕ) (ns : List ℕ) (s : CountedStore) (free : List ℕ) → AreCounted s (n ∷ ns)
       → with_block_freed (block_at fields n) (message_of fields ns) (over s free) ≡ over (without_name (fields_at fields n).data_number s) (n ∷ free)
-  one_freed n ns s free counts =
-      let d = (fields_at fields n).data_number in
-      let is : count_of s d ≡ suc (names d + count_by (is_naming d) (message_of fields ns)) =
-      omega (arith, counts d, times-cons d d (named_by fields ns), ap one_if (eq-eqb d d refl), naming-named fields d ns) in
-      ap (λ (last : Bool). let a : Arena = record { id = id; store = if last then with_data_freed d s.store else s.store; free = n ∷ free; held = held; shelves = shelves } in a)
-      (last_one (names d + count_by (is_naming d) (message_of fields ns)) (count_of s d) is)
+  one_freed n ns s free counts = grind (arith, common_steps, times-cons, one_if, eq-eqb, naming-named, last_one)
 
   -- blocks that are freed first to last leave what is left once their names are dropped
   pub all_freed : (ns : List ℕ) (s : CountedStore) (free : List ℕ) → AreCounted s ns

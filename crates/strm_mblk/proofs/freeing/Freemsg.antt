@@ -1,5 +1,5 @@
 -- Blocks of a held message are free, and their names are dropped: all of them, as `freemsg` does, or some.
-use Rattle.std.proofs.Common.{◌≡◌, ℕ, ◌+◌, ◌≤◌, List, ◌++◌, map, length, set, Option, Some, None, refl, sym, ap, ◌∙◌, subst, arith, length-set}
+use Rattle.std.proofs.Common.{◌≡◌, ℕ, ◌+◌, ◌≤◌, List, ◌++◌, length, set, Option, Some, None, sym, ap, ◌∙◌, subst, arith, length-set}
 use Rattle.std.specs.Prelude.{count_by, option_map, reverse}
 use Rattle.std.proofs.lemmas.List.{map-set}
 use Rattle.strm_data.specs.CountedStore.{CountedStore, IsKept, count_of}
@@ -16,18 +16,14 @@ use Rattle.strm_mblk.proofs.arena.Counts.{held_moves}
 use Rattle.strm_mblk.proofs.arena.Moves.{held_within}
 use Rattle.strm_mblk.proofs.lists.Additive.{count_adds}
 use Rattle.strm_mblk.proofs.layout.Rooms.{HasRooms, placed-over}
-use Rattle.strm_mblk.proofs.layout.Shown.{held_at-seen, message_at-seen}
+use Rattle.strm_mblk.proofs.layout.Shown.{blocks_of-mapped, held_at-seen, message_at-seen}
+use Rattle.std.proofs.lemmas.Grind.{common_steps}
 
 -- a is what was there, and the lists are what is there once blocks of a message were freed, which b says
 pub record IsFreed (a b : Arena) (t : CountedStore) (fields : List Fields) (w : NodeLists) (id : ℕ) : Type 0 where
   pub filled : IsFilled t fields w (arena_of id t.store fields w)
   pub shelved : shelved_blocks (arena_of id t.store fields w) ≡ shelved_blocks a
   pub after : arena_of id t.store fields w ≡ b
-
--- the blocks of a message, if there is one
-blocks-seen : (fields : List Fields) (o : Option (List ℕ)) → blocks_of (option_map (message_of fields) o) ≡ message_of fields (blocks_of o)
-blocks-seen fields None = refl
-blocks-seen fields (Some ns) = refl
 
 module _ (id : ℕ) (s : CountedStore) (fields : List Fields) (v : NodeLists) (filled : IsFilled s fields v (arena_of id s.store fields v)) (h : ℕ) (held : held_in v.held h ≡ Some (nodes_at v h)) where
   abbrev old : Arena
@@ -52,23 +48,15 @@ module _ (id : ℕ) (s : CountedStore) (fields : List Fields) (v : NodeLists) (f
           filled.counts d,
           held_moves (count_adds (is_naming d)) old h (option_map (message_of fields) o) (held_within old h (message_of fields (nodes_at v h)) message),
           ap (λ m. count_by (is_naming d) (blocks_of m)) message,
-          ap (count_by (is_naming d)) (blocks-seen fields o),
+          ap (count_by (is_naming d)) (blocks_of-mapped fields o),
           naming-named fields d (nodes_at v h),
           naming-named fields d (blocks_of o),
           parts d,
         )
 
     module _ (t : CountedStore) (w : NodeLists) (t_is : t ≡ with_names_dropped (named_by fields out) s) (kept : IsKept t) (w_is : w ≡ record v { free = reverse out ++ v.free; held = set v.held h o }) (parted : IsNodesParted w) where
-      held_now : map (option_map (message_of fields)) w.held ≡ left.held
-      held_now = ap (λ (l : NodeLists). map (option_map (message_of fields)) l.held) w_is ∙ map-set (option_map (message_of fields)) v.held h o
-
-      shelves_now : map (map (message_of fields)) w.shelves ≡ old.shelves
-      shelves_now = ap (λ (l : NodeLists). map (map (message_of fields)) l.shelves) w_is
-
       shows : arena_of id t.store fields w ≡ record left { store = t.store; free = reverse out ++ v.free }
-      shows =
-          let free_now : w.free ≡ reverse out ++ v.free = ap (λ (l : NodeLists). l.free) w_is in
-          λ i. record { id = id; store = t.store; free = free_now i; held = held_now i; shelves = shelves_now i }
+      shows = grind (arith, common_steps, map-set)
 
       rooms : HasRooms s.store t.store
       rooms = subst (HasRooms s.store) (sym (ap (λ (c : CountedStore). c.store) t_is)) (rooms-dropped (named_by fields out) s)

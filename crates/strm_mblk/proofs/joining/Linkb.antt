@@ -1,5 +1,5 @@
--- `linkb`: a held message goes behind another.
-use Rattle.std.proofs.Common.{◌≡◌, ◌≢◌, ℕ, Bool, List, ◌++◌, map, length, Some, None, sym, ap, ◌∙◌, if◌then◌else◌, length-set}
+-- `linkb`: a held message goes after another.
+use Rattle.std.proofs.Common.{◌≡◌, ◌≢◌, ℕ, Bool, List, map, length, None, sym, ap, ◌∙◌, if◌then◌else◌, length-set, arith}
 use Rattle.std.specs.Prelude.{option_map, slice_set}
 use Rattle.std.proofs.lemmas.Bool.{ne_eqb}
 use Rattle.std.proofs.lemmas.List.{map-append, map-set}
@@ -7,13 +7,14 @@ use Rattle.strm_data.specs.CountedStore.{CountedStore}
 use Rattle.strm_mblk.specs.declared.blocks.Fields.{Fields}
 use Rattle.strm_mblk.specs.Arena.{Arena, shelved_blocks}
 use Rattle.strm_mblk.specs.BlockCalls.{linkb}
-use Rattle.strm_mblk.specs.BlocksLayout.{IsFilled, arena_of, block_at, message_of}
+use Rattle.strm_mblk.specs.BlocksLayout.{IsFilled, arena_of, message_of}
 use Rattle.strm_mblk.specs.Messages.{joined}
-use Rattle.strm_mblk.specs.NodeLists.{IsNodesParted, NodeLists, nodes_at}
+use Rattle.strm_mblk.specs.NodeLists.{IsNodesParted, NodeLists}
 use Rattle.strm_mblk.proofs.joining.Regrouped.{moved_filled}
 use Rattle.strm_mblk.proofs.layout.Shown.{message_at-seen}
+use Rattle.std.proofs.lemmas.Grind.{common_steps}
 
--- a is what was there, and the other lists what is there once the message at g stands behind the one at h
+-- a is what was there; the other lists are what is there once the message at g is after the one at h
 pub record IsJoined (a : Arena) (s : CountedStore) (fields : List Fields) (w : NodeLists) (id h g : ℕ) : Type 0 where
   pub filled : IsFilled s fields w (arena_of id s.store fields w)
   pub shelved : shelved_blocks (arena_of id s.store fields w) ≡ shelved_blocks a
@@ -25,16 +26,10 @@ module _ (id : ℕ) (s : CountedStore) (fields : List Fields) (v w : NodeLists) 
   old = arena_of id s.store fields v
 
   joined-seen : map (option_map (message_of fields)) (joined h g v.held) ≡ joined h g old.held
-  joined-seen =
-      map-set (option_map (message_of fields)) (slice_set v.held g None) h (Some (nodes_at v h ++ nodes_at v g))
-      ∙ ap (λ held. slice_set held h (Some (message_of fields (nodes_at v h ++ nodes_at v g)))) (map-set (option_map (message_of fields)) v.held g None)
-      ∙ ap (λ m. slice_set (slice_set old.held g None) h (Some m)) (map-append (block_at fields) (nodes_at v h) (nodes_at v g))
-      ∙ (λ i. slice_set (slice_set old.held g None) h (Some (sym (message_at-seen id s.store fields v h) i ++ sym (message_at-seen id s.store fields v g) i)))
+  joined-seen = grind (arith, common_steps, map-set, map-append, message_at-seen)
 
   shows : arena_of id s.store fields w ≡ record old { held = joined h g old.held }
-  shows =
-      ap (arena_of id s.store fields) w_is
-      ∙ (λ i. record { id = id; store = s.store; free = v.free; held = joined-seen i; shelves = old.shelves })
+  shows = grind (arith, common_steps, joined-seen)
 
   many : length w.held ≡ length v.held
   many = ap (λ (l : NodeLists). length l.held) w_is ∙ length-set (slice_set v.held g None) h _ ∙ length-set v.held g None

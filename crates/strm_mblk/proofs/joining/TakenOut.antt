@@ -1,8 +1,8 @@
--- `rmvb`: a block that isn't the first of a held message is a message of its own.
+-- `rmvb`: a block that isn't the first of a held message becomes another message.
 use Rattle.std.proofs.Common.{◌≡◌, ◌≢◌, ℕ, zero, suc, ◌+◌, ◌<◌, true, List, [], ◌∷◌, ◌++◌, map, length, set, Some, None, Ok, refl, sym, ap, ◌∙◌, subst, get_or-set_same, get_or-set_other, length-set, arith, ◌-◌, Err}
 use Rattle.std.specs.Prelude.{drop, option_map, slice_get, take}
 use Rattle.std.proofs.lemmas.List.{drop-map, length-map, map-append, map-set, set-set, take-map}
-use Rattle.std.proofs.lemmas.Option.{none-some}
+use Rattle.std.proofs.lemmas.Option.{none-some, slice_get-map}
 use Rattle.strm_links.specs.Rows.{first}
 use Rattle.strm_data.specs.declared.refusal.Refusal.{Refusal}
 use Rattle.strm_data.specs.CountedStore.{CountedStore}
@@ -19,15 +19,16 @@ use Rattle.strm_mblk.proofs.lists.Numbers.{first_rest}
 use Rattle.strm_mblk.proofs.layout.Places.{token_held}
 use Rattle.strm_mblk.proofs.chaining.Standing.{begins_with, block_room, held_room, not_begun, not_head}
 use Rattle.strm_mblk.proofs.joining.Regrouped.{moved_filled}
-use Rattle.strm_mblk.proofs.layout.Shown.{held_at-seen, message_at-seen, slice_get-mapped}
+use Rattle.strm_mblk.proofs.layout.Shown.{held_at-seen, message_at-seen}
+use Rattle.std.proofs.lemmas.Grind.{common_steps}
 
--- what stands before a place that isn't the first begins as the list does
+-- the part before a place that isn't the first begins as the list does
 first_kept : (k n : ℕ) (xs ys : List ℕ) → 0 < k → first xs ≡ Some n → first (take k xs ++ ys) ≡ Some n
 first_kept k n [] ys some is = absurd (none-some n is)
 first_kept zero n (x ∷ xs) ys some is = absurd (omega (arith, some))
 first_kept (suc k) n (x ∷ xs) ys some is = is
 
--- the other lists what was in a once block n, which stands at place k of the message at h, is a message
+-- a is what was there; the other lists are what is there once block n, at place k of the message at h, is a message
 pub record IsTakenOut (a : Arena) (s : CountedStore) (fields : List Fields) (w : NodeLists) (id h k n : ℕ) : Type 0 where
   pub filled : IsFilled s fields w (arena_of id s.store fields w)
   pub shelved : shelved_blocks (arena_of id s.store fields w) ≡ shelved_blocks a
@@ -61,14 +62,10 @@ module _ (id : ℕ) (s : CountedStore) (fields : List Fields) (v w : NodeLists) 
 
   held_seen : map (option_map (message_of fields)) (set (set v.held h (Some (h ∷ behind))) n (Some (n ∷ [])))
       ≡ set (set old.held h (Some (message_of fields (h ∷ behind)))) n (Some (block_at fields n ∷ []))
-  held_seen =
-      map-set (option_map (message_of fields)) (set v.held h (Some (h ∷ behind))) n (Some (n ∷ []))
-      ∙ ap (λ xs. set xs n (Some (block_at fields n ∷ []))) (map-set (option_map (message_of fields)) v.held h (Some (h ∷ behind)))
+  held_seen = grind (arith, common_steps, map-set)
 
   shows : arena_of id s.store fields w ≡ record old { held = set (set old.held h (Some (message_of fields (h ∷ behind)))) n (Some (block_at fields n ∷ [])) }
-  shows =
-      ap (arena_of id s.store fields) lists_are
-      ∙ (λ i. record { id = id; store = s.store; free = v.free; held = held_seen i; shelves = old.shelves })
+  shows = grind (arith, common_steps, lists_are, held_seen)
 
   many : length w.held ≡ length v.held
   many = ap (λ (l : NodeLists). length l.held) lists_are ∙ length-set (set v.held h _) n _ ∙ length-set v.held h _
@@ -77,34 +74,20 @@ module _ (id : ℕ) (s : CountedStore) (fields : List Fields) (v w : NodeLists) 
   head_inside = omega (arith, held_room v h (nodes_at v h) held, length-map v.held (option_map (message_of fields)))
 
   block_inside : n < length (set old.held h (Some (message_of fields (h ∷ behind))))
-  block_inside =
-      omega (
-        arith,
-        block_room v filled.parted h k n (nodes_at v h) held at,
-        length-map v.held (option_map (message_of fields)),
-        length-set old.held h (Some (message_of fields (h ∷ behind))),
-      )
+  block_inside = grind (arith, common_steps, block_room, length-map, length-set)
 
   block_held : held_at (arena_of id s.store fields w) n ≡ Some (block_at fields n ∷ [])
   block_held = ap (λ a. held_at a n) shows ∙ get_or-set_same (set old.held h (Some (message_of fields (h ∷ behind)))) n _ None block_inside
 
   rest_held : held_at (arena_of id s.store fields w) h ≡ Some (message_of fields (h ∷ behind))
-  rest_held =
-      ap (λ a. held_at a h) shows
-      ∙ get_or-set_other (set old.held h (Some (message_of fields (h ∷ behind)))) n h _ None (λ same. other (sym same))
-      ∙ get_or-set_same old.held h (Some (message_of fields (h ∷ behind))) None head_inside
+  rest_held = grind (arith, common_steps, shows, get_or-set_other, other, get_or-set_same, head_inside)
 
   -- the message without block k
   others_seen : (m : Message) → m ≡ message_of fields (nodes_at v h) → take k m ++ drop (k + 1) m ≡ message_of fields (h ∷ behind)
-  others_seen m is =
-      ap (λ (x : Message). take k x ++ drop (k + 1) x) is
-      ∙ (λ i. take-map (block_at fields) k (nodes_at v h) i ++ drop-map (block_at fields) (k + 1) (nodes_at v h) i)
-      ∙ sym (map-append (block_at fields) (take k (nodes_at v h)) (drop (k + 1) (nodes_at v h)))
-      ∙ ap (message_of fields) others_are
+  others_seen m is = grind (arith, common_steps, take-map, drop-map, map-append, others_are)
 
   block_seen : slice_get (message_at old h) k ≡ Some (block_at fields n)
-  block_seen =
-      ap (λ m. slice_get m k) (message_at-seen id s.store fields v h) ∙ slice_get-mapped (block_at fields) (nodes_at v h) k ∙ ap (option_map (block_at fields)) at
+  block_seen = grind (arith, common_steps, message_at-seen, slice_get-map)
 
   pub takes_out : IsTakenOut old s fields w id h k n
   takes_out = record {

@@ -1,4 +1,4 @@
--- `unlinkb`: the blocks behind the first one of a held message are a message of their own.
+-- `unlinkb`: the blocks after the first one of a held message become another message.
 use Rattle.std.proofs.Common.{◌≡◌, ◌≢◌, ℕ, ◌<◌, List, [], ◌∷◌, map, length, set, Some, None, refl, sym, ap, ◌∙◌, get_or-set_same, get_or-set_other, length-set, arith}
 use Rattle.std.specs.Prelude.{drop, option_map, slice_get}
 use Rattle.std.proofs.lemmas.List.{map-set, length-map}
@@ -16,6 +16,7 @@ use Rattle.strm_mblk.specs.NodeLists.{IsNodesParted, NodeLists, nodes_at}
 use Rattle.strm_mblk.proofs.chaining.Standing.{begins_with, block_room, held_room, not_begun, not_head}
 use Rattle.strm_mblk.proofs.joining.Regrouped.{moved_filled}
 use Rattle.strm_mblk.proofs.layout.Shown.{held_at-seen, message_at-seen}
+use Rattle.std.proofs.lemmas.Grind.{common_steps}
 
 -- a list with two numbers or more
 two_rest : (ns : List ℕ) (h g : ℕ) → first ns ≡ Some h → slice_get ns 1 ≡ Some g → ns ≡ h ∷ g ∷ drop 2 ns
@@ -23,7 +24,7 @@ two_rest [] h g begins at = absurd (none-some h begins)
 two_rest (x ∷ []) h g begins at = absurd (none-some g at)
 two_rest (x ∷ y ∷ ns) h g begins at = λ i. same_Some x h begins i ∷ same_Some y g at i ∷ ns
 
--- a is what was there, and the other lists what is there once the blocks behind the first of the message at h are one at g
+-- a is what was there; the other lists are what is there once the blocks after the first of the message at h are one at g
 pub record IsDivided (a : Arena) (s : CountedStore) (fields : List Fields) (w : NodeLists) (id h g : ℕ) : Type 0 where
   pub filled : IsFilled s fields w (arena_of id s.store fields w)
   pub shelved : shelved_blocks (arena_of id s.store fields w) ≡ shelved_blocks a
@@ -53,14 +54,10 @@ module _ (id : ℕ) (s : CountedStore) (fields : List Fields) (v w : NodeLists) 
 
   held_seen : map (option_map (message_of fields)) (set (set v.held h (Some (h ∷ []))) g (Some (g ∷ others)))
       ≡ set (set old.held h (Some (block_at fields h ∷ []))) g (Some (block_at fields g ∷ message_of fields others))
-  held_seen =
-      map-set (option_map (message_of fields)) (set v.held h (Some (h ∷ []))) g (Some (g ∷ others))
-      ∙ ap (λ xs. set xs g (Some (block_at fields g ∷ message_of fields others))) (map-set (option_map (message_of fields)) v.held h (Some (h ∷ [])))
+  held_seen = grind (arith, common_steps, map-set)
 
   shows : arena_of id s.store fields w ≡ record old { held = set (set old.held h (Some (block_at fields h ∷ []))) g (Some (block_at fields g ∷ message_of fields others)) }
-  shows =
-      ap (arena_of id s.store fields) lists_are
-      ∙ (λ i. record { id = id; store = s.store; free = v.free; held = held_seen i; shelves = old.shelves })
+  shows = grind (arith, common_steps, lists_are, held_seen)
 
   many : length w.held ≡ length v.held
   many = ap (λ (l : NodeLists). length l.held) lists_are ∙ length-set (set v.held h _) g _ ∙ length-set v.held h _
@@ -69,8 +66,7 @@ module _ (id : ℕ) (s : CountedStore) (fields : List Fields) (v w : NodeLists) 
   head_inside = omega (arith, held_room v h (nodes_at v h) held, length-map v.held (option_map (message_of fields)))
 
   rest_inside : g < length (set old.held h (Some (block_at fields h ∷ [])))
-  rest_inside =
-      omega (arith, block_room v filled.parted h 1 g (nodes_at v h) held at, length-map v.held (option_map (message_of fields)), length-set old.held h (Some (block_at fields h ∷ [])))
+  rest_inside = grind (arith, common_steps, block_room, length-map, length-set)
 
   rest_held : held_at (arena_of id s.store fields w) g ≡ Some (block_at fields g ∷ message_of fields others)
   rest_held = ap (λ a. held_at a g) shows ∙ get_or-set_same (set old.held h (Some (block_at fields h ∷ []))) g _ None rest_inside
@@ -92,7 +88,6 @@ module _ (id : ℕ) (s : CountedStore) (fields : List Fields) (v w : NodeLists) 
     given = ap (λ m. head_in (drop 1 m)) (message_at-seen id s.store fields v h ∙ ap (message_of fields) nodes_are);
   }
 
--- the token of a held message of so many blocks
+-- the token of a held message of n blocks
 pub token_is : (a b : Arena) (t u : TokenValue) (n : ℕ) → t.pool ≡ a.id → b.id ≡ a.id → u ≡ record t { blocks = n } → length (message_at b t.head) ≡ n → u ≡ token_of b t.head
-token_is a b t u n pool id is many =
-    is ∙ (λ i. record { pool = (pool ∙ sym id) i; head = t.head; blocks = sym many i })
+token_is a b t u n pool id is many = grind (arith, common_steps, many)

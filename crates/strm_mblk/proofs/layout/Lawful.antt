@@ -1,10 +1,9 @@
 -- What holds of all message blocks, whatever calls made them so.
-use Rattle.std.proofs.Common.{◌≡◌, ℕ, ◌+◌, ◌^◌, ◌<◌, ◌≤◌, ◌&&◌, ◌==◌, List, [], ◌∷◌, ◌++◌, length, map, get_or, Option, Some, None, sym, ap, ◌∙◌, subst, inl, inr, arith, if◌then◌else◌, ◌*◌}
+use Rattle.std.proofs.Common.{◌≡◌, ℕ, ◌+◌, ◌^◌, ◌<◌, ◌≤◌, ◌&&◌, ◌==◌, List, [], ◌∷◌, ◌++◌, length, map, get_or, Option, Some, None, sym, ap, ◌∙◌, subst, arith, if◌then◌else◌, ◌*◌}
 use Rattle.std.specs.Prelude.{nat_lt, option_map}
 use Rattle.std.specs.List.{All, range_with_len}
 use Rattle.std.proofs.lemmas.List.FromFn.{get_or-map-range_with_len, length-map-range_with_len}
 use Rattle.std.specs.Option.{IfSome}
-use Rattle.std.proofs.lemmas.Bool.{cases_lt}
 use Rattle.std.proofs.lemmas.List.{ext_get_or, get_or_past, length-map}
 use Rattle.std.proofs.lemmas.List.Elements.{All-map}
 use Rattle.std.proofs.lemmas.Option.{same_Some}
@@ -15,7 +14,7 @@ use Rattle.strm_mblk.specs.declared.blocks.Blocks.TheInside.{Inside}
 use Rattle.strm_mblk.specs.declared.blocks.Fields.{Fields}
 use Rattle.strm_mblk.specs.Arena.{Arena, IsParted, IsWithin, blocks_in, counted_in, held_blocks, names_of, shelved_blocks}
 use Rattle.strm_mblk.specs.Block.{Block, head_of, size_of}
-use Rattle.strm_mblk.specs.BlocksLayout.{IsFilled, IsWhole, arena_in, arena_of, block_at, block_of, message_of, no_fields, fields_at}
+use Rattle.strm_mblk.specs.BlocksLayout.{IsFilled, IsSound, arena_in, arena_of, block_at, block_of, message_of, no_fields, fields_at}
 use Rattle.strm_mblk.specs.Messages.{held_in, shelf_in}
 use Rattle.strm_mblk.specs.NodeLists.{NodeLists}
 use Rattle.strm_mblk.proofs.arena.Moves.{IsCounted, makes_arena}
@@ -24,19 +23,17 @@ use Rattle.strm_mblk.specs.Limits.{most_message_blocks}
 use Rattle.std.proofs.lemmas.List.Sums.{sum_by-append}
 use Rattle.strm_data.proofs.store.Kept.{capacity_range}
 use Rattle.strm_data.specs.Limits.{most_data_block_bytes}
+use Rattle.std.proofs.lemmas.Grind.{common_steps}
 
 -- a message that begins with h
 head-seen : (fields : List Fields) (o : Option (List ℕ)) (h : ℕ) → IfSome o (λ m. first m ≡ Some h)
     → IfSome (option_map (message_of fields) o) (λ m. (0 < length m) × (head_of m ≡ h))
 head-seen fields None h is = tt
-head-seen fields (Some []) h is = absurd (none_some is)
-  where
-    none_some : {x : ℕ} → None ≡ Some x → ⊥
-    none_some is = cc
+head-seen fields (Some []) h is = grind (arith, common_steps)
 head-seen fields (Some (n ∷ ns)) h is = (omega arith, same_Some n h is)
 
 module _ (id : ℕ) (s : CountedStore) (fields : List Fields) (v : NodeLists) (filled : IsFilled s fields v (arena_of id s.store fields v)) where
-  -- each number stands once, a held message at its head, and counts are names
+  -- each number is in one place, each held message is at its head, and counts are names
   pub counted : IsCounted (arena_of id s.store fields v) s
   counted = record {
     numbers = λ n.
@@ -48,11 +45,7 @@ module _ (id : ℕ) (s : CountedStore) (fields : List Fields) (v : NodeLists) (f
 
   -- a data block that something names is there
   named_there : (d : ℕ) → 0 < count_of s d → d < length s.store.blocks
-  named_there d some =
-      elim (cases_lt d (length s.store.blocks)) [
-        | inl there ↦ there
-        | inr past ↦ absurd (omega (arith, some, get_or_past s.counts d 0 (omega (arith, filled.kept.counted, past))))
-      ]
+  named_there d some = grind (arith, common_steps, get_or_past, counted)
 
   pub law_parted : IsParted (arena_of id s.store fields v)
   law_parted = record {
@@ -88,16 +81,12 @@ module _ (id : ℕ) (s : CountedStore) (fields : List Fields) (v : NodeLists) (f
   pub law_kept : IsKept (counted_in (arena_of id s.store fields v))
   law_kept = subst IsKept (sym counted_is) filled.kept
 
-  -- what holds of each message block, and where there is none, holds of each block of a message
+  -- what holds of each message block, and of an absent one, holds of each block of a message
   law_all : (P : Block → Type 0) → ((n : ℕ) → P (block_of n no_fields)) → ((n : ℕ) → n < length fields → P (block_at fields n)) → All P (blocks_in (arena_of id s.store fields v))
   law_all P none each = subst (All P) (sym (blocks_in-seen id s.store fields v)) (All-map P (block_at fields) (nodes_in v) (λ k d within. at (get_or (nodes_in v) k d)))
     where
       at : (n : ℕ) → P (block_at fields n)
-      at n =
-          elim (cases_lt n (length fields)) [
-            | inl there ↦ each n there
-            | inr past ↦ subst (λ f. P (block_of n f)) (sym (get_or_past fields n no_fields past)) (none n)
-          ]
+      at n = grind (arith, common_steps, get_or_past)
 
   pub law_within : All (IsWithin s.store) (blocks_in (arena_of id s.store fields v))
   law_within = law_all (IsWithin s.store) (λ n. omega arith) (λ n there. (filled.placed n there).within)
@@ -110,19 +99,17 @@ module _ (id : ℕ) (s : CountedStore) (fields : List Fields) (v : NodeLists) (f
 
 -- a message block has no more bytes than the largest data block has room for
 pub len_most : (id : ℕ) (s : CountedStore) (fields : List Fields) (v : NodeLists) → IsFilled s fields v (arena_of id s.store fields v) → (n : ℕ) → (fields_at fields n).len ≤ most_data_block_bytes
-len_most id s fields v filled n =
-    elim (cases_lt n (length fields)) [
-      | inl within ↦
-          let placed = filled.placed n within in
-          omega (arith, placed.within, (capacity_range s (fields_at fields n).data_number filled.kept placed.there).1)
-      | inr past ↦ omega (arith, ap (λ (f : Fields). f.len) (get_or_past fields n no_fields past))
-    ]
+len_most id s fields v filled n = grind (arith, common_steps, capacity_range, get_or_past)
 
--- so a message has no more than so many for each of its blocks
+-- so a message has no more than that for each of its blocks
 pub size_most : (fields : List Fields) (ns : List ℕ) → ((n : ℕ) → (fields_at fields n).len ≤ most_data_block_bytes) → size_of (message_of fields ns) ≤ length ns * most_data_block_bytes
 size_most fields [] few = omega arith
 size_most fields (n ∷ ns) few = omega (arith, sum_by-append (λ (c : Block). c.len) (block_at fields n ∷ []) (message_of fields ns), few n, size_most fields ns few)
 
 -- message blocks as they lie in memory are parted
-pub parted_inside : (i : Inside) → IsWhole i → (a : Arena) → arena_in i ≡ a → IsParted a
+pub parted_inside : (i : Inside) → IsSound i → (a : Arena) → arena_in i ≡ a → IsParted a
 parted_inside i whole a is = subst IsParted is (law_parted i.id i.data i.blocks.items i.chains whole.filled)
+
+-- they still are, where no block comes on a shelf or leaves one
+pub still_whole : (i j : Inside) (a : Arena) → IsSound i → arena_in i ≡ a → j.queued ≡ i.queued → IsFilled j.data j.blocks.items j.chains (arena_in j) → shelved_blocks (arena_in j) ≡ shelved_blocks a → IsSound j
+still_whole i j a whole is queued filled shelved = record { filled = filled; queued = queued ∙ whole.queued ∙ ap (λ x. length (shelved_blocks x)) is ∙ ap length (sym shelved) }

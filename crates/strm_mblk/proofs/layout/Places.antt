@@ -1,10 +1,9 @@
 -- The blocks of a held message by their place, as the code finds them.
-use Rattle.std.proofs.Common.{◌≡◌, ℕ, ◌<◌, true, List, length, Some, None, sym, ap, ◌∙◌, inl, inr, arith, subst}
+use Rattle.std.proofs.Common.{◌≡◌, ℕ, ◌<◌, true, List, length, Some, None, sym, ap, ◌∙◌, arith}
 use Rattle.std.specs.Prelude.{option_map, slice_get, take}
 use Rattle.std.specs.Option.{IsSome}
-use Rattle.std.proofs.lemmas.Bool.{cases_lt}
 use Rattle.std.proofs.lemmas.List.{get_or_past, length-map}
-use Rattle.std.proofs.lemmas.Option.{none-some}
+use Rattle.std.proofs.lemmas.Option.{none-some, slice_get-map}
 use Rattle.strm_data.specs.CountedStore.{CountedStore, count_of}
 use Rattle.strm_mblk.specs.declared.blocks.Fields.{Fields}
 use Rattle.strm_mblk.specs.declared.token.TokenValue.{TokenValue}
@@ -13,47 +12,33 @@ use Rattle.strm_mblk.specs.BlocksLayout.{IsFilled, IsPlaced, arena_of, block_at,
 use Rattle.strm_mblk.specs.Messages.{blocks_of, held_in}
 use Rattle.strm_mblk.specs.NodeLists.{IsReached, NodeLists, nodes_at}
 use Rattle.strm_mblk.proofs.layout.Rewriting.{held_nodes, node_room}
-use Rattle.strm_mblk.proofs.layout.Shown.{message_at-seen, slice_get-mapped}
+use Rattle.strm_mblk.proofs.layout.Shown.{message_at-seen}
 use Rattle.strm_mblk.proofs.arena.Tokens.{had_message, held_is}
 use Rattle.strm_mblk.proofs.chaining.Standing.{begins_with}
 use Rattle.strm_mblk.proofs.lists.Numbers.{at_first}
 use Rattle.std.proofs.Math.Seq.{take-length}
+use Rattle.std.proofs.lemmas.Grind.{common_steps}
 
 -- the numbers of the message that a token names
 pub token_nodes : (id : ℕ) (s : CountedStore) (fields : List Fields) (v : NodeLists) (t : TokenValue) → has (arena_of id s.store fields v) t ≡ true
     → (held_in v.held t.head ≡ Some (nodes_at v t.head)) × (t.blocks ≡ length (nodes_at v t.head))
-token_nodes id s fields v t is =
-    let message = had_message (arena_of id s.store fields v) t is in
-    let nodes = held_nodes id s.store fields v t.head message.0 message.1.held in
-    let same : nodes.0 ≡ nodes_at v t.head = sym (ap blocks_of nodes.1.held) in (
-      nodes.1.held ∙ ap Some same,
-      sym message.1.blocks ∙ ap length nodes.1.message ∙ length-map nodes.0 _ ∙ ap length same,
-    )
+token_nodes id s fields v t is = grind (arith, common_steps, had_message, held_nodes, length-map)
 
 -- the same where the token is known under another name
 pub token_held : (id : ℕ) (s : CountedStore) (fields : List Fields) (v : NodeLists) (a : Arena) → arena_of id s.store fields v ≡ a → (t u : TokenValue) → u ≡ t → has a t ≡ true
     → held_in v.held u.head ≡ Some (nodes_at v u.head)
-token_held id s fields v a is t u same had =
-    (token_nodes id s fields v u (subst (λ x. has x u ≡ true) (sym is) (ap (has a) same ∙ had))).0
+token_held id s fields v a is t u same had = grind (arith, common_steps, token_nodes)
 
--- and its names are those of as many blocks as it tells
+-- and its names are those of the number of blocks that the token tells
 pub token_named : (id : ℕ) (s : CountedStore) (fields : List Fields) (v : NodeLists) (a : Arena) → arena_of id s.store fields v ≡ a → (t u : TokenValue) → u ≡ t → has a t ≡ true
     → take u.blocks (named_by fields (nodes_at v u.head)) ≡ named_by fields (nodes_at v u.head)
-token_named id s fields v a is t u same had =
-    let ns = nodes_at v u.head in
-    ap (λ k. take k (named_by fields ns))
-    ((token_nodes id s fields v u (subst (λ x. has x u ≡ true) (sym is) (ap (has a) same ∙ had))).1 ∙ sym (length-map ns (λ k. (fields_at fields k).data_number)))
-    ∙ take-length (named_by fields ns)
+token_named id s fields v a is t u same had = grind (arith, common_steps, token_nodes, length-map, take-length)
 
--- where a message stands there is a place for it
+-- a held message has a place in range
 pub nodes_room : (v : NodeLists) (h n : ℕ) → slice_get (nodes_at v h) 0 ≡ Some n → h < length v.held
-nodes_room v h n is =
-    elim (cases_lt h (length v.held)) [
-      | inl within ↦ within
-      | inr past ↦ absurd (none-some n (sym (ap (λ o. slice_get (blocks_of o) 0) (get_or_past v.held h None past)) ∙ is))
-    ]
+nodes_room v h n is = grind (arith, common_steps, none-some, get_or_past)
 
--- block n stands at place k of the message that a token names
+-- block n is at place k of the message that a token names
 pub record IsAt (s : CountedStore) (fields : List Fields) (v : NodeLists) (a : Arena) (h k n : ℕ) (ns : List ℕ) : Type 0 where
   pub held : held_in v.held h ≡ Some ns
   pub at : slice_get ns k ≡ Some n
@@ -64,10 +49,9 @@ pub record IsAt (s : CountedStore) (fields : List Fields) (v : NodeLists) (a : A
   pub named : count_of s (fields_at fields n).data_number ≡ names_of a (fields_at fields n).data_number
 
 module _ (id : ℕ) (s : CountedStore) (fields : List Fields) (v : NodeLists) (filled : IsFilled s fields v (arena_of id s.store fields v)) (a : Arena) (is : arena_of id s.store fields v ≡ a) (h k : ℕ) where
-  -- the block at a place, if the message has so many
+  -- the block at place k, if the message has more than k
   block-get : slice_get (message_at a h) k ≡ option_map (block_at fields) (slice_get (nodes_at v h) k)
-  block-get =
-      ap (λ x. slice_get (message_at x h) k) (sym is) ∙ ap (λ m. slice_get m k) (message_at-seen id s.store fields v h) ∙ slice_get-mapped (block_at fields) (nodes_at v h) k
+  block-get = grind (arith, common_steps, message_at-seen, slice_get-map)
 
   -- there is none
   pub block_none : slice_get (nodes_at v h) k ≡ None → slice_get (message_at a h) k ≡ None
@@ -92,9 +76,7 @@ module _ (id : ℕ) (s : CountedStore) (fields : List Fields) (v : NodeLists) (f
 
   -- a walk that has come to a block of it
   pub block_reached : (t : TokenValue) → t.head ≡ h → has a t ≡ true → (n : ℕ) → IsReached v h k n → k < t.blocks → IsAt s fields v a h k n (nodes_at v h)
-  block_reached t head had n reached few =
-      let long = (token_nodes id s fields v t (ap (λ x. has x t) is ∙ had)).1 in
-      block_some t head had n (reached.here (omega (arith, few, long, ap (λ g. length (nodes_at v g)) head)))
+  block_reached t head had n reached few = grind (arith, common_steps, token_nodes, block_some)
 
 -- the message at h is held
 pub record IsHeldHead (fields : List Fields) (v : NodeLists) (h : ℕ) : Type 0 where
@@ -104,8 +86,4 @@ pub record IsHeldHead (fields : List Fields) (v : NodeLists) (h : ℕ) : Type 0 
 
 pub seen_head : (id : ℕ) (s : CountedStore) (fields : List Fields) (v : NodeLists) → IsFilled s fields v (arena_of id s.store fields v) → (h : ℕ) (a : Arena) → arena_of id s.store fields v ≡ a → IsSome (held_at a h)
     → IsHeldHead fields v h
-seen_head id s fields v filled h a is some =
-    let nodes = held_nodes id s.store fields v h (message_at a h) (ap (λ x. held_at x h) is ∙ held_is (held_at a h) some) in
-    let held = nodes.1.held ∙ ap Some (sym (ap blocks_of nodes.1.held)) in
-    let first = at_first (nodes_at v h) h (begins_with v filled.parted h (nodes_at v h) held) in
-    record { held = held; first = first; there = node_room id s fields v filled h 0 h (nodes_at v h) held first }
+seen_head id s fields v filled h a is some = grind (arith, common_steps, held_nodes, held_is, at_first, begins_with, node_room)

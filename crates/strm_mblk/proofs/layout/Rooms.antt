@@ -1,15 +1,15 @@
 -- Data blocks keep their capacity, whatever is done to them.
-use Rattle.std.proofs.Common.{◌≡◌, ℕ, ◌<◌, cond, eqb, List, length, get_or, set, refl, sym, ap, ◌∙◌, subst, inl, inr, arith, get_or-set_same, get_or-set_other, length-set}
+use Rattle.std.proofs.Common.{◌≡◌, ℕ, ◌<◌, cond, eqb, List, length, set, refl, ◌∙◌, arith, get_or-set_same, get_or-set_other, length-set}
 use Rattle.std.proofs.lemmas.Bool.Decides.{eqb_tells}
-use Rattle.std.proofs.lemmas.Bool.{cases_eq, cases_lt}
 use Rattle.std.proofs.lemmas.List.{set_past}
 use Rattle.strm_data.specs.declared.msg_type.MsgType.{MsgType}
 use Rattle.strm_data.specs.declared.msg_type.MsgType.TheVariants.{MData}
 use Rattle.strm_data.specs.CountedStore.{CountedStore, IsKept, count_of}
-use Rattle.strm_data.specs.DataStore.{DataStore, DataBlock, no_data_block, data_block_at, capacity_of, with_data_taken, with_kind}
+use Rattle.strm_data.specs.DataStore.{DataStore, DataBlock, data_block_at, capacity_of, with_data_taken, with_kind}
 use Rattle.strm_mblk.specs.declared.blocks.Fields.{Fields}
-use Rattle.strm_mblk.specs.BlocksLayout.{IsFilled, IsPlaced, arena_of, fields_at, no_fields}
+use Rattle.strm_mblk.specs.BlocksLayout.{IsFilled, IsPlaced, arena_of, fields_at}
 use Rattle.strm_mblk.specs.NodeLists.{NodeLists}
+use Rattle.std.proofs.lemmas.Grind.{common_steps}
 
 -- a store has as many data blocks as another, of the same capacities
 pub record HasRooms (s t : DataStore) : Type 0 where
@@ -18,22 +18,10 @@ pub record HasRooms (s t : DataStore) : Type 0 where
 
 -- a data block is replaced by one of its capacity
 pub rooms-set : (s : DataStore) (d : ℕ) (b : DataBlock) → length b.bytes ≡ capacity_of s d → HasRooms s (record s { blocks = set s.blocks d b })
-rooms-set s d b same = record {
-  many = length-set s.blocks d b;
-  room = λ k. elim (cases_lt d (length s.blocks)) [
-    | inl inside ↦
-        elim (cases_eq k d) [
-          | inl is ↦ rw is (ap (λ (x : DataBlock). length x.bytes) (get_or-set_same s.blocks d b no_data_block inside) ∙ same)
-          | inr other ↦ ap (λ (x : DataBlock). length x.bytes) (get_or-set_other s.blocks d k b no_data_block other)
-        ]
-    | inr past ↦ ap (λ (bs : List DataBlock). length (get_or bs k no_data_block).bytes) (set_past s.blocks d b past)
-  ];
-}
+rooms-set s d b same = grind (arith, common_steps, length-set, get_or-set_same, get_or-set_other, set_past)
 
 pub rooms-taken : (s : DataStore) (d : ℕ) → HasRooms s (with_data_taken d s)
-rooms-taken s d =
-    let kept = rooms-set s d (record (data_block_at s d) { kind = MData }) refl in
-    record { many = kept.many; room = kept.room }
+rooms-taken s d = let kept = rooms-set s d (record (data_block_at s d) { kind = MData }) refl in record { many = kept.many; room = kept.room }
 
 pub rooms-kind : (s : DataStore) (d : ℕ) (kind : MsgType) → HasRooms s (with_kind d kind s)
 rooms-kind s d kind = rooms-set s d (record (data_block_at s d) { kind = kind }) refl
@@ -44,37 +32,18 @@ rooms-both first second = record { many = second.many ∙ first.many; room = λ 
 
 -- places stay in their capacity
 pub placed-over : (s t : DataStore) (f : Fields) → HasRooms s t → IsPlaced s f → IsPlaced t f
-placed-over s t f rooms placed = record {
-  there = omega (arith, placed.there, rooms.many);
-  within = omega (arith, placed.within, rooms.room f.data_number);
-  banded = placed.banded;
-}
+placed-over s t f rooms placed = grind (arith, common_steps)
 
 -- the places of all message blocks, of which one says something else
 pub placed-set : (s t : DataStore) (fields : List Fields) (n : ℕ) (x : Fields) → HasRooms s t → IsPlaced t x
     → ((k : ℕ) → k < length fields → IsPlaced s (fields_at fields k)) → (k : ℕ) → k < length (set fields n x) → IsPlaced t (fields_at (set fields n x) k)
-placed-set s t fields n x rooms new old k within =
-    elim (cases_eq k n) [
-      | inl same ↦ subst (IsPlaced t) (sym (ap (λ j. fields_at (set fields n x) j) same ∙ get_or-set_same fields n x no_fields (omega (arith, within, same, length-set fields n x)))) new
-      | inr other ↦ subst (IsPlaced t) (sym (get_or-set_other fields n k x no_fields other)) (placed-over s t (fields_at fields k) rooms (old k (omega (arith, within, length-set fields n x))))
-    ]
+placed-set s t fields n x rooms new old k within = grind (arith, common_steps, get_or-set_same, length-set, get_or-set_other, placed-over)
 
 -- the counts once one of them is another
 pub count_of-set : (s : CountedStore) (store : DataStore) (d n k : ℕ) → d < length s.counts → count_of (record { store = store; counts = set s.counts d n }) k ≡ cond (eqb d k) n (count_of s k)
-count_of-set s store d n k inside =
-    elim (eqb_tells d k) [
-      | inl same ↦ rw same.0 (ap (λ j. get_or (set s.counts d n) j 0) (sym same.1) ∙ get_or-set_same s.counts d n 0 inside)
-      | inr other ↦ rw other.0 (get_or-set_other s.counts d k n 0 (λ e. other.1 (sym e)))
-    ]
+count_of-set s store d n k inside = grind (arith, common_steps, eqb_tells, get_or-set_same, get_or-set_other)
 
 -- data blocks say something else, and as many message blocks name each of them
 pub filled-over : (id : ℕ) (s t : CountedStore) (fields : List Fields) (v : NodeLists) → IsFilled s fields v (arena_of id s.store fields v) → IsKept t → t.counts ≡ s.counts → HasRooms s.store t.store
     → IsFilled t fields v (arena_of id t.store fields v)
-filled-over id s t fields v filled kept counts rooms = record {
-  kept = kept;
-  parted = filled.parted;
-  few = filled.few;
-  listed = filled.listed;
-  placed = λ n within. placed-over s.store t.store (fields_at fields n) rooms (filled.placed n within);
-  counts = λ d. ap (λ cs. get_or cs d 0) counts ∙ filled.counts d;
-}
+filled-over id s t fields v filled kept counts rooms = grind (arith, common_steps, placed-over)

@@ -1,49 +1,40 @@
 -- What a contract sees of message blocks that are listed by number.
-use Rattle.std.proofs.Common.{◌≡◌, ℕ, zero, suc, List, [], ◌∷◌, ◌++◌, map, get_or, Option, Some, None, refl, sym, ap, ◌∙◌, ◌<◌, set, arith, get_or-set_other}
-use Rattle.std.specs.Prelude.{option_map, slice_get}
+use Rattle.std.proofs.Common.{◌≡◌, ℕ, List, [], ◌∷◌, ◌++◌, map, Option, Some, None, refl, sym, ap, ◌∙◌, ◌<◌, set, arith, get_or-set_other}
+use Rattle.std.specs.Prelude.{option_map}
 use Rattle.std.specs.List.{flat_map}
+use Rattle.std.proofs.Math.ListN.{get_or-map}
 use Rattle.std.proofs.lemmas.List.{map-append}
 use Rattle.strm_data.specs.DataStore.{DataStore, times}
 use Rattle.strm_mblk.specs.declared.blocks.Fields.{Fields}
 use Rattle.strm_mblk.specs.Arena.{blocks_in, held_at, message_at, shelf_at}
-use Rattle.strm_mblk.specs.Block.{Block, Message, numbers_of}
+use Rattle.strm_mblk.specs.Block.{Message, numbers_of}
 use Rattle.strm_mblk.specs.BlocksLayout.{arena_of, block_at, fields_at, message_of, no_fields}
 use Rattle.strm_mblk.specs.Messages.{blocks_of, held_in, shelf_in, blocks_on, blocks_held}
 use Rattle.strm_mblk.specs.NodeLists.{NodeLists, nodes_at}
 use Rattle.strm_links.proofs.lists.Counting.{times-cons, times_here}
+use Rattle.std.proofs.lemmas.Grind.{common_steps}
 
 -- ---- by place
-
--- what stands at a place of a list that was mapped
-get_or-mapped : {X Y : Type 0} (f : X → Y) (xs : List X) (i : ℕ) (d : X) (e : Y) → f d ≡ e → get_or (map f xs) i e ≡ f (get_or xs i d)
-get_or-mapped f [] i d e is = sym is
-get_or-mapped f (x ∷ xs) zero d e is = refl
-get_or-mapped f (x ∷ xs) (suc i) d e is = get_or-mapped f xs i d e is
-
-pub slice_get-mapped : {X Y : Type 0} (f : X → Y) (xs : List X) (i : ℕ) → slice_get (map f xs) i ≡ option_map f (slice_get xs i)
-slice_get-mapped f [] i = refl
-slice_get-mapped f (x ∷ xs) zero = refl
-slice_get-mapped f (x ∷ xs) (suc i) = slice_get-mapped f xs i
 
 pub numbers_of-message : (fields : List Fields) (ns : List ℕ) → numbers_of (message_of fields ns) ≡ ns
 numbers_of-message fields [] = refl
 numbers_of-message fields (n ∷ ns) = ap (λ xs. n ∷ xs) (numbers_of-message fields ns)
 
-blocks_of-mapped : (fields : List Fields) (o : Option (List ℕ)) → blocks_of (option_map (message_of fields) o) ≡ message_of fields (blocks_of o)
+pub blocks_of-mapped : (fields : List Fields) (o : Option (List ℕ)) → blocks_of (option_map (message_of fields) o) ≡ message_of fields (blocks_of o)
 blocks_of-mapped fields None = refl
 blocks_of-mapped fields (Some ns) = refl
 
 module _ (id : ℕ) (s : DataStore) (fields : List Fields) (v : NodeLists) where
   -- the message held at h
   pub held_at-seen : (h : ℕ) → held_at (arena_of id s fields v) h ≡ option_map (message_of fields) (held_in v.held h)
-  held_at-seen h = get_or-mapped (option_map (message_of fields)) v.held h None None refl
+  held_at-seen h = get_or-map (option_map (message_of fields)) v.held h None
 
   pub message_at-seen : (h : ℕ) → message_at (arena_of id s fields v) h ≡ message_of fields (nodes_at v h)
   message_at-seen h = ap blocks_of (held_at-seen h) ∙ blocks_of-mapped fields (held_in v.held h)
 
   -- the messages on a shelf
   pub shelf_at-seen : (q : ℕ) → shelf_at (arena_of id s fields v) q ≡ map (message_of fields) (shelf_in v.shelves q)
-  shelf_at-seen q = get_or-mapped (map (message_of fields)) v.shelves q [] [] refl
+  shelf_at-seen q = get_or-map (map (message_of fields)) v.shelves q []
 
 -- ---- all blocks
 
@@ -54,17 +45,11 @@ flat-mapped fields (m ∷ ms) = ap (λ bs. message_of fields m ++ bs) (flat-mapp
 
 blocks_on-mapped : (fields : List Fields) (shelves : List (List (List ℕ))) → blocks_on (map (map (message_of fields)) shelves) ≡ message_of fields (blocks_on shelves)
 blocks_on-mapped fields [] = refl
-blocks_on-mapped fields (ms ∷ shelves) =
-    ap (λ bs. flat_map (λ (m : Message). m) (map (message_of fields) ms) ++ bs) (blocks_on-mapped fields shelves)
-    ∙ ap (λ bs. bs ++ message_of fields (blocks_on shelves)) (flat-mapped fields ms)
-    ∙ sym (map-append (block_at fields) (flat_map (λ m. m) ms) (blocks_on shelves))
+blocks_on-mapped fields (ms ∷ shelves) = grind (arith, common_steps, (blocks_on-mapped fields shelves), flat-mapped, map-append)
 
 blocks_held-mapped : (fields : List Fields) (held : List (Option (List ℕ))) → blocks_held (map (option_map (message_of fields)) held) ≡ message_of fields (blocks_held held)
 blocks_held-mapped fields [] = refl
-blocks_held-mapped fields (o ∷ held) =
-    ap (λ bs. blocks_of (option_map (message_of fields) o) ++ bs) (blocks_held-mapped fields held)
-    ∙ ap (λ bs. bs ++ message_of fields (blocks_held held)) (blocks_of-mapped fields o)
-    ∙ sym (map-append (block_at fields) (blocks_of o) (blocks_held held))
+blocks_held-mapped fields (o ∷ held) = grind (arith, common_steps, (blocks_held-mapped fields held), blocks_of-mapped, map-append)
 
 -- the numbers of the blocks of all messages
 abbrev pub nodes_in : NodeLists → List ℕ
@@ -78,9 +63,7 @@ module _ (id : ℕ) (s : DataStore) (fields : List Fields) (v : NodeLists) where
   held-seen = blocks_held-mapped fields v.held
 
   pub blocks_in-seen : blocks_in (arena_of id s fields v) ≡ message_of fields (nodes_in v)
-  blocks_in-seen =
-      ap (λ bs. bs ++ blocks_held (arena_of id s fields v).held) shelved-seen ∙ ap (λ bs. message_of fields (blocks_on v.shelves) ++ bs) held-seen
-      ∙ sym (map-append (block_at fields) (blocks_on v.shelves) (blocks_held v.held))
+  blocks_in-seen = grind (arith, common_steps, shelved-seen, held-seen, map-append)
 
   pub numbers-seen : numbers_of (blocks_in (arena_of id s fields v)) ≡ nodes_in v
   numbers-seen = ap numbers_of blocks_in-seen ∙ numbers_of-message fields (nodes_in v)
@@ -100,8 +83,7 @@ alike_parts old new (x ∷ xs) ys alike = let parts = alike_parts old new xs ys 
 -- two tables say the same of a list where they do of each number of it
 pub alike_each : (old new : List Fields) (ms : List ℕ) → ((k : ℕ) → 0 < times k ms → fields_at new k ≡ fields_at old k) → AreAlike old new ms
 alike_each old new [] each = tt
-alike_each old new (m ∷ ms) each =
-    (each m (omega (arith, times_here m m ms refl)), alike_each old new ms (λ k some. each k (omega (arith, some, times-cons k m ms))))
+alike_each old new (m ∷ ms) each = grind (arith, common_steps, (alike_each old new ms), times_here, times-cons)
 
 -- a number that isn't in a list may say something else
 pub alike_off : (fields : List Fields) (n : ℕ) (x : Fields) (ns : List ℕ) → times n ns ≡ 0 → AreAlike fields (set fields n x) ns
@@ -111,10 +93,7 @@ alike_off fields n x ns none =
 module _ (old new : List Fields) where
   pub message-alike : (ns : List ℕ) → AreAlike old new ns → message_of new ns ≡ message_of old ns
   message-alike [] alike = refl
-  message-alike (n ∷ ns) alike = λ i. block_with n (alike.0 i) ∷ message-alike ns alike.1 i
-    where
-      block_with : ℕ → Fields → Block
-      block_with n f = record { number = n; data_number = f.data_number; offset = f.offset; len = f.len; band = f.band }
+  message-alike (n ∷ ns) alike = grind (arith, common_steps, (message-alike ns alike.1))
 
   shelf-alike : (ms : List (List ℕ)) → AreAlike old new (flat_map (λ m. m) ms) → map (message_of new) ms ≡ map (message_of old) ms
   shelf-alike [] alike = refl

@@ -1,9 +1,10 @@
 -- Numbers of a list that add up over its parts.
-use Rattle.std.proofs.Common.{◌≡◌, ℕ, zero, suc, ◌+◌, ◌<◌, Bool, cond, List, [], ◌∷◌, ◌++◌, map, length, get_or, set, refl, sym, ap, ◌∙◌, arith, length-append}
+use Rattle.std.proofs.Common.{◌≡◌, ℕ, zero, suc, ◌+◌, ◌<◌, Bool, cond, List, [], ◌∷◌, ◌++◌, map, length, get_or, set, refl, arith, length-append}
 use Rattle.std.specs.Prelude.{count_by, sum_by}
 use Rattle.std.specs.List.{flat_map}
 use Rattle.std.proofs.lemmas.List.Sums.{sum_by-append}
 use Rattle.strm_links.proofs.lists.Counting.{one_if}
+use Rattle.std.proofs.lemmas.Grind.{common_steps}
 
 -- a number of a list that adds up over its parts
 pub record IsAdditive {X : Type 0} (m : List X → ℕ) : Type 0 where
@@ -27,12 +28,9 @@ count_one p x = omega arith
 pub flat_map-set_adds : {X Y : Type 0} {m : List Y → ℕ} → IsAdditive m → (f : X → List Y) (xs : List X) (i : ℕ) (y d : X) → i < length xs
     → m (flat_map f (set xs i y)) + m (f (get_or xs i d)) ≡ m (flat_map f xs) + m (f y)
 flat_map-set_adds adds f [] i y d within = absurd (omega arith)
-flat_map-set_adds adds f (x ∷ xs) zero y d within =
-    omega (arith, adds.both (f y) (flat_map f xs), adds.both (f x) (flat_map f xs))
-flat_map-set_adds adds f (x ∷ xs) (suc i) y d within =
-    omega (arith, adds.both (f x) (flat_map f (set xs i y)), adds.both (f x) (flat_map f xs), flat_map-set_adds adds f xs i y d (omega arith))
+flat_map-set_adds adds f (x ∷ xs) zero y d within = grind (arith, common_steps)
+flat_map-set_adds adds f (x ∷ xs) (suc i) y d within = grind (arith, common_steps, (flat_map-set_adds adds f xs i y d))
 
 pub count_by-map : {X Y : Type 0} (p : Y → Bool) (f : X → Y) (xs : List X) → count_by p (map f xs) ≡ count_by (λ x. p (f x)) xs
 count_by-map p f [] = refl
-count_by-map p f (x ∷ xs) =
-    (count_adds p).both (f x ∷ []) (map f xs) ∙ ap (λ n. count_by p (f x ∷ []) + n) (count_by-map p f xs) ∙ sym ((count_adds (λ x. p (f x))).both (x ∷ []) xs)
+count_by-map p f (x ∷ xs) = grind (arith, common_steps, (count_by-map p f xs), count_adds)

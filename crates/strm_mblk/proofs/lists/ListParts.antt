@@ -1,17 +1,17 @@
--- Parts of a list, and a part put in the place of another.
+-- Parts of a list, and a part put instead of another.
 use Rattle.std.proofs.Common.{◌≡◌, ℕ, zero, suc, ◌+◌, ◌-◌, ◌≤◌, List, [], ◌∷◌, ◌++◌, length, take, drop, Some, sym, ap, ◌∙◌, inl, inr, arith}
 use Rattle.std.specs.Prelude.{min, slice_get}
 use Rattle.std.proofs.lemmas.Bool.{cases_lt}
 use Rattle.std.proofs.lemmas.List.{append-nil, drop-drop, drop-take, drop_all, length-drop, take-take}
 use Rattle.std.proofs.lemmas.Option.{none-some, same_Some}
 use borrow.Rule.Slice.PartMut.{put_mid}
+use Rattle.std.proofs.lemmas.Grind.{common_steps}
 
 -- a list from a place on
 pub drop_from : {X : Type 0} (xs : List X) (k : ℕ) (x : X) → slice_get xs k ≡ Some x → drop k xs ≡ x ∷ drop (k + 1) xs
 drop_from [] k x is = absurd (none-some x is)
 drop_from (y ∷ xs) zero x is = ap (λ z. z ∷ xs) (same_Some y x is)
-drop_from (y ∷ xs) (suc k) x is =
-    drop_from xs k x is ∙ ap (λ j. x ∷ drop j (y ∷ xs)) (let e : suc (k + 1) ≡ suc k + 1 = omega arith in e)
+drop_from (y ∷ xs) (suc k) x is = grind (arith, common_steps, (drop_from xs k x is))
 
 -- a part of a part of a list, as a part of the list
 pub take-part : {X : Type 0} (n at len from : ℕ) (xs : List X) → n ≤ len - min at len → take n (drop (from + min at len) xs) ≡ take n (drop at (take len (drop from xs)))
@@ -27,7 +27,7 @@ take-part n at len from xs few =
           ∙ sym (ap (λ k. take n (drop at (take k (drop from xs)))) (sym more) ∙ ap (take n) (drop-take at (len - at) (drop from xs)) ∙ take-take n (len - at) (drop at (drop from xs)) (omega arith))
     ]
 
--- two lists, one behind the other, without the first of them
+-- two lists, one after the other, without their first elements
 pub drop-append : {X : Type 0} (n : ℕ) (xs ys : List X) → drop n (xs ++ ys) ≡ drop n xs ++ drop (n - length xs) ys
 drop-append zero xs ys = ap (λ k. xs ++ drop k ys) (let e : 0 ≡ 0 - length xs = omega arith in e)
 drop-append (suc n) [] ys = ap (λ k. drop k ys) (let e : suc n ≡ suc n - 0 = omega arith in e)
@@ -35,5 +35,4 @@ drop-append (suc n) (x ∷ xs) ys = drop-append n xs ys ∙ ap (λ k. drop n xs 
 
 -- a list whose part from a place on is another
 pub put_rest : {X : Type 0} (a : ℕ) (xs ys : List X) → put_mid a (length xs - a) xs ys ≡ take a xs ++ ys
-put_rest a xs ys =
-    ap (λ zs. take a xs ++ (ys ++ zs)) (drop_all (length xs - a) (drop a xs) (omega (arith, length-drop a xs))) ∙ ap (λ zs. take a xs ++ zs) (append-nil ys)
+put_rest a xs ys = grind (arith, common_steps, drop_all, length-drop, append-nil)

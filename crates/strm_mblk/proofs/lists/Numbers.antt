@@ -1,16 +1,16 @@
--- Numbers in lists: where they stand, and how often.
-use Rattle.std.proofs.Common.{◌≡◌, ℕ, ◌+◌, ◌<◌, ◌≤◌, Bool, true, false, ltb, List, [], ◌∷◌, length, Option, Some, refl, sym, subst, ap, inl, inr, arith, if◌then◌else◌, zero, suc, ◌==◌}
+-- Numbers in lists: at which places they are, and how often.
+use Rattle.std.proofs.Common.{◌≡◌, ℕ, ◌+◌, ◌<◌, ◌≤◌, Bool, true, false, ltb, List, [], ◌∷◌, length, Option, Some, refl, sym, subst, ap, arith, if◌then◌else◌, zero, suc, ◌==◌}
 use Rattle.std.specs.Prelude.{count_by, slice_get, drop, take}
 use Rattle.std.specs.Option.{IfSome, unwrap_or}
-use Rattle.std.proofs.lemmas.Bool.{cases_lt}
 use Rattle.strm_data.specs.DataStore.{times}
 use Rattle.strm_links.proofs.lists.Counting.{one_if, times-cons, times_here}
 use Rattle.strm_mblk.proofs.lists.Additive.{count_adds, count_one}
 use Rattle.std.proofs.lemmas.Option.{same_Some, none-some}
 use Rattle.strm_links.specs.Rows.{first}
 use Rattle.std.proofs.lemmas.Bool.Decides.{eqb_tells}
+use Rattle.std.proofs.lemmas.Grind.{common_steps}
 
--- what stands at a place is there
+-- a number at a place of a list is counted in it
 pub times_at : (n : ℕ) (ns : List ℕ) (k : ℕ) → slice_get ns k ≡ Some n → 0 < times n ns
 times_at n [] k is = absurd (none-some n is)
 times_at n (x ∷ ns) zero is = omega (arith, times_here n x ns (same_Some x n is))
@@ -47,14 +47,7 @@ one_most false = omega arith
 
 -- what is counted is in range
 pub in_range : (n k : ℕ) → 0 < (if ltb n k then 1 else 0) → n < k
-in_range n k some = elim (cases_lt n k) [ inl below ↦ below | inr past ↦ absurd (none (ltb n k) (not_below n k past) some) ]
-  where
-    none : (b : Bool) → b ≡ false → 0 < (if b then 1 else 0) → ⊥
-    none true is some = cc
-    none false is some = omega arith
-
-    not_below : (n k : ℕ) → k ≤ n → ltb n k ≡ false
-    not_below n k past = grind arith
+in_range n k some = grind (arith, common_steps)
 
 -- a list without the first place of a number
 abbrev pub less : ℕ → List ℕ → List ℕ
@@ -64,13 +57,9 @@ less n (x ∷ xs) = if x == n then xs else x ∷ less n xs
 -- what a test counts there
 count_less : (p : ℕ → Bool) (n : ℕ) (xs : List ℕ) → 0 < times n xs → count_by p (less n xs) + one_if (p n) ≡ count_by p xs
 count_less p n [] some = absurd (omega arith)
-count_less p n (x ∷ xs) some =
-    elim (eqb_tells x n) [
-      | inl same ↦ rw same.0 (omega (arith, (count_adds p).both (x ∷ []) xs, count_one p x, ap (λ k. one_if (p k)) same.1))
-      | inr other ↦ rw other.0 (omega (arith, (count_adds p).both (x ∷ []) xs, (count_adds p).both (x ∷ []) (less n xs), count_less p n xs (omega (arith, some, times-cons n x xs, ap one_if other.0))))
-    ]
+count_less p n (x ∷ xs) some = grind (arith, common_steps, (count_less p n xs), eqb_tells, count_adds, count_one, one_if, times-cons)
 
--- a list in which no number stands
+-- a list that counts no number is empty
 none_stands : (xs : List ℕ) → ((n : ℕ) → times n xs ≡ 0) → xs ≡ []
 none_stands [] none = refl
 none_stands (x ∷ xs) none = absurd (omega (arith, none x, times_here x x xs refl))

@@ -4,6 +4,7 @@ use Rattle.std.specs.Prelude.{min}
 use Rattle.std.proofs.Math.Nat.{min_comm}
 use Rattle.std.proofs.Math.Seq.{drop-append-add, drop-nil, take-append-add, take-nil}
 use Rattle.std.proofs.lemmas.List.{append-nil, drop_at, drop_min, length-drop, length-take-le, take-append-drop, take_at, take_min}
+use Rattle.std.proofs.lemmas.Grind.{common_steps}
 
 -- a list once another is laid over its front
 abbrev pub overlaid : {X : Type 0} → List X → List X → List X
@@ -13,23 +14,19 @@ overlaid ps xs = take (length xs) ps ++ drop (length ps) xs
 pub overlaid-nil : {X : Type 0} (xs : List X) → overlaid [] xs ≡ xs
 overlaid-nil xs = ap (λ ys. ys ++ xs) (take-nil (length xs))
 
--- two lists, one behind the other
+-- two lists, one after the other
 pub overlaid-append : {X : Type 0} (ps qs xs : List X) → overlaid (ps ++ qs) xs ≡ take (length xs) ps ++ overlaid qs (drop (length ps) xs)
 overlaid-append [] qs xs = ap (λ ys. ys ++ overlaid qs xs) (sym (take-nil (length xs)))
 overlaid-append (p ∷ ps) qs [] = drop-nil (length ((p ∷ ps) ++ qs)) ∙ sym (ap (overlaid qs) (drop-nil (length (p ∷ ps))) ∙ drop-nil (length qs))
 overlaid-append (p ∷ ps) qs (x ∷ xs) = ap (λ ys. p ∷ ys) (overlaid-append ps qs xs)
 
--- so many of the first are laid there
+-- the first n of one list are laid there
 pub overlaid_more : {X : Type 0} (ps qs xs : List X) (n : ℕ) → n ≡ min (length xs) (length ps) → take n ps ++ overlaid qs (drop n xs) ≡ overlaid (ps ++ qs) xs
-overlaid_more ps qs xs n is =
-    (λ i. take (is i) ps ++ overlaid qs (drop ((is ∙ min_comm (length xs) (length ps)) i) xs))
-    ∙ (λ i. take_min (length xs) ps i ++ overlaid qs (drop_min (length ps) xs i))
-    ∙ sym (overlaid-append ps qs xs)
+overlaid_more ps qs xs n is = grind (arith, common_steps, min_comm, take_min, drop_min, overlaid-append)
 
--- and so many of one alone
+-- and the first n of one list alone
 pub overlaid_min : {X : Type 0} (ps xs : List X) (n : ℕ) → n ≡ min (length xs) (length ps) → take n ps ++ drop n xs ≡ overlaid ps xs
-overlaid_min ps xs n is =
-    ap (λ ys. take n ps ++ ys) (sym (overlaid-nil (drop n xs))) ∙ overlaid_more ps [] xs n is ∙ ap (λ ys. overlaid ys xs) (append-nil ps)
+overlaid_min ps xs n is = grind (arith, common_steps, overlaid-nil, overlaid_more, append-nil)
 
 -- the first `done` of a list, which was `old`, are laid there, and what `rest` lays over the others is what `all` lays
 -- over what it was
@@ -62,11 +59,4 @@ laid_on all ps rest old now new done n laid count is =
 
 -- all is laid there
 pub laid_all : {X : Type 0} (all rest old now : List X) (done : ℕ) → rest ≡ [] → IsLaid all rest old now done → (done ≡ min (length old) (length all)) × (now ≡ take done all ++ drop done old)
-laid_all all rest old now done none laid =
-    let count : done ≡ min (length old) (length all) = omega (arith, laid.count, ap length none) in (
-      count,
-      sym (take-append-drop done now)
-          ∙ ap (λ ys. take done now ++ ys) (sym (overlaid-nil (drop done now)) ∙ ap (λ ps. overlaid ps (drop done now)) (sym none))
-          ∙ laid.list
-          ∙ sym (overlaid_min all old done count),
-    )
+laid_all all rest old now done none laid = grind (arith, common_steps, take-append-drop, overlaid-nil, overlaid_min)

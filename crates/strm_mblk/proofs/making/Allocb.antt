@@ -1,18 +1,16 @@
 -- `allocb`: a free message block over a data block just taken is held.
-use Rattle.std.proofs.Common.{◌≡◌, ℕ, zero, suc, ◌+◌, Bool, true, false, cond, List, [], ◌∷◌, length, set, Some, Result, Ok, Err, refl, sym, ap, ◌∙◌, subst, inl, inr, arith}
-use Rattle.std.specs.Prelude.{count_by, drop, ok_or, slice_get, take}
+use Rattle.std.proofs.Common.{◌≡◌, ℕ, zero, suc, ◌+◌, true, List, [], ◌∷◌, length, set, Some, Ok, sym, ap, ◌∙◌, subst, arith}
+use Rattle.std.specs.Prelude.{count_by, drop, take}
 use Rattle.std.specs.List.{All}
 use Rattle.std.proofs.lemmas.Bool.Decides.{eqb_tells}
 use Rattle.strm_links.specs.Rows.{first}
-use Rattle.strm_data.specs.declared.refusal.Refusal.{Refusal}
-use Rattle.strm_data.specs.declared.refusal.Refusal.TheVariants.{NoData, TooLarge}
 use Rattle.strm_data.specs.Classes.{fits_a_class}
 use Rattle.strm_data.specs.CountedStore.{CountedStore, IsKept, IsUnused, count_of, after_take}
-use Rattle.strm_data.specs.DataStore.{DataStore, fitting, take_data, with_data_taken}
+use Rattle.strm_data.specs.DataStore.{DataStore, take_data, with_data_taken}
 use Rattle.strm_mblk.specs.declared.blocks.Fields.{Fields}
 use Rattle.strm_mblk.specs.Arena.{Arena, with_held}
-use Rattle.strm_mblk.specs.Block.{head_of, is_naming, new_block}
-use Rattle.strm_mblk.specs.BlockCalls.{allocb, allocb_from, held_new, renumbered}
+use Rattle.strm_mblk.specs.Block.{is_naming, new_block}
+use Rattle.strm_mblk.specs.BlockCalls.{allocb}
 use Rattle.strm_mblk.specs.BlocksLayout.{IsFilled, IsPlaced, arena_of, fields_of, with_fields}
 use Rattle.strm_mblk.specs.NodeLists.{IsNodesParted, NodeLists, after_begin}
 use Rattle.strm_mblk.proofs.lists.Numbers.{first_rest}
@@ -20,24 +18,16 @@ use Rattle.strm_mblk.proofs.making.BegunAll.{IsBegunAll, begins_all}
 use Rattle.strm_mblk.proofs.making.BegunLists.{begun_first}
 use Rattle.strm_mblk.proofs.layout.Rooms.{HasRooms, count_of-set, rooms-taken}
 use Rattle.strm_mblk.proofs.lists.Additive.{count_one}
+use Rattle.std.proofs.lemmas.Grind.{common_steps}
 
--- what the model gives where there is a block of each kind
+-- what the model gives if a block of each kind is free
 allocb_done : (a : Arena) (size n d : ℕ) (ns : List ℕ) → fits_a_class size a.store.classes ≡ true → a.free ≡ n ∷ ns → take_data size a.store ≡ Ok d
     → allocb size a ≡ Ok (n, with_held (new_block n d ∷ []) (record a { free = ns; store = with_data_taken d a.store }))
-allocb_done a size n d ns fits is some =
-    ap (λ b. cond b (allocb_from a.free size a) (Err TooLarge)) fits
-    ∙ ap (λ (free : List ℕ). allocb_from free size a) is
-    ∙ ap (λ (r : Result ℕ Refusal). held_new n ns a r) some
+allocb_done a size n d ns fits is some = grind (arith, common_steps)
 
 -- a size takes a data block only where some class is as large
 pub taken_fits : (size d : ℕ) (s : DataStore) → take_data size s ≡ Ok d → fits_a_class size s.classes ≡ true
-taken_fits size d s some = by_cases (fits_a_class size s.classes) refl
-  where
-    by_cases : (b : Bool) → fits_a_class size s.classes ≡ b → fits_a_class size s.classes ≡ true
-    by_cases true is = is
-    by_cases false is =
-        let wrong : Err TooLarge ≡ Ok d = sym (ap (λ b. cond b (ok_or (slice_get (fitting size s) 0) NoData) (Err TooLarge)) is) ∙ some in
-        absurd (cc)
+taken_fits size d s some = grind (arith, common_steps)
 
 -- what is there once a message of one block n over d was allocated
 pub record IsAllocated (a : Arena) (t : CountedStore) (fields : List Fields) (w : NodeLists) (id size n d : ℕ) : Type 0 where
@@ -51,14 +41,7 @@ module _ (id : ℕ) (s : CountedStore) (fields : List Fields) (v : NodeLists) (f
   rooms = subst (HasRooms s.store) (sym (ap (λ (c : CountedStore). c.store) t_is)) (rooms-taken s.store d)
 
   named : (k : ℕ) → count_of t k ≡ count_of s k + count_by (is_naming k) (new_block n d ∷ [])
-  named k =
-      ap (λ (c : CountedStore). count_of c k) t_is
-      ∙ count_of-set s (with_data_taken d s.store) d 1 k fresh.counted
-      ∙ elim (eqb_tells d k) [
-        | inl same ↦ rw same.0 (omega (arith, fresh.unnamed, ap (count_of s) same.1))
-        | inr other ↦ rw other.0 (omega arith)
-      ]
-      ∙ ap (λ c. count_of s k + c) (sym (count_one (is_naming k) (new_block n d)))
+  named k = grind (arith, common_steps, count_of-set, eqb_tells, count_one)
 
   placed : All (λ b. IsPlaced t.store (fields_of b)) (new_block n d ∷ [])
   placed zero other within = record { there = omega (arith, fresh.there, rooms.many); within = omega arith; banded = omega arith }
@@ -76,12 +59,4 @@ module _ (id : ℕ) (s : CountedStore) (fields : List Fields) (v : NodeLists) (f
       (begins_all id s fields v filled n begun (new_block n d ∷ []) (omega arith) (omega (arith, ap length free_is)) t w kept (w_is ∙ begun_first v n begun) parted rooms placed named)
 
   pub allocates : (size : ℕ) → fits_a_class size s.store.classes ≡ true → take_data size s.store ≡ Ok d → IsAllocated (arena_of id s.store fields v) t (set fields n x) w id size n d
-  allocates size fits some = record {
-    begun = begins_new;
-    done =
-        let old = arena_of id s.store fields v in
-        allocb_done old size n d (drop 1 v.free) fits free_is some
-        ∙ ap (λ (c : CountedStore). Ok (n, with_held (new_block n d ∷ []) (record old { free = drop 1 v.free; store = c.store }))) (sym t_is)
-        ∙ ap (λ free. let m = renumbered (take 1 free) (new_block n d ∷ []) in Ok (head_of m, with_held m (record old { free = drop 1 v.free; store = t.store }))) (sym free_is)
-        ∙ ap Ok (sym begins_new.shows);
-  }
+  allocates size fits some = grind (arith, common_steps, begins_new, allocb_done, free_is)

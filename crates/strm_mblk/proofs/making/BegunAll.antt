@@ -1,8 +1,7 @@
 -- The first free message blocks become one held message.
-use Rattle.std.proofs.Common.{◌≡◌, ◌≢◌, ℕ, suc, ◌+◌, ◌<◌, ◌≤◌, ltb, List, [], ◌∷◌, map, length, get_or, set, Option, Some, None, refl, sym, ap, ◌∙◌, inl, inr, arith, get_or-set_same, get_or-set_other, length-set}
+use Rattle.std.proofs.Common.{◌≡◌, ◌≢◌, ℕ, suc, ◌+◌, ◌<◌, ◌≤◌, List, [], ◌∷◌, map, length, get_or, set, Option, Some, None, refl, sym, ap, ◌∙◌, arith, get_or-set_same, get_or-set_other, length-set}
 use Rattle.std.specs.Prelude.{count_by, drop, option_map, take}
 use Rattle.std.specs.List.{All}
-use Rattle.std.proofs.lemmas.Bool.{cases_eq}
 use Rattle.std.proofs.lemmas.List.{length-map, length-take-le, map-set, take-append-drop}
 use Rattle.std.proofs.lemmas.Option.{none-some, same_Some}
 use Rattle.strm_links.specs.Rows.{first}
@@ -16,13 +15,14 @@ use Rattle.strm_mblk.specs.BlockCalls.{held_under, renumbered}
 use Rattle.strm_mblk.specs.BlocksLayout.{IsFilled, IsPlaced, arena_of, block_of, fields_at, fields_of, message_of, no_fields, with_fields}
 use Rattle.strm_mblk.specs.Messages.{blocks_held, blocks_on, blocks_of}
 use Rattle.strm_mblk.specs.NodeLists.{IsNodesParted, NodeLists}
-use Rattle.strm_mblk.proofs.layout.Shown.{AreAlike, alike_each, held-alike, held_at-seen, nodes_in, shelves-alike}
-use Rattle.strm_mblk.proofs.lists.Numbers.{first_rest, one_most}
-use Rattle.strm_mblk.proofs.chaining.Standing.{free_room, free_unheld}
+use Rattle.strm_mblk.proofs.layout.Shown.{AreAlike, alike_each, held-alike, held_at-seen, shelves-alike}
+use Rattle.strm_mblk.proofs.lists.Numbers.{first_rest}
+use Rattle.strm_mblk.proofs.chaining.Standing.{free_room, free_unheld, one_of_all}
 use Rattle.strm_mblk.proofs.making.BegunLists.{after_begin_all}
 use Rattle.strm_mblk.proofs.lists.Additive.{count_adds, count_one}
 use Rattle.strm_mblk.proofs.arena.Counts.{held_moves}
 use Rattle.strm_mblk.proofs.layout.Rooms.{HasRooms, placed-over, placed-set}
+use Rattle.std.proofs.lemmas.Grind.{common_steps}
 
 -- ---- several message blocks say something else
 
@@ -35,13 +35,7 @@ length-with_fields (n ∷ ns) (x ∷ xs) fields = length-with_fields ns xs (set 
 pub with_fields_other : (ns : List ℕ) (xs fields : List Fields) (k : ℕ) → times k ns ≡ 0 → fields_at (with_fields ns xs fields) k ≡ fields_at fields k
 with_fields_other [] xs fields k none = refl
 with_fields_other (n ∷ ns) [] fields k none = refl
-with_fields_other (n ∷ ns) (x ∷ xs) fields k none =
-    elim (cases_eq n k) [
-      | inl same ↦ absurd (omega (arith, none, times_here k n ns same))
-      | inr other ↦
-          with_fields_other ns xs (set fields n x) k (omega (arith, none, times_other k n ns other))
-          ∙ get_or-set_other fields n k x no_fields (λ same. other (sym same))
-    ]
+with_fields_other (n ∷ ns) (x ∷ xs) fields k none = grind (arith, common_steps, (with_fields_other ns xs (set fields n x) k), times_here, times_other, get_or-set_other)
 
 -- so of a list with none of them
 alike_others : (ns : List ℕ) (xs fields : List Fields) (ms : List ℕ) → ((k : ℕ) → times k ns + times k ms ≤ 1) → AreAlike fields (with_fields ns xs fields) ms
@@ -76,15 +70,7 @@ renumbered_names : (d : ℕ) (ns : List ℕ) (bs : List Block) → length ns ≡
 renumbered_names d [] [] many = refl
 renumbered_names d [] (b ∷ bs) many = absurd (omega (arith, many))
 renumbered_names d (n ∷ ns) [] many = absurd (omega (arith, many))
-renumbered_names d (n ∷ ns) (b ∷ bs) many =
-    omega (
-      arith,
-      (count_adds (is_naming d)).both (record b { number = n } ∷ []) (renumbered ns bs),
-      (count_adds (is_naming d)).both (b ∷ []) bs,
-      count_one (is_naming d) b,
-      count_one (is_naming d) (record b { number = n }),
-      renumbered_names d ns bs (omega (arith, many)),
-    )
+renumbered_names d (n ∷ ns) (b ∷ bs) many = grind (arith, common_steps, (renumbered_names d ns bs), count_adds, count_one)
 
 -- the first has the first number
 renumbered_head : (ns : List ℕ) (bs : List Block) (h : ℕ) → first ns ≡ Some h → 0 < length bs → head_of (renumbered (take (length bs) ns) bs) ≡ h
@@ -123,21 +109,12 @@ module _ (id : ℕ) (s : CountedStore) (fields : List Fields) (v : NodeLists) (f
     abbrev ns : List ℕ
     ns = take (length bs) v.free
 
-    -- a number is free or in a message
-    parts : (k : ℕ) → (times k v.free ≡ times k ns + times k (drop (length bs) v.free)) × (times k v.free + times k (nodes_in v) ≤ 1)
-    parts k = (
-      ap (times k) (sym (take-append-drop (length bs) v.free)) ∙ times-append k ns (drop (length bs) v.free),
-      omega (arith, times-append k v.free (nodes_in v), filled.parted.once k, one_most (ltb k (length v.held))),
-    )
-
-    apart : (k : ℕ) → times k ns + times k (nodes_in v) ≤ 1
-    apart k = omega (arith, (parts k).0, (parts k).1)
-
-    off : (k : ℕ) → times k (nodes_in v) ≡ times k (blocks_on v.shelves) + times k (blocks_held v.held)
-    off k = times-append k (blocks_on v.shelves) (blocks_held v.held)
+    -- the free numbers are these, and the others
+    parts : (k : ℕ) → times k v.free ≡ times k ns + times k (drop (length bs) v.free)
+    parts k = ap (times k) (sym (take-append-drop (length bs) v.free)) ∙ times-append k ns (drop (length bs) v.free)
 
     within : (k : ℕ) → 0 < times k ns → k < length fields
-    within k inside = omega (arith, filled.listed, free_room v filled.parted k (omega (arith, (parts k).0, inside)))
+    within k inside = omega (arith, filled.listed, free_room v filled.parted k (omega (arith, parts k, inside)))
 
     many : length ns ≡ length bs
     many = length-take-le (length bs) v.free enough
@@ -149,7 +126,7 @@ module _ (id : ℕ) (s : CountedStore) (fields : List Fields) (v : NodeLists) (f
     m = renumbered ns bs
 
     message_is : message_of now ns ≡ m
-    message_is = message-fields ns bs fields many (λ k. omega (arith, apart k)) within
+    message_is = message-fields ns bs fields many (λ k. omega (arith, parts k, one_of_all v filled.parted k)) within
 
     head_is : head_of m ≡ h
     head_is = renumbered_head v.free bs h begun some
@@ -160,21 +137,18 @@ module _ (id : ℕ) (s : CountedStore) (fields : List Fields) (v : NodeLists) (f
       held_is =
           ap (λ (l : NodeLists). map (option_map (message_of now)) l.held) w_is
           ∙ map-set (option_map (message_of now)) v.held h (Some ns)
-          ∙ (λ i. set (held-alike fields now v.held (alike_others ns (map fields_of bs) fields (blocks_held v.held) (λ k. omega (arith, apart k, off k))) i) h (Some (message_is i)))
+          ∙ (λ i. set (held-alike fields now v.held (alike_others ns (map fields_of bs) fields (blocks_held v.held) (λ k. omega (arith, parts k, one_of_all v filled.parted k))) i) h (Some (message_is i)))
 
       shelves_is : map (map (message_of now)) w.shelves ≡ old.shelves
       shelves_is =
           ap (λ (l : NodeLists). map (map (message_of now)) l.shelves) w_is
-          ∙ shelves-alike fields now v.shelves (alike_others ns (map fields_of bs) fields (blocks_on v.shelves) (λ k. omega (arith, apart k, off k)))
+          ∙ shelves-alike fields now v.shelves (alike_others ns (map fields_of bs) fields (blocks_on v.shelves) (λ k. omega (arith, parts k, one_of_all v filled.parted k)))
 
       abbrev rest : Arena
       rest = record old { free = drop (length bs) v.free; store = t.store }
 
       arena_is : arena_of id t.store now w ≡ with_held m rest
-      arena_is =
-          let free_now : w.free ≡ drop (length bs) v.free = ap (λ (l : NodeLists). l.free) w_is in
-          let held_now : map (option_map (message_of now)) w.held ≡ set old.held (head_of m) (Some m) = held_is ∙ ap (λ j. set old.held j (Some m)) (sym head_is) in
-          λ i. record { id = id; store = t.store; free = free_now i; held = held_now i; shelves = shelves_is i }
+      arena_is = grind (arith, common_steps, held_is, head_is, shelves_is)
 
       held_many : length w.held ≡ length v.held
       held_many = ap (λ (l : NodeLists). length l.held) w_is ∙ length-set v.held h (Some ns)

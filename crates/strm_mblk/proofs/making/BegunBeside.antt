@@ -1,25 +1,23 @@
 -- The message that a token names, beside one just begun of the first free message blocks.
-use Rattle.std.proofs.Common.{◌≡◌, ◌≢◌, ℕ, ◌+◌, ◌<◌, ◌≤◌, ◌==◌, ltb, true, List, length, Some, None, refl, sym, ap, ◌∙◌, arith, get_or-set_same, get_or-set_other}
+use Rattle.std.proofs.Common.{◌≡◌, ◌≢◌, ℕ, ◌+◌, ◌<◌, ◌≤◌, true, List, length, Some, None, refl, sym, ap, ◌∙◌, arith, get_or-set_same, get_or-set_other}
 use Rattle.std.specs.Prelude.{drop, slice_get, take}
 use Rattle.std.proofs.lemmas.List.{length-take-le}
 use Rattle.std.proofs.lemmas.Option.{none-some}
 use Rattle.strm_links.specs.Rows.{first}
 use Rattle.strm_data.specs.CountedStore.{CountedStore}
 use Rattle.strm_data.specs.DataStore.{times}
-use Rattle.strm_links.proofs.lists.Counting.{times-append, times_here}
+use Rattle.strm_links.proofs.lists.Counting.{times_here}
 use Rattle.strm_mblk.specs.declared.blocks.Fields.{Fields}
 use Rattle.strm_mblk.specs.declared.token.TokenValue.{TokenValue}
 use Rattle.strm_mblk.specs.Arena.{has}
 use Rattle.strm_mblk.specs.BlocksLayout.{IsFilled, arena_of}
-use Rattle.strm_mblk.specs.Messages.{blocks_held, blocks_of, blocks_on, held_in}
+use Rattle.strm_mblk.specs.Messages.{blocks_of, held_in}
 use Rattle.strm_mblk.specs.NodeLists.{NodeLists, nodes_at}
-use Rattle.strm_mblk.proofs.lists.Numbers.{at_first, first_rest, one_most, slice_get-take}
-use Rattle.strm_mblk.proofs.chaining.Standing.{begins_with, free_room, free_unheld}
+use Rattle.strm_mblk.proofs.lists.Numbers.{at_first, first_rest, slice_get-take}
+use Rattle.strm_mblk.proofs.chaining.Standing.{begins_with, free_room, free_unheld, held_parts, one_of_all}
 use Rattle.strm_mblk.proofs.making.BegunLists.{after_begin_all}
-use Rattle.strm_mblk.proofs.lists.Additive.{count_adds, flat_map-set_adds}
-use Rattle.strm_mblk.proofs.layout.Places.{nodes_room, token_nodes}
+use Rattle.strm_mblk.proofs.layout.Places.{token_nodes}
 use Rattle.strm_mblk.proofs.making.Giving.{times_part}
-use Rattle.strm_mblk.proofs.layout.Shown.{nodes_in}
 
 -- v was there before; in w the first `count` free numbers are a message, held at h, beside the one held at g
 pub record IsBeside (v w : NodeLists) (g h count : ℕ) : Type 0 where
@@ -69,12 +67,8 @@ module _ (id : ℕ) (s : CountedStore) (fields : List Fields) (v : NodeLists) (f
           ap (times n) from_same,
           ap (times n) into_new,
           times_part n count v.free,
-          times-append n v.free (nodes_in v),
-          times-append n (blocks_on v.shelves) (blocks_held v.held),
-          filled.parted.once n,
-          one_most (ltb n (length v.held)),
-          flat_map-set_adds (count_adds (λ x. x == n)) blocks_of v.held g None None (nodes_room v g g begins),
-          (count_adds (λ (x : ℕ). x == n)).none,
+          one_of_all v filled.parted n,
+          held_parts v g n (nodes_at v g) held.0,
         );
     other = other;
   }

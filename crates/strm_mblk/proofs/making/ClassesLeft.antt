@@ -1,8 +1,8 @@
--- Which size class gives a data block, told from how many of each class are left.
+-- Which size class gives a data block, by the number that each class has left.
 use Rattle.std.proofs.Common.{◌≡◌, ℕ, zero, suc, ◌+◌, ◌<◌, ◌≤◌, true, List, [], drop, length, Some, None, Err, refl, sym, ap, ◌∙◌, inl, inr, arith}
 use Rattle.std.specs.Prelude.{ok_or, option_map, slice_get}
 use Rattle.std.specs.List.{flat_map, zip}
-use Rattle.std.proofs.lemmas.Bool.{cases_eq, cases_lt, cond-true}
+use Rattle.std.proofs.lemmas.Bool.{cases_lt, cond-true}
 use Rattle.std.proofs.lemmas.List.{drop_all, get_or_past}
 use Rattle.std.proofs.lemmas.Option.{same_Some, slice_get-get_or, slice_get-map, slice_get_within, none-some}
 use Rattle.std.proofs.lemmas.Slice.Zip.{get_or-zip, length-zip}
@@ -15,8 +15,9 @@ use Rattle.strm_data.specs.DataStore.{DataStore, IsTakenFrom, class_infos, class
 use Rattle.strm_data.proofs.store.Fitting.{IsTakenFrom-found, fitting_from, fitting_from_next, if_fits, if_fits-empty, if_fits-small}
 use Rattle.strm_data.proofs.store.Kept.{length-class_infos}
 use Rattle.strm_mblk.specs.Copying.{AreLeft, IsLeft}
+use Rattle.std.proofs.lemmas.Grind.{common_steps}
 
--- ---- what is told of a class
+-- ---- what `class_info` returns of a class
 
 pub record IsTold (s : DataStore) (c : ℕ) (info : ClassInfo) : Type 0 where
   pub there : c < length s.classes
@@ -36,7 +37,7 @@ module _ (s : CountedStore) (kept : IsKept s) (c : ℕ) where
       ∙ ap (λ p. Some (tell p)) (get_or-zip s.store.classes s.store.free c (no_class_spec, []) there in_lists)) in
       record { there = there; size = ap (λ (x : ClassInfo). x.size) same; free = ap (λ (x : ClassInfo). x.free) same }
 
-  -- nothing is told past the last
+  -- it returns nothing past the last
   pub untold : slice_get (class_infos s.store) c ≡ None → length s.store.classes ≤ c
   untold is =
       elim (cases_lt c (length s.store.classes)) [
@@ -53,15 +54,7 @@ free_past s kept c past = ap length (get_or_past s.store.free c [] (omega (arith
 
 module _ (size : ℕ) (s : DataStore) (lists : length s.free ≡ length s.classes) (left : List ℕ) (are : AreLeft left s) where
   gives_none : (k : ℕ) → k < length s.classes → (IsLeft size s.classes left k → ⊥) → if_fits size (class_spec_at s k, free_of s k) ≡ []
-  gives_none k there none =
-      elim (cases_lt (class_spec_at s k).size size) [
-        | inl small ↦ if_fits-small size (class_spec_at s k) (free_of s k) small
-        | inr wide ↦
-            elim (cases_eq (length (free_of s k)) 0) [
-              | inl zero_free ↦ if_fits-empty size (class_spec_at s k) (free_of s k) zero_free
-              | inr some ↦ absurd (none (record { there = there; wide = wide; some = omega (arith, are k, some) }))
-            ]
-      ]
+  gives_none k there none = grind (arith, common_steps, if_fits-small, if_fits-empty)
 
   searched : (c : ℕ) → c ≤ length s.classes → ((k : ℕ) → k < c → IsLeft size s.classes left k → ⊥) → fitting size s ≡ fitting_from size s c
   searched zero within none = refl
@@ -73,10 +66,9 @@ module _ (size : ℕ) (s : DataStore) (lists : length s.free ≡ length s.classe
 
   -- the first class that serves gives its first free data block
   pub takes_left : (c : ℕ) → IsLeft size s.classes left c → ((k : ℕ) → k < c → IsLeft size s.classes left k → ⊥) → IsTakenFrom size s c
-  takes_left c is first =
-      IsTakenFrom-found size s c is.there (omega (arith, is.there, lists)) is.wide (omega (arith, is.some, are c)) (searched c (omega (arith, is.there)) first)
+  takes_left c is first = grind (arith, common_steps, IsTakenFrom-found, searched)
 
-  -- where none serves there is none
+  -- if no class serves, nothing is taken
   pub takes_none : fits_a_class size s.classes ≡ true → ((k : ℕ) → IsLeft size s.classes left k → ⊥) → take_data size s ≡ Err NoData
   takes_none wide none =
       let found : fitting size s ≡ [] =

@@ -1,12 +1,12 @@
 -- Copies of blocks are made one after the other, each over a data block just taken.
-use Rattle.std.proofs.Common.{◌≡◌, ℕ, zero, suc, ◌+◌, ◌≤◌, true, eqb, List, [], ◌∷◌, ◌++◌, map, drop, take, get_or, set, length, Some, Ok, refl, sym, ap, ◌∙◌, inl, inr, arith, length-append}
+use Rattle.std.proofs.Common.{◌≡◌, ℕ, ◌+◌, ◌≤◌, true, eqb, List, [], ◌∷◌, ◌++◌, map, drop, take, get_or, set, length, Some, Ok, refl, sym, ap, ◌∙◌, arith, length-append}
 use Rattle.std.specs.Prelude.{count_by, slice_get}
 use Rattle.std.specs.List.{All}
 use Rattle.std.specs.Result.{is_ok}
 use Rattle.std.proofs.lemmas.Bool.Decides.{eqb_tells}
-use Rattle.std.proofs.lemmas.List.{length-map, length-take-le, map-append, take_more}
-use Rattle.std.proofs.lemmas.List.Elements.{All-append}
-use Rattle.std.proofs.lemmas.Option.{get_or_from_slice_get, slice_get_within}
+use Rattle.std.proofs.lemmas.List.{length-map, length-take-le, map-append}
+use Rattle.std.proofs.lemmas.List.Elements.{All-push}
+use Rattle.std.proofs.lemmas.Option.{slice_get_within}
 use Rattle.strm_data.specs.CountedStore.{CountedStore, IsUnused, count_of}
 use Rattle.strm_data.specs.DataStore.{capacity_of, take_data, times}
 use Rattle.strm_links.proofs.lists.Counting.{one_if}
@@ -19,8 +19,9 @@ use Rattle.strm_mblk.specs.Given.{answer_map}
 use Rattle.strm_mblk.proofs.making.BegunAll.{with_fields_other}
 use Rattle.strm_mblk.proofs.making.CopiesCounted.{answer_more, can_take, in_front, in_front_none, rooms-copied}
 use Rattle.strm_mblk.proofs.lists.Additive.{count_adds, count_one}
-use Rattle.strm_mblk.proofs.making.Giving.{times_part}
-use Rattle.strm_mblk.proofs.layout.Rooms.{HasRooms, count_of-set, placed-over}
+use Rattle.strm_mblk.proofs.making.Giving.{take_next, times_part}
+use Rattle.strm_mblk.proofs.layout.Rooms.{HasRooms, count_of-set, placed-over, rooms-both}
+use Rattle.std.proofs.lemmas.Grind.{common_steps}
 
 -- ---- lists
 
@@ -30,11 +31,6 @@ with_fields_more [] [] fields n x same = refl
 with_fields_more [] (y ∷ xs) fields n x same = absurd (omega (arith, same))
 with_fields_more (m ∷ ns) [] fields n x same = absurd (omega (arith, same))
 with_fields_more (m ∷ ns) (y ∷ xs) fields n x same = with_fields_more ns xs (set fields m y) n x (omega (arith, same))
-
--- what holds of one is true of all of it
-all_of_one : {X : Type 0} (P : X → Type 0) (x : X) → P x → All P (x ∷ [])
-all_of_one P x holds zero e below = holds
-all_of_one P x holds (suc k) e below = absurd (omega (arith, below))
 
 -- ---- the loop
 
@@ -50,23 +46,12 @@ pub record IsCopying (bs : List Block) (ns : List ℕ) (i : ℕ) (old new : List
 
 -- nothing is copied yet
 pub none_copied : (bs : List Block) (ns : List ℕ) (fields : List Fields) (s : CountedStore) → IsCopying bs ns 0 fields fields s s
-none_copied bs ns fields s = record {
-  made = [];
-  answer = in_front_none (copies bs s.store);
-  fields = refl;
-  many = refl;
-  named = λ d. omega arith;
-  placed = λ k d within. absurd (omega (arith, within));
-  rooms = record { many = refl; room = λ d. refl };
-}
+none_copied bs ns fields s = grind (arith, common_steps, in_front_none)
 
 module _ (bs : List Block) (ns : List ℕ) (i : ℕ) (old new : List Fields) (s t : CountedStore) (copying : IsCopying bs ns i old new s t) where
   -- a number that is none of the copies' says what it said
   pub source_stays : (n : ℕ) → times n ns ≡ 0 → fields_at new n ≡ fields_at old n
-  source_stays n none =
-      ap (λ fs. fields_at fs n) copying.fields
-      ∙ with_fields_other (take i ns) (map fields_of copying.made) old n
-      (omega (arith, none, times_part n i ns))
+  source_stays n none = grind (arith, common_steps, with_fields_other, times_part)
 
   module _ (b : Block) (next : drop i bs ≡ b ∷ drop (i + 1) bs) where
     -- the next data block can be taken
@@ -82,19 +67,11 @@ module _ (bs : List Block) (ns : List ℕ) (i : ℕ) (old new : List Fields) (s 
       rooms_more : HasRooms t.store (copied_into b t.store d)
       rooms_more = rooms-copied b t.store d (omega (arith, room, was.within))
 
-      numbers_more : take (i + 1) ns ≡ take i ns ++ n ∷ []
-      numbers_more = take_more ns i n (slice_get_within ns i n at) ∙ ap (λ k. take i ns ++ k ∷ []) (get_or_from_slice_get ns i n n at)
-
       many_before : length (take i ns) ≡ length (map fields_of copying.made)
       many_before = omega (arith, length-take-le i ns (omega (arith, slice_get_within ns i n at)), length-map copying.made fields_of, copying.many)
 
       named_more : (k : ℕ) → count_of (with_copy b t d) k ≡ count_of t k + one_if (eqb d k)
-      named_more k =
-          count_of-set t (copied_into b t.store d) d 1 k unused.counted
-          ∙ elim (eqb_tells d k) [
-            | inl same ↦ rw same.0 (omega (arith, unused.unnamed, ap (count_of t) same.1))
-            | inr other ↦ rw other.0 (omega arith)
-          ]
+      named_more k = grind (arith, common_steps, count_of-set, eqb_tells)
 
       placed_copy : IsPlaced (copied_into b t.store d) (fields_of copy)
       placed_copy = record { there = omega (arith, unused.there, rooms_more.many); within = omega (arith, was.within, room, rooms_more.room d); banded = was.banded }
@@ -106,12 +83,11 @@ module _ (bs : List Block) (ns : List ℕ) (i : ℕ) (old new : List Fields) (s 
         fields =
             ap (λ fs. set fs n (fields_of copy)) copying.fields
             ∙ sym (with_fields_more (take i ns) (map fields_of copying.made) old n (fields_of copy) many_before)
-            ∙ (λ j. with_fields (sym numbers_more j) (sym (map-append fields_of copying.made (copy ∷ [])) j) old);
+            ∙ (λ j. with_fields (sym (take_next ns i n at) j) (sym (map-append fields_of copying.made (copy ∷ [])) j) old);
         many = omega (arith, length-append copying.made (copy ∷ []), copying.many);
         named = λ k. omega (arith, named_more k, copying.named k, (count_adds (is_naming k)).both copying.made (copy ∷ []), count_one (is_naming k) copy);
         placed =
-            All-append (λ x. IsPlaced (copied_into b t.store d) (fields_of x)) copying.made (copy ∷ [])
-            (λ k e below. placed-over t.store (copied_into b t.store d) (fields_of (get_or copying.made k e)) rooms_more (copying.placed k e below))
-            (all_of_one (λ x. IsPlaced (copied_into b t.store d) (fields_of x)) copy placed_copy);
-        rooms = record { many = rooms_more.many ∙ copying.rooms.many; room = λ k. rooms_more.room k ∙ copying.rooms.room k };
+            All-push (λ x. IsPlaced (copied_into b t.store d) (fields_of x)) copying.made copy
+            (λ k e below. placed-over t.store (copied_into b t.store d) (fields_of (get_or copying.made k e)) rooms_more (copying.placed k e below)) placed_copy;
+        rooms = rooms-both copying.rooms rooms_more;
       }

@@ -1,7 +1,8 @@
 -- Copies of blocks, one after the other.
 use Rattle.std.proofs.Common.{◌≡◌, ℕ, zero, suc, ◌+◌, ◌-◌, ◌<◌, ◌≤◌, true, false, List, [], ◌∷◌, ◌++◌, drop, take, get_or, set, length, Some, Result, Ok, Err, refl, sym, ap, ◌∙◌, subst, inl, inr, arith, get_or-set_same, get_or-set_other}
+use Rattle.std.proofs.lemmas.Option.{slice_get-map}
 use Rattle.std.specs.Result.{is_ok}
-use Rattle.std.proofs.lemmas.Bool.{cases_Bool, cases_eq, cases_lt, false≢true, le-leb}
+use Rattle.std.proofs.lemmas.Bool.{cases_eq, cases_lt, le-leb}
 use Rattle.std.proofs.lemmas.List.{append_assoc, get_or_past, length-drop, length-take}
 use Rattle.strm_data.specs.declared.class_spec.ClassSpec.{ClassSpec}
 use Rattle.strm_data.specs.declared.refusal.Refusal.{Refusal}
@@ -9,7 +10,7 @@ use Rattle.strm_data.specs.declared.refusal.Refusal.TheVariants.{NoData}
 use Rattle.strm_data.specs.Classes.{fits_a_class}
 use Rattle.std.proofs.lemmas.List.Folds.{list_any_at}
 use Rattle.strm_data.specs.CountedStore.{CountedStore, IsKept, IsUnused, after_take}
-use Rattle.strm_data.specs.DataStore.{DataStore, IsTakenFrom, capacity_of, class_of, class_spec_at, data_block_at, free_of, no_class_spec, overwritten, take_data, with_data_taken, with_kind}
+use Rattle.strm_data.specs.DataStore.{DataStore, IsTakenFrom, capacity_of, class_of, class_spec_at, data_block_at, free_of, overwritten, take_data, with_data_taken, with_kind}
 use Rattle.strm_data.proofs.store.Kept.{IsKept-altered, IsKept-take, first_unused}
 use Rattle.strm_data.proofs.store.Lawful.{lawful_rise, lawful_some}
 use Rattle.strm_data.proofs.lists.Tables.{length-overwritten}
@@ -19,12 +20,12 @@ use Rattle.strm_mblk.specs.declared.blocks.Fields.{Fields}
 use Rattle.strm_mblk.specs.BlocksLayout.{block_at, message_of}
 use Rattle.strm_mblk.proofs.lists.Numbers.{slice_get-take}
 use Rattle.strm_mblk.proofs.lists.ListParts.{drop_from}
-use Rattle.strm_mblk.proofs.layout.Shown.{slice_get-mapped}
 use Rattle.strm_mblk.proofs.making.ClassesLeft.{takes_left, takes_none}
-use Rattle.strm_mblk.proofs.layout.Rooms.{HasRooms, rooms-kind, rooms-set, rooms-taken}
-use Rattle.std.specs.Prelude.{◌⊎◌, nat_le, option_map, slice_get}
+use Rattle.strm_mblk.proofs.layout.Rooms.{HasRooms, rooms-both, rooms-kind, rooms-set, rooms-taken}
+use Rattle.std.specs.Prelude.{◌⊎◌, option_map, slice_get}
 use Rattle.strm_mblk.specs.Copying.{AreLeft, IsLeft, with_copy}
 use Rattle.strm_mblk.specs.Given.{and_then, answer_map}
+use Rattle.std.proofs.lemmas.Grind.{common_steps}
 
 -- ---- answers
 
@@ -32,7 +33,7 @@ is_ok-map : {A B : Type 0} (f : A → B) (r : Result A Refusal) → is_ok (answe
 is_ok-map f (Ok given) = refl
 is_ok-map f (Err why) = refl
 
--- nothing goes on from a refusal
+-- a refusal stays one
 is_ok-refused : {A B : Type 0} (f : A → Result B Refusal) (r : Result A Refusal) → is_ok r ≡ false → is_ok (and_then f r) ≡ false
 is_ok-refused f (Ok given) none = absurd (cc none)
 is_ok-refused f (Err why) none = refl
@@ -55,16 +56,16 @@ in_front_more made b (Err why) = refl
 
 -- ---- the blocks that are copied
 
--- the next of the blocks, and those behind it
+-- the next of the blocks, and those after it
 pub next_block : (fields : List Fields) (ns : List ℕ) (count i n : ℕ) → i < count → slice_get ns i ≡ Some n
     → drop i (take count (message_of fields ns)) ≡ block_at fields n ∷ drop (i + 1) (take count (message_of fields ns))
 next_block fields ns count i n below is =
     drop_from (take count (message_of fields ns)) i (block_at fields n)
-    (slice_get-take count i (message_of fields ns) below ∙ slice_get-mapped (block_at fields) ns i ∙ ap (option_map (block_at fields)) is)
+    (slice_get-take count i (message_of fields ns) below ∙ slice_get-map (block_at fields) ns i ∙ ap (option_map (block_at fields)) is)
 
 -- the copies so far are `made`, in store t, and b is to be copied next
 module _ (bs : List Block) (i : ℕ) (s t : DataStore) (made : List Block) (answer : copies bs s ≡ answer_map (in_front made) (copies (drop i bs) t)) (b : Block) (next : drop i bs ≡ b ∷ drop (i + 1) bs) where
-  -- what goes on from its data block
+  -- the copies from its data block on
   abbrev goes_on : ℕ → Result Made Refusal
   goes_on d = answer_map (in_front (record b { data_number = d } ∷ [])) (copies (drop (i + 1) bs) (copied_into b t d))
 
@@ -76,18 +77,11 @@ module _ (bs : List Block) (i : ℕ) (s t : DataStore) (made : List Block) (answ
 
   pub answer_more : (d : ℕ) → take_data (capacity_of t b.data_number) t ≡ Ok d
       → copies bs s ≡ answer_map (in_front (made ++ record b { data_number = d } ∷ [])) (copies (drop (i + 1) bs) (copied_into b t d))
-  answer_more d taken =
-      next_answer ∙ ap (λ r. answer_map (in_front made) (and_then goes_on r)) taken
-      ∙ in_front_more made (record b { data_number = d }) (copies (drop (i + 1) bs) (copied_into b t d))
+  answer_more d taken = grind (arith, common_steps, next_answer, in_front_more)
 
   -- a data block can be taken where all can
   pub can_take : is_ok (copies bs s) ≡ true → is_ok (take_data (capacity_of t b.data_number) t) ≡ true
-  can_take all =
-      let r = take_data (capacity_of t b.data_number) t in
-      elim (cases_Bool (is_ok r)) [
-        | inl can ↦ can
-        | inr none ↦ absurd (false≢true (sym (is_ok-refused goes_on r none) ∙ sym (is_ok-map (in_front made) (and_then goes_on r)) ∙ sym (ap is_ok next_answer) ∙ all))
-      ]
+  can_take all = grind (arith, common_steps, is_ok-refused, is_ok-map, next_answer)
 
 -- ---- one copy
 
@@ -104,19 +98,14 @@ module _ (b : Block) (s : DataStore) (d : ℕ) (room : b.offset + b.len ≤ capa
   typed = with_kind d (kind_of s b) (with_data_taken d s)
 
   rooms_typed : HasRooms s typed
-  rooms_typed =
-      let first = rooms-taken s d in
-      let second = rooms-kind (with_data_taken d s) d (kind_of s b) in
-      record { many = second.many ∙ first.many; room = λ k. second.room k ∙ first.room k }
+  rooms_typed = rooms-both (rooms-taken s d) (rooms-kind (with_data_taken d s) d (kind_of s b))
 
   as_long : length (overwritten b.offset (bytes_of_block s b) (data_block_at typed d).bytes) ≡ capacity_of typed d
   as_long = length-overwritten b.offset (bytes_of_block s b) (data_block_at typed d).bytes (omega (arith, bytes_few s b, room, rooms_typed.room d))
 
   -- data blocks keep their capacity when a copy is made
   pub rooms-copied : HasRooms s (copied_into b s d)
-  rooms-copied =
-      let last = rooms-set typed d (record (data_block_at typed d) { bytes = overwritten b.offset (bytes_of_block s b) (data_block_at typed d).bytes }) as_long in
-      record { many = last.many ∙ rooms_typed.many; room = λ k. last.room k ∙ rooms_typed.room k }
+  rooms-copied = rooms-both rooms_typed (rooms-set typed d (record (data_block_at typed d) { bytes = overwritten b.offset (bytes_of_block s b) (data_block_at typed d).bytes }) as_long)
 
 -- what a copy leaves of which the data block is the first free one of class c
 pub record HasCopy (b : Block) (s : CountedStore) (d c : ℕ) : Type 0 where
@@ -151,9 +140,7 @@ has_copy b s c kept within from =
 
 -- a data block's own class fits its capacity
 fits_own : (s : CountedStore) → IsKept s → (d : ℕ) → d < length s.store.blocks → fits_a_class (capacity_of s.store d) s.store.classes ≡ true
-fits_own s kept d there =
-    list_any_at (λ k. nat_le (capacity_of s.store d) k.size) s.store.classes (class_of s.store d) no_class_spec (kept.classed d there)
-    (le-leb (capacity_of s.store d) (class_spec_at s.store (class_of s.store d)).size (omega (arith, kept.sized d there)))
+fits_own s kept d there = grind (arith, common_steps, list_any_at, le-leb)
 
 -- what would be left after copies of the blocks before i, which are `made`
 pub record IsAhead (bs : List Block) (i : ℕ) (s t : CountedStore) (left : List ℕ) : Type 0 where
@@ -180,20 +167,12 @@ left_less b s d c left kept copy are some k =
     ]
 
 module _ (bs : List Block) (i : ℕ) (s t : CountedStore) (left : List ℕ) (ahead : IsAhead bs i s t left) (b : Block) (next : drop i bs ≡ b ∷ drop (i + 1) bs) (inside : IsInside s.store b) where
-  -- a class serves for the store as it would be
-  serves : (k : ℕ) → IsLeft (capacity_of s.store b.data_number) s.store.classes left k → IsLeft (capacity_of t.store b.data_number) t.store.classes left k
-  serves k is = record {
-    there = omega (arith, is.there, ap length ahead.classes);
-    wide = omega (arith, is.wide, ahead.rooms.room b.data_number, ap (λ cs. (get_or cs k no_class_spec).size) ahead.classes);
-    some = is.some;
-  }
+  -- a class serves for the store as it would be where it does for the store as it is
+  as_wide : ◌≡◌ {A = ℕ × List ClassSpec} (capacity_of t.store b.data_number, t.store.classes) (capacity_of s.store b.data_number, s.store.classes)
+  as_wide = λ i. (ahead.rooms.room b.data_number i, ahead.classes i)
 
   served : (k : ℕ) → IsLeft (capacity_of t.store b.data_number) t.store.classes left k → IsLeft (capacity_of s.store b.data_number) s.store.classes left k
-  served k is = record {
-    there = omega (arith, is.there, ap length ahead.classes);
-    wide = omega (arith, is.wide, ahead.rooms.room b.data_number, ap (λ cs. (get_or cs k no_class_spec).size) ahead.classes);
-    some = is.some;
-  }
+  served k = subst (λ (p : ℕ × List ClassSpec). IsLeft p.0 p.1 left k) as_wide
 
   -- none is left for the next block
   pub none_ahead : ((k : ℕ) → IsLeft (capacity_of s.store b.data_number) s.store.classes left k → ⊥) → copies bs s.store ≡ Err NoData
@@ -205,13 +184,13 @@ module _ (bs : List Block) (i : ℕ) (s t : CountedStore) (left : List ℕ) (ahe
   pub next_ahead : (c : ℕ) → IsLeft (capacity_of s.store b.data_number) s.store.classes left c → ((k : ℕ) → k < c → IsLeft (capacity_of s.store b.data_number) s.store.classes left k → ⊥)
       → (u : CountedStore) × IsAhead bs (i + 1) s u (set left c (get_or left c 0 - 1))
   next_ahead c is first =
-      let from = takes_left (capacity_of t.store b.data_number) t.store ahead.kept.lists left ahead.are c (serves c is) (λ k below other. first k below (served k other)) in
+      let from = takes_left (capacity_of t.store b.data_number) t.store ahead.kept.lists left ahead.are c (subst (λ (p : ℕ × List ClassSpec). IsLeft p.0 p.1 left c) (sym as_wide) is) (λ k below other. first k below (served k other)) in
       let d = get_or (free_of t.store c) 0 0 in
       let copy = has_copy b t c ahead.kept (omega (arith, inside.1, ahead.rooms.room b.data_number)) from in (
         with_copy b t d,
         record {
           kept = copy.kept;
-          rooms = record { many = copy.rooms.many ∙ ahead.rooms.many; room = λ k. copy.rooms.room k ∙ ahead.rooms.room k };
+          rooms = rooms-both ahead.rooms copy.rooms;
           classes = ahead.classes;
           are = left_less b t d c left ahead.kept copy ahead.are is.some;
           made = ahead.made ++ record b { data_number = d } ∷ [];
@@ -228,19 +207,7 @@ pub record IsFirstLeft (size : ℕ) (classes : List ClassSpec) (left : List ℕ)
 
 module _ (size : ℕ) (classes : List ClassSpec) (left : List ℕ) where
   is_left : (c : ℕ) → IsLeft size classes left c ⊎ (IsLeft size classes left c → ⊥)
-  is_left c =
-      elim (cases_lt c (length classes)) [
-        | inr past ↦ inr (λ is. omega (arith, is.there, past))
-        | inl there ↦
-            elim (cases_lt (get_or classes c no_class_spec).size size) [
-              | inl small ↦ inr (λ is. omega (arith, is.wide, small))
-              | inr wide ↦
-                  elim (cases_eq (get_or left c 0) 0) [
-                    | inl none ↦ inr (λ is. omega (arith, is.some, none))
-                    | inr some ↦ inl (record { there = there; wide = wide; some = omega (arith, some) })
-                  ]
-            ]
-      ]
+  is_left c = grind (arith, common_steps)
 
   first_from : (steps c last : ℕ) → c + steps ≡ last → IsLeft size classes left last → ((k : ℕ) → k < c → IsLeft size classes left k → ⊥) → (f : ℕ) × IsFirstLeft size classes left f
   first_from zero c last at is none = (c, record { is = subst (IsLeft size classes left) (let e : last ≡ c = omega (arith, at) in e) is; first = none })
@@ -257,14 +224,7 @@ module _ (size : ℕ) (classes : List ClassSpec) (left : List ℕ) where
 
 -- a class has one less at most once one was taken
 still_left : (left : List ℕ) (last c n : ℕ) → suc n ≤ get_or left last 0 → n ≤ get_or (set left c (get_or left c 0 - 1)) last 0
-still_left left last c n many =
-    elim (cases_eq last c) [
-      | inl same ↦
-          let here : get_or left last 0 ≡ get_or left c 0 = ap (λ k. get_or left k 0) same in
-          let counted : c < length left = elim (cases_lt c (length left)) [ inl inside ↦ inside | inr past ↦ absurd (omega (arith, many, here, get_or_past left c 0 past)) ] in
-          omega (arith, many, here, ap (λ k. get_or (set left c (get_or left c 0 - 1)) k 0) same, get_or-set_same left c (get_or left c 0 - 1) 0 counted)
-      | inr other ↦ omega (arith, many, get_or-set_other left c last (get_or left c 0 - 1) 0 other)
-    ]
+still_left left last c n many = grind (arith, common_steps, get_or_past, get_or-set_same, get_or-set_other)
 
 -- all can be made where the largest class has as many data blocks left
 pub enough_left : (bs : List Block) (s : CountedStore) (left : List ℕ) → IsKept s → AreLeft left s.store → ((k : ℕ) (b : Block) → slice_get bs k ≡ Some b → IsInside s.store b)

@@ -17,7 +17,7 @@ use Rattle.strm_mblk.specs.declared.blocks.Fields.{Fields}
 use Rattle.strm_mblk.specs.declared.token.TokenValue.{TokenValue}
 use Rattle.strm_mblk.specs.Arena.{Arena, has, message_at, names_of}
 use Rattle.strm_mblk.specs.Block.{Block, Message, is_naming}
-use Rattle.strm_mblk.specs.BlockCalls.{duplicated, exceeds_names, held_under}
+use Rattle.strm_mblk.specs.BlockCalls.{duplicated, exceeds_names}
 use Rattle.strm_mblk.specs.BlocksLayout.{IsFilled, IsPlaced, arena_of, block_at, exceeds_counts, fields_at, fields_of, message_of, named_by, with_fields, with_names_given}
 use Rattle.strm_mblk.specs.Messages.{held_in}
 use Rattle.strm_mblk.specs.NodeLists.{IsNodesParted, NodeLists, nodes_at}
@@ -33,6 +33,7 @@ use Rattle.strm_mblk.proofs.layout.Rewriting.{node_room}
 use Rattle.strm_mblk.proofs.layout.Rooms.{HasRooms}
 use Rattle.strm_mblk.proofs.layout.Shown.{message_at-seen}
 use Rattle.strm_mblk.proofs.arena.Tokens.{IsHad, had_again, had_message}
+use Rattle.std.proofs.lemmas.Grind.{common_steps}
 
 -- what is there once the blocks `bs` of the message that the token names are duplicated, under the head h
 pub record IsDuplicated (a : Arena) (t : CountedStore) (fields : List Fields) (w : NodeLists) (id h : ℕ) (bs : List Block) (token : TokenValue) : Type 0 where
@@ -120,10 +121,7 @@ module _ (id : ℕ) (s : CountedStore) (fields : List Fields) (v : NodeLists) (f
         counts k = ap (λ c. count_of c k) t_is ∙ counts_given ds s (used_part n (named_by fields ns) s used) k ∙ ap (λ c. count_of s k + c) (sym (named k))
 
         fields_are : with_fields (take (length bs) v.free) (map fields_of bs) fields ≡ now
-        fields_are =
-            (λ i. with_fields (take (many i) v.free) (map-map fields_of (block_at fields) (take n ns) i) fields)
-            ∙ (λ i. with_fields (sym both.into_is i) (map (fields_at fields) (take n (sym both.from_is i))) fields)
-            ∙ sym now_is
+        fields_are = grind (arith, common_steps, many, map-map, both)
 
         all_begun : IsBegunAll old t now w id h bs
         all_begun =
@@ -131,10 +129,4 @@ module _ (id : ℕ) (s : CountedStore) (fields : List Fields) (v : NodeLists) (f
             (begins_all id s fields v filled h begun bs (omega (arith, some, many)) (omega (arith, free, many)) t w kept (w_is ∙ ap (after_begin_all v h) (sym many)) parted rooms placed counts)
 
         pub duplicates : IsDuplicated old t now w id h (take n (message_at old token.head)) token
-        duplicates = record {
-          begun = subst (IsBegunAll old t now w id h) (sym bs_is) all_begun;
-          done =
-              ap (λ xs. duplicated xs old) bs_is ∙ cond-false _ _ _ room ∙ cond-false _ _ _ (exceed_is ∙ few)
-              ∙ ap (λ (x : DataStore). Ok (held_under bs x old)) (sym same_store) ∙ ap Ok (sym all_begun.shows);
-          source = had_again old (arena_of id t.store now w) token message.0 message.0 message.1 (all_begun.others token.head both.other ∙ message.1.held) refl refl;
-        }
+        duplicates = grind (arith, common_steps, bs_is, all_begun, cond-false, room, exceed_is, same_store, had_again, message, both, held)

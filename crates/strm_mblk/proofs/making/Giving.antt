@@ -1,12 +1,11 @@
 -- Data blocks are named once more, one after the other, and lose those names again.
-use Rattle.std.proofs.Common.{◌≡◌, ℕ, zero, suc, ◌+◌, ◌-◌, ◌<◌, ◌≤◌, ◌==◌, ◌||◌, Bool, true, false, eqb, List, [], ◌∷◌, ◌++◌, get_or, set, Some, refl, sym, ap, ◌∙◌, if◌then◌else◌, subst, inl, inr, arith, get_or-set_same, get_or-set_other}
+use Rattle.std.proofs.Common.{◌≡◌, ℕ, ◌+◌, ◌-◌, ◌<◌, ◌≤◌, ◌==◌, true, false, eqb, List, [], ◌∷◌, ◌++◌, get_or, set, Some, refl, sym, ap, ◌∙◌, if◌then◌else◌, subst, arith, get_or-set_same, get_or-set_other}
 use Rattle.std.specs.Prelude.{drop, nat_lt, slice_get, take}
-use Rattle.std.specs.List.{list_any}
-use Rattle.std.proofs.lemmas.Bool.{cases_eq, cond-false, eq-eqb, le-ltb, lt-ltb, ne_eqb}
+use Rattle.std.proofs.lemmas.Bool.{cond-false, eq-eqb, le-ltb, lt-ltb, ne_eqb}
 use Rattle.std.proofs.lemmas.Bool.Decides.{eqb_tells}
-use Rattle.std.proofs.lemmas.List.{set-get_or, set-set, take-append-drop}
-use Rattle.std.proofs.lemmas.List.Folds.{list_any_none}
-use Rattle.std.proofs.lemmas.Option.{none-some, same_Some}
+use Rattle.std.proofs.lemmas.List.{set-get_or, set-set, take-append-drop, take-take, take_more}
+use Rattle.std.proofs.lemmas.List.Folds.{list_any_at, list_any_none}
+use Rattle.std.proofs.lemmas.Option.{get_or_from_slice_get, slice_get_within}
 use Rattle.strm_data.specs.CountedStore.{CountedStore, IsKept, count_of, with_name, without_name}
 use Rattle.strm_data.specs.DataStore.{times, with_data_freed}
 use Rattle.strm_links.proofs.lists.Counting.{one_if, times-append, times-cons, times_here}
@@ -16,6 +15,7 @@ use Rattle.strm_mblk.proofs.lists.Numbers.{slice_get-take, times_at}
 use Rattle.strm_mblk.proofs.freeing.Dropping.{counted_there}
 use Rattle.strm_mblk.proofs.arena.Heads.{set_apart}
 use Rattle.strm_mblk.proofs.layout.Rooms.{count_of-set}
+use Rattle.std.proofs.lemmas.Grind.{common_steps}
 
 -- the store that is counted stays
 pub store_given : (ds : List ℕ) (s : CountedStore) → (with_names_given ds s).store ≡ s.store
@@ -29,12 +29,7 @@ given_more (e ∷ ds) d s = given_more ds d (with_name e s)
 
 -- the counts once d has a name more
 named_more : (s : CountedStore) (d : ℕ) → 0 < count_of s d → (k : ℕ) → count_of (with_name d s) k ≡ count_of s k + one_if (eqb d k)
-named_more s d used k =
-    count_of-set s s.store d (count_of s d + 1) k (counted_there s d used)
-    ∙ elim (eqb_tells d k) [
-      | inl same ↦ rw same.0 (ap (λ j. count_of s j + 1) same.1)
-      | inr other ↦ rw other.0 (omega arith)
-    ]
+named_more s d used k = grind (arith, common_steps, count_of-set, counted_there, eqb_tells)
 
 -- each of these data blocks is in use
 abbrev pub AreUsed : List ℕ → CountedStore → Type 0
@@ -52,21 +47,13 @@ more_used d ds s used k some = omega (arith, rest_used d ds s used k some, named
 -- the counts once several have a name more
 pub counts_given : (ds : List ℕ) (s : CountedStore) → AreUsed ds s → (k : ℕ) → count_of (with_names_given ds s) k ≡ count_of s k + times k ds
 counts_given [] s used k = omega arith
-counts_given (d ∷ ds) s used k =
-    omega (arith, counts_given ds (with_name d s) (more_used d ds s used) k, named_more s d (first_used d ds s used) k, times-cons k d ds)
+counts_given (d ∷ ds) s used k = grind (arith, common_steps, (counts_given ds (with_name d s) (more_used d ds s used) k), more_used, named_more, first_used, times-cons)
 
 -- ---- back
 
 -- the order of names is no matter
 name_apart : (d e : ℕ) (s : CountedStore) → with_name d (with_name e s) ≡ with_name e (with_name d s)
-name_apart d e s =
-    elim (cases_eq d e) [
-      | inl same ↦ rw same refl
-      | inr other ↦
-          (λ i. record s { counts = set (set s.counts e (count_of s e + 1)) d (get_or-set_other s.counts e d (count_of s e + 1) 0 other i + 1) })
-          ∙ ap (λ cs. record s { counts = cs }) (set_apart s.counts e d (count_of s e + 1) (count_of s d + 1) (λ same. other (sym same)))
-          ∙ sym (λ i. record s { counts = set (set s.counts d (count_of s d + 1)) e (get_or-set_other s.counts d e (count_of s d + 1) 0 (λ same. other (sym same)) i + 1) })
-    ]
+name_apart d e s = grind (arith, common_steps, get_or-set_other, set_apart)
 
 name_first : (d : ℕ) (ds : List ℕ) (s : CountedStore) → with_names_given ds (with_name d s) ≡ with_name d (with_names_given ds s)
 name_first d [] s = refl
@@ -86,25 +73,15 @@ name_back d s used =
 -- and so are several
 pub given_back : (ds : List ℕ) (s : CountedStore) → AreUsed ds s → with_names_dropped ds (with_names_given ds s) ≡ s
 given_back [] s used = refl
-given_back (d ∷ ds) s used =
-    ap (λ t. with_names_dropped ds (without_name d t)) (name_first d ds s)
-    ∙ ap (with_names_dropped ds) (name_back d (with_names_given ds s) (omega (arith, first_used d ds s used, counts_given ds s (rest_used d ds s used) d)))
-    ∙ given_back ds s (rest_used d ds s used)
+given_back (d ∷ ds) s used = grind (arith, common_steps, (given_back ds s (rest_used d ds s used)), name_first, name_back, first_used, counts_given, rest_used)
 
 -- ---- too many
 
-any_at : (p : ℕ → Bool) (xs : List ℕ) (i x : ℕ) → slice_get xs i ≡ Some x → p x ≡ true → list_any p xs ≡ true
-any_at p [] i x is passes = absurd (none-some x is)
-any_at p (y ∷ xs) zero x is passes = ap (λ b. b || list_any p xs) (ap p (same_Some y x is) ∙ passes)
-any_at p (y ∷ xs) (suc i) x is passes = ap (λ b. p y || b) (any_at p xs i x is passes) ∙ or_true (p y)
-  where
-    or_true : (b : Bool) → (b || true) ≡ true
-    or_true true = refl
-    or_true false = refl
-
 -- one of them would have more than most_data_block_names
 pub exceeds : (ds : List ℕ) (s : CountedStore) (i d : ℕ) → slice_get ds i ≡ Some d → most_data_block_names < count_of s d + times d ds → exceeds_counts ds s ≡ true
-exceeds ds s i d is many = any_at (λ k. nat_lt most_data_block_names (count_of s k + times k ds)) ds i d is (lt-ltb most_data_block_names (count_of s d + times d ds) many)
+exceeds ds s i d is many =
+    list_any_at (λ k. nat_lt most_data_block_names (count_of s k + times k ds)) ds i d (slice_get_within ds i d is)
+    (ap (λ k. nat_lt most_data_block_names (count_of s k + times k ds)) (get_or_from_slice_get ds i d d is) ∙ lt-ltb most_data_block_names (count_of s d + times d ds) many)
 
 -- none has
 pub not_exceeds : (ds : List ℕ) (s : CountedStore) → AreUsed ds s → IsKept (with_names_given ds s) → exceeds_counts ds s ≡ false
@@ -115,19 +92,8 @@ not_exceeds ds s used kept =
 -- ---- one step of the loop
 
 -- the first of a list, and one more
-take_more : (ds : List ℕ) (i d : ℕ) → slice_get ds i ≡ Some d → take (i + 1) ds ≡ take i ds ++ d ∷ []
-take_more [] i d is = absurd (none-some d is)
-take_more (x ∷ ds) zero d is = ap (λ y. y ∷ []) (same_Some x d is)
-take_more (x ∷ ds) (suc i) d is =
-    let next : suc i + 1 ≡ suc (i + 1) = omega arith in
-    ap (λ j. take j (x ∷ ds)) next ∙ ap (λ ys. x ∷ ys) (take_more ds i d is)
-
--- of the first of a list, the first
-take_first : (i n : ℕ) (ds : List ℕ) → i ≤ n → take i (take n ds) ≡ take i ds
-take_first zero n ds within = refl
-take_first (suc i) zero ds within = absurd (omega (arith, within))
-take_first (suc i) (suc n) [] within = refl
-take_first (suc i) (suc n) (x ∷ ds) within = ap (λ ys. x ∷ ys) (take_first i n ds (omega (arith, within)))
+pub take_next : (ns : List ℕ) (i n : ℕ) → slice_get ns i ≡ Some n → take (i + 1) ns ≡ take i ns ++ n ∷ []
+take_next ns i n is = take_more ns i n (slice_get_within ns i n is) ∙ ap (λ k. take i ns ++ k ∷ []) (get_or_from_slice_get ns i n n is)
 
 -- a part of a list has a number no more often
 pub times_part : (k i : ℕ) (ds : List ℕ) → times k (take i ds) ≤ times k ds
@@ -163,7 +129,7 @@ module _ (all : List ℕ) (i : ℕ) (old s : CountedStore) (used : AreUsed all o
 
     -- and has a name more, too
     pub next_given : with_name d s ≡ with_names_given (take (i + 1) all) old
-    next_given = ap (with_name d) s_is ∙ sym (given_more (take i all) d old) ∙ ap (λ ds. with_names_given ds old) (sym (take_more all i d is))
+    next_given = ap (with_name d) s_is ∙ sym (given_more (take i all) d old) ∙ ap (λ ds. with_names_given ds old) (sym (take_next all i d is))
 
     -- unless it has all that it can have
     pub next_full : (n : ℕ) → i < n → count_of s d ≡ most_data_block_names → exceeds_counts (take n all) old ≡ true
@@ -173,9 +139,9 @@ module _ (all : List ℕ) (i : ℕ) (old s : CountedStore) (used : AreUsed all o
           arith,
           full,
           counts_now d,
-          ap (times d) (take_more all i d is),
+          ap (times d) (take_next all i d is),
           times-append d (take i all) (d ∷ []),
           times_here d d [] refl,
-          ap (times d) (take_first (i + 1) n all (omega (arith, within))),
+          ap (times d) (take-take (i + 1) n all (omega (arith, within))),
           times_part d (i + 1) (take n all),
         ))

@@ -1,5 +1,6 @@
--- Bytes are taken from the blocks behind the first of a message: what they say then, and the names that are dropped.
-use Rattle.std.proofs.Common.{◌≡◌, ℕ, suc, ◌+◌, ◌-◌, ◌<◌, ◌≤◌, false, List, [], ◌∷◌, length, set, Some, refl, sym, ap, ◌∙◌, arith}
+-- Bytes are taken from the blocks after the first of a message: what they say then, and the names that are dropped.
+use Rattle.std.proofs.Common.{◌≡◌, ℕ, suc, ◌+◌, ◌-◌, ◌<◌, ◌≤◌, false, List, [], ◌∷◌, length, set, Some, refl, ap, ◌∙◌, arith}
+use Rattle.std.proofs.lemmas.Option.{slice_get-map}
 use Rattle.std.specs.Prelude.{drop, option_map, slice_get, take}
 use Rattle.std.proofs.lemmas.List.{drop-map, drop_all, length-drop, length-map, length-take}
 use Rattle.strm_data.specs.CountedStore.{CountedStore, count_of, without_name}
@@ -11,19 +12,19 @@ use Rattle.strm_mblk.specs.BlocksLayout.{block_at, fields_at, message_of, named_
 use Rattle.strm_mblk.specs.Cutting.{fields_cut, with_bytes_cut}
 use Rattle.strm_mblk.specs.Trimming.{used_up}
 use Rattle.strm_mblk.proofs.freeing.Dropping.{IsDropping, named-get, next_dropping, next_used, start_dropping}
-use Rattle.strm_mblk.proofs.layout.Shown.{slice_get-mapped}
 use Rattle.strm_mblk.proofs.lists.ListParts.{drop_from}
 use Rattle.strm_mblk.proofs.lists.Numbers.{slice_get-take}
 use Rattle.strm_mblk.proofs.pulling.Taken.{IsTaking, done_taking, end_taking, more_used, next_taking, part_taking, start_taking}
 use Rattle.strm_mblk.proofs.trimming.Cutting.{cut_none}
+use Rattle.std.proofs.lemmas.Grind.{common_steps}
 
--- what stands behind the first
+-- places after the first
 get_behind : (ns : List ℕ) (i : ℕ) → slice_get (drop 1 ns) i ≡ slice_get ns (i + 1)
 get_behind [] i = refl
 get_behind (n ∷ ns) i = ap (slice_get (n ∷ ns)) (let e : suc i ≡ i + 1 = omega arith in e)
 
 module _ (fields : List Fields) (ns : List ℕ) (count : ℕ) (old : CountedStore) where
-  -- the blocks behind the first
+  -- the blocks after the first
   abbrev pub behind : List Block
   behind = message_of fields (drop 1 ns)
 
@@ -46,68 +47,33 @@ module _ (fields : List Fields) (ns : List ℕ) (count : ℕ) (old : CountedStor
     pub dropping : IsDropping names i old s
 
   pub first_takes : ((d : ℕ) → times d (named_by fields ns) ≤ count_of old d) → AreTaking 0 count old
-  first_takes named =
-      let data_of : ℕ → ℕ = λ n. (fields_at fields n).data_number in
-      record {
-        taking = start_taking count behind;
-        dropping = start_dropping names old (λ d. omega (
-          arith,
-          named d,
-          times-take d all (named_by fields (drop 1 ns)),
-          ap (times d) (drop-map data_of 1 ns),
-          times-drop d 1 (named_by fields ns),
-        ));
-      }
+  first_takes named = grind (arith, common_steps, start_taking, start_dropping, times-take, drop-map, times-drop)
 
   module _ (i left : ℕ) (s : CountedStore) (takes : AreTaking i left s) where
     dropped_all : i ≡ all → s ≡ with_names_dropped (take i (named_by fields (drop 1 ns))) old
-    dropped_all used =
-        let none : drop i names ≡ [] = drop_all i names (omega (arith, used, length-take all (named_by fields (drop 1 ns)))) in
-        sym (ap (λ ds. with_names_dropped ds s) none) ∙ takes.dropping.after ∙ ap (λ k. with_names_dropped (take k (named_by fields (drop 1 ns))) old) (sym used)
+    dropped_all used = grind (arith, common_steps, drop_all, length-take)
 
     left_now : (ks : List ℕ) → with_bytes_cut false left ks fields ≡ with_bytes_cut false (count - size_of (take i behind)) ks fields
     left_now ks = ap (λ n. with_bytes_cut false n ks fields) takes.taking.left_is
 
     -- nothing is left to take
     pub nothing_left : left ≡ 0 → AreTaken i fields s
-    nothing_left none =
-        let used = done_taking count behind i left takes.taking none in
-        record {
-          used = used;
-          dropped = dropped_all used;
-          cut = sym (cut_none (drop (i + 1) ns) fields) ∙ ap (λ n. with_bytes_cut false n (drop (i + 1) ns) fields) (sym none) ∙ left_now (drop (i + 1) ns);
-        }
+    nothing_left none = grind (arith, common_steps, done_taking, dropped_all, cut_none, left_now)
 
     -- or no block to take it from
     pub none_left : length ns ≤ i + 1 → AreTaken i fields s
-    none_left last =
-        let used = end_taking count behind i left takes.taking (drop_all i behind (omega (arith, last, length-map (drop 1 ns) (block_at fields), length-drop 1 ns))) in
-        record {
-          used = used;
-          dropped = dropped_all used;
-          cut = ap (λ ks. with_bytes_cut false left ks fields) (sym (drop_all (i + 1) ns last)) ∙ left_now (drop (i + 1) ns);
-        }
+    none_left last = grind (arith, common_steps, end_taking, drop_all, length-map, length-drop, dropped_all, left_now)
 
     module _ (n : ℕ) (at : slice_get ns (i + 1) ≡ Some n) where
       here : slice_get (drop 1 ns) i ≡ Some n
       here = get_behind ns i ∙ at
 
       block_here : slice_get behind i ≡ Some (block_at fields n)
-      block_here = slice_get-mapped (block_at fields) (drop 1 ns) i ∙ ap (option_map (block_at fields)) here
+      block_here = slice_get-map (block_at fields) (drop 1 ns) i ∙ ap (option_map (block_at fields)) here
 
       -- the next block has more
       pub part_left : left < (fields_at fields n).len → AreTaken i (set fields n (fields_cut false left (fields_at fields n))) s
-      part_left many =
-          let used = part_taking count behind i left takes.taking (block_at fields n) block_here many in
-          let none : left - (fields_at fields n).len ≡ 0 = omega (arith, many) in
-          record {
-            used = used;
-            dropped = dropped_all used;
-            cut =
-                sym (cut_none (drop (i + 1 + 1) ns) (set fields n (fields_cut false left (fields_at fields n))))
-                ∙ ap (λ m. with_bytes_cut false m (drop (i + 1 + 1) ns) (set fields n (fields_cut false left (fields_at fields n)))) (sym none)
-                ∙ ap (λ ks. with_bytes_cut false left ks fields) (sym (drop_from ns (i + 1) n at)) ∙ left_now (drop (i + 1) ns);
-          }
+      part_left many = grind (arith, common_steps, part_taking, block_here, dropped_all, cut_none, drop_from, left_now)
 
       -- or it is used up, and its name is dropped
       module _ (some : 0 < left) (few : (fields_at fields n).len ≤ left) where

@@ -1,10 +1,9 @@
--- Bytes are taken from the blocks behind the first of a message, and those that are used up are freed.
-use Rattle.std.proofs.Common.{◌≡◌, ℕ, ◌+◌, ◌-◌, ◌<◌, ◌≤◌, false, ◌==◌, List, [], ◌∷◌, ◌++◌, length, Some, refl, sym, ap, ◌∙◌, subst, inl, inr, arith, if◌then◌else◌}
+-- Bytes are taken from the blocks after the first of a message, and the blocks that are used up are freed.
+use Rattle.std.proofs.Common.{◌≡◌, ℕ, ◌+◌, ◌-◌, ◌<◌, ◌≤◌, false, List, [], ◌∷◌, ◌++◌, length, Some, refl, sym, ap, ◌∙◌, arith}
 use Rattle.std.specs.Prelude.{count_by, drop, take}
-use Rattle.std.proofs.lemmas.Bool.{cases_Bool}
 use Rattle.std.proofs.lemmas.List.{drop-drop, drop-map, map-append, set-set, take-map}
 use Rattle.strm_data.specs.CountedStore.{CountedStore, IsKept}
-use Rattle.strm_data.specs.DataStore.{times, with_data_freed}
+use Rattle.strm_data.specs.DataStore.{times}
 use Rattle.strm_links.proofs.lists.Counting.{split_behind, times-append, times-drop, times_here}
 use Rattle.strm_mblk.specs.declared.blocks.Fields.{Fields}
 use Rattle.strm_mblk.specs.Arena.{Arena, message_at, names_of, shelved_blocks, with_message}
@@ -15,40 +14,25 @@ use Rattle.strm_mblk.specs.Freeing.{with_block_freed, with_blocks_freed, with_na
 use Rattle.strm_mblk.specs.Messages.{held_in}
 use Rattle.strm_mblk.specs.NodeLists.{IsNodesParted, NodeLists, after_behind_freed, nodes_at}
 use Rattle.strm_mblk.specs.Pulling.{drained}
-use Rattle.strm_mblk.specs.Trimming.{cut_front, is_used_up, left_over, used_up}
+use Rattle.strm_mblk.specs.Trimming.{cut_front, left_over, used_up}
 use Rattle.strm_mblk.proofs.lists.Additive.{count_adds}
 use Rattle.strm_mblk.proofs.lists.Numbers.{first_rest}
 use Rattle.strm_mblk.proofs.arena.Counts.{held_moves}
 use Rattle.strm_mblk.proofs.chaining.Standing.{begins_with}
 use Rattle.strm_mblk.proofs.freeing.Freemsg.{IsFreed, frees_some}
-use Rattle.strm_mblk.proofs.layout.Rewriting.{AreRewritten, alike_apart, message_filled, message_shows, once_within, within_room}
+use Rattle.strm_mblk.proofs.layout.Rewriting.{AreRewritten, alike_apart, message_filled, message_shows, named-same, once_within, within_room}
 use Rattle.strm_mblk.proofs.layout.Shown.{message-alike, message_at-seen}
 use Rattle.strm_mblk.proofs.pulling.BytesTaken.{AreTaken}
 use Rattle.strm_mblk.proofs.pulling.Taken.{left_others, used_first}
 use Rattle.strm_mblk.proofs.trimming.Cutting.{cut_apart, cut_named, cut_placed, length-cut, message_cut}
+use Rattle.std.proofs.lemmas.Grind.{common_steps}
 
 -- ---- names
 
 -- blocks that are used up, and those that stay, name what all did
 kept_names : (d n : ℕ) (bs : List Block) → count_by (is_naming d) (left_over n bs) + count_by (is_naming d) (used_up n bs) ≡ count_by (is_naming d) bs
 kept_names d n [] = omega arith
-kept_names d n (b ∷ bs) =
-    elim (cases_Bool (is_used_up n b)) [
-      | inl used ↦
-          rw used (omega (
-            arith,
-            (count_adds (is_naming d)).both (b ∷ []) bs,
-            (count_adds (is_naming d)).both (b ∷ []) (used_up (n - b.len) bs),
-            kept_names d (n - b.len) bs,
-          ))
-      | inr part ↦
-          rw part (omega (
-            arith,
-            (count_adds (is_naming d)).both (b ∷ []) bs,
-            (count_adds (is_naming d)).both (record b { offset = b.offset + n; len = b.len - n } ∷ []) bs,
-            (count_adds (is_naming d)).none,
-          ))
-    ]
+kept_names d n (b ∷ bs) = grind (arith, common_steps, (kept_names d (n - b.len) bs), count_adds)
 
 module _ (h n d : ℕ) (b : Block) (bs : List Block) (a : Arena) (inside : h < length a.held) where
   -- so do the messages and the blocks that were used up
@@ -65,9 +49,7 @@ module _ (h n d : ℕ) (b : Block) (bs : List Block) (a : Arena) (inside : h < l
 
   -- a name may be dropped before the blocks are taken out, or then
   pub dropped_later : with_message h (b ∷ left_over n bs) (with_name_dropped d [] (with_message h (b ∷ bs) a)) ≡ with_name_dropped d (used_up n bs) (with_message h (b ∷ left_over n bs) a)
-  dropped_later =
-      let held_now = set-set a.held h (Some (b ∷ bs)) (Some (b ∷ left_over n bs)) in
-      λ i. record a { store = if sym names_later i == 0 then with_data_freed d a.store else a.store; held = held_now i }
+  dropped_later = grind (arith, common_steps, set-set, names_later)
 
 -- blocks that are freed leave the held messages
 pub freed_held : (bs : List Block) (a : Arena) → (with_blocks_freed bs a).held ≡ a.held
@@ -78,12 +60,7 @@ pub freed_id : (bs : List Block) (a : Arena) → (with_blocks_freed bs a).id ≡
 freed_id [] a = refl
 freed_id (b ∷ bs) a = freed_id bs (with_block_freed b bs a)
 
--- ---- what lies behind it
-
--- blocks that name what they named
-named-same : (old new : List Fields) → ((n : ℕ) → (fields_at new n).data_number ≡ (fields_at old n).data_number) → (ns : List ℕ) → named_by new ns ≡ named_by old ns
-named-same old new same [] = refl
-named-same old new same (n ∷ ns) = λ i. same n i ∷ named-same old new same ns i
+-- ---- as the code stores it
 
 module _ (id : ℕ) (s : CountedStore) (fields : List Fields) (v : NodeLists) (filled : IsFilled s fields v (arena_of id s.store fields v)) (h : ℕ) (held : held_in v.held h ≡ Some (nodes_at v h)) (count i : ℕ) where
   abbrev old : Arena
@@ -92,7 +69,7 @@ module _ (id : ℕ) (s : CountedStore) (fields : List Fields) (v : NodeLists) (f
   abbrev ns : List ℕ
   ns = nodes_at v h
 
-  -- the blocks behind the first
+  -- the blocks after the first
   abbrev bs : List Block
   bs = message_of fields (drop 1 ns)
 
@@ -113,7 +90,7 @@ module _ (id : ℕ) (s : CountedStore) (fields : List Fields) (v : NodeLists) (f
   nodes_are : ns ≡ h ∷ drop 1 ns
   nodes_are = first_rest ns h (begins_with v filled.parted h ns held)
 
-  -- how often a number stands there
+  -- how often a number is there
   sums : (n : ℕ) → times n ns ≡ times n (take 1 ns) + (times n out + times n rest)
   sums n = ap (times n) (split_behind ns i) ∙ omega (arith, times-append n (take 1 ns) (out ++ rest), times-append n out rest)
 
@@ -155,9 +132,7 @@ module _ (id : ℕ) (s : CountedStore) (fields : List Fields) (v : NodeLists) (f
         ∙ sym (take-map (block_at fields) i (drop 1 ns)) ∙ bytes_used
 
     rest_is : message_of fields rest ≡ drop i bs
-    rest_is =
-        let one_more : 1 + i ≡ i + 1 = omega arith in
-        ap (message_of fields) (sym (drop-drop i 1 ns ∙ ap (λ k. drop k ns) one_more)) ∙ sym (drop-map (block_at fields) i (drop 1 ns))
+    rest_is = grind (arith, common_steps, drop-drop, drop-map)
 
     rest_now : message_of now rest ≡ left_over count bs
     rest_now =
@@ -186,11 +161,7 @@ module _ (id : ℕ) (s : CountedStore) (fields : List Fields) (v : NodeLists) (f
         )
 
     drained_is : with_blocks_freed (message_of now out) (with_message h (message_of now (take 1 ns ++ rest)) (arena_of id s.store now v)) ≡ drained h count (message_at old h) old
-    drained_is =
-        ap (λ a. with_blocks_freed (message_of now out) (with_message h (message_of now (take 1 ns ++ rest)) a)) shows_now
-        ∙ ap (λ xs. with_blocks_freed (message_of now out) (record old { held = xs })) (set-set old.held h (Some (message_of now ns)) (Some (message_of now (take 1 ns ++ rest))))
-        ∙ (λ k. with_blocks_freed (out_now k) (with_message h (message_now k) old))
-        ∙ ap (λ m. drained h count m old) (sym (message_at-seen id s.store fields v h ∙ ap (message_of fields) nodes_are))
+    drained_is = grind (arith, common_steps, shows_now, set-set, out_now, message_now, message_at-seen, nodes_are)
 
     frees_now : (t : CountedStore) (w : NodeLists) → t ≡ with_names_dropped (take i (named_by fields (drop 1 ns))) s → IsKept t → w ≡ after_behind_freed h i ns v → IsNodesParted w
         → IsFreed old (drained h count (message_at old h) old) t now w id
@@ -206,5 +177,4 @@ module _ (id : ℕ) (s : CountedStore) (fields : List Fields) (v : NodeLists) (f
 
   pub drains : (fields' : List Fields) (t : CountedStore) (w : NodeLists) → AreTaken fields ns count s i fields' t → IsKept t → w ≡ after_behind_freed h i ns v → IsNodesParted w
       → IsFreed old (drained h count (message_at old h) old) t fields' w id
-  drains fields' t w taken kept w_is parted =
-      subst (λ fs. IsFreed old (drained h count (message_at old h) old) t fs w id) (sym taken.cut) (frees_now taken.used t w taken.dropped kept w_is parted)
+  drains fields' t w taken kept w_is parted = grind (arith, common_steps, frees_now)

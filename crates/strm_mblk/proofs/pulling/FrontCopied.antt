@@ -1,38 +1,28 @@
 -- The bytes of a message are copied into a data block, one message block after the other.
-use Rattle.std.proofs.Common.{◌≡◌, ◌≢◌, ℕ, ◌+◌, ◌-◌, ◌<◌, ◌≤◌, List, ◌++◌, length, take, drop, set, Some, sym, ap, ◌∙◌, inl, inr, arith, append_assoc, length-append, get_or-set_same, get_or-set_other}
+use Rattle.std.proofs.Common.{◌≡◌, ◌≢◌, ℕ, ◌+◌, ◌-◌, ◌<◌, ◌≤◌, List, ◌++◌, length, take, drop, Some, sym, ap, ◌∙◌, inl, inr, arith, length-append, get_or-set_same, get_or-set_other}
 use Rattle.std.specs.Prelude.{min, slice_get}
 use Rattle.std.proofs.Math.Seq.{drop-append-add, drop-append_seam, take-add, take-append_seam}
 use Rattle.std.proofs.lemmas.Bool.{cases_lt}
 use Rattle.std.proofs.lemmas.List.{drop-drop, drop-take, length-take-le, set-set, take-append-le, take-take}
 use Rattle.strm_data.specs.CountedStore.{CountedStore}
-use Rattle.strm_data.specs.DataStore.{DataBlock, DataStore, data_block_at, no_data_block, overwritten, with_bytes_copied, with_bytes_written}
+use Rattle.strm_data.specs.DataStore.{DataStore, data_block_at, overwritten, with_bytes_copied, with_bytes_written}
 use Rattle.strm_mblk.specs.declared.blocks.Fields.{Fields}
 use Rattle.strm_mblk.specs.Block.{Block, bytes_of, bytes_of_block}
 use Rattle.strm_mblk.specs.BlocksLayout.{IsPlaced, block_of}
 use Rattle.strm_mblk.specs.Pulling.{with_front_copied}
 use Rattle.strm_mblk.proofs.reading.Bytes.{length-bytes_of_block}
 use Rattle.strm_mblk.proofs.lists.ListParts.{drop_from}
+use Rattle.std.proofs.lemmas.Grind.{common_steps}
 
--- bytes at the front, and more behind them
+-- bytes at the front, and more after them
 overwritten_more : (front more old : List ℕ) → overwritten (length front) more (overwritten 0 front old) ≡ overwritten 0 (front ++ more) old
-overwritten_more front more old =
-    let n = length front in
-    let rest = drop (0 + n) old in
-    (λ i. take-append_seam front rest i ++ (more ++ drop-append-add front rest (length more) i))
-    ∙ ap (λ xs. front ++ (more ++ xs)) (drop-drop (length more) (0 + n) old)
-    ∙ sym (append_assoc front more (drop (0 + n + length more) old))
-    ∙ ap (λ k. (front ++ more) ++ drop k old) (omega (arith, length-append front more))
+overwritten_more front more old = grind (arith, common_steps, take-append_seam, drop-append-add, drop-drop, length-append)
 
 module _ (s : DataStore) (d : ℕ) (there : d < length s.blocks) where
   written_more : (front more : List ℕ) → with_bytes_written d (length front) more (with_bytes_written d 0 front s) ≡ with_bytes_written d 0 (front ++ more) s
-  written_more front more =
-      let b = data_block_at s d in
-      let first : DataBlock = record b { bytes = overwritten 0 front b.bytes } in
-      ap (λ (x : DataBlock). record s { blocks = set (set s.blocks d first) d (record x { bytes = overwritten (length front) more x.bytes }) }) (get_or-set_same s.blocks d first no_data_block there)
-      ∙ ap (λ bs. record s { blocks = bs }) (set-set s.blocks d first (record b { bytes = overwritten (length front) more (overwritten 0 front b.bytes) }))
-      ∙ ap (λ bytes. record s { blocks = set s.blocks d (record b { bytes = bytes }) }) (overwritten_more front more b.bytes)
+  written_more front more = grind (arith, common_steps, get_or-set_same, set-set, overwritten_more)
 
--- `done` of the `count` bytes, those of the blocks before k as far as they go, stand in the data block
+-- `done` of the `count` bytes, those of the blocks before k as far as they go, are in the data block
 pub record IsFrontCopied (s : CountedStore) (m : List Block) (into count k done : ℕ) (t : CountedStore) : Type 0 where
   pub few : done ≤ count
   pub after : t ≡ with_front_copied into done m s
@@ -64,9 +54,7 @@ module _ (s : CountedStore) (m : List Block) (into count k done : ℕ) (t : Coun
     more = take len (drop done all)
 
     untouched : (data_block_at t.store f.data_number).bytes ≡ (data_block_at s.store f.data_number).bytes
-    untouched =
-        ap (λ (c : CountedStore). (data_block_at c.store f.data_number).bytes) copied.after
-        ∙ ap (λ (x : DataBlock). x.bytes) (get_or-set_other s.store.blocks into f.data_number _ no_data_block other)
+    untouched = grind (arith, common_steps, get_or-set_other)
 
     more_is : take len (drop f.offset (data_block_at t.store f.data_number).bytes) ≡ more
     more_is =

@@ -1,12 +1,12 @@
 -- The first block of a held message takes a data block that has the first bytes of the message.
-use Rattle.std.proofs.Common.{◌≡◌, ℕ, suc, ◌+◌, ◌<◌, ◌≤◌, Bool, eqb, List, [], ◌∷◌, length, set, Some, refl, sym, ap, ◌∙◌, subst, inl, inr, arith, ◌==◌, if◌then◌else◌, get_or-set_same, length-set}
+use Rattle.std.proofs.Common.{◌≡◌, ℕ, suc, ◌+◌, ◌<◌, ◌≤◌, eqb, List, [], ◌∷◌, length, set, Some, refl, sym, ap, ◌∙◌, subst, arith, get_or-set_same, length-set}
 use Rattle.std.specs.Prelude.{count_by, drop, option_map, take}
 use Rattle.std.proofs.lemmas.Bool.{eq-eqb}
 use Rattle.std.proofs.lemmas.List.{length-take}
 use Rattle.std.proofs.lemmas.Bool.Decides.{eqb_tells}
 use Rattle.strm_data.specs.declared.msg_type.MsgType.{MsgType}
 use Rattle.strm_data.specs.CountedStore.{CountedStore, IsKept, IsUnused, count_of, without_name}
-use Rattle.strm_data.specs.DataStore.{DataStore, capacity_of, times, with_bytes_written, with_data_freed, with_data_taken, with_kind}
+use Rattle.strm_data.specs.DataStore.{DataStore, capacity_of, times, with_data_taken, with_kind}
 use Rattle.strm_links.proofs.lists.Counting.{one_if, times_here}
 use Rattle.strm_mblk.specs.declared.blocks.Fields.{Fields}
 use Rattle.strm_mblk.specs.Arena.{Arena, held_at, message_at, names_of, shelved_blocks, with_message}
@@ -30,6 +30,7 @@ use Rattle.strm_mblk.proofs.layout.Places.{IsHeldHead}
 use Rattle.strm_mblk.proofs.layout.Shown.{held_at-seen, message_at-seen}
 use Rattle.strm_mblk.proofs.layout.Unaltered.{bytes-message, bytes-typed}
 use Rattle.strm_mblk.proofs.altering.Writing.{rooms-written}
+use Rattle.std.proofs.lemmas.Grind.{common_steps}
 
 -- a data block that is taken, gets a type, and then the first bytes of some blocks, keeps its capacity
 rooms-pulled : (s : DataStore) (n : ℕ) (b : Block) (bs : List Block) (d : ℕ) → n ≤ capacity_of s d → HasRooms s (pulled_into n (b ∷ bs) s d)
@@ -50,7 +51,7 @@ module _ (id : ℕ) (s : CountedStore) (fields : List Fields) (v : NodeLists) (f
   abbrev was : Fields
   was = fields_at fields h
 
-  -- the blocks behind the first
+  -- the blocks after the first
   abbrev rest : List Block
   rest = message_of fields (drop 1 (nodes_at v h))
 
@@ -77,27 +78,16 @@ module _ (id : ℕ) (s : CountedStore) (fields : List Fields) (v : NodeLists) (f
   pub pulled_is : (n d : ℕ) (kind : MsgType) → kind ≡ kind_of s.store (block_at fields h) → (w u : CountedStore)
       → w ≡ record { store = with_kind d kind (with_data_taken d s.store); counts = set s.counts d 1 } → u ≡ with_front_copied d n (message_of fields (nodes_at v h)) w
       → u ≡ record { store = pulled_into n (block_at fields h ∷ rest) s.store d; counts = set s.counts d 1 }
-  pulled_is n d kind kind_is w u w_is u_is =
-      let typed : CountedStore = record { store = with_kind d kind (with_data_taken d s.store); counts = set s.counts d 1 } in
-      let m = block_at fields h ∷ rest in
-      u_is ∙ (λ i. with_front_copied d n (message_of fields (nodes_are i)) (w_is i))
-      ∙ ap (λ bytes. record typed { store = with_bytes_written d 0 (take n bytes) typed.store }) (bytes-message s.store typed.store (bytes-typed s.store d kind) m)
-      ∙ ap (λ e. record typed { store = with_bytes_written d 0 (take n (bytes_of s.store m)) (with_kind d e (with_data_taken d s.store)) }) kind_is
+  pulled_is n d kind kind_is w u w_is u_is = grind (arith, common_steps, nodes_are, bytes-message, bytes-typed)
 
-  -- which stand in it then
+  -- the bytes that are in it then
   module _ (n d : ℕ) (fresh : IsUnused s d) (room : n ≤ capacity_of s.store d) (u : CountedStore) (u_is : u ≡ record { store = pulled_into n (block_at fields h ∷ rest) s.store d; counts = set s.counts d 1 }) where
     abbrev stored : DataStore
     stored = pulled_into n (block_at fields h ∷ rest) s.store d
 
     -- one more block names the data block that was taken
     named_more : (k : ℕ) → count_of u k ≡ count_of s k + one_if (eqb d k)
-    named_more k =
-        ap (λ (c : CountedStore). count_of c k) u_is
-        ∙ count_of-set s stored d 1 k fresh.counted
-        ∙ elim (eqb_tells d k) [
-          | inl same ↦ rw same.0 (omega (arith, fresh.unnamed, ap (count_of s) same.1))
-          | inr other ↦ rw other.0 (omega arith)
-        ]
+    named_more k = grind (arith, common_steps, count_of-set, eqb_tells)
 
     pub still_used : 0 < count_of u was.data_number
     still_used = omega (arith, former_used, named_more was.data_number)
@@ -150,11 +140,7 @@ module _ (id : ℕ) (s : CountedStore) (fields : List Fields) (v : NodeLists) (f
           ∙ ap (λ b. record old { store = t.store; held = set old.held h (Some (b ∷ rest)) }) block_is
 
       store_is : t.store ≡ (with_name_dropped was.data_number [] named).store
-      store_is =
-          ap (λ (c : CountedStore). c.store) t_is
-          ∙ ap (λ (w : DataStore). if count_of u was.data_number == 1 then with_data_freed was.data_number w else w) (ap (λ (c : CountedStore). c.store) u_is)
-          ∙ ap (λ (last : Bool). if last then with_data_freed was.data_number stored else stored)
-          (sym (last_one (names_of named was.data_number + 0) (count_of u was.data_number) one_less))
+      store_is = grind (arith, common_steps, last_one, one_less)
 
       rooms : HasRooms s.store t.store
       rooms = subst (HasRooms s.store) (sym (ap (λ (c : CountedStore). c.store) t_is)) (rooms-both rooms_u (rooms-less u was.data_number))

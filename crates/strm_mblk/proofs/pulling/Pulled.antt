@@ -1,21 +1,20 @@
--- `pullupmsg`: the first block has the next bytes, and the blocks behind it have lost them.
+-- `pullupmsg`: the first block has the next bytes, and the blocks after it have lost them.
 use Rattle.std.proofs.Common.{◌≡◌, ℕ, zero, suc, ◌-◌, ◌<◌, ◌≤◌, ℤ, List, [], ◌∷◌, take, Some, None, Result, Ok, Err, refl, sym, ap, ◌∙◌, arith, if◌then◌else◌, get_or-set_same}
 use Rattle.std.specs.Prelude.{nat_le}
-use Rattle.std.specs.List.{prefix_len}
 use Rattle.std.proofs.lemmas.Bool.{cond-true, cond-false, le-leb, le-ltb, lt-leb}
 use Rattle.std.proofs.lemmas.List.Sums.{sum_by-append}
 use Rattle.strm_data.specs.declared.refusal.Refusal.{Refusal}
 use Rattle.strm_data.specs.DataStore.{DataStore, take_data}
-use Rattle.strm_data.specs.MsgType.{same_kind}
 use Rattle.strm_mblk.specs.Arena.{Arena, held_at, message_at}
-use Rattle.strm_mblk.specs.Block.{Block, Message, kind_of, size_of}
+use Rattle.strm_mblk.specs.Block.{Block, Message, size_of}
 use Rattle.strm_mblk.specs.Freeing.{with_blocks_freed}
 use Rattle.strm_mblk.specs.Given.{Given, value_after, answer_map, answer_of}
 use Rattle.strm_mblk.specs.Messages.{blocks_of, held_in}
 use Rattle.strm_mblk.specs.Pulling.{drained, pull_front, front_pulled, over_data}
-use Rattle.strm_mblk.specs.Trimming.{bytes_asked, left_over, pull, pull_asked, pulled, pulled_into, pullupmsg, run_of, used_up}
+use Rattle.strm_mblk.specs.Trimming.{bytes_asked, left_over, pulled, pulled_into, pullupmsg, run_of, used_up}
 use Rattle.strm_mblk.proofs.pulling.Drained.{dropped_later, freed_held, freed_id}
 use Rattle.strm_mblk.proofs.arena.Moves.{held_within}
+use Rattle.std.proofs.lemmas.Grind.{common_steps}
 
 -- ---- the run
 
@@ -28,20 +27,15 @@ first_size (suc k) (b ∷ bs) = omega (arith, first_size k bs, sum_by-append (λ
 
 pub run_most : (s : DataStore) (m : Message) → size_of (run_of s m) ≤ size_of m
 run_most s [] = omega arith
-run_most s (b ∷ bs) =
-    let k = prefix_len (λ c. same_kind (kind_of s c) (kind_of s b)) bs in
-    omega (arith, first_size k bs, sum_by-append (λ (c : Block). c.len) (b ∷ []) bs, sum_by-append (λ (c : Block). c.len) (b ∷ []) (take k bs))
+run_most s (b ∷ bs) = grind (arith, common_steps, first_size, sum_by-append)
 
 -- ---- what the model gives
 
 module _ (h n : ℕ) (b : Block) (bs : List Block) (a : Arena) (held : held_at a h ≡ Some (b ∷ bs)) where
-  -- the message and its run, where so many bytes are asked for
+  -- the message and its run, if n bytes are asked for
   module _ (count : ℤ) (asked : bytes_asked count (run_of a.store (message_at a h)) ≡ Some n) (enough : n ≤ size_of (run_of a.store (message_at a h))) where
     pull_is : pullupmsg h count a ≡ (if nat_le n b.len then Ok (tt, a) else answer_map (λ d. (tt, pulled h n (b ∷ bs) a d)) (take_data n a.store))
-    pull_is =
-        ap (λ o. pull_asked h o (message_at a h) a) asked
-        ∙ ap (λ m. pull h n m a) (ap blocks_of held)
-        ∙ cond-false _ _ _ (le-ltb (size_of (run_of a.store (b ∷ bs))) n (omega (arith, enough, ap (λ o. size_of (run_of a.store (blocks_of o))) held)))
+    pull_is = grind (arith, common_steps, cond-false, le-ltb)
 
     -- the first block has them
     pub pull_had : n ≤ b.len → pullupmsg h count a ≡ Ok (tt, a)
@@ -77,16 +71,10 @@ module _ (h n : ℕ) (b : Block) (bs : List Block) (a : Arena) (held : held_at a
 
 -- ---- answers
 
--- what is answered is told by whether a data block is taken
+-- the answer depends only on whether a data block is taken
 same_answer : (f g : ℕ → Arena) (r : Result ℕ Refusal) → answer_of (answer_map (λ d. (tt {0}, f d)) r) ≡ answer_of (answer_map (λ d. (tt {0}, g d)) r)
 same_answer f g (Ok d) = refl
 same_answer f g (Err why) = refl
-
--- where none is, nothing changes
-refused_alike : (a : Arena) (f g : ℕ → Arena) (r : Result ℕ Refusal) (why : Refusal) → answer_of (answer_map (λ d. (tt {0}, f d)) r) ≡ Err why
-    → value_after a (answer_map (λ d. (tt {0}, f d)) r) ≡ value_after a (answer_map (λ d. (tt {0}, g d)) r)
-refused_alike a f g (Ok d) why is = absurd (cc is)
-refused_alike a f g (Err other) why is = refl
 
 -- and it is taken where the call is answered
 taken_where : (f : ℕ → Arena) (r : Result ℕ Refusal) (u : Unit {0}) → answer_of (answer_map (λ d. (tt {0}, f d)) r) ≡ Ok u → (d : ℕ) × (r ≡ Ok d)
@@ -105,23 +93,14 @@ module _ (h n : ℕ) (b : Block) (bs : List Block) (a : Arena) (held : held_at a
     (enough : n ≤ size_of (run_of a.store (message_at a h))) (many : b.len < n) where
   -- the first block's answer is the call's
   pub pull_front_answer : answer_of (pull_front h n a) ≡ answer_of (pullupmsg h count a)
-  pull_front_answer =
-      same_answer (front_pulled h n (message_at a h) a) (pulled h n (b ∷ bs) a) (take_data n a.store)
-      ∙ ap answer_of (sym (pull_takes h n b bs a held count asked enough many))
-
-  pub pull_front_refused : (why : Refusal) → answer_of (pull_front h n a) ≡ Err why → value_after a (pull_front h n a) ≡ value_after a (pullupmsg h count a)
-  pull_front_refused why is =
-      refused_alike a (front_pulled h n (message_at a h) a) (pulled h n (b ∷ bs) a) (take_data n a.store) why is
-      ∙ ap (value_after a) (sym (pull_takes h n b bs a held count asked enough many))
+  pull_front_answer = grind (arith, common_steps, same_answer)
 
   module _ (first : Arena) (first_is : first ≡ value_after a (pull_front h n a)) (u : Unit {0}) (given : answer_of (pull_front h n a) ≡ Ok u) where
     pub taken : (d : ℕ) × (take_data n a.store ≡ Ok d)
     taken = taken_where (front_pulled h n (message_at a h) a) (take_data n a.store) u given
 
     front_pulled_now : first ≡ front_pulled h n (b ∷ bs) a taken.0
-    front_pulled_now =
-        first_is ∙ ap (λ r. value_after a (answer_map (λ d. (tt {0}, front_pulled h n (message_at a h) a d)) r)) taken.1
-        ∙ ap (λ m. front_pulled h n m a taken.0) (ap blocks_of held)
+    front_pulled_now = grind (arith, common_steps, taken)
 
     -- the message is held, with as many blocks
     pub front_pulled_held : held_at first h ≡ Some (over_data taken.0 n b ∷ bs)

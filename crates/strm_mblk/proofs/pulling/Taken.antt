@@ -1,13 +1,14 @@
 -- Bytes are taken from blocks, one block after the other, as far as they go.
-use Rattle.std.proofs.Common.{◌≡◌, ℕ, zero, suc, ◌+◌, ◌-◌, ◌<◌, ◌≤◌, true, false, List, [], ◌∷◌, length, drop, take, Some, refl, sym, ap, ◌∙◌, inl, inr, arith}
+use Rattle.std.proofs.Common.{◌≡◌, ℕ, zero, suc, ◌+◌, ◌-◌, ◌<◌, ◌≤◌, true, false, List, [], ◌∷◌, length, drop, take, Some, refl, sym, ap, ◌∙◌, arith}
 use Rattle.std.specs.Prelude.{min, slice_get}
-use Rattle.std.proofs.lemmas.Bool.{and_from, and_right, cases_Bool, cases_lt, cond-true, cond-false, false≢true, le-leb, lt-leb, lt-ltb}
+use Rattle.std.proofs.lemmas.Bool.{and_from, and_right, cond-true, cond-false, le-leb, lt-leb, lt-ltb}
 use Rattle.std.proofs.lemmas.List.{drop-drop, length-drop, length-take}
 use Rattle.std.proofs.lemmas.Option.{none-some, same_Some}
 use Rattle.strm_mblk.specs.Block.{Block, size_of}
 use Rattle.strm_mblk.specs.Trimming.{cut_front, is_used_up, left_over, used_up}
 use Rattle.strm_mblk.proofs.lists.ListParts.{drop_from}
 use Rattle.strm_mblk.proofs.trimming.Runs.{size_front}
+use Rattle.std.proofs.lemmas.Grind.{common_steps}
 
 -- ---- one block
 
@@ -18,35 +19,21 @@ used_whole n b some few = and_from _ _ (lt-ltb 0 n some) (le-leb b.len n few)
 used_part : (n : ℕ) (b : Block) → n < b.len → is_used_up n b ≡ false
 used_part n b many = and_right _ _ (lt-leb b.len n many)
 
--- where they are not, nothing is left to take behind it
+-- if they are not, nothing is left to take after it
 none_more : (n : ℕ) (b : Block) → is_used_up n b ≡ false → (min n b.len ≡ n) × (n - b.len ≡ 0)
-none_more n b part =
-    elim (cases_lt n b.len) [
-      | inl many ↦ (omega (arith, many), omega (arith, many))
-      | inr few ↦
-          elim (cases_lt 0 n) [
-            | inl some ↦ absurd (false≢true (sym part ∙ used_whole n b some few))
-            | inr none ↦ (omega (arith, none), omega (arith, none))
-          ]
-    ]
+none_more n b part = grind (arith, common_steps, used_whole)
 
 -- ---- all of them
 
 -- nothing is left to take
 cut_zero : (bs : List Block) → cut_front 0 bs ≡ bs
 cut_zero [] = refl
-cut_zero (b ∷ bs) =
-    let none : 0 - b.len ≡ 0 = omega arith in
-    λ i. record b { offset = (let e : b.offset + min 0 b.len ≡ b.offset = omega arith in e) i; len = (let e : b.len - 0 ≡ b.len = omega arith in e) i } ∷ (ap (λ n. cut_front n bs) none ∙ cut_zero bs) i
+cut_zero (b ∷ bs) = grind (arith, common_steps, (cut_zero bs))
 
 -- the blocks that are used up are the first
 pub used_first : (n : ℕ) (bs : List Block) → used_up n bs ≡ take (length (used_up n bs)) bs
 used_first n [] = refl
-used_first n (b ∷ bs) =
-    elim (cases_Bool (is_used_up n b)) [
-      | inl used ↦ rw used (ap (λ cs. b ∷ cs) (used_first (n - b.len) bs))
-      | inr part ↦ rw part refl
-    ]
+used_first n (b ∷ bs) = grind (arith, common_steps, (used_first (n - b.len) bs))
 
 pub used_few : (n : ℕ) (bs : List Block) → length (used_up n bs) ≤ length bs
 used_few n bs = omega (arith, ap length (used_first n bs), length-take (length (used_up n bs)) bs)
@@ -54,19 +41,7 @@ used_few n bs = omega (arith, ap length (used_first n bs), length-take (length (
 -- and the others stay, without what is left to take
 pub left_others : (n : ℕ) (bs : List Block) → left_over n bs ≡ cut_front (n - size_of (used_up n bs)) (drop (length (used_up n bs)) bs)
 left_others n [] = refl
-left_others n (b ∷ bs) =
-    elim (cases_Bool (is_used_up n b)) [
-      | inl used ↦
-          let less : n - b.len - size_of (used_up (n - b.len) bs) ≡ n - size_of (b ∷ used_up (n - b.len) bs) = omega (arith, size_front b (used_up (n - b.len) bs)) in
-          rw used (left_others (n - b.len) bs ∙ ap (λ m. cut_front m (drop (length (used_up (n - b.len) bs)) bs)) less)
-      | inr part ↦
-          let all : n ≡ n - 0 = omega arith in
-          let none = none_more n b part in
-          rw part (
-          (λ i. record b { offset = b.offset + sym none.0 i; len = b.len - n } ∷ (sym (cut_zero bs) ∙ ap (λ m. cut_front m bs) (sym none.1)) i)
-          ∙ ap (λ m. cut_front m (b ∷ bs)) all
-          )
-    ]
+left_others n (b ∷ bs) = grind (arith, common_steps, (left_others (n - b.len) bs), size_front, none_more, cut_zero)
 
 -- ---- one step
 

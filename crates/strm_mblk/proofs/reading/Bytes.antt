@@ -13,18 +13,18 @@ use Rattle.strm_mblk.specs.declared.token.TokenValue.{TokenValue}
 use Rattle.strm_mblk.specs.Arena.{Arena, has, message_at}
 use Rattle.strm_mblk.specs.Block.{Block, Message, bytes_of, bytes_of_block, size_of}
 use Rattle.strm_mblk.specs.BlocksLayout.{IsFilled, IsPlaced, arena_of, block_at, block_of, fields_at}
-use Rattle.strm_mblk.specs.Messages.{blocks_of}
 use Rattle.strm_mblk.specs.NodeLists.{NodeLists, nodes_at}
 use Rattle.strm_mblk.proofs.lists.ListParts.{drop-append, drop_from}
 use Rattle.strm_mblk.proofs.lists.Overlaid.{IsLaid, laid_all}
 use Rattle.strm_mblk.proofs.layout.Places.{block_none, block_some}
 use Rattle.strm_mblk.proofs.arena.Tokens.{had_message}
+use Rattle.std.proofs.lemmas.Grind.{common_steps}
 
 -- a block has as many bytes as it says
 pub length-bytes_of_block : (s : DataStore) (n : ℕ) (f : Fields) → IsPlaced s f → length (bytes_of_block s (block_of n f)) ≡ f.len
 length-bytes_of_block s n f placed = length-part f.len f.offset (data_block_at s f.data_number).bytes placed.within
 
--- the bytes from a block on, without the first of them, are its own without those and those behind it
+-- the bytes from a block on, without the first ones, are the rest of its bytes and those of the blocks after it
 pub bytes_from : (s : DataStore) (m : Message) (k n skip : ℕ) (f : Fields) → slice_get m k ≡ Some (block_of n f) → IsPlaced s f
     → drop skip (bytes_of s (drop k m)) ≡ drop skip (bytes_of_block s (block_of n f)) ++ drop (skip - f.len) (bytes_of s (drop (k + 1) m))
 bytes_from s m k n skip f is placed =
@@ -34,7 +34,7 @@ bytes_from s m k n skip f is placed =
     ∙ drop-append skip own behind
     ∙ ap (λ l. drop skip own ++ drop (skip - l) behind) (length-bytes_of_block s n f placed)
 
--- so a message has as many as its blocks say
+-- so a message has the number of bytes that its blocks say
 pub length-bytes_of : (s : DataStore) (m : Message) → ((k : ℕ) (b : Block) → slice_get m k ≡ Some b → length (bytes_of_block s b) ≡ b.len) → length (bytes_of s m) ≡ size_of m
 length-bytes_of s [] each = refl
 length-bytes_of s (b ∷ m) each =
@@ -46,7 +46,7 @@ length-bytes_of s (b ∷ m) each =
       length-bytes_of s m (λ k. each (suc k)),
     )
 
--- `done` bytes of a message, as far as there are some from `at` on and room for them, stand in front of what was there
+-- `done` bytes of a message from `at` on, as far as there are some and there is room, are before the bytes that were there
 pub record IsRead (s : DataStore) (m : Message) (at : ℕ) (old now : List ℕ) (done : ℕ) : Type 0 where
   pub count : done ≡ min (length old) (size_of m - at)
   pub bytes : now ≡ take done (drop at (bytes_of s m)) ++ drop done old
@@ -70,17 +70,12 @@ module _ (id : ℕ) (s : CountedStore) (fields : List Fields) (v : NodeLists) (f
   pub length-message : length (bytes_of a.store (message_at a t.head)) ≡ size_of (message_at a t.head)
   length-message = length-bytes_of a.store (message_at a t.head) bytes_each
 
-  -- there is none behind so many
+  -- a list of that length has nothing more
   pub past_last : (k : ℕ) → t.blocks ≤ k → drop k (message_at a t.head) ≡ []
-  past_last k past =
-      let message = had_message a t had in
-      drop_all k (message_at a t.head) (omega (arith, past, message.1.blocks, ap (λ o. length (blocks_of o)) message.1.held))
+  past_last k past = grind (arith, common_steps, had_message, drop_all)
 
   -- once its bytes from a place on are laid there block by block, they are read
   pub all_read : (at skip k done : ℕ) (old now : List ℕ) → drop k (message_at a t.head) ≡ []
       → IsLaid (drop at (bytes_of a.store (message_at a t.head))) (drop skip (bytes_of a.store (drop k (message_at a t.head)))) old now done
       → IsRead a.store (message_at a t.head) at old now done
-  all_read at skip k done old now none laid =
-      let bytes = bytes_of a.store (message_at a t.head) in
-      let all = laid_all (drop at bytes) (drop skip (bytes_of a.store (drop k (message_at a t.head)))) old now done (ap (λ m. drop skip (bytes_of a.store m)) none ∙ drop-nil skip) laid in
-      record { count = all.0 ∙ ap (min (length old)) (length-drop at bytes ∙ ap (λ n. n - at) length-message); bytes = all.1 }
+  all_read at skip k done old now none laid = grind (arith, common_steps, laid_all, drop-nil, length-drop, length-message)

@@ -1,6 +1,6 @@
 -- The lengths of a held message's blocks, summed up one by one.
-use Rattle.std.proofs.Common.{◌≡◌, ℕ, ◌+◌, ◌*◌, ◌^◌, ◌<◌, ◌≤◌, Bool, true, false, List, [], ◌∷◌, drop, length, Some, None, ap, ◌∙◌, arith, refl, subst, sym}
-use Rattle.std.specs.Prelude.{slice_get, sum_by, not, ◌||◌, if◌then◌else◌}
+use Rattle.std.proofs.Common.{◌≡◌, ℕ, ◌+◌, ◌*◌, ◌^◌, ◌<◌, ◌≤◌, Bool, true, false, List, [], ◌∷◌, drop, length, Some, None, ap, arith, refl}
+use Rattle.std.specs.Prelude.{slice_get, sum_by, ◌||◌, if◌then◌else◌}
 use Rattle.strm_data.specs.declared.msg_type.MsgType.TheVariants.{MData}
 use Rattle.strm_data.specs.MsgType.{same_kind}
 use Rattle.std.proofs.lemmas.List.{length-map}
@@ -24,29 +24,16 @@ use Rattle.strm_mblk.proofs.layout.Shown.{message_at-seen}
 use Rattle.strm_mblk.proofs.arena.Tokens.{had_message}
 use Rattle.strm_mblk.specs.Block.{Block, Message, kind_of, len_counted, size_of}
 use Rattle.strm_mblk.specs.Limits.{most_message_blocks}
+use Rattle.std.proofs.lemmas.Grind.{common_steps}
 
--- from a block on there is its own and what is behind it
+-- the sum from a place on is that of the block there, and that of the blocks after it
 pub sum_from : {X : Type 0} (f : X → ℕ) (xs : List X) (k : ℕ) (x : X) → slice_get xs k ≡ Some x → sum_by f (drop k xs) ≡ f x + sum_by f (drop (k + 1) xs)
 sum_from f xs k x is = omega (arith, ap (sum_by f) (drop_from xs k x is), sum_by-append f (x ∷ []) (drop (k + 1) xs))
 
 -- no more counts than there is
 pub counted_most : (data_alone : Bool) (s : DataStore) (m : Message) → sum_by (len_counted data_alone s) m ≤ size_of m
 counted_most data_alone s [] = omega arith
-counted_most data_alone s (b ∷ m) =
-    omega (
-      arith,
-      sum_by-append (len_counted data_alone s) (b ∷ []) m,
-      sum_by-append (λ (c : Block). c.len) (b ∷ []) m,
-      one data_alone,
-      counted_most data_alone s m,
-    )
-  where
-    part : (t : Bool) → (if t then b.len else 0) ≤ b.len
-    part true = omega arith
-    part false = omega arith
-
-    one : (t : Bool) → len_counted t s b ≤ b.len
-    one t = part (same_kind (kind_of s b) MData || not t)
+counted_most data_alone s (b ∷ m) = grind (arith, common_steps, (counted_most data_alone s m), sum_by-append)
 
 -- and where all count, as much
 pub all_counted : (s : DataStore) (m : Message) → sum_by (len_counted false s) m ≡ size_of m
@@ -64,7 +51,7 @@ all_counted s (b ∷ m) =
     one true = refl
     one false = refl
 
--- a held message has so many bytes at most
+-- the most bytes that a held message has
 pub message_small : (id : ℕ) (s : CountedStore) (fields : List Fields) (v : NodeLists) → IsFilled s fields v (arena_of id s.store fields v) → (t : TokenValue) → has (arena_of id s.store fields v) t ≡ true
     → size_of (message_at (arena_of id s.store fields v) t.head) ≤ most_message_blocks * most_data_block_bytes
 message_small id s fields v filled t is =
@@ -88,19 +75,9 @@ message_small id s fields v filled t is =
 -- and so they are counted in 32 bits
 pub nodes_small : (id : ℕ) (s : CountedStore) (fields : List Fields) (v : NodeLists) → IsFilled s fields v (arena_of id s.store fields v) → (a : Arena) → arena_of id s.store fields v ≡ a → (t : TokenValue) → has a t ≡ true
     → size_of (message_of fields (nodes_at v t.head)) < 2 ^ 32
-nodes_small id s fields v filled a is t had =
-    omega (
-      arith,
-      message_small id s fields v filled t (ap (λ x. has x t) is ∙ had),
-      ap size_of (message_at-seen id s.store fields v t.head),
-    )
+nodes_small id s fields v filled a is t had = grind (arith, common_steps, message_small, message_at-seen)
 
 -- the lengths of a message can be summed up along its strand
 pub summable : (id : ℕ) (s : CountedStore) (fields : List Fields) (v : NodeLists) → IsFilled s fields v (arena_of id s.store fields v) → (strands : StrandLists) → length strands.chains ≡ length v.held
     → (h : ℕ) (ns : List ℕ) → strand_at strands h ≡ ns → slice_get ns 0 ≡ Some h → size_of (message_of fields ns) < 2 ^ 32 → IsSummable strands fields s.store h
-summable id s fields v filled strands many h ns is begins small = record {
-  begins = ap (λ xs. slice_get xs 0) is ∙ begins;
-  listed = filled.listed ∙ sym many;
-  named = λ n within. (filled.placed n within).there;
-  small = subst (λ xs. size_of (message_of fields xs) < 2 ^ 32) (sym is) small;
-}
+summable id s fields v filled strands many h ns is begins small = grind (arith, common_steps)

@@ -47,7 +47,7 @@ module _ (id : ℕ) (s : CountedStore) (fields : List Fields) (v : NodeLists) (f
         ap (λ x. length (shelved_blocks x)) is,
       )
 
-  -- it has so many bytes at most
+  -- the most bytes that it has
   pub small : size_of (shelved_message a h) ≤ most_message_blocks * most_data_block_bytes
   small = omega (
     arith,

@@ -1,5 +1,6 @@
 -- Messages on shelves, as a contract sees them, where they are put there and where they leave.
 use Rattle.std.proofs.Common.{◌≡◌, ℕ, zero, suc, ◌+◌, ◌<◌, ◌≤◌, Bool, true, false, not, ◌==◌, List, [], ◌∷◌, ◌++◌, map, length, get_or, set, Option, Some, None, refl, sym, ap, ◌∙◌, subst, inl, inr, arith, if◌then◌else◌, length-set, get_or-set_same}
+use Rattle.std.proofs.lemmas.Option.{slice_get-map}
 use Rattle.std.specs.Prelude.{count_by, filter, is_some, option_map, slice_get}
 use Rattle.std.proofs.lemmas.List.Elements.{filter-append}
 use Rattle.std.proofs.lemmas.List.Quantifiers.{position-Some}
@@ -11,18 +12,20 @@ use Rattle.strm_links.proofs.lists.OneList.{has_cases, has_head, has_tail}
 use Rattle.strm_data.specs.CountedStore.{CountedStore}
 use Rattle.strm_data.specs.DataStore.{DataStore}
 use Rattle.strm_mblk.specs.declared.blocks.Fields.{Fields}
-use Rattle.strm_mblk.specs.Arena.{Arena, blocks_in, held_at, message_at, names_of, shelf_at, shelved_blocks, with_shelf, without_held}
-use Rattle.strm_mblk.specs.Block.{Block, Message, head_of, is_naming}
+use Rattle.strm_mblk.specs.Arena.{Arena, held_at, message_at, shelf_at, shelved_blocks}
+use Rattle.strm_mblk.specs.Block.{Block, Message, head_of}
 use Rattle.strm_mblk.specs.BlocksLayout.{IsFilled, IsPlaced, arena_of, block_at, fields_at, message_of}
 use Rattle.strm_mblk.specs.Messages.{blocks_of, put_before_head, shelf_in, with_head, without_head}
 use Rattle.strm_mblk.specs.NodeLists.{IsNodesParted, NodeLists, head_node, heads_on, nodes_at, shelved_nodes}
 use Rattle.strm_mblk.specs.Shelves.{head_block, heads_at, shelf_of, shelve, shelved_message, unshelve}
 use Rattle.strm_mblk.proofs.lists.Additive.{IsAdditive, count_adds, flat_map-set_adds, length_adds}
-use Rattle.strm_mblk.proofs.arena.Counts.{blocks_in_adds, held_moves, shelf_moves}
+use Rattle.strm_mblk.proofs.arena.Counts.{blocks_in_adds}
+use Rattle.strm_mblk.proofs.joining.Regrouped.{moved_filled}
 use Rattle.strm_mblk.proofs.layout.Lawful.{all_there, counted, law_parted}
-use Rattle.strm_mblk.proofs.arena.Moves.{head_counts, held_within, not_held, number_is, once, out_of_held, within}
-use Rattle.strm_mblk.proofs.layout.Shown.{message_at-seen, shelf_at-seen, slice_get-mapped}
+use Rattle.strm_mblk.proofs.arena.Moves.{head_counts, held_within, not_held, number_is, once, within}
+use Rattle.strm_mblk.proofs.layout.Shown.{message_at-seen, shelf_at-seen}
 use Rattle.strm_mblk.specs.Limits.{most_message_blocks}
+use Rattle.std.proofs.lemmas.Grind.{common_steps}
 
 -- ---- what a contract sees
 
@@ -47,18 +50,12 @@ module _ (fields : List Fields) where
       → map (message_of fields) (put_before_head head_node before m ms) ≡ put_before_head head_of before (message_of fields m) (map (message_of fields) ms)
   put_before_head-seen None m ms = map-append (message_of fields) ms (m ∷ [])
   put_before_head-seen (Some at) m [] = refl
-  put_before_head-seen (Some at) m (x ∷ xs) =
-      map-if (message_of fields) (head_node x == at) (m ∷ x ∷ xs) (x ∷ put_before_head head_node (Some at) m xs)
-      ∙ ap (λ ys. if head_node x == at then message_of fields m ∷ message_of fields x ∷ map (message_of fields) xs else message_of fields x ∷ ys) (put_before_head-seen (Some at) m xs)
-      ∙ ap (λ h. if h == at then message_of fields m ∷ message_of fields x ∷ map (message_of fields) xs else message_of fields x ∷ put_before_head head_of (Some at) (message_of fields m) (map (message_of fields) xs)) (sym (head-seen fields x))
+  put_before_head-seen (Some at) m (x ∷ xs) = grind (arith, common_steps, (put_before_head-seen (Some at) m xs), map-if, head-seen)
 
   -- messages picked by their heads
   picked-seen : (p : ℕ → Bool) (ms : List (List ℕ)) → map (message_of fields) (filter (λ m. p (head_node m)) ms) ≡ filter (λ m. p (head_of m)) (map (message_of fields) ms)
   picked-seen p [] = refl
-  picked-seen p (x ∷ xs) =
-      map-if (message_of fields) (p (head_node x)) (x ∷ filter (λ m. p (head_node m)) xs) (filter (λ m. p (head_node m)) xs)
-      ∙ ap (λ ys. if p (head_node x) then message_of fields x ∷ ys else ys) (picked-seen p xs)
-      ∙ ap (λ h. if p h then message_of fields x ∷ filter (λ m. p (head_of m)) (map (message_of fields) xs) else filter (λ m. p (head_of m)) (map (message_of fields) xs)) (sym (head-seen fields x))
+  picked-seen p (x ∷ xs) = grind (arith, common_steps, (picked-seen p xs), map-if, head-seen)
 
   -- a shelf that a message has left
   pub without-seen : (h : ℕ) (ms : List (List ℕ)) → map (message_of fields) (without_head head_node h ms) ≡ without_head head_of h (map (message_of fields) ms)
@@ -66,7 +63,7 @@ module _ (fields : List Fields) where
 
   -- and that message
   pub with-seen : (h : ℕ) (ms : List (List ℕ)) → option_map (message_of fields) (with_head head_node h ms) ≡ with_head head_of h (map (message_of fields) ms)
-  with-seen h ms = sym (slice_get-mapped (message_of fields) (filter (λ m. head_node m == h) ms) 0) ∙ ap (λ l. slice_get l 0) (picked-seen (λ k. k == h) ms)
+  with-seen h ms = sym (slice_get-map (message_of fields) (filter (λ m. head_node m == h) ms) 0) ∙ ap (λ l. slice_get l 0) (picked-seen (λ k. k == h) ms)
 
 -- the heads on a shelf
 pub heads_at-seen : (id : ℕ) (s : DataStore) (fields : List Fields) (v : NodeLists) (q : ℕ) → heads_at (arena_of id s fields v) q ≡ heads_on v q
@@ -175,32 +172,9 @@ module _ (id : ℕ) (s : CountedStore) (fields : List Fields) (v : NodeLists) (f
         let shelves_are = map-set (map (message_of fields)) v.shelves q (put_before_head head_node before (nodes_at v h) (shelf_in v.shelves q)) ∙ ap (set old.shelves q) shelf_is in
         ap (arena_of id s.store fields) w_is ∙ (λ i. record { id = id; store = s.store; free = v.free; held = held_is i; shelves = shelves_are i })
 
-    -- the message has its blocks there
-    message_is : message_at old h ≡ m
-    message_is = ap blocks_of held
-
-    shelve_moves : (p : Block → Bool) → count_by p (blocks_in (shelve q before h old)) ≡ count_by p (blocks_in old)
-    shelve_moves p =
-        omega (
-          arith,
-          out_of_held old h m p held,
-          shelf_moves (count_adds p) (without_held h old) q (put_before_head head_of before (message_at old h) (shelf_at old q)) inside,
-          placed_adds (count_adds p) head_of before (message_at old h) (shelf_at old q),
-          ap (count_by p) message_is,
-        )
-
     pub shelve_filled : IsFilled s fields w (arena_of id s.store fields w)
-    shelve_filled = record {
-      kept = filled.kept;
-      parted = parted;
-      few = omega (arith, filled.few, many);
-      listed = omega (arith, filled.listed, many);
-      placed = filled.placed;
-      counts = λ d. filled.counts d ∙ sym (shelve_moves (is_naming d)) ∙ ap (λ a. names_of a d) (sym shelve_shows);
-    }
-      where
-        many : length w.held ≡ length v.held
-        many = ap (λ (l : NodeLists). length l.held) w_is ∙ length-set v.held h None
+    shelve_filled =
+        moved_filled id s fields v w filled (ap (λ (l : NodeLists). l.free) w_is) (ap (λ (l : NodeLists). length l.held) w_is ∙ length-set v.held h None) parted
 
     pub shelve_queued : length (shelved_blocks (arena_of id s.store fields w)) ≡ length (shelved_blocks old) + length (nodes_at v h)
     shelve_queued =
@@ -230,7 +204,7 @@ module _ (id : ℕ) (s : CountedStore) (fields : List Fields) (v : NodeLists) (f
   abbrev was : Arena
   was = arena_of id s.store fields v
 
-  -- what stands on the shelf is among all that do
+  -- the blocks on one shelf are among those on all shelves
   on_one : (p : Block → Bool) → count_by p (flat_map (λ x. x) (shelf_at was q)) ≤ count_by p (shelved_blocks was)
   on_one p = omega (arith, flat_map-set_adds (count_adds p) (flat_map (λ x. x)) was.shelves q [] [] inside, (count_adds p).none)
 
@@ -279,31 +253,6 @@ module _ (id : ℕ) (s : CountedStore) (fields : List Fields) (v : NodeLists) (f
     unshelve_len : length (nodes_at w h) ≡ length found.0
     unshelve_len = sym (length-map (nodes_at w h) (block_at fields)) ∙ ap length (sym (message_at-seen id s.store fields w h)) ∙ ap (λ o. length (blocks_of o)) unshelve_held
 
-    unshelve_moves : (p : Block → Bool) → count_by p (blocks_in (unshelve q h was)) ≡ count_by p (blocks_in was)
-    unshelve_moves p =
-        omega (
-          arith,
-          shelf_moves (count_adds p) was q (without_head head_of h (shelf_at was q)) inside,
-          held_moves (count_adds p) (with_shelf q (without_head head_of h (shelf_at was q)) was) h (with_head head_of h (shelf_at was q)) shelved_within,
-          leaves (count_adds p),
-          (count_adds p).none,
-          ap (λ o. count_by p (blocks_of o)) shelved_unheld,
-          ap (λ o. count_by p (blocks_of o)) found_is,
-        )
-
-    unshelve_filled : IsFilled s fields w now
-    unshelve_filled = record {
-      kept = filled.kept;
-      parted = parted;
-      few = omega (arith, filled.few, many);
-      listed = omega (arith, filled.listed, many);
-      placed = filled.placed;
-      counts = λ d. filled.counts d ∙ sym (unshelve_moves (is_naming d)) ∙ ap (λ a. names_of a d) (sym unshelve_shows);
-    }
-      where
-        many : length w.held ≡ length v.held
-        many = ap (λ (l : NodeLists). length l.held) w_is ∙ length-set v.held h (with_head head_node h (shelf_in v.shelves q))
-
     unshelve_queued : length (shelved_blocks now) + length (nodes_at w h) ≡ length (shelved_blocks was)
     unshelve_queued =
         omega (
@@ -317,7 +266,7 @@ module _ (id : ℕ) (s : CountedStore) (fields : List Fields) (v : NodeLists) (f
     pub unshelves : IsUnshelved was s fields w id q h
     unshelves = record {
       message = found.0;
-      filled = unshelve_filled;
+      filled = moved_filled id s fields v w filled (ap (λ (l : NodeLists). l.free) w_is) (ap (λ (l : NodeLists). length l.held) w_is ∙ length-set v.held h _) parted;
       held = unshelve_held;
       many = unshelve_len;
       queued = unshelve_queued;
@@ -402,7 +351,7 @@ on_rest h ms shelves none found = record {
   begins = found.begins;
 }
 
--- the message with a head that stands on some shelf
+-- the message on some shelf that has this head
 on_some : (h : ℕ) (shelves : List (List (List ℕ))) (q : ℕ) → ((s : ℕ) → All (λ m. 0 < length m) (shelf_in shelves s)) → has h (map head_node (shelf_in shelves q)) ≡ true → IsOnSome shelves h
 on_some h [] q some there = absurd (false≢true there)
 on_some h (ms ∷ shelves) q some there = elim (has h (map head_node ms)) as (λ b. has h (map head_node ms) ≡ b → IsOnSome (ms ∷ shelves) h) [
@@ -463,7 +412,7 @@ module _ (id : ℕ) (s : CountedStore) (fields : List Fields) (v : NodeLists) (f
         at = is.at;
         begins = is.begins;
         message = message;
-        block = ap (λ m. slice_get m 0) message ∙ slice_get-mapped (block_at fields) is.nodes 0 ∙ ap (option_map (block_at fields)) is.begins;
+        block = ap (λ m. slice_get m 0) message ∙ slice_get-map (block_at fields) is.nodes 0 ∙ ap (option_map (block_at fields)) is.begins;
         there = there;
         placed = filled.placed h there;
       }

@@ -24,16 +24,16 @@ use Rattle.strm_mblk.proofs.arena.Moves.{held_within}
 use Rattle.strm_mblk.proofs.layout.Rewriting.{AreHeld, AreRewritten, held_nodes, message_filled, message_shows, once_within, within_room}
 use Rattle.strm_mblk.proofs.layout.Shown.{message_at-seen}
 use Rattle.strm_mblk.proofs.arena.Tokens.{IsHad, had_again, had_message}
+use Rattle.std.proofs.lemmas.Grind.{common_steps}
 
--- how many of so many bytes stand before the place where a cut of n bytes is made
+-- the number of bytes before the place at which n of `size` bytes are cut
 abbrev pub ahead : Bool → ℕ → ℕ → ℕ
 ahead from_tail n size = if from_tail then size - n else n
 
--- a count's sign tells the end, and its size how many bytes there are to cut
+-- a count's sign gives the end, and its size the number of bytes to cut
 cut_is : (z : ℤ) (s : DataStore) (m : Message)
     → cut z s m ≡ (if nat_lt (size_of (run_of s (along (is_negative z) m))) (unsigned_abs z) then Err Short else Ok (cut_along (is_negative z) (ahead (is_negative z) (unsigned_abs z) (size_of m)) m))
-cut_is (pos n) s m =
-    subst (λ t. cut (pos n) s m ≡ (if nat_lt (size_of (run_of s (along t m))) n then Err Short else Ok (cut_along t (ahead t n (size_of m)) m))) (sym (le-ltb n 0 (omega arith))) refl
+cut_is (pos n) s m = grind (arith, common_steps, cut_along, le-ltb)
 cut_is (negsuc n) s m = ap (λ bs. if nat_lt (size_of (run_of s (along true m))) (unsigned_abs (negsuc n)) then Err Short else Ok bs) (cut_back-keeps (unsigned_abs (negsuc n)) m)
 
 -- cut from the run on, a message is cut where it is from its first block on
@@ -46,9 +46,7 @@ cut_run true s fields ns r run n enough =
 
 -- places lie in a data block, and so they are small
 pub ends_small : (id : ℕ) (s : CountedStore) (fields : List Fields) (v : NodeLists) → IsFilled s fields v (arena_of id s.store fields v) → (n : ℕ) → n < length fields → (fields_at fields n).offset + (fields_at fields n).len < 2 ^ 32
-ends_small id s fields v filled n within =
-    let placed = filled.placed n within in
-    omega (arith, placed.within, (capacity_range s (fields_at fields n).data_number filled.kept placed.there).1)
+ends_small id s fields v filled n within = grind (arith, common_steps, capacity_range)
 
 -- what is there once the bytes are cut: `a` is what was there
 pub record IsAdjusted (a : Arena) (s : CountedStore) (fields : List Fields) (v : NodeLists) (id : ℕ) (z : ℤ) (t : TokenValue) : Type 0 where
@@ -78,9 +76,7 @@ module _ (id : ℕ) (s : CountedStore) (fields : List Fields) (v : NodeLists) (f
     now = with_bytes_cut (is_negative z) (ahead (is_negative z) (unsigned_abs z) (size_of (message_of fields nodes))) nodes fields
 
     change : AreRewritten fields now nodes
-    change =
-        let n = ahead (is_negative z) (unsigned_abs z) (size_of (message_of fields nodes)) in
-        record { many = length-cut (is_negative z) nodes n fields; named = cut_named (is_negative z) nodes n fields; apart = cut_apart (is_negative z) nodes n fields }
+    change = grind (arith, common_steps, length-cut, cut_named, cut_apart)
 
     shows : arena_of id s.store now v ≡ record old { held = set old.held t.head (Some (message_of now nodes)) }
     shows = message_shows id s fields v filled t.head nodes held s.store now change.apart

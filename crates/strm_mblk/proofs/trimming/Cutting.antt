@@ -1,7 +1,7 @@
 -- Message blocks that lose bytes, one after the other.
-use Rattle.std.proofs.Common.{◌≡◌, ℕ, zero, suc, ◌+◌, ◌-◌, ◌^◌, ◌<◌, ◌≤◌, min, Bool, true, false, List, [], ◌∷◌, ◌++◌, length, reverse, take, set, Some, refl, sym, ap, ◌∙◌, subst, inl, inr, arith, if◌then◌else◌, get_or-set_same, get_or-set_other, length-set}
+use Rattle.std.proofs.Common.{◌≡◌, ℕ, zero, suc, ◌+◌, ◌-◌, ◌^◌, ◌<◌, ◌≤◌, min, Bool, true, false, List, [], ◌∷◌, ◌++◌, length, reverse, take, set, Some, refl, sym, ap, ◌∙◌, inl, inr, arith, if◌then◌else◌, get_or-set_same, get_or-set_other, length-set}
 use Rattle.std.specs.Prelude.{drop, slice_get}
-use Rattle.std.proofs.lemmas.Bool.{cases_eq, cases_lt}
+use Rattle.std.proofs.lemmas.Bool.{cases_eq}
 use Rattle.std.proofs.lemmas.List.{reverse-append, set-get_or, set_past}
 use Rattle.std.proofs.lemmas.List.Sums.{sum_by-append}
 use Rattle.strm_data.specs.DataStore.{DataStore, times}
@@ -14,6 +14,7 @@ use Rattle.strm_mblk.specs.Trimming.{cut_back, cut_front}
 use Rattle.strm_mblk.proofs.layout.Shown.{alike_off, message-alike}
 use Rattle.strm_mblk.proofs.lists.ListParts.{drop_from}
 use Rattle.strm_mblk.proofs.trimming.Runs.{size_front}
+use Rattle.std.proofs.lemmas.Grind.{common_steps}
 
 -- ---- one block
 
@@ -29,18 +30,7 @@ cut_least false n f = omega arith
 -- what holds of what each block says, and stays when it is cut, holds of all still
 module _ (P : ℕ → Fields → Type 0) (from_tail : Bool) (stays : (n k : ℕ) (f : Fields) → P k f → P k (fields_cut from_tail n f)) where
   cut_one : (n k : ℕ) (fields : List Fields) → ((j : ℕ) → P j (fields_at fields j)) → (j : ℕ) → P j (fields_at (set fields k (fields_cut from_tail n (fields_at fields k))) j)
-  cut_one n k fields all j =
-      let x = fields_cut from_tail n (fields_at fields k) in
-      elim (cases_eq j k) [
-        | inl same ↦
-            elim (cases_lt k (length fields)) [
-              | inl inside ↦
-                  subst (λ i. P i (fields_at (set fields k x) i)) (sym same)
-                  (subst (P k) (sym (get_or-set_same fields k x no_fields inside)) (stays n k (fields_at fields k) (all k)))
-              | inr past ↦ subst (λ fs. P j (fields_at fs j)) (sym (set_past fields k x past)) (all j)
-            ]
-        | inr other ↦ subst (P j) (sym (get_or-set_other fields k j x no_fields other)) (all j)
-      ]
+  cut_one n k fields all j = grind (arith, common_steps, get_or-set_same, set_past, get_or-set_other)
 
   cut_all : (ks : List ℕ) (n : ℕ) (fields : List Fields) → ((j : ℕ) → P j (fields_at fields j)) → (j : ℕ) → P j (fields_at (with_bytes_cut from_tail n ks fields) j)
   cut_all [] n fields all = all
@@ -51,23 +41,15 @@ module _ (P : ℕ → Fields → Type 0) (from_tail : Bool) (stays : (n k : ℕ)
 -- once no bytes are left at the head, the others stay
 pub cut_none : (ks : List ℕ) (fields : List Fields) → with_bytes_cut false 0 ks fields ≡ fields
 cut_none [] fields = refl
-cut_none (k ∷ ks) fields =
-    let none : 0 - (fields_at fields k).len ≡ 0 = omega arith in
-    (λ i. with_bytes_cut false (none i) ks ((ap (set fields k) (cut_nothing (fields_at fields k)) ∙ set-get_or fields k no_fields) i)) ∙ cut_none ks fields
+cut_none (k ∷ ks) fields = grind (arith, common_steps, (cut_none ks fields), cut_nothing, set-get_or)
 
--- at the tail, blocks that stand before the cut stay
+-- at the tail, blocks before the cut stay
 pub cut_ahead : (i n : ℕ) (ks : List ℕ) (fields : List Fields) → with_bytes_cut true (size_of (message_of fields (take i ks)) + n) ks fields ≡ with_bytes_cut true n (drop i ks) fields
 cut_ahead zero n ks fields = ap (λ m. with_bytes_cut true m ks fields) (let e : 0 + n ≡ n = omega arith in e)
 cut_ahead (suc i) n [] fields = refl
-cut_ahead (suc i) n (k ∷ ks) fields =
-    let f = fields_at fields k in
-    let ahead = size_of (message_of fields (take i ks)) in
-    let all : size_of (message_of fields (k ∷ take i ks)) ≡ f.len + ahead = size_front (block_at fields k) (message_of fields (take i ks)) in
-    let more : size_of (message_of fields (k ∷ take i ks)) + n - f.len ≡ ahead + n = omega (arith, all) in
-    let whole : min (size_of (message_of fields (k ∷ take i ks)) + n) f.len ≡ f.len = omega (arith, all) in
-    (λ j. with_bytes_cut true (more j) ks ((ap (λ len. set fields k (record f { len = len })) whole ∙ set-get_or fields k no_fields) j)) ∙ cut_ahead i n ks fields
+cut_ahead (suc i) n (k ∷ ks) fields = grind (arith, common_steps, (cut_ahead i n ks fields), size_front, set-get_or)
 
--- the next block is cut, and those behind it are left
+-- the next block is cut, and those after it are left
 pub cut_next : (from_tail : Bool) (n : ℕ) (ks : List ℕ) (i k : ℕ) (fields : List Fields) → slice_get ks i ≡ Some k
     → with_bytes_cut from_tail (n - (fields_at fields k).len) (drop (i + 1) ks) (set fields k (fields_cut from_tail n (fields_at fields k))) ≡ with_bytes_cut from_tail n (drop i ks) fields
 cut_next from_tail n ks i k fields is = ap (λ js. with_bytes_cut from_tail n js fields) (sym (drop_from ks i k is))
@@ -75,9 +57,7 @@ cut_next from_tail n ks i k fields is = ap (λ js. with_bytes_cut from_tail n js
 -- places that are small stay so
 pub cut_small : (from_tail : Bool) (n k : ℕ) (fields : List Fields) → ((j : ℕ) → j < length fields → (fields_at fields j).offset + (fields_at fields j).len < 2 ^ 32) → (x : Fields) → x ≡ fields_cut from_tail n (fields_at fields k)
     → (j : ℕ) → j < length (set fields k x) → (fields_at (set fields k x) j).offset + (fields_at (set fields k x) j).len < 2 ^ 32
-cut_small from_tail n k fields small x is j within =
-    subst (λ y. (fields_at (set fields k y) j).offset + (fields_at (set fields k y) j).len < 2 ^ 32) (sym is)
-    (cut_one (λ i f. i < length fields → f.offset + f.len < 2 ^ 32) from_tail (λ m i f low inside. omega (arith, low inside, cut_least from_tail m f)) n k fields small j (omega (arith, within, length-set fields k x)))
+cut_small from_tail n k fields small x is j within = grind (arith, common_steps, cut_least, length-set)
 
 -- ---- all of a message
 
@@ -86,12 +66,10 @@ abbrev keep_front : ℕ → List Block → List Block
 keep_front n [] = []
 keep_front n (b ∷ bs) = record b { len = min n b.len } ∷ keep_front (n - b.len) bs
 
--- what is cut from the last to the first, where one more stands behind
+-- what is cut from the last to the first, if one more block comes after
 cut_back-push : (n : ℕ) (bs : List Block) (b : Block) → cut_back n (bs ++ b ∷ []) ≡ cut_back n bs ++ record b { len = b.len - (n - size_of bs) } ∷ []
 cut_back-push n [] b = ap (λ m. record b { len = b.len - m } ∷ []) (let e : n ≡ n - 0 = omega arith in e)
-cut_back-push n (x ∷ bs) b =
-    let rest : n - x.len - size_of bs ≡ n - size_of (x ∷ bs) = omega (arith, size_front x bs) in
-    ap (λ ys. record x { len = x.len - n } ∷ ys) (cut_back-push (n - x.len) bs b ∙ ap (λ m. cut_back (n - x.len) bs ++ record b { len = b.len - m } ∷ []) rest)
+cut_back-push n (x ∷ bs) b = grind (arith, common_steps, (cut_back-push (n - x.len) bs b), size_front)
 
 -- without the last n bytes there are all but n from the front on
 pub cut_back-keeps : (n : ℕ) (m : List Block) → reverse (cut_back n (reverse m)) ≡ keep_front (size_of m - n) m
@@ -144,11 +122,7 @@ module _ (from_tail : Bool) where
 
   pub message_cut : (ks : List ℕ) (n : ℕ) (fields : List Fields) → ((j : ℕ) → times j ks ≤ 1) → ((j : ℕ) → 0 < times j ks → j < length fields)
       → message_of (with_bytes_cut from_tail n ks fields) ks ≡ cut_along n (message_of fields ks)
-  message_cut [] n fields once there = along_none from_tail
-    where
-      along_none : (t : Bool) → [] ≡ (if t then keep_front n [] else cut_front n [])
-      along_none true = refl
-      along_none false = refl
+  message_cut [] n fields once there = grind (arith, common_steps)
   message_cut (k ∷ ks) n fields once there =
       let x = fields_cut from_tail n (fields_at fields k) in
       let more = n - (fields_at fields k).len in

@@ -19,6 +19,7 @@ use Rattle.strm_mblk.specs.Cutting.{IsRun, run_with}
 use Rattle.strm_mblk.specs.Trimming.{along, run_of}
 use Rattle.strm_mblk.proofs.lists.ListParts.{drop_from}
 use Rattle.strm_mblk.proofs.freeing.Dropping.{reverse_onto}
+use Rattle.std.proofs.lemmas.Grind.{common_steps}
 
 -- the bytes of a first block and of the others
 pub size_front : (b : Block) (m : List Block) → size_of (b ∷ m) ≡ b.len + size_of m
@@ -42,7 +43,7 @@ same_kind-other k j other = elim (cases_Bool (same_kind j k)) [
 
 -- ---- the bytes of a run
 
--- a block that passes belongs to it, with what is behind
+-- a block that passes belongs to it, with those after it
 run_more : (p : Block → Bool) (b : Block) (m : List Block) → p b ≡ true → size_of (take_while p (b ∷ m)) ≡ b.len + size_of (take_while p m)
 run_more p b m passes = ap size_of (take_while-cons p b m ∙ cond-true (p b) _ _ passes) ∙ size_front b (take_while p m)
 
@@ -65,7 +66,7 @@ measured_leading s k n (b ∷ bs) =
       | inr other ↦ cond-false _ _ _ other ∙ omega (arith, run_ends (λ c. same_kind (kind_of s c) k) b bs other)
     ]
 
--- at the tail it is that of the last block, where those that came stand behind it, c the last
+-- at the tail it is that of the last block; the blocks that came are after it, and c is the last of them
 measured_trailing : (s : DataStore) (c : Block) (cs bs : List Block) → measured true s (kind_of s c) (size_of (run_of s (c ∷ cs))) bs ≡ size_of (run_of s (reverse bs ++ (c ∷ cs)))
 measured_trailing s c cs [] = refl
 measured_trailing s c cs (b ∷ bs) =
@@ -129,25 +130,11 @@ module _ (from_tail : Bool) (s : DataStore) (fields : List Fields) where
   module _ (ns : List ℕ) where
     -- the first block begins a run, of which nothing has been measured
     pub first_measured : (h : ℕ) → slice_get ns 0 ≡ Some h → IsMeasured from_tail s fields ns 0 (record { first = h; blocks = length ns; size = 0; kind = kind_of s (block_at fields h) })
-    first_measured h begun =
-        let from : length ns - length ns ≡ 0 = omega arith in
-        record {
-          size = first_size ns h begun;
-          few = omega arith;
-          begins = ap (slice_get ns) from ∙ begun;
-          leading = λ head. refl;
-          sums = omega (arith, ap (λ i. size_of (message_of fields (take i ns))) from);
-        }
+    first_measured h begun = grind (arith, common_steps, first_size)
 
     -- no block comes next
     pub all_measured : (i : ℕ) (r : Run) → IsMeasured from_tail s fields ns i r → drop i ns ≡ [] → IsRun from_tail s fields ns r
-    all_measured i r at none = record {
-      size = sym (ap (λ ks. measured from_tail s r.kind r.size (message_of fields ks)) none) ∙ at.size;
-      few = at.few;
-      begins = at.begins;
-      leading = at.leading;
-      trailing = λ tail. omega (arith, at.sums, ap (λ ks. size_of (message_of fields ks)) none);
-    }
+    all_measured i r at none = grind (arith, common_steps)
 
     module _ (i n : ℕ) (r : Run) (at : IsMeasured from_tail s fields ns i r) (here : slice_get ns i ≡ Some n) where
       abbrev b : Block
@@ -165,15 +152,7 @@ module _ (from_tail : Bool) (s : DataStore) (fields : List Fields) where
 
       -- at the head a block of another type ends the run
       pub other_measured : from_tail ≡ false → same_kind (kind_of s b) r.kind ≡ false → IsRun from_tail s fields ns r
-      other_measured head other = record {
-        size =
-            sym (ap (measured from_tail s r.kind r.size) behind ∙ cond-false _ _ _ other ∙ ap (λ t. if t then measured from_tail s (kind_of s b) b.len (message_of fields (drop (i + 1) ns)) else r.size) head)
-            ∙ at.size;
-        few = at.few;
-        begins = at.begins;
-        leading = at.leading;
-        trailing = λ tail. absurd (false≢true (sym head ∙ tail));
-      }
+      other_measured head other = grind (arith, common_steps, behind, cond-false)
 
       -- any other joins it, or begins another
       pub next_measured : (from_tail ≡ true) ⊎ (same_kind (kind_of s b) r.kind ≡ true) → IsMeasured from_tail s fields ns (i + 1) (run_with n (length ns - i) (kind_of s b) b.len r)
@@ -184,24 +163,7 @@ module _ (from_tail : Bool) (s : DataStore) (fields : List Fields) where
           ]
         where
           joined : same_kind (kind_of s b) r.kind ≡ true → IsMeasured from_tail s fields ns (i + 1) (record r { size = r.size + b.len })
-          joined same = record {
-            size = sym (ap (measured from_tail s r.kind r.size) behind ∙ cond-true _ _ _ same) ∙ at.size;
-            few = at.few;
-            begins = at.begins;
-            leading = at.leading;
-            sums = omega (arith, at.sums, sums_more);
-          }
+          joined same = grind (arith, common_steps, behind, cond-true, sums_more)
 
           begun : same_kind (kind_of s b) r.kind ≡ false → from_tail ≡ true → IsMeasured from_tail s fields ns (i + 1) (record { first = n; blocks = length ns - i; size = b.len; kind = kind_of s b })
-          begun other tail =
-              let from : length ns - (length ns - i) ≡ i = omega (arith, slice_get_within ns i n here) in
-              record {
-                size =
-                    sym (ap (measured from_tail s r.kind r.size) behind ∙ cond-false _ _ _ other
-                    ∙ ap (λ t. if t then measured from_tail s (kind_of s b) b.len (message_of fields (drop (i + 1) ns)) else r.size) tail)
-                    ∙ at.size;
-                few = omega arith;
-                begins = ap (slice_get ns) from ∙ here;
-                leading = λ head. absurd (false≢true (sym head ∙ tail));
-                sums = omega (arith, ap (λ k. size_of (message_of fields (take k ns))) from, parts_size ns i, sums_more);
-              }
+          begun other tail = grind (arith, common_steps, slice_get_within, behind, cond-false, parts_size, sums_more)

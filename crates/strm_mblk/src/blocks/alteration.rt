@@ -1,4 +1,4 @@
-//! What a block of a held message says is altered: bytes behind its write place, its type, its band.
+//! Calls that alter one block of a held message: its bytes, its type or its band.
 ghost use Rattle.std.specs.Prelude.{Ok, IsTrue};
 ghost use Rattle.strm_mblk.specs.Arena.{has};
 ghost use Rattle.strm_mblk.specs.BlockCalls as model;
@@ -10,14 +10,16 @@ use crate::token::Token;
 use strm_data::{MsgType, Refusal};
 
 impl Blocks {
-    /// Writes bytes behind the write place of a message's block `place`, counted from 0, and raises the write place. Takes
-    /// `place` steps and a copy of the bytes.
+    /// Writes bytes after the write place of a message's block `place`, and moves the write place after them. Places
+    /// count from 0.
     ///
-    /// Refused as `NoSuchBlock` where the message has no such block, then as `Shared` where another message block names
-    /// its data block, then as `NoRoom` where the bytes do not fit; nothing changes then.
+    /// Refused as `NoSuchBlock` if the message has no such block, then as `Shared` if another message block refers to its
+    /// data block, then as `NoRoom` if the bytes do not fit. On an error nothing changes. Takes at most `place` steps
+    /// and a copy of the bytes. In STREAMS modules do this by hand (`b_wptr`).
     pub fn write(&mut self, token: &Token, place: u32, bytes: &[u8]) -> Result<(), Refusal>
         requires { IsTrue (has self.old token.now) }
-        ensures { Alters itself token.now token.now (model.write token.now.head place bytes.now self.old) self.old self.new result }
+        ensures { Alters itself token.now token.now (model.write token.now.head place bytes.now self.old)
+            self.old self.new result }
     {
         let Some(node) = node_at(&self.chains, token.head(), place) else {
             return Err(Refusal::NoSuchBlock);
@@ -36,13 +38,15 @@ impl Blocks {
         Ok(())
     }
 
-    /// Gives the data block of a message's block `place`, counted from 0, another type. Takes `place` steps.
+    /// Gives the data block of a message's block `place` a type. Places count from 0.
     ///
-    /// Refused as `NoSuchBlock` where the message has no such block, then as `Shared` where another message block names
-    /// the data block; nothing changes then.
+    /// Refused as `NoSuchBlock` if the message has no such block, then as `Shared` if another message block refers to its
+    /// data block. On an error nothing changes. Takes at most `place` steps. In STREAMS modules do this by hand
+    /// (`db_type`).
     pub fn settype(&mut self, token: &Token, place: u32, kind: MsgType) -> Result<(), Refusal>
         requires { IsTrue (has self.old token.now) }
-        ensures { Alters itself token.now token.now (model.settype token.now.head place kind self.old) self.old self.new result }
+        ensures { Alters itself token.now token.now (model.settype token.now.head place kind self.old)
+            self.old self.new result }
     {
         let Some(node) = node_at(&self.chains, token.head(), place) else {
             return Err(Refusal::NoSuchBlock);
@@ -55,11 +59,12 @@ impl Blocks {
         Ok(())
     }
 
-    /// Gives a message's first block another band. All else stays: its other blocks keep their bands, and its data block its
-    /// type and bytes.
+    /// Gives a message's first block a band, 0 to 255. All else stays unchanged, the bands of its other blocks too. Takes
+    /// constant time. In STREAMS modules do this by hand (`b_band`).
     pub fn setband(&mut self, token: &Token, band: u8)
         requires { IsTrue (has self.old token.now) }
-        ensures { Alters itself token.now token.now (done (model.setband token.now.head band self.old)) self.old self.new (Ok tt) }
+        ensures { Alters itself token.now token.now (done (model.setband token.now.head band self.old))
+            self.old self.new (Ok tt) }
     {
         self.blocks[token.head() as usize].band = band;
     }

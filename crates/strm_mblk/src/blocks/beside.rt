@@ -1,4 +1,4 @@
-//! Blocks beside a plain program, for tests.
+//! Compares `Blocks` with the plain program, for tests.
 ghost use Rattle.std.specs.Prelude.{◌≡◌, ◌<◌, ℕ, IsSome, IsTrue, length};
 ghost use Rattle.strm_data.specs.CountedStore.{IsKept};
 ghost use Rattle.strm_data.specs.DataStore.{capacity_of};
@@ -15,10 +15,10 @@ use crate::tests::assert_is;
 use std::process::Abort;
 use strm_data::{Data, MOST_DATA_BLOCKS};
 
-// No more bytes than this are in a data block that is compared.
+// The most bytes of a data block that is compared.
 const MOST: usize = 64;
 
-// Whether there is such a shelf, and a message with this head stands on it.
+// Whether there is such a shelf, and a message with this head is on it.
 pub(crate) fn stands_on(among: &Blocks, shelf: u8, head: BlockNo) -> bool
     ensures shelf { IsTrue result → shelf < length among.now.shelves }
     ensures head { IsTrue result → head < length among.now.held }
@@ -30,7 +30,7 @@ pub(crate) fn stands_on(among: &Blocks, shelf: u8, head: BlockNo) -> bool
         && is_on(&among.chains, u32::from(shelf), head)
 }
 
-// The next data blocks that this size takes are these, in this order: each is taken, and given back as it was.
+// Asserts that calls take these data blocks for this size, in this order. Each is taken, and returned as it was.
 fn assert_next(rt: &impl Abort, stored: &mut Data, size: u32, numbers: &[u32])
     requires kept { IsKept stored.old }
     ensures kept { IsKept stored.new }
@@ -53,7 +53,7 @@ fn assert_next(rt: &impl Abort, stored: &mut Data, size: u32, numbers: &[u32])
     }
 }
 
-// The free data blocks of the classes from this one on are these, class by class and in order.
+// Asserts the free data blocks of the classes from `class` on, class by class and in order.
 fn assert_lists(rt: &impl Abort, stored: &mut Data, class: u8, lists: &[List<u32>])
     requires kept { IsKept stored.old }
     ensures kept { IsKept stored.new }
@@ -75,22 +75,22 @@ fn assert_lists(rt: &impl Abort, stored: &mut Data, class: u8, lists: &[List<u32
     }
 }
 
-// All is as in the plain program: id, message blocks, held messages, shelves, data blocks, and both kinds of free lists in
-// order. Each count of names is how many blocks name the data block there.
+// Asserts that all is as in the plain program: id, message blocks, held messages, shelves, data blocks, and both kinds of
+// free lists in order. Each count of references is the number of blocks there that use the data block.
 pub(crate) fn assert_same(rt: &impl Abort, among: &mut Blocks, plain: &Arena) {
     among.assert_is(rt, plain);
     assert_lists(rt, &mut among.data, 0, plain.store().free());
 }
 
 impl Blocks {
-    // How many shelves there are.
+    // The number of shelves.
     pub(crate) fn shelf_count(&self) -> u32
         ensures { result ≡ length self.now.shelves }
     {
         self.chains.shelf_count()
     }
 
-    // All is as in the plain program, but for the order of the free data blocks.
+    // Asserts that all is as in the plain program, except for the order of the free data blocks.
     fn assert_is(&self, rt: &impl Abort, plain: &Arena) {
         assert!(rt; self.id == plain.id());
         assert_is(rt, &self.census(), &plain.census_of(rt));
@@ -101,7 +101,7 @@ impl Blocks {
         self.assert_classes(rt, plain);
     }
 
-    // The block here of a message is this. Gives the one behind it.
+    // Asserts a block of a message, and returns the number of the next one.
     fn assert_block(&self, rt: &impl Abort, at: Option<u32>, block: &Block) -> Option<u32> {
         assert!(rt; at == Some(block.number) && (block.number as usize) < self.blocks.len());
         let fields = self.blocks[block.number as usize];
@@ -116,7 +116,7 @@ impl Blocks {
         self.chains.next(block.number)
     }
 
-    // The message that begins with this number has these blocks.
+    // Asserts the blocks of the message that begins with this number.
     fn assert_message(&self, rt: &impl Abort, head: u32, message: &[Block]) {
         let mut at = Some(head);
         for block in message {
@@ -125,7 +125,7 @@ impl Blocks {
         assert!(rt; at.is_none());
     }
 
-    // The message held at this number is this, or there is none.
+    // Asserts the message held at this number, or that there is none.
     fn assert_held_at(&self, rt: &impl Abort, head: u32, message: &Option<Message>) {
         assert!(rt; (head as usize) < self.blocks.len());
         assert!(rt; self.chains.is_held(head) == message.is_some());
@@ -134,7 +134,7 @@ impl Blocks {
         }
     }
 
-    // The held messages are these.
+    // Asserts the held messages.
     fn assert_held(&self, rt: &impl Abort, plain: &Arena) {
         assert!(rt; self.blocks.len() == plain.held().len());
         for (head, message) in (0..=MOST_MESSAGE_BLOCKS).zip(plain.held()) {
@@ -142,7 +142,7 @@ impl Blocks {
         }
     }
 
-    // The messages on the shelves are these.
+    // Asserts the messages on the shelves.
     fn assert_shelves(&self, rt: &impl Abort, shelves: &[List<Message>]) {
         assert!(rt; self.shelf_count() as usize == shelves.len());
         for (shelf, messages) in (0..255u8).zip(shelves) {
@@ -150,7 +150,7 @@ impl Blocks {
         }
     }
 
-    // The message at a place of a shelf is this. Gives what is behind it.
+    // Asserts the message at a place of a shelf, and returns the head of the next one.
     fn assert_shelved(
         &self,
         rt: &impl Abort,
@@ -164,7 +164,7 @@ impl Blocks {
         self.after(head)
     }
 
-    // The messages on a shelf are these, front to back.
+    // Asserts the messages on a shelf, front to back.
     fn assert_shelf(&self, rt: &impl Abort, shelf: u8, messages: &[Message]) {
         assert!(rt; u32::from(shelf) < self.shelf_count());
         let mut at = self.first(shelf);
@@ -174,7 +174,7 @@ impl Blocks {
         assert!(rt; at.is_none());
     }
 
-    // A data block has this class's capacity, this type and these bytes.
+    // Asserts a data block's capacity, type and bytes.
     fn assert_data_block(&self, rt: &impl Abort, number: u32, other: &DataBlock) {
         assert!(rt; (number as usize) < self.data.len());
         assert_is(rt, &self.data.kind(number), &other.kind);
@@ -186,7 +186,7 @@ impl Blocks {
         assert!(rt; *own == *other.bytes.items());
     }
 
-    // So many of these blocks name a data block.
+    // Asserts that a data block has a reference for each of these blocks that uses it.
     fn assert_names(&self, rt: &impl Abort, number: u32, blocks: &[Block]) {
         let data = self.data();
         assert!(rt; (number as usize) < data.len());
@@ -194,7 +194,7 @@ impl Blocks {
         assert_is(rt, &names, &count_naming(number, blocks));
     }
 
-    // These are the data blocks, and so many of these message blocks name each.
+    // Asserts the data blocks, and that each has a reference for each of these message blocks that uses it.
     fn assert_named(&self, rt: &impl Abort, others: &[DataBlock], blocks: &[Block]) {
         assert!(rt; self.data.len() == others.len());
         for (number, other) in (0..=MOST_DATA_BLOCKS).zip(others) {
@@ -203,13 +203,13 @@ impl Blocks {
         }
     }
 
-    // The data blocks, and how many message blocks name each, are these.
+    // Asserts the data blocks and the references to each.
     fn assert_data(&self, rt: &impl Abort, plain: &Arena) {
         let blocks = plain.blocks_in(rt);
         self.assert_named(rt, plain.store().blocks(), blocks.items());
     }
 
-    // The size of each class, and how many of its data blocks are free and there.
+    // Asserts the size of each class, and the numbers of its data blocks, free and in all.
     fn assert_classes(&self, rt: &impl Abort, plain: &Arena) {
         for class in [0, 1, 2, 3, 255] {
             assert_is(rt, &self.class_info(class), &plain.class_info(rt, class));

@@ -1,4 +1,4 @@
-//! Copies: new messages of new blocks over data blocks of their own.
+//! Copies: new messages over new data blocks with the same bytes.
 ghost use Rattle.std.specs.Prelude.{◌≡◌, ◌⊎◌, ◌≤◌, ◌<◌, ◌+◌, ℕ, Err, IfSome, IsTrue, None, Ok, Some, false, length, slice_get, take};
 ghost use Rattle.std.specs.Result.{is_ok};
 ghost use Rattle.strm_data.specs.declared.refusal.Refusal.TheVariants.{NoData};
@@ -16,7 +16,7 @@ use crate::chains::Chains;
 use crate::token::Token;
 use strm_data::{Data, MOST_CLASSES, Refusal};
 
-// How many data blocks of each class are free.
+// The number of free data blocks of each class.
 #[inline(always)]
 fn free_counts(stored: &Data) -> [u32; MOST_CLASSES]
     requires { IsKept stored.now }
@@ -50,8 +50,8 @@ fn class_left(stored: &Data, left: &[u32; MOST_CLASSES], size: u32) -> Option<u8
     None
 }
 
-// Whether the data blocks suffice for copies of a message's first `count` blocks. Mostly as many of the largest class are free.
-// Nothing changes: taking a data block would change its type.
+// Whether enough data blocks are free to copy a message's first `count` blocks. Usually the largest class alone has
+// enough. This changes nothing, whereas taking data blocks would change their types.
 #[inline(always)]
 fn copies_fit(chains: &Chains, blocks: &[Fields], stored: &Data, head: u32, count: u32) -> bool
     requires parted { IsNodesParted chains.now }
@@ -60,8 +60,10 @@ fn copies_fit(chains: &Chains, blocks: &[Fields], stored: &Data, head: u32, coun
     requires listed { length blocks.now ≡ length chains.now.held }
     requires placed { (n : ℕ) → n < length blocks.now → IsPlaced stored.now.store (fields_at blocks.now n) }
     requires kept { IsKept stored.now }
-    ensures fit { result ≡ is_ok (model.copies (take count (message_of blocks.now (nodes_at chains.now head))) stored.now.store) }
-    ensures refused { result ≡ false → model.copies (take count (message_of blocks.now (nodes_at chains.now head))) stored.now.store ≡ Err NoData }
+    ensures fit { result ≡ is_ok (model.copies (take count (message_of blocks.now (nodes_at chains.now head)))
+        stored.now.store) }
+    ensures refused { result ≡ false → model.copies (take count (message_of blocks.now (nodes_at chains.now head)))
+        stored.now.store ≡ Err NoData }
 {
     if stored.free_in_largest() >= count {
         return true;
@@ -79,13 +81,14 @@ fn copies_fit(chains: &Chains, blocks: &[Fields], stored: &Data, head: u32, coun
     true
 }
 
-// Takes a data block for a copy of a message block that says so, with the type and the bytes of the one that it names. The
-// answer is what the copy says.
+// Takes a data block for a copy of a message block, with the type and the bytes of the old one. Returns the fields of the
+// copy.
 #[inline(always)]
 fn copy_data(stored: &mut Data, source: Fields) -> Fields
     requires placed { IsPlaced stored.old.store source }
     requires fits { IsTrue (is_ok (take_data (capacity_of stored.old.store source.data_number) stored.old.store)) }
-    ensures taken { take_data (capacity_of stored.old.store source.data_number) stored.old.store ≡ Ok result.data_number }
+    ensures taken { take_data (capacity_of stored.old.store source.data_number) stored.old.store
+        ≡ Ok result.data_number }
     ensures fields { result ≡ record source { data_number = result.data_number } }
     ensures after { (n : ℕ) → stored.new ≡ with_copy (block_of n source) stored.old result.data_number }
     ensures unused { IsUnused stored.old result.data_number }
@@ -104,7 +107,7 @@ fn copy_data(stored: &mut Data, source: Fields) -> Fields
     }
 }
 
-// Copies the first `count` blocks of a message, data blocks too, into those of another, for which the data blocks suffice.
+// Copies the first `count` blocks of a message, with their data, into those of another. Enough data blocks are free.
 #[inline(always)]
 fn copy_blocks(
     chains: &Chains,
@@ -122,8 +125,10 @@ fn copy_blocks(
     requires listed { length blocks.old ≡ length chains.now.held }
     requires placed { (n : ℕ) → n < length blocks.old → IsPlaced stored.old.store (fields_at blocks.old n) }
     requires kept { IsKept stored.old }
-    requires fit { IsTrue (is_ok (model.copies (take count (message_of blocks.old (nodes_at chains.now from))) stored.old.store)) }
-    ensures after { AreCopied (take count (message_of blocks.old (nodes_at chains.now from))) (nodes_at chains.now into) blocks.old blocks.new stored.old stored.new }
+    requires fit { IsTrue (is_ok (model.copies (take count (message_of blocks.old (nodes_at chains.now from)))
+        stored.old.store)) }
+    ensures after { AreCopied (take count (message_of blocks.old (nodes_at chains.now from))) (nodes_at chains.now into)
+        blocks.old blocks.new stored.old stored.new }
     ensures kept { IsKept stored.new }
 {
     let mut read = from;
@@ -136,11 +141,12 @@ fn copy_blocks(
 }
 
 impl Blocks {
-    // Copies of the first `count` blocks of a message, as `copymsg` makes them of all.
+    // Copies the first `count` blocks of a message, as `copymsg` copies all of them.
     fn copy(&mut self, token: &Token, count: u32) -> Result<Token, Refusal>
         requires had { IsTrue (has self.old token.now) }
         requires count { (count ≡ 1) ⊎ (count ≡ token.now.blocks) }
-        ensures { Gives itself (Some token.now) (model.copied (take count (message_at self.old token.now.head)) self.old) self.old self.new result }
+        ensures { Gives itself (Some token.now) (model.copied (take count (message_at self.old token.now.head))
+            self.old) self.old self.new result }
     {
         if self.chains.free_len() < count {
             return Err(Refusal::NoMblk);
@@ -161,12 +167,12 @@ impl Blocks {
         Ok(self.token(head))
     }
 
-    /// A message of one new block, the first free one, over a copy of the data block of the first block of this message,
-    /// with its places and its band. The copy is the data block that `allocb` would take for the capacity of the other; it
-    /// has its type, and its bytes between the places, which are copied once.
+    /// Makes a message of one new block, a copy of this message's first block, and returns its token. The new block is
+    /// the first free one, and has the places and band of the old one. Its data block is the one that `allocb` would take
+    /// for the old data block's capacity. It gets the type of the old data block, and the bytes between the places.
     ///
-    /// Refused as `NoMblk` where no message block is free, then as `NoData` where no data block is that fits; nothing
-    /// changes then.
+    /// Refused as `NoMblk` if no message block is free, then as `NoData` if no data block that fits is free. On an error
+    /// nothing changes. Takes at most three steps for each class, and one slice copy.
     pub fn copyb(&mut self, token: &Token) -> Result<Token, Refusal>
         requires { IsTrue (has self.old token.now) }
         ensures { Gives itself (Some token.now) (model.copyb token.now.head self.old) self.old self.new result }
@@ -174,14 +180,14 @@ impl Blocks {
         self.copy(token, 1)
     }
 
-    /// A message of new blocks, the first free ones in their order, one for each block of this message, over a copy of its
-    /// data block, with its places and its band. The copies are the data blocks that `allocb` would take for the capacities
-    /// of the others, in order; they have their types, and their bytes between the places, which are copied once. All or
-    /// nothing. Takes at most a step for each block and class; where fewer data blocks of the largest class are free than the
-    /// message has blocks, as many again, and one for each class.
+    /// Makes a message of new blocks, one for each block of this message, and returns its token. The new blocks are the
+    /// first free ones in order. Each is a copy as `copyb` makes it, and data blocks are taken in order. All blocks are
+    /// copied or none.
     ///
-    /// Refused as `NoMblk` where fewer message blocks are free than the message has, then as `NoData` where the data
-    /// blocks do not suffice; nothing changes then.
+    /// Refused as `NoMblk` if fewer message blocks are free than the message has, then as `NoData` if the free data
+    /// blocks do not suffice. On an error nothing changes. Takes for each block two steps, a search over the classes and
+    /// one slice copy. If the largest class has fewer free data blocks than the message has blocks, each block takes a
+    /// step and a search more, and each class a step.
     pub fn copymsg(&mut self, token: &Token) -> Result<Token, Refusal>
         requires { IsTrue (has self.old token.now) }
         ensures { Gives itself (Some token.now) (model.copymsg token.now.head self.old) self.old self.new result }

@@ -1,4 +1,4 @@
-//! Duplicates: new messages of new blocks that name the same data blocks.
+//! Duplicates: new messages over the same data blocks.
 ghost use Rattle.std.specs.Prelude.{◌≡◌, ◌⊎◌, ℕ, ◌+◌, ◌<◌, ◌≤◌, IsTrue, Some, if◌then◌else◌, length, map, not, slice_get, take};
 ghost use Rattle.strm_data.specs.CountedStore.{IsKept, count_of};
 ghost use Rattle.strm_data.specs.DataStore.{times};
@@ -14,18 +14,21 @@ use crate::chains::Chains;
 use crate::token::Token;
 use strm_data::{Data, MOST_DATA_BLOCK_NAMES, Refusal};
 
-// Names the data blocks of the first `count` blocks of a held message once more, first to last. Where one of them has
-// `MOST_DATA_BLOCK_NAMES` names already, the data blocks are left as they were.
+// Adds a reference to the data block of each of the first `count` blocks of a held message, first to last. Returns false,
+// and leaves all data blocks unchanged, if one would have more than `MOST_DATA_BLOCK_NAMES` references.
 #[inline(always)]
 fn give_names(chains: &Chains, blocks: &[Fields], stored: &mut Data, head: u32, count: u32) -> bool
     requires begun { slice_get (nodes_at chains.now head) 0 ≡ Some head }
     requires count { count ≤ length (nodes_at chains.now head) }
     requires blocks { length blocks.now ≡ length chains.now.held }
-    requires there { (n : ℕ) → n < length blocks.now → (fields_at blocks.now n).data_number < length stored.old.store.blocks }
+    requires there { (n : ℕ) → n < length blocks.now → (fields_at blocks.now n).data_number
+        < length stored.old.store.blocks }
     requires used { (d : ℕ) → 0 < times d (named_by blocks.now (nodes_at chains.now head)) → 0 < count_of stored.old d }
     requires kept { IsKept stored.old }
-    ensures answer { result ≡ not (exceeds_counts (take count (named_by blocks.now (nodes_at chains.now head))) stored.old) }
-    ensures after { stored.new ≡ (if result then with_names_given (take count (named_by blocks.now (nodes_at chains.now head))) stored.old else stored.old) }
+    ensures answer { result ≡ not (exceeds_counts (take count (named_by blocks.now (nodes_at chains.now head)))
+        stored.old) }
+    ensures after { stored.new ≡ (if result then with_names_given
+        (take count (named_by blocks.now (nodes_at chains.now head))) stored.old else stored.old) }
     ensures kept { IsKept stored.new }
 {
     let mut node = head;
@@ -41,7 +44,7 @@ fn give_names(chains: &Chains, blocks: &[Fields], stored: &mut Data, head: u32, 
     true
 }
 
-// Copies what the first `count` blocks of a held message say to the blocks of another one, which has as many.
+// Copies the fields of the first `count` blocks of a held message to the blocks of another, which has as many.
 #[inline(always)]
 fn copy_fields(chains: &Chains, blocks: &mut [Fields], from: u32, to: u32, count: u32)
     requires from { slice_get (nodes_at chains.now from) 0 ≡ Some from }
@@ -50,7 +53,8 @@ fn copy_fields(chains: &Chains, blocks: &mut [Fields], from: u32, to: u32, count
     requires count { count ≡ length (nodes_at chains.now to) }
     requires blocks { length blocks.old ≡ length chains.now.held }
     requires apart { (n : ℕ) → times n (nodes_at chains.now from) + times n (nodes_at chains.now to) ≤ 1 }
-    ensures { blocks.new ≡ with_fields (nodes_at chains.now to) (map (fields_at blocks.old) (take count (nodes_at chains.now from))) blocks.old }
+    ensures { blocks.new ≡ with_fields (nodes_at chains.now to)
+        (map (fields_at blocks.old) (take count (nodes_at chains.now from))) blocks.old }
 {
     let mut read = from;
     let mut written = to;
@@ -63,13 +67,13 @@ fn copy_fields(chains: &Chains, blocks: &mut [Fields], from: u32, to: u32, count
 }
 
 impl Blocks {
-    // A message of new blocks, one for each of the first `count` blocks of this message. `dupmsg` says what it is and when
-    // it is refused.
+    // Makes a message of new blocks for the first `count` blocks of this message, as `dupmsg` does for all of them.
     #[inline(always)]
     fn duplicate(&mut self, token: &Token, count: u32) -> Result<Token, Refusal>
         requires had { IsTrue (has self.old token.now) }
         requires count { (count ≡ 1) ⊎ (count ≡ token.now.blocks) }
-        ensures { Gives itself (Some token.now) (model.duplicated (take count (message_at self.old token.now.head)) self.old) self.old self.new result }
+        ensures { Gives itself (Some token.now) (model.duplicated (take count (message_at self.old token.now.head))
+            self.old) self.old self.new result }
     {
         if self.chains.free_len() < count {
             return Err(Refusal::NoMblk);
@@ -83,11 +87,11 @@ impl Blocks {
         Ok(self.token(head))
     }
 
-    /// A message of one new block, the first free one, which names the data block of the first block of this message, with
-    /// its places and its band.
+    /// Makes a message of one new block, the first free one, and returns its token. The new block has the data block,
+    /// places and band of this message's first block.
     ///
-    /// Refused as `NoMblk` where no message block is free, then as `RefMax` where `MOST_DATA_BLOCK_NAMES` message blocks
-    /// name the data block; nothing changes then.
+    /// Refused as `NoMblk` if no message block is free, then as `RefMax` if the data block has `MOST_DATA_BLOCK_NAMES`
+    /// references. On an error nothing changes. Takes constant time.
     pub fn dupb(&mut self, token: &Token) -> Result<Token, Refusal>
         requires { IsTrue (has self.old token.now) }
         ensures { Gives itself (Some token.now) (model.dupb token.now.head self.old) self.old self.new result }
@@ -95,17 +99,18 @@ impl Blocks {
         self.duplicate(token, 1)
     }
 
-    /// A message of new blocks, the first free ones in their order, one for each block of this message: it names its data
-    /// block, with its places and its band. All or nothing. Takes as many steps as the message has blocks.
+    /// Makes a message of new blocks, the first free ones in order, one for each block of this message, and returns its
+    /// token. Each has the data block, places and band of its old block. All blocks are duplicated or none.
     ///
-    /// Refused as `NoMblk` where fewer message blocks are free than the message has, then as `RefMax` where some data
-    /// block would have more than `MOST_DATA_BLOCK_NAMES` names; nothing changes then.
+    /// Refused as `NoMblk` if fewer message blocks are free than the message has, then as `RefMax` if a data block would
+    /// have more than `MOST_DATA_BLOCK_NAMES` references. On an error nothing changes. Takes at most three steps for
+    /// each block.
     pub fn dupmsg(&mut self, token: &Token) -> Result<Token, Refusal>
         requires { IsTrue (has self.old token.now) }
         ensures { Gives itself (Some token.now) (model.dupmsg token.now.head self.old) self.old self.new result }
     {
         match token.blocks() {
-            // Most messages are of one block, and have no loop.
+            // Most messages have one block, for which no loop runs.
             1 => self.duplicate(token, 1),
             count => self.duplicate(token, count),
         }

@@ -1,4 +1,4 @@
-//! Messages, and their first blocks, are freed.
+//! Messages, and first blocks of messages, are freed: `freemsg`, `freeb`.
 ghost use Rattle.std.specs.Prelude.{Ok, ◌≡◌, ◌≤◌, ◌<◌, ℕ, IsTrue, Some, length, slice_get, take};
 ghost use Rattle.strm_data.specs.CountedStore.{IsKept, count_of};
 ghost use Rattle.strm_data.specs.DataStore.{times};
@@ -14,8 +14,8 @@ use crate::chains::Chains;
 use crate::token::Token;
 use strm_data::Data;
 
-// Takes the names away that the first `count` blocks of a held message have given, first to last. Most messages are of one
-// block, and have no loop.
+// Removes the references of the first `count` blocks of a held message, first to last. Most messages have one block, for
+// which no loop runs.
 #[inline(always)]
 pub(super) fn drop_names(
     chains: &Chains,
@@ -27,10 +27,13 @@ pub(super) fn drop_names(
     requires begun { slice_get (nodes_at chains.now head) 0 ≡ Some head }
     requires count { count ≤ length (nodes_at chains.now head) }
     requires blocks { length blocks.now ≡ length chains.now.held }
-    requires there { (n : ℕ) → n < length blocks.now → (fields_at blocks.now n).data_number < length stored.old.store.blocks }
-    requires named { (d : ℕ) → times d (take count (named_by blocks.now (nodes_at chains.now head))) ≤ count_of stored.old d }
+    requires there { (n : ℕ) → n < length blocks.now → (fields_at blocks.now n).data_number
+        < length stored.old.store.blocks }
+    requires named { (d : ℕ) → times d (take count (named_by blocks.now (nodes_at chains.now head)))
+        ≤ count_of stored.old d }
     requires kept { IsKept stored.old }
-    ensures after { stored.new ≡ with_names_dropped (take count (named_by blocks.now (nodes_at chains.now head))) stored.old }
+    ensures after { stored.new ≡ with_names_dropped (take count (named_by blocks.now (nodes_at chains.now head)))
+        stored.old }
     ensures kept { IsKept stored.new }
 {
     if count == 0 {
@@ -45,9 +48,9 @@ pub(super) fn drop_names(
 }
 
 impl Blocks {
-    /// Frees a message: its blocks first to last, each to the front of the free ones, and with each its data block, to the
-    /// front of the free ones of its class, where no message block names that any more. Takes as many steps as there are
-    /// blocks. A token that is not of these blocks is spent, and nothing else is done.
+    /// Frees a message: its blocks, first to last, each to the front of the free list. In the same order, each data
+    /// block that loses its last reference is freed, to the front of its class's list. A token that these blocks do not
+    /// have is spent, and nothing else changes. Takes two steps for each block.
     pub fn freemsg(&mut self, token: Token)
         ensures { Spends itself token (spent self.old token) self.old self.new }
     {
@@ -65,9 +68,9 @@ impl Blocks {
         }
     }
 
-    /// Frees the first block of a message, to the front of the free ones, and its data block, to the front of the free
-    /// ones of its class, where no other message block names it. The others are a message of their own, whose token is the
-    /// answer; none where there are no others. What they say stays. Takes constant time.
+    /// Frees the first block of a message, to the front of the free list. If its data block loses its last reference, it
+    /// is freed too, to the front of its class's list. The other blocks become a message of their own, whose token is
+    /// returned; none if there are no others. They keep what they store. Takes constant time.
     pub fn freeb(&mut self, token: Token) -> Option<Token>
         requires { IsTrue (has self.old token) }
         ensures { Frees itself token (Ok (model.freeb token.head self.old)) self.old self.new (Ok result) }

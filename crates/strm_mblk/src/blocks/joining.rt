@@ -1,4 +1,4 @@
-//! Messages are joined, and parted again.
+//! Messages are joined and divided: `linkb`, `unlinkb`, `rmvb`.
 ghost use Rattle.std.specs.Prelude.{Ok, IsTrue};
 ghost use Rattle.strm_mblk.specs.Arena.{has};
 ghost use Rattle.strm_mblk.specs.BlockCalls as model;
@@ -10,15 +10,14 @@ use crate::token::Token;
 use strm_data::Refusal;
 
 impl Blocks {
-    /// Puts the message `tail` behind the other, which keeps its token and then has the blocks of both, in order. What the
-    /// blocks say stays. Takes constant time.
-    ///
-    /// Two tokens of one message can come only from two pools of one id: then the second is spent, and nothing else is
-    /// done.
+    /// Appends the blocks of the message `tail` to the other message, which keeps its token. The blocks keep what they store. If
+    /// both tokens are of one message, `tail` is spent, and nothing else changes. That can happen only if two pools have the same
+    /// id. Takes constant time.
     pub fn linkb(&mut self, token: &mut Token, tail: Token)
         requires head { IsTrue (has self.old token.old) }
         requires tail { IsTrue (has self.old tail) }
-        ensures { Joins itself token.old token.new tail (model.linkb token.old.head tail.head self.old) self.old self.new }
+        ensures { Joins itself token.old token.new tail (model.linkb token.old.head tail.head self.old)
+            self.old self.new }
     {
         let tail = tail.spend().head;
         if token.head() != tail {
@@ -27,21 +26,23 @@ impl Blocks {
         }
     }
 
-    /// Leaves only the first block in a message. The others are a message of their own, whose token is the answer; none
-    /// where there are no others, and then nothing changes. What the blocks say stays. Takes constant time.
+    /// Makes the blocks after the first a message of their own, and returns its token. Returns none if the message has
+    /// one block, and then nothing changes. The blocks keep what they store. Takes constant time.
     pub fn unlinkb(&mut self, token: &mut Token) -> Option<Token>
         requires { IsTrue (has self.old token.old) }
-        ensures { Unlinks itself token.old token.new (Ok (model.unlinkb token.old.head self.old)) self.old self.new (Ok result) }
+        ensures { Unlinks itself token.old token.new (Ok (model.unlinkb token.old.head self.old))
+            self.old self.new (Ok result) }
     {
         let rest = self.chains.divide(token.head())?;
         token.set_blocks(1);
         Some(self.token(rest))
     }
 
-    /// Takes block `place` of a message, counted from 0, for a message of its own: its token comes first. The others are
-    /// a message, if there are any, and its token comes second. Takes `place` steps.
+    /// Makes block `place` of a message a message of its own, whose token comes first. The token of the message that
+    /// the other blocks make, if any, comes second. Places count from 0; STREAMS passes a pointer to the block.
     ///
-    /// Rejected as `NoSuchBlock` where the message has no such block; nothing changes then, and the token comes back.
+    /// Rejected as `NoSuchBlock` if the message has no such block; then nothing changes, and the token comes back. Takes at most
+    /// `place` steps.
     pub fn rmvb(&mut self, token: Token, place: u32) -> Result<(Token, Option<Token>), Rejected>
         requires { IsTrue (has self.old token) }
         ensures { Parts itself token (model.rmvb token.head place self.old) self.old self.new result }

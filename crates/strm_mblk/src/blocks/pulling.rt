@@ -1,4 +1,4 @@
-//! Bytes of a message are pulled up into its first block.
+//! Bytes of a message are pulled up into its first block: `pullupmsg`.
 ghost use Rattle.std.specs.Prelude.{◌≡◌, ◌+◌, ◌-◌, ◌^◌, ◌<◌, ◌≤◌, ℕ, List, IsSome, IsTrue, Some, drop, false, length, slice_get, take};
 ghost use Rattle.strm_data.specs.CountedStore.{IsKept, count_of};
 ghost use Rattle.strm_data.specs.DataStore.{capacity_of, times};
@@ -19,8 +19,8 @@ use crate::chains::Chains;
 use crate::token::Token;
 use strm_data::{Data, Refusal};
 
-// How many bytes are asked for, of a run of blocks that has so many: -1 stands for all of them, and a number below it
-// for none that there are.
+// The number of bytes that `count` asks for. -1 asks for all `run` bytes of the leading blocks; the result is none for a
+// count below -1.
 fn bytes_asked(count: i32, run: u32) -> Option<u32>
     ensures { (bs : List Block) → size_of bs ≡ run → result ≡ bytes_asked count bs }
 {
@@ -33,7 +33,7 @@ fn bytes_asked(count: i32, run: u32) -> Option<u32>
     }
 }
 
-// Copies the first `count` bytes of a held message into a data block that none of its blocks names.
+// Copies the first `count` bytes of a held message into data block `into`, to which none of its blocks refers.
 fn copy_front(
     chains: &Chains,
     blocks: &[Fields],
@@ -51,7 +51,8 @@ fn copy_front(
     requires unnamed { times into (named_by blocks.now (nodes_at chains.now head)) ≡ 0 }
     requires enough { count ≤ length (bytes_of stored.old.store (message_of blocks.now (nodes_at chains.now head))) }
     requires kept { IsKept stored.old }
-    ensures after { stored.new ≡ pulling.with_front_copied into count (message_of blocks.now (nodes_at chains.now head)) stored.old }
+    ensures after { stored.new ≡ pulling.with_front_copied into count (message_of blocks.now (nodes_at chains.now head))
+        stored.old }
     ensures kept { IsKept stored.new }
 {
     let mut done = 0;
@@ -68,8 +69,9 @@ fn copy_front(
     }
 }
 
-// Takes so many bytes from the blocks behind the first of a held message. The data block of each that is used up loses a
-// name, and the answer is how many are used up: they stay in the message.
+// Takes `count` bytes from the blocks after the first of a held message, and returns the number of blocks that are used
+// up. These stay in the message and keep their fields, but the data block of each loses a reference. The next block
+// loses the bytes that are then left to take.
 fn take_bytes(
     chains: &Chains,
     blocks: &mut [Fields],
@@ -81,13 +83,18 @@ fn take_bytes(
     requires begun { slice_get (nodes_at chains.now head) 0 ≡ Some head }
     requires listed { length blocks.old ≡ length chains.now.held }
     requires within { (i n : ℕ) → slice_get (nodes_at chains.now head) i ≡ Some n → n < length blocks.old }
-    requires there { (n : ℕ) → n < length blocks.old → (fields_at blocks.old n).data_number < length stored.old.store.blocks }
-    requires small { (n : ℕ) → n < length blocks.old → (fields_at blocks.old n).offset + (fields_at blocks.old n).len < 2 ^ 32 }
+    requires there { (n : ℕ) → n < length blocks.old → (fields_at blocks.old n).data_number
+        < length stored.old.store.blocks }
+    requires small { (n : ℕ) → n < length blocks.old → (fields_at blocks.old n).offset + (fields_at blocks.old n).len
+        < 2 ^ 32 }
     requires named { (d : ℕ) → times d (named_by blocks.old (nodes_at chains.now head)) ≤ count_of stored.old d }
     requires kept { IsKept stored.old }
     ensures used { result ≡ length (model.used_up count (message_of blocks.old (drop 1 (nodes_at chains.now head)))) }
-    ensures dropped { stored.new ≡ with_names_dropped (take result (named_by blocks.old (drop 1 (nodes_at chains.now head)))) stored.old }
-    ensures cut { blocks.new ≡ with_bytes_cut false (count - size_of (take result (message_of blocks.old (drop 1 (nodes_at chains.now head))))) (drop (result + 1) (nodes_at chains.now head)) blocks.old }
+    ensures dropped { stored.new ≡ with_names_dropped (take result
+        (named_by blocks.old (drop 1 (nodes_at chains.now head)))) stored.old }
+    ensures cut { blocks.new ≡ with_bytes_cut false (count - size_of
+        (take result (message_of blocks.old (drop 1 (nodes_at chains.now head)))))
+        (drop (result + 1) (nodes_at chains.now head)) blocks.old }
     ensures kept { IsKept stored.new }
 {
     let behind = chains.len(head) - 1;
@@ -110,10 +117,10 @@ fn take_bytes(
 }
 
 impl Blocks {
-    // The first block of a message takes a data block for the first `count` bytes of the message, of the type of its
-    // former one, which loses its name once the bytes stand in the other. The other blocks keep their bytes.
+    // Gives the first block of a message a new data block with the first `count` bytes of the message, of the old one's
+    // type. The old data block loses its reference after the copy. The other blocks keep their bytes.
     //
-    // Refused as `take` of the data blocks is; nothing changes then.
+    // Refused as `take` of the data blocks is. On an error nothing changes.
     fn pull_front(&mut self, token: &Token, count: u32) -> Result<(), Refusal>
         requires had { IsTrue (has self.old token.now) }
         requires enough { count ≤ size_of (message_at self.old token.now.head) }
@@ -143,7 +150,7 @@ impl Blocks {
         Ok(())
     }
 
-    // Takes so many bytes from the blocks behind the first of a held message: those that are used up are freed.
+    // Removes `count` bytes from the blocks after the first of a held message, and frees the blocks that are used up.
     fn drain(&mut self, head: u32, count: u32)
         requires { IsSome (held_at self.old head) }
         ensures { self.new ≡ pulling.drained head count (message_at self.old head) self.old }
@@ -152,19 +159,21 @@ impl Blocks {
         self.chains.free_behind(head, used);
     }
 
-    /// Brings the first `count` bytes of a message, or with -1 all those of its leading blocks of the first block's type,
-    /// into its first block. Where that has them, 0 of them too, nothing is done.
+    /// Brings the first `count` bytes of a message into its first block. A count of -1 means all bytes of the leading
+    /// blocks that have the first block's type. If the first block has these bytes, nothing changes.
     ///
-    /// Else the first block names a data block that takes so many bytes, from place 0 on, of the same type, and its former
-    /// one loses its name. The blocks behind it lose what it did not have: up to place `count` each whose bytes are all
-    /// taken, an empty one too, is freed, and the read place of the last one rises. Empty blocks behind that place stay.
-    /// Takes as many steps as the message has blocks, and at most two for each class, and copies the bytes once.
+    /// Otherwise the first block takes a new data block of the old one's type, and has the bytes there from place 0 on.
+    /// The old data block loses a reference. Then the bytes that the first block got are removed from the following
+    /// blocks, in order. On the way each block is freed that is empty or loses all its bytes. A block that loses only
+    /// some gets a higher read place. All later blocks stay.
     ///
-    /// Refused as `Short` where the count is below -1, or the leading blocks have fewer bytes, then as `TooLarge` where the
-    /// count is above the largest class, then as `NoData` where no data block is that fits; nothing changes then.
+    /// Refused as `Short` if the count is below -1 or the leading blocks have fewer bytes. Then refused as `TooLarge` if
+    /// the bytes are more than the largest class has, then as `NoData` if no data block that fits is free. On an error
+    /// nothing changes. Takes at most four steps for each block and two for each class, and copies the bytes once.
     pub fn pullupmsg(&mut self, token: &mut Token, count: i32) -> Result<(), Refusal>
         requires { IsTrue (has self.old token.old) }
-        ensures { Alters itself token.old token.new (model.pullupmsg token.old.head count self.old) self.old self.new result }
+        ensures { Alters itself token.old token.new (model.pullupmsg token.old.head count self.old)
+            self.old self.new result }
     {
         let head = token.head();
         let run = self.run_size(token);

@@ -1,4 +1,4 @@
-//! How many bytes a held message has, and which.
+//! The sizes of held messages, and their bytes.
 ghost use Rattle.std.specs.Prelude.{◌≡◌, ◌<◌, ◌-◌, ◌++◌, ℕ, IsTrue, drop, length, min, sum_by, take};
 ghost use Rattle.strm_mblk.specs.Arena.{has, message_at};
 ghost use Rattle.strm_links.specs.StrandLists.{strand_at};
@@ -10,7 +10,7 @@ use crate::token::Token;
 use strm_data::{Data, MsgType};
 use strm_links::Strands;
 
-// The length of a message block that says so, where all count, or those of type M_DATA alone and it is one.
+// The bytes of a message block that count: all of them, or with `data_alone` only those of an M_DATA block.
 fn length_of(stored: &Data, fields: Fields, data_alone: bool) -> u32
     requires { fields.data_number < length stored.now.store.blocks }
     ensures { (n : ℕ) → result ≡ len_counted data_alone stored.now.store (block_of n fields) }
@@ -22,8 +22,8 @@ fn length_of(stored: &Data, fields: Fields, data_alone: bool) -> u32
     if is_data { fields.len } else { 0 }
 }
 
-// The lengths of a message's blocks, of all or of those of type M_DATA alone, summed up. Takes as many steps as there are. Most
-// messages are of one block, and have no loop.
+// Adds up the lengths of a message's blocks, or with `data_alone` of its M_DATA blocks only. Takes a step for each block.
+// Most messages have one block, for which no loop runs.
 pub(super) fn sum_of_lengths(
     strands: &Strands,
     blocks: &[Fields],
@@ -32,9 +32,10 @@ pub(super) fn sum_of_lengths(
     data_alone: bool,
 ) -> u32
     requires { IsSummable strands.now blocks.now stored.now.store head }
-    ensures { result ≡ sum_by (len_counted data_alone stored.now.store) (message_of blocks.now (strand_at strands.now head)) }
+    ensures { result ≡ sum_by (len_counted data_alone stored.now.store)
+        (message_of blocks.now (strand_at strands.now head)) }
 {
-    // Each step has a block to go to, and what would stand for none is never read: so nothing is asked.
+    // Each step finds a block, so `u32::MAX`, which means none, is never used; that saves a branch.
     let mut sum = length_of(stored, blocks[head as usize], data_alone);
     let mut node = head;
     for _block in 1..strands.len(head) {
@@ -45,7 +46,7 @@ pub(super) fn sum_of_lengths(
 }
 
 impl Blocks {
-    // The same of a held message.
+    // Does the same for a held message.
     fn sum_of_held(&self, token: &Token, data_alone: bool) -> u32
         requires { IsTrue (has self.now token.now) }
         ensures { result ≡ sum_by (len_counted data_alone self.now.store) (message_at self.now token.now.head) }
@@ -59,7 +60,7 @@ impl Blocks {
         )
     }
 
-    /// How many bytes a message has, over all its blocks. Takes as many steps as it has blocks. Nothing changes.
+    /// Returns the number of bytes of a message, over all its blocks. Changes nothing. Takes a step for each block.
     pub fn size(&self, token: &Token) -> u32
         requires { IsTrue (has self.now token.now) }
         ensures { result ≡ size_of (message_at self.now token.now.head) }
@@ -67,7 +68,8 @@ impl Blocks {
         self.sum_of_held(token, false)
     }
 
-    /// How many bytes a message has in its blocks of type M_DATA. Takes as many steps as it has blocks. Nothing changes.
+    /// Returns the number of bytes of a message in its blocks of type M_DATA. Changes nothing. Takes a step for each
+    /// block.
     pub fn msgdsize(&self, token: &Token) -> u32
         requires { IsTrue (has self.now token.now) }
         ensures { result ≡ data_size_of self.now.store (message_at self.now token.now.head) }
@@ -75,12 +77,12 @@ impl Blocks {
         self.sum_of_held(token, true)
     }
 
-    // Copies the bytes of a message block that says so, from place `at` on, as far as there are bytes and room for them,
-    // and answers how many.
+    // Copies the bytes of a message block from place `at` on into `into`, as far as both reach, and returns their number.
     fn read_block(&self, fields: Fields, at: u32, into: &mut [u8]) -> usize
         requires { IsPlaced self.now.store fields }
         ensures count { result ≡ min (length into.old) (fields.len - at) }
-        ensures bytes { (n : ℕ) → into.new ≡ take result (drop at (bytes_of_block self.now.store (block_of n fields))) ++ drop result into.old }
+        ensures bytes { (n : ℕ) → into.new ≡ take result (drop at (bytes_of_block self.now.store (block_of n fields)))
+            ++ drop result into.old }
     {
         let skipped = at.min(fields.len);
         let count = into.len().min((fields.len - skipped) as usize);
@@ -92,15 +94,17 @@ impl Blocks {
         count
     }
 
-    /// Copies the bytes of a message from place `at` on, counted over all its blocks, as far as there are bytes and room
-    /// for them, and answers how many. What stands in `into` behind them stays. Takes as many steps as the message has
-    /// blocks, and slice copies. Nothing else changes.
+    /// Copies the bytes of a message from place `at` on into `into`, as far as both reach, and returns their number.
+    /// Places count over all blocks. The rest of `into` stays unchanged, and nothing else changes. Takes a step and at
+    /// most one slice copy for each block.
     pub fn read(&self, token: &Token, at: u32, into: &mut [u8]) -> usize
         requires { IsTrue (has self.now token.now) }
         ensures count { result ≡ min (length into.old) (size_of (message_at self.now token.now.head) - at) }
-        ensures bytes { into.new ≡ take result (drop at (bytes_of self.now.store (message_at self.now token.now.head))) ++ drop result into.old }
-        // There are as many bytes as the message's size.
-        ensures sized { length (bytes_of self.now.store (message_at self.now token.now.head)) ≡ size_of (message_at self.now token.now.head) }
+        ensures bytes { into.new ≡ take result (drop at (bytes_of self.now.store (message_at self.now token.now.head)))
+            ++ drop result into.old }
+        // The number of a message's bytes is its size.
+        ensures sized { length (bytes_of self.now.store (message_at self.now token.now.head))
+            ≡ size_of (message_at self.now token.now.head) }
     {
         let mut skip = at;
         let mut done = 0;

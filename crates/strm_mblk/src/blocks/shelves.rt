@@ -1,4 +1,4 @@
-//! Shelves: lists of messages for the layer above.
+//! Shelves, numbered from 0 on: lists of messages, which the layer above uses for its queues.
 ghost use Rattle.std.specs.Prelude.{Ok, ◌≡◌, ◌<◌, ℕ, IsSome, IsTrue, Some, length, option_map, reverse};
 ghost use Rattle.std.specs.Option.{ForSome};
 ghost use Rattle.strm_links.specs.Rows as rows;
@@ -15,7 +15,7 @@ use crate::token::Token;
 use strm_data::MsgType;
 
 impl Blocks {
-    /// The head of the first message on a shelf, or none where the shelf is empty. Nothing changes.
+    /// Returns the head of the first message on a shelf, or none if the shelf is empty. Changes nothing.
     pub fn first(&self, shelf: u8) -> Option<BlockNo>
         requires { shelf < length self.now.shelves }
         ensures { result ≡ rows.first (heads_at self.now shelf) }
@@ -23,7 +23,7 @@ impl Blocks {
         self.chains.first(u32::from(shelf))
     }
 
-    /// The head of the last message on a shelf, or none where the shelf is empty. Nothing changes.
+    /// Returns the head of the last message on a shelf, or none if the shelf is empty. Changes nothing.
     pub fn last(&self, shelf: u8) -> Option<BlockNo>
         requires { shelf < length self.now.shelves }
         ensures { result ≡ rows.last (heads_at self.now shelf) }
@@ -31,36 +31,38 @@ impl Blocks {
         self.chains.last(u32::from(shelf))
     }
 
-    /// The head of the message behind this one on the shelf that it stands on, or none where it is the last. Nothing
-    /// changes.
+    /// Returns the head of the message after this one on its shelf, or none if this is the last. Changes nothing.
     pub fn after(&self, head: BlockNo) -> Option<BlockNo>
         requires { IsSome (shelf_of self.now head) }
-        ensures { (shelf : ℕ) → IsTrue (stands_on self.now shelf head) → result ≡ rows.after head (heads_at self.now shelf) }
+        ensures { (shelf : ℕ) → IsTrue (stands_on self.now shelf head)
+            → result ≡ rows.after head (heads_at self.now shelf) }
     {
         self.chains.after(head)
     }
 
-    /// The head of the message before this one on the shelf that it stands on, or none where it is the first. Nothing
-    /// changes.
+    /// Returns the head of the message before this one on its shelf, or none if this is the first. Changes nothing.
     pub fn before(&self, head: BlockNo) -> Option<BlockNo>
         requires { IsSome (shelf_of self.now head) }
-        ensures { (shelf : ℕ) → IsTrue (stands_on self.now shelf head) → result ≡ rows.before head (heads_at self.now shelf) }
+        ensures { (shelf : ℕ) → IsTrue (stands_on self.now shelf head)
+            → result ≡ rows.before head (heads_at self.now shelf) }
     {
         self.chains.before(head)
     }
 
-    /// The law that each shelf reads alike both ways: following `after` from its first head gives its heads, following
-    /// `before` from its last head gives their reverse, and no head stands there twice. Does nothing.
+    /// Law: each shelf reads alike both ways: `after` from its first head leads along its heads, and `before` from its
+    /// last head along their reverse. No head is on it twice. Does nothing.
     pub fn reads_alike(&self)
-        ensures forward { (shelf : ℕ) → let heads = heads_at self.now shelf in rows.Reads (λ head. rows.after head heads) (rows.first heads) heads }
-        ensures backward { (shelf : ℕ) → let heads = heads_at self.now shelf in rows.Reads (λ head. rows.before head heads) (rows.last heads) (reverse heads) }
+        ensures forward { (shelf : ℕ) → let heads = heads_at self.now shelf in
+            rows.Reads (λ head. rows.after head heads) (rows.first heads) heads }
+        ensures backward { (shelf : ℕ) → let heads = heads_at self.now shelf in
+            rows.Reads (λ head. rows.before head heads) (rows.last heads) (reverse heads) }
         ensures apart { (shelf : ℕ) → rows.IsApart (heads_at self.now shelf) }
     {
         let _ = &self.chains;
     }
 
-    /// Puts a message on a shelf, before the one with the head that is given, which stands there, or last. The others on the
-    /// shelf keep their order, and what the blocks say stays. Takes constant time.
+    /// Puts a held message on a shelf, before the message with head `before`, which is on that shelf, or last if `before`
+    /// is none. The shelf's other messages keep their order, and all blocks keep what they store. Takes constant time.
     pub fn shelve(&mut self, shelf: u8, before: Option<BlockNo>, token: Token)
         requires shelf { shelf < length self.old.shelves }
         requires had { IsTrue (has self.old token) }
@@ -72,8 +74,8 @@ impl Blocks {
         self.chains.shelve(u32::from(shelf), before, head);
     }
 
-    /// Takes the message with this head off the shelf that it stands on, and holds it. The others on the shelf keep their
-    /// order, and what the blocks say stays. Takes constant time.
+    /// Takes the message with this head off its shelf, and returns its token. The shelf's other messages keep their
+    /// order, and all blocks keep what they store. Takes constant time.
     pub fn unshelve(&mut self, shelf: u8, head: BlockNo) -> Token
         requires shelf { shelf < length self.old.shelves }
         requires there { IsTrue (stands_on self.old shelf head) }
@@ -84,7 +86,7 @@ impl Blocks {
         self.token(head)
     }
 
-    /// The type of the first block of a message on a shelf. Nothing changes.
+    /// Returns the type of the first block of a message on a shelf. Changes nothing.
     pub fn head_kind(&self, head: BlockNo) -> MsgType
         requires { IsSome (shelf_of self.now head) }
         ensures { option_map (kind_of self.now.store) (head_block self.now head) ≡ Some result }
@@ -92,7 +94,7 @@ impl Blocks {
         self.data.kind(self.blocks[head as usize].data_number)
     }
 
-    /// The band of the first block of a message on a shelf. Nothing changes.
+    /// Returns the band of the first block of a message on a shelf. Changes nothing.
     pub fn head_band(&self, head: BlockNo) -> u8
         requires { IsSome (shelf_of self.now head) }
         ensures { option_map (λ b. b.band) (head_block self.now head) ≡ Some result }
@@ -100,7 +102,7 @@ impl Blocks {
         self.blocks[head as usize].band
     }
 
-    /// How many bytes a message on a shelf has. Takes as many steps as it has blocks. Nothing changes.
+    /// Returns the number of bytes of a message on a shelf. Changes nothing. Takes a step for each block.
     pub fn head_size(&self, head: BlockNo) -> u32
         requires { IsSome (shelf_of self.now head) }
         ensures { result ≡ size_of (shelved_message self.now head) }

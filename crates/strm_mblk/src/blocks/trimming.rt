@@ -1,4 +1,4 @@
-//! Bytes that a message loses at an end.
+//! Bytes are removed at an end of a message: `adjmsg`.
 ghost use Rattle.std.specs.Prelude.{◌≡◌, ◌+◌, ◌-◌, ◌≤◌, ◌^◌, ◌<◌, ℕ, IsTrue, Some, drop, if◌then◌else◌, length, slice_get};
 ghost use Rattle.strm_mblk.specs.Arena.{has, message_at};
 ghost use Rattle.strm_mblk.specs.Block.{size_of};
@@ -14,8 +14,8 @@ use crate::chains::Chains;
 use crate::token::Token;
 use strm_data::{Data, MsgType, Refusal};
 
-// Blocks of one type that stand one behind the other in a message: the first of them, how many blocks there are from
-// it to the end of the message, how many bytes they have, and their type.
+// A run: blocks of one type that follow each other in a message. It has the first of them, the number of blocks from
+// there to the message's end, the number of the run's bytes, and its type.
 #[derive(Clone, Copy, Debug)]
 struct Run {
     first: u32,
@@ -25,7 +25,8 @@ struct Run {
 }
 
 impl Run {
-    // With one block more, behind which and with which there are so many; one of another type begins a run of its own.
+    // The run with one more block, which is the first of the message's last `blocks` ones. If it has another type, it
+    // begins a new run.
     fn with(self, node: u32, blocks: u32, kind: MsgType, len: u32) -> Run
         requires { self.size + len < 2 ^ 32 }
         ensures { result ≡ run_with node blocks kind len self }
@@ -45,7 +46,7 @@ impl Run {
         }
     }
 
-    // How many bytes of it stand before the place where it is cut: all but the last `bytes`, or at the head the first.
+    // The number of the run's bytes before the cut, which removes `bytes` bytes at the tail or at the head.
     fn ahead(self, bytes: u32, from_tail: bool) -> u32
         requires { bytes ≤ self.size }
         ensures { result ≡ (if from_tail then self.size - bytes else bytes) }
@@ -54,8 +55,8 @@ impl Run {
     }
 }
 
-// The leading blocks of a held message that have the type of the first, or from the tail on the trailing ones that have
-// that of the last. Goes from the first block on, and at the head no further than they reach.
+// The run of leading blocks that have the first block's type, or with `from_tail` that of trailing blocks that have the
+// last block's type. Walks from the first block on, at the head only to the end of the run.
 fn run_in(
     chains: &Chains,
     blocks: &[Fields],
@@ -67,7 +68,8 @@ fn run_in(
     requires begun { slice_get (nodes_at chains.now head) 0 ≡ Some head }
     requires count { count ≡ length (nodes_at chains.now head) }
     requires blocks { length blocks.now ≡ length chains.now.held }
-    requires there { (n : ℕ) → n < length blocks.now → (fields_at blocks.now n).data_number < length stored.now.store.blocks }
+    requires there { (n : ℕ) → n < length blocks.now → (fields_at blocks.now n).data_number
+        < length stored.now.store.blocks }
     requires small { size_of (message_of blocks.now (nodes_at chains.now head)) < 2 ^ 32 }
     ensures { IsRun from_tail stored.now.store blocks.now (nodes_at chains.now head) result }
 {
@@ -92,7 +94,7 @@ fn run_in(
 }
 
 impl Fields {
-    // Without its first bytes, so many of them as it has, or with only those.
+    // The block without its first `bytes` bytes, or with `from_tail` only with these. Fewer if it has fewer.
     pub(super) fn cut(self, bytes: u32, from_tail: bool) -> Fields
         requires { self.offset + self.len < 2 ^ 32 }
         ensures { result ≡ fields_cut from_tail bytes self }
@@ -109,14 +111,16 @@ impl Fields {
     }
 }
 
-// Cuts blocks of a held message, from one of its blocks on, where so many bytes stand before the cut: these go, or from
-// the tail on all others. Each block gives what it has.
+// Cuts `count` blocks of a held message, from `first` on. The first `bytes` bytes of these blocks are removed, or with
+// `from_tail` all others. Each block loses those that it has.
 fn cut(chains: &Chains, blocks: &mut [Fields], first: u32, count: u32, bytes: u32, from_tail: bool)
     requires first { first < length chains.now.held }
     requires tail { IsTail chains.now first count }
     requires blocks { length blocks.old ≡ length chains.now.held }
-    requires small { (n : ℕ) → n < length blocks.old → (fields_at blocks.old n).offset + (fields_at blocks.old n).len < 2 ^ 32 }
-    ensures { (h i : ℕ) → slice_get (nodes_at chains.now h) i ≡ Some first → i + count ≡ length (nodes_at chains.now h) → blocks.new ≡ with_bytes_cut from_tail bytes (drop i (nodes_at chains.now h)) blocks.old }
+    requires small { (n : ℕ) → n < length blocks.old → (fields_at blocks.old n).offset + (fields_at blocks.old n).len
+        < 2 ^ 32 }
+    ensures { (h i : ℕ) → slice_get (nodes_at chains.now h) i ≡ Some first → i + count ≡ length (nodes_at chains.now h)
+        → blocks.new ≡ with_bytes_cut from_tail bytes (drop i (nodes_at chains.now h)) blocks.old }
 {
     let mut left = bytes;
     let mut node = first;
@@ -132,7 +136,7 @@ fn cut(chains: &Chains, blocks: &mut [Fields], first: u32, count: u32, bytes: u3
 }
 
 impl Blocks {
-    // How many bytes stand in the leading blocks of a message that have the type of the first.
+    // The number of bytes of the leading blocks that have the first block's type.
     pub(super) fn run_size(&self, token: &Token) -> u32
         requires { IsTrue (has self.now token.now) }
         ensures { result ≡ size_of (run_of self.now.store (message_at self.now token.now.head)) }
@@ -148,15 +152,17 @@ impl Blocks {
         .size
     }
 
-    /// Takes bytes from a message's head, for a count above 0, or from its tail, for one below 0: over the leading blocks
-    /// of the first block's type, or the trailing ones of the last block's type. At the head read places rise, at the tail
-    /// write places fall; nothing else changes, so a shared data block may lie under it, and a block that loses all its
-    /// bytes stays. 0 changes nothing. Takes as many steps as the message has blocks.
+    /// Removes `count` bytes at a message's head or, if `count` is below 0, `-count` bytes at its tail. At the head they
+    /// come from the leading blocks of the first block's type, whose read places rise. At the tail they come from the
+    /// trailing blocks of the last block's type, whose write places fall. Nothing else changes: emptied blocks stay, and
+    /// a data block can be shared. A count of 0 changes nothing.
     ///
-    /// Refused as `Short` where these blocks have fewer bytes than that; nothing changes then.
+    /// Refused as `Short` if these blocks have fewer bytes. On an error nothing changes. Takes at most two steps for
+    /// each block.
     pub fn adjmsg(&mut self, token: &Token, count: i32) -> Result<(), Refusal>
         requires { IsTrue (has self.old token.now) }
-        ensures { Alters itself token.now token.now (model.adjmsg token.now.head count self.old) self.old self.new result }
+        ensures { Alters itself token.now token.now (model.adjmsg token.now.head count self.old)
+            self.old self.new result }
     {
         let from_tail = count.is_negative();
         let bytes = count.unsigned_abs();

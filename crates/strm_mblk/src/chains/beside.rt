@@ -1,4 +1,4 @@
-//! What tests see of chains beside a plain program.
+//! Compares chains with the plain program, for tests.
 ghost use Rattle.std.specs.Prelude.{◌≡◌, ◌<◌, length};
 ghost use Rattle.strm_links.specs.Rows.{has};
 ghost use Rattle.strm_mblk.specs.NodeLists.{heads_on};
@@ -6,7 +6,7 @@ ghost use Rattle.strm_mblk.specs.NodeLists.{heads_on};
 use super::Chains;
 use std::process::Abort;
 
-// Whether a message with this head stands on the shelf.
+// Whether a message with this head is on the shelf.
 pub(crate) fn is_on(chains: &Chains, shelf: u32, head: u32) -> bool
     requires shelf { shelf < length chains.now.shelves }
     requires head { head < length chains.now.held }
@@ -15,7 +15,7 @@ pub(crate) fn is_on(chains: &Chains, shelf: u32, head: u32) -> bool
     chains.heads.list_of(head) == Some(shelf)
 }
 
-// The free message blocks are these, in this order.
+// Asserts the free message blocks, in order.
 pub(crate) fn assert_free(rt: &impl Abort, chains: &Chains, free: &[u32]) {
     let mut at = chains.strands.first_free();
     for number in free {
@@ -27,7 +27,7 @@ pub(crate) fn assert_free(rt: &impl Abort, chains: &Chains, free: &[u32]) {
 }
 
 impl Chains {
-    // How many shelves there are.
+    // The number of shelves.
     pub(crate) fn shelf_count(&self) -> u32
         ensures { result ≡ length self.now.shelves }
     {

@@ -1,4 +1,4 @@
-//! One block of a held message: told, and altered.
+//! Calls on one block of a held message: `block`, `write`, `settype`, `setband`.
 ghost use Rattle.std.specs.Prelude.{◌≡◌, Ok, Some, slice_get, slice_set};
 ghost use Rattle.strm_data.specs.DataStore.{with_bytes_written};
 ghost use Rattle.strm_mblk.specs.Arena.{message_at};
@@ -30,7 +30,8 @@ impl Arena {
         self.message_at(head).get(place as usize).copied()
     }
 
-    // Bytes stand in the data block of block `place`, from `at` on, and the block is this one.
+    // The arena after bytes were written into the data block of block `place`, from `at` on, and `block` became that
+    // block.
     fn with_block_written(
         &self,
         rt: &impl Abort,

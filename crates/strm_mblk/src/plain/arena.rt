@@ -1,4 +1,4 @@
-//! Message blocks, and the messages that they make: held, or standing on shelves.
+//! Message blocks, and the messages that they make: held or on shelves.
 ghost use Rattle.std.specs.Prelude.{◌≡◌, Some, slice_get, slice_set};
 ghost use Rattle.strm_data.specs.DataStore.{class_infos, with_data_freed};
 ghost use Rattle.strm_mblk.specs.Arena as model;
@@ -15,8 +15,8 @@ use std::marker::Model;
 use std::process::Abort;
 use strm_data::{ClassInfo, ClassSpec, Refusal};
 
-// The id; the data blocks; the free message blocks, the next to be taken first; at each number the held message that
-// begins with it, if there is one; and the messages on each shelf, front to back.
+// The id and the data blocks, and the free message blocks, the next to be taken first. For each number the held message
+// that begins with it, if any. The messages on each shelf, front to back.
 #[derive(Drop)]
 pub(crate) struct Arena {
     pub(super) alloc: Global,
@@ -41,7 +41,7 @@ impl Twin for Arena {
     }
 }
 
-// What a call answers, beside the arena that it leaves, or why it is refused.
+// What a call returns, with the arena that it leaves, or why it is refused.
 pub(crate) type Given<T> = Result<(T, Arena), Refusal>;
 
 impl Arena {
@@ -159,14 +159,14 @@ impl Arena {
         token.pool == self.id && held
     }
 
-    // Of a class the size, how many of its data blocks are free, and how many it has, if there is such a class.
+    // The size of a class, the number of its free data blocks and that of all of them, or none if there is no such class.
     pub(crate) fn class_info(&self, rt: &impl Abort, class: u8) -> Option<ClassInfo>
         ensures { result ≡ slice_get (class_infos self.now.store) class }
     {
         self.store.class_info(rt, self.alloc, class)
     }
 
-    // What a call answers: the arena is then what it leaves.
+    // Returns what a call returned, and becomes the arena that the call left.
     pub(crate) fn go_on<T>(&mut self, given: Given<T>) -> Result<T, Refusal>
         ensures after { self.new ≡ value_after self.old given }
         ensures answer { result ≡ answer_of given }
@@ -180,7 +180,7 @@ impl Arena {
         }
     }
 
-    // A copy over other data blocks.
+    // A copy of this arena with other data blocks.
     pub(super) fn over(&self, rt: &impl Abort, store: DataStore) -> Arena
         ensures { result ≡ record self.now { store = store } }
     {
@@ -194,7 +194,7 @@ impl Arena {
         }
     }
 
-    // A data block is free again.
+    // The arena after a data block became free.
     pub(super) fn with_data_freed(mut self, rt: &impl Abort, number: u32) -> Arena
         ensures { result ≡ record self { store = with_data_freed number self.store } }
     {
@@ -216,7 +216,7 @@ impl Arena {
         self
     }
 
-    // The message at this number is held.
+    // The arena after this message became held at `head`.
     pub(super) fn with_held_at(mut self, head: u32, message: Message) -> Arena
         ensures { result ≡ record self { held = slice_set self.held head (Some message) } }
     {
@@ -231,7 +231,7 @@ impl Arena {
         self.with_held_at(head, message)
     }
 
-    // The message held at this number is this, or there is none.
+    // The arena with this message held at `head`, or none.
     pub(super) fn with_held_or_none(mut self, head: u32, message: Option<Message>) -> Arena
         ensures { result ≡ record self { held = slice_set self.held head message } }
     {

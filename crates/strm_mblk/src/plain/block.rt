@@ -1,4 +1,4 @@
-//! Message blocks, and messages as lists of them.
+//! A message block, and a message as a list of blocks.
 ghost use Rattle.std.specs.Prelude.{◌≡◌, ◌+◌, count_by};
 ghost use Rattle.strm_data.specs.MsgType.{same_kind};
 ghost use Rattle.strm_mblk.specs.Block as model;
@@ -12,8 +12,8 @@ use std::marker::Model;
 use std::process::Abort;
 use strm_data::MsgType;
 
-// A message block: its number, the data block that it names, its read place, how many bytes stand from there up to its
-// write place, and its band.
+// A message block: its number, its data block, its read place, its number of bytes from there to its write place, and its
+// band.
 #[derive(Clone, Copy, Debug, PartialEq, Eq)]
 pub(crate) struct Block {
     pub(crate) number: u32,
@@ -33,7 +33,7 @@ impl Model for Block {
     ghost inverse = { λ b. record { number = b.number; data_number = b.data_number; offset = b.offset; len = b.len; band = b.band } };
 }
 
-// A message: its blocks.
+// A message: a list of blocks.
 pub(crate) type Message = List<Block>;
 
 impl Twin for Block {
@@ -72,7 +72,7 @@ pub(crate) fn new_block(number: u32, data_number: u32) -> Block
     }
 }
 
-// How many of these blocks name a data block.
+// The number of these blocks that use data block `number`.
 pub(crate) fn count_naming(number: u32, blocks: &[Block]) -> usize
     ensures { result ≡ count_by (model.is_naming number) blocks.now }
 {
@@ -88,7 +88,7 @@ pub(super) fn kind_of(store: &DataStore, block: &Block) -> MsgType
     store.kind_at(block.data_number)
 }
 
-// The bytes of a block, which its data block has.
+// The bytes of a block.
 pub(super) fn bytes_of_block(
     rt: &impl Abort,
     alloc: Global,
@@ -137,7 +137,7 @@ fn len_counted(data_alone: bool, store: &DataStore, block: &Block) -> u32
     }
 }
 
-// How many bytes a message has in its blocks of type M_DATA.
+// The number of bytes of a message in blocks of type M_DATA.
 pub(super) fn data_size_of(rt: &impl Abort, store: &DataStore, message: &[Block]) -> u32
     ensures { result ≡ model.data_size_of store.now message.now }
 {
@@ -159,14 +159,14 @@ pub(crate) fn size_of(rt: &impl Abort, message: &[Block]) -> u32
     }
 }
 
-// A sum that fits in 32 bits.
+// A sum, which must fit into 32 bits.
 pub(crate) fn sum(rt: &impl Abort, one: u32, other: u32) -> u32
     ensures { result ≡ one + other }
 {
     one.checked_add(other).expect(rt, "a small sum")
 }
 
-// A count that fits in 32 bits.
+// A count, which must fit into 32 bits.
 pub(crate) fn small(rt: &impl Abort, count: usize) -> u32
     ensures { result ≡ count }
 {
@@ -182,7 +182,7 @@ pub(crate) fn blocks_of(message: &Option<Message>) -> &[Block]
     }
 }
 
-// The blocks of some held messages.
+// The blocks of these held messages.
 pub(crate) fn blocks_held(rt: &impl Abort, alloc: Global, held: &[Option<Message>]) -> List<Block>
     ensures { result ≡ messages.blocks_held held.now }
 {
@@ -195,7 +195,7 @@ pub(crate) fn blocks_held(rt: &impl Abort, alloc: Global, held: &[Option<Message
     }
 }
 
-// The blocks of the messages on some shelves.
+// The blocks of the messages on these shelves.
 pub(crate) fn blocks_on(rt: &impl Abort, alloc: Global, shelves: &[List<Message>]) -> List<Block>
     ensures { result ≡ messages.blocks_on shelves.now }
 {

@@ -1,4 +1,4 @@
-//! Messages, and their first blocks, are freed.
+//! Messages, and first blocks of messages, are freed: `freemsg`, `freeb`.
 ghost use Rattle.std.specs.Prelude.{◌≡◌};
 ghost use Rattle.strm_mblk.specs.BlockCalls as calls;
 ghost use Rattle.strm_mblk.specs.Freeing as model;

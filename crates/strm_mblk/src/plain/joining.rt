@@ -1,4 +1,4 @@
-//! Messages are joined, and parted again.
+//! Messages are joined and divided: `linkb`, `unlinkb`, `rmvb`.
 ghost use Rattle.std.specs.Prelude.{◌≡◌, Ok, Some};
 ghost use Rattle.strm_mblk.specs.BlockCalls as model;
 
@@ -46,7 +46,7 @@ impl Arena {
         }
     }
 
-    // Block `place` is this, and `rest` are the others.
+    // The result of `rmvb` if the block at the place is `block`, and `rest` are the others.
     fn rmvb_of(
         &self,
         rt: &impl Abort,

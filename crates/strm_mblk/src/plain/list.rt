@@ -1,4 +1,4 @@
-//! Lists by value, and copies of values, for a program that gives up where memory is refused.
+//! Lists and copies by value, for a program that stops if it runs out of memory.
 ghost use Rattle.std.specs.Prelude.{◌≡◌, [], ◌∷◌, ◌++◌, replicate, reverse, slice_set};
 ghost use Rattle.std.specs.List.{flat_map};
 
@@ -7,7 +7,7 @@ use std::marker::Model;
 use std::process::Abort;
 use strm_data::{ClassInfo, ClassSpec};
 
-// A list.
+// A list of items.
 #[derive(Drop)]
 pub(crate) struct List<T> {
     items: Vec<T>,
@@ -95,14 +95,14 @@ impl<T> List<T> {
 }
 
 impl<T: Twin + Drop> List<T> {
-    // A list of these items.
+    // A list with copies of these items.
     pub(crate) fn of(rt: &impl Abort, alloc: Global, items: &[T]) -> List<T>
         ensures { result ≡ items.now }
     {
         List::empty(alloc).with_more(rt, alloc, items)
     }
 
-    // The list with an item behind it.
+    // The list with an item at its end.
     pub(crate) fn with_last(mut self, rt: &impl Abort, item: T) -> List<T>
         ensures { result ≡ self ++ item ∷ [] }
     {
@@ -110,7 +110,7 @@ impl<T: Twin + Drop> List<T> {
         self
     }
 
-    // The list with more items behind it.
+    // The list with copies of more items at its end.
     pub(crate) fn with_more(mut self, rt: &impl Abort, alloc: Global, more: &[T]) -> List<T>
         ensures { result ≡ self ++ more.now }
     {
@@ -121,7 +121,7 @@ impl<T: Twin + Drop> List<T> {
         self
     }
 
-    // An item, and these behind it.
+    // A list of an item, and copies of more.
     pub(crate) fn chain(rt: &impl Abort, alloc: Global, first: T, rest: &[T]) -> List<T>
         ensures { result ≡ first ∷ rest.now }
     {
@@ -130,7 +130,7 @@ impl<T: Twin + Drop> List<T> {
             .with_more(rt, alloc, rest)
     }
 
-    // An item, so often.
+    // A list of `times` copies of an item.
     pub(crate) fn repeated(rt: &impl Abort, alloc: Global, item: &T, times: usize) -> List<T>
         ensures { result ≡ replicate times item.now }
     {
@@ -141,7 +141,7 @@ impl<T: Twin + Drop> List<T> {
         list
     }
 
-    // The list with another item at a place, if it has the place.
+    // The list with another item at a place, if it has that place.
     pub(crate) fn with(mut self, place: usize, item: T) -> List<T>
         ensures { result ≡ slice_set self place item }
     {
@@ -151,7 +151,7 @@ impl<T: Twin + Drop> List<T> {
         self
     }
 
-    // The items of all these lists, one list after another.
+    // Copies of the items of all these lists, one list after another.
     pub(crate) fn flat(rt: &impl Abort, alloc: Global, lists: &[List<T>]) -> List<T>
         ensures { result ≡ flat_map (λ items. items) lists.now }
     {

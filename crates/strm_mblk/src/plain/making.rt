@@ -14,7 +14,7 @@ use std::alloc::Global;
 use std::process::Abort;
 use strm_data::{MOST_DATA_BLOCK_NAMES, Refusal};
 
-// The first block alone, if there is one.
+// The first block only, if any.
 fn first_of(message: &[Block]) -> &[Block]
     ensures { result.now ≡ take 1 message.now }
 {
@@ -81,7 +81,8 @@ fn copies(
 }
 
 impl Arena {
-    // The block has the first free number, and `rest` are the others.
+    // The arena after `allocb`, if `number` is the first free number, `rest` are the others, and the data block is this
+    // one.
     fn held_new(&self, rt: &impl Abort, number: u32, rest: &[u32], data_number: u32) -> Arena
         ensures { Ok (number, result) ≡ model.held_new number rest.now self.now (Ok data_number) }
     {
@@ -118,20 +119,21 @@ impl Arena {
         self.allocb(rt, size).is_ok()
     }
 
-    // Whether the data block of this block would have more than `MOST_DATA_BLOCK_NAMES` names once each block of `all`
-    // has a duplicate.
+    // Whether this block's data block would have more than `MOST_DATA_BLOCK_NAMES` references after each block of `all`
+    // got a duplicate.
     fn exceeds(&self, rt: &impl Abort, all: &[Block], block: &Block) -> bool
-        ensures { result ≡ nat_lt most_data_block_names (names_of self.now block.now.data_number + count_by (block_model.is_naming block.now.data_number) all.now) }
+        ensures { result ≡ nat_lt most_data_block_names (names_of self.now block.now.data_number
+            + count_by (block_model.is_naming block.now.data_number) all.now) }
     {
         let names = self.names_of(rt, block.data_number);
         let more = count_naming(block.data_number, all);
         names.checked_add(more).expect(rt, "few names") > usize::from(MOST_DATA_BLOCK_NAMES)
     }
 
-    // Whether one of these blocks names a data block that would have more than `MOST_DATA_BLOCK_NAMES` names once each
-    // block of `all` has a duplicate.
+    // Whether this is so for one of these blocks.
     fn any_exceeds(&self, rt: &impl Abort, all: &[Block], blocks: &[Block]) -> bool
-        ensures { result ≡ list_any (λ b. nat_lt most_data_block_names (names_of self.now b.data_number + count_by (block_model.is_naming b.data_number) all.now)) blocks.now }
+        ensures { result ≡ list_any (λ b. nat_lt most_data_block_names
+            (names_of self.now b.data_number + count_by (block_model.is_naming b.data_number) all.now)) blocks.now }
     {
         match blocks {
             [] => false,

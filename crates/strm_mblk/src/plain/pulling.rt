@@ -1,4 +1,4 @@
-//! Bytes that are pulled up into the first block of a message.
+//! Bytes of a message are brought into its first block: `pullupmsg`.
 ghost use Rattle.std.specs.Prelude.{◌≡◌, slice_set, Some};
 ghost use Rattle.strm_mblk.specs.Trimming as model;
 
@@ -90,7 +90,8 @@ fn pulled_into(
 }
 
 impl Arena {
-    // A data block has the first bytes of this message, and another is held in its place.
+    // The arena after data block `number` got the first `count` bytes of this message, and `held` became the message at
+    // `head`.
     fn with_data_pulled(
         &self,
         rt: &impl Abort,
@@ -110,7 +111,8 @@ impl Arena {
         self.over(rt, store).with_held_at(head, held)
     }
 
-    // The first block of this message, which is held at `head`, names a data block just taken, which has so many bytes.
+    // The arena after the first block of this message, held at `head`, got data block `number` with the first `count`
+    // bytes.
     fn pulled(
         &self,
         rt: &impl Abort,

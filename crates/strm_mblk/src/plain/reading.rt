@@ -1,4 +1,4 @@
-//! How many bytes a held message has, and which.
+//! The sizes of held messages, and their bytes.
 ghost use Rattle.std.specs.Prelude.{◌≡◌};
 ghost use Rattle.strm_mblk.specs.Arena.{message_at};
 ghost use Rattle.strm_mblk.specs.Block as model;

@@ -1,4 +1,4 @@
-//! Shelves.
+//! Shelves: lists of messages.
 ghost use Rattle.std.specs.Prelude.{◌≡◌, Some, map, option_map, slice_get};
 ghost use Rattle.strm_links.specs.Rows as rows;
 ghost use Rattle.strm_mblk.specs.Block as block_model;
@@ -12,7 +12,7 @@ use std::alloc::Global;
 use std::process::Abort;
 use strm_data::MsgType;
 
-// What stands behind a number.
+// The number after this one, if any.
 fn after(number: u32, numbers: &[u32]) -> Option<u32>
     ensures { result ≡ rows.after number numbers.now }
 {
@@ -28,7 +28,7 @@ fn after(number: u32, numbers: &[u32]) -> Option<u32>
     }
 }
 
-// What stands before a number, where `ahead` stands before them all.
+// The number before this one, if `ahead` comes before all numbers.
 fn before_from(ahead: Option<u32>, number: u32, numbers: &[u32]) -> Option<u32>
     ensures { result ≡ rows.before_from ahead number numbers.now }
 {
@@ -65,7 +65,7 @@ fn heads_of(rt: &impl Abort, alloc: Global, messages: &[Message]) -> List<u32>
     }
 }
 
-// The messages once this one stands before the one that begins with `at`, or last where none does.
+// The messages after this one joined them just before the one that begins with `at`, or last if there is no such message.
 fn put_before_given(
     rt: &impl Abort,
     alloc: Global,
@@ -135,7 +135,7 @@ fn with_head(rt: &impl Abort, alloc: Global, head: u32, messages: &[Message]) ->
 }
 
 impl Arena {
-    // The head of the message at a place of a shelf, if it has the place.
+    // The head of the message at a place of a shelf, if any.
     pub(crate) fn head_on(&self, rt: &impl Abort, shelf: u8, place: usize) -> Option<u32>
         ensures { result ≡ slice_get (model.heads_at self.now shelf) place }
     {
@@ -192,7 +192,7 @@ impl Arena {
             .with_shelf(shelf, messages)
     }
 
-    // The message with this head on some shelf, if there is one.
+    // The message with this head on some shelf, or no blocks.
     fn shelved_message(&self, rt: &impl Abort, head: u32) -> Message
         ensures { result ≡ model.shelved_message self.now head }
     {

@@ -1,4 +1,4 @@
-//! Data blocks by number, which of them are free, and which one a size takes.
+//! Data blocks by number, which of them are free, and which one is taken for a size.
 ghost use Rattle.std.specs.Prelude.{◌≡◌, nat_le, [], length, map, replicate, slice_get, slice_set, if◌then◌else◌};
 ghost use Rattle.std.specs.List.{flat_map, zip, enumerate_from, range_with_len};
 ghost use Rattle.strm_data.specs.Classes.{fits_a_class};
@@ -26,7 +26,7 @@ impl Model for DataBlock {
     ghost view = { λ b. record { class = b.class; kind = b.kind; bytes = b.bytes } };
 }
 
-// The size classes, the data blocks by number, and of each class the free ones, the next to be taken first.
+// The size classes, the data blocks by number, and for each class its free data blocks, the next to be taken first.
 #[derive(Drop)]
 pub(crate) struct DataStore {
     classes: List<ClassSpec>,
@@ -68,7 +68,7 @@ fn fits_a_class(size: u32, classes: &[ClassSpec]) -> bool
     classes.iter().any(|class| size <= class.size)
 }
 
-// The free data blocks of the classes that fit, in order of class.
+// The free data blocks of the classes that fit the size, in order of class.
 fn fitting(
     rt: &impl Abort,
     alloc: Global,
@@ -92,7 +92,7 @@ fn fitting(
     }
 }
 
-// Bytes with others written over them from a place on.
+// Bytes, overwritten with new ones from place `at` on.
 fn overwritten(rt: &impl Abort, alloc: Global, at: usize, new: &[u8], old: &[u8]) -> List<u8>
     ensures { result ≡ model.overwritten at new.now old.now }
 {
@@ -113,14 +113,15 @@ fn fresh_data_block(rt: &impl Abort, alloc: Global, number: usize, class: ClassS
     }
 }
 
-// The data blocks of these classes, the first of which has this number, before their first use.
+// The data blocks of these classes, numbered from `number` on, before their first use.
 fn fresh_data_blocks(
     rt: &impl Abort,
     alloc: Global,
     number: usize,
     classes: &[ClassSpec],
 ) -> List<DataBlock>
-    ensures { result ≡ flat_map (λ p. replicate p.1.count (model.fresh_data_block p.0 p.1)) (enumerate_from number classes.now) }
+    ensures { result ≡ flat_map (λ p. replicate p.1.count (model.fresh_data_block p.0 p.1))
+        (enumerate_from number classes.now) }
 {
     match classes {
         [] => List::empty(alloc),
@@ -134,7 +135,7 @@ fn fresh_data_blocks(
     }
 }
 
-// So many numbers, from one on.
+// `count` numbers, from `first` on.
 pub(super) fn numbers(rt: &impl Abort, alloc: Global, first: u32, count: u32) -> List<u32>
     ensures { result ≡ range_with_len first count }
 {
@@ -146,7 +147,7 @@ pub(super) fn numbers(rt: &impl Abort, alloc: Global, first: u32, count: u32) ->
     List::chain(rt, alloc, first, others.items())
 }
 
-// The numbers of each class's data blocks, class by class from one on.
+// For each class the numbers of its data blocks, which count up from `first`, class by class.
 fn numbers_from(
     rt: &impl Abort,
     alloc: Global,
@@ -166,14 +167,15 @@ fn numbers_from(
     }
 }
 
-// Of each class the size, how many of its data blocks are free, and how many there are.
+// For each class its size, the number of its free data blocks, and the number of all of them.
 fn infos_of(
     rt: &impl Abort,
     alloc: Global,
     classes: &[ClassSpec],
     free: &[List<u32>],
 ) -> List<ClassInfo>
-    ensures { result ≡ map (λ p. record { size = p.0.size; free = length p.1; total = p.0.count }) (zip classes.now free.now) }
+    ensures { result ≡ map (λ p. record { size = p.0.size; free = length p.1; total = p.0.count })
+        (zip classes.now free.now) }
 {
     let [class, classes @ ..] = classes else {
         return List::empty(alloc);
@@ -286,7 +288,7 @@ impl DataStore {
         }
     }
 
-    // The free data blocks of a class are these.
+    // The store with these free data blocks of a class.
     fn with_free(mut self, class: usize, numbers: List<u32>) -> DataStore
         ensures { result ≡ record self { free = slice_set self.free class numbers } }
     {
@@ -294,7 +296,7 @@ impl DataStore {
         self
     }
 
-    // A data block has this type and these bytes.
+    // The store with this type and these bytes of a data block.
     fn with_data(mut self, number: u32, kind: MsgType, bytes: List<u8>) -> DataStore
         ensures { result ≡ record self {
           blocks = slice_set self.blocks number (record { class = model.class_of self number; kind = kind; bytes = bytes });

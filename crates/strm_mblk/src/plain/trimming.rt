@@ -1,4 +1,4 @@
-//! Bytes that a message loses at an end.
+//! Bytes are removed at an end of a message: `adjmsg`.
 ghost use Rattle.std.specs.Prelude.{◌≡◌, nat_lt, reverse, pos, Ok, Err, if◌then◌else◌};
 ghost use Rattle.std.specs.List.{take_while};
 ghost use Rattle.strm_data.specs.MsgType.{same_kind};
@@ -81,7 +81,7 @@ fn cut_back(rt: &impl Abort, alloc: Global, count: u32, blocks: &[Block]) -> Mes
     }
 }
 
-// So many bytes less at the head.
+// The message without its first `count` bytes. Refused as `Short` if the leading blocks of one type have fewer.
 fn cut_at_head(
     rt: &impl Abort,
     alloc: Global,
@@ -98,7 +98,7 @@ fn cut_at_head(
     }
 }
 
-// So many bytes less at the tail.
+// The message without its last `count` bytes. Refused as `Short` if the trailing blocks of one type have fewer.
 fn cut_at_tail(
     rt: &impl Abort,
     alloc: Global,
@@ -106,7 +106,8 @@ fn cut_at_tail(
     store: &DataStore,
     message: &[Block],
 ) -> Result<Message, Refusal>
-    ensures { result ≡ (if nat_lt (block_model.size_of (model.run_of store.now (reverse message.now))) count then Err Short else Ok (reverse (model.cut_back count (reverse message.now)))) }
+    ensures { result ≡ (if nat_lt (block_model.size_of (model.run_of store.now (reverse message.now))) count
+        then Err Short else Ok (reverse (model.cut_back count (reverse message.now)))) }
 {
     let from_tail = List::of(rt, alloc, message).reversed();
     if size_of(rt, run_of(rt, alloc, store, from_tail.items()).items()) < count {

@@ -1,4 +1,4 @@
-//! Message blocks, each call on which is compared with what it should answer.
+//! A `Blocks` to test: each call gets a token made of its value, and its result is compared.
 ghost use Rattle.std.specs.Prelude.{◌≤◌, IsTrue};
 ghost use Rattle.strm_data.specs.Classes.{are_lawful};
 ghost use Rattle.strm_mblk.specs.Arena.{has};
@@ -11,15 +11,15 @@ use std::fmt::Debug;
 use std::process::Abort;
 use strm_data::{ClassInfo, ClassSpec, MsgType, Refusal};
 
-// Message blocks, and the number of the call on them, which a failed comparison tells. What a token says stands for the
-// token, and each call has the token itself.
+// Message blocks, and the number of the call on them, which a failed assertion shows. Tests use a token's value instead
+// of the token.
 #[derive(Drop)]
 pub(super) struct Bench {
     pub(super) blocks: Blocks,
     call: u32,
 }
 
-// What a token says, which is spent.
+// Spends a token, and returns its value.
 pub(super) fn said(token: Token) -> TokenValue {
     let value = TokenValue {
         pool: token.pool(),
@@ -30,7 +30,7 @@ pub(super) fn said(token: Token) -> TokenValue {
     value
 }
 
-// What the token that a call gave says.
+// The value of the token that a call returned, which is spent.
 pub(super) fn spent(given: Result<Token, Refusal>) -> Result<TokenValue, Refusal> {
     match given {
         Ok(token) => Ok(said(token)),
@@ -38,7 +38,7 @@ pub(super) fn spent(given: Result<Token, Refusal>) -> Result<TokenValue, Refusal
     }
 }
 
-// What the token of the rest of a message says, if there is one.
+// The value of the token of the rest of a message, if any, which is spent.
 pub(super) fn rest_spent(rest: Option<Token>) -> Option<TokenValue> {
     match rest {
         Some(token) => Some(said(token)),
@@ -46,7 +46,7 @@ pub(super) fn rest_spent(rest: Option<Token>) -> Option<TokenValue> {
     }
 }
 
-// The message that was made.
+// The message that a call made; asserts that it made one.
 pub(super) fn made(rt: &impl Abort, answer: Result<TokenValue, Refusal>) -> TokenValue {
     match answer {
         Ok(message) => message,
@@ -54,7 +54,7 @@ pub(super) fn made(rt: &impl Abort, answer: Result<TokenValue, Refusal>) -> Toke
     }
 }
 
-// No message was made, for this reason.
+// Asserts that a call made no message, for this reason.
 pub(super) fn refused(rt: &impl Abort, answer: Result<TokenValue, Refusal>, reason: Refusal) {
     match answer {
         Ok(_) => panic!(rt; "a message was made"),
@@ -63,7 +63,7 @@ pub(super) fn refused(rt: &impl Abort, answer: Result<TokenValue, Refusal>, reas
 }
 
 impl Bench {
-    // Of an id and so many, over the data blocks of these classes, with so many shelves.
+    // Makes message blocks, with the id and the number in `named`, over the data blocks of these classes, with shelves.
     pub(super) fn over(
         rt: &impl Abort,
         alloc: Global,
@@ -80,23 +80,23 @@ impl Bench {
         }
     }
 
-    // Eight message blocks, over six data blocks.
+    // Makes eight message blocks over six data blocks.
     pub(super) fn opened(rt: &impl Abort, alloc: Global, id: u32) -> Bench {
         Bench::over(rt, alloc, (id, 8), &CLASSES, 1)
     }
 
-    // Ends the blocks: no message is held or stands on a shelf.
+    // Asserts that no message is held or on a shelf, and drops the blocks.
     pub(super) fn end(self, rt: &impl Abort) {
         let census = self.blocks.census();
         assert!(rt; (census.queued, census.held) == (0, 0));
     }
 
-    // Another call comes.
+    // Counts another call.
     pub(super) fn count(&mut self) {
         self.call = self.call.saturating_add(1);
     }
 
-    // What was given is what was wanted.
+    // Asserts that `given` is as wanted.
     pub(super) fn assert_is<T: PartialEq + Debug>(&self, rt: &impl Abort, given: &T, wanted: &T) {
         assert!(rt;
             given == wanted,
@@ -105,7 +105,7 @@ impl Bench {
         );
     }
 
-    // The token that says so, which the blocks have.
+    // Makes the token of this value, and asserts that the blocks have it.
     pub(super) fn token(&self, rt: &impl Abort, value: TokenValue) -> Token
         ensures { IsTrue (has self.now.blocks result) }
     {
@@ -114,12 +114,12 @@ impl Bench {
         token
     }
 
-    // A message for so many bytes, or why there is none.
+    // Makes a message for a size, or returns the refusal.
     pub(super) fn allocb(&mut self, size: u32) -> Result<TokenValue, Refusal> {
         spent(self.blocks.allocb(size))
     }
 
-    // A message for so many bytes.
+    // Makes a message for a size.
     pub(super) fn allocated(&mut self, rt: &impl Abort, size: u32) -> TokenValue {
         made(rt, self.allocb(size))
     }
@@ -128,7 +128,7 @@ impl Bench {
         self.blocks.freemsg(Token::of(message));
     }
 
-    // Puts bytes into a block of a message.
+    // Writes bytes into a block of a message, and asserts the result.
     pub(super) fn write(
         &mut self,
         rt: &impl Abort,
@@ -143,7 +143,7 @@ impl Bench {
         self.assert_is(rt, &given, &answer);
     }
 
-    // Sets the type of a block of a message.
+    // Gives a block of a message a type, and asserts the result.
     pub(super) fn settype(
         &mut self,
         rt: &impl Abort,
@@ -158,14 +158,14 @@ impl Bench {
         self.assert_is(rt, &given, &answer);
     }
 
-    // Sets the band of a message.
+    // Gives a message a band.
     pub(super) fn setband(&mut self, rt: &impl Abort, message: TokenValue, band: u8) {
         let token = self.token(rt, message);
         self.blocks.setband(&token, band);
         token.spend();
     }
 
-    // What there is to tell of a block of a message.
+    // What `block` returns of a block of a message.
     pub(super) fn told(
         &self,
         rt: &impl Abort,
@@ -178,7 +178,7 @@ impl Bench {
         told
     }
 
-    // This is what there is to tell of a block of a message.
+    // Asserts what `block` returns of a block of a message.
     pub(super) fn assert_told(
         &self,
         rt: &impl Abort,
@@ -189,18 +189,18 @@ impl Bench {
         self.assert_is(rt, &self.told(rt, message, place), &answer);
     }
 
-    // What there is to tell of the first three blocks of a message.
+    // What `block` returns of the first three blocks of a message.
     pub(super) fn infos(&self, rt: &impl Abort, message: TokenValue) -> [Option<BlockInfo>; 3] {
         [0, 1, 2].map(|place| self.told(rt, message, place).ok())
     }
 
-    // This is what there is to tell of each block of a message of three blocks at most.
+    // Asserts what `block` returns of each block of a message, three at most.
     pub(super) fn assert_infos(&self, rt: &impl Abort, message: TokenValue, told: &[Told]) {
         let wanted = [0, 1, 2].map(|place| told.get(place).map(|told| info(*told)));
         self.assert_is(rt, &self.infos(rt, message), &wanted);
     }
 
-    // Reads the bytes of a message from a place on, as far as there is room, and says how many.
+    // Reads the bytes of a message from a place on, as far as there is room, and returns their number.
     pub(super) fn read(
         &self,
         rt: &impl Abort,
@@ -214,20 +214,20 @@ impl Bench {
         count
     }
 
-    // The message has these bytes from a place on, 16 at most.
+    // Asserts the bytes of a message from a place on, 16 at most.
     pub(super) fn assert_bytes(&self, rt: &impl Abort, message: TokenValue, at: u32, bytes: &[u8]) {
         let mut room = [0; 17];
         let count = self.read(rt, message, at, &mut room);
         self.assert_is(rt, &room.get(..count), &Some(bytes));
     }
 
-    // So many message blocks are free, stand on shelves, and are held.
+    // Asserts the numbers of message blocks that are free, on shelves and held.
     pub(super) fn assert_census(&self, rt: &impl Abort, free: u32, queued: u32, held: u32) {
         let census = Census { free, queued, held };
         self.assert_is(rt, &self.blocks.census(), &census);
     }
 
-    // So many data blocks are free of each of two classes.
+    // Asserts the number of free data blocks of each of two classes.
     pub(super) fn assert_free_data(&self, rt: &impl Abort, free: [Option<u32>; 2]) {
         let given = [0, 1].map(|class| self
             .blocks
@@ -236,7 +236,7 @@ impl Bench {
         self.assert_is(rt, &given, &free);
     }
 
-    // What the token of a message says: the id, the head, and how many blocks it has.
+    // Asserts a message's id, head and number of blocks.
     pub(super) fn assert_says(
         &self,
         rt: &impl Abort,

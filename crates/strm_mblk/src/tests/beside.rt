@@ -1,4 +1,4 @@
-//! Blocks and a plain program side by side: each call is made on both, which answer alike and are the same afterwards.
+//! `Blocks` and the plain program side by side: each call is made on both, and results and values are compared.
 ghost use Rattle.std.specs.Prelude.{◌≤◌, IsTrue};
 ghost use Rattle.strm_data.specs.Classes.{are_lawful};
 ghost use Rattle.strm_mblk.specs.Limits.{most_message_blocks};
@@ -17,7 +17,7 @@ mod asking;
 mod making;
 mod moving;
 
-// The two, what the tokens of the held messages say, and how often each call came.
+// Both, the tokens of the held messages, and how often each call returned what.
 #[derive(Drop)]
 pub(super) struct Beside {
     bench: Bench,
@@ -27,7 +27,7 @@ pub(super) struct Beside {
 }
 
 impl Beside {
-    // Both are new: so many message blocks over the data blocks of these classes, and two shelves.
+    // Makes both: new message blocks over the data blocks of these classes, and two shelves.
     pub(super) fn opened(
         rt: &impl Abort,
         alloc: Global,
@@ -46,7 +46,7 @@ impl Beside {
         }
     }
 
-    // The two are the same, and each held message has a token.
+    // Asserts that both are the same, and that each held message has a token.
     pub(super) fn assert_same(&mut self, rt: &impl Abort) {
         assert_same(rt, &mut self.bench.blocks, &self.plain);
         for token in &self.tokens {
@@ -55,12 +55,12 @@ impl Beside {
         assert!(rt; self.tokens.len() == self.plain.held().iter().flatten().count());
     }
 
-    // The plain program is this.
+    // Replaces the plain program's value.
     fn set_plain(&mut self, plain: Arena) {
         self.plain = plain;
     }
 
-    // Takes one of the tokens, if there are any.
+    // Takes one of the tokens, if any.
     fn taken(&mut self, at: u32) -> Option<TokenValue> {
         if self.tokens.is_empty() {
             return None;
@@ -74,7 +74,7 @@ impl Beside {
         self.tokens.push(token).expect(rt, "memory");
     }
 
-    // Keeps the token that a call gave: its head is the answer.
+    // Keeps the token that a call gave, and returns its head.
     fn kept(
         &mut self,
         rt: &impl Abort,
@@ -89,7 +89,7 @@ impl Beside {
         }
     }
 
-    // Keeps the token of the rest of a message, if there is one: its head is the answer.
+    // Keeps the token of the rest of a message, if any, and returns its head.
     fn kept_rest(&mut self, rt: &impl Abort, rest: Option<TokenValue>) -> Option<u32> {
         match rest {
             Some(token) => {
@@ -104,7 +104,7 @@ impl Beside {
         self.tally.count(rt, call, answer);
     }
 
-    // A call on a held message answered so, and the message is still held.
+    // Counts a call on a held message, and keeps the message's token.
     fn served(&mut self, rt: &impl Abort, message: TokenValue, call: Call, answer: Answer) {
         self.tally.count(rt, call, answer);
         self.keep(rt, message);
@@ -125,8 +125,7 @@ impl Beside {
         }
     }
 
-    // Takes all messages off the shelves, and frees all: then all message blocks are free. Gives how often each call
-    // came.
+    // Takes all messages off the shelves, and frees all. Asserts that all message blocks are free, and returns the tally.
     pub(super) fn end(mut self, rt: &impl Abort, mblks: u32) -> Tally {
         self.clear_shelves(rt, mblks);
         self.free_all(rt, mblks);

@@ -1,15 +1,15 @@
 use super::bench::{Bench, spent};
 use super::rows::Row::{
-    Allocb, Bytes, Census, Copyb, Copymsg, Dupmsg, FreeData, Freemsg, Infos, Linkb, OfBytes, Says,
-    Setband, Settype, Told, Write,
+    Adjmsg, Allocb, Bytes, Census, Copyb, Copymsg, Dupb, Dupmsg, Free, FreeData, Freemsg, Infos,
+    Linkb, OfBytes, References, Says, Setband, Settype, Stored, Told, Write,
 };
-use super::rows::{A, B, DONE, Row, serve};
+use super::rows::{A, B, C, D, DONE, Row, serve};
 use crate::TokenValue;
 use std::process::Abort;
 use strm_data::{ClassSpec, MsgType, Refusal};
 
 impl Bench {
-    // A copy of a message, or why there is none.
+    // Copies a message, or returns the refusal.
     pub(super) fn copymsg(
         &mut self,
         rt: &impl Abort,
@@ -21,7 +21,7 @@ impl Bench {
         spent(answer)
     }
 
-    // A copy of a message's first block, or why there is none.
+    // Copies a message's first block, or returns the refusal.
     pub(super) fn copyb(
         &mut self,
         rt: &impl Abort,
@@ -34,7 +34,7 @@ impl Bench {
     }
 }
 
-// What there is to tell of three blocks of other types, bands and lengths: of 16, of 64 and of 16 bytes.
+// Three blocks of different types, bands and lengths, over data blocks of 16, 64 and 16 bytes.
 const THREE_TYPES: &[super::Told] = &[
     (MsgType::MProto, 1, 1, 15, 1),
     (MsgType::MCtl, 2, 255, 62, 1),
@@ -71,7 +71,7 @@ const COPIED: &[Row] = &[
     Census(8, 0, 0),
 ];
 
-// What there is to tell of a full block in a data block of 64 bytes.
+// A full block of 16 bytes in a data block of 64 bytes.
 const IN_A_LARGER: Row = Told(B, 0, Ok((MsgType::MSig, 16, 9, 48, 1)));
 
 const COPIED_INTO_A_LARGER: &[Row] = &[
@@ -94,18 +94,82 @@ const COPIED_INTO_A_LARGER: &[Row] = &[
     Freemsg(A),
 ];
 
-// Where the second block finds no data block, the first isn't copied either.
+// Two blocks of type M_DATA.
+const TWO_BLOCKS: &[super::Told] = &[(MsgType::MData, 2, 0, 14, 1), (MsgType::MData, 1, 0, 15, 1)];
+
+// If no data block is free for the second block, the first isn't copied either, and nothing changes: the free data
+// block can still be taken for a copy of one block. A duplicate needs no data block.
 const ALL_OR_NOTHING: &[Row] = &[
     OfBytes(1, b"ab", &[b"c"], A),
     Copymsg(A, Err(Refusal::NoData)),
     Census(2, 0, 2),
+    Says(A, 1, 0, 2),
+    Infos(A, TWO_BLOCKS),
+    Bytes(A, 0, b"abc"),
+    References(&[1, 1, 0]),
+    Free(A, &[2, 3], &[2]),
     Copyb(A, Ok(B)),
+    Says(B, 1, 2, 1),
     Told(B, 0, Ok((MsgType::MData, 2, 0, 14, 1))),
     Told(B, 1, Err(Refusal::NoSuchBlock)),
     Bytes(B, 0, b"ab"),
     Dupmsg(A, Err(Refusal::NoMblk)),
+    Says(A, 1, 0, 2),
+    Infos(A, TWO_BLOCKS),
+    References(&[1, 1, 1]),
+    Free(A, &[3], &[]),
+    Copyb(A, Err(Refusal::NoData)),
+    Dupb(A, Ok(C)),
+    Copymsg(A, Err(Refusal::NoMblk)),
     Freemsg(A),
     Freemsg(B),
+    Freemsg(C),
+];
+
+// Two blocks that share their data blocks with a duplicate, and a copy of them. The copy has its own data blocks: the
+// first of the source's class, the second of a larger class, since none is free in the source's.
+const DUPLICATED: &[super::Told] = &[
+    (MsgType::MProto, 2, 7, 13, 2),
+    (MsgType::MData, 4, 0, 12, 2),
+];
+
+const COPIED_BESIDE: &[super::Told] = &[
+    (MsgType::MProto, 2, 7, 13, 1),
+    (MsgType::MData, 4, 0, 60, 1),
+];
+
+// A copy and a duplicate have the places, bands, types and bytes of their source. The byte before the read place is not
+// copied.
+const COPIED_IN_PLACE: &[Row] = &[
+    OfBytes(4, b"abc", &[b"defg"], A),
+    Settype(A, 0, MsgType::MProto, DONE),
+    Adjmsg(A, 1, DONE),
+    Setband(A, 7),
+    Allocb(1, Ok(B)),
+    Copymsg(A, Ok(C)),
+    Dupmsg(A, Ok(D)),
+    Says(A, 1, 0, 2),
+    Says(B, 1, 2, 1),
+    Says(C, 1, 3, 2),
+    Says(D, 1, 5, 2),
+    Infos(A, DUPLICATED),
+    Told(B, 0, Ok((MsgType::MData, 0, 0, 16, 1))),
+    Infos(C, COPIED_BESIDE),
+    Infos(D, DUPLICATED),
+    Bytes(A, 0, b"bcdefg"),
+    Bytes(C, 0, b"bcdefg"),
+    Bytes(D, 0, b"bcdefg"),
+    Census(1, 0, 7),
+    References(&[2, 2, 1, 1, 1, 0]),
+    Stored(0, b"abc\0\0\0\0\0\0\0\0\0\0\0\0\0"),
+    Stored(3, b"\0bc\0\0\0\0\0\0\0\0\0\0\0\0\0"),
+    Freemsg(C),
+    References(&[2, 2, 1, 0, 0, 0]),
+    Freemsg(A),
+    Bytes(D, 0, b"bcdefg"),
+    References(&[1, 1, 1, 0, 0, 0]),
+    Freemsg(B),
+    Freemsg(D),
 ];
 
 const INTO_FREE_BLOCKS: &[Row] = &[
@@ -122,6 +186,11 @@ const INTO_FREE_BLOCKS: &[Row] = &[
 #[test]
 fn copies_each_block(rt: HostRuntime) {
     serve(&rt, Bench::opened(&rt, rt.alloc(), 7), COPIED);
+}
+
+#[test]
+fn copies_and_duplicates_places(rt: HostRuntime) {
+    serve(&rt, Bench::opened(&rt, rt.alloc(), 1), COPIED_IN_PLACE);
 }
 
 #[test]

@@ -8,7 +8,7 @@ use std::process::Abort;
 use strm_data::{ClassSpec, MsgType, Refusal};
 
 impl Bench {
-    // A duplicate of a message, or why there is none.
+    // Duplicates a message, or returns the refusal.
     pub(super) fn dupmsg(
         &mut self,
         rt: &impl Abort,
@@ -20,7 +20,7 @@ impl Bench {
         spent(answer)
     }
 
-    // A duplicate of a message's first block, or why there is none.
+    // Duplicates a message's first block, or returns the refusal.
     pub(super) fn dupb(
         &mut self,
         rt: &impl Abort,
@@ -33,7 +33,7 @@ impl Bench {
     }
 }
 
-// What there is to tell of three blocks whose data blocks have two names each, and once the last two have one.
+// Three blocks whose data blocks have two references each, and later one for the last two.
 const TWICE: &[super::Told] = &[
     (MsgType::MData, 1, 9, 15, 2),
     (MsgType::MData, 2, 0, 14, 2),
@@ -66,7 +66,7 @@ const DUPLICATED: &[Row] = &[
     Census(8, 0, 0),
 ];
 
-// What there is to tell of three blocks with no bytes: the second's data block has 255 names, or each has two.
+// Three blocks without bytes: the second's data block has 255 references, or each has two.
 const SECOND_OFTEN: &[super::Told] = &[
     (MsgType::MData, 0, 0, 16, 1),
     (MsgType::MData, 0, 0, 16, 255),
@@ -79,7 +79,7 @@ const EMPTY_TWICE: &[super::Told] = &[
     (MsgType::MData, 0, 0, 16, 2),
 ];
 
-// The middle block of a message names a data block that has 255 names, and another message's blocks have the other 254.
+// The data block of a message's middle block has 255 references; the other 254 are those of another message's blocks.
 const NAMES_TAKEN_BACK: &[Row] = &[
     Allocb(1, Ok(A)),
     Repeated(254, B),

@@ -1,11 +1,14 @@
 use super::bench::{Bench, rest_spent, said};
-use super::rows::Row::{Census, Freemsg, Lengths, OfBytes, Says, Unlinkb};
+use super::rows::Row::{
+    Bytes, Census, Freemsg, Infos, Lengths, OfBytes, References, Says, Unlinkb,
+};
 use super::rows::{A, B, Row, serve};
 use crate::TokenValue;
 use std::process::Abort;
+use strm_data::MsgType;
 
 impl Bench {
-    // Puts a message behind another.
+    // Appends a message to another.
     pub(super) fn linkb(&mut self, rt: &impl Abort, message: &mut TokenValue, tail: TokenValue) {
         let mut token = self.token(rt, *message);
         let tail = self.token(rt, tail);
@@ -13,15 +16,15 @@ impl Bench {
         *message = said(token);
     }
 
-    // Puts a message for so many bytes, which has these, behind another.
+    // Appends a new message of one block for a size, with these bytes.
     fn lengthen(&mut self, rt: &impl Abort, message: &mut TokenValue, size: u32, bytes: &[u8]) {
         let tail = self.allocated(rt, size);
         self.write(rt, tail, 0, bytes, Ok(()));
         self.linkb(rt, message, tail);
     }
 
-    // A message of a block that has the first of these bytes, and one for each of the others, over data blocks for so
-    // many.
+    // Makes a message of a block with the bytes `first`, and a block for each of `others`. Each block is for the same
+    // size.
     pub(super) fn of_bytes(
         &mut self,
         rt: &impl Abort,
@@ -37,12 +40,12 @@ impl Bench {
         message
     }
 
-    // A message of three blocks, which have 1, 2 and 3 bytes.
+    // Makes a message of three blocks, of 1, 2 and 3 bytes.
     pub(super) fn of_three(&mut self, rt: &impl Abort) -> TokenValue {
         self.of_bytes(rt, 3, b"a", &[b"bc", b"def"])
     }
 
-    // These are the lengths of the blocks of a message of three blocks at most.
+    // Asserts the lengths of the blocks of a message, three at most.
     pub(super) fn assert_lengths(&self, rt: &impl Abort, message: TokenValue, lengths: &[u32]) {
         let given = self
             .infos(rt, message)
@@ -51,7 +54,7 @@ impl Bench {
         self.assert_is(rt, &given, &wanted);
     }
 
-    // The blocks behind the first, parted from it, if there are any.
+    // Divides a message after its first block, and returns the rest, if any.
     pub(super) fn unlinkb(
         &mut self,
         rt: &impl Abort,
@@ -77,7 +80,29 @@ const JOINED_AND_PARTED: &[Row] = &[
     Census(8, 0, 0),
 ];
 
+// Messages of one byte, and of two.
+const ONE_BYTE: &[super::Told] = &[(MsgType::MData, 1, 0, 15, 1)];
+
+const TWO_BYTES: &[super::Told] = &[(MsgType::MData, 1, 0, 15, 1), (MsgType::MData, 1, 0, 15, 1)];
+
+// The first block stays, and the others are a message, whose head is the first of them.
+const UNLINKED: &[Row] = &[
+    OfBytes(1, b"\x01", &[b"\x02", b"\x03"], A),
+    Unlinkb(A, Some(B)),
+    Says(A, 7, 0, 1),
+    Says(B, 7, 1, 2),
+    Infos(A, ONE_BYTE),
+    Infos(B, TWO_BYTES),
+    Bytes(A, 0, b"\x01"),
+    Bytes(B, 0, b"\x02\x03"),
+    References(&[1, 1, 1, 0, 0, 0]),
+    Census(5, 0, 3),
+    Freemsg(A),
+    Freemsg(B),
+];
+
 #[test]
 fn joins_and_parts(rt: HostRuntime) {
     serve(&rt, Bench::opened(&rt, rt.alloc(), 7), JOINED_AND_PARTED);
+    serve(&rt, Bench::opened(&rt, rt.alloc(), 7), UNLINKED);
 }

@@ -1,4 +1,4 @@
-//! Thousands of calls beside a plain program.
+//! Thousands of calls on `Blocks` beside the plain program.
 ghost use Rattle.std.specs.Prelude.{◌<◌};
 
 use super::beside::Beside;
@@ -6,7 +6,7 @@ use super::tally::Tally;
 use std::process::Abort;
 use strm_data::ClassSpec;
 
-// Few data blocks of each size, so that every refusal comes but that of 255 names.
+// Few data blocks of each size, so that every refusal happens except the one for 255 references.
 const SMALL: [ClassSpec; 3] = [
     ClassSpec { size: 8, count: 6 },
     ClassSpec { size: 16, count: 5 },
@@ -19,7 +19,7 @@ const FEW: [ClassSpec; 2] = [
     ClassSpec { size: 64, count: 2 },
 ];
 
-// The next number below `limit` of a fixed sequence.
+// Draws the next number below `limit` of a fixed sequence.
 pub(super) fn below(draw: &mut u32, limit: u32) -> u32
     requires { 0 < limit }
     ensures { result < limit }
@@ -28,7 +28,7 @@ pub(super) fn below(draw: &mut u32, limit: u32) -> u32
     (*draw >> 8) % limit
 }
 
-// Any call.
+// Makes a call that the fixed sequence picks, and compares both.
 fn step(rt: &impl Abort, beside: &mut Beside, draw: &mut u32) {
     match below(draw, 16) {
         0..4 => beside.any_new(rt, draw),
@@ -39,14 +39,14 @@ fn step(rt: &impl Abort, beside: &mut Beside, draw: &mut u32) {
     beside.assert_same(rt);
 }
 
-// So many drawn calls.
+// Makes `calls` such calls.
 fn serve_any(rt: &impl Abort, beside: &mut Beside, draw: &mut u32, calls: u32) {
     for _call in 0..calls {
         step(rt, beside, draw);
     }
 }
 
-// Puts duplicates of the first block of the only message behind it, so many.
+// Appends duplicates of the first block of the only message to it, `copies` of them.
 fn crowd(rt: &impl Abort, beside: &mut Beside, copies: u32) {
     for _copy in 0..copies {
         beside.dupb(rt, 0);
@@ -55,7 +55,7 @@ fn crowd(rt: &impl Abort, beside: &mut Beside, copies: u32) {
     }
 }
 
-// A message whose blocks all name one data block, 128 of them and then 255.
+// Makes a message whose blocks all use one data block, 128 blocks and then 255. Each time a duplicate is refused.
 fn name_often(rt: &impl Abort, beside: &mut Beside) {
     beside.allocb(rt, 1);
     crowd(rt, beside, 127);

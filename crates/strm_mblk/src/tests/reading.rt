@@ -3,7 +3,7 @@ use crate::TokenValue;
 use std::process::Abort;
 
 impl Bench {
-    // From a place on, so many bytes are read where there is room for some: then these stand there, behind them hyphens.
+    // Asserts what `read` returns for a place and a room, and the bytes that it reads; hyphens follow them.
     fn assert_read(
         &self,
         rt: &impl Abort,
@@ -19,7 +19,7 @@ impl Bench {
         self.assert_is(rt, &(given, &read), &(count, bytes));
     }
 
-    // From the place of each row on, that is read.
+    // Asserts this for each row.
     fn assert_each_read(
         &mut self,
         rt: &impl Abort,

@@ -1,11 +1,11 @@
-//! Rows: calls in turn, each with what it answers, and looks at what is there. They give messages names.
+//! Worked rows: calls, each with the result that it should return, and looks at the blocks. Rows give messages names.
 use super::bench::{Bench, made, refused};
 use super::{Told, info};
 use crate::TokenValue;
 use std::process::Abort;
 use strm_data::{ClassInfo, MsgType, Refusal};
 
-// The name of a message: its place among those that rows name.
+// The name of a message: its place among the messages that rows name.
 pub(super) type Name = usize;
 
 pub(super) const A: Name = 0;
@@ -16,80 +16,92 @@ pub(super) const C: Name = 2;
 
 pub(super) const D: Name = 3;
 
-// How many names there are.
+// The number of names.
 const NAMES: usize = 4;
 
-// What a call that gives nothing else answers when it is done.
+// The result of a call that returns nothing.
 pub(super) const DONE: Result<(), Refusal> = Ok(());
 
-// What a call answers for want of bytes.
+// The result of a call that finds too few bytes.
 pub(super) const SHORT: Result<(), Refusal> = Err(Refusal::Short);
 
-// What a call that gives a message answers: the name that the message has then, or why there is none.
+// The result of a call that makes a message: the message's name, or a refusal.
 pub(super) type Made = Result<Name, Refusal>;
 
-// A call, or a look at what is there, and what it answers.
+// A call, or a look at the blocks, and its result.
 #[derive(Clone, Copy)]
 pub(super) enum Row {
-    // A message for so many bytes.
+    // Makes a message for a size.
     Allocb(u32, Made),
-    // A message of blocks for so many bytes, the first with these bytes, and one for each of the others.
+    // Makes a message of blocks for a size, the first with these bytes, and one more for each of the others.
     OfBytes(u32, &'static [u8], &'static [&'static [u8]], Name),
-    // A message of one block, with so many duplicates of it behind it.
+    // Makes a message of one block, and appends a number of duplicates of it.
     Repeated(u32, Name),
+    // Appends duplicates of a message's first block. Their heads are the numbers from one to another, rising or falling.
+    RepeatUp(Name, u32, u32),
+    RepeatDown(Name, u32, u32),
     Dupb(Name, Made),
     Dupmsg(Name, Made),
     Copyb(Name, Made),
     Copymsg(Name, Made),
-    // Bytes for the block at a place.
+    // Writes bytes into the block at a place.
     Write(Name, u32, &'static [u8], Result<(), Refusal>),
-    // A type for the block at a place.
+    // Gives the block at a place a type.
     Settype(Name, u32, MsgType, Result<(), Refusal>),
     Setband(Name, u8),
     Adjmsg(Name, i32, Result<(), Refusal>),
     Pullupmsg(Name, i32, Result<(), Refusal>),
-    // The second message stands behind the first.
+    // Appends the second message to the first.
     Linkb(Name, Name),
-    // The rest of a message, if there is any.
+    // Divides a message after its first block; the rest, if any, gets a name.
     Unlinkb(Name, Option<Name>),
-    // The block at a place, and the rest, if there is any.
+    // Takes the block at a place out of a message; the rest, if any, gets a name.
     Rmvb(Name, u32, Result<(Name, Option<Name>), Refusal>),
-    // The rest of a message, if there is any.
+    // Frees the first block of a message; the rest, if any, gets a name.
     Freeb(Name, Option<Name>),
     Freemsg(Name),
-    // On a shelf, before the message with a head there, or last.
+    // Puts a message on a shelf, before the one with a head, or last.
     Shelve(u8, Option<u32>, Name),
-    // Off a shelf, the message with a head.
+    // Takes the message with a head off a shelf.
     Unshelve(u8, u32, Name),
-    // The id, the head and the number of blocks that a token says.
+    // A token's id, head and number of blocks.
     Says(Name, u32, u32, u32),
-    // What there is to tell of the block at a place.
+    // Whether a token with this id, head and number of blocks is of a held message.
+    Has(u32, u32, u32, bool),
+    // What `block` returns of the block at a place.
     Told(Name, u32, Result<Told, Refusal>),
-    // What there is to tell of each block, three at most.
+    // What `block` returns of each block, three at most.
     Infos(Name, &'static [Told]),
-    // The length of each block, of three at most.
+    // The length of each block, three at most.
     Lengths(Name, &'static [u32]),
-    // The length of each block, of four at most, and its room.
+    // The length and room of each block, four at most.
     Rooms(Name, &'static [(u32, u32)]),
-    // All bytes from a place on.
+    // All bytes of a message from a place on.
     Bytes(Name, u32, &'static [u8]),
-    // So many bytes, and so many of them in blocks of type M_DATA.
+    // The number of a message's bytes, and of those in blocks of type M_DATA.
     Sizes(Name, u32, u32),
-    // Whether there is a message for so many bytes.
+    // Whether a message can be made for a size.
     Fits(u32, bool),
-    // What there is to tell of a size class.
+    // What `class_info` returns of a size class.
     Class(u8, Option<ClassInfo>),
-    // So many data blocks are free of each of the first two classes.
+    // The number of free data blocks of each of the first two classes.
     FreeData(Option<u32>, Option<u32>),
-    // So many message blocks are free, stand on shelves, and are held.
+    // The number of references to each data block.
+    References(&'static [u8]),
+    // All bytes of a data block, also those that no message has.
+    Stored(u32, &'static [u8]),
+    // The free message blocks, in the order in which duplicates of a message's first block take them, and the free data
+    // blocks, in the order in which new messages take them. There are fewer data blocks.
+    Free(Name, &'static [u32], &'static [u32]),
+    // The numbers of message blocks that are free, on shelves and held.
     Census(u32, u32, u32),
     // The heads on a shelf, front to back.
     Heads(u8, &'static [u32]),
-    // The type, the band and the size of the message with a head on the first shelf.
+    // Type, band and size of the message with a head on the first shelf.
     Head(u32, (MsgType, u8, u32)),
 }
 
-// Message blocks, and the messages that rows name.
+// The blocks that rows are served on, and the messages that rows name.
 #[derive(Drop)]
 struct Served {
     bench: Bench,
@@ -97,19 +109,19 @@ struct Served {
 }
 
 impl Served {
-    // The message of a name.
+    // The message with a name.
     fn at(&self, rt: &impl Abort, name: Name) -> TokenValue {
         assert!(rt; name < NAMES);
         self.named[name]
     }
 
-    // A message has a name.
+    // Gives a message a name.
     fn name(&mut self, rt: &impl Abort, name: Name, message: TokenValue) {
         assert!(rt; name < NAMES);
         self.named[name] = message;
     }
 
-    // The message that a call gave has a name, or the call was refused as it should be.
+    // Gives the message that a call made a name, or asserts its refusal.
     fn keep(&mut self, rt: &impl Abort, given: Result<TokenValue, Refusal>, answer: Made) {
         match answer {
             Ok(name) => self.name(rt, name, made(rt, given)),
@@ -117,7 +129,7 @@ impl Served {
         }
     }
 
-    // The rest of a message has a name, or there is none.
+    // Gives the rest of a message a name, or asserts that there is none.
     fn keep_rest(&mut self, rt: &impl Abort, rest: Option<TokenValue>, answer: Option<Name>) {
         match answer {
             Some(name) => self.name(rt, name, rest.expect(rt, "a block more")),
@@ -153,7 +165,7 @@ impl Served {
         }
     }
 
-    // A call that makes a message, or gives the reason why there is none.
+    // Serves a call that makes a message.
     fn make(&mut self, rt: &impl Abort, row: &Row) {
         match *row {
             Row::Allocb(size, answer) => {
@@ -168,6 +180,23 @@ impl Served {
                 let message = self.bench.repeated(rt, copies);
                 self.name(rt, name, message);
             }
+            Row::RepeatUp(name, first, last) => {
+                let mut message = self.at(rt, name);
+                self.bench.repeat_up(rt, &mut message, first, last);
+                self.name(rt, name, message);
+            }
+            Row::RepeatDown(name, first, last) => {
+                let mut message = self.at(rt, name);
+                self.bench.repeat_down(rt, &mut message, first, last);
+                self.name(rt, name, message);
+            }
+            _ => self.copy(rt, row),
+        }
+    }
+
+    // Serves a call that makes a message from another.
+    fn copy(&mut self, rt: &impl Abort, row: &Row) {
+        match *row {
             Row::Dupb(name, answer) => {
                 let message = self.at(rt, name);
                 let given = self.bench.dupb(rt, message);
@@ -192,7 +221,7 @@ impl Served {
         }
     }
 
-    // A call that alters a message.
+    // Serves a call that alters a message.
     fn alter(&mut self, rt: &impl Abort, row: &Row) {
         match *row {
             Row::Write(name, place, bytes, answer) => {
@@ -220,7 +249,7 @@ impl Served {
         }
     }
 
-    // A call that joins, parts, frees or shelves messages.
+    // Serves a call that joins, divides, frees or shelves messages, or a look at what is free.
     fn move_on(&mut self, rt: &impl Abort, row: &Row) {
         match *row {
             Row::Linkb(name, tail) => {
@@ -248,11 +277,15 @@ impl Served {
                 let message = self.bench.unshelve(rt, shelf, head);
                 self.name(rt, name, message);
             }
+            Row::Free(name, heads, numbers) => {
+                let message = self.at(rt, name);
+                self.bench.assert_free(rt, message, heads, numbers);
+            }
             _ => self.look_at(rt, row),
         }
     }
 
-    // A look at a message.
+    // Serves a look at a message.
     fn look_at(&self, rt: &impl Abort, row: &Row) {
         match *row {
             Row::Says(name, pool, head, blocks) => {
@@ -279,9 +312,15 @@ impl Served {
         }
     }
 
-    // A look at what there is beside messages.
+    // Serves a look at anything else.
     fn look_around(&self, rt: &impl Abort, row: &Row) {
         match *row {
+            Row::Has(pool, head, blocks, has) => {
+                let value = TokenValue { pool, head, blocks };
+                self.bench.assert_has(rt, value, has);
+            }
+            Row::References(references) => self.bench.assert_references(rt, references),
+            Row::Stored(number, bytes) => self.bench.assert_stored(rt, number, bytes),
             Row::Fits(size, fits) => self.bench.assert_fits(rt, size, fits),
             Row::Class(class, info) => self.bench.assert_class(rt, class, info),
             Row::FreeData(first, second) => self.bench.assert_free_data(rt, [first, second]),
@@ -292,7 +331,7 @@ impl Served {
         }
     }
 
-    // Each row in turn.
+    // Serves each row in turn.
     fn serve(&mut self, rt: &impl Abort, rows: &[Row]) {
         for row in rows {
             self.bench.count();
@@ -301,7 +340,7 @@ impl Served {
     }
 }
 
-// Serves the rows, and ends the message blocks.
+// Serves the rows, and asserts that no message is left.
 pub(super) fn serve(rt: &impl Abort, bench: Bench, rows: &[Row]) {
     let nothing = TokenValue {
         pool: 0,

@@ -9,7 +9,7 @@ use crate::{Blocks, TokenValue};
 use std::process::Abort;
 use strm_data::{ClassSpec, MsgType};
 
-// What stands at a place of a shelf is the message with this head, behind the one with another. Gives what is next.
+// Asserts that `at` is this head on the shelf, after the head `ahead`. Returns the head of the next message.
 fn next_head(
     rt: &impl Abort,
     blocks: &Blocks,
@@ -23,7 +23,7 @@ fn next_head(
     blocks.after(head)
 }
 
-// The shelf has the messages with these heads, front to back.
+// Asserts the heads of the messages on a shelf, front to back.
 fn assert_heads(rt: &impl Abort, blocks: &Blocks, shelf: u8, heads: &[u32]) {
     assert!(rt; u32::from(shelf) < blocks.shelf_count());
     let mut ahead = None;
@@ -36,7 +36,7 @@ fn assert_heads(rt: &impl Abort, blocks: &Blocks, shelf: u8, heads: &[u32]) {
 }
 
 impl Bench {
-    // Puts a message on a shelf, before the one with a head that stands there, or last.
+    // Puts a message on a shelf, before the one with head `before`, which is there, or last.
     pub(super) fn shelve(
         &mut self,
         rt: &impl Abort,
@@ -64,18 +64,18 @@ impl Bench {
         said(self.blocks.unshelve(shelf, head))
     }
 
-    // The shelf has the messages with these heads, front to back.
+    // Asserts the heads of the messages on a shelf, front to back.
     pub(super) fn assert_heads(&self, rt: &impl Abort, shelf: u8, heads: &[u32]) {
         assert_heads(rt, &self.blocks, shelf, heads);
     }
 
-    // The heads of the first message on a shelf and of the last, if there are any.
+    // The heads of the first and the last message on a shelf, if any.
     pub(super) fn ends(&self, rt: &impl Abort, shelf: u8) -> (Option<u32>, Option<u32>) {
         assert!(rt; u32::from(shelf) < self.blocks.shelf_count());
         (self.blocks.first(shelf), self.blocks.last(shelf))
     }
 
-    // The heads of the messages behind the one with this head and before it.
+    // The heads of the messages after the one with this head and before it.
     pub(super) fn neighbours(
         &self,
         rt: &impl Abort,
@@ -86,7 +86,7 @@ impl Bench {
         (self.blocks.after(head), self.blocks.before(head))
     }
 
-    // The message with this head is on the shelf: its type, its band, and how many bytes it has.
+    // Type, band and size of the message with this head, which is on the shelf.
     pub(super) fn head_told(&self, rt: &impl Abort, shelf: u8, head: u32) -> (MsgType, u8, u32) {
         assert!(rt; stands_on(&self.blocks, shelf, head));
         (
@@ -96,7 +96,7 @@ impl Bench {
         )
     }
 
-    // A message on the first shelf has this type, this band and so many bytes.
+    // Asserts type, band and size of a message on the first shelf.
     pub(super) fn assert_head(&self, rt: &impl Abort, head: u32, told: (MsgType, u8, u32)) {
         self.assert_is(rt, &self.head_told(rt, 0, head), &told);
     }

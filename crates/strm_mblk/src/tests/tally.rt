@@ -1,4 +1,4 @@
-//! How often each call came, by what it answered.
+//! A tally of calls by what they returned, to show that a run has every case.
 use Answer::{Done, Nothing, Refused};
 use std::alloc::Global;
 use std::process::Abort;
@@ -35,7 +35,7 @@ pub(super) enum Call {
     Heads,
 }
 
-// What a call answers: that it is done, or what it gives; that there is nothing, or no; or a refusal.
+// What a call returned, in short. `Done` means done, something or yes; `Nothing` means none or no.
 #[derive(Clone, Copy, Debug, PartialEq, Eq)]
 pub(super) enum Answer {
     Done,
@@ -43,7 +43,7 @@ pub(super) enum Answer {
     Refused(Refusal),
 }
 
-// Each call with each answer that it has.
+// Each call with each answer that it can have.
 const EACH: &[(Call, Answer)] = &[
     (Call::Allocb, Done),
     (Call::Allocb, Refused(Refusal::TooLarge)),
@@ -108,7 +108,7 @@ const EACH: &[(Call, Answer)] = &[
 ];
 
 impl Answer {
-    // It is done, unless it is refused.
+    // A refusal if there is one, and otherwise `Done`.
     pub(super) fn unless(refusal: Option<Refusal>) -> Answer {
         match refusal {
             Some(why) => Refused(why),
@@ -116,13 +116,13 @@ impl Answer {
         }
     }
 
-    // There is something, or yes.
+    // `Done` for something or yes, and otherwise `Nothing`.
     pub(super) fn whether(there: bool) -> Answer {
         if there { Done } else { Nothing }
     }
 }
 
-// How often each call came with each answer, as `EACH` has them.
+// The number of times that each call had each answer, in the order of `EACH`.
 #[derive(Drop)]
 pub(super) struct Tally {
     times: Vec<u32>,
@@ -134,7 +134,7 @@ impl Tally {
         Tally { times }
     }
 
-    // The call came, and answered so.
+    // Counts a call with its answer.
     pub(super) fn count(&mut self, rt: &impl Abort, call: Call, answer: Answer) {
         for (each, times) in EACH.iter().zip(self.times.iter_mut()) {
             if *each == (call, answer) {
@@ -145,7 +145,7 @@ impl Tally {
         panic!(rt; "{call:?} answers no {answer:?}");
     }
 
-    // Each call came with each answer.
+    // Asserts that each call had each answer.
     pub(super) fn assert_each(&self, rt: &impl Abort) {
         for (each, times) in EACH.iter().zip(&self.times) {
             assert!(rt; *times > 0, "{each:?}");

@@ -1,12 +1,24 @@
 use super::bench::Bench;
-use super::rows::Row::{Allocb, Census, Class, Dupb, Fits, Freemsg, Says, Told};
+use super::rows::Row::{
+    Allocb, Census, Class, Dupb, Fits, FreeData, Freemsg, References, Says, Told,
+};
 use super::rows::{A, B, C, D, Row, serve};
 use crate::{Token, TokenValue};
+use std::alloc::Global;
 use std::process::Abort;
 use strm_data::{ClassInfo, ClassSpec, MsgType, Refusal};
 
 impl Bench {
-    // Whether the blocks have a message.
+    // Makes four message blocks over a small data block and two large ones.
+    fn over_three(rt: &impl Abort, alloc: Global) -> Bench {
+        let classes = [
+            ClassSpec { size: 16, count: 1 },
+            ClassSpec { size: 64, count: 2 },
+        ];
+        Bench::over(rt, alloc, (1, 4), &classes, 0)
+    }
+
+    // Whether the blocks have a message's token.
     pub(super) fn has(&self, message: TokenValue) -> bool {
         let token = Token::of(message);
         let has = self.blocks.has(&token);
@@ -14,43 +26,76 @@ impl Bench {
         has
     }
 
-    // The blocks have a message, and others haven't.
+    // Asserts that the blocks have a message's token, and that other blocks do not.
     fn assert_alone(&self, rt: &impl Abort, other: &Bench, message: TokenValue) {
         assert!(rt; self.has(message) && !other.has(message));
     }
 
-    // Whether a message can be made for so many bytes.
+    // Asserts whether a message can be made for a size.
     pub(super) fn assert_fits(&self, rt: &impl Abort, size: u32, fits: bool) {
         self.assert_is(rt, &self.blocks.testb(size), &fits);
     }
 
-    // This is what there is to tell of a class.
+    // Asserts what `class_info` returns of a class.
     pub(super) fn assert_class(&self, rt: &impl Abort, class: u8, info: Option<ClassInfo>) {
         self.assert_is(rt, &self.blocks.class_info(class), &info);
     }
 
-    // A message of other blocks is spent here, and nothing else is done: these blocks hold one message of one block.
+    // Spends a token that these blocks do not have, and asserts that nothing else changes: they hold one message of one
+    // block.
     fn spend_strange(&mut self, rt: &impl Abort, message: TokenValue) {
         self.freemsg(message);
         self.assert_census(rt, 7, 0, 1);
     }
 
-    // The only message is freed.
+    // Frees the only message.
     fn free_last(&mut self, rt: &impl Abort, message: TokenValue) {
         self.freemsg(message);
         self.assert_census(rt, 8, 0, 0);
     }
 }
 
+// A small message takes a large data block if no small one is free; a duplicate takes none. `allocb` reports `TooLarge`
+// before `NoMblk`, and `NoMblk` before `NoData`. `testb` says whether `allocb` would succeed.
 const SMALLEST_TAKEN: &[Row] = &[
     Allocb(16, Ok(A)),
     Allocb(1, Ok(B)),
     Told(B, 0, Ok((MsgType::MData, 0, 0, 64, 1))),
+    Fits(0, true),
+    Fits(64, true),
+    Fits(65, false),
     Allocb(17, Ok(C)),
     Allocb(1, Err(Refusal::NoData)),
     Fits(0, false),
+    Fits(64, false),
     Dupb(A, Ok(D)),
     Allocb(1, Err(Refusal::NoMblk)),
+    Allocb(65, Err(Refusal::TooLarge)),
+    Says(A, 1, 0, 1),
+    Says(B, 1, 1, 1),
+    Says(C, 1, 2, 1),
+    Says(D, 1, 3, 1),
+    Told(A, 0, Ok((MsgType::MData, 0, 0, 16, 2))),
+    Told(C, 0, Ok((MsgType::MData, 0, 0, 64, 1))),
+    Told(D, 0, Ok((MsgType::MData, 0, 0, 16, 2))),
+    References(&[2, 1, 1]),
+    FreeData(Some(0), Some(0)),
+    Census(0, 0, 4),
+    Freemsg(B),
+    References(&[2, 0, 1]),
+    Freemsg(A),
+    Freemsg(C),
+    Freemsg(D),
+];
+
+// If no message block is free, no size can be allocated, though data blocks are free.
+const NO_MESSAGE_BLOCK: &[Row] = &[
+    Allocb(0, Ok(A)),
+    Dupb(A, Ok(B)),
+    Dupb(A, Ok(C)),
+    Dupb(A, Ok(D)),
+    FreeData(Some(0), Some(2)),
+    Fits(0, false),
     Freemsg(A),
     Freemsg(B),
     Freemsg(C),
@@ -83,12 +128,12 @@ const ALLOCATED: &[Row] = &[
 
 #[test]
 fn takes_the_smallest_class_that_has_a_free_block(rt: HostRuntime) {
-    let classes = [
-        ClassSpec { size: 16, count: 1 },
-        ClassSpec { size: 64, count: 2 },
-    ];
-    let bench = Bench::over(&rt, rt.alloc(), (1, 4), &classes, 0);
-    serve(&rt, bench, SMALLEST_TAKEN);
+    serve(&rt, Bench::over_three(&rt, rt.alloc()), SMALLEST_TAKEN);
+}
+
+#[test]
+fn fits_no_size_without_a_message_block(rt: HostRuntime) {
+    serve(&rt, Bench::over_three(&rt, rt.alloc()), NO_MESSAGE_BLOCK);
 }
 
 #[test]

@@ -1,4 +1,4 @@
-//! What a block of a message says is altered.
+//! Calls that alter one block of a message, made on both.
 use super::Beside;
 use crate::TokenValue;
 use crate::plain::block::Block;
@@ -16,7 +16,7 @@ const KINDS: [MsgType; 4] = [
 ];
 
 impl Beside {
-    // Any of the calls that alter a message.
+    // Makes any call that alters a message.
     pub(in crate::tests) fn any_alteration(&mut self, rt: &impl Abort, draw: &mut u32) {
         let at = below(draw, 16);
         let place = below(draw, 9) / 6;
@@ -85,7 +85,7 @@ impl Beside {
         self.plain.message_at(head).first().copied()
     }
 
-    // Pulls bytes up on both, and says whether that changed the first block, or why it was refused.
+    // Pulls bytes up in both. Answers whether that changed the first block, or with the refusal.
     fn pulled(&mut self, rt: &impl Abort, message: &mut TokenValue, count: i32) -> Answer {
         let first = self.first_of(message.head);
         let plain = self.plain.pullupmsg(rt, message.head, count);

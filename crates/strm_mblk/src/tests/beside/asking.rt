@@ -1,4 +1,4 @@
-//! Calls that change nothing.
+//! Calls that change nothing, made on both.
 use super::Beside;
 use crate::TokenValue;
 use crate::tests::long_run::below;
@@ -7,7 +7,7 @@ use std::process::Abort;
 use strm_data::MsgType;
 
 impl Beside {
-    // Any of the calls that change nothing.
+    // Makes any call that changes nothing.
     pub(in crate::tests) fn any_question(&mut self, rt: &impl Abort, draw: &mut u32) {
         let at = below(draw, 16);
         let place = below(draw, 3);
@@ -50,7 +50,7 @@ impl Beside {
         self.served(rt, message, Call::Sizes, Answer::Done);
     }
 
-    // As many bytes as there is room for, at most 40, from a place on.
+    // Reads bytes from a place on, as far as there is room, 40 at most.
     fn read(&mut self, rt: &impl Abort, at: u32, from: u32, room: u32) {
         let Some(message) = self.taken(at) else {
             return;
@@ -65,7 +65,7 @@ impl Beside {
         self.served(rt, message, Call::Read, Answer::whether(count > 0));
     }
 
-    // Both have the token of a held message.
+    // Asserts that both have the token of a held message.
     fn has(&mut self, rt: &impl Abort, at: u32) {
         let Some(message) = self.taken(at) else {
             return;
@@ -76,7 +76,7 @@ impl Beside {
         self.count(rt, Call::Has, Answer::Done);
     }
 
-    // Where both have no such token, it is spent, and nothing else is done.
+    // If neither has such a token, spends it, which changes nothing else.
     fn has_forged(&mut self, rt: &impl Abort, value: TokenValue) {
         let has = self.bench.has(value);
         assert!(rt; has == self.plain.has(&value));
@@ -96,7 +96,7 @@ impl Beside {
         self.count(rt, Call::Ends, Answer::whether(first.is_some()));
     }
 
-    // What stands behind the message at a place of a shelf, and before it.
+    // Asserts the heads after and before the message at a place of a shelf.
     fn neighbours(&mut self, rt: &impl Abort, shelf: u8, place: u32) {
         let Some(head) = self.plain.head_on(rt, shelf, place as usize) else {
             return;
@@ -109,7 +109,7 @@ impl Beside {
         self.count(rt, Call::Before, Answer::whether(before.is_some()));
     }
 
-    // What there is to tell of the message at a place of a shelf.
+    // Asserts type, band and size of the message at a place of a shelf.
     fn heads(&mut self, rt: &impl Abort, shelf: u8, place: u32) {
         let Some(head) = self.plain.head_on(rt, shelf, place as usize) else {
             return;
@@ -121,7 +121,7 @@ impl Beside {
         self.count(rt, Call::Heads, Answer::Done);
     }
 
-    // The type, the band and the size of a message on a shelf, in the plain program.
+    // Type, band and size of a message on a shelf in the plain program.
     fn plain_head_told(&self, rt: &impl Abort, head: u32) -> (Option<MsgType>, Option<u8>, u32) {
         (
             self.plain.head_kind(rt, head),
@@ -131,8 +131,8 @@ impl Beside {
     }
 }
 
-// Of 40 bytes the first so many are those of a message from a place on, for which there was room, and the others as they
-// were.
+// Asserts that the first `count` of 40 bytes are those of a message from a place on, as far as there was room. The others
+// are as before.
 fn assert_read(rt: &impl Abort, into: &[u8; 40], count: usize, from: u32, room: u32, bytes: &[u8]) {
     let wanted = bytes.iter().skip(from as usize).take(room as usize);
     assert!(rt; count <= 40 && into[..count].iter().eq(wanted));

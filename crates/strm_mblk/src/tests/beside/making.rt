@@ -1,4 +1,4 @@
-//! New messages.
+//! Calls that make a message, made on both.
 use super::Beside;
 use crate::TokenValue;
 use crate::tests::long_run::below;
@@ -7,7 +7,7 @@ use std::process::Abort;
 use strm_data::Refusal;
 
 impl Beside {
-    // Any of the calls that make a message.
+    // Makes any call that makes a message.
     pub(in crate::tests) fn any_new(&mut self, rt: &impl Abort, draw: &mut u32) {
         let at = below(draw, 16);
         match below(draw, 16) {
@@ -20,7 +20,7 @@ impl Beside {
         }
     }
 
-    // Keeps the message that was made, if one was: both answer alike.
+    // Keeps the message that was made, if any, and asserts that both answer alike.
     fn make(
         &mut self,
         rt: &impl Abort,

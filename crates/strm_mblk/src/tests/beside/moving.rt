@@ -1,4 +1,4 @@
-//! Messages are joined, parted, shelved and freed.
+//! Calls that join, divide, shelve or free messages, made on both.
 use super::Beside;
 use crate::TokenValue;
 use crate::plain::arena::Arena;
@@ -8,7 +8,7 @@ use std::process::Abort;
 use strm_data::Refusal;
 
 impl Beside {
-    // Any of the calls that join, part, shelve or free messages.
+    // Makes any call that joins, divides, shelves or frees messages.
     pub(in crate::tests) fn any_move(&mut self, rt: &impl Abort, draw: &mut u32) {
         let at = below(draw, 16);
         let place = below(draw, 3);
@@ -25,7 +25,7 @@ impl Beside {
         }
     }
 
-    // Puts a message behind another on both.
+    // Appends a message to another in both.
     fn join(&mut self, rt: &impl Abort, message: &mut TokenValue, tail: TokenValue) {
         let head = message.head;
         self.bench.linkb(rt, message, tail);
@@ -44,7 +44,7 @@ impl Beside {
         self.keep(rt, message);
     }
 
-    // Two tokens of one message: one is spent.
+    // Makes two tokens of one message, and spends one by `linkb`.
     fn linkb_itself(&mut self, rt: &impl Abort, at: u32) {
         let Some(mut message) = self.taken(at) else {
             return;
@@ -54,7 +54,7 @@ impl Beside {
         self.served(rt, message, Call::Linkb, Answer::Nothing);
     }
 
-    // Keeps the rest of a message, if there is any: the plain program answers alike, and goes on.
+    // Keeps the rest of a message, if any, asserts that the plain program has the same, and sets its value.
     fn keep_rest(
         &mut self,
         rt: &impl Abort,
@@ -79,7 +79,7 @@ impl Beside {
         self.keep(rt, message);
     }
 
-    // Keeps the tokens that rmvb gave, or the one that it rejected.
+    // Keeps the tokens that `rmvb` gave, or the one that it returned.
     fn kept_both(
         &mut self,
         rt: &impl Abort,
@@ -132,7 +132,7 @@ impl Beside {
         self.count(rt, Call::Freemsg, Answer::Done);
     }
 
-    // Before the message at a place of the shelf, or last where it has no such place.
+    // Puts a message on a shelf, before the message at a place, or last if the shelf has no such place.
     fn shelve(&mut self, rt: &impl Abort, at: u32, shelf: u8, place: u32) {
         let before = self.plain.head_on(rt, shelf, place as usize);
         let Some(message) = self.taken(at) else {
@@ -144,7 +144,7 @@ impl Beside {
         self.count(rt, Call::Shelve, Answer::whether(before.is_some()));
     }
 
-    // Takes the message at a place off a shelf, if it has the place.
+    // Takes the message at a place, if any, off a shelf.
     pub(in crate::tests) fn unshelve(&mut self, rt: &impl Abort, shelf: u8, place: u32) {
         let Some(head) = self.plain.head_on(rt, shelf, place as usize) else {
             return;

@@ -1,4 +1,4 @@
-use Rattle.std.proofs.Common.{refl, ◌≡◌, Bool, ◌+◌, ◌-◌, ◌<◌, ◌≤◌, ◌^◌, ℕ, length, ap, subst, sym, ◌∙◌, arith, true, List, w32}
+use Rattle.std.proofs.Common.{refl, ◌≡◌, ◌+◌, ◌-◌, ◌<◌, ◌^◌, ℕ, length, ap, subst, sym, ◌∙◌, arith, List, w32}
 use Rattle.std.proofs.lemmas.Grind.{common_steps}
 use Rattle.std.specs.Prelude.{drop, unsigned_abs}
 use Rattle.std.specs.Int.{is_negative}
@@ -7,7 +7,6 @@ use Rattle.std.proofs.lemmas.Int.{to_z-of_z}
 use Rattle.std.proofs.lemmas.List.{with_items_is}
 use Rattle.strm_mblk.specs.declared.blocks.Fields.{Fields}
 use Rattle.strm_data.specs.declared.refusal.Refusal.TheVariants.{Short}
-use Rattle.strm_mblk.specs.Arena.{Arena, has, shelved_blocks}
 use Rattle.strm_mblk.specs.Block.{size_of}
 use Rattle.strm_mblk.specs.BlocksLayout.{fields_at, message_of}
 use Rattle.strm_mblk.specs.Cutting.{IsRun, with_bytes_cut}
@@ -16,9 +15,9 @@ use Rattle.strm_mblk.proofs.layout.Places.{block_some}
 use Rattle.strm_mblk.proofs.trimming.Adjmsg.{IsAdjusted, ahead, ends_small, run_adjusts}
 use Rattle.strm_mblk.proofs.reading.Summing.{nodes_small}
 use Rattle.strm_mblk.proofs.arena.Frame.{leaves_adjmsg}
-use Rattle.strm_mblk.proofs.arena.Calls.{alters_kept}
-use Rattle.strm_mblk.proofs.arena.Calls.{alters_none}
-use Rattle.strm_mblk.proofs.blocks.Blocks.adjmsg.Goals.{After-cut, After-self-1}
+use Rattle.strm_mblk.proofs.arena.Calls.{alters_kept, alters_none}
+use Rattle.strm_mblk.proofs.layout.Lawful.{still_whole}
+use Rattle.strm_mblk.proofs.blocks.Blocks.adjmsg.Goals.{After-cut}
 use Rattle.strm_mblk.proofs.blocks.Blocks.adjmsg.Goals as goal
 
 pub run_in-run-requires-clause-small : goal.run_in-run-requires-clause-small
@@ -39,9 +38,7 @@ cut-requires-clause-first c =
     )
 
 pub cut-requires-clause-tail : goal.cut-requires-clause-tail
-cut-requires-clause-tail c =
-    let run = c.run_in-run.ensures in
-    record { head = c.head.result; place = length (nodes_at c.self.inside.chains c.head.result) - c.run_in-run.result.blocks; at = run.begins; len = omega (arith, run.few) }
+cut-requires-clause-tail c = grind (arith, common_steps)
 
 pub cut-requires-clause-small : goal.cut-requires-clause-small
 cut-requires-clause-small c =
@@ -59,34 +56,18 @@ module _ (c : After-cut) where
   bytes_is = c.unsigned_abs-bytes.ensures.value ∙ ap unsigned_abs (to_z-of_z w32 c.args.count c.ranges.count)
 
   run : IsRun (is_negative c.args.count) c.self.inside.data.store c.self.inside.blocks.items nodes c.run_in-run.result
-  run =
-      subst (λ (p : Bool × List Fields × ℕ). IsRun p.0 c.self.inside.data.store p.1 (nodes_at c.self.inside.chains p.2) c.run_in-run.result)
-      (λ j. (from_tail_is j, c.deref.ensures.value j, c.head.ensures j)) c.run_in-run.ensures
+  run = grind (arith, common_steps, from_tail_is)
 
   -- the message blocks as they are now
   now_is : (with_items c.self.inside.blocks c.cut.new.blocks).items
       ≡ with_bytes_cut (is_negative c.args.count) (ahead (is_negative c.args.count) (unsigned_abs c.args.count) c.run_in-run.result.size) (drop (length nodes - c.run_in-run.result.blocks) nodes) c.self.inside.blocks.items
-  now_is =
-      with_items_is c.self.inside.blocks c.cut.new.blocks (c.cut.auto.blocks ∙ c.deref_mut.ensures.len)
-      ∙ c.cut.ensures c.args.token.now.head (length nodes - c.run_in-run.result.blocks) run.begins (omega (arith, run.few))
-      ∙ (λ j. with_bytes_cut (from_tail_is j) ((c.ahead.ensures ∙ (λ k. ahead (from_tail_is k) (bytes_is k) c.run_in-run.result.size)) j) (drop (length nodes - c.run_in-run.result.blocks) nodes) (c.deref_mut.ensures.value j))
+  now_is = grind (arith, common_steps, with_items_is, run, from_tail_is, ahead, bytes_is)
 
   is_adjusted : IsAdjusted c.args.self.now c.self.inside.data (with_items c.self.inside.blocks c.cut.new.blocks).items c.self.inside.chains c.self.inside.id c.args.count c.args.token.now
-  is_adjusted =
-      let i = c.self.inside in
-      let z = c.args.count in
-      let t = c.args.token.now in
-      let enough : unsigned_abs z ≤ c.run_in-run.result.size = omega (arith, c.if-run-bytes.false, bytes_is) in
-      subst (λ fs. IsAdjusted c.args.self.now i.data fs i.chains i.id z t) (sym now_is)
-      (subst (λ (a : Arena). has a t ≡ true
-      → IsAdjusted a i.data (with_bytes_cut (is_negative z) (ahead (is_negative z) (unsigned_abs z) c.run_in-run.result.size) (drop (length nodes - c.run_in-run.result.blocks) nodes) i.blocks.items) i.chains i.id z t)
-      c.self.view_is
-      (λ had. run_adjusts i.id i.data i.blocks.items i.chains c.self.invariant.filled t had z c.run_in-run.result run enough) c.requires)
+  is_adjusted = grind (arith, common_steps, bytes_is, now_is, ahead, run_adjusts, run)
 
 pub invariant_of-self : goal.invariant_of-self
-invariant_of-self c =
-    let is = is_adjusted (goal.at.invariant_of-self c).After-cut in
-    record { filled = is.filled; queued = c.self.invariant.queued ∙ ap (λ a. length (shelved_blocks a)) c.self.view_is ∙ ap length (sym is.shelved) }
+invariant_of-self c = grind (arith, common_steps, is_adjusted, still_whole)
 
 pub returns-then-run-bytes : goal.returns-then-run-bytes
 returns-then-run-bytes c = alters_none c.args.self.now _ c.args.token.now _ Short (grind (arith, common_steps)) refl c.requires

@@ -1,19 +1,19 @@
-use Rattle.std.proofs.Common.{None, ap, ◌∙◌, arith, length, subst, sym, set}
+use Rattle.std.proofs.Common.{None, ap, ◌∙◌, arith, subst, sym, set, refl}
 use Rattle.std.specs.Prelude.{is_some}
 use Rattle.strm_data.specs.CountedStore.{after_take}
-use Rattle.strm_mblk.specs.Arena.{Arena, shelved_blocks}
+use Rattle.strm_mblk.specs.Arena.{Arena}
 use Rattle.strm_mblk.specs.BlocksLayout.{arena_of}
 use Rattle.strm_mblk.proofs.making.Allocb.{IsAllocated, allocates, taken_fits}
 use Rattle.strm_mblk.proofs.making.BegunAll.{begin_room}
 use Rattle.strm_mblk.proofs.arena.Frame.{leaves_allocb}
 use Rattle.strm_mblk.proofs.arena.Calls.{gives}
-use Rattle.strm_mblk.proofs.layout.Lawful.{parted_inside}
-use Rattle.strm_mblk.proofs.blocks.Blocks.allocb.Goals.{After-self-1, After-token}
+use Rattle.strm_mblk.proofs.layout.Lawful.{parted_inside, still_whole}
+use Rattle.strm_mblk.proofs.blocks.Blocks.allocb.Goals.{After-self-1}
 use Rattle.strm_mblk.proofs.blocks.Blocks.allocb.Goals as goal
+use Rattle.std.proofs.lemmas.Grind.{common_steps}
 
 pub index_mut-requires : goal.index_mut-requires
-index_mut-requires c =
-    omega (arith, begin_room c.self.inside.id c.self.inside.data c.self.inside.blocks.items c.self.inside.chains c.self.invariant.filled c.unwrap-head.result (sym c.begin.ensures.answer ∙ c.unwrap-head.ensures))
+index_mut-requires c = grind (arith, common_steps, begin_room)
 
 abbrev new_arena : After-self-1 → Arena
 new_arena c = arena_of c.self.inside.id c.take.new.self.store (set c.self.inside.blocks.items c.unwrap-head.result c.over.result) c.begin.new.self
@@ -26,9 +26,7 @@ is_allocated c =
     c.args.size (taken_fits c.args.size c.in_ok-data_number.data_number c.self.inside.data.store (sym c.in_ok-data_number.ensures.answer)) (sym c.in_ok-data_number.ensures.answer))
 
 pub invariant_of-self-2 : goal.invariant_of-self-2
-invariant_of-self-2 c =
-    let is = is_allocated c in
-    record { filled = is.begun.filled; queued = c.self.invariant.queued ∙ ap (λ a. length (shelved_blocks a)) c.self.view_is ∙ ap length (sym is.begun.shelved) }
+invariant_of-self-2 c = still_whole c.self.inside _ c.args.self.now c.self.invariant c.self.view_is refl (is_allocated c).begun.filled (is_allocated c).begun.shelved
 
 pub token-requires : goal.token-requires
 token-requires c = ap is_some (is_allocated c).begun.held

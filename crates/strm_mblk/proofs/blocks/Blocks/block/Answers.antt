@@ -1,11 +1,9 @@
-use Rattle.std.proofs.Common.{◌≡◌, ℕ, ◌-◌, ◌+◌, ◌≤◌, ap, refl, ◌∙◌, arith, sym, subst, Ok}
+use Rattle.std.proofs.Common.{◌≡◌, ℕ, ◌-◌, ◌+◌, ◌≤◌, ap, refl, ◌∙◌, arith, sym, subst}
 use Rattle.std.proofs.lemmas.List.{get_or_read}
 use Rattle.std.specs.Prelude.{slice_get}
 use Rattle.strm_data.specs.DataStore.{DataStore, capacity_of, data_block_at}
-use Rattle.strm_data.specs.CountedStore.{count_of}
 use Rattle.strm_mblk.specs.declared.block_info.BlockInfo.{BlockInfo}
 use Rattle.strm_mblk.specs.declared.blocks.Fields.{Fields}
-use Rattle.strm_mblk.specs.Arena.{Arena, names_of}
 use Rattle.strm_mblk.specs.BlockCalls.{info_of}
 use Rattle.strm_mblk.specs.BlocksLayout.{fields_at, no_fields}
 use Rattle.strm_mblk.specs.Given.{answer_of}
@@ -13,6 +11,7 @@ use Rattle.strm_mblk.specs.NodeLists.{nodes_at}
 use Rattle.strm_mblk.proofs.layout.Places.{IsAt, block_none, block_some}
 use Rattle.strm_mblk.proofs.blocks.Blocks.block.Goals.{After-index-fields}
 use Rattle.strm_mblk.proofs.blocks.Blocks.block.Goals as goal
+use Rattle.std.proofs.lemmas.Grind.{common_steps}
 
 pub returns-in_default : goal.returns-in_default
 returns-in_default c =
@@ -41,7 +40,7 @@ overflow_sub-result c = omega (arith, within (goal.at.overflow_sub-result c).Aft
 pub overflow_add-result : goal.overflow_add-result
 overflow_add-result c = omega (arith, within (goal.at.overflow_add-result c).After-index-fields, c.cap.ensures.answer, c.cap.type_inv)
 
--- what a block tells, by what its fields say
+-- what `block` returns, by the fields of the block
 abbrev info : DataStore → ℕ → Fields → BlockInfo
 info s names f = record {
   kind = (data_block_at s f.data_number).kind;
@@ -52,18 +51,4 @@ info s names f = record {
 }
 
 pub returns : goal.returns
-returns c =
-    let before = (goal.at.returns c).After-index-fields in
-    let is = is_at before in
-    let f = c.index-fields.result.now in
-    let told : BlockInfo = record { kind = c.kind.result; len = f.len; band = f.band; room = c.cap.result - (f.offset + f.len); names = c.count.result } in
-    let same : told ≡ info c.self.inside.data.store (count_of c.self.inside.data f.data_number) f =
-    λ i. record { kind = c.kind.ensures i; len = f.len; band = f.band; room = c.cap.ensures.answer i - (f.offset + f.len); names = c.count.ensures i } in
-    let n = fields_at c.self.inside.blocks.items c.in-Some.node in
-    ap (λ (b : BlockInfo). Ok b) (
-    same
-    ∙ ap (λ (g : Fields). info c.self.inside.data.store (count_of c.self.inside.data g.data_number) g) (read before)
-    ∙ ap (λ k. info c.self.inside.data.store k n) is.named
-    ∙ ap (λ (a : Arena). info a.store (names_of c.args.self.now n.data_number) n) c.self.view_is
-    )
-    ∙ sym (ap (λ o. answer_of (info_of c.args.self.now o)) is.block)
+returns c = grind (arith, common_steps, is_at, read)

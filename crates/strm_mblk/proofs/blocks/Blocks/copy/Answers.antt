@@ -1,24 +1,26 @@
-use Rattle.std.proofs.Common.{refl, Some, ◌≡◌, ℕ, ◌+◌, ◌≤◌, List, true, length, ap, subst, sym, ◌∙◌, arith, Err, ◌<◌}
+use Rattle.std.proofs.Common.{refl, Some, ◌≡◌, ℕ, ◌+◌, ◌≤◌, List, true, ap, subst, sym, ◌∙◌, arith, Err, ◌<◌}
 use Rattle.std.specs.Prelude.{is_some, take}
 use Rattle.std.specs.Result.{is_ok}
 use Rattle.std.specs.Vec.{with_items}
 use Rattle.std.proofs.lemmas.List.{with_items_is}
 use Rattle.strm_data.specs.DataStore.{times}
 use Rattle.strm_data.specs.declared.refusal.Refusal.TheVariants.{NoMblk}
+use Rattle.std.proofs.lemmas.Bool.{cond-true, lt-ltb}
 use Rattle.strm_mblk.specs.declared.blocks.Fields.{Fields}
-use Rattle.strm_mblk.specs.Arena.{Arena, has, shelved_blocks, message_at}
+use Rattle.strm_mblk.specs.Arena.{Arena, has, message_at}
 use Rattle.strm_mblk.specs.BlockCalls.{copies, copied}
 use Rattle.strm_mblk.specs.BlocksLayout.{arena_in, arena_of, message_of}
 use Rattle.strm_mblk.specs.Copying.{AreCopied}
 use Rattle.strm_mblk.specs.NodeLists.{nodes_at}
 use Rattle.strm_mblk.proofs.making.BegunBeside.{IsBeside, beside}
 use Rattle.strm_mblk.proofs.making.CopiedMessage.{IsCopied, copied_all}
-use Rattle.strm_mblk.proofs.arena.Heads.{few_free_copied, of_blocks, taken_many}
+use Rattle.strm_mblk.proofs.arena.Heads.{of_blocks, taken_many}
 use Rattle.strm_mblk.proofs.arena.Frame.{leaves_copied}
 use Rattle.strm_mblk.proofs.arena.Calls.{gives, gives_none}
-use Rattle.strm_mblk.proofs.layout.Lawful.{parted_inside}
-use Rattle.strm_mblk.proofs.blocks.Blocks.copy.Goals.{After-begin_all-head, After-copy_blocks, After-free_len, After-token}
+use Rattle.strm_mblk.proofs.layout.Lawful.{parted_inside, still_whole}
+use Rattle.strm_mblk.proofs.blocks.Blocks.copy.Goals.{After-begin_all-head, After-copy_blocks, After-free_len}
 use Rattle.strm_mblk.proofs.blocks.Blocks.copy.Goals as goal
+use Rattle.std.proofs.lemmas.Grind.{common_steps}
 
 module _ (c : After-begin_all-head) where
   had : has (arena_in c.self.inside) c.args.token.now ≡ true
@@ -72,8 +74,7 @@ module _ (c : After-copy_blocks) where
 
 pub invariant_of-self : goal.invariant_of-self
 invariant_of-self c =
-    let is = is_copied (goal.at.invariant_of-self c).After-copy_blocks in
-    record { filled = is.begun.filled; queued = c.self.invariant.queued ∙ ap (λ a. length (shelved_blocks a)) c.self.view_is ∙ ap length (sym is.begun.shelved) }
+    let is = is_copied (goal.at.invariant_of-self c).After-copy_blocks in still_whole c.self.inside _ c.args.self.now c.self.invariant c.self.view_is refl is.begun.filled is.begun.shelved
 
 pub token-requires : goal.token-requires
 token-requires c = ap is_some (is_copied (goal.at.token-requires c).After-copy_blocks).begun.held
@@ -88,11 +89,7 @@ returns c =
 -- ---- too few message blocks are free
 
 few_free : (c : After-free_len) → c.free_len.result < c.args.count → copied (take c.args.count (message_at c.args.self.now c.args.token.now.head)) c.args.self.now ≡ Err NoMblk
-few_free c few =
-    let parted = parted_inside c.self.inside c.self.invariant c.args.self.now c.self.view_is in
-    few_free_copied c.args.self.now (take c.args.count (message_at c.args.self.now c.args.token.now.head))
-    (omega (arith, few, c.free_len.ensures, ap (λ (a : Arena). length a.free) c.self.view_is, taken_many c.args.self.now parted c.args.token.now c.requires.had c.args.count c.requires.count))
+few_free c few = grind (arith, common_steps, parted_inside, cond-true, lt-ltb, taken_many)
 
 pub returns-then-free_len-count : goal.returns-then-free_len-count
-returns-then-free_len-count c =
-    gives_none c.args.self.now _ (Some c.args.token.now) _ NoMblk (few_free (goal.at.returns-then-free_len-count c).After-free_len c.if-free_len-count.true) refl c.requires.had
+returns-then-free_len-count c = grind (arith, common_steps, gives_none, few_free)

@@ -1,11 +1,10 @@
-use Rattle.std.proofs.Common.{◌+◌, ◌<◌, ◌≤◌, ◌^◌, ℕ, length, ap, arith, sym, subst, ◌∙◌}
-use Rattle.std.specs.Prelude.{drop}
+use Rattle.std.proofs.Common.{◌+◌, ◌<◌, ◌≤◌, ◌^◌, ℕ, length, ap, arith, sym, subst}
 use Rattle.std.specs.Vec.{with_items}
 use Rattle.std.proofs.lemmas.List.{length-drop, length-map, with_items_is}
 use Rattle.strm_data.specs.CountedStore.{count_of}
 use Rattle.strm_data.specs.DataStore.{times}
-use Rattle.strm_mblk.specs.Arena.{message_at, shelved_blocks}
-use Rattle.strm_mblk.specs.BlocksLayout.{block_at, fields_at, message_of, named_by}
+use Rattle.strm_mblk.specs.Arena.{message_at}
+use Rattle.strm_mblk.specs.BlocksLayout.{fields_at, named_by}
 use Rattle.strm_mblk.specs.NodeLists.{nodes_at}
 use Rattle.strm_mblk.specs.Pulling.{drained}
 use Rattle.strm_mblk.proofs.freeing.Freemsg.{IsFreed, enough}
@@ -17,8 +16,10 @@ use Rattle.strm_mblk.proofs.pulling.BytesTaken.{AreTaken}
 use Rattle.strm_mblk.proofs.pulling.Drained.{drains}
 use Rattle.strm_mblk.proofs.pulling.Taken.{used_few}
 use Rattle.strm_mblk.proofs.trimming.Adjmsg.{ends_small}
+use Rattle.strm_mblk.proofs.layout.Lawful.{still_whole}
 use Rattle.strm_mblk.proofs.blocks.Blocks.drain.Goals.{After-deref_mut, After-free_behind, After-take_bytes-used}
 use Rattle.strm_mblk.proofs.blocks.Blocks.drain.Goals as goal
+use Rattle.std.proofs.lemmas.Grind.{common_steps}
 
 head : (c : After-deref_mut) → IsHeldHead c.self.inside.blocks.items c.self.inside.chains c.args.head
 head c = seen_head c.self.inside.id c.self.inside.data c.self.inside.blocks.items c.self.inside.chains c.self.invariant.filled c.args.head c.args.self.now c.self.view_is c.requires
@@ -44,28 +45,10 @@ take_bytes-used-requires-clause-named c =
 
 -- fewer blocks are used up than the message has
 pub free_behind-requires : goal.free_behind-requires
-free_behind-requires c =
-    let ns = nodes_at c.self.inside.chains c.args.head in
-    let behind = drop 1 ns in
-    omega (
-      arith,
-      c.take_bytes-used.ensures.used,
-      used_few c.args.count (message_of c.deref_mut.result.now behind),
-      length-map behind (block_at c.deref_mut.result.now),
-      length-drop 1 ns,
-      nonempty ns (begins_with c.self.inside.chains c.self.invariant.filled.parted c.args.head ns (head (goal.at.free_behind-requires c).After-deref_mut).held),
-    )
+free_behind-requires c = grind (arith, common_steps, head, used_few, length-map, length-drop, nonempty, begins_with)
 
 taken : (c : After-take_bytes-used) → AreTaken c.self.inside.blocks.items (nodes_at c.self.inside.chains c.args.head) c.args.count c.self.inside.data c.take_bytes-used.result (with_items c.self.inside.blocks c.take_bytes-used.new.blocks).items c.take_bytes-used.new.stored
-taken c =
-    let ns = nodes_at c.self.inside.chains c.args.head in
-    let i = c.self.inside in
-    let done = c.take_bytes-used.ensures in
-    let now = c.deref_mut.result.now in
-    let is : AreTaken now ns c.args.count i.data c.take_bytes-used.result c.take_bytes-used.new.blocks c.take_bytes-used.new.stored = record { used = done.used; dropped = done.dropped; cut = done.cut } in
-    subst (λ fs. AreTaken i.blocks.items ns c.args.count i.data c.take_bytes-used.result fs c.take_bytes-used.new.stored)
-    (sym (with_items_is i.blocks c.take_bytes-used.new.blocks (c.take_bytes-used.auto.blocks ∙ c.deref_mut.ensures.len)))
-    (subst (λ fs. AreTaken fs ns c.args.count i.data c.take_bytes-used.result c.take_bytes-used.new.blocks c.take_bytes-used.new.stored) c.deref_mut.ensures.value is)
+taken c = grind (arith, common_steps, head, with_items_is)
 
 is_freed : (c : After-free_behind) → IsHeldHead c.self.inside.blocks.items c.self.inside.chains c.args.head
     → AreTaken c.self.inside.blocks.items (nodes_at c.self.inside.chains c.args.head) c.args.count c.self.inside.data c.take_bytes-used.result (with_items c.self.inside.blocks c.take_bytes-used.new.blocks).items c.take_bytes-used.new.stored
@@ -77,12 +60,7 @@ is_freed c is taken =
     (with_items i.blocks c.take_bytes-used.new.blocks).items c.take_bytes-used.new.stored c.free_behind.new.self taken c.take_bytes-used.ensures.kept c.free_behind.ensures.after c.free_behind.ensures.parted)
 
 pub invariant_of-self : goal.invariant_of-self
-invariant_of-self c =
-    let at = goal.at.invariant_of-self c in
-    let is = is_freed at.After-free_behind (head at.After-deref_mut) (taken at.After-take_bytes-used) in
-    record { filled = is.filled; queued = c.self.invariant.queued ∙ ap (λ a. length (shelved_blocks a)) c.self.view_is ∙ ap length (sym is.shelved) }
+invariant_of-self c = grind (arith, common_steps, is_freed, head, taken, still_whole)
 
 pub returns : goal.returns
-returns c =
-    let at = goal.at.returns c in
-    (is_freed at.After-free_behind (head at.After-deref_mut) (taken at.After-take_bytes-used)).after
+returns c = grind (arith, common_steps, is_freed, head, taken)

@@ -1,9 +1,9 @@
-use Rattle.std.proofs.Common.{[], ◌∷◌, ◌≡◌, ◌≤◌, Some, true, length, ap, subst, sym, ◌∙◌, List}
+use Rattle.std.proofs.Common.{[], ◌∷◌, ◌≡◌, ◌≤◌, Some, true, ap, subst, sym, ◌∙◌, List, refl, arith}
 use Rattle.std.specs.Prelude.{take}
 use Rattle.strm_data.specs.CountedStore.{count_of}
 use Rattle.strm_data.specs.DataStore.{times}
 use Rattle.strm_mblk.specs.declared.blocks.Fields.{Fields}
-use Rattle.strm_mblk.specs.Arena.{held_at, shelved_blocks}
+use Rattle.strm_mblk.specs.Arena.{held_at}
 use Rattle.strm_mblk.specs.BlocksLayout.{arena_of, named_by, with_names_dropped}
 use Rattle.strm_mblk.specs.Freeing.{freemsg, spent}
 use Rattle.strm_mblk.specs.Messages.{held_in}
@@ -12,20 +12,18 @@ use Rattle.strm_mblk.proofs.arena.Tokens.{spent_had}
 use Rattle.strm_mblk.proofs.layout.Places.{token_held, token_named}
 use Rattle.strm_mblk.proofs.freeing.Freemsg.{IsFreed, enough, frees}
 use Rattle.strm_mblk.proofs.arena.Frame.{Leaves, leaves_spent, spent_gone}
+use Rattle.strm_mblk.proofs.layout.Lawful.{still_whole}
 use Rattle.strm_mblk.proofs.blocks.Blocks.freemsg.Goals.{After-free, After-spend-token}
 use Rattle.strm_mblk.proofs.blocks.Blocks.freemsg.Goals as goal
+use Rattle.std.proofs.lemmas.Grind.{common_steps}
 
 module _ (c : After-spend-token) (had : c.has-has.result ≡ true) where
   held : held_in c.self.inside.chains.held c.spend-token.result.head ≡ Some (nodes_at c.self.inside.chains c.spend-token.result.head)
-  held =
-      token_held c.self.inside.id c.self.inside.data c.self.inside.blocks.items c.self.inside.chains c.args.self.now c.self.view_is c.args.token c.spend-token.result c.spend-token.ensures
-      (sym c.has-has.ensures ∙ had)
+  held = grind (arith, common_steps, token_held)
 
   all : take c.spend-token.result.blocks (named_by c.self.inside.blocks.items (nodes_at c.self.inside.chains c.spend-token.result.head))
       ≡ named_by c.self.inside.blocks.items (nodes_at c.self.inside.chains c.spend-token.result.head)
-  all =
-      token_named c.self.inside.id c.self.inside.data c.self.inside.blocks.items c.self.inside.chains c.args.self.now c.self.view_is c.args.token c.spend-token.result c.spend-token.ensures
-      (sym c.has-has.ensures ∙ had)
+  all = grind (arith, common_steps, token_named)
 
 pub drop_names-requires-clause-named : goal.drop_names-requires-clause-named
 drop_names-requires-clause-named c d =
@@ -46,9 +44,7 @@ is_freed c =
     c.drop_names.new.stored c.free.new.self dropped c.drop_names.ensures.kept c.free.ensures.after c.free.ensures.parted)
 
 pub invariant_of-self : goal.invariant_of-self
-invariant_of-self c =
-    let is = is_freed c in
-    record { filled = is.filled; queued = c.self.invariant.queued ∙ ap (λ a. length (shelved_blocks a)) c.self.view_is ∙ ap length (sym is.shelved) }
+invariant_of-self c = still_whole c.self.inside _ c.args.self.now c.self.invariant c.self.view_is refl (is_freed c).filled (is_freed c).shelved
 
 freed_is : (c : After-free) → arena_of c.self.inside.id c.drop_names.new.stored.store c.self.inside.blocks.items c.free.new.self ≡ spent c.args.self.now c.args.token
 freed_is c = (is_freed c).after ∙ spent_had c.args.self.now c.args.token c.spend-token.result c.spend-token.ensures (sym c.has-has.ensures ∙ c.if-has.true)

@@ -1,11 +1,12 @@
-use Rattle.std.proofs.Common.{arith, ◌≡◌, ◌≢◌, ℕ, length, ap, subst, sym, ◌∙◌, [], ◌∷◌}
+use Rattle.std.proofs.Common.{arith, ◌≡◌, ◌≢◌, ℕ, ap, subst, sym, ◌∙◌, [], ◌∷◌, refl}
 use Rattle.std.proofs.lemmas.Grind.{common_steps}
 use Rattle.strm_mblk.specs.declared.token.TokenValue.{TokenValue}
-use Rattle.strm_mblk.specs.Arena.{held_at, shelved_blocks}
+use Rattle.strm_mblk.specs.Arena.{held_at}
 use Rattle.strm_mblk.specs.Messages.{joined}
 use Rattle.strm_mblk.specs.NodeLists.{NodeLists}
 use Rattle.strm_mblk.proofs.joining.Linkb.{IsJoined, joins}
 use Rattle.strm_mblk.proofs.arena.Frame.{Leaves, leaves_linkb, linkb_gone}
+use Rattle.strm_mblk.proofs.layout.Lawful.{still_whole}
 use Rattle.strm_mblk.proofs.blocks.Blocks.linkb.Goals.{After-set_blocks}
 use Rattle.strm_mblk.proofs.blocks.Blocks.linkb.Goals as goal
 
@@ -20,9 +21,7 @@ is_joined c =
     (joins c.self.inside.id c.self.inside.data c.self.inside.blocks.items c.self.inside.chains c.join.new.self c.self.invariant.filled c.args.token.now.head c.args.tail.head other after c.join.ensures.parted)
 
 pub invariant_of-self : goal.invariant_of-self
-invariant_of-self c =
-    let is = is_joined c in
-    record { filled = is.filled; queued = c.self.invariant.queued ∙ ap (λ a. length (shelved_blocks a)) c.self.view_is ∙ ap length (sym is.shelved) }
+invariant_of-self c = still_whole c.self.inside _ c.args.self.now c.self.invariant c.self.view_is refl (is_joined c).filled (is_joined c).shelved
 
 pub returns-then-head-tail : goal.returns-then-head-tail
 returns-then-head-tail c =

@@ -1,13 +1,12 @@
-use Rattle.std.proofs.Common.{◌≡◌, ◌<◌, ◌∷◌, length, set, Ok, Some, ap, subst, sym, ◌∙◌, arith}
-use Rattle.std.specs.Prelude.{drop, is_some, slice_get}
+use Rattle.std.proofs.Common.{◌≡◌, ◌<◌, ◌∷◌, length, set, Ok, ap, subst, sym, ◌∙◌, arith, refl}
+use Rattle.std.specs.Prelude.{drop}
 use Rattle.std.proofs.lemmas.List.{get_or_read}
-use Rattle.strm_data.specs.CountedStore.{CountedStore, after_take, count_of, without_name}
-use Rattle.strm_data.specs.DataStore.{data_block_at, take_data, times, with_data_taken, with_kind}
+use Rattle.strm_data.specs.CountedStore.{CountedStore, count_of, without_name}
+use Rattle.strm_data.specs.DataStore.{data_block_at, times, with_data_taken, with_kind}
 use Rattle.strm_mblk.specs.declared.blocks.Fields.{Fields}
-use Rattle.strm_mblk.specs.Arena.{Arena, message_at, shelved_blocks}
+use Rattle.strm_mblk.specs.Arena.{Arena, message_at}
 use Rattle.strm_mblk.specs.Block.{bytes_of, kind_of}
-use Rattle.strm_mblk.specs.BlocksLayout.{arena_in, block_at, fields_at, message_of, named_by, no_fields}
-use Rattle.strm_mblk.specs.Given.{value_after, answer_map}
+use Rattle.strm_mblk.specs.BlocksLayout.{arena_in, block_at, fields_at, message_of, named_by}
 use Rattle.strm_mblk.specs.NodeLists.{nodes_at}
 use Rattle.strm_mblk.specs.Pulling.{pull_front, front_pulled, with_front_copied}
 use Rattle.strm_mblk.specs.Trimming.{pulled_into}
@@ -18,20 +17,18 @@ use Rattle.strm_mblk.proofs.layout.Places.{IsHeldHead, seen_head}
 use Rattle.strm_mblk.proofs.layout.Shown.{message_at-seen}
 use Rattle.strm_mblk.proofs.arena.Tokens.{had_message}
 use Rattle.strm_mblk.proofs.layout.Unaltered.{bytes-message, bytes-typed}
+use Rattle.strm_mblk.proofs.layout.Lawful.{still_whole}
 use Rattle.strm_mblk.proofs.blocks.Blocks.pull_front.Goals.{After-copy_front, After-drop_name, After-index-fields, After-set_kind}
 use Rattle.strm_mblk.proofs.blocks.Blocks.pull_front.Goals as goal
+use Rattle.std.proofs.lemmas.Grind.{common_steps}
 
 module _ (c : After-index-fields) where
   head : IsHeldHead c.self.inside.blocks.items c.self.inside.chains c.args.token.now.head
-  head =
-      seen_head c.self.inside.id c.self.inside.data c.self.inside.blocks.items c.self.inside.chains c.self.invariant.filled c.args.token.now.head c.args.self.now c.self.view_is
-      (ap is_some (had_message c.args.self.now c.args.token.now c.requires.had).1.held)
+  head = grind (arith, common_steps, seen_head, had_message)
 
   -- what was read is what the block says
   read : c.index-fields.result.now ≡ fields_at c.self.inside.blocks.items c.args.token.now.head
-  read =
-      get_or_read c.self.inside.blocks.items c.head-head.result c.index-fields.result.now (omega (arith, head.there, c.head-head.ensures)) c.index-fields.ensures no_fields
-      ∙ ap (fields_at c.self.inside.blocks.items) c.head-head.ensures
+  read = grind (arith, common_steps, get_or_read, head)
 
 pub kind-kind-requires : goal.kind-kind-requires
 kind-kind-requires c =
@@ -41,15 +38,10 @@ kind-kind-requires c =
 -- the data blocks once the taken one has its type
 typed : (c : After-set_kind) → c.set_kind.new.self
     ≡ record { store = with_kind c.in_ok-data_number.data_number c.kind-kind.result (with_data_taken c.in_ok-data_number.data_number c.self.inside.data.store); counts = set c.self.inside.data.counts c.in_ok-data_number.data_number 1 }
-typed c =
-    let d = c.in_ok-data_number.data_number in
-    let taken : c.take.new.self ≡ after_take c.self.inside.data (Ok d) = c.take.ensures.after ∙ ap (after_take c.self.inside.data) (sym c.take.ensures.answer ∙ c.in_ok-data_number.was) in
-    c.set_kind.ensures.after ∙ ap (λ (s : CountedStore). record s { store = with_kind d c.kind-kind.result s.store }) taken
+typed c = grind (arith, common_steps)
 
 pub copy_front-requires-clause-begun : goal.copy_front-requires-clause-begun
-copy_front-requires-clause-begun c =
-    let before = (goal.at.copy_front-requires-clause-begun c).After-index-fields in
-    (λ i. slice_get (nodes_at c.self.inside.chains (c.head-head.ensures i)) 0) ∙ (head before).first ∙ ap Some (sym c.head-head.ensures)
+copy_front-requires-clause-begun c = grind (arith, common_steps)
 
 pub copy_front-requires-clause-unnamed : goal.copy_front-requires-clause-unnamed
 copy_front-requires-clause-unnamed c =
@@ -142,18 +134,12 @@ is_front_pulled c =
     (ap (λ (f : Fields). let x : Fields = record { data_number = d; offset = 0; len = c.args.count; band = f.band } in x) (read before))))
 
 pub invariant_of-self-2 : goal.invariant_of-self-2
-invariant_of-self-2 c =
-    let is = is_front_pulled c in
-    record { filled = is.filled; queued = c.self.invariant.queued ∙ ap (λ a. length (shelved_blocks a)) c.self.view_is ∙ ap length (sym is.shelved) }
+invariant_of-self-2 c = still_whole c.self.inside _ c.args.self.now c.self.invariant c.self.view_is refl (is_front_pulled c).filled (is_front_pulled c).shelved
 
 -- what the model gives
 value : (c : After-drop_name) → pull_front c.args.token.now.head c.args.count c.args.self.now
     ≡ Ok (tt, front_pulled c.args.token.now.head c.args.count (message_at c.args.self.now c.args.token.now.head) c.args.self.now c.in_ok-data_number.data_number)
-value c =
-    ap (answer_map (λ d. (tt, front_pulled c.args.token.now.head c.args.count (message_at c.args.self.now c.args.token.now.head) c.args.self.now d)))
-    (ap (λ (a : Arena). take_data c.args.count a.store) (sym c.self.view_is) ∙ sym c.take.ensures.answer ∙ c.in_ok-data_number.was)
+value c = grind (arith, common_steps)
 
 pub returns-clause-after : goal.returns-clause-after
-returns-clause-after c =
-    let d = (goal.at.returns-clause-after c).After-drop_name in
-    (is_front_pulled d).after ∙ sym (ap (value_after c.args.self.now) (value d))
+returns-clause-after c = grind (arith, common_steps, is_front_pulled, value)

@@ -1,4 +1,4 @@
-use Rattle.std.proofs.Common.{rules, w32, ◌≡◌, ℕ, ◌-◌, ◌<◌, ◌≤◌, true, length, List, ◌∷◌, Some, Ok, Err, ap, sym, ◌∙◌, arith, subst}
+use Rattle.std.proofs.Common.{rules, ◌≡◌, ℕ, ◌-◌, ◌<◌, ◌≤◌, true, List, ◌∷◌, Some, Ok, Err, ap, sym, ◌∙◌, arith, subst}
 use Rattle.std.specs.Prelude.{is_some, drop}
 use Rattle.std.proofs.lemmas.Int.{to_z-of_z}
 use Rattle.std.proofs.lemmas.List.{get_or_read, length-map}
@@ -24,6 +24,7 @@ use Rattle.strm_mblk.proofs.layout.Lawful.{parted_inside}
 use Rattle.strm_mblk.proofs.arena.Calls.{alters, alters_kept, alters_none, refused_is}
 use Rattle.strm_mblk.proofs.blocks.Blocks.pullupmsg.Goals.{After-from_residual, After-index, After-set_blocks}
 use Rattle.strm_mblk.proofs.blocks.Blocks.pullupmsg.Goals as goal
+use Rattle.std.proofs.lemmas.Grind.{common_steps}
 
 -- ---- the message
 
@@ -34,7 +35,7 @@ module _ (c : After-index) where
   abbrev items : List Fields
   items = c.self.inside.blocks.items
 
-  -- its first block, and the blocks behind it
+  -- its first block, and the blocks after it
   abbrev b : Block
   b = block_at items h
 
@@ -42,9 +43,7 @@ module _ (c : After-index) where
   bs = message_of items (drop 1 (nodes_at c.self.inside.chains h))
 
   head : IsHeldHead items c.self.inside.chains h
-  head =
-      seen_head c.self.inside.id c.self.inside.data items c.self.inside.chains c.self.invariant.filled h c.args.self.now c.self.view_is
-      (ap is_some (had_message c.args.self.now c.args.token.now c.requires).1.held)
+  head = grind (arith, common_steps, seen_head, had_message)
 
   held : held_at c.args.self.now h ≡ Some (b ∷ bs)
   held = ap (λ a. held_at a h) (sym c.self.view_is) ∙ head_held c.self.inside.id c.self.inside.data items c.self.inside.chains c.self.invariant.filled h head
@@ -58,9 +57,7 @@ module _ (c : After-index) where
 
   -- what is asked for is there
   asked : bytes_asked c.args.count (run_of c.args.self.now.store (message_at c.args.self.now h)) ≡ Some c.in-Some.wanted
-  asked =
-      ap (λ z. bytes_asked z (run_of c.args.self.now.store (message_at c.args.self.now h))) (sym (to_z-of_z w32 c.args.count c.ranges.count))
-      ∙ sym (c.bytes_asked.ensures (run_of c.args.self.now.store (message_at c.args.self.now h)) (sym c.run_size-run.ensures)) ∙ c.in-Some.is
+  asked = grind (arith, common_steps, to_z-of_z)
 
   enough : c.in-Some.wanted ≤ size_of (run_of c.args.self.now.store (message_at c.args.self.now h))
   enough = omega (arith, c.if-wanted-run.false, c.run_size-run.ensures)
@@ -68,11 +65,7 @@ module _ (c : After-index) where
 -- ---- it is there already
 
 pub returns-then-wanted-len : goal.returns-then-wanted-len
-returns-then-wanted-len c =
-    let d = (goal.at.returns-then-wanted-len c).After-index in
-    let a = c.args.self.now in
-    let is = pull_had (h d) c.in-Some.wanted (b d) (bs d) a (held d) c.args.count (asked d) (enough d) (omega (arith, c.if-wanted-len.true, len_is d)) in
-    alters_kept a a c.args.token.now _ is c.requires (leaves_pullupmsg a (parted_inside c.self.inside c.self.invariant a c.self.view_is) (h d) c.args.count)
+returns-then-wanted-len c = grind (arith, common_steps, pull_had, held, asked, enough, len_is, alters_kept, leaves_pullupmsg, parted_inside)
 
 -- ---- no data block is there
 
@@ -80,9 +73,7 @@ more : (c : After-index) → c.index.result.now.len < c.in-Some.wanted → (b c)
 more c many = omega (arith, many, len_is c)
 
 pub pull_front-requires-clause-enough : goal.pull_front-requires-clause-enough
-pull_front-requires-clause-enough c =
-    let d = (goal.at.pull_front-requires-clause-enough c).After-index in
-    omega (arith, enough d, run_most c.args.self.now.store (message_at c.args.self.now c.args.token.now.head))
+pull_front-requires-clause-enough c = grind (arith, common_steps, run_most)
 
 refused : (c : After-from_residual) → c.from_residual.result ≡ Err c.in_err-pull_front.field-0.0
 refused c = search rules
@@ -137,12 +128,7 @@ module _ (c : After-set_blocks) where
 
   -- the token says how many blocks the message has
   token_now : c.set_blocks.new.self ≡ token_of c.drain.new.self c.args.token.now.head
-  token_now =
-      token_is c.args.self.now c.drain.new.self c.args.token.now c.set_blocks.new.self c.len.result (had_message c.args.self.now c.args.token.now c.requires).1.pool done.id c.set_blocks.ensures
-      (ap (λ a. length (message_at a c.args.token.now.head)) (sym c.self-2.view_is)
-      ∙ ap length (message_at-seen c.self-2.inside.id c.self-2.inside.data.store c.self-2.inside.blocks.items c.self-2.inside.chains c.args.token.now.head)
-      ∙ length-map (nodes_at c.self-2.inside.chains c.args.token.now.head) (block_at c.self-2.inside.blocks.items)
-      ∙ ap (λ k. length (nodes_at c.self-2.inside.chains k)) (sym c.head-head.ensures) ∙ sym c.len.ensures)
+  token_now = grind (arith, common_steps, token_is, had_message, done, message_at-seen, length-map)
 
 pub returns : goal.returns
 returns c =

@@ -67,7 +67,7 @@ loop-block-preserved c =
           (subst (λ xs. IsLaid all rest c.args.into.now xs (done + count)) (sym (put_rest done now new)) on);
     }
 
--- behind the last block all is read
+-- after the last block all is read
 read_after : (c : After-loop-block) → IsRead c.args.self.now.store (message_at c.args.self.now c.args.token.now.head) c.args.at c.args.into.now c.loop-block.into c.loop-block.done
 read_after c =
     let past =

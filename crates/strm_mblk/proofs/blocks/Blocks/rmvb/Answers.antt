@@ -1,22 +1,20 @@
-use Rattle.std.proofs.Common.{inl, inr, Result, [], ◌∷◌, ◌≡◌, ◌≢◌, ℕ, ◌+◌, ◌++◌, arith, Some, None, Ok, Err, Option, length, ap, subst, sym, ◌∙◌}
+use Rattle.std.proofs.Common.{inr, Result, [], ◌∷◌, ◌≡◌, ◌≢◌, arith, Some, Ok, Err, Option, ap, subst, sym, ◌∙◌, refl}
 use Rattle.std.proofs.lemmas.Grind.{common_steps}
-use Rattle.std.specs.Prelude.{IfSome, drop, is_some, option_map, slice_get, take}
+use Rattle.std.specs.Prelude.{IfSome, is_some, option_map}
 use Rattle.std.proofs.lemmas.Option.{slice_get_past}
 use Rattle.strm_data.specs.declared.refusal.Refusal.TheVariants.{NoSuchBlock}
 use Rattle.strm_mblk.specs.declared.rejected.Rejected.{Rejected}
 use Rattle.strm_mblk.specs.declared.token.TokenValue.{TokenValue}
-use Rattle.strm_mblk.specs.Arena.{Arena, has, held_at, message_at, shelved_blocks, token_of}
-use Rattle.strm_mblk.specs.Block.{Message}
-use Rattle.strm_mblk.specs.BlockCalls.{rmvb, rmvb_of, unlinkb}
+use Rattle.strm_mblk.specs.Arena.{Arena, has, held_at, message_at, token_of}
+use Rattle.strm_mblk.specs.BlockCalls.{rmvb, unlinkb}
 use Rattle.strm_mblk.specs.BlocksLayout.{arena_of}
-use Rattle.strm_mblk.specs.Given.{Given, value_after, answer_map, answer_of, or_rejected}
-use Rattle.strm_mblk.specs.Messages.{blocks_of}
-use Rattle.strm_mblk.specs.NodeLists.{nodes_at}
+use Rattle.strm_mblk.specs.Given.{value_after, answer_map, answer_of, or_rejected}
 use Rattle.strm_mblk.proofs.arena.Heads.{rmvb_first}
 use Rattle.strm_mblk.proofs.layout.Places.{token_nodes}
 use Rattle.strm_mblk.proofs.joining.TakenOut.{IsTakenOut, is_taken_out, refused_answer}
 use Rattle.strm_mblk.proofs.arena.Tokens.{had_message, token_had}
 use Rattle.strm_mblk.proofs.arena.Frame.{Leaves, leaves_rmvb, leaves_same}
+use Rattle.strm_mblk.proofs.layout.Lawful.{still_whole}
 use Rattle.strm_mblk.proofs.blocks.Blocks.rmvb.Goals.{After-take_out-node, After-token-2, After-unlinkb-rest, Then-place-blocks}
 use Rattle.strm_mblk.specs.Frame.{heads_parted}
 use Rattle.strm_mblk.proofs.blocks.Blocks.rmvb.Goals as goal
@@ -31,70 +29,23 @@ value_first c =
     ∙ ap (λ a. Ok ((c.args.token.head, (unlinkb c.args.token.head c.args.self.now).0), a)) (sym c.unlinkb-rest.ensures.after)
 
 apart_first : (c : After-unlinkb-rest) → IfSome c.unlinkb-rest.result (λ rest. rest.head ≢ c.unlinkb-rest.new.token.head)
-apart_first c =
-    let message = had_message c.args.self.now c.args.token c.requires in
-    at message.0 message.1.held c.unlinkb-rest.result c.unlinkb-rest.ensures.unheld
-  where
-    at : (m : Message) → held_at c.args.self.now c.args.token.head ≡ Some m → (o : Option TokenValue) → IfSome o (λ rest. held_at c.args.self.now rest.head ≡ None)
-        → IfSome o (λ rest. rest.head ≢ c.unlinkb-rest.new.token.head)
-    at m held None unheld = tt
-    at m held (Some rest) unheld = λ same.
-        let none : Some m ≡ None =
-        sym held ∙ ap (held_at c.args.self.now) (sym (same ∙ ap (λ (t : TokenValue). t.head) c.unlinkb-rest.ensures.token)) ∙ unheld in
-        absurd cc
+apart_first c = grind (arith, common_steps, had_message)
 
 pub returns-then-place-eq0 : goal.returns-then-place-eq0
-returns-then-place-eq0 c =
-    let is = c.unlinkb-rest.ensures in
-    record {
-      after = ap (value_after c.args.self.now) (sym (value_first c));
-      answer = grind (arith, common_steps);
-      kept = inl (ap (λ (t : TokenValue). t.head) is.token);
-      had = is.had;
-      rest_had = is.rest_had;
-      unheld = grind (arith, common_steps);
-      rest_unheld = grind (arith, common_steps);
-      apart = apart_first c;
-      others = grind (arith, common_steps);
-      shelves = grind (arith, common_steps);
-    }
+returns-then-place-eq0 c = grind (arith, common_steps, value_first, apart_first)
 
 -- ---- no such block
 
 value_none : (c : Then-place-blocks) → rmvb c.args.token.head c.args.place c.args.self.now ≡ Err NoSuchBlock
-value_none c =
-    let message = had_message c.args.self.now c.args.token c.requires in
-    ap (λ o. rmvb_of c.args.token.head c.args.self.now (take c.args.place (blocks_of o) ++ drop (c.args.place + 1) (blocks_of o)) (slice_get (blocks_of o) c.args.place)) message.1.held
-    ∙ ap (rmvb_of c.args.token.head c.args.self.now (take c.args.place message.0 ++ drop (c.args.place + 1) message.0))
-    (slice_get_past message.0 c.args.place (omega (arith, message.1.blocks, c.blocks-2.ensures, c.if-place-blocks.true)))
+value_none c = grind (arith, common_steps, had_message, slice_get_past)
 
 pub returns-then-place-blocks : goal.returns-then-place-blocks
-returns-then-place-blocks c =
-    let left = leaves_same c.args.self.now (c.args.token.head ∷ []) in
-    record {
-      after = ap (value_after c.args.self.now) (sym (value_none c));
-      answer = refused_answer c.args.token _ (rmvb c.args.token.head c.args.place c.args.self.now) NoSuchBlock (value_none c);
-      kept = tt;
-      had = tt;
-      rest_had = tt;
-      unheld = tt;
-      rest_unheld = tt;
-      apart = tt;
-      others = left.others;
-      shelves = left.shelves;
-    }
+returns-then-place-blocks c = grind (arith, common_steps, leaves_same, value_none, refused_answer)
 
 -- ---- another block
 
 pub take_out-node-requires-clause-there : goal.take_out-node-requires-clause-there
-take_out-node-requires-clause-there c =
-    omega (
-      arith,
-      c.if-place-blocks.false,
-      c.blocks-2.ensures,
-      (token_nodes c.self.inside.id c.self.inside.data c.self.inside.blocks.items c.self.inside.chains c.args.token (ap (λ a. has a c.args.token) c.self.view_is ∙ c.requires)).1,
-      ap (λ (t : TokenValue). length (nodes_at c.self.inside.chains t.head)) c.spend-head.ensures,
-    )
+take_out-node-requires-clause-there c = grind (arith, common_steps, token_nodes)
 
 is_taken : (c : After-take_out-node) → IsTakenOut c.args.self.now c.self.inside.data c.self.inside.blocks.items c.take_out-node.new.self c.self.inside.id c.args.token.head c.args.place c.take_out-node.result
 is_taken c =
@@ -109,9 +60,7 @@ rest_held : (c : After-take_out-node) → held_at (new_arena c) c.spend-head.res
 rest_held c = subst (λ h. held_at (new_arena c) h ≡ Some (message_at (new_arena c) h)) (sym (ap (λ (t : TokenValue). t.head) c.spend-head.ensures)) (is_taken c).rest
 
 pub invariant_of-self : goal.invariant_of-self
-invariant_of-self c =
-    let is = is_taken c in
-    record { filled = is.filled; queued = c.self.invariant.queued ∙ ap (λ a. length (shelved_blocks a)) c.self.view_is ∙ ap length (sym is.shelved) }
+invariant_of-self c = still_whole c.self.inside _ c.args.self.now c.self.invariant c.self.view_is refl (is_taken c).filled (is_taken c).shelved
 
 pub token-requires : goal.token-requires
 token-requires c = ap is_some (is_taken c).block
@@ -124,10 +73,7 @@ module _ (c : After-token-2) where
   d = (goal.at.returns c).After-take_out-node
 
   answer : ◌≡◌ {A = Result (TokenValue × Option TokenValue) Rejected} (Ok (c.token.result, Some c.token-2.result)) (or_rejected c.args.token (answer_map (λ heads. (token_of (new_arena d) heads.0, option_map (token_of (new_arena d)) heads.1)) (answer_of (rmvb c.args.token.head c.args.place c.args.self.now))))
-  answer =
-      let second = c.token-2.ensures ∙ ap (token_of (new_arena d)) (ap (λ (t : TokenValue). t.head) c.spend-head.ensures) in
-      (λ i. Ok (c.token.ensures i, Some (second i)))
-      ∙ ap (λ (r : Given Arena (ℕ × Option ℕ)). or_rejected c.args.token (answer_map (λ heads. (token_of (new_arena d) heads.0, option_map (token_of (new_arena d)) heads.1)) (answer_of r))) (sym (is_taken d).value)
+  answer = grind (arith, common_steps, is_taken)
 
   left : Leaves (c.args.token.head ∷ c.token.result.head ∷ c.token-2.result.head ∷ []) c.args.self.now (new_arena d)
   left =

@@ -1,13 +1,15 @@
-use Rattle.std.proofs.Common.{Ok, ◌≡◌, length, ap, subst, sym, ◌∙◌, set, arith, true}
+use Rattle.std.proofs.Common.{◌≡◌, ap, subst, sym, ◌∙◌, set, arith, true, refl}
 use Rattle.std.proofs.lemmas.List.{get_or_read}
-use Rattle.strm_mblk.specs.Arena.{has, shelved_blocks}
+use Rattle.strm_mblk.specs.Arena.{has}
 use Rattle.strm_mblk.specs.declared.blocks.Fields.{Fields}
 use Rattle.strm_mblk.specs.BlocksLayout.{arena_in, fields_at, no_fields}
 use Rattle.strm_mblk.proofs.altering.Setband.{IsBanded, bands, head_there}
 use Rattle.strm_mblk.proofs.arena.Frame.{leaves_setband}
 use Rattle.strm_mblk.proofs.arena.Calls.{alters_kept}
+use Rattle.strm_mblk.proofs.layout.Lawful.{still_whole}
 use Rattle.strm_mblk.proofs.blocks.Blocks.setband.Goals.{After-self-1}
 use Rattle.strm_mblk.proofs.blocks.Blocks.setband.Goals as goal
+use Rattle.std.proofs.lemmas.Grind.{common_steps}
 
 is_banded : (c : After-self-1) → IsBanded c.args.self.now c.self.inside.data (set c.self.inside.blocks.items c.head.result (record c.index_mut.result.now { band = c.args.band })) c.self.inside.chains c.self.inside.id c.args.band c.args.token.now
 is_banded c =
@@ -20,11 +22,7 @@ is_banded c =
     (bands c.self.inside.id c.self.inside.data c.self.inside.blocks.items c.self.inside.chains c.self.invariant.filled c.args.token.now had c.args.band (omega (arith, c.ranges.band)) (record c.index_mut.result.now { band = c.args.band }) x_is))
 
 pub invariant_of-self : goal.invariant_of-self
-invariant_of-self c =
-    let is = is_banded c in
-    record { filled = is.filled; queued = c.self.invariant.queued ∙ ap (λ a. length (shelved_blocks a)) c.self.view_is ∙ ap length (sym is.shelved) }
+invariant_of-self c = still_whole c.self.inside _ c.args.self.now c.self.invariant c.self.view_is refl (is_banded c).filled (is_banded c).shelved
 
 pub returns : goal.returns
-returns c =
-    let is = is_banded c in
-    alters_kept c.args.self.now _ c.args.token.now _ (ap (λ a. Ok (tt, a)) (sym is.after)) is.had (leaves_setband c.args.self.now c.args.token.now.head c.args.band)
+returns c = grind (arith, common_steps, is_banded, alters_kept, leaves_setband)

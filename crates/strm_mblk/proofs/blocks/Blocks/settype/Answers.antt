@@ -1,22 +1,22 @@
-use Rattle.std.proofs.Common.{rules, ◌≡◌, ◌<◌, ap, refl, ◌∙◌, arith, sym, subst, None, Ok, Err}
+use Rattle.std.proofs.Common.{rules, ◌≡◌, ◌<◌, ap, refl, ◌∙◌, arith, sym, None, Ok, Err}
 use Rattle.std.proofs.lemmas.List.{get_or_read}
 use Rattle.std.specs.Prelude.{slice_get}
-use Rattle.strm_data.specs.CountedStore.{CountedStore, count_of}
+use Rattle.strm_data.specs.CountedStore.{count_of}
 use Rattle.strm_data.specs.declared.refusal.Refusal.TheVariants.{NoSuchBlock, Shared}
-use Rattle.strm_data.specs.DataStore.{with_kind}
 use Rattle.strm_mblk.specs.declared.blocks.Fields.{Fields}
-use Rattle.strm_mblk.specs.Arena.{Arena, names_of, message_at}
+use Rattle.strm_mblk.specs.Arena.{names_of, message_at}
 use Rattle.strm_mblk.specs.BlockCalls.{settype}
-use Rattle.strm_mblk.specs.BlocksLayout.{arena_of, block_at, fields_at, no_fields}
+use Rattle.strm_mblk.specs.BlocksLayout.{arena_of, fields_at, no_fields}
 use Rattle.strm_mblk.specs.NodeLists.{nodes_at}
 use Rattle.strm_mblk.proofs.altering.Alteration.{settype_done, settype_none, settype_shared}
 use Rattle.strm_mblk.proofs.layout.Places.{IsAt, block_none, block_some}
-use Rattle.strm_mblk.proofs.layout.Rooms.{HasRooms, filled-over, rooms-kind}
+use Rattle.strm_mblk.proofs.layout.Rooms.{filled-over, rooms-kind}
 use Rattle.strm_mblk.proofs.arena.Frame.{leaves_settype}
 use Rattle.strm_mblk.proofs.arena.Tokens.{had_message}
 use Rattle.strm_mblk.proofs.arena.Calls.{alters_kept, alters_none}
 use Rattle.strm_mblk.proofs.blocks.Blocks.settype.Goals.{After-count, After-set_kind, In_default}
 use Rattle.strm_mblk.proofs.blocks.Blocks.settype.Goals as goal
+use Rattle.std.proofs.lemmas.Grind.{common_steps}
 
 none : (c : In_default) → slice_get (message_at c.args.self.now c.args.token.now.head) c.args.place ≡ None
 none c =
@@ -41,28 +41,16 @@ counted : (c : After-count) → c.count.result ≡ names_of c.args.self.now (fie
 counted c = c.count.ensures ∙ ap (λ (f : Fields). count_of c.self.inside.data f.data_number) (read c) ∙ (is_at c).named
 
 shared : (c : After-count) → 1 < c.count.result → settype c.args.token.now.head c.args.place c.args.kind c.args.self.now ≡ Err Shared
-shared c many =
-    settype_shared c.args.self.now c.args.token.now.head c.args.place c.args.kind (block_at c.self.inside.blocks.items c.in-Some.node) (is_at c).block (omega (arith, many, counted c))
+shared c many = grind (arith, common_steps, settype_shared, is_at, counted)
 
 pub returns-then-count-gt1 : goal.returns-then-count-gt1
 returns-then-count-gt1 c = alters_none c.args.self.now _ c.args.token.now _ Shared (shared (goal.at.returns-then-count-gt1 c).After-count c.if-count-gt1.true) refl c.requires
 
 pub invariant_of-self : goal.invariant_of-self
-invariant_of-self c = record {
-  filled =
-      filled-over c.self.inside.id c.self.inside.data c.set_kind.new.self c.self.inside.blocks.items c.self.inside.chains c.self.invariant.filled c.set_kind.ensures.kept (ap (λ (s : CountedStore). s.counts) c.set_kind.ensures.after)
-      (subst (λ s. HasRooms c.self.inside.data.store s) (sym (ap (λ (s : CountedStore). s.store) c.set_kind.ensures.after)) (rooms-kind c.self.inside.data.store c.index.result.now.data_number c.args.kind));
-  queued = c.self.invariant.queued;
-}
+invariant_of-self c = grind (arith, common_steps, filled-over, rooms-kind)
 
 done : (c : After-set_kind) → settype c.args.token.now.head c.args.place c.args.kind c.args.self.now ≡ Ok (tt, arena_of c.self.inside.id c.set_kind.new.self.store c.self.inside.blocks.items c.self.inside.chains)
-done c =
-    let before = (goal.at.returns c).After-count in
-    let b = block_at c.self.inside.blocks.items c.in-Some.node in
-    settype_done c.args.self.now c.args.token.now.head c.args.place c.args.kind b (is_at before).block (omega (arith, c.if-count-gt1.false, counted before))
-    ∙ ap (λ (a : Arena). Ok (tt, record a { store = with_kind b.data_number c.args.kind a.store })) (sym c.self.view_is)
-    ∙ ap (λ (f : Fields). Ok (tt, arena_of c.self.inside.id (with_kind f.data_number c.args.kind c.self.inside.data.store) c.self.inside.blocks.items c.self.inside.chains)) (sym (read before))
-    ∙ ap (λ (s : CountedStore). Ok (tt, arena_of c.self.inside.id s.store c.self.inside.blocks.items c.self.inside.chains)) (sym c.set_kind.ensures.after)
+done c = grind (arith, common_steps, settype_done, is_at, counted, read)
 
 pub returns : goal.returns
 returns c =

@@ -1,10 +1,8 @@
-use Rattle.std.proofs.Common.{◌≡◌, ℕ, List, Some, ap, refl, subst, sym, ◌∙◌}
-use Rattle.std.specs.Prelude.{is_some, sum_by}
+use Rattle.std.proofs.Common.{◌≡◌, ℕ, List, Some, ap, subst, sym, arith}
+use Rattle.std.specs.Prelude.{is_some}
 use Rattle.strm_links.specs.StrandLists.{strand_at}
 use Rattle.strm_mblk.specs.declared.blocks.Fields.{Fields}
-use Rattle.strm_mblk.specs.Arena.{Arena, message_at}
-use Rattle.strm_mblk.specs.Block.{len_counted}
-use Rattle.strm_mblk.specs.BlocksLayout.{IsSummable, message_of}
+use Rattle.strm_mblk.specs.BlocksLayout.{IsSummable}
 use Rattle.strm_mblk.specs.Messages.{held_in}
 use Rattle.strm_mblk.specs.NodeLists.{nodes_at}
 use Rattle.strm_mblk.proofs.chaining.Standing.{begins_with}
@@ -14,12 +12,12 @@ use Rattle.strm_mblk.proofs.lists.Numbers.{at_first}
 use Rattle.strm_mblk.proofs.reading.Summing.{nodes_small, summable}
 use Rattle.strm_mblk.proofs.blocks.Blocks.sum_of_held.Goals as goal
 use Rattle.strm_mblk.proofs.blocks.Blocks.sum_of_held.Goals.{After-head}
+use Rattle.std.proofs.lemmas.Grind.{common_steps}
 
 module _ (c : After-head) where
   -- the message is held
   held : held_in c.self.inside.chains.held c.args.token.now.head ≡ Some (nodes_at c.self.inside.chains c.args.token.now.head)
-  held =
-      token_held c.self.inside.id c.self.inside.data c.self.inside.blocks.items c.self.inside.chains c.args.self.now c.self.view_is c.args.token.now c.args.token.now refl c.requires
+  held = grind (arith, common_steps, token_held)
 
   strand_is : strand_at c.strands.result.now c.args.token.now.head ≡ nodes_at c.self.inside.chains c.args.token.now.head
   strand_is = c.strands.ensures.held c.args.token.now.head (ap is_some held)
@@ -34,11 +32,4 @@ sum_of_lengths-requires c =
     (nodes_small i.id i.data i.blocks.items i.chains c.self.invariant.filled c.args.self.now c.self.view_is c.args.token.now c.requires))
 
 pub returns : goal.returns
-returns c =
-    let i = c.self.inside in
-    let before = (goal.at.returns c).After-head in
-    let h = c.args.token.now.head in
-    c.sum_of_lengths.ensures
-    ∙ (λ j. sum_by (len_counted c.args.data_alone i.data.store) (message_of (c.deref.ensures.value j) ((ap (strand_at c.strands.result.now) c.head.ensures ∙ strand_is before) j)))
-    ∙ ap (sum_by (len_counted c.args.data_alone i.data.store)) (sym (message_at-seen i.id i.data.store i.blocks.items i.chains h))
-    ∙ ap (λ (a : Arena). sum_by (len_counted c.args.data_alone a.store) (message_at a h)) c.self.view_is
+returns c = grind (arith, common_steps, message_at-seen)

@@ -1,16 +1,17 @@
-use Rattle.std.proofs.Common.{arith, [], ◌∷◌, ◌≡◌, ℕ, length, ap, subst, sym, refl, ◌∙◌, Some}
+use Rattle.std.proofs.Common.{arith, [], ◌∷◌, ◌≡◌, ℕ, ap, subst, sym, refl, ◌∙◌, Some}
 use Rattle.std.proofs.lemmas.Grind.{common_steps}
 use Rattle.std.specs.Prelude.{is_some, option_map, slice_get}
 use Rattle.strm_mblk.specs.declared.token.TokenValue.{TokenValue}
-use Rattle.strm_mblk.specs.Arena.{Arena, has, held_at, shelved_blocks, token_of}
+use Rattle.strm_mblk.specs.Arena.{Arena, token_of}
 use Rattle.strm_mblk.specs.BlockCalls.{unlinkb}
 use Rattle.strm_mblk.specs.BlocksLayout.{arena_of}
-use Rattle.strm_mblk.specs.Messages.{blocks_of, divided}
+use Rattle.strm_mblk.specs.Messages.{divided}
 use Rattle.strm_mblk.specs.NodeLists.{NodeLists, nodes_at}
 use Rattle.strm_mblk.proofs.layout.Places.{token_held}
 use Rattle.strm_mblk.proofs.arena.Tokens.{had_message, token_had}
 use Rattle.strm_mblk.proofs.joining.Unlinkb.{IsDivided, divides, token_is}
 use Rattle.strm_mblk.proofs.arena.Frame.{Leaves, leaves_unlinkb}
+use Rattle.strm_mblk.proofs.layout.Lawful.{still_whole}
 use Rattle.strm_mblk.proofs.blocks.Blocks.unlinkb.Goals.{After-set_blocks, After-token}
 use Rattle.strm_mblk.specs.Frame.{head_given}
 use Rattle.strm_mblk.proofs.blocks.Blocks.unlinkb.Goals as goal
@@ -29,14 +30,10 @@ abbrev new_arena : After-set_blocks → Arena
 new_arena c = arena_of c.self.inside.id c.self.inside.data.store c.self.inside.blocks.items c.divide.new.self
 
 first_token : (c : After-set_blocks) → c.set_blocks.new.self ≡ token_of (new_arena c) c.args.token.now.head
-first_token c =
-    token_is c.args.self.now (new_arena c) c.args.token.now c.set_blocks.new.self 1 (had_message c.args.self.now c.args.token.now c.requires).1.pool (ap (λ (a : Arena). a.id) c.self.view_is) c.set_blocks.ensures
-    (ap (λ o. length (blocks_of o)) (is_divided c).head)
+first_token c = grind (arith, common_steps, token_is, had_message, is_divided)
 
 pub invariant_of-self-2 : goal.invariant_of-self-2
-invariant_of-self-2 c =
-    let is = is_divided c in
-    record { filled = is.filled; queued = c.self.invariant.queued ∙ ap (λ a. length (shelved_blocks a)) c.self.view_is ∙ ap length (sym is.shelved) }
+invariant_of-self-2 c = still_whole c.self.inside _ c.args.self.now c.self.invariant c.self.view_is refl (is_divided c).filled (is_divided c).shelved
 
 pub token-requires : goal.token-requires
 token-requires c = ap is_some (is_divided c).rest
@@ -49,6 +46,9 @@ left c =
     (subst (Leaves (h ∷ c.in_ok-rest.rest ∷ []) c.args.self.now) (sym (is_divided d).after)
     (subst (λ o. Leaves (h ∷ head_given (option_map (token_of (new_arena d)) o)) c.args.self.now (unlinkb h c.args.self.now).1) (is_divided d).given (leaves_unlinkb c.args.self.now (new_arena d) h)))
 
+pub returns : goal.returns
+returns c = grind (arith, common_steps, is_divided, first_token, token_had, left)
+
 pub returns-in_err-rest : goal.returns-in_err-rest
 returns-in_err-rest c = record {
   after = grind (arith, common_steps);
@@ -60,18 +60,3 @@ returns-in_err-rest c = record {
   others = record { id = grind (arith, common_steps); size = grind (arith, common_steps); held = λ h other. grind (arith, common_steps) };
   shelves = record { shelves = grind (arith, common_steps); shelved_data = λ k e within. grind (arith, common_steps); held_data = λ h other k e within. grind (arith, common_steps) };
 }
-
-pub returns : goal.returns
-returns c =
-    let d = (goal.at.returns c).After-set_blocks in
-    let is = is_divided d in
-    record {
-      after = is.after;
-      rest = grind (arith, common_steps);
-      token = first_token d;
-      had = ap (has (new_arena d)) (first_token d) ∙ token_had (new_arena d) c.args.token.now.head _ is.head;
-      rest_had = ap (has (new_arena d)) c.token.ensures ∙ token_had (new_arena d) c.in_ok-rest.rest _ is.rest;
-      unheld = ap (λ (t : TokenValue). held_at c.args.self.now t.head) c.token.ensures ∙ is.absent;
-      others = (left c).others;
-      shelves = (left c).shelves;
-    }

@@ -14,7 +14,7 @@ use Rattle.strm_mblk.proofs.arena.Frame.{others_one}
 use Rattle.strm_mblk.proofs.blocks.Blocks.unshelve.Goals.{After-from, After-unshelve}
 use Rattle.strm_mblk.proofs.blocks.Blocks.unshelve.Goals as goal
 
--- the message stands on the shelf
+-- the message is on the shelf
 there : (c : After-from) → has c.args.head (heads_at (arena_in c.self.inside) c.from.result) ≡ true
 there c = (λ i. has c.args.head (heads_at (c.self.view_is i) (c.from.ensures i))) ∙ c.requires.there
 

@@ -5,9 +5,9 @@ use Rattle.strm_data.specs.CountedStore.{count_of}
 use Rattle.strm_data.specs.DataStore.{capacity_of, with_bytes_written}
 use Rattle.strm_data.specs.declared.refusal.Refusal.TheVariants.{NoRoom, NoSuchBlock, Shared}
 use Rattle.strm_mblk.specs.declared.blocks.Fields.{Fields}
-use Rattle.strm_mblk.specs.Arena.{Arena, has, names_of, message_at, shelved_blocks}
+use Rattle.strm_mblk.specs.Arena.{has, names_of, message_at}
 use Rattle.strm_mblk.specs.BlockCalls.{write}
-use Rattle.strm_mblk.specs.BlocksLayout.{arena_in, block_at, fields_at, no_fields}
+use Rattle.strm_mblk.specs.BlocksLayout.{arena_in, fields_at, no_fields}
 use Rattle.strm_mblk.specs.NodeLists.{nodes_at}
 use Rattle.strm_mblk.proofs.altering.Alteration.{write_full, write_none, write_shared}
 use Rattle.strm_mblk.proofs.layout.Places.{IsAt, block_none, block_some}
@@ -15,8 +15,10 @@ use Rattle.strm_mblk.proofs.altering.Writing.{IsWritten, writes}
 use Rattle.strm_mblk.proofs.arena.Frame.{leaves_write}
 use Rattle.strm_mblk.proofs.arena.Tokens.{had_message}
 use Rattle.strm_mblk.proofs.arena.Calls.{alters_kept, alters_none}
+use Rattle.strm_mblk.proofs.layout.Lawful.{still_whole}
 use Rattle.strm_mblk.proofs.blocks.Blocks.write.Goals.{After-count, After-self-1, In_default}
 use Rattle.strm_mblk.proofs.blocks.Blocks.write.Goals as goal
+use Rattle.std.proofs.lemmas.Grind.{common_steps}
 
 none : (c : In_default) → slice_get (message_at c.args.self.now c.args.token.now.head) c.args.place ≡ None
 none c =
@@ -51,20 +53,15 @@ module _ (c : After-count) where
   counted = c.count.ensures ∙ ap (λ (f : Fields). count_of c.self.inside.data f.data_number) read ∙ is_at.named
 
   shared : 1 < c.count.result → write c.args.token.now.head c.args.place c.args.bytes.now c.args.self.now ≡ Err Shared
-  shared many =
-      write_shared c.args.self.now c.args.token.now.head c.args.place c.args.bytes.now (block_at c.self.inside.blocks.items c.in-Some.node) is_at.block (omega (arith, many, counted))
+  shared many = grind (arith, common_steps, write_shared, is_at, counted)
 
   -- the capacity, in the value
   room_is : capacity_of c.args.self.now.store (fields_at c.self.inside.blocks.items c.in-Some.node).data_number ≡ capacity_of c.self.inside.data.store c.index-fields.result.now.data_number
-  room_is =
-      ap (λ (a : Arena). capacity_of a.store (fields_at c.self.inside.blocks.items c.in-Some.node).data_number) (sym c.self.view_is)
-      ∙ ap (λ (f : Fields). capacity_of c.self.inside.data.store f.data_number) (sym read)
+  room_is = grind (arith, common_steps, read)
 
   full : c.count.result ≤ 1 → capacity_of c.self.inside.data.store c.index-fields.result.now.data_number < c.index-fields.result.now.offset + c.index-fields.result.now.len + length c.args.bytes.now
       → write c.args.token.now.head c.args.place c.args.bytes.now c.args.self.now ≡ Err NoRoom
-  full one past =
-      write_full c.args.self.now c.args.token.now.head c.args.place c.args.bytes.now (block_at c.self.inside.blocks.items c.in-Some.node) is_at.block (omega (arith, one, counted))
-      (omega (arith, past, room_is, ap (λ (f : Fields). f.offset + f.len) read))
+  full one past = grind (arith, common_steps, write_full, is_at, counted, room_is, read)
 
 pub returns-then-count-gt1 : goal.returns-then-count-gt1
 returns-then-count-gt1 c = alters_none c.args.self.now _ c.args.token.now _ Shared (shared (goal.at.returns-then-count-gt1 c).After-count c.if-count-gt1.true) refl c.requires
@@ -99,9 +96,7 @@ is_written c =
     (omega (arith, c.if-bytes-capacity.false, c.cap-capacity.ensures.answer, within before, ap (λ (f : Fields). f.offset + f.len) (read before), ap (λ (f : Fields). capacity_of c.self.inside.data.store f.data_number) (read before))))
 
 pub invariant_of-self : goal.invariant_of-self
-invariant_of-self c =
-    let is = is_written c in
-    record { filled = is.filled; queued = c.self.invariant.queued ∙ ap (λ a. length (shelved_blocks a)) c.self.view_is ∙ ap length (sym is.shelved) }
+invariant_of-self c = still_whole c.self.inside _ c.args.self.now c.self.invariant c.self.view_is refl (is_written c).filled (is_written c).shelved
 
 pub returns : goal.returns
 returns c =

@@ -1,24 +1,22 @@
-use Rattle.std.proofs.Common.{◌≡◌, ℕ, zero, suc, ◌+◌, ◌-◌, ◌<◌, ap, refl, sym, ◌∙◌, subst, arith, List, Err, None, Some, length, length-set, [], ◌∷◌, map, set, get_or}
+use Rattle.std.proofs.Common.{◌≡◌, ℕ, zero, suc, ◌+◌, ◌-◌, ◌<◌, ap, refl, sym, ◌∙◌, subst, arith, List, Err, Some, length, length-set, [], ◌∷◌, map, set, get_or}
 use Rattle.std.specs.Prelude.{drop, option_map, slice_get, take}
 use Rattle.std.proofs.lemmas.List.{length-map, length-take}
-use Rattle.std.proofs.lemmas.Option.{none-some, same_Some, slice_get-get_or, slice_get_within}
+use Rattle.std.proofs.lemmas.Option.{none-some, same_Some, slice_get-get_or, slice_get_within, slice_get-map}
 use Rattle.strm_data.specs.CountedStore.{CountedStore}
 use Rattle.strm_data.specs.DataStore.{DataStore, capacity_of}
 use Rattle.strm_data.specs.declared.refusal.Refusal.TheVariants.{NoData}
-use Rattle.std.specs.Result.{is_ok}
 use Rattle.strm_mblk.specs.BlockCalls.{copies}
 use Rattle.strm_mblk.specs.Block.{Block}
 use Rattle.strm_mblk.specs.declared.blocks.Fields.{Fields}
 use Rattle.strm_mblk.specs.BlocksLayout.{IsPlaced, block_at, fields_at, message_of}
 use Rattle.strm_mblk.specs.Copying.{IsLeft}
-use Rattle.strm_mblk.specs.Messages.{blocks_of, held_in}
 use Rattle.strm_mblk.specs.NodeLists.{IsNodesParted, NodeLists, nodes_at}
 use Rattle.strm_mblk.proofs.chaining.Standing.{block_room}
-use Rattle.strm_mblk.proofs.layout.Shown.{slice_get-mapped}
 use Rattle.strm_mblk.proofs.lists.Numbers.{slice_get-take}
 use Rattle.strm_mblk.proofs.making.CopiesCounted.{IsAhead, IsInside, enough_left, next_ahead, next_block, none_ahead}
 use Rattle.strm_mblk.proofs.blocks.copying.copies_fit.Goals.{After-class_left}
 use Rattle.strm_mblk.proofs.blocks.copying.copies_fit.Goals as goal
+use Rattle.std.proofs.lemmas.Grind.{common_steps}
 
 -- ---- the largest class has as many data blocks free
 
@@ -29,11 +27,7 @@ lengths (f ∷ fs) (suc c) = lengths fs c
 
 -- a block of a held message is one of those that there are
 node_room : (v : NodeLists) → IsNodesParted v → (h k n : ℕ) → slice_get (nodes_at v h) k ≡ Some n → n < length v.held
-node_room v parted h k n at =
-    elim (held_in v.held h) as (λ o. held_in v.held h ≡ o → n < length v.held) [
-      | None ↦ λ none. absurd (none-some n (sym (ap (λ o. slice_get (blocks_of o) k) none) ∙ at))
-      | Some ns ↦ λ some. block_room v parted h k n ns some (sym (ap (λ o. slice_get (blocks_of o) k) some) ∙ at)
-    ] refl
+node_room v parted h k n at = grind (arith, common_steps, none-some, block_room)
 
 -- the places of the blocks lie in their data blocks
 module _ (fields : List Fields) (v : NodeLists) (s : DataStore) (h count : ℕ) (parted : IsNodesParted v) (listed : length fields ≡ length v.held) (placed : (n : ℕ) → n < length fields → IsPlaced s (fields_at fields n)) where
@@ -44,7 +38,7 @@ module _ (fields : List Fields) (v : NodeLists) (s : DataStore) (h count : ℕ) 
       let n = get_or ns k 0 in
       let at_n : slice_get ns k ≡ Some n = slice_get-get_or ns k 0 (omega (arith, within, length-take count (message_of fields ns), length-map ns (block_at fields))) in
       let is : block_at fields n ≡ b =
-      same_Some _ _ (ap (option_map (block_at fields)) (sym at_n) ∙ sym (slice_get-mapped (block_at fields) ns k)
+      same_Some _ _ (ap (option_map (block_at fields)) (sym at_n) ∙ sym (slice_get-map (block_at fields) ns k)
       ∙ sym (slice_get-take count k (message_of fields ns) (omega (arith, within, length-take count (message_of fields ns)))) ∙ at) in
       let there = placed n (omega (arith, listed, node_room v parted h k n at_n)) in
       subst (IsInside s) is (there.there, there.within)
@@ -68,7 +62,7 @@ module _ (c : After-class_left) where
   at : slice_get (nodes_at c.args.chains.now c.args.head) c.loop-block._block ≡ Some c.loop-block.node
   at = c.loop-block.invariant.at.here (omega (arith, c.loop-block-test.true, c.requires.count))
 
-  -- the block of this step, and those behind it
+  -- the block of this step, and those after it
   next : drop c.loop-block._block bs ≡ b ∷ drop (c.loop-block._block + 1) bs
   next = next_block c.args.blocks.now (nodes_at c.args.chains.now c.args.head) c.args.count c.loop-block._block c.loop-block.node c.loop-block-test.true at
 
@@ -89,8 +83,7 @@ module _ (c : After-class_left) where
       (λ k is. none k (subst (λ n. IsLeft n c.args.stored.now.store.classes c.loop-block.left k) (sym size_is) is))
 
 pub returns-in_default-clause-fit : goal.returns-in_default-clause-fit
-returns-in_default-clause-fit c =
-    sym (ap is_ok (refused (goal.at.returns-in_default-clause-fit c).After-class_left (λ k. c.in_default.ensures.first k tt)))
+returns-in_default-clause-fit c = grind (arith, common_steps, refused)
 
 pub returns-in_default-clause-refused : goal.returns-in_default-clause-refused
 returns-in_default-clause-refused c _ =

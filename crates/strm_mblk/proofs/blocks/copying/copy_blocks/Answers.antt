@@ -15,14 +15,10 @@ use Rattle.strm_mblk.proofs.lists.Numbers.{times_at}
 use Rattle.strm_mblk.proofs.layout.Rooms.{placed-over}
 use Rattle.strm_mblk.proofs.blocks.copying.copy_blocks.Goals.{In-loop-block}
 use Rattle.strm_mblk.proofs.blocks.copying.copy_blocks.Goals as goal
+use Rattle.std.proofs.lemmas.Grind.{common_steps}
 
 pub loop-block-init : goal.loop-block-init
-loop-block-init c = record {
-  read = record { here = λ _. c.requires.from; in_range = λ _. nodes_room c.args.chains.now c.args.from c.args.from c.requires.from };
-  written = record { here = λ _. c.requires.into; in_range = λ _. nodes_room c.args.chains.now c.args.into c.args.into c.requires.into };
-  copying = none_copied _ _ c.args.blocks.now c.args.stored.now;
-  kept = c.requires.kept;
-}
+loop-block-init c = grind (arith, common_steps, nodes_room, none_copied)
 
 module _ (c : In-loop-block) where
   -- the blocks that are copied
@@ -38,7 +34,7 @@ module _ (c : In-loop-block) where
   written_at : slice_get (nodes_at c.args.chains.now c.args.into) c.loop-block._block ≡ Some c.loop-block.written
   written_at = c.loop-block.invariant.written.here (omega (arith, c.loop-block-test.true, c.requires.count))
 
-  -- the block of this step, and those behind it
+  -- the block of this step, and those after it
   next : drop c.loop-block._block bs ≡ block_at c.args.blocks.now of ∷ drop (c.loop-block._block + 1) bs
   next = next_block c.args.blocks.now (nodes_at c.args.chains.now c.args.from) c.args.count c.loop-block._block of c.loop-block-test.true read_at
 
@@ -52,14 +48,10 @@ module _ (c : In-loop-block) where
   there = omega (arith, c.requires.listed, c.loop-block.invariant.read.in_range (omega (arith, c.loop-block-test.true, c.requires.enough)))
 
   placed : IsPlaced c.loop-block.stored.store (fields_at c.args.blocks.now of)
-  placed =
-      placed-over c.args.stored.now.store c.loop-block.stored.store (fields_at c.args.blocks.now of)
-      c.loop-block.invariant.copying.rooms (c.requires.placed of there)
+  placed = grind (arith, common_steps, placed-over, there)
 
 pub copy_data-requires-clause-placed : goal.copy_data-requires-clause-placed
-copy_data-requires-clause-placed c =
-    let before = (goal.at.copy_data-requires-clause-placed c).In-loop-block in
-    subst (IsPlaced c.loop-block.stored.store) (sym (said before)) (placed before)
+copy_data-requires-clause-placed c = grind (arith, common_steps, said, placed)
 
 pub copy_data-requires-clause-fits : goal.copy_data-requires-clause-fits
 copy_data-requires-clause-fits c =

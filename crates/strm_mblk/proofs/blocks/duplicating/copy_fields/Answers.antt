@@ -4,6 +4,7 @@ use Rattle.strm_mblk.specs.NodeLists.{nodes_at}
 use Rattle.strm_mblk.proofs.lists.Numbers.{slice_get-take, times_at}
 use Rattle.strm_mblk.proofs.making.FieldsCopied.{all_copied, next_copying}
 use Rattle.strm_mblk.proofs.blocks.duplicating.copy_fields.Goals as goal
+use Rattle.std.proofs.lemmas.Grind.{common_steps}
 
 pub loop-block-preserved : goal.loop-block-preserved
 loop-block-preserved c =
@@ -22,6 +23,4 @@ loop-block-preserved c =
     }
 
 pub returns : goal.returns
-returns c =
-    all_copied (take c.args.count (nodes_at c.args.chains.now c.args.from)) (nodes_at c.args.chains.now c.args.to) c.loop-block._block c.args.blocks.now c.loop-block.blocks c.loop-block.invariant.copying
-    (omega (arith, c.loop-block-test.false, c.requires.count))
+returns c = grind (arith, common_steps, all_copied)

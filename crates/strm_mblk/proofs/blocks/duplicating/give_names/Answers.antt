@@ -7,6 +7,7 @@ use Rattle.strm_mblk.proofs.freeing.Dropping.{named-get}
 use Rattle.strm_mblk.proofs.making.Giving.{back_now, few_now, named_now, next_full, next_given, next_used, store_now}
 use Rattle.strm_mblk.proofs.blocks.duplicating.give_names.Goals.{After-loop-given, In-loop-given}
 use Rattle.strm_mblk.proofs.blocks.duplicating.give_names.Goals as goal
+use Rattle.std.proofs.lemmas.Grind.{common_steps}
 
 module _ (c : In-loop-given) where
   abbrev d : ℕ
@@ -31,8 +32,7 @@ pub drop_names-requires-clause-there : goal.drop_names-requires-clause-there
 drop_names-requires-clause-there c = there (goal.at.drop_names-requires-clause-there c).In-loop-given
 
 pub drop_names-requires-clause-named : goal.drop_names-requires-clause-named
-drop_names-requires-clause-named c =
-    named_now (named_by c.args.blocks.now (nodes_at c.args.chains.now c.args.head)) c.loop-given.given c.args.stored.now c.loop-given.stored c.requires.used c.loop-given.invariant.after
+drop_names-requires-clause-named c = grind (arith, common_steps, named_now)
 
 pub drop_names-requires-clause-kept : goal.drop_names-requires-clause-kept
 drop_names-requires-clause-kept c = c.loop-given.invariant.kept
@@ -44,9 +44,7 @@ returns-then-count-clause-answer c =
     (d at) (named_at at) c.args.count c.loop-given-test.true (sym c.count.ensures ∙ c.if-count.true)))
 
 pub returns-then-count-clause-after : goal.returns-then-count-clause-after
-returns-then-count-clause-after c =
-    c.drop_names.ensures.after
-    ∙ back_now (named_by c.args.blocks.now (nodes_at c.args.chains.now c.args.head)) c.loop-given.given c.args.stored.now c.loop-given.stored c.requires.used c.loop-given.invariant.after
+returns-then-count-clause-after c = grind (arith, common_steps, back_now)
 
 pub name-requires-clause-there : goal.name-requires-clause-there
 name-requires-clause-there c = let at = (goal.at.name-requires-clause-there c).In-loop-given in there at c.loop-given.node (node_in at)
@@ -70,13 +68,10 @@ loop-given-preserved c =
 -- all have a name more
 module _ (c : After-loop-given) where
   all_given : c.loop-given.stored ≡ with_names_given (take c.args.count (named_by c.args.blocks.now (nodes_at c.args.chains.now c.args.head))) c.args.stored.now
-  all_given =
-      let last : c.loop-given.given ≡ c.args.count = omega (arith, c.loop-given-test.false, c.loop-given.auto.given-end) in
-      c.loop-given.invariant.after ∙ ap (λ i. with_names_given (take i (named_by c.args.blocks.now (nodes_at c.args.chains.now c.args.head))) c.args.stored.now) last
+  all_given = grind (arith, common_steps)
 
 pub returns-clause-answer : goal.returns-clause-answer
-returns-clause-answer c =
-    sym (ap not (few_now (named_by c.args.blocks.now (nodes_at c.args.chains.now c.args.head)) c.args.count c.args.stored.now c.loop-given.stored c.requires.used (all_given c) c.loop-given.invariant.kept))
+returns-clause-answer c = grind (arith, common_steps, few_now, all_given)
 
 pub returns-clause-after : goal.returns-clause-after
 returns-clause-after c = all_given c

@@ -56,9 +56,7 @@ module _ (c : In-loop-block) where
   named_at = at_block c.args.blocks.now _ c.args.count c.loop-block._block c.loop-block.node c.loop-block-test.true (c.loop-block.invariant.at.here (omega (arith, c.loop-block-test.true, c.requires.count)))
 
 pub drop_name-requires-in-loop-block-clause-used : goal.drop_name-requires-in-loop-block-clause-used
-drop_name-requires-in-loop-block-clause-used c =
-    let at = (goal.at.drop_name-requires-in-loop-block-clause-used c).In-loop-block in
-    next_used (ds at) c.loop-block._block c.args.stored.now c.loop-block.stored (dropping at) (d at) (named_at at)
+drop_name-requires-in-loop-block-clause-used c = grind (arith, common_steps, next_used, dropping, named_at)
 
 pub loop-block-preserved : goal.loop-block-preserved
 loop-block-preserved c =

@@ -1,4 +1,5 @@
 use Rattle.std.proofs.Common.{◌≡◌, ◌≢◌, ℕ, ◌<◌, List, length, Some, ap, ◌∙◌, arith}
+use Rattle.std.proofs.lemmas.Option.{slice_get-map}
 use Rattle.std.specs.Prelude.{option_map, slice_get}
 use Rattle.strm_data.specs.DataStore.{times}
 use Rattle.strm_mblk.specs.declared.blocks.Fields.{Fields}
@@ -6,13 +7,12 @@ use Rattle.strm_mblk.specs.BlocksLayout.{block_at, fields_at, message_of, named_
 use Rattle.strm_mblk.specs.NodeLists.{nodes_at}
 use Rattle.strm_mblk.proofs.pulling.FrontCopied.{next_copied}
 use Rattle.strm_mblk.proofs.lists.Numbers.{times_at}
-use Rattle.strm_mblk.proofs.layout.Shown.{slice_get-mapped}
 use Rattle.strm_mblk.proofs.blocks.pulling.copy_front.Goals as goal
 
 -- a block of the message does not name the data block
 apart : (d : ℕ) (fields : List Fields) (ns : List ℕ) (k n : ℕ) → times d (named_by fields ns) ≡ 0 → slice_get ns k ≡ Some n → (fields_at fields n).data_number ≢ d
 apart d fields ns k n none at same =
-    let named = slice_get-mapped (λ j. (fields_at fields j).data_number) ns k ∙ ap (option_map (λ j. (fields_at fields j).data_number)) at in
+    let named = slice_get-map (λ j. (fields_at fields j).data_number) ns k ∙ ap (option_map (λ j. (fields_at fields j).data_number)) at in
     absurd (omega (arith, none, ap (λ e. times e (named_by fields ns)) same, times_at (fields_at fields n).data_number (named_by fields ns) k named))
 
 pub loop-block-preserved : goal.loop-block-preserved
@@ -27,7 +27,7 @@ loop-block-preserved c =
       at = c.onward-node.ensures c.args.head k c.loop-block.invariant.at;
       copied =
           next_copied c.args.stored.now (message_of blocks ns) c.args.into c.args.count k c.loop-block.done c.loop-block.stored c.loop-block.invariant.copied c.requires.enough c.requires.there
-          n (fields_at blocks n) (slice_get-mapped (block_at blocks) ns k ∙ ap (option_map (block_at blocks)) at) (c.requires.placed n there) (apart c.args.into blocks ns k n c.requires.unnamed at)
+          n (fields_at blocks n) (slice_get-map (block_at blocks) ns k ∙ ap (option_map (block_at blocks)) at) (c.requires.placed n there) (apart c.args.into blocks ns k n c.requires.unnamed at)
           c.min-len.result c.min-len.ensures c.copy.new.self c.copy.ensures.after;
       kept = c.copy.ensures.kept;
     }

@@ -1,6 +1,6 @@
-use Rattle.std.proofs.Common.{◌≡◌, ◌+◌, ◌-◌, ◌<◌, ◌^◌, List, false, length, Some, ap, arith, refl, set, subst, sym, ◌∙◌}
+use Rattle.std.proofs.Common.{◌≡◌, ◌+◌, ◌-◌, ◌<◌, List, false, length, Some, ap, arith, set, subst, sym, ◌∙◌}
 use Rattle.std.specs.Prelude.{slice_get}
-use Rattle.strm_data.specs.CountedStore.{IsInUse, without_name}
+use Rattle.strm_data.specs.CountedStore.{without_name}
 use Rattle.strm_mblk.specs.declared.blocks.Fields.{Fields}
 use Rattle.strm_mblk.specs.BlocksLayout.{fields_at}
 use Rattle.strm_mblk.specs.Cutting.{fields_cut}
@@ -8,14 +8,10 @@ use Rattle.strm_mblk.specs.NodeLists.{nodes_at}
 use Rattle.strm_mblk.proofs.pulling.BytesTaken.{AreTaken, AreTaking, first_takes, name_there, next_takes, none_left, nothing_left, part_left}
 use Rattle.strm_mblk.proofs.blocks.pulling.take_bytes.Goals.{After-cut, After-loop-used, After-onward-node, In-loop-used, Then-left-eq0}
 use Rattle.strm_mblk.proofs.blocks.pulling.take_bytes.Goals as goal
+use Rattle.std.proofs.lemmas.Grind.{common_steps}
 
 pub loop-used-init : goal.loop-used-init
-loop-used-init c = record {
-  at = record { here = λ _. c.requires.begun; in_range = omega (arith, c.requires.within 0 c.args.head c.requires.begun, c.requires.listed) };
-  takes = first_takes _ _ _ _ c.requires.named;
-  same = refl;
-  kept = c.requires.kept;
-}
+loop-used-init c = grind (arith, common_steps, first_takes)
 
 -- ---- no bytes are left to take
 
@@ -58,9 +54,7 @@ module _ (c : After-onward-node) where
   read = ap (λ (fields : List Fields). fields_at fields c.onward-node.result) c.loop-used.invariant.same
 
 pub cut-requires : goal.cut-requires
-cut-requires c =
-    let d = (goal.at.cut-requires c).After-onward-node in
-    subst (λ (f : Fields). f.offset + f.len < 2 ^ 32) (sym (read d)) (c.requires.small c.onward-node.result (next_there d))
+cut-requires c = grind (arith, common_steps, read, next_there)
 
 module _ (c : After-cut) (d : slice_get (nodes_at c.args.chains.now c.args.head) (c.loop-used.used + 1) ≡ Some c.onward-node.result) (is : fields_at c.loop-used.blocks c.onward-node.result ≡ fields_at c.args.blocks.now c.onward-node.result) where
   part : AreTaken c.args.blocks.now (nodes_at c.args.chains.now c.args.head) c.args.count c.args.stored.now c.loop-used.used (set c.loop-used.blocks c.onward-node.result c.cut.result) c.loop-used.stored
@@ -84,15 +78,10 @@ returns-then-left-fields-clause-kept c = c.loop-used.invariant.kept
 -- ---- it is used up
 
 pub drop_name-requires-clause-there : goal.drop_name-requires-clause-there
-drop_name-requires-clause-there c =
-    let d = (goal.at.drop_name-requires-clause-there c).After-onward-node in
-    omega (arith, c.requires.there c.onward-node.result (next_there d), ap (λ (f : Fields). f.data_number) (read d), c.loop-used.invariant.takes.dropping.many)
+drop_name-requires-clause-there c = grind (arith, common_steps)
 
 pub drop_name-requires-clause-used : goal.drop_name-requires-clause-used
-drop_name-requires-clause-used c =
-    let d = (goal.at.drop_name-requires-clause-used c).After-onward-node in
-    subst (λ (f : Fields). IsInUse c.loop-used.stored f.data_number) (sym (read d))
-    (name_there _ _ _ _ _ _ _ c.loop-used.invariant.takes c.onward-node.result (next_here d) (omega (arith, c.if-left-eq0.false)) (omega (arith, c.if-left-fields.false, ap (λ (f : Fields). f.len) (read d))))
+drop_name-requires-clause-used c = grind (arith, common_steps, name_there)
 
 pub loop-used-preserved : goal.loop-used-preserved
 loop-used-preserved c =

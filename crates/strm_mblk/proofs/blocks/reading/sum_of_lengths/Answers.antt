@@ -1,24 +1,22 @@
 use Rattle.std.proofs.Common.{◌≡◌, ℕ, ◌+◌, ◌-◌, ◌^◌, ◌<◌, Bool, List, Some, drop, length, ap, arith, sym, ◌∙◌}
 use Rattle.std.specs.Prelude.{option_map, slice_get, sum_by}
-use Rattle.std.specs.Option.{unwrap_or}
 use Rattle.std.proofs.lemmas.Grind.{common_steps}
-use Rattle.std.proofs.lemmas.Option.{slice_get-get_or, unwrap_or-slice_get}
+use Rattle.std.proofs.lemmas.Option.{slice_get-get_or, unwrap_or-slice_get, slice_get-map}
 use Rattle.strm_data.specs.DataStore.{DataStore}
 use Rattle.strm_links.specs.StrandLists.{strand_at}
 use Rattle.strm_mblk.specs.declared.blocks.Fields.{Fields}
 use Rattle.strm_mblk.specs.Block.{len_counted}
 use Rattle.strm_mblk.specs.BlocksLayout.{block_at, message_of}
-use Rattle.strm_mblk.proofs.layout.Shown.{slice_get-mapped}
 use Rattle.strm_mblk.proofs.lists.Numbers.{below}
 use Rattle.strm_mblk.proofs.reading.Summing.{counted_most, sum_from}
 use Rattle.strm_mblk.proofs.blocks.reading.sum_of_lengths.Goals as goal
 use Rattle.strm_mblk.proofs.blocks.reading.sum_of_lengths.Goals.{After-unwrap_or-node}
 
--- from block k on there is its length and what is behind it
+-- the sum from block k on is its length, and that of the blocks after it
 adds : (data_alone : Bool) (s : DataStore) (fields : List Fields) (ns : List ℕ) (k n : ℕ) → slice_get ns k ≡ Some n → (len : ℕ) → len ≡ len_counted data_alone s (block_at fields n)
     → sum_by (len_counted data_alone s) (drop k (message_of fields ns)) ≡ len + sum_by (len_counted data_alone s) (drop (k + 1) (message_of fields ns))
 adds data_alone s fields ns k n at len is =
-    sum_from (len_counted data_alone s) (message_of fields ns) k (block_at fields n) (slice_get-mapped (block_at fields) ns k ∙ ap (option_map (block_at fields)) at)
+    sum_from (len_counted data_alone s) (message_of fields ns) k (block_at fields n) (slice_get-map (block_at fields) ns k ∙ ap (option_map (block_at fields)) at)
     ∙ ap (λ j. j + sum_by (len_counted data_alone s) (drop (k + 1) (message_of fields ns))) (sym is)
 
 pub loop-block-init : goal.loop-block-init
@@ -42,9 +40,7 @@ module _ (c : After-unwrap_or-node) where
 
   -- the block at this step
   at : slice_get ns c.loop-block._block ≡ Some c.unwrap_or-node.result
-  at =
-      slice_get-get_or ns c.loop-block._block (2 ^ 32 - 1) there
-      ∙ ap Some (sym (c.unwrap_or-node.ensures ∙ ap (λ o. unwrap_or o (2 ^ 32 - 1)) next ∙ unwrap_or-slice_get ns c.loop-block._block (2 ^ 32 - 1)))
+  at = grind (arith, common_steps, slice_get-get_or, there, next, unwrap_or-slice_get)
 
   low : c.unwrap_or-node.result < length c.args.strands.now.chains
   low = omega (arith, c.unwrap_or-node.ensures, below c.next.result (2 ^ 32 - 1) _ _ (next ∙ slice_get-get_or ns c.loop-block._block 0 there) c.next.ensures.in_range)

@@ -1,15 +1,14 @@
-use Rattle.std.proofs.Common.{◌≡◌, ℕ, ◌+◌, Some, length-set, set, sym, ◌∙◌, subst, arith}
+use Rattle.std.proofs.Common.{◌≡◌, ℕ, ◌+◌, Some, length-set, set, ◌∙◌, subst, arith}
 use Rattle.std.specs.Prelude.{drop, slice_get}
 use Rattle.strm_mblk.specs.Cutting.{with_bytes_cut}
 use Rattle.strm_mblk.specs.NodeLists.{IsReached, nodes_at}
 use Rattle.strm_mblk.proofs.trimming.Cutting.{cut_next, cut_none, cut_small}
 use Rattle.strm_mblk.proofs.blocks.trimming.cut.Goals.{After-onward-node}
 use Rattle.strm_mblk.proofs.blocks.trimming.cut.Goals as goal
+use Rattle.std.proofs.lemmas.Grind.{common_steps}
 
 pub returns-then-not-from_tail : goal.returns-then-not-from_tail
-returns-then-not-from_tail c h i at count =
-    let rest = drop (i + c.loop-block._block) (nodes_at c.args.chains.now h) in
-    sym (cut_none rest c.loop-block.blocks) ∙ (λ j. with_bytes_cut (sym c.if-not-from_tail.true j) (sym c.if-left-eq0.true j) rest c.loop-block.blocks) ∙ c.loop-block.invariant.after h i at count
+returns-then-not-from_tail c h i at count = grind (arith, common_steps, cut_none)
 
 -- the walk goes on
 on : (c : After-onward-node) → (h i : ℕ) → slice_get (nodes_at c.args.chains.now h) i ≡ Some c.args.first → IsReached c.args.chains.now h (i + (c.loop-block._block + 1)) c.onward-node.result

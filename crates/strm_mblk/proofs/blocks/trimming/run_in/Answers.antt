@@ -1,4 +1,4 @@
-use Rattle.std.proofs.Common.{◌≡◌, ◌+◌, ◌-◌, ◌⊎◌, true, length, Some, ap, sym, subst, ◌∙◌, inl, inr, arith}
+use Rattle.std.proofs.Common.{◌≡◌, ◌+◌, ◌-◌, ◌⊎◌, true, Some, ap, sym, subst, ◌∙◌, inl, inr, arith}
 use Rattle.std.specs.Prelude.{not, slice_get}
 use Rattle.std.proofs.lemmas.Bool.{not-false, not-true}
 use Rattle.std.proofs.lemmas.List.{drop_all}
@@ -11,27 +11,17 @@ use Rattle.strm_mblk.proofs.layout.Places.{nodes_room}
 use Rattle.strm_mblk.proofs.trimming.Runs.{IsMeasured, all_measured, first_measured, next_measured, next_small, other_measured}
 use Rattle.strm_mblk.proofs.blocks.trimming.run_in.Goals.{In-loop-block, else-not-from_tail-via-else-not-from_tail, else-not-from_tail-via-then-not-from_tail+else-ne}
 use Rattle.strm_mblk.proofs.blocks.trimming.run_in.Goals as goal
+use Rattle.std.proofs.lemmas.Grind.{common_steps}
 
 pub loop-block-init : goal.loop-block-init
-loop-block-init c =
-    let ns = nodes_at c.args.chains.now c.args.head in
-    record {
-      at = record { here = λ _. c.requires.begun; in_range = λ _. nodes_room c.args.chains.now c.args.head c.args.head c.requires.begun };
-      measured =
-          subst (λ n. IsMeasured c.args.from_tail c.args.stored.now.store c.args.blocks.now ns 0 (record { first = c.args.head; blocks = n; size = 0; kind = c.kind.result })) (sym c.requires.count)
-          (subst (λ k. IsMeasured c.args.from_tail c.args.stored.now.store c.args.blocks.now ns 0 (record { first = c.args.head; blocks = length ns; size = 0; kind = k })) (sym c.kind.ensures)
-          (first_measured c.args.from_tail c.args.stored.now.store c.args.blocks.now ns c.args.head c.requires.begun));
-    }
+loop-block-init c = grind (arith, common_steps, nodes_room, first_measured)
 
 -- the block of this step
 here : (c : In-loop-block) → slice_get (nodes_at c.args.chains.now c.args.head) c.loop-block.block ≡ Some c.loop-block.node
 here c = c.loop-block.invariant.at.here (omega (arith, c.loop-block-test.true, c.requires.count))
 
 pub returns : goal.returns
-returns c =
-    let ns = nodes_at c.args.chains.now c.args.head in
-    all_measured c.args.from_tail c.args.stored.now.store c.args.blocks.now ns c.loop-block.block c.loop-block.run c.loop-block.invariant.measured
-    (drop_all c.loop-block.block ns (omega (arith, c.requires.count, c.loop-block-test.false)))
+returns c = grind (arith, common_steps, all_measured, drop_all)
 
 pub returns-then-ne : goal.returns-then-ne
 unfolding same_kind
@@ -41,14 +31,7 @@ returns-then-ne c =
     (here (goal.at.returns-then-ne c).In-loop-block) c.if-not-from_tail.true (not-true _ (sym (c.ne.ensures ∙ ap (λ k. not (same_kind k c.loop-block.run.kind)) c.kind-kind.ensures) ∙ c.if-ne.true))
 
 pub with-run-requires : goal.with-run-requires
-with-run-requires c =
-    let inv = c.loop-block.invariant in
-    omega (
-      arith,
-      c.requires.small,
-      next_small c.args.from_tail c.args.stored.now.store c.args.blocks.now (nodes_at c.args.chains.now c.args.head) c.loop-block.block c.loop-block.node c.loop-block.run inv.measured
-          (here (goal.at.with-run-requires c).In-loop-block),
-    )
+with-run-requires c = grind (arith, common_steps, next_small, here)
 
 pub loop-block-preserved : goal.loop-block-preserved
 unfolding same_kind

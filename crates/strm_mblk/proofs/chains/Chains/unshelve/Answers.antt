@@ -1,4 +1,4 @@
-use Rattle.std.proofs.Common.{ℕ, ◌≡◌, true, Some, IsSome, is_some, set, ap, sym, ◌∙◌}
+use Rattle.std.proofs.Common.{ℕ, ◌≡◌, true, Some, IsSome, is_some, set, ap, sym, ◌∙◌, arith}
 use Rattle.std.proofs.lemmas.Bool.{false≢true}
 use Rattle.strm_links.specs.Rows.{has, holder, list_at, without}
 use Rattle.strm_links.specs.Chains.{chain_in}
@@ -11,8 +11,9 @@ use Rattle.strm_mblk.proofs.chaining.Replaced.{there}
 use Rattle.strm_mblk.proofs.chaining.Readings.{head_node-strand, shelf_is, shelved_at}
 use Rattle.strm_mblk.proofs.chains.Chains.unshelve.Goals.{After-remove, After-self}
 use Rattle.strm_mblk.proofs.chains.Chains.unshelve.Goals as goal
+use Rattle.std.proofs.lemmas.Grind.{common_steps}
 
--- the message stands on the shelf
+-- the message is on the shelf
 on : (c : After-self) → holder c.args.head c.self.inside.heads ≡ Some c.args.shelf
 on c = shelved_at _ _ c.self.invariant _ c.self.view_is c.args.head c.args.shelf c.requires.there
 
@@ -21,18 +22,13 @@ begun c = c.self.invariant.begun c.args.head (ap is_some (on c))
 
 lists : (c : After-remove) → holder c.args.head c.self.inside.heads ≡ Some c.args.shelf
     → c.remove.new.self ≡ record c.self.inside.heads { lists = set c.self.inside.heads.lists c.args.shelf (without c.args.head (list_at c.args.shelf c.self.inside.heads)) }
-lists c on =
-    c.remove.ensures.lists
-    ∙ ap (λ ls. record c.self.inside.heads { lists = ls }) (map-without c.self.inside.heads c.self.invariant.heads_parting.apart c.args.head c.args.shelf on)
+lists c on = grind (arith, common_steps, map-without, on)
 
 pub remove-requires : goal.remove-requires
 remove-requires c = ap is_some (on (goal.at.remove-requires c).After-self)
 
 pub invariant_of-self : goal.invariant_of-self
-invariant_of-self c =
-    let at = goal.at.invariant_of-self c in
-    reheaded_laid _ _ c.self.invariant _ c.self.view_is c.args.head c.args.shelf _ c.remove.new.self (lists at.After-remove (on at.After-self)) c.remove.ensures.others
-    (begun at.After-self) c.remove.ensures.parting
+invariant_of-self c = grind (arith, common_steps, reheaded_laid, lists, on, begun)
 
 pub returns-clause-after : goal.returns-clause-after
 returns-clause-after c =
