@@ -1,5 +1,4 @@
 mod Constants
-mod Rows
 mod Lists
 mod bands
 pub mod shelf

@@ -1,7 +1,7 @@
--- Lists of one value throughout.
+-- Lists whose elements are all equal.
 use Rattle.std.proofs.Common.{◌≡◌, ℕ, zero, suc, List, [], ◌∷◌, get_or, map, replicate, refl}
 
--- past the end it is the value too
+-- past the end the default is that value too
 pub get_or-map_same : {X Y : Type 0} (xs : List X) (y : Y) (i : ℕ) → get_or (map (λ x. y) xs) i y ≡ y
 get_or-map_same [] y i = refl
 get_or-map_same (x ∷ xs) y zero = refl

@@ -1,3 +1,2 @@
--- When queues and message blocks agree, and how calls keep it.
-pub mod Flagged
+-- Why each call keeps the agreement of queues and message blocks.
 pub mod Agreeing

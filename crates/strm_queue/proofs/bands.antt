@@ -1,3 +1,3 @@
--- Sets of bands, as bits of words.
+-- Sets of bands, stored as the bits of four words.
 pub mod Bits
 pub mod Bands

@@ -1,3 +1,3 @@
--- How many messages and bytes there are, and what is stored of them.
+-- Counts of messages and bytes, and why the stored tally of a queue stays true.
 pub mod Counts
 pub mod Tallies

@@ -1,5 +1,3 @@
--- Queues in front and behind, and wanted marks.
+-- Walks to the target and to the waker of a queue, and its wanted marks.
 pub mod Targets
 pub mod Settling
-pub mod Wanting
-pub mod Marking

@@ -1,4 +1,4 @@
--- What queues were made with, and how they lie in memory.
+-- The specifications that queues are made with, and their representation in memory.
 pub mod Lawful
 pub mod Stored
 pub mod Running

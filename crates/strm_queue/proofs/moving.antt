@@ -1,6 +1,4 @@
--- Messages that are put on queues, taken off them and flushed.
-pub mod Shelve
+-- The model of the calls that put messages on queues, take them off and flush them.
 pub mod Puts
 pub mod Gets
-pub mod Others
 pub mod Flushing

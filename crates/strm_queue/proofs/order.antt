@@ -1,4 +1,4 @@
--- Ranks, and where a message stands among others by its own.
+-- Ranks of messages, priority order, and the place of a message by its rank.
 pub mod Ranks
 pub mod Order
 pub mod Ends

@@ -1,21 +1,21 @@
--- Sets of bands as bits, and which of a set is nearest. No public clause cites this module.
+-- Sets of bands as the bits of words, and the nearest band or bit of a set. No public clause cites this module.
 use Rattle.std.specs.Prelude.{◌≡◌, ℕ, ◌<◌, ◌≤◌, Bool, true, false, ◌==◌, ◌/◌, ◌%◌, List, slice_index_or}
 use Rattle.std.specs.Int.{bit_at}
 use Rattle.strm_queue.specs.Flow.{bands_where, has_band}
 use Rattle.strm_queue.specs.declared.band_set.BandSet.TheInside.{Inside}
 
--- bit b % 64 of word b / 64 says whether band b is in the set
+-- band b is in the set if bit b % 64 of word b / 64 is 1
 abbrev pub is_in : Inside → ℕ → Bool
 is_in a band = bit_at (slice_index_or a.words (band / 64) 0) (band % 64) == 1
 
 abbrev pub bands_in : Inside → List Bool
 bands_in a = bands_where (is_in a)
 
--- found is the smallest marked band from this one on
+-- found is the smallest band of the set from this one on
 abbrev pub IsFirstFrom : List Bool → ℕ → ℕ → Type 0
 IsFirstFrom set band found = (band ≤ found) × (has_band set found ≡ true) × ((x : ℕ) → band ≤ x → x < found → has_band set x ≡ false)
 
--- found is the greatest marked band up to this one
+-- found is the greatest band of the set up to this one
 abbrev pub IsLastTo : List Bool → ℕ → ℕ → Type 0
 IsLastTo set band found = (found ≤ band) × (has_band set found ≡ true) × ((x : ℕ) → found < x → x ≤ band → has_band set x ≡ false)
 

@@ -1,10 +1,10 @@
--- Where flushing goes on. No public clause cites this module.
+-- The messages that a flush of one band has still to go over. No public clause cites this module.
 use Rattle.std.specs.Prelude.{ℕ, List, [], ◌∷◌, Option, None, Some, if◌then◌else◌}
 use Rattle.strm_data.specs.DataStore.{DataStore}
 use Rattle.strm_mblk.specs.Block.{Message}
 use Rattle.strm_queue.specs.Flow.{is_of_band}
 
--- the messages from the first one on that counts with a band, or all where none is given
+-- the messages from the first one on that counts with the band; all of them, if no band is given
 abbrev pub from_band : DataStore → Option ℕ → List Message → List Message
 from_band s None ms = ms
 from_band s (Some band) [] = []

@@ -1,4 +1,4 @@
--- Queues over message blocks: what each of the two is, and when they agree.
+-- Queues together with message blocks, what `Queues` stores of them, and when the two agree.
 use Rattle.std.specs.Prelude.{◌≡◌, ℕ, ◌<◌, List, length, map, slice_index_or, slice_set, IsTrue}
 use Rattle.strm_queue.specs.declared.queue_spec.QueueSpec.{QueueSpec}
 use Rattle.strm_mblk.specs.Arena.{Arena, shelf_at}
@@ -7,18 +7,18 @@ use Rattle.strm_queue.specs.Limits.{bands}
 use Rattle.strm_queue.specs.Rank.{is_ordered, rank_of}
 use Rattle.strm_queue.specs.Tallies.{IsTallyOf, Tally, count_of, no_tally}
 
--- queues, and the message blocks whose messages stand on them: shelf q has those of queue q, front to back
+-- Queues with the message blocks of their messages: shelf q has the messages of queue q, front to back.
 pub record QueuedBlocks : Type 0 where
   pub queues : QueueState
   pub arena : Arena
 
--- the message blocks
+-- the message blocks of the two
 abbrev pub arena : QueuedBlocks → Arena
 arena v = v.arena
 
--- ---- what `Queues` holds
+-- ---- what `Queues` stores
 
--- the state of the queues, and what is stored of the messages on each
+-- the state of the queues, and what is stored of the messages of each
 pub record QueuesValue : Type 0 where
   pub state : QueueState
   pub tallies : List Tally
@@ -26,30 +26,30 @@ pub record QueuesValue : Type 0 where
 abbrev pub tally_at : QueuesValue → ℕ → Tally
 tally_at v q = slice_index_or v.tallies q no_tally
 
--- this is stored of the messages on queue q (no public clause cites it)
+-- queue q has this tally (no public clause cites it)
 abbrev pub with_tally : ℕ → Tally → QueuesValue → QueuesValue
 with_tally q t v = record v { tallies = slice_set v.tallies q t }
 
--- there is a shelf for each queue, each is in priority order, and what is stored of it is true
+-- There is a shelf for each queue, each shelf is in priority order, and what is stored of it is true.
 pub record AreInOrder (v : QueuesValue) (a : Arena) : Type 0 where
   pub shelves : length a.shelves ≡ length v.state.specs
   pub stored : length v.tallies ≡ length v.state.specs
   pub ordered : (q : ℕ) → IsTrue (is_ordered (rank_of a.store) (shelf_at a q))
   pub true_of : (q : ℕ) → q < length v.state.specs → IsTallyOf a.store (hiwat_of v.state q) (shelf_at a q) (tally_at v q)
 
--- what is stored as the bytes of each band of this queue is what its messages have
+-- the stored bytes of each band of queue q are those of its messages
 abbrev pub AreCountsTrue : QueuesValue → Arena → ℕ → Type 0
 AreCountsTrue v a q = (band : ℕ) → band < bands → count_of (tally_at v q) band ≡ band_count a.store band (shelf_at a q)
 
--- what is stored as the full mark of each band is whether these fill it
+-- the stored full mark of each band says whether the bytes of its messages reach the high water mark
 abbrev pub AreFullMarksTrue : QueuesValue → Arena → ℕ → Type 0
 AreFullMarksTrue v a q = (band : ℕ) → band < bands → has_band (tally_at v q).full band ≡ fills (hiwat_of v.state q band) (band_count a.store band (shelf_at a q))
 
--- a wanted mark of this queue stands only where the band has more bytes than the low water mark
+-- a wanted band of queue q has more bytes than its low water mark
 abbrev pub AreMarksLawful : QueueState → Arena → ℕ → Type 0
 AreMarksLawful s a q = (band : ℕ) → IsTrue (has_band (flags_at s q).wanted band) → lowat_of s q band < band_count a.store band (shelf_at a q)
 
--- `Queues` and message blocks belong together: messages are in order, what is stored is true, and so are wanted marks
+-- Queues agree with message blocks if messages are in order, what is stored is true, and so are the wanted marks.
 pub record Agrees (v : QueuesValue) (a : Arena) : Type 0 where
   pub in_order : AreInOrder v a
   pub marks : (q : ℕ) → AreMarksLawful v.state a q
@@ -57,6 +57,6 @@ pub record Agrees (v : QueuesValue) (a : Arena) : Type 0 where
 abbrev pub opening_value : List QueueSpec → QueuesValue
 opening_value specs = record { state = opening_queues specs; tallies = map (λ q. no_tally) specs }
 
--- the queues and message blocks together, as the model sees them
+-- the model's view of queues and message blocks together
 abbrev pub together : QueuesValue → Arena → QueuedBlocks
 together v a = record { queues = v.state; arena = a }

@@ -1,4 +1,4 @@
--- How queues lie in memory. No public clause cites this module.
+-- How `Queues` stores queues and the run list. No public clause cites this module.
 use Rattle.std.specs.Prelude.{◌≡◌, true, false, List, length, map}
 use Rattle.std.specs.List.{All}
 use Rattle.strm_links.specs.Rows.{list_at}
@@ -15,7 +15,7 @@ use Rattle.strm_queue.specs.Tallies.{Tally, no_tally}
 abbrev pub new_queue : QueueSpec → Queue
 new_queue spec = record { spec = spec; tally = no_tally; marks = opening_marks spec; read = true; noenable = false; wanted = bands_where (λ band. false) }
 
--- what is seen of a stored queue
+-- the spec, tally, marks and flags of a stored queue
 abbrev pub spec_in : Queue → QueueSpec
 spec_in q = q.spec
 
@@ -34,9 +34,9 @@ value_of a = record {
   tallies = map tally_in a.queues.items;
 }
 
--- the queues were lawful when they were made; the low water mark of each band is below its high one; the run list is the one list of its links, with a node for each queue;
--- and each queue on it has a service procedure
-pub record IsLawful (a : Inside) : Type 0 where
+-- The specs are lawful, and each low water mark is below its high one. The run list is the one list of its links, which
+-- have a node for each queue. Each queue on it has a service procedure.
+pub record IsSound (a : Inside) : Type 0 where
   pub specs : are_lawful (value_of a).state.specs ≡ true
   pub apart : AreMarksApart (value_of a).state
   pub nodes : a.run.nodes ≡ length a.queues.items

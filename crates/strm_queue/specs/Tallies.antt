@@ -1,4 +1,4 @@
--- What is stored of a queue's messages, and when it is true of them.
+-- What is stored of a queue's messages (its tally), and when it is true of them.
 use Rattle.std.specs.Prelude.{◌≡◌, ℕ, ◌+◌, ◌-◌, ◌^◌, ◌<◌, ◌≤◌, Bool, true, false, nat_lt, List, length, replicate, slice_index_or, slice_set, Option, None, Some, is_some, if◌then◌else◌}
 use Rattle.std.specs.Option.{ForSome}
 use Rattle.strm_data.specs.DataStore.{DataStore}
@@ -10,8 +10,8 @@ use Rattle.strm_queue.specs.Flow.{band_count, band_of_rank, bands_where, bytes_o
 use Rattle.strm_queue.specs.Limits.{bands, ranks}
 use Rattle.strm_queue.specs.Rank.{rank_of}
 
--- How many messages there are, and their bytes; for each band how many bytes it has, and whether it is full; for each rank the heads of
--- its first and of its last message, if it has some; and for each rank that is a band whether it has some.
+-- The number of messages and of their bytes; for each band its bytes, and whether it is full; for each rank the heads of
+-- its first and last message, if any. For each rank that is a band, `used` says whether it has messages.
 pub record Tally : Type 0 where
   pub len : ℕ
   pub bytes : ℕ
@@ -32,20 +32,20 @@ no_tally = record {
   used = bands_where (λ band. false);
 }
 
--- how many bytes are stored of a band
+-- the stored number of bytes of a band
 abbrev pub count_of : Tally → ℕ → ℕ
 count_of t band = slice_index_or t.counts band 0
 
--- what is stored as the first and the last message of a rank
+-- the stored heads of the first and the last message of a rank
 abbrev pub first_in : Tally → ℕ → Option ℕ
 first_in t r = slice_index_or t.firsts r None
 
 abbrev pub last_in : Tally → ℕ → Option ℕ
 last_in t r = slice_index_or t.lasts r None
 
--- ---- when it is true
+-- ---- when a tally is true
 
--- what is stored for ranks is the first and the last of their messages
+-- the stored ends of each rank are the first and the last of its messages
 pub record AreEndsOf (rank : Message → ℕ) (ms : List Message) (t : Tally) : Type 0 where
   pub each_first : length t.firsts ≡ ranks
   pub each_last : length t.lasts ≡ ranks
@@ -54,7 +54,7 @@ pub record AreEndsOf (rank : Message → ℕ) (ms : List Message) (t : Tally) : 
   pub lasts : (r : ℕ) → last_in t r ≡ last_of_rank rank r ms
   pub used : (r : ℕ) → r < bands → has_band t.used r ≡ is_some (first_of_rank rank r ms)
 
--- what is stored is true of these messages, on a queue whose bands have these high water marks
+-- the tally is true of these messages, on a queue whose bands have these high water marks
 pub record IsTallyOf (s : DataStore) (hiwat : ℕ → ℕ) (ms : List Message) (t : Tally) : Type 0 where
   pub len : t.len ≡ length ms
   pub bytes : t.bytes ≡ bytes_on ms
@@ -64,42 +64,43 @@ pub record IsTallyOf (s : DataStore) (hiwat : ℕ → ℕ) (ms : List Message) (
   pub full : (band : ℕ) → band < bands → has_band t.full band ≡ fills (hiwat band) (band_count s band ms)
   pub ends : AreEndsOf (rank_of s) ms t
 
--- ---- one joins, one leaves (no public clause cites what follows)
+-- ---- a message joins or leaves (no public clause cites what follows)
 
--- the heads of the message and of those beside it are numbers that a `Slot` holds
+-- the head of the message, and those of its neighbours, are numbers that a `Slot` can store
 pub record IsNumbered (p : Placed) : Type 0 where
   pub head : p.head < 2 ^ 32 - 1
   pub ahead : ForSome p.ahead (λ k. k < 2 ^ 32 - 1)
   pub behind : ForSome p.behind (λ k. k < 2 ^ 32 - 1)
 
--- so many bytes are stored of a band, and whether it is full with them, by its high water mark
+-- a band is stored with n bytes, and with its full mark by this high water mark
 abbrev pub with_count : ℕ → ℕ → ℕ → Tally → Tally
 with_count hiwat band n t = record t { counts = slice_set t.counts band n; full = slice_set t.full band (fills hiwat n) }
 
--- whether a band is full with the bytes that are stored of it, by this high water mark
+-- the full mark of a band is stored anew, by this high water mark
 abbrev pub recounted : ℕ → ℕ → Tally → Tally
 recounted hiwat band t = with_count hiwat band (count_of t band) t
 
--- these are stored as the first and the last message of a rank
+-- these heads are stored as the first and the last message of a rank
 abbrev pub with_ends : ℕ → Option ℕ → Option ℕ → Tally → Tally
 with_ends r first last t = record t { firsts = slice_set t.firsts r first; lasts = slice_set t.lasts r last; used = slice_set t.used r (is_some first) }
 
--- an end of a rank once this message has joined it: it, where there was none, or where the end stands beside it
+-- an end of a rank after a message joined it: the message, if the rank was empty or its end is beside; else the old end
 abbrev pub end_joined : Option ℕ → Option ℕ → ℕ → Option ℕ
 end_joined None beside head = Some head
 end_joined (Some at) beside head = if rows.is_some_of at beside then Some head else Some at
 
--- an end of a rank, whose other end is given, once this message has left: the one beside it, where it was this end alone
+-- An end of a rank after a message left it. If the message was that end: the one beside, or none if it was the other end too.
+-- Else the old end.
 abbrev pub end_left : Option ℕ → Option ℕ → Option ℕ → ℕ → Option ℕ
 end_left end other beside head = if rows.is_some_of head end then (if rows.is_some_of head other then None else beside) else end
 
--- a message has joined, whose band has this high water mark
+-- the tally once a message has joined whose band has this high water mark
 abbrev pub one_more : ℕ → Placed → Tally → Tally
 one_more hiwat p t =
     with_ends p.rank (end_joined (first_in t p.rank) p.behind p.head) (end_joined (last_in t p.rank) p.ahead p.head)
     (with_count hiwat (band_of_rank p.rank) (count_of t (band_of_rank p.rank) + p.size) (record t { len = t.len + 1; bytes = t.bytes + p.size }))
 
--- a message has left, whose band has this high water mark
+-- the tally once a message has left whose band has this high water mark
 abbrev pub one_less : ℕ → Placed → Tally → Tally
 one_less hiwat p t =
     with_ends p.rank (end_left (first_in t p.rank) (last_in t p.rank) p.behind p.head) (end_left (last_in t p.rank) (first_in t p.rank) p.ahead p.head)
@@ -107,7 +108,7 @@ one_less hiwat p t =
 
 -- ---- ranks that have messages
 
--- whether a rank has messages, by what is stored
+-- whether a rank has messages, by the tally
 abbrev pub has_rank : Tally → ℕ → Bool
 has_rank t r = if nat_lt r bands then has_band t.used r else is_some (first_in t r)
 

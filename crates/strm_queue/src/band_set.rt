@@ -1,4 +1,4 @@
-//! Sets of bands.
+//! Sets of bands as 256 bits: the wanted bands, the full ones, and those that have messages.
 ghost use Rattle.std.specs.Prelude.{◌≡◌, ◌+◌, ◌<◌, ◌≤◌, ℕ, Bool, true, false, List, length, slice_index_or, slice_set};
 ghost use Rattle.std.specs.Int.{bit_at};
 ghost use Rattle.std.specs.Option.{IfNone, IfSome};
@@ -9,7 +9,7 @@ use crate::limits::BANDS;
 use crate::marks::Marks;
 use std::marker::Model;
 
-// The bits of a word, and the words of a set.
+// The bits of a word.
 const WORD_BITS: u8 = 64;
 
 const WORDS: u8 = (BANDS / WORD_BITS as usize) as u8;
@@ -30,7 +30,7 @@ impl Model for BandSet {
 }
 
 impl BandSet {
-    // The set without a band.
+    // The set that has no band.
     pub(crate) fn new() -> BandSet
         ensures { result ≡ bands_where (λ band. false) }
     {
@@ -39,7 +39,8 @@ impl BandSet {
         }
     }
 
-    // Whether it has a band.
+    // Whether the set has a band.
+    #[tactic(auto, using(std::proofs::lemmas::Nat::Bits::shr_and_one, crate::proofs::bands::Bands::has_band_where))]
     pub(crate) fn has(&self, band: u8) -> bool
         ensures { result ≡ has_band self.now band }
     {
@@ -71,7 +72,7 @@ impl BandSet {
         }
     }
 
-    // The smallest band of the set from this one on, if there is one.
+    // The smallest band of the set that is this one or above, if any.
     pub(crate) fn at_least(&self, band: u8) -> Option<u8>
         ensures some { IfSome result (λ found. IsFirstFrom self.now band found) }
         ensures none { IfNone result ((x : ℕ) → band ≤ x → has_band self.now x ≡ false) }
@@ -86,7 +87,7 @@ impl BandSet {
         None
     }
 
-    // The greatest band of the set up to this one, if there is one.
+    // The greatest band of the set that is this one or below, if any.
     pub(crate) fn at_most(&self, band: u8) -> Option<u8>
         ensures some { IfSome result (λ found. IsLastTo self.now band found) }
         ensures none { IfNone result ((x : ℕ) → x ≤ band → has_band self.now x ≡ false) }
@@ -101,7 +102,8 @@ impl BandSet {
         None
     }
 
-    // The smallest band of the set above this one, if there is one.
+    // The smallest band of the set above this one, if any.
+    #[tactic(auto, using(crate::proofs::bands::Bands::unmarked_past))]
     fn above(&self, band: u8) -> Option<u8>
         ensures some { IfSome result (λ found. IsFirstFrom self.now (band + 1) found) }
         ensures none { IfNone result ((x : ℕ) → band + 1 ≤ x → has_band self.now x ≡ false) }
@@ -110,10 +112,12 @@ impl BandSet {
         self.at_least(band.checked_add(1)?)
     }
 
-    // Takes out each band that has room again: with at most as many bytes as its low water mark. Whether there was one.
+    // Removes each band that has drained: it has at most as many bytes as its low water mark. Says whether there was any.
     pub(crate) fn relieve(&mut self, counts: &[u32; BANDS], marks: &[Marks; BANDS]) -> bool
-        ensures left { self.new ≡ still_wanted self.old (λ band. slice_index_or counts.now band 0) (λ band. (slice_index_or marks.now band no_marks).lowat) }
-        ensures some { result ≡ some_relieved self.old (λ band. slice_index_or counts.now band 0) (λ band. (slice_index_or marks.now band no_marks).lowat) }
+        ensures left { self.new ≡ still_wanted self.old (λ band. slice_index_or counts.now band 0)
+            (λ band. (slice_index_or marks.now band no_marks).lowat) }
+        ensures some { result ≡ some_relieved self.old (λ band. slice_index_or counts.now band 0)
+            (λ band. (slice_index_or marks.now band no_marks).lowat) }
     {
         self.lawful();
         let mut some = false;
@@ -128,7 +132,7 @@ impl BandSet {
         some
     }
 
-    // The law that it has a mark for each band. Does nothing.
+    // Law: a set has one mark for each band. Does nothing.
     pub(crate) fn lawful(&self)
         ensures { length self.now ≡ length every_band }
     {
@@ -136,7 +140,8 @@ impl BandSet {
     }
 }
 
-// The place of the lowest 1 of a word from this place on, if there is one.
+// The place of the lowest 1 of a word from this place on, if any.
+#[tactic(auto, using(crate::proofs::bands::Bits::none_from))]
 fn lowest_from(word: u64, place: u8) -> Option<u8>
     requires { place < 64 }
     ensures some { IfSome result (λ found. IsLowestFrom word place found) }
@@ -149,7 +154,8 @@ fn lowest_from(word: u64, place: u8) -> Option<u8>
     Some(place + rest.trailing_zeros() as u8)
 }
 
-// The place of the highest 1 of a word up to this place, if there is one.
+// The place of the highest 1 of a word up to this place, if any.
+#[tactic(auto, using(crate::proofs::bands::Bits::none_up_to, crate::proofs::bands::Bits::zeros_up_to))]
 fn highest_to(word: u64, place: u8) -> Option<u8>
     requires { place < 64 }
     ensures some { IfSome result (λ found. IsHighestTo word place found) }

@@ -1,10 +1,10 @@
-//! What flushing takes.
+//! Which messages `flushq` and `flushband` free (STREAMS' FLUSHALL and FLUSHDATA).
 
-/// Which messages a flush takes.
+/// Which messages of a queue, or of one of its bands, a flush frees.
 #[derive(Clone, Copy, Debug, PartialEq, Eq)]
 pub enum Flush {
-    /// All of them.
+    /// All messages.
     All,
-    /// Those whose first block is of type `MData`, `MProto`, `MPcproto` or `MDelay`.
+    /// Messages whose first block is of type `MData`, `MProto`, `MPcproto` or `MDelay`.
     Data,
 }

@@ -1,4 +1,4 @@
-//! Queues of messages in priority order, over message blocks.
+//! Queues of messages in STREAMS' priority order, with flow control and a run list, over the message blocks of strm_mblk.
 #![tactic(auto)]
 
 mod band_info;

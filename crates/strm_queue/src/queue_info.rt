@@ -1,16 +1,16 @@
-//! What there is to tell of one queue.
+//! What [`Queues::queue_info`](crate::Queues::queue_info) returns of one queue.
 
-/// What there is to tell of one queue.
+/// The number of messages and bytes on one queue, and the queue's marks.
 #[derive(Clone, Copy, Debug, PartialEq, Eq)]
 pub struct QueueInfo {
-    /// How many messages stand on it.
+    /// The number of messages on the queue.
     pub msgs: u32,
-    /// How many bytes they have: the sum over its bands.
+    /// The number of their bytes: the sum over the queue's bands.
     pub bytes: u32,
-    /// The want-to-read mark: it was empty when it was last read from, or never was read from.
+    /// The want-to-read mark: the last `getq` found the queue empty, or there was no `getq` yet.
     pub read: bool,
     /// Whether enabling is switched off.
     pub noenable: bool,
-    /// Whether it is on the run list.
+    /// Whether the queue is on the run list.
     pub enabled: bool,
 }

@@ -1,4 +1,4 @@
-//! Queues by number, and the calls that put messages on them and take them off.
+//! Queues by number: what is stored of each, and the laws that the calls on them keep.
 ghost use Rattle.std.specs.Prelude.{◌≡◌, ◌+◌, ◌<◌, ◌≤◌, ◌^◌, ℕ, IfOk, IsTrue, length, nat_lt, reverse, sum_by};
 ghost use Rattle.std.specs.List.{All};
 ghost use Rattle.strm_links.specs.Rows as rows;
@@ -34,37 +34,39 @@ use std::marker::Model;
 use strm_links::Links;
 use strm_mblk::Blocks;
 
-/// Queues of messages, numbered from 0, over message blocks: shelf q of the `Blocks` has the messages of queue q.
+/// Up to 16 queues of messages, numbered from 0, over a `Blocks`, whose shelf q has the messages of queue q.
 ///
-/// High priority messages come first, then those of greater bands. Of equal ones `putq` puts a message behind all,
-/// `putbq` in front, and `insq` where it is told. Beside its messages a queue has flags: that somebody wants to read from
-/// it (at first, and after `getq` found it empty), that enabling is switched off, and for each band that it is wanted,
-/// since `bcanput` found it full. Each of its bands has water marks, at first those that the queue was made with. A queue
-/// that is enabled stands on the run list until `next_service` takes it off.
+/// High priority messages come first, then those of greater bands. Among equal messages, `putq` puts a message last,
+/// `putbq` first, and `insq` at a place that the caller chooses. A queue also has flags:
 ///
-/// Each call that touches messages takes the `Blocks` too, and asks that the two agree (`Agrees`): that there is a shelf
-/// for each queue, that each is in priority order, that what is stored of it is true, and that a wanted mark stands only
-/// where the band has more bytes than its low water mark. New `Queues` agree with new `Blocks` that have as many
-/// shelves, each call here keeps it, and so does every call of `Blocks` on tokens, since it leaves the shelves and what
-/// stands there (`LeavesShelves`).
+/// * want to read: at first, and once `getq` finds the queue empty, until `getq` returns a message.
+/// * no enabling: `noenable` switched enabling off.
+/// * wanted, for each band: `bcanput` found the band full, and it has not drained to its low water mark since.
 ///
-/// No call but `new` takes memory. Queues, their order, flow control and the calls are those of UNIX System V Release 4
-/// STREAMS.
+/// Each band has two water marks: at first those of its queue's spec, then those of the last `strqset`. A queue that is
+/// enabled is on the run list until `next_service` takes it off.
+///
+/// Calls that touch messages also take the `Blocks`, and require that the two agree (`Agrees`). That means: there is a
+/// shelf for each queue, in priority order; what is stored of it is true; wanted bands have more bytes than their low
+/// water mark. New `Queues` agree with new `Blocks` of as many shelves. All calls here keep this, and so does every
+/// call of `Blocks` except `shelve` and `unshelve`.
+///
+/// Only `new` allocates. The source is the UNIX System V Release 4 Programmer's Guide: STREAMS.
 #[derive(Debug, Drop)]
 pub struct Queues {
     queues: Vec<Queue>,
-    // The queues that wait to be served are list 0, in which queue q is node q.
+    // List 0 has the queues that wait to be served; queue q is node q.
     run: Links,
 }
 
 #[derive(Debug, Drop)]
 struct Queue {
     spec: QueueSpec,
-    // What is stored of its messages.
+    // What is stored of the queue's messages.
     tally: Tally,
-    // The water marks of its bands.
+    // The water marks of the queue's bands.
     marks: MarkTable,
-    // Its flags.
+    // The flags: want to read, no enabling, and the wanted bands.
     read: bool,
     noenable: bool,
     wanted: BandSet,
@@ -75,15 +77,15 @@ impl Model for Queues {
 
     ghost Value = { QueuesValue };
 
-    ghost use Rattle.strm_queue.specs.QueuesLayout.{IsLawful, value_of};
+    ghost use Rattle.strm_queue.specs.QueuesLayout.{IsSound, value_of};
 
     ghost view = { value_of };
 
-    ghost invariant = { IsLawful };
+    ghost invariant = { IsSound };
 }
 
 impl Queue {
-    // A queue on which nothing stands.
+    // A queue without messages.
     fn new(spec: QueueSpec) -> Queue
         ensures { result ≡ new_queue spec }
     {
@@ -102,10 +104,9 @@ impl Queue {
 }
 
 impl Queues {
-    /// Empty queues, which are made so: one to sixteen, each low water mark below the high one; a next queue has a
-    /// greater number than its own queue, is one of these and is named once.
-    ///
-    /// Fails where the memory for them is refused, and then keeps none.
+    /// Makes empty queues from 1 to 16 specs. Each low water mark must be below the high one. A next queue must exist, have
+    /// a greater number than its own queue, and be named once. If memory is refused, this returns `AllocError` and keeps
+    /// none.
     pub fn new(alloc: Global, specs: &[QueueSpec]) -> Result<Queues, AllocError>
         requires { IsTrue (are_lawful specs.now) }
         ensures { IfOk result (λ v. v ≡ opening_value specs.now) }
@@ -119,7 +120,7 @@ impl Queues {
         Ok(Queues { queues, run })
     }
 
-    /// Whether there is a queue of this number. Nothing changes.
+    /// Says whether there is a queue of this number.
     pub fn has_queue(&self, queue: u8) -> bool
         ensures { result ≡ nat_lt queue (length self.now.state.specs) }
     {
@@ -142,7 +143,8 @@ impl Queues {
         requires len { (tally_at self.old queue).len + 1 < 2 ^ 32 }
         requires bytes { (tally_at self.old queue).bytes + placed.size < 2 ^ 32 }
         requires count { count_of (tally_at self.old queue) (band_of_rank placed.rank) + placed.size < 2 ^ 32 }
-        ensures { self.new ≡ with_tally queue (one_more (hiwat_of self.old.state queue (band_of_rank placed.rank)) placed (tally_at self.old queue)) self.old }
+        ensures { self.new ≡ with_tally queue (one_more (hiwat_of self.old.state queue (band_of_rank placed.rank))
+            placed (tally_at self.old queue)) self.old }
     {
         let hiwat = self.hiwat(queue, band_of(placed.rank));
         self.queues[usize::from(queue)].tally.join(hiwat, placed);
@@ -156,22 +158,24 @@ impl Queues {
         requires len { 1 ≤ (tally_at self.old queue).len }
         requires bytes { placed.size ≤ (tally_at self.old queue).bytes }
         requires count { placed.size ≤ count_of (tally_at self.old queue) (band_of_rank placed.rank) }
-        ensures { self.new ≡ with_tally queue (one_less (hiwat_of self.old.state queue (band_of_rank placed.rank)) placed (tally_at self.old queue)) self.old }
+        ensures { self.new ≡ with_tally queue (one_less (hiwat_of self.old.state queue (band_of_rank placed.rank))
+            placed (tally_at self.old queue)) self.old }
     {
         let hiwat = self.hiwat(queue, band_of(placed.rank));
         self.queues[usize::from(queue)].tally.leave(hiwat, placed);
     }
 
-    // Notes anew whether a band of a queue is full.
+    // Stores anew whether a band of a queue is full.
     fn recount(&mut self, queue: u8, band: u8)
         requires { queue < length self.old.state.specs }
-        ensures { self.new ≡ with_tally queue (recounted (hiwat_of self.old.state queue band) band (tally_at self.old queue)) self.old }
+        ensures { self.new ≡ with_tally queue (recounted (hiwat_of self.old.state queue band)
+            band (tally_at self.old queue)) self.old }
     {
         let hiwat = self.hiwat(queue, band);
         self.queues[usize::from(queue)].tally.recount(hiwat, band);
     }
 
-    // What a queue was made with.
+    // The spec that a queue was made with.
     fn spec(&self, queue: u8) -> QueueSpec
         requires { queue < length self.now.state.specs }
         ensures { result ≡ spec_at self.now.state.specs queue }
@@ -187,7 +191,7 @@ impl Queues {
         self.queues[usize::from(queue)].marks.at(band)
     }
 
-    // The high one.
+    // The high water mark of a band of a queue.
     fn hiwat(&self, queue: u8, band: u8) -> u32
         requires { queue < length self.now.state.specs }
         ensures { result ≡ hiwat_of self.now.state queue band }
@@ -195,7 +199,7 @@ impl Queues {
         self.marks(queue, band).hiwat
     }
 
-    // The law that the queues were lawful when they were made, and that no low water mark meets a high one. Does nothing.
+    // Law: the specs are lawful, and each low water mark is below its high one. Does nothing.
     fn made_lawful(&self)
         ensures specs { IsTrue (are_lawful self.now.state.specs) }
         ensures apart { AreMarksApart self.now.state }
@@ -203,31 +207,34 @@ impl Queues {
         let _ = &self.queues;
     }
 
-    /// The law of queues and the message blocks that they agree with, whatever calls made them so. Does nothing.
+    /// Law: queues that agree with message blocks are in priority order, and what is stored of them is true. Does nothing.
+    #[tactic(auto, using(crate::proofs::layout::Running::run_short))]
     pub fn lawful(&self, blocks: &Blocks)
         requires { Agrees self.now blocks.now }
-        // The queues are lawful, of which there are `MOST_QUEUES` at most; each has flags, and no more of them are on the
-        // run list than there are.
+        // The specs are lawful, there are at most `MOST_QUEUES` queues, each has flags, and the run list is no longer than
+        // their number.
         ensures specs { IsTrue (are_lawful self.now.state.specs) }
         ensures few { length self.now.state.specs ≤ most_queues }
         ensures flagged { length self.now.state.flags ≡ length self.now.state.specs }
         ensures short { length self.now.state.run ≤ length self.now.state.specs }
-        // Each queue is in priority order, and reads alike both ways: following `after` from the first head on its shelf
-        // gives the heads of its messages, and following `before` from the last gives their reverse.
+        // Each queue is in priority order. Following `after` from the first head on its shelf gives the heads of its
+        // messages, and following `before` from the last one gives them in reverse.
         ensures ordered { (queue : ℕ) → IsTrue (is_ordered (rank_of blocks.now.store) (shelf_at blocks.now queue)) }
-        ensures forward { (queue : ℕ) → let heads = heads_at blocks.now queue in rows.Reads (λ head. rows.after head heads) (rows.first heads) heads }
-        ensures backward { (queue : ℕ) → let heads = heads_at blocks.now queue in rows.Reads (λ head. rows.before head heads) (rows.last heads) (reverse heads) }
-        // What is stored of each queue is true of its messages: as the count of a band the sum of their bytes, and as its full
-        // mark whether that is at least the high water mark.
+        ensures forward { (queue : ℕ) → let heads = heads_at blocks.now queue in
+            rows.Reads (λ head. rows.after head heads) (rows.first heads) heads }
+        ensures backward { (queue : ℕ) → let heads = heads_at blocks.now queue in
+            rows.Reads (λ head. rows.before head heads) (rows.last heads) (reverse heads) }
+        // The stored counts are true: each band has as many bytes as its messages. So are the full marks: a band is full if
+        // that is at least its high water mark.
         ensures counts { (queue : ℕ) → queue < length self.now.state.specs → AreCountsTrue self.now blocks.now queue }
         ensures full { (queue : ℕ) → queue < length self.now.state.specs → AreFullMarksTrue self.now blocks.now queue }
-        // The low water mark of each band is below its high one, and a wanted mark stands only where the band has more bytes
-        // than the low one.
+        // The low water mark of each band is below its high one, and a wanted band has more bytes than its low water mark.
         ensures apart { AreMarksApart self.now.state }
         ensures marks { (queue : ℕ) → AreMarksLawful self.now.state blocks.now queue }
         // The bytes of a queue's bands add up to those of its messages.
-        ensures whole { (queue : ℕ) → sum_by (λ band. band_count blocks.now.store band (shelf_at blocks.now queue)) every_band ≡ bytes_on (shelf_at blocks.now queue) }
-        // No queue is on the run list twice, and each that is has a service procedure.
+        ensures whole { (queue : ℕ) → sum_by (λ band. band_count blocks.now.store band (shelf_at blocks.now queue))
+            every_band ≡ bytes_on (shelf_at blocks.now queue) }
+        // No queue is on the run list twice, and each queue on it has a service procedure.
         ensures once { rows.IsApart self.now.state.run }
         ensures served { All (λ queue. IsTrue (spec_at self.now.state.specs queue).service) self.now.state.run }
     {

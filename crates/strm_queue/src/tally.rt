@@ -1,4 +1,4 @@
-//! What is stored of a queue's messages.
+//! What is stored of a queue's messages, so that `qsize`, `bcanput` and `putq` walk along no list.
 ghost use Rattle.std.specs.Prelude.{◌≡◌, ◌+◌, ◌-◌, ◌<◌, ◌≤◌, ◌^◌, ℕ, false};
 ghost use Rattle.std.specs.Option.{ForSome, IfNone, IfSome};
 ghost use Rattle.strm_queue.specs.Flow.{band_of_rank, has_band};
@@ -12,8 +12,7 @@ use std::mem::size_of;
 use strm_links::Slot;
 use strm_mblk::BlockNo;
 
-// A message as it stands on a queue: its head, its rank and its bytes, and the heads of the messages ahead of it and
-// behind it, if there are such.
+// A message as it is on a queue: its head, rank and bytes, and the heads of the messages before and after it, if any.
 #[derive(Clone, Copy, Debug)]
 pub(crate) struct Placed {
     pub(crate) head: BlockNo,
@@ -23,8 +22,8 @@ pub(crate) struct Placed {
     pub(crate) behind: Option<BlockNo>,
 }
 
-// What is stored of a queue's messages: how many there are, and their bytes; for each band how many bytes it has; the bands
-// that are full; for each rank the heads of its first and of its last message; and the bands that as ranks have messages.
+// What is stored of a queue's messages: their number and bytes, the bytes of each band, and the bands that are full. For
+// each rank it has the heads of the first and last message. `used` is the bands that, as ranks, have messages.
 #[derive(Debug, Drop)]
 pub(crate) struct Tally {
     len: u32,
@@ -47,7 +46,7 @@ impl Model for Tally {
 }
 
 impl Tally {
-    // Of no messages.
+    // What is stored of an empty queue.
     pub(crate) fn new() -> Tally
         ensures { result ≡ no_tally }
     {
@@ -62,28 +61,28 @@ impl Tally {
         }
     }
 
-    // How many messages there are.
+    // The number of messages.
     pub(crate) fn len(&self) -> u32
         ensures { result ≡ self.now.len }
     {
         self.len
     }
 
-    // How many bytes they have.
+    // The number of their bytes.
     pub(crate) fn bytes(&self) -> u32
         ensures { result ≡ self.now.bytes }
     {
         self.bytes
     }
 
-    // How many bytes a band has.
+    // The number of bytes of a band.
     pub(crate) fn count(&self, band: u8) -> u32
         ensures { result ≡ count_of self.now band }
     {
         self.counts[usize::from(band)]
     }
 
-    // How many bytes each band has.
+    // The number of bytes of each band.
     pub(crate) fn counts(&self) -> &[u32; BANDS]
         ensures { result.now ≡ self.now.counts }
     {
@@ -97,7 +96,7 @@ impl Tally {
         self.full.has(band)
     }
 
-    // The head of the first message of a rank, if there is one.
+    // The head of the first message of a rank, if any.
     pub(crate) fn first(&self, rank: u16) -> Option<BlockNo>
         requires { rank < ranks }
         ensures { result ≡ first_in self.now rank }
@@ -105,7 +104,7 @@ impl Tally {
         self.firsts[usize::from(rank)].get()
     }
 
-    // The head of the last message of a rank, if there is one.
+    // The head of the last message of a rank, if any.
     pub(crate) fn last(&self, rank: u16) -> Option<BlockNo>
         requires { rank < ranks }
         ensures { result ≡ last_in self.now rank }
@@ -113,7 +112,7 @@ impl Tally {
         self.lasts[usize::from(rank)].get()
     }
 
-    // The smallest rank from this one on that has messages, if there is one.
+    // The smallest rank that is this one or above and has messages, if any.
     pub(crate) fn rank_at_least(&self, rank: u16) -> Option<u16>
         requires { rank < ranks }
         ensures some { IfSome result (λ found. IsRankFrom self.now rank found) }
@@ -128,7 +127,7 @@ impl Tally {
         Some(HIGH_RANK)
     }
 
-    // The greatest rank up to this one that has messages, if there is one.
+    // The greatest rank that is this one or below and has messages, if any.
     pub(crate) fn rank_at_most(&self, rank: u16) -> Option<u16>
         requires { rank < ranks }
         ensures some { IfSome result (λ found. IsRankTo self.now rank found) }
@@ -141,7 +140,7 @@ impl Tally {
         Some(u16::from(band))
     }
 
-    // A message has joined.
+    // Counts a message that has joined the queue; `hiwat` is the high water mark of its band.
     pub(crate) fn join(&mut self, hiwat: u32, placed: Placed)
         requires rank { placed.rank < ranks }
         requires numbered { IsNumbered placed }
@@ -166,7 +165,7 @@ impl Tally {
         self.set_ends(rank, first, last);
     }
 
-    // A message has left.
+    // Counts out a message that has left the queue; `hiwat` is the high water mark of its band.
     pub(crate) fn leave(&mut self, hiwat: u32, placed: Placed)
         requires rank { placed.rank < ranks }
         requires numbered { IsNumbered placed }
@@ -193,14 +192,14 @@ impl Tally {
         self.set_ends(rank, next_first, next_last);
     }
 
-    // A band has this high water mark.
+    // Sets or clears the full mark of a band whose high water mark is now `hiwat`.
     pub(crate) fn recount(&mut self, hiwat: u32, band: u8)
         ensures { self.new ≡ recounted hiwat band self.old }
     {
         self.set_count(hiwat, band, self.count(band));
     }
 
-    // Stores how many bytes a band has.
+    // Stores the number of bytes of a band, and its full mark.
     fn set_count(&mut self, hiwat: u32, band: u8, count: u32)
         ensures { self.new ≡ with_count hiwat band count self.old }
     {
@@ -208,7 +207,8 @@ impl Tally {
         self.full.set(band, hiwat <= count);
     }
 
-    // Stores the first and the last message of a rank.
+    // Stores the heads of the first and the last message of a rank.
+    #[tactic(auto, using(std::proofs::lemmas::List::set_past, crate::proofs::bands::Bands::length_every_band))]
     fn set_ends(&mut self, rank: u16, first: Slot, last: Slot)
         requires { rank < ranks }
         ensures { self.new ≡ with_ends rank first last self.old }
@@ -229,7 +229,8 @@ pub(crate) fn band_of(rank: u16) -> u8
     u8::try_from(rank).unwrap_or(0)
 }
 
-// An end of a rank once this message has joined it: it, where there was none, or where the end stands beside it.
+// An end of a rank after a message joined it: the new message if the rank was empty or its end is `beside`, else the old
+// end.
 fn end_joined(end: Slot, beside: Option<BlockNo>, head: BlockNo) -> Slot
     requires { head < 2 ^ 32 - 1 }
     ensures { result ≡ end_joined end beside head }
@@ -240,7 +241,8 @@ fn end_joined(end: Slot, beside: Option<BlockNo>, head: BlockNo) -> Slot
     }
 }
 
-// An end of a rank, whose other end is given, once this message has left: the one beside it, where it was this end alone.
+// An end of a rank after a message left it. If that message was the end: `beside`, or none if it was the rank's only
+// message. Otherwise: the old end.
 fn end_left(end: Slot, other: Slot, beside: Option<BlockNo>, head: BlockNo) -> Slot
     requires head { head < 2 ^ 32 - 1 }
     requires beside { ForSome beside (λ at. at < 2 ^ 32 - 1) }

@@ -15,10 +15,10 @@ mod drawn;
 mod reading;
 mod rows;
 
-// The rank of high priority messages: each band is a rank, and this one is above them.
+// The rank of high priority messages, above all bands, which are ranks too.
 const HIGH_RANK: u16 = BANDS as u16;
 
-// A queue with a service procedure, and no next one.
+// The spec of a queue with a service procedure and without a next one.
 const QUEUE: QueueSpec = QueueSpec {
     hiwat: 10,
     lowat: 4,
@@ -26,10 +26,10 @@ const QUEUE: QueueSpec = QueueSpec {
     next: None,
 };
 
-// It alone.
+// One queue with a service procedure.
 const ALONE: [QueueSpec; 1] = [QUEUE];
 
-// What a message of one block is made with.
+// The type, band and number of bytes of a message of one block.
 #[derive(Clone, Copy)]
 struct Draft {
     kind: MsgType,
@@ -37,13 +37,13 @@ struct Draft {
     size: u32,
 }
 
-// As many bytes as a message may get.
+// The bytes to write: as many as a message may get.
 const BYTES: [u8; 8] = [7; 8];
 
-// How many message blocks there are.
+// The number of message blocks.
 const MESSAGES: u32 = MOST_MESSAGE_BLOCKS;
 
-// New queues, and message blocks with a shelf for each.
+// Makes queues, and message blocks with a shelf for each queue.
 fn opened(
     rt: &impl Abort,
     alloc: Global,
@@ -59,7 +59,7 @@ fn opened(
     (Queues::new(alloc, queues).expect(rt, "memory"), blocks)
 }
 
-// A new message of one block.
+// Makes a message of one block.
 fn allocated(rt: &impl Abort, queues: &Queues, blocks: &mut Blocks) -> Token
     requires { Agrees queues.now blocks.old }
     ensures agrees { Agrees queues.now blocks.new }
@@ -92,7 +92,7 @@ fn set_band(queues: &Queues, blocks: &mut Blocks, token: &Token, band: u8)
     blocks.setband(token, band);
 }
 
-// Writes so many bytes to a message of one block.
+// Writes `size` bytes to a message of one block.
 fn write(rt: &impl Abort, queues: &Queues, blocks: &mut Blocks, token: &Token, size: u32)
     requires agrees { Agrees queues.now blocks.old }
     requires had { IsTrue (has blocks.old token.now) }
@@ -103,7 +103,7 @@ fn write(rt: &impl Abort, queues: &Queues, blocks: &mut Blocks, token: &Token, s
     assert_eq!(rt; blocks.write(token, 0, &BYTES[..size as usize]), Ok(()));
 }
 
-// A new message of one block, made so.
+// Makes a message of one block as the draft says.
 fn drafted(rt: &impl Abort, queues: &Queues, blocks: &mut Blocks, how: Draft) -> Token
     requires { Agrees queues.now blocks.old }
     ensures agrees { Agrees queues.now blocks.new }
@@ -116,7 +116,7 @@ fn drafted(rt: &impl Abort, queues: &Queues, blocks: &mut Blocks, how: Draft) ->
     token
 }
 
-// How a message of no bytes and this rank is made: of high priority for that rank, and then with band 9, else of this band.
+// A draft of a message of no bytes with this rank: high priority, with band 9, or else of this band.
 fn ranked(rank: u16) -> Draft {
     match u8::try_from(rank) {
         Ok(band) => Draft {
@@ -132,7 +132,7 @@ fn ranked(rank: u16) -> Draft {
     }
 }
 
-// A message that names the data of another.
+// Makes a message that references the data of another.
 fn duplicated(rt: &impl Abort, queues: &Queues, blocks: &mut Blocks, token: &Token) -> Token
     requires agrees { Agrees queues.now blocks.old }
     requires had { IsTrue (has blocks.old token.now) }
@@ -144,7 +144,7 @@ fn duplicated(rt: &impl Abort, queues: &Queues, blocks: &mut Blocks, token: &Tok
     }
 }
 
-// Puts a message behind another.
+// Appends a message to another.
 fn linked(queues: &Queues, blocks: &mut Blocks, message: &mut Token, tail: Token)
     requires agrees { Agrees queues.now blocks.old }
     requires head { IsTrue (has blocks.old message.old) }
@@ -175,7 +175,7 @@ fn rank_of(rt: &impl Abort, blocks: &Blocks, token: &Token) -> u16 {
     }
 }
 
-// The message was put.
+// The message was put on the queue.
 fn assert_put(rt: &impl Abort, blocks: &mut Blocks, answer: Result<(), Rejected>)
     ensures { blocks.new ≡ blocks.old }
 {

@@ -1,6 +1,12 @@
 -- When queues and message blocks agree, and how calls keep it.
-use Rattle.std.proofs.Common.{◌≡◌, ℕ, zero, suc, Bool, ◌+◌, ◌<◌, ◌≤◌, ◌≢◌, true, false, ◌&&◌, ◌==◌, List, [], ◌∷◌, ◌++◌, length, get_or, set, replicate, Option, refl, sym, ap, ◌∙◌, subst, inl, inr, arith, if◌then◌else◌, length-set, length-append, get_or-set_same, get_or-set_other}
-use Rattle.std.specs.Prelude.{nat_le, not, is_some}
+use Rattle.std.proofs.Common.{◌≡◌, ℕ, ◌<◌, true, length, sym, ap, ◌∙◌, subst, arith, zero, suc, Bool, ◌+◌, ◌≤◌, ◌≢◌, false, ◌&&◌, ◌==◌, List, [], ◌∷◌, ◌++◌, get_or, set, replicate, Option, refl, if◌then◌else◌, length-set, length-append}
+use Rattle.std.proofs.lemmas.Grind.{common_steps}
+use Rattle.strm_mblk.specs.Arena.{Arena, shelf_at, opening_arena, shelved_blocks}
+use Rattle.strm_queue.specs.Flow.{QueueState, band_count, flags_at, has_band, Flags, band_of_rank, enabled_where, every_band, fills, hiwat_of, is_of_band, opening_flags, opening_queues, with_read}
+use Rattle.strm_queue.specs.QueuedBlocks.{Agrees, AreInOrder, QueuesValue, tally_at, AreMarksLawful, opening_value, with_tally}
+use Rattle.strm_queue.specs.Tallies.{IsTallyOf, Tally, no_tally, one_less, one_more}
+use Rattle.strm_queue.proofs.layout.Lawful.{marks_below}
+use Rattle.std.specs.Prelude.{nat_le, is_some}
 use Rattle.std.specs.List.{All, flat_map, list_all}
 use Rattle.std.proofs.lemmas.Bool.{cases_eq, false≢true}
 use Rattle.std.proofs.lemmas.List.{get_or_append_left, get_or-append-add, length-map, length-replicate}
@@ -8,47 +14,39 @@ use Rattle.strm_data.specs.declared.class_spec.ClassSpec.{ClassSpec}
 use Rattle.strm_data.specs.DataStore.{DataBlock, DataStore}
 use Rattle.strm_data.specs.MsgType.{is_high_priority}
 use Rattle.std.proofs.lemmas.List.Sums.{sum_by-cons}
-use Rattle.strm_mblk.specs.Arena.{Arena, opening_arena, shelf_at, shelved_blocks}
 use Rattle.strm_mblk.specs.Block.{Message, head_of, size_of}
 use Rattle.strm_mblk.specs.Frame.{IsSameData, LeavesShelves}
 use Rattle.strm_mblk.specs.Messages.{blocks_on, put_before_head}
 use Rattle.strm_links.specs.Rows as rows
 use Rattle.strm_queue.specs.declared.queue_spec.QueueSpec.{QueueSpec}
 use Rattle.strm_queue.specs.Ends.{of_rank}
-use Rattle.strm_queue.specs.Flow.{Flags, QueueState, band_count, band_of_rank, enabled_where, every_band, fills, flags_at, has_band, hiwat_of, is_of_band, lowat_of, opening_flags, opening_queues, spec_at, with_read}
-use Rattle.strm_queue.specs.QueuedBlocks.{Agrees, AreInOrder, AreMarksLawful, QueuesValue, opening_value, tally_at, with_tally}
-use Rattle.strm_queue.specs.Tallies.{IsTallyOf, Tally, no_tally, one_less, one_more}
 use Rattle.strm_queue.specs.Rank.{is_ordered, rank_of}
 use Rattle.strm_queue.proofs.counting.Counts.{band_count-placed}
-use Rattle.strm_queue.proofs.agreeing.Flagged.{agrees_state}
-use Rattle.strm_queue.proofs.order.Order.{ordered_without}
+use Rattle.strm_queue.proofs.order.Order.{around}
 use Rattle.strm_queue.specs.Limits.{high_rank}
 use Rattle.strm_queue.specs.QueueSpecs.{are_lawful}
 use Rattle.strm_queue.proofs.Lists.{get_or-map_same, get_or-replicate_same}
-use Rattle.strm_queue.proofs.layout.Lawful.{marks_below}
 use Rattle.strm_queue.proofs.counting.Tallies.{tally_joined, tally_left, tally_none, IsPlaced}
 use Rattle.strm_queue.specs.declared.tally.Placed.{Placed}
 use Rattle.strm_queue.proofs.shelf.OnShelf.{heads}
 use Rattle.strm_links.specs.Rows.{IsApart}
 
--- queue q has other messages, and what is stored of it is other
+module _ (v : QueuesValue) (a : Arena) (s : QueueState) (specs : s.specs ≡ v.state.specs) (marks : s.marks ≡ v.state.marks) where
+  pub in_order_state : AreInOrder v a → AreInOrder (record v { state = s }) a
+  in_order_state in_order = grind (arith, common_steps)
+
+  pub agrees_state : ((q : ℕ) → (flags_at s q).wanted ≡ (flags_at v.state q).wanted) → Agrees v a → Agrees (record v { state = s }) a
+  agrees_state wanted agrees = grind (arith, common_steps)
+
+-- ---- one queue has other messages
+
+-- queue q gets other messages and another tally
 module _ (v : QueuesValue) (a : Arena) (in_order : AreInOrder v a) (q : ℕ) (within : q < length v.state.specs) (ms : List Message) (t : Tally)
     (b : Arena) (store : b.store ≡ a.store) (shelves : b.shelves ≡ set a.shelves q ms) where
-  -- what is true of these, and of all other queues as they were, is true of each
+  -- what holds of q's new messages and of every other queue's old ones holds of each queue
   each_at : (P : DataStore → ℕ → List Message → Tally → Type 0) → P a.store q ms t → ((p : ℕ) → P a.store p (shelf_at a p) (tally_at v p))
       → (p : ℕ) → P b.store p (shelf_at b p) (tally_at (with_tally q t v) p)
-  each_at P here others p =
-      subst (λ s. P s p (shelf_at b p) (tally_at (with_tally q t v) p)) (sym store)
-      (subst (λ x. P a.store p (get_or x p []) (tally_at (with_tally q t v) p)) (sym shelves)
-      (elim (cases_eq p q) [
-        | inl same ↦
-            subst (λ k. P a.store k (get_or (set a.shelves q ms) k []) (get_or (set v.tallies q t) k no_tally)) (sym same)
-            (subst (λ x. P a.store q x (get_or (set v.tallies q t) q no_tally)) (sym (get_or-set_same a.shelves q ms [] (omega (arith, within, in_order.shelves))))
-            (subst (P a.store q ms) (sym (get_or-set_same v.tallies q t no_tally (omega (arith, within, in_order.stored)))) here))
-        | inr other ↦
-            subst (λ x. P a.store p x (get_or (set v.tallies q t) p no_tally)) (sym (get_or-set_other a.shelves q p ms [] other))
-            (subst (P a.store p (shelf_at a p)) (sym (get_or-set_other v.tallies q p t no_tally other)) (others p))
-      ]))
+  each_at P here others p = grind (arith, common_steps)
 
   pub in_order_set : is_ordered (rank_of a.store) ms ≡ true → IsTallyOf a.store (hiwat_of v.state q) ms t → AreInOrder (with_tally q t v) b
   in_order_set ordered true_of = record {
@@ -61,17 +59,13 @@ module _ (v : QueuesValue) (a : Arena) (in_order : AreInOrder v a) (q : ℕ) (wi
 -- ---- marks
 
 module _ (s : QueueState) (a : Arena) (q : ℕ) (ms : List Message) (b : Arena) (store : b.store ≡ a.store) (shelves : b.shelves ≡ set a.shelves q ms) where
-  -- marks of other queues are lawful as they were
+  -- wanted marks of other queues stay lawful
   pub marks_other : (p : ℕ) → p ≢ q → AreMarksLawful s a p → AreMarksLawful s b p
-  marks_other p other lawful band wanted =
-      subst (λ x. lowat_of s p band < band_count x band (shelf_at b p)) (sym store)
-      (subst (λ xs. lowat_of s p band < band_count a.store band xs) (sym (ap (λ x. get_or x p []) shelves ∙ get_or-set_other a.shelves q p ms [] other)) (lawful band wanted))
+  marks_other p other lawful band wanted = grind (arith, common_steps)
 
-  -- and so are those of q where no band lost bytes
+  -- those of q stay lawful if no band loses bytes
   marks_more : q < length a.shelves → ((band : ℕ) → band_count a.store band (shelf_at a q) ≤ band_count a.store band ms) → AreMarksLawful s a q → AreMarksLawful s b q
-  marks_more within more lawful band wanted =
-      subst (λ x. lowat_of s q band < band_count x band (shelf_at b q)) (sym store)
-      (subst (λ xs. lowat_of s q band < band_count a.store band xs) (sym (ap (λ x. get_or x q []) shelves ∙ get_or-set_same a.shelves q ms [] within)) (omega (arith, lawful band wanted, more band)))
+  marks_more within more lawful band wanted = grind (arith, common_steps)
 
 -- ---- one joins, one leaves
 
@@ -80,7 +74,7 @@ module _ (v : QueuesValue) (a : Arena) (in_order : AreInOrder v a) (q : ℕ) (wi
   hiwat = hiwat_of v.state q
 
   module _ (pre post : List Message) (p : Placed) (placed : IsPlaced a.store pre post m p) (apart : IsApart (heads (pre ++ m ∷ post))) where
-    -- a message joins where it keeps the order
+    -- a message joins at a place that keeps the order
     pub in_order_put : shelf_at a q ≡ pre ++ post → b.shelves ≡ set a.shelves q (pre ++ m ∷ post) → is_ordered (rank_of a.store) (pre ++ m ∷ post) ≡ true → AreInOrder (with_tally q (one_more (hiwat (band_of_rank p.rank)) p (tally_at v q)) v) b
     in_order_put is shelves ordered =
         in_order_set v a in_order q within (pre ++ m ∷ post) (one_more (hiwat (band_of_rank p.rank)) p (tally_at v q)) b store shelves ordered
@@ -90,40 +84,25 @@ module _ (v : QueuesValue) (a : Arena) (in_order : AreInOrder v a) (q : ℕ) (wi
     pub in_order_got : shelf_at a q ≡ pre ++ m ∷ post → b.shelves ≡ set a.shelves q (pre ++ post) → AreInOrder (with_tally q (one_less (hiwat (band_of_rank p.rank)) p (tally_at v q)) v) b
     in_order_got is shelves =
         let ordered = subst (λ ms. is_ordered (rank_of a.store) ms ≡ true) is (in_order.ordered q) in
-        in_order_set v a in_order q within (pre ++ post) (one_less (hiwat (band_of_rank p.rank)) p (tally_at v q)) b store shelves (ordered_without (rank_of a.store) pre post m ordered)
+        in_order_set v a in_order q within (pre ++ post) (one_less (hiwat (band_of_rank p.rank)) p (tally_at v q)) b store shelves (around (rank_of a.store) pre post m ordered).others
         (tally_left a.store m hiwat (tally_at v q) pre post p placed (subst (λ ms. IsTallyOf a.store hiwat ms (tally_at v q)) is (in_order.true_of q within)) ordered apart)
 
--- the marks of all queues stay lawful where a message joins one
+-- wanted marks of all queues stay lawful when a message joins one
 pub marks_put : (v : QueuesValue) (a : Arena) (agrees : Agrees v a) (q : ℕ) (within : q < length v.state.specs) (before : Option ℕ) (m : Message) (b : Arena) → b.store ≡ a.store
     → b.shelves ≡ set a.shelves q (put_before_head head_of before m (shelf_at a q)) → (p : ℕ) → AreMarksLawful v.state b p
-marks_put v a agrees q within before m b store shelves p =
-    elim (cases_eq p q) [
-      | inl same ↦
-          subst (AreMarksLawful v.state b) (sym same)
-          (marks_more v.state a q (put_before_head head_of before m (shelf_at a q)) b store shelves (omega (arith, within, agrees.in_order.shelves))
-          (λ band. omega (arith, band_count-placed a.store band before m (shelf_at a q))) (agrees.marks q))
-      | inr other ↦ marks_other v.state a q (put_before_head head_of before m (shelf_at a q)) b store shelves p other (agrees.marks p)
-    ]
+marks_put v a agrees q within before m b store shelves p = grind (arith, common_steps, cases_eq, marks_more, band_count-placed, marks_other)
 
 -- ---- enabling
 
--- enabling changes the run list alone
+-- enabling changes only the run list
 module _ (so : Bool) (q : ℕ) (s : QueueState) where
   pub enabled_alone : enabled_where so q s ≡ record s { run = (enabled_where so q s).run }
-  enabled_alone = by_cases so ((spec_at s.specs q).service && not (rows.has q s.run))
-    where
-      by_cases : (so here : Bool) → (let t : QueueState = if so then (if here then record s { run = s.run ++ q ∷ [] } else s) else s in t ≡ record s { run = t.run })
-      by_cases true true = refl
-      by_cases true false = refl
-      by_cases false here = refl
+  enabled_alone = grind (arith, common_steps)
 
 pub agrees_enabled : (v : QueuesValue) (a : Arena) (so : Bool) (q : ℕ) → Agrees v a → Agrees (record v { state = enabled_where so q v.state }) a
-agrees_enabled v a so q =
-    let alone = enabled_alone so q v.state in
-    agrees_state v a (enabled_where so q v.state) (ap (λ (t : QueueState). t.specs) alone) (ap (λ (t : QueueState). t.marks) alone)
-    (λ p. ap (λ (t : QueueState). (get_or t.flags p opening_flags).wanted) alone)
+agrees_enabled v a so q = grind (arith, common_steps, enabled_alone, agrees_state)
 
--- the want-to-read mark and the switched-off mark are other than wanted marks
+-- the want-to-read and no-enable marks do not touch wanted marks
 wanted_kept : (ms : List Flags) (q : ℕ) (m : Flags) → m.wanted ≡ (get_or ms q opening_flags).wanted → (p : ℕ) → (get_or (set ms q m) p opening_flags).wanted ≡ (get_or ms p opening_flags).wanted
 wanted_kept [] q m is p = refl
 wanted_kept (x ∷ xs) zero m is zero = is
@@ -141,7 +120,7 @@ pub rank_of-same : (s t : DataStore) (m : Message) → All (IsSameData s t) m �
 rank_of-same s t [] same = refl
 rank_of-same s t (b ∷ bs) same = ap (λ (d : DataBlock). if is_high_priority d.kind then high_rank else b.band) (same 0 b (omega arith))
 
--- what is true of each element of two lists together is true of each of either
+-- what holds of each element of two joined lists holds of each element of both
 All-parts : {X : Type 0} (P : X → Type 0) (xs ys : List X) → All P (xs ++ ys) → All P xs × All P ys
 All-parts P xs ys all = (
   λ k d within. subst P (get_or_append_left xs ys d k within) (all k d (omega (arith, within, length-append xs ys))),
@@ -149,14 +128,14 @@ All-parts P xs ys all = (
 )
 
 module _ (s t : DataStore) where
-  -- so do messages
+  -- messages with the same data pass the same tests of rank
   below_same : (r : ℕ) (ms : List Message) → All (IsSameData s t) (flat_map (λ m. m) ms) → list_all (λ y. nat_le (rank_of t y) r) ms ≡ list_all (λ y. nat_le (rank_of s y) r) ms
   below_same r [] same = refl
   below_same r (m ∷ ms) same =
       let parts = All-parts (IsSameData s t) m (flat_map (λ x. x) ms) same in
       λ i. nat_le (rank_of-same s t m parts.0 i) r && below_same r ms parts.1 i
 
-  -- and stay in order
+  -- and they stay in order
   ordered_same : (ms : List Message) → All (IsSameData s t) (flat_map (λ m. m) ms) → is_ordered (rank_of t) ms ≡ is_ordered (rank_of s) ms
   ordered_same [] same = refl
   ordered_same (m ∷ ms) same =
@@ -170,7 +149,7 @@ module _ (s t : DataStore) where
   shelf_same (ms ∷ shelves) zero same = (All-parts (IsSameData s t) (flat_map (λ m. m) ms) (blocks_on shelves) same).0
   shelf_same (ms ∷ shelves) (suc q) same = shelf_same shelves q (All-parts (IsSameData s t) (flat_map (λ m. m) ms) (blocks_on shelves) same).1
 
--- what stands on shelves is as it was, and so are the bytes of bands
+-- with the same data each band has the same bytes
 count_same : (s t : DataStore) (band : ℕ) (ms : List Message) → All (IsSameData s t) (flat_map (λ m. m) ms) → band_count t band ms ≡ band_count s band ms
 count_same s t band [] same = refl
 count_same s t band (m ∷ ms) same =
@@ -179,14 +158,14 @@ count_same s t band (m ∷ ms) same =
     ∙ (λ i. (if band_of_rank (rank_of-same s t m parts.0 i) == band then size_of m else 0) + count_same s t band ms parts.1 i)
     ∙ sym (sum_by-cons (λ x. if is_of_band s band x then size_of x else 0) m ms)
 
--- and so are the messages of a rank
+-- and each rank has the same messages
 of_rank-same : (s t : DataStore) (r : ℕ) (ms : List Message) → All (IsSameData s t) (flat_map (λ m. m) ms) → of_rank (rank_of t) r ms ≡ of_rank (rank_of s) r ms
 of_rank-same s t r [] same = refl
 of_rank-same s t r (m ∷ ms) same =
     let parts = All-parts (IsSameData s t) m (flat_map (λ x. x) ms) same in
     λ i. if rank_of-same s t m parts.0 i == r then m ∷ of_rank-same s t r ms parts.1 i else of_rank-same s t r ms parts.1 i
 
--- so what is stored stays true
+-- so the tally stays true
 tally_same : (s t : DataStore) (hiwat : ℕ → ℕ) (ms : List Message) (tally : Tally) → All (IsSameData s t) (flat_map (λ m. m) ms) → IsTallyOf s hiwat ms tally → IsTallyOf t hiwat ms tally
 tally_same s t hiwat ms tally same is = record {
   len = is.len;
@@ -205,7 +184,7 @@ tally_same s t hiwat ms tally same is = record {
   };
 }
 
--- a call that leaves the shelves and what stands there keeps the agreement
+-- a call that changes neither the shelves nor the data of their messages keeps the agreement
 module _ (v : QueuesValue) (a b : Arena) (shelves : b.shelves ≡ a.shelves) (same : All (IsSameData a.store b.store) (shelved_blocks a)) where
   pub in_order_left : AreInOrder v a → AreInOrder v b
   in_order_left in_order = record {

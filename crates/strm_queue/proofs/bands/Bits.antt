@@ -1,5 +1,6 @@
 -- Bits of shifted numbers, and the lowest and the highest 1 of a number.
 use Rattle.std.proofs.Common.{◌≡◌, ℕ, suc, ◌+◌, ◌-◌, ◌*◌, ◌/◌, ◌%◌, ◌^◌, ◌<◌, ◌≤◌, pow-suc, w64, inl, inr, sym, ap, ◌∙◌, arith}
+use Rattle.std.proofs.lemmas.Grind.{common_steps}
 use Rattle.std.specs.Int.{Width, bit_at, leading_zeros, trailing_zeros}
 use Rattle.std.proofs.lemmas.Bool.{cases_lt}
 use Rattle.std.proofs.lemmas.Nat.{leading_top, mod_below, pow_pos, shr-shr, shr_high, shr_le, shr_split}
@@ -33,7 +34,7 @@ module _ (w : Width) (n k : ℕ) where
 
 -- ---- the highest 1
 
--- `leading_zeros` of a number that is not 0 is how far its highest 1 stands below the last bit
+-- `leading_zeros` of a number that is not 0 is the distance of its highest 1 from the last bit
 bit_at-leading_zeros : (w : Width) (n : ℕ) → 0 < n → n < 2 ^ bits w
     → (j : ℕ) × (leading_zeros w n + suc j ≡ bits w) × (bit_at n j ≡ 1) × ((i : ℕ) → j < i → bit_at n i ≡ 0)
 bit_at-leading_zeros w n some fits =
@@ -47,13 +48,13 @@ bit_at-leading_zeros w n some fits =
 -- ---- of the bits of a word from a place on, or up to a place
 
 module _ (word place : ℕ) where
-  -- none is set where nothing is left
+  -- if the rest is 0, no bit is set
   pub none_from : word / 2 ^ place ≡ 0 → (i : ℕ) → place ≤ i → bit_at word i ≡ 0
   none_from nothing i from =
       let is : i ≡ place + (i - place) = omega (arith, from) in
       ap (bit_at word) is ∙ sym (bit_at_shr word place (i - place)) ∙ ap (λ x. bit_at x (i - place)) nothing ∙ bit_at-zero (i - place)
 
-  -- else the lowest is where the rest has it
+  -- else the lowest 1 is where the rest has it
   pub lowest_of : word < 2 ^ 64 → 0 < word / 2 ^ place → (found : ℕ) → found ≡ place + trailing_zeros w64 (word / 2 ^ place)
       → IsLowestFrom word place found
   lowest_of fits some found is = (omega (arith, is), below, set, before)
@@ -87,7 +88,7 @@ module _ (word place : ℕ) where
     bit_of : (i : ℕ) → i ≤ place → bit_at word i ≡ bit_at left_up_to (i + (63 - place))
     bit_of i to = sym (bit_at_shl w64 word (63 - place) i (omega (arith, within, to)))
 
-    -- none is set where nothing is left
+    -- if the rest is 0, no bit is set
     pub none_up_to : left_up_to ≡ 0 → (i : ℕ) → i ≤ place → bit_at word i ≡ 0
     none_up_to nothing i to = bit_of i to ∙ ap (λ x. bit_at x (i + (63 - place))) nothing ∙ bit_at-zero (i + (63 - place))
 
@@ -104,9 +105,7 @@ module _ (word place : ℕ) where
             | inr from ↦ omega (arith, within, from, highest.1)
           ]
 
-      -- and the highest is where the rest has it
+      -- and the highest 1 is where the rest has it
       pub highest_of : (found : ℕ) → found ≡ place - leading_zeros w64 left_up_to
           → IsHighestTo word place found
-      highest_of found is =
-          let at : found + (63 - place) ≡ highest.0 = omega (arith, is, within, zeros_up_to, highest.1) in
-          (omega (arith, is), bit_of found (omega (arith, is)) ∙ ap (bit_at left_up_to) at ∙ highest.2, λ i above to. bit_of i to ∙ highest.3 (i + (63 - place)) (omega (arith, at, above)))
+      highest_of found is = grind (arith, common_steps, highest, zeros_up_to, bit_of)

@@ -1,8 +1,9 @@
 -- The bytes of messages: of all, and of those of a band.
-use Rattle.std.proofs.Common.{◌≡◌, ℕ, zero, suc, ◌+◌, ◌<◌, ◌≤◌, ◌==◌, Bool, true, false, List, [], ◌∷◌, ◌++◌, Option, Some, None, refl, ap, ◌∙◌, inl, inr, arith, if◌then◌else◌, ◌^◌, length, get_or, length-append}
-use Rattle.std.specs.Prelude.{nat_lt, sum_by}
+use Rattle.std.proofs.Common.{◌≡◌, ℕ, zero, suc, ◌+◌, ◌<◌, ◌≤◌, ◌==◌, ◌&&◌, Bool, true, false, List, [], ◌∷◌, ◌++◌, Option, Some, None, refl, ap, ◌∙◌, inl, inr, arith, if◌then◌else◌, ◌^◌, length, get_or, length-append}
+use Rattle.std.specs.Prelude.{nat_le, nat_lt, sum_by}
 use Rattle.std.specs.List.{All, flat_map, range_with_len}
-use Rattle.std.proofs.lemmas.Bool.{cases_Bool, cases_lt, cond-true, cond-false, eqb-false, eqb-true, ltb-true, ne_eqb}
+use Rattle.std.proofs.lemmas.Bool.{cases_Bool, cases_lt, cond-true, cond-false}
+use Rattle.std.proofs.lemmas.Bool.Decides.{nat_tests}
 use Rattle.std.proofs.lemmas.List.{get_or_past}
 use Rattle.std.proofs.lemmas.List.Sums.{sum_by-append, sum_by-cons, sum_by-le, sum_by-le-sum_by, sum_by_push}
 use Rattle.strm_data.specs.CountedStore.{IsKept}
@@ -20,7 +21,7 @@ use Rattle.strm_queue.specs.Rank.{rank_of}
 -- ---- sums over messages, and one that joins or leaves
 
 module _ (f : Message → ℕ) where
-  -- one more stands before the message with a head, or last
+  -- one more message, before the one with a head, or last
   pub sum_by-placed : (before : Option ℕ) (m : Message) (ms : List Message) → sum_by f (put_before_head head_of before m ms) ≡ sum_by f ms + f m
   sum_by-placed None m ms = sum_by_push f ms m
   sum_by-placed (Some at) m [] = sum_by_push f [] m
@@ -36,7 +37,7 @@ module _ (f : Message → ℕ) where
         )
       ]
 
-  -- one is taken out
+  -- one message is taken out
   pub sum_by-left : (pre post : List Message) (m : Message) → sum_by f (pre ++ m ∷ post) ≡ sum_by f (pre ++ post) + f m
   sum_by-left pre post m = omega (arith, sum_by-append f pre (m ∷ post), sum_by-append f pre post, sum_by-cons f m post)
 
@@ -57,14 +58,14 @@ module _ (s : DataStore) (band : ℕ) where
   pub counted_most : (m : Message) → counted s band m ≤ size_of m
   counted_most m = part_most (is_of_band s band m) (size_of m)
 
-  -- those of one message, and those behind it
+  -- the bytes of the first message and those of the rest
   pub band_count-cons : (m : Message) (ms : List Message) → band_count s band (m ∷ ms) ≡ counted s band m + band_count s band ms
   band_count-cons m ms = sum_by-cons (counted s band) m ms
 
   pub count_adds : (xs ys : List Message) → band_count s band (xs ++ ys) ≡ band_count s band xs + band_count s band ys
   count_adds xs ys = sum_by-append (counted s band) xs ys
 
-  -- they are among all bytes
+  -- a band's bytes are at most all bytes
   pub count_in : (ms : List Message) → band_count s band ms ≤ bytes_on ms
   count_in ms = sum_by-le-sum_by (counted s band) size_of ms counted_most
 
@@ -84,56 +85,29 @@ sum_by-none : (xs : List ℕ) → sum_by (λ x. 0) xs ≡ 0
 sum_by-none [] = refl
 sum_by-none (x ∷ xs) = omega (arith, sum_by-cons (λ (y : ℕ). 0) x xs, sum_by-none xs)
 
--- what a number gets of what r has
+-- x if n is r, else 0
 abbrev share : ℕ → ℕ → ℕ → ℕ
 share r x n = if r == n then x else 0
 
--- nothing, where the numbers begin above r
-share_none : (r x from many : ℕ) → r < from → sum_by (share r x) (range_with_len from many) ≡ 0
-share_none r x from zero less = refl
-share_none r x from (suc many) less =
-    omega (
-      arith,
-      sum_by-cons (share r x) from (range_with_len (from + 1) many),
-      cond-false (r == from) x 0 (ne_eqb r from (λ same. omega (arith, less, same))),
-      share_none r x (from + 1) many (omega (arith, less)),
-    )
+-- the sum of the shares is x if r is one of the numbers
+share_none : (r x from : ℕ) → 0 ≡ (if nat_le from r && nat_lt r (from + 0) then x else 0)
+share_none r x from = grind (arith, nat_tests)
 
--- all of it, where r is one of them
-share_all : (r x from many : ℕ) → from ≤ r → r < from + many → sum_by (share r x) (range_with_len from many) ≡ x
-share_all r x from zero least most = absurd (omega (arith, least, most))
-share_all r x from (suc many) least most =
-    elim (cases_Bool (r == from)) [
-      | inl here ↦ omega (
-        arith,
-        sum_by-cons (share r x) from (range_with_len (from + 1) many),
-        cond-true (r == from) x 0 here,
-        share_none r x (from + 1) many (omega (arith, eqb-true r from here)),
-      )
-      | inr later ↦ omega (
-        arith,
-        sum_by-cons (share r x) from (range_with_len (from + 1) many),
-        cond-false (r == from) x 0 later,
-        share_all r x (from + 1) many (above later) (omega (arith, most)),
-      )
-    ]
-  where
-    above : (r == from) ≡ false → from + 1 ≤ r
-    above other = omega (arith, least, eqb-false r from other)
+share_more : (r x from many : ℕ) → share r x from + (if nat_le (from + 1) r && nat_lt r (from + 1 + many) then x else 0) ≡ (if nat_le from r && nat_lt r (from + suc many) then x else 0)
+share_more r x from many = grind (arith, nat_tests)
 
--- each rank counts with one of the bands
+share_sum : (r x from many : ℕ) → sum_by (share r x) (range_with_len from many) ≡ (if nat_le from r && nat_lt r (from + many) then x else 0)
+share_sum r x from zero = share_none r x from
+share_sum r x from (suc many) = omega (arith, sum_by-cons (share r x) from (range_with_len (from + 1) many), share_sum r x (from + 1) many, share_more r x from many)
+
+share_all : (r x many : ℕ) → r < many → sum_by (share r x) (range_with_len 0 many) ≡ x
+share_all r x many below = grind (arith, nat_tests, share_sum r x 0 many)
+
+-- each rank counts with an existing band
 pub band_of_rank_range : (r : ℕ) → band_of_rank r < bands
-band_of_rank_range r =
-    elim (cases_Bool (nat_lt r bands)) [
-      | inl low ↦
-          let same : band_of_rank r ≡ r = cond-true (nat_lt r bands) r 0 low in
-          omega (arith, same, ltb-true r bands low)
-      | inr high ↦
-          let none : band_of_rank r ≡ 0 = cond-false (nat_lt r bands) r 0 high in
-          omega (arith, none)
-    ]
+band_of_rank_range r = grind (arith, nat_tests)
 
--- the bytes of so many bands are those of the messages, where each message counts with one of them
+-- the bytes of the first `many` bands are those of the messages, if each message counts with one of these bands
 sum_of_bands : (s : DataStore) (many : ℕ) → ((r : ℕ) → band_of_rank r < many) → (ms : List Message) → sum_by (λ band. band_count s band ms) (range_with_len 0 many) ≡ bytes_on ms
 sum_of_bands s many within [] = sum_by-none (range_with_len 0 many)
 sum_of_bands s many within (m ∷ ms) =
@@ -142,7 +116,7 @@ sum_of_bands s many within (m ∷ ms) =
     ∙ sum_by-both (λ band. counted s band m) (λ band. band_count s band ms) numbers
     ∙ omega (
       arith,
-      share_all (band_of_rank (rank_of s m)) (size_of m) 0 many (omega arith) (omega (arith, within (rank_of s m))),
+      share_all (band_of_rank (rank_of s m)) (size_of m) many (within (rank_of s m)),
       sum_of_bands s many within ms,
       sum_by-cons size_of m ms,
     )
@@ -152,14 +126,14 @@ pub whole : (s : DataStore) (ms : List Message) → sum_by (λ band. band_count 
 unfolding every_band
 whole s ms = sum_of_bands s bands band_of_rank_range ms
 
--- ---- so few that they fit a number
+-- ---- the bytes of a queue fit 32 bits
 
 -- the bytes of messages are those of their blocks
 size_of-joined : (ms : List Message) → size_of (flat_map (λ m. m) ms) ≡ bytes_on ms
 size_of-joined [] = refl
 size_of-joined (m ∷ ms) = omega (arith, sum_by-append (λ (b : Block). b.len) m (flat_map (λ x. x) ms), sum_by-cons size_of m ms, size_of-joined ms)
 
--- one shelf is among all
+-- the bytes of one shelf are at most those of all
 among_shelves : (shelves : List (List Message)) (q : ℕ) → bytes_on (shelf_in shelves q) ≤ size_of (blocks_on shelves)
 among_shelves [] q = omega arith
 among_shelves (ms ∷ shelves) zero = omega (arith, sum_by-append (λ (b : Block). b.len) (flat_map (λ m. m) ms) (blocks_on shelves), size_of-joined ms)
@@ -173,7 +147,7 @@ len_most a kept b within =
       | inr past ↦ omega (arith, within, ap (λ (d : DataBlock). length d.bytes) (get_or_past a.store.blocks b.data_number no_data_block past))
     ]
 
--- a queue has fewer bytes than a number of 32 bits can say
+-- a queue's bytes fit 32 bits
 pub bytes_fit : (a : Arena) → IsKept (counted_in a) → All (IsWithin a.store) (blocks_in a) → length a.held ≤ most_message_blocks
     → (census_of a).free + (census_of a).queued + (census_of a).held ≡ length a.held → (q : ℕ) → bytes_on (shelf_at a q) < 2 ^ 32
 bytes_fit a kept within few all q =

@@ -1,8 +1,9 @@
--- What is stored of a queue's messages stays true where one of them joins or leaves.
-use Rattle.std.proofs.Common.{◌≡◌, ◌≢◌, ℕ, ◌+◌, ◌-◌, ◌<◌, ◌≤◌, ◌^◌, false, List, [], ◌∷◌, ◌++◌, length, get_or, set, Option, refl, sym, ap, ◌∙◌, inl, inr, arith, length-append, length-set, get_or-set_same, get_or-set_other, None, subst, true}
+-- The tally of a queue stays true when a message joins or leaves.
+use Rattle.std.proofs.Common.{◌≡◌, ◌≢◌, ℕ, ◌+◌, ◌-◌, ◌<◌, ◌≤◌, ◌^◌, false, List, [], ◌∷◌, ◌++◌, length, get_or, set, Option, refl, sym, ap, ◌∙◌, arith, length-append, length-set, None, subst, true}
 use Rattle.std.specs.Prelude.{is_some}
-use Rattle.std.proofs.lemmas.Bool.{cases_eq, cond-false, cond-true, eq-eqb, lt-leb, ne_eqb}
+use Rattle.std.proofs.lemmas.Bool.{cond-false, cond-true, eq-eqb, lt-leb, ne_eqb}
 use Rattle.std.proofs.lemmas.List.{get_or-replicate, length-replicate}
+use Rattle.std.proofs.lemmas.Grind.{common_steps}
 use Rattle.strm_data.specs.DataStore.{DataStore}
 use Rattle.strm_mblk.specs.Block.{Message, head_of, size_of}
 use Rattle.strm_queue.specs.Flow.{band_count, band_of_rank, bytes_on, fills}
@@ -12,7 +13,7 @@ use Rattle.strm_queue.specs.Ends.{first_of_rank, last_of_rank, of_rank}
 use Rattle.strm_queue.specs.Tallies.{IsNumbered, IsTallyOf, Tally, count_of, end_joined, end_left, first_in, last_in, no_tally, one_less, one_more, recounted, with_count, with_ends}
 use Rattle.strm_queue.specs.Rank.{rank_of, is_ordered}
 use Rattle.strm_queue.proofs.Lists.{get_or-replicate_same}
-use Rattle.strm_queue.proofs.bands.Bands.{has_band_where, length-bands_where, length-every_band}
+use Rattle.strm_queue.proofs.bands.Bands.{has_band_where, length-bands_where, length_every_band}
 use Rattle.strm_queue.proofs.counting.Counts.{band_count-left, band_of_rank_range, count_in, counted, bytes_on-left}
 use Rattle.strm_links.specs.Rows.{IsApart, first, has, last}
 use Rattle.strm_queue.proofs.shelf.OnShelf.{at_there, first_there, heads, last_there}
@@ -26,26 +27,26 @@ use Rattle.strm_queue.proofs.order.Ends.{first_joined, last_joined, first_left, 
 abbrev none_given : Option ℕ
 none_given = None
 
--- of no messages, where no band is full without bytes
+-- the empty tally is true of no messages, if no high water mark is 0
 pub tally_none : (s : DataStore) (hiwat : ℕ → ℕ) → ((band : ℕ) → band < bands → 0 < hiwat band) → IsTallyOf s hiwat [] no_tally
 tally_none s hiwat some = record {
   len = refl;
   bytes = refl;
   each_band = length-replicate {A = ℕ} bands 0;
-  each_mark = length-bands_where (λ band. false) ∙ length-every_band;
+  each_mark = length-bands_where (λ band. false) ∙ length_every_band;
   counts = λ band below. get_or-replicate bands band 0 0 below;
   full = λ band below. has_band_where (λ x. false) band below ∙ sym (lt-leb (hiwat band) 0 (some band below));
   ends = record {
     each_first = length-replicate {A = Option ℕ} ranks None;
     each_last = length-replicate {A = Option ℕ} ranks None;
-    each_used = length-bands_where (λ band. false) ∙ length-every_band;
+    each_used = length-bands_where (λ band. false) ∙ length_every_band;
     firsts = get_or-replicate_same ranks none_given;
     lasts = get_or-replicate_same ranks none_given;
     used = λ r below. has_band_where (λ x. false) r below;
   };
 }
 
--- a message stands between these, of this rank, with these bytes
+-- p is the entry of message m between these messages
 pub record IsPlaced (s : DataStore) (pre post : List Message) (m : Message) (p : Placed) : Type 0 where
   pub head : p.head ≡ head_of m
   pub rank : p.rank ≡ rank_of s m
@@ -54,7 +55,7 @@ pub record IsPlaced (s : DataStore) (pre post : List Message) (m : Message) (p :
   pub behind : p.behind ≡ first (heads post)
   pub few : p.rank < ranks
 
--- its number and those beside it are numbers of blocks, which are few
+-- its head and those of its neighbours are numbers of blocks, so they fit a slot
 pub numbered : (a : Arena) → IsParted a → length a.held ≤ most_message_blocks → (q : ℕ) (s : DataStore) (pre post : List Message) (m : Message) (p : Placed) → shelf_at a q ≡ pre ++ m ∷ post → IsPlaced s pre post m p
     → IsNumbered p
 numbered a parted few q s pre post m p is placed = record {
@@ -66,37 +67,16 @@ numbered a parted few q s pre post m p is placed = record {
     low : (k : ℕ) → has k (heads (pre ++ m ∷ post)) ≡ true → k < 2 ^ 32 - 1
     low k there = omega (arith, few, heads_room a parted q k (ap (λ ms. has k (heads ms)) is ∙ there))
 
--- what stands in a list where one was set
-at_set : {X : Type 0} (f : ℕ → X) (xs : List X) (k : ℕ) (v d : X) → k < length xs → v ≡ f k → (x : ℕ) → (x ≢ k → get_or xs x d ≡ f x) → get_or (set xs k v) x d ≡ f x
-at_set f xs k v d inside new x old =
-    elim (cases_eq x k) [
-      | inl same ↦ ap (λ j. get_or (set xs k v) j d) same ∙ get_or-set_same xs k v d inside ∙ new ∙ ap f (sym same)
-      | inr other ↦ get_or-set_other xs k x v d other ∙ old other
-    ]
+-- a list that agrees with f still does after f's value is set at one place
+at_set : {X : Type 0} (f : ℕ → X) (xs : List X) (k : ℕ) (v d : X) (x : ℕ) → (x ≡ k → k < length xs) → v ≡ f k → (x ≢ k → get_or xs x d ≡ f x) → get_or (set xs k v) x d ≡ f x
+at_set f xs k v d x inside new old = grind (arith, common_steps)
 
--- one band has another high water mark, and its full mark is told anew
+-- one band gets another high water mark, and its full mark is stored anew
 pub tally_recounted : (s : DataStore) (hiwat high : ℕ → ℕ) (ms : List Message) (t : Tally) → IsTallyOf s hiwat ms t → (band : ℕ) → band < bands → ((x : ℕ) → x ≢ band → high x ≡ hiwat x)
     → IsTallyOf s high ms (recounted (high band) band t)
-tally_recounted s hiwat high ms t is band within same = record {
-  len = is.len;
-  bytes = is.bytes;
-  each_band = length-set t.counts band (count_of t band) ∙ is.each_band;
-  each_mark = length-set t.full band (fills (high band) (count_of t band)) ∙ is.each_mark;
-  counts = λ x inside. at_set (λ j. band_count s j ms) t.counts band (count_of t band) 0 (omega (arith, within, is.each_band)) (is.counts band within) x (λ other. is.counts x inside);
-  full = λ x inside.
-      at_set (λ j. fills (high j) (band_count s j ms)) t.full band (fills (high band) (count_of t band)) false (omega (arith, within, is.each_mark)) (ap (fills (high band)) (is.counts band within)) x
-      (λ other. is.full x inside ∙ ap (λ n. fills n (band_count s x ms)) (sym (same x other)));
-  ends = record {
-    each_first = is.ends.each_first;
-    each_last = is.ends.each_last;
-    each_used = is.ends.each_used;
-    firsts = is.ends.firsts;
-    lasts = is.ends.lasts;
-    used = is.ends.used;
-  };
-}
+tally_recounted s hiwat high ms t is band within same = grind (arith, common_steps)
 
--- one band has another count, and one rank other ends
+-- one band gets another count, and one rank other ends
 module _ (s : DataStore) (hiwat : ℕ → ℕ) (ms ns : List Message) (t : Tally) (is : IsTallyOf s hiwat ms t) (len : ℕ) (long : len ≡ length ns) (bytes : ℕ) (heavy : bytes ≡ bytes_on ns)
     (band n : ℕ) (within : band < bands) (here : n ≡ band_count s band ns) (others : (x : ℕ) → x ≢ band → band_count s x ns ≡ band_count s x ms)
     (r : ℕ) (end beginning : Option ℕ) (below : r < ranks) (first_is : beginning ≡ first_of_rank (rank_of s) r ns) (last_is : end ≡ last_of_rank (rank_of s) r ns)
@@ -107,35 +87,25 @@ module _ (s : DataStore) (hiwat : ℕ → ℕ) (ms ns : List Message) (t : Tally
     bytes = heavy;
     each_band = length-set t.counts band n ∙ is.each_band;
     each_mark = length-set t.full band (fills (hiwat band) n) ∙ is.each_mark;
-    counts = λ x inside. at_set (λ j. band_count s j ns) t.counts band n 0 (omega (arith, within, is.each_band)) here x (λ other. is.counts x inside ∙ sym (others x other));
+    counts = λ x inside. at_set (λ j. band_count s j ns) t.counts band n 0 x (λ same. omega (arith, within, is.each_band)) here (λ other. is.counts x inside ∙ sym (others x other));
     full = λ x inside.
-        at_set (λ j. fills (hiwat j) (band_count s j ns)) t.full band (fills (hiwat band) n) false (omega (arith, within, is.each_mark)) (ap (fills (hiwat band)) here) x
+        at_set (λ j. fills (hiwat j) (band_count s j ns)) t.full band (fills (hiwat band) n) false x (λ same. omega (arith, within, is.each_mark)) (ap (fills (hiwat band)) here)
         (λ other. is.full x inside ∙ ap (fills (hiwat x)) (sym (others x other)));
     ends = record {
       each_first = length-set t.firsts r beginning ∙ is.ends.each_first;
       each_last = length-set t.lasts r end ∙ is.ends.each_last;
       each_used = length-set t.used r (is_some beginning) ∙ is.ends.each_used;
       firsts = λ x.
-          at_set (λ j. first_of_rank (rank_of s) j ns) t.firsts r beginning None (omega (arith, below, is.ends.each_first)) first_is x
+          at_set (λ j. first_of_rank (rank_of s) j ns) t.firsts r beginning None x (λ same. omega (arith, below, is.ends.each_first)) first_is
           (λ other. is.ends.firsts x ∙ ap (λ xs. first (heads xs)) (sym (other_ranks x other)));
       lasts = λ x.
-          at_set (λ j. last_of_rank (rank_of s) j ns) t.lasts r end None (omega (arith, below, is.ends.each_last)) last_is x
+          at_set (λ j. last_of_rank (rank_of s) j ns) t.lasts r end None x (λ same. omega (arith, below, is.ends.each_last)) last_is
           (λ other. is.ends.lasts x ∙ ap (λ xs. last (heads xs)) (sym (other_ranks x other)));
-      used = used_at;
+      used = λ x inside.
+          at_set (λ j. is_some (first_of_rank (rank_of s) j ns)) t.used r (is_some beginning) false x (λ same. omega (arith, inside, same, is.ends.each_used)) (ap is_some first_is)
+          (λ other. is.ends.used x inside ∙ ap (λ xs. is_some (first (heads xs))) (sym (other_ranks x other)));
     };
   }
-    where
-      used_at : (x : ℕ) → x < bands → get_or (set t.used r (is_some beginning)) x false ≡ is_some (first_of_rank (rank_of s) x ns)
-      used_at x inside =
-          elim (cases_eq x r) [
-            | inl same ↦
-                ap (λ j. get_or (set t.used r (is_some beginning)) j false) same
-                ∙ get_or-set_same t.used r (is_some beginning) false (omega (arith, inside, same, is.ends.each_used))
-                ∙ ap is_some (first_is ∙ ap (λ j. first_of_rank (rank_of s) j ns) (sym same))
-            | inr other ↦
-                get_or-set_other t.used r x (is_some beginning) false other ∙ is.ends.used x inside
-                ∙ ap (λ xs. is_some (first (heads xs))) (sym (other_ranks x other))
-          ]
 
 module _ (s : DataStore) (m : Message) where
   abbrev its : ℕ
@@ -150,14 +120,14 @@ module _ (s : DataStore) (m : Message) where
   none x other = cond-false _ (size_of m) 0 (ne_eqb its x (λ same. other (sym same)))
 
   module _ (hiwat : ℕ → ℕ) (t : Tally) (pre post : List Message) (p : Placed) (placed : IsPlaced s pre post m p) where
-    -- how the message stands
+    -- the message's own entry
     abbrev own_place : Placed
     own_place = record { head = head_of m; rank = rank_of s m; size = size_of m; ahead = last (heads pre); behind = first (heads post) }
 
     place_is : p ≡ own_place
     place_is = λ i. record { head = placed.head i; rank = placed.rank i; size = placed.size i; ahead = placed.ahead i; behind = placed.behind i }
 
-    -- one joins
+    -- a message joins
     module _ (is : IsTallyOf s hiwat (pre ++ post) t) where
       pub tally_joined : is_ordered (rank_of s) (pre ++ m ∷ post) ≡ true → IsApart (heads (pre ++ m ∷ post)) → IsTallyOf s hiwat (pre ++ m ∷ post) (one_more (hiwat (band_of_rank p.rank)) p t)
       tally_joined ordered apart =
@@ -177,18 +147,9 @@ module _ (s : DataStore) (m : Message) where
 
       -- and beside those of its band
       pub joins_few : bytes_on (pre ++ m ∷ post) < 2 ^ 32 → count_of t (band_of_rank p.rank) + p.size < 2 ^ 32
-      joins_few few =
-          omega (
-            arith,
-            few,
-            bytes_on-left pre post m,
-            is.counts its (band_of_rank_range (rank_of s m)),
-            count_in s its (pre ++ post),
-            placed.size,
-            ap (λ r. count_of t (band_of_rank r)) placed.rank,
-          )
+      joins_few few = grind (arith, common_steps, bytes_on-left, band_of_rank_range, count_in)
 
-    -- one leaves
+    -- a message leaves
     module _ (is : IsTallyOf s hiwat (pre ++ m ∷ post) t) where
       pub tally_left : is_ordered (rank_of s) (pre ++ m ∷ post) ≡ true → IsApart (heads (pre ++ m ∷ post)) → IsTallyOf s hiwat (pre ++ post) (one_less (hiwat (band_of_rank p.rank)) p t)
       tally_left ordered apart =
@@ -208,16 +169,4 @@ module _ (s : DataStore) (m : Message) where
 
       -- and among those of its band
       pub leaves_enough : p.size ≤ count_of t (band_of_rank p.rank)
-      leaves_enough =
-          omega (
-            arith,
-            is.counts its (band_of_rank_range (rank_of s m)),
-            band_count-left s its pre post m,
-            own,
-            placed.size,
-            ap (λ r. count_of t (band_of_rank r)) placed.rank,
-          )
-
-      -- and it is one of the messages
-      pub leaves_some : 1 ≤ t.len
-      leaves_some = omega (arith, is.len, length-append pre (m ∷ post))
+      leaves_enough = grind (arith, common_steps)

@@ -1,21 +1,24 @@
--- Settling: which wanted marks stand afterwards, and which queue is enabled.
-use Rattle.std.proofs.Common.{◌≡◌, ◌≢◌, ℕ, zero, suc, ◌<◌, ◌⊎◌, inl, inr, Bool, true, false, ◌&&◌, List, [], ◌∷◌, length, get_or, set, Option, Some, None, refl, sym, ap, ◌∙◌, subst, if◌then◌else◌, get_or-set_other}
-use Rattle.std.specs.Prelude.{not}
+-- Wanted marks and water marks: settling a queue, setting a wanted mark, and giving a band other water marks.
+use Rattle.std.proofs.Common.{◌≡◌, ◌≢◌, ℕ, ◌<◌, ◌⊎◌, inl, inr, Bool, true, false, ◌&&◌, List, length, get_or, set, Option, Some, None, refl, sym, ap, ◌∙◌, subst, if◌then◌else◌, get_or-set_other, arith, Ok, length-set, get_or-set_same}
+use Rattle.std.specs.Prelude.{not, nat_lt}
 use Rattle.std.specs.Option.{option_map_or}
-use Rattle.std.proofs.lemmas.Bool.{cases_eq, cases_lt, false≢true, leb-false, not-true}
+use Rattle.std.proofs.lemmas.Bool.{cases_eq, cases_lt, false≢true, leb-false, not-true, cond-false, lt-leb}
+use Rattle.std.proofs.lemmas.Grind.{common_steps}
 use Rattle.strm_mblk.specs.Arena.{Arena, shelf_at}
-use Rattle.strm_queue.specs.Flow.{Flags, QueueState, band_count, enabled, every_band, flags_at, has_band, has_room, is_relieved, lowat_of, opening_flags, some_relieved, still_wanted, waker, with_flags}
+use Rattle.strm_queue.specs.Flow.{Flags, QueueState, band_count, enabled, every_band, fills, flags_at, has_band, has_drained, is_relieved, lowat_of, opening_flags, some_relieved, still_wanted, waker, with_flags, AreMarksApart, hiwat_of, with_wanted, with_marks}
 use Rattle.strm_queue.specs.Limits.{bands}
-use Rattle.strm_queue.specs.QueueCalls.{count_on, flags_left, has_relieved, settled, waker_enabled_where}
-use Rattle.strm_queue.specs.QueuedBlocks.{Agrees, AreInOrder, AreMarksLawful, QueuedBlocks, QueuesValue, together, tally_at}
-use Rattle.strm_queue.specs.Tallies.{count_of}
+use Rattle.strm_queue.specs.QueueCalls.{count_on, flags_left, has_relieved, settled, waker_enabled_where, strqset, with_state}
+use Rattle.strm_queue.specs.QueuedBlocks.{Agrees, AreInOrder, AreMarksLawful, QueuedBlocks, QueuesValue, together, tally_at, with_tally}
+use Rattle.strm_queue.specs.Tallies.{count_of, IsTallyOf, Tally, no_tally, recounted}
 use Rattle.strm_queue.proofs.agreeing.Agreeing.{enabled_alone}
 use Rattle.strm_queue.proofs.bands.Bands.{bands_where-same, has_band_where, some_same, wanted_past}
-use Rattle.strm_queue.proofs.agreeing.Flagged.{in_order_state}
+use Rattle.strm_queue.proofs.agreeing.Agreeing.{in_order_state}
 use Rattle.strm_queue.proofs.Lists.{get_or-map_same}
-use Rattle.strm_queue.proofs.layout.Lawful.{lowat_of-same}
+use Rattle.strm_queue.proofs.layout.Lawful.{lowat_of-same, marks_at-apart, marks_at-other}
+use Rattle.strm_queue.specs.declared.marks.Marks.{Marks}
+use Rattle.strm_queue.proofs.counting.Tallies.{tally_recounted}
 
--- enabling the queue behind changes the run list alone
+-- enabling the waker changes only the run list
 module _ (so : Bool) (q : ℕ) (s : QueueState) where
   waker_alone : waker_enabled_where so q s ≡ record s { run = (waker_enabled_where so q s).run }
   waker_alone = by_cases so (waker s.specs q)
@@ -25,17 +28,25 @@ module _ (so : Bool) (q : ℕ) (s : QueueState) where
       by_cases true (Some p) = enabled_alone true p s
       by_cases false o = refl
 
--- a new queue has no wanted mark
-pub new_flags : (band : ℕ) → has_band opening_flags.wanted band ≡ false
-new_flags band = get_or-map_same every_band false band
+-- where one queue gets other flags, wanted marks are lawful if its own are
+flags_lawful : (s : QueueState) (a : Arena) (q : ℕ) (f : Flags) → ((p : ℕ) → p ≢ q → AreMarksLawful s a p)
+    → ((band : ℕ) → has_band f.wanted band ≡ true → lowat_of s q band < band_count a.store band (shelf_at a q)) → (p : ℕ) → AreMarksLawful (with_flags q f s) a p
+flags_lawful s a q f others here p =
+    elim (cases_eq p q) [
+      | inl same ↦
+          subst (AreMarksLawful (with_flags q f s) a) (sym same) (λ band is.
+          elim (set_or s.flags q f opening_flags) [
+            | inl set ↦ here band (sym (ap (λ (m : Flags). has_band m.wanted band) set) ∙ is)
+            | inr past ↦ absurd (false≢true (sym (ap (λ (m : Flags). has_band m.wanted band) past ∙ get_or-map_same every_band false band) ∙ is))
+          ])
+      | inr other ↦ λ band is. others p other band (sym (ap (λ (m : Flags). has_band m.wanted band) (get_or-set_other s.flags q p f opening_flags other)) ∙ is)
+    ]
+  where
+    -- what is at a place where something was set, if the list has the place
+    set_or : (ms : List Flags) (q : ℕ) (m d : Flags) → (get_or (set ms q m) q d ≡ m) ⊎ (get_or (set ms q m) q d ≡ d)
+    set_or ms q m d = grind (arith, common_steps)
 
--- what stands at a place where something was set, if the list is so long
-pub set_or : (ms : List Flags) (q : ℕ) (m d : Flags) → (get_or (set ms q m) q d ≡ m) ⊎ (get_or (set ms q m) q d ≡ d)
-set_or [] q m d = inr refl
-set_or (x ∷ xs) zero m d = inl refl
-set_or (x ∷ xs) (suc q) m d = set_or xs q m d
-
--- where nothing but the state is other, it is what is seen
+-- a value that differs only in its state is the old value with the new state
 pub alone : (v w : QueuesValue) {s : QueueState} → w ≡ record v { state = s } → w ≡ record v { state = w.state }
 alone v w is = is ∙ ap (λ (t : QueueState). record v { state = t }) (sym (ap (λ (x : QueuesValue). x.state) is))
 
@@ -49,7 +60,7 @@ module _ (v : QueuesValue) (a : Arena) (q : ℕ) where
   abbrev lowat : ℕ → ℕ
   lowat = lowat_of v.state q
 
-  -- by the bytes that are stored of the bands
+  -- the stored byte counts decide which bands are relieved
   module _ (in_order : AreInOrder v a) (within : q < length v.state.specs) where
     abbrev relieved_by : ℕ → Bool
     relieved_by = is_relieved wanted (count_of (tally_at v q)) lowat
@@ -58,7 +69,7 @@ module _ (v : QueuesValue) (a : Arena) (q : ℕ) where
     relieved_state = with_flags q (record (flags_at v.state q) { wanted = still_wanted wanted (count_of (tally_at v q)) lowat }) v.state
 
     relieved_same : (band : ℕ) → band < bands → relieved_by band ≡ is_relieved wanted (count_on both q) lowat band
-    relieved_same band below = ap (λ n. has_band wanted band && has_room (lowat band) n) ((in_order.true_of q within).counts band below)
+    relieved_same band below = ap (λ n. has_band wanted band && has_drained (lowat band) n) ((in_order.true_of q within).counts band below)
 
     pub settled_by : (so : Bool) → so ≡ some_relieved wanted (count_of (tally_at v q)) lowat → record both { queues = waker_enabled_where so q relieved_state } ≡ settled q both
     settled_by so some =
@@ -68,37 +79,26 @@ module _ (v : QueuesValue) (a : Arena) (q : ℕ) where
         (λ band within. ap (λ r. has_band wanted band && not r) (relieved_same band within)) in
         λ i. record both { queues = waker_enabled_where (so_is i) q (with_flags q (record (flags_at v.state q) { wanted = left i }) v.state) }
 
-  -- ---- afterwards wanted marks are lawful
+  -- ---- after settling, wanted marks are lawful
 
   module _ (others : (p : ℕ) → p ≢ q → AreMarksLawful v.state a p) where
     abbrev left : QueueState
     left = with_flags q (flags_left both q) v.state
 
-    -- a wanted mark that is left stands at more bytes than the low water mark
-    above : (w : Bool) (n l : ℕ) → w && not (w && has_room l n) ≡ true → l < n
-    above true n l is = leb-false n l (not-true (has_room l n) is)
+    -- a band that keeps its wanted mark has more bytes than its low water mark
+    above : (w : Bool) (n l : ℕ) → w && not (w && has_drained l n) ≡ true → l < n
+    above true n l is = leb-false n l (not-true (has_drained l n) is)
     above false n l is = absurd (false≢true is)
 
-    left_here : AreMarksLawful left a q
-    left_here band is =
-        elim (set_or v.state.flags q (flags_left both q) opening_flags) [
-          | inl set ↦
-              let marked = sym (ap (λ (m : Flags). has_band m.wanted band) set) ∙ is in
-              elim (cases_lt band bands) [
-                | inl within ↦
-                    above (has_band wanted band) (band_count a.store band (shelf_at a q)) (lowat band)
-                    (sym (has_band_where (λ band. has_band wanted band && not (is_relieved wanted (count_on both q) lowat band)) band within) ∙ marked)
-                | inr past ↦ absurd (false≢true (sym (wanted_past (λ band. has_band wanted band && not (is_relieved wanted (count_on both q) lowat band)) band past) ∙ marked))
-              ]
-          | inr past ↦ absurd (false≢true (sym (ap (λ (m : Flags). has_band m.wanted band) past ∙ new_flags band) ∙ is))
-        ]
-
     left_at : (p : ℕ) → AreMarksLawful left a p
-    left_at p =
-        elim (cases_eq p q) [
-          | inl same ↦ subst (AreMarksLawful left a) (sym same) left_here
-          | inr other ↦ λ band is. others p other band (sym (ap (λ (m : Flags). has_band m.wanted band) (get_or-set_other v.state.flags q p (flags_left both q) opening_flags other)) ∙ is)
-        ]
+    left_at =
+        flags_lawful v.state a q (flags_left both q) others (λ band marked.
+        elim (cases_lt band bands) [
+          | inl within ↦
+              above (has_band wanted band) (band_count a.store band (shelf_at a q)) (lowat band)
+              (sym (has_band_where (λ band. has_band wanted band && not (is_relieved wanted (count_on both q) lowat band)) band within) ∙ marked)
+          | inr past ↦ absurd (false≢true (sym (wanted_past (λ band. has_band wanted band && not (is_relieved wanted (count_on both q) lowat band)) band past) ∙ marked))
+        ])
 
     pub settled_agrees : (s : QueueState) → AreInOrder v a → record both { queues = s } ≡ settled q both → Agrees (record v { state = s }) a
     settled_agrees s in_order is =
@@ -113,3 +113,53 @@ module _ (v : QueuesValue) (a : Arena) (q : ℕ) where
               subst (λ low. low band < band_count a.store band (shelf_at a p)) (sym (lowat_of-same v.state s marks p))
               (left_at p band (subst (λ ms. has_band (get_or ms p opening_flags).wanted band ≡ true) flags here));
         }
+
+-- ---- a wanted mark is set on a full band, which is above its low water mark
+
+pub agrees_wanted : (v : QueuesValue) (a : Arena) (p band : ℕ) → AreMarksApart v.state → p < length v.state.specs → band < bands → fills (hiwat_of v.state p band) (band_count a.store band (shelf_at a p)) ≡ true → Agrees v a
+    → Agrees (record v { state = with_wanted p band v.state }) a
+agrees_wanted v a p band apart within low full agrees = grind (arith, common_steps)
+
+-- ---- a band gets other water marks, and its full mark is stored anew
+
+module _ (v : QueuesValue) (a : Arena) (q band : ℕ) (m : Marks) where
+  abbrev marked : QueueState
+  marked = with_marks q band m v.state
+
+  abbrev tally : Tally
+  tally = recounted (hiwat_of marked q band) band (tally_at v q)
+
+  -- the queues with the new water marks and the new full mark
+  abbrev pub with_recounted : QueuesValue
+  with_recounted = with_tally q tally (record v { state = marked })
+
+  -- the tallies are true of the new water marks
+  pub marked_in_order : AreInOrder v a → q < length v.state.specs → band < bands → AreInOrder with_recounted a
+  marked_in_order in_order within low = record {
+    shelves = in_order.shelves;
+    stored = length-set v.tallies q tally ∙ in_order.stored;
+    ordered = in_order.ordered;
+    true_of = true_at;
+  }
+    where
+      true_at : (p : ℕ) → p < length v.state.specs → IsTallyOf a.store (hiwat_of marked p) (shelf_at a p) (get_or (set v.tallies q tally) p no_tally)
+      true_at p below =
+          elim (cases_eq p q) [
+            | inl same ↦
+                subst (λ k. IsTallyOf a.store (hiwat_of marked k) (shelf_at a k) (get_or (set v.tallies q tally) k no_tally)) (sym same)
+                (subst (IsTallyOf a.store (hiwat_of marked q) (shelf_at a q)) (sym (get_or-set_same v.tallies q tally no_tally (omega (arith, within, in_order.stored))))
+                (tally_recounted a.store (hiwat_of v.state q) (hiwat_of marked q) (shelf_at a q) (tally_at v q) (in_order.true_of q within) band low
+                (λ x other. ap (λ (n : Marks). n.hiwat) (marks_at-other v.state q band m x other))))
+            | inr other ↦
+                subst (IsTallyOf a.store (hiwat_of marked p) (shelf_at a p)) (sym (get_or-set_other v.tallies q p tally no_tally other))
+                (subst (λ high. IsTallyOf a.store high (shelf_at a p) (tally_at v p)) (sym (λ i x. (marks_at-apart v.state q band m p other x i).hiwat)) (in_order.true_of p below))
+          ]
+
+  -- wanted marks of other queues stay lawful
+  pub marked_others : Agrees v a → (p : ℕ) → p ≢ q → AreMarksLawful marked a p
+  marked_others agrees p other x wanted = grind (arith, common_steps)
+
+-- `strqset` of a queue that exists, with a low water mark below the high one
+pub strqset_given : (v : QueuedBlocks) (q band hiwat lowat : ℕ) → nat_lt q (length v.queues.specs) ≡ true → lowat < hiwat
+    → strqset q band hiwat lowat v ≡ Ok (tt, settled q (with_state (with_marks q band (record { hiwat = hiwat; lowat = lowat })) v))
+strqset_given v q band hiwat lowat there low = cond-false _ _ _ (ap not there) ∙ cond-false _ _ _ (lt-leb hiwat lowat low)

@@ -1,24 +1,19 @@
 -- Walks along next queues, in search of one with a service procedure.
-use Rattle.std.proofs.Common.{◌≡◌, ℕ, zero, suc, ◌+◌, ◌<◌, ◌≤◌, Bool, true, false, ◌&&◌, List, [], ◌∷◌, length, get_or, Option, Some, None, refl, sym, ap, ◌∙◌, arith, inl, inr}
+use Rattle.std.proofs.Common.{◌≡◌, ℕ, zero, suc, ◌+◌, ◌<◌, ◌≤◌, Bool, true, false, ◌&&◌, List, length, Option, Some, None, refl, sym, ap, ◌∙◌, arith, inl, inr}
+use Rattle.std.proofs.lemmas.Grind.{common_steps}
 use Rattle.std.specs.Prelude.{nat_eq, nat_le, nat_lt, if◌then◌else◌}
-use Rattle.std.specs.List.{enumerate_from, list_all}
+use Rattle.std.specs.List.{enumerate_from}
 use Rattle.std.specs.Option.{option_eq, option_map_or}
-use Rattle.std.proofs.lemmas.Bool.{and_parts, cases_eq, cases_lt, cond-false, cond-true, le-ltb, lt-ltb, ltb-true, ne_eqb}
+use Rattle.std.proofs.lemmas.Bool.{and_parts, cases_lt, cond-false, le-ltb, lt-ltb, ltb-true, ne_eqb}
 use Rattle.std.proofs.lemmas.List.FromFn.{get_or-enumerate_from, length-enumerate_from}
-use Rattle.std.proofs.lemmas.List.Sums.{position_or_len_is}
+use Rattle.std.proofs.lemmas.List.Sums.{AllPass-from_list_all, position_or_len_is}
 use Rattle.strm_links.specs.Rows.{is_some_of}
 use Rattle.strm_queue.specs.declared.queue_spec.QueueSpec.{QueueSpec}
 use Rattle.strm_queue.specs.Flow.{behind, no_spec, spec_at, target_within, waker_within}
 use Rattle.strm_queue.specs.QueueSpecs.{are_lawful, next_fits, times_next}
 use Rattle.strm_queue.proofs.layout.Lawful.{nexts_lawful}
 
--- what is true of all is true of each
-all_at : {X : Type 0} (p : X → Bool) (xs : List X) → list_all p xs ≡ true → (i : ℕ) (d : X) → i < length xs → p (get_or xs i d) ≡ true
-all_at p [] all i d within = absurd (omega (arith, within))
-all_at p (x ∷ xs) all zero d within = (and_parts (p x) (list_all p xs) all).0
-all_at p (x ∷ xs) all (suc i) d within = all_at p xs (and_parts (p x) (list_all p xs) all).1 i d (omega (arith, within))
-
--- a next queue has a greater number, and is there
+-- the next queue of a lawful queue exists and has a greater number
 pub record IsAhead (specs : List QueueSpec) (q p : ℕ) : Type 0 where
   pub greater : q < p
   pub there : p < length specs
@@ -29,26 +24,23 @@ next_ahead specs lawful q within p is =
     let here : next_fits specs q (spec_at specs q).next ≡ true =
     ap (λ k. next_fits specs k (spec_at specs q).next) (sym number)
     ∙ (λ i. next_fits specs (sym (get_or-enumerate_from 0 specs q (0, no_spec) within) i).0 (sym (get_or-enumerate_from 0 specs q (0, no_spec) within) i).1.next)
-    ∙ all_at (λ (x : ℕ × QueueSpec). next_fits specs x.0 x.1.next) (enumerate_from 0 specs) (nexts_lawful specs lawful) q (0, no_spec) (omega (arith, within, length-enumerate_from 0 specs)) in
+    ∙ AllPass-from_list_all (λ (x : ℕ × QueueSpec). next_fits specs x.0 x.1.next) (enumerate_from 0 specs) (nexts_lawful specs lawful) q (0, no_spec) (omega (arith, within, length-enumerate_from 0 specs)) in
     let at : next_fits specs q (Some p) ≡ true = ap (next_fits specs q) (sym is) ∙ here in
     record { greater = ltb-true q p (and_parts (nat_lt q p) (nat_lt p (length specs) && nat_le (times_next specs p) 1) at).0; there = ltb-true p (length specs) (and_parts (nat_lt p (length specs)) (nat_le (times_next specs p) 1) (and_parts (nat_lt q p) (nat_lt p (length specs) && nat_le (times_next specs p) 1) at).1).0 }
 
--- ---- a walk of at most so many steps
+-- ---- a walk with a bounded number of steps
 
--- what is found from a queue, with at most so many steps; there are `count` queues, and so many steps to make
+-- `found steps q` is the result of a walk from q with at most that number of steps; there are `count` queues
 module _ {X : Type 0} (found : ℕ → ℕ → X) (count q n : ℕ) where
-  -- after k of n steps, what is found from here is what is found from q
+  -- after k of n steps the walk is at `at`, and finds from there what it finds from q
   pub record IsOnWay (k at : ℕ) : Type 0 where
     pub there : at < count
     pub left : ℕ
     pub many : left + k ≡ n
     pub same : found left at ≡ found count q
 
-  pub on_way_none : q < count → n ≡ count → IsOnWay 0 q
-  on_way_none within is = record { there = within; left = count; many = omega (arith, is); same = refl }
-
   module _ (k at : ℕ) (way : IsOnWay k at) where
-    -- there is one more step
+    -- one more step is left
     pub step : k < n → (m : ℕ) × ((m + (k + 1) ≡ n) × (found (suc m) at ≡ found count q))
     step more = one way.left way.many way.same
       where
@@ -61,9 +53,6 @@ module _ {X : Type 0} (found : ℕ → ℕ → X) (count q n : ℕ) where
 module _ (specs : List QueueSpec) (q n : ℕ) where
   abbrev pub target_found : ℕ → ℕ → ℕ
   target_found steps at = target_within steps specs at
-
-  pub target_none : q < length specs → n ≡ length specs → IsOnWay target_found (length specs) q n 0 q
-  target_none = on_way_none target_found (length specs) q n
 
   module _ (k at : ℕ) (way : IsOnWay target_found (length specs) q n k at) where
     module _ (more : k < n) (serves : (spec_at specs at).service ≡ false) where
@@ -83,26 +72,17 @@ module _ (specs : List QueueSpec) (q : ℕ) where
   abbrev names : QueueSpec → Bool
   names s = is_some_of q s.next
 
-  -- none of the first so many queues names q
+  -- none of the first k queues has q as its next
   abbrev pub NoneBehind : ℕ → Type 0
   NoneBehind k = (j : ℕ) → j < k → is_some_of q (spec_at specs j).next ≡ false
 
-  -- as the code tests it
+  -- the test in the code, as the definition states it
   pub names_is : (o : Option ℕ) → option_eq nat_eq o (Some q) ≡ is_some_of q o
   names_is None = refl
   names_is (Some p) = refl
 
-  pub none_more : (k : ℕ) → NoneBehind k → is_some_of q (spec_at specs k).next ≡ false → NoneBehind (k + 1)
-  none_more k none here j within =
-      elim (cases_eq j k) [
-        | inl same ↦ ap (λ n. is_some_of q (spec_at specs n).next) same ∙ here
-        | inr other ↦ none j (omega (arith, within, other))
-      ]
-
   pub behind_found : (k : ℕ) → k < length specs → NoneBehind k → is_some_of q (spec_at specs k).next ≡ true → behind specs q ≡ Some k
-  behind_found k within none here =
-      let at = position_or_len_is names specs k no_spec (omega (arith, within)) none (λ x. here) in
-      (λ i. if nat_lt (at i) (length specs) then Some (at i) else None) ∙ cond-true _ _ _ (lt-ltb k (length specs) within)
+  behind_found k within none here = grind (arith, common_steps, position_or_len_is, lt-ltb)
 
   pub behind_none : are_lawful specs ≡ true → NoneBehind q → q ≤ length specs → behind specs q ≡ None
   behind_none lawful none within =

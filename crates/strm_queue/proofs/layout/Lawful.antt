@@ -1,5 +1,6 @@
--- What lawful queues are, one part each, and what is known of the water marks of bands.
-use Rattle.std.proofs.Common.{◌≡◌, ◌≢◌, ◌⊎◌, true, false, ◌&&◌, List, length, get_or, set, ℕ, zero, suc, ◌<◌, ◌≤◌, [], ◌∷◌, inl, inr, refl, sym, ap, ◌∙◌, subst, arith}
+-- The parts of `are_lawful`, and the water marks of bands.
+use Rattle.std.proofs.Common.{◌≡◌, ◌≢◌, true, false, ◌&&◌, List, length, get_or, ℕ, zero, suc, ◌<◌, ◌≤◌, [], ◌∷◌, sym, ap, ◌∙◌, subst, arith}
+use Rattle.std.proofs.lemmas.Grind.{common_steps}
 use Rattle.std.specs.Prelude.{nat_le, not}
 use Rattle.std.proofs.lemmas.Bool.{and_parts, leb-true, not-true, leb-false, or_parts}
 use Rattle.std.proofs.lemmas.List.{get_or-map, get_or-replicate}
@@ -7,10 +8,10 @@ use Rattle.strm_queue.specs.declared.marks.Marks.{Marks}
 use Rattle.strm_queue.specs.declared.queue_spec.QueueSpec.{QueueSpec}
 use Rattle.strm_queue.specs.Limits.{bands, most_queues}
 use Rattle.strm_queue.specs.QueueSpecs.{are_lawful, marks_meet, nexts_fit}
-use Rattle.strm_queue.specs.Flow.{AreMarksApart, QueueState, given_marks, hiwat_of, lowat_of, marks_at, marks_of, no_marks, no_spec, opening_marks, opening_queues, spec_at, with_marks}
+use Rattle.strm_queue.specs.Flow.{AreMarksApart, QueueState, given_marks, lowat_of, marks_at, no_marks, no_spec, opening_marks, opening_queues, spec_at, with_marks}
 
 module _ (specs : List QueueSpec) (lawful : are_lawful specs ≡ true) where
-  -- behind the test that there is one
+  -- what follows the test that there is a queue
   beyond : nat_le (length specs) most_queues && (not (marks_meet specs) && nexts_fit specs) ≡ true
   beyond = (and_parts (nat_le 1 (length specs)) (nat_le (length specs) most_queues && (not (marks_meet specs) && nexts_fit specs)) lawful).1
 
@@ -26,7 +27,7 @@ module _ (specs : List QueueSpec) (lawful : are_lawful specs ≡ true) where
   pub nexts_lawful : nexts_fit specs ≡ true
   nexts_lawful = (and_parts (not (marks_meet specs)) (nexts_fit specs) both_fit).1
 
--- where no water marks meet, each low one is below the high one
+-- if no water marks meet, each low one is below the high one
 none_meet : (specs : List QueueSpec) → marks_meet specs ≡ false → (q : ℕ) → q < length specs → (spec_at specs q).lowat < (spec_at specs q).hiwat
 none_meet [] none q within = absurd (omega (arith, within))
 none_meet (s ∷ specs) none zero within = leb-false s.hiwat s.lowat (or_parts (nat_le s.hiwat s.lowat) (marks_meet specs) none).0
@@ -34,7 +35,7 @@ none_meet (s ∷ specs) none (suc q) within = none_meet specs (or_parts (nat_le 
 
 -- ---- the water marks of bands
 
--- at first they are those that the queue was made with
+-- a new queue's bands have the water marks that it was made with
 opened_marks : (specs : List QueueSpec) (q band : ℕ) → q < length specs → band < bands → marks_at (opening_queues specs) q band ≡ given_marks (spec_at specs q)
 opened_marks specs q band within low =
     ap (λ (ms : List Marks). get_or ms band no_marks) (get_or-map opening_marks specs q no_spec [] within) ∙ get_or-replicate bands band (given_marks (spec_at specs q)) no_marks low
@@ -43,59 +44,20 @@ opened_marks specs q band within low =
 pub marks_below : (specs : List QueueSpec) → are_lawful specs ≡ true → AreMarksApart (opening_queues specs)
 marks_below specs lawful q band within low = subst (λ (m : Marks). m.lowat < m.hiwat) (sym (opened_marks specs q band within low)) (none_meet specs (marks_apart specs lawful) q within)
 
--- what stands in a list where one was set: it at its place, and else what stood there
-set_either : {X : Type 0} (xs : List X) (k i : ℕ) (x d : X) → ((i ≡ k) × (get_or (set xs k x) i d ≡ x)) ⊎ (get_or (set xs k x) i d ≡ get_or xs i d)
-set_either [] k i x d = inr refl
-set_either (y ∷ ys) zero zero x d = inl (refl, refl)
-set_either (y ∷ ys) zero (suc i) x d = inr refl
-set_either (y ∷ ys) (suc k) zero x d = inr refl
-set_either (y ∷ ys) (suc k) (suc i) x d =
-    elim (set_either ys k i x d) [
-      | inl here ↦ inl (ap suc here.0, here.1)
-      | inr other ↦ inr other
-    ]
-
 module _ (s : QueueState) (q band : ℕ) (m : Marks) where
-  -- a band has the new ones, which is this band of this queue, or those that it had
-  either : (p x : ℕ) → (((p ≡ q) × (x ≡ band)) × (marks_at (with_marks q band m s) p x ≡ m)) ⊎ (marks_at (with_marks q band m s) p x ≡ marks_at s p x)
-  either p x =
-      elim (set_either s.marks q p (set (marks_of s q) band m) []) [
-        | inl here ↦
-            elim (set_either (marks_of s q) band x m no_marks) [
-              | inl it ↦ inl ((here.0, it.0), ap (λ (ms : List Marks). get_or ms x no_marks) here.1 ∙ it.1)
-              | inr other ↦ inr (ap (λ (ms : List Marks). get_or ms x no_marks) here.1 ∙ other ∙ ap (λ k. marks_at s k x) (sym here.0))
-            ]
-        | inr other ↦ inr (ap (λ (ms : List Marks). get_or ms x no_marks) other)
-      ]
-
-  -- those of other bands of the queue are as they were
+  -- other bands of the queue keep theirs
   pub marks_at-other : (x : ℕ) → x ≢ band → marks_at (with_marks q band m s) q x ≡ marks_at s q x
-  marks_at-other x other =
-      elim (either q x) [
-        | inl it ↦ absurd (other it.0.1)
-        | inr same ↦ same
-      ]
+  marks_at-other x other = grind (arith, common_steps)
 
-  -- and so are those of other queues
+  -- and so do other queues
   pub marks_at-apart : (p : ℕ) → p ≢ q → (x : ℕ) → marks_at (with_marks q band m s) p x ≡ marks_at s p x
-  marks_at-apart p other x =
-      elim (either p x) [
-        | inl it ↦ absurd (other it.0.0)
-        | inr same ↦ same
-      ]
+  marks_at-apart p other x = grind (arith, common_steps)
 
-  -- where the new low one is below the high one, each is
+  -- if the new low one is below the new high one, all are
   pub apart_with : m.lowat < m.hiwat → AreMarksApart s → AreMarksApart (with_marks q band m s)
-  apart_with low apart p x within below =
-      elim (either p x) [
-        | inl it ↦ subst (λ (n : Marks). n.lowat < n.hiwat) (sym it.1) low
-        | inr same ↦ subst (λ (n : Marks). n.lowat < n.hiwat) (sym same) (apart p x within below)
-      ]
+  apart_with low apart p x within below = grind (arith, common_steps)
 
--- they are the same where all are
+-- equal states have equal water marks
 module _ (s t : QueueState) (marks : t.marks ≡ s.marks) (q : ℕ) where
-  pub hiwat_of-same : hiwat_of t q ≡ hiwat_of s q
-  hiwat_of-same = λ i band. (get_or (get_or (marks i) q []) band no_marks).hiwat
-
   pub lowat_of-same : lowat_of t q ≡ lowat_of s q
   lowat_of-same = λ i band. (get_or (get_or (marks i) q []) band no_marks).lowat

@@ -1,5 +1,6 @@
 -- What the calls that take a message off a queue do, by the model.
-use Rattle.std.proofs.Common.{◌≡◌, ◌≢◌, ℕ, false, ◌+◌, true, List, [], ◌∷◌, ◌++◌, length, take, drop, Option, Some, None, Ok, refl, sym, ap, ◌∙◌, subst}
+use Rattle.std.proofs.Common.{arith, ◌≡◌, ◌≢◌, ℕ, false, ◌+◌, true, List, [], ◌∷◌, ◌++◌, length, take, drop, Option, Some, None, Ok, refl, sym, ap, ◌∙◌}
+use Rattle.std.proofs.lemmas.Grind.{common_steps}
 use Rattle.std.specs.Prelude.{nat_lt, option_map, slice_get}
 use Rattle.std.proofs.lemmas.Bool.{cond-true}
 use Rattle.std.proofs.lemmas.List.{take-append-drop}
@@ -15,15 +16,13 @@ use Rattle.strm_mblk.proofs.arena.Stands.{heads_apart}
 use Rattle.strm_queue.specs.Flow.{with_read}
 use Rattle.strm_queue.specs.QueueCalls.{getq, got_at, got_first, rmvq, settled, with_got, with_state}
 use Rattle.strm_queue.specs.QueuedBlocks.{Agrees, AreMarksLawful, QueuedBlocks, QueuesValue, together}
-use Rattle.strm_queue.proofs.agreeing.Agreeing.{marks_other}
 use Rattle.strm_queue.proofs.shelf.OnShelf.{FirstParts, first_of, unshelved}
-use Rattle.strm_mblk.specs.Messages.{without_head}
 
 module _ (v : QueuesValue) (a : Arena) (agrees : Agrees v a) (parted : IsParted a) (q : ℕ) (there : nat_lt q (length v.state.specs) ≡ true) (h : ℕ) where
   abbrev both : QueuedBlocks
   both = together v a
 
-  -- the message with this head was taken off
+  -- the message with this head was taken off its queue
   pub record IsGot (w : QueuesValue) (b : Arena) : Type 0 where
     pub state : w.state ≡ v.state
     pub arena : b ≡ unshelve q h a
@@ -35,11 +34,9 @@ module _ (v : QueuesValue) (a : Arena) (agrees : Agrees v a) (parted : IsParted 
     got_together : together w b ≡ with_got q m (pre ++ post) both
     got_together = λ i. record { queues = got.state i; arena = arena_is i }
 
-  -- the marks of other queues are lawful as they were
+  -- wanted marks of other queues stay lawful
   pub got_others : (w : QueuesValue) (b : Arena) → IsGot w b → (p : ℕ) → p ≢ q → AreMarksLawful w.state b p
-  got_others w b got p other =
-      subst (λ s. AreMarksLawful s b p) (sym got.state)
-      (marks_other v.state a q (without_head head_of h (shelf_at a q)) b (ap (λ (x : Arena). x.store) got.arena) (ap (λ (x : Arena). x.shelves) got.arena) p other (agrees.marks p))
+  got_others w b got p other = grind (arith, common_steps)
 
   -- ---- the first one
 

@@ -1,43 +1,50 @@
 -- What the calls that put a message on a queue do, by the model.
-use Rattle.std.proofs.Common.{◌≡◌, ℕ, ◌≤◌, Bool, true, false, List, length, take, drop, Option, Ok, Err, sym, ap, ◌∙◌, subst, if◌then◌else◌}
+use Rattle.std.proofs.Common.{◌≡◌, ℕ, ◌≤◌, Bool, true, false, List, length, take, drop, Option, Ok, Err, sym, ap, ◌∙◌, subst, if◌then◌else◌, ◌≢◌, suc, ◌<◌, [], ◌∷◌, Some, arith, length-append}
+use Rattle.std.proofs.lemmas.Grind.{common_steps}
 use Rattle.std.specs.Prelude.{nat_lt, slice_get}
-use Rattle.std.proofs.lemmas.Bool.{cond-true, cond-false, le-ltb, not_from_true}
-use Rattle.std.proofs.lemmas.List.{take-append-drop}
+use Rattle.std.proofs.lemmas.Bool.{cond-true, cond-false}
+use Rattle.std.proofs.lemmas.List.{take-append-drop, set-set}
 use Rattle.strm_links.specs.Rows.{IsApart}
 use Rattle.strm_data.specs.declared.refusal.Refusal.TheVariants.{BadOrder}
-use Rattle.strm_mblk.specs.Arena.{Arena, IsParted, message_at, shelf_at}
+use Rattle.strm_mblk.specs.Arena.{Arena, IsParted, message_at, shelf_at, census_of, held_at, with_shelf, without_held}
 use Rattle.strm_mblk.specs.Block.{Message, head_of}
 use Rattle.strm_mblk.specs.Given.{value_after}
 use Rattle.strm_mblk.specs.Messages.{put_before_head}
-use Rattle.strm_mblk.specs.Shelves.{heads_at}
+use Rattle.strm_mblk.specs.Shelves.{heads_at, shelve}
 use Rattle.strm_mblk.proofs.arena.Stands.{heads_apart}
 use Rattle.strm_queue.specs.Flow.{enabled_where, enables_inserted, enables_put, enables_put_back}
 use Rattle.strm_queue.specs.QueueCalls.{insq, flags_of, putbq, putq, rank_put, with_put, with_state}
 use Rattle.strm_queue.specs.QueuedBlocks.{QueuedBlocks, QueuesValue, together}
 use Rattle.strm_queue.specs.Rank.{as_queued, is_ordered, put_ahead, put_at, put_behind, rank_of}
 use Rattle.strm_queue.proofs.shelf.OnShelf.{first_at, heads, placed-between}
+use Rattle.std.specs.List.{All, flat_map}
+use Rattle.strm_mblk.specs.BlockCalls.{banded, setband}
+use Rattle.strm_mblk.proofs.arena.Counts.{flat_map-set_adds, length_adds}
+use Rattle.strm_mblk.proofs.arena.Moves.{held_within}
+use Rattle.strm_queue.specs.Limits.{high_rank}
+use Rattle.strm_queue.proofs.order.Ranks.{low_queued}
 
 module _ (v : QueuesValue) (a : Arena) (q h : ℕ) (there : nat_lt q (length v.state.specs) ≡ true) where
-  -- the message, as it stands on a queue
+  -- the message, as a queue has it
   abbrev m : Message
   m = as_queued a.store (message_at a h)
 
   abbrev both : QueuedBlocks
   both = together v a
 
-  -- these are the messages of the queue, which is enabled, where it is to be
+  -- the queue has these messages, and is enabled if `so` is true
   abbrev put : Bool → List Message → QueuedBlocks
   put so ms = with_state (enabled_where so q) (with_put q h ms both)
 
-  -- behind its equals
+  -- `putq` puts the message after its equals
   pub putq_after : (so : Bool) (ms : List Message) → so ≡ enables_put (flags_of both q) (rank_put h both) → ms ≡ put_behind (rank_of a.store) m (shelf_at a q) → put so ms ≡ value_after both (putq q h both)
   putq_after so ms enables is = (λ i. put (enables i) (is i)) ∙ sym (ap (value_after both) (cond-true _ _ _ there))
 
-  -- before its equals
+  -- `putbq` puts it before its equals
   pub putbq_after : (so : Bool) (ms : List Message) → so ≡ enables_put_back (flags_of both q) (rank_put h both) → ms ≡ put_ahead (rank_of a.store) m (shelf_at a q) → put so ms ≡ value_after both (putbq q h both)
   putbq_after so ms enables is = (λ i. put (enables i) (is i)) ∙ sym (ap (value_after both) (cond-true _ _ _ there))
 
-  -- ---- at a place
+  -- ---- `insq` puts a message at a place
 
   module _ (k : ℕ) (few : k ≤ length (shelf_at a q)) (parted : IsParted a) (before : Option ℕ) (at : before ≡ slice_get (heads_at a q) k) where
     placed_at : put_before_head head_of before m (shelf_at a q) ≡ put_at k m (shelf_at a q)
@@ -50,10 +57,9 @@ module _ (v : QueuesValue) (a : Arena) (q h : ℕ) (there : nat_lt q (length v.s
     abbrev inserted : QueuedBlocks
     inserted = put (enables_inserted (flags_of both q)) (put_at k m (shelf_at a q))
 
-    -- there is a place, so the order decides
+    -- the place exists, so only the order decides
     insq_there : insq q k h both ≡ (if is_ordered (rank_of a.store) (put_at k m (shelf_at a q)) then Ok (tt, inserted) else Err BadOrder)
-    insq_there =
-        cond-false _ _ _ (not_from_true _ there) ∙ cond-false _ _ _ (le-ltb (length (shelf_at a q)) k few)
+    insq_there = grind (arith, common_steps)
 
     pub insq_refused : is_ordered (rank_of a.store) (put_before_head head_of before m (shelf_at a q)) ≡ false → insq q k h both ≡ Err BadOrder
     insq_refused not = insq_there ∙ cond-false _ _ _ (sym (ap (is_ordered (rank_of a.store)) placed_at) ∙ not)
@@ -64,3 +70,29 @@ module _ (v : QueuesValue) (a : Arena) (q h : ℕ) (there : nat_lt q (length v.s
 
       pub insq_after : (so : Bool) → so ≡ enables_inserted (flags_of both q) → put so (put_before_head head_of before m (shelf_at a q)) ≡ value_after both (insq q k h both)
       insq_after so enables = (λ i. put (enables i) (placed_at i)) ∙ sym (ap (value_after both) insq_given)
+
+-- ---- a message is put on a shelf
+
+module _ (a : Arena) (q : ℕ) (before : Option ℕ) (h : ℕ) where
+  -- the arena once the message held at h is on shelf q
+  abbrev shelved : Arena
+  shelved = with_shelf q (put_before_head head_of before (as_queued a.store (message_at a h)) (shelf_at a q)) (without_held h a)
+
+  -- a high priority message gets band 0 first
+  pub shelve_high : (m : Message) → held_at a h ≡ Some m → as_queued a.store (message_at a h) ≡ banded 0 (message_at a h) → shelve q before h (setband h 0 a) ≡ shelved
+  shelve_high m held high = grind (arith, common_steps, held_within, set-set)
+
+  -- any other message goes there unchanged
+  pub shelve_low : rank_of a.store (message_at a h) ≢ high_rank → shelve q before h a ≡ shelved
+  shelve_low low = λ i. with_shelf q (put_before_head head_of before (sym (low_queued a.store (message_at a h) low) i) (shelf_at a q)) (without_held h a)
+
+-- if each message has a block, messages are at most as many as their blocks
+few_messages : (ms : List Message) → All (λ m. 0 < length m) ms → length ms ≤ length (flat_map (λ m. m) ms)
+few_messages [] some = omega arith
+few_messages (x ∷ xs) some =
+    omega (arith, some 0 x (omega arith), few_messages xs (λ k d within. some (suc k) d (omega (arith, within))), length-append x (flat_map (λ m. m) xs))
+
+-- a shelf has at most as many messages as shelves have blocks
+pub few_on_shelf : (a : Arena) → IsParted a → (q n : ℕ) → q < length a.shelves → (census_of a).queued ≤ n → length (shelf_at a q) ≤ n
+few_on_shelf a parted q n within few =
+    omega (arith, few, few_messages (shelf_at a q) (parted.shelved q), flat_map-set_adds length_adds (flat_map (λ x. x)) a.shelves q [] [] within)

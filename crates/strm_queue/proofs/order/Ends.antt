@@ -1,12 +1,12 @@
--- The first and the last message of a rank among messages in order, and what they are once a message has joined or left.
+-- The first and the last message of each rank, when a message joins ordered messages or leaves them.
 use Rattle.std.proofs.Common.{◌≡◌, ◌≢◌, ◌⊎◌, ℕ, ◌<◌, Bool, true, false, ◌==◌, List, [], ◌∷◌, ◌++◌, Option, Some, None, refl, sym, ap, ◌∙◌, subst, inl, inr, arith}
+use Rattle.std.proofs.lemmas.Grind.{common_steps}
 use Rattle.std.specs.Prelude.{nat_le, cond, if◌then◌else◌}
 use Rattle.std.specs.List.{list_all}
 use Rattle.std.specs.Option.{option_or}
-use Rattle.std.proofs.lemmas.Bool.{and_parts, and_from, cases_Bool, cases_eq, cond-true, cond-false, eq-eqb, false≢true, leb-true, lt-leb, ne_eqb}
+use Rattle.std.proofs.lemmas.Bool.{and_parts, cases_eq, cond-true, cond-false, eq-eqb, false≢true, leb-true, lt-leb, ne_eqb}
 use Rattle.std.proofs.lemmas.List.{append-nil, append_assoc, map-append}
 use Rattle.std.proofs.lemmas.List.Elements.{filter-append}
-use Rattle.std.proofs.lemmas.List.Folds.{list_all-append}
 use Rattle.std.proofs.lemmas.Option.{none-some, same_Some}
 use Rattle.strm_links.specs.Rows.{IsApart, first, has, is_some_of, last, last_or}
 use Rattle.strm_links.proofs.lists.OneList.{ApartParts, IsApart-parts, absent_parts, differ, first_has, has_cases, has_head, has_tail, is_some_of-same, last_has, last_or-append}
@@ -15,11 +15,11 @@ use Rattle.strm_queue.specs.Ends.{first_of_rank, last_of_rank, of_rank}
 use Rattle.strm_queue.specs.Rank.{is_ordered}
 use Rattle.strm_queue.specs.Tallies.{end_joined, end_left}
 use Rattle.strm_queue.proofs.shelf.OnShelf.{first_none, heads, last_none, last_of}
-use Rattle.strm_queue.proofs.order.Order.{ordered_last}
+use Rattle.strm_queue.proofs.order.Order.{around, ordered_last}
 
 -- ---- the ends of messages in two parts
 
--- the first is that of the part in front, if it has one
+-- the first message is that of the first part, if it has one
 first_or_other : (pre post : List Message) → first (heads (pre ++ post)) ≡ option_or (first (heads pre)) (first (heads post))
 first_or_other [] post = refl
 first_or_other (x ∷ pre) post = refl
@@ -32,37 +32,37 @@ last_or_is : (o : Option ℕ) (xs : List ℕ) → last_or o xs ≡ option_or (la
 last_or_is o [] = refl
 last_or_is o (x ∷ xs) = last_or_some x xs o
 
--- the last is that of the part behind, if it has one
+-- the last message is that of the second part, if it has one
 last_or_other : (pre post : List Message) → last (heads (pre ++ post)) ≡ option_or (last (heads post)) (last (heads pre))
 last_or_other pre post = ap last (map-append head_of pre post) ∙ last_or-append None (heads pre) (heads post) ∙ last_or_is (last (heads pre)) (heads post)
 
--- where one or the other is none, both are
+-- if neither is chosen, both are none
 or_none : (o p : Option ℕ) → option_or o p ≡ None → (o ≡ None) × (p ≡ None)
 or_none None p none = (refl, none)
 or_none (Some h) p none = absurd (none-some h (sym none))
 
 -- ---- one end of a rank, the first or the last, once a message of that rank has joined or left
 
--- `near` is that end of the messages between it and the one of head n, and `far` of those beyond;
--- `next` stands beyond, beside the one of head n; the end is `rest` without that one, and `whole` with it
+-- Message n is put among messages of its rank. `near` is the end of those on one side of it, `far` of those on the other.
+-- `next` is its neighbour on the far side. The end of the rank is `rest` without n, and `whole` with n.
 record IsEnd (n : ℕ) (near far next rest whole : Option ℕ) : Type 0 where
   pub rest_is : rest ≡ option_or near far
   pub whole_is : whole ≡ option_or near (Some n)
   pub far_is : (far ≡ None) ⊎ (far ≡ next)
   pub apart : (h : ℕ) → near ≡ Some h → (next ≢ Some h) × (n ≢ h)
 
--- what is not this head
+-- an option that is not Some k
 not_some : (k : ℕ) (o : Option ℕ) → o ≢ Some k → is_some_of k o ≡ false
 not_some k None other = refl
 not_some k (Some x) other = ne_eqb x k (λ same. other (ap Some same))
 
--- an end beside which a message joins is that message
+-- a message that joins beside the end is the new end
 joined_beside : (n : ℕ) (next : Option ℕ) → end_joined next next n ≡ Some n
 joined_beside n None = refl
 joined_beside n (Some h) = cond-true _ _ _ (eq-eqb h h refl)
 
 module _ (n : ℕ) (far next rest whole : Option ℕ) where
-  -- once it has joined
+  -- the end once n has joined
   joined_is : (near : Option ℕ) → IsEnd n near far next rest whole → end_joined rest next n ≡ whole
   joined_is None e =
       ap (λ o. end_joined o next n) e.rest_is
@@ -70,12 +70,12 @@ module _ (n : ℕ) (far next rest whole : Option ℕ) where
       ∙ sym e.whole_is
   joined_is (Some h) e = ap (λ o. end_joined o next n) e.rest_is ∙ cond-false _ _ _ (not_some h next (e.apart h refl).0) ∙ sym e.whole_is
 
-  -- where it is the end, none stood between
+  -- if n is the end, no message is on the near side
   left_near : (near : Option ℕ) → IsEnd n near far next rest whole → whole ≡ Some n → near ≡ None
   left_near None e here = refl
   left_near (Some h) e here = absurd ((e.apart h refl).1 (same_Some n h (sym here ∙ e.whole_is)))
 
-  -- once it has left, where the other end is told by what it stands before
+  -- the end once n has left; the other end says whether n was alone
   module _ (other : Option ℕ) where
     left_alone : (near : Option ℕ) → other ≡ option_or near (Some n) → ((h : ℕ) → near ≡ Some h → n ≢ h) → (far ≡ None → near ≡ None) → (near ≡ None → far ≡ None) → (far ≡ None) ⊎ (far ≡ next)
         → (if is_some_of n other then None else next) ≡ far
@@ -94,7 +94,7 @@ module _ (n : ℕ) (far next rest whole : Option ℕ) where
 module _ (rank : Message → ℕ) where
   -- ---- the messages of a rank
 
-  -- a message of another rank is none of them
+  -- a message of another rank changes nothing
   pub of_rank-other : (x : ℕ) (pre post : List Message) (m : Message) → x ≢ rank m → of_rank rank x (pre ++ m ∷ post) ≡ of_rank rank x (pre ++ post)
   of_rank-other x [] post m other = cond-false _ _ _ (ne_eqb (rank m) x (λ same. other (sym same)))
   of_rank-other x (y ∷ pre) post m other = ap (λ ms. cond (rank y == x) (y ∷ ms) ms) (of_rank-other x pre post m other)
@@ -108,19 +108,18 @@ module _ (rank : Message → ℕ) where
   of_rank-at : (pre post : List Message) (m : Message) → of_rank rank (rank m) (pre ++ m ∷ post) ≡ of_rank rank (rank m) pre ++ m ∷ of_rank rank (rank m) post
   of_rank-at pre post m = of_rank-append (rank m) pre (m ∷ post) ∙ ap (λ ms. of_rank rank (rank m) pre ++ ms) (of_rank-here m post)
 
-  -- the first of a rank in two parts, and where one of that rank stands between them
+  -- the first message of a rank in two parts, and with one of that rank between them
   first_of_rank-append : (r : ℕ) (pre post : List Message) → first_of_rank rank r (pre ++ post) ≡ option_or (first_of_rank rank r pre) (first_of_rank rank r post)
   first_of_rank-append r pre post = ap (λ ms. first (heads ms)) (of_rank-append r pre post) ∙ first_or_other (of_rank rank r pre) (of_rank rank r post)
 
   first_of_rank-at : (pre post : List Message) (m : Message) → first_of_rank rank (rank m) (pre ++ m ∷ post) ≡ option_or (first_of_rank rank (rank m) pre) (Some (head_of m))
   first_of_rank-at pre post m = ap (λ ms. first (heads ms)) (of_rank-at pre post m) ∙ first_or_other (of_rank rank (rank m) pre) (m ∷ of_rank rank (rank m) post)
 
-  -- so there is one
+  -- so there is a first one
   pub first_of_rank-some : (pre post : List Message) (m : Message) → first_of_rank rank (rank m) (pre ++ m ∷ post) ≢ None
-  first_of_rank-some pre post m none =
-      none-some (head_of m) (sym (or_none (first_of_rank rank (rank m) pre) (Some (head_of m)) (sym (first_of_rank-at pre post m) ∙ none)).1)
+  first_of_rank-some pre post m none = grind (arith, common_steps, none-some, first_of_rank-at)
 
-  -- where there is no first of a rank, there is none in either part
+  -- if there is no first of a rank, neither part has one
   pub first_of_rank-parts : (r : ℕ) (pre post : List Message) → first_of_rank rank r (pre ++ post) ≡ None → (first_of_rank rank r pre ≡ None) × (first_of_rank rank r post ≡ None)
   first_of_rank-parts r pre post none = or_none (first_of_rank rank r pre) (first_of_rank rank r post) (sym (first_of_rank-append r pre post) ∙ none)
 
@@ -128,26 +127,24 @@ module _ (rank : Message → ℕ) where
   pub last_of_rank-none : (r : ℕ) (ms : List Message) → first_of_rank rank r ms ≡ None → last_of_rank rank r ms ≡ None
   last_of_rank-none r ms none = ap (λ xs. last (heads xs)) (first_none (of_rank rank r ms) none)
 
-  -- where there is no last, there is no first
+  -- if there is no last, there is no first
   pub first_of_rank-none : (r : ℕ) (ms : List Message) → last_of_rank rank r ms ≡ None → first_of_rank rank r ms ≡ None
   first_of_rank-none r ms none = ap (λ xs. first (heads xs)) (last_none (of_rank rank r ms) none)
 
-  -- a head among them is one of all
+  -- a head of a message of the rank is a head of a message
   pub has_of_rank : (h r : ℕ) (ms : List Message) → has h (heads (of_rank rank r ms)) ≡ true → has h (heads ms) ≡ true
   has_of_rank h r [] there = there
-  has_of_rank h r (x ∷ xs) there =
-      elim (cases_Bool (rank x == r)) [
-        | inl here ↦
-            elim (has_cases (head_of x) h (heads (of_rank rank r xs)) (subst (λ ms. has h (heads ms) ≡ true) (cond-true _ (x ∷ of_rank rank r xs) (of_rank rank r xs) here) there)) [
-              | inl same ↦ has_head (head_of x) h (heads xs) same
-              | inr later ↦ has_tail (head_of x) h (heads xs) (has_of_rank h r xs later)
-            ]
-        | inr other ↦
-            has_tail (head_of x) h (heads xs)
-            (has_of_rank h r xs (subst (λ ms. has h (heads ms) ≡ true) (cond-false _ (x ∷ of_rank rank r xs) (of_rank rank r xs) other) there))
-      ]
+  has_of_rank h r (x ∷ xs) there = by_rank (rank x == r) (has_of_rank h r xs) there
+    where
+      by_rank : (here : Bool) → (has h (heads (of_rank rank r xs)) ≡ true → has h (heads xs) ≡ true) → has h (heads (if here then x ∷ of_rank rank r xs else of_rank rank r xs)) ≡ true → has h (heads (x ∷ xs)) ≡ true
+      by_rank true rest there =
+          elim (has_cases (head_of x) h (heads (of_rank rank r xs)) there) [
+            | inl same ↦ has_head (head_of x) h (heads xs) same
+            | inr later ↦ has_tail (head_of x) h (heads xs) (rest later)
+          ]
+      by_rank false rest there = has_tail (head_of x) h (heads xs) (rest there)
 
-  -- so are the first and the last
+  -- so are the heads of the first and the last
   pub first_of_rank-has : (h r : ℕ) (ms : List Message) → first_of_rank rank r ms ≡ Some h → has h (heads ms) ≡ true
   first_of_rank-has h r ms is = has_of_rank h r ms (first_has (heads (of_rank rank r ms)) h (is_some_of-same h _ is))
 
@@ -156,41 +153,29 @@ module _ (rank : Message → ℕ) where
 
   -- ---- in order
 
-  -- what stands ahead of a message is of at least its rank
-  pub ahead_more : (pre post : List Message) (m : Message) → is_ordered rank (pre ++ m ∷ post) ≡ true → list_all (λ y. nat_le (rank m) (rank y)) pre ≡ true
-  ahead_more [] post m is = refl
-  ahead_more (y ∷ pre) post m is =
-      let parts = and_parts (list_all (λ z. nat_le (rank z) (rank y)) (pre ++ m ∷ post)) (is_ordered rank (pre ++ m ∷ post)) is in
-      let behind = and_parts (list_all (λ z. nat_le (rank z) (rank y)) pre) _ (sym (list_all-append (λ z. nat_le (rank z) (rank y)) pre (m ∷ post)) ∙ parts.0) in
-      and_from (nat_le (rank m) (rank y)) _ (and_parts (nat_le (rank m) (rank y)) _ behind.1).0 (ahead_more pre post m parts.1)
-
-  -- what stands behind it is of at most its rank
-  pub behind_less : (pre post : List Message) (m : Message) → is_ordered rank (pre ++ m ∷ post) ≡ true → list_all (λ y. nat_le (rank y) (rank m)) post ≡ true
-  behind_less pre post m is = (and_parts (list_all (λ y. nat_le (rank y) (rank m)) post) (is_ordered rank post) (ordered_last rank pre (m ∷ post) is)).0
-
-  -- where all ranks pass a test, there is none of a rank that does not
+  -- if all ranks pass a test, no message has a rank that does not
   pub of_rank-refused : (test : ℕ → Bool) (r : ℕ) (ms : List Message) → list_all (λ y. test (rank y)) ms ≡ true → test r ≡ false → of_rank rank r ms ≡ []
   of_rank-refused test r [] all off = refl
   of_rank-refused test r (x ∷ xs) all off =
       let parts = and_parts (test (rank x)) (list_all (λ y. test (rank y)) xs) all in
       cond-false _ _ _ (ne_eqb (rank x) r (λ same. false≢true (sym off ∙ ap test (sym same) ∙ parts.0))) ∙ of_rank-refused test r xs parts.1 off
 
-  -- of the rank of a message, the first one behind it is the next one, if there is one
+  -- the first message of m's rank after m is m's neighbour, if there is one
   behind_first : (post : List Message) (m : Message) → is_ordered rank (m ∷ post) ≡ true → (first_of_rank rank (rank m) post ≡ None) ⊎ (first_of_rank rank (rank m) post ≡ first (heads post))
   behind_first [] m is = inl refl
   behind_first (y ∷ ys) m is =
       elim (cases_eq (rank y) (rank m)) [
         | inl same ↦ inr (ap (λ ms. first (heads ms)) (cond-true _ (y ∷ of_rank rank (rank m) ys) (of_rank rank (rank m) ys) (eq-eqb (rank y) (rank m) same)))
         | inr other ↦
-            let most = and_parts (nat_le (rank y) (rank m)) _ (behind_less [] (y ∷ ys) m is) in
+            let most = and_parts (nat_le (rank y) (rank m)) _ (around rank [] (y ∷ ys) m is).behind in
             let less : rank y < rank m = omega (arith, leb-true (rank y) (rank m) most.0, other) in
             inl
             (ap (λ ms. first (heads ms))
             (of_rank-other (rank m) [] ys y (λ same. other (sym same))
-            ∙ of_rank-refused (λ n. nat_le n (rank y)) (rank m) ys (behind_less [] ys y (ordered_last rank (m ∷ []) (y ∷ ys) is)) (lt-leb (rank m) (rank y) less)))
+            ∙ of_rank-refused (λ n. nat_le n (rank y)) (rank m) ys (around rank [] ys y (ordered_last rank (m ∷ []) (y ∷ ys) is)).behind (lt-leb (rank m) (rank y) less)))
       ]
 
-  -- and the last one ahead of it is the one before, if there is one
+  -- and the last one ahead of m is m's neighbour, if there is one
   ahead_last_at : (pre post : List Message) (x m : Message) → is_ordered rank (pre ++ x ∷ m ∷ post) ≡ true
       → (last_of_rank rank (rank m) (pre ++ x ∷ []) ≡ None) ⊎ (last_of_rank rank (rank m) (pre ++ x ∷ []) ≡ last (heads (pre ++ x ∷ [])))
   ahead_last_at pre post x m is =
@@ -200,12 +185,12 @@ module _ (rank : Message → ℕ) where
             (ap (λ ms. last (heads ms)) (of_rank-append (rank m) pre (x ∷ []) ∙ ap (λ ms. of_rank rank (rank m) pre ++ ms) (cond-true _ (x ∷ []) [] (eq-eqb (rank x) (rank m) same)))
             ∙ last_or_other (of_rank rank (rank m) pre) (x ∷ []) ∙ sym (last_or_other pre (x ∷ [])))
         | inr other ↦
-            let most = and_parts (nat_le (rank m) (rank x)) _ (behind_less pre (m ∷ post) x is) in
+            let most = and_parts (nat_le (rank m) (rank x)) _ (around rank pre (m ∷ post) x is).behind in
             let more : rank m < rank x = omega (arith, leb-true (rank m) (rank x) most.0, other) in
             inl
             (ap (λ ms. last (heads ms))
             (of_rank-other (rank m) pre [] x (λ same. other (sym same)) ∙ ap (of_rank rank (rank m)) (append-nil pre)
-            ∙ of_rank-refused (nat_le (rank x)) (rank m) pre (ahead_more pre (m ∷ post) x is) (lt-leb (rank x) (rank m) more)))
+            ∙ of_rank-refused (nat_le (rank x)) (rank m) pre (around rank pre (m ∷ post) x is).ahead (lt-leb (rank x) (rank m) more)))
       ]
 
   ahead_last : (pre post : List Message) (m : Message) → is_ordered rank (pre ++ m ∷ post) ≡ true → (last_of_rank rank (rank m) pre ≡ None) ⊎ (last_of_rank rank (rank m) pre ≡ last (heads pre))
@@ -225,7 +210,7 @@ module _ (rank : Message → ℕ) where
     sides : ApartParts (heads pre) (heads (m ∷ post))
     sides = IsApart-parts (heads pre) (heads (m ∷ post)) (subst IsApart (map-append head_of pre (m ∷ post)) apart)
 
-    -- the first of its rank, without it and with it
+    -- the first message of its rank, without it and with it
     first_end : IsEnd (head_of m) (first_of_rank rank (rank m) pre) (first_of_rank rank (rank m) post) (first (heads post)) (first_of_rank rank (rank m) (pre ++ post)) (first_of_rank rank (rank m) (pre ++ m ∷ post))
     first_end = record {
       rest_is = first_of_rank-append (rank m) pre post;
@@ -236,7 +221,7 @@ module _ (rank : Message → ℕ) where
           (λ beyond. false≢true (sym off.1 ∙ first_has (heads post) h (is_some_of-same h _ beyond)), off.0);
     }
 
-    -- and the last
+    -- and the last message
     last_end : IsEnd (head_of m) (last_of_rank rank (rank m) post) (last_of_rank rank (rank m) pre) (last (heads pre)) (last_of_rank rank (rank m) (pre ++ post)) (last_of_rank rank (rank m) (pre ++ m ∷ post))
     last_end = record {
       rest_is = ap (λ ms. last (heads ms)) (of_rank-append (rank m) pre post) ∙ last_or_other (of_rank rank (rank m) pre) (of_rank rank (rank m) post);
@@ -251,7 +236,7 @@ module _ (rank : Message → ℕ) where
           );
     }
 
-    -- where it is the first of its rank, there is none ahead, and where it is the last, there is none behind
+    -- if m is the first of its rank, none is ahead of it; if it is the last, none is after it
     pub none_ahead : first_of_rank rank (rank m) (pre ++ m ∷ post) ≡ Some (head_of m) → first_of_rank rank (rank m) pre ≡ None
     none_ahead = left_near (head_of m) _ _ _ _ _ first_end
 
@@ -267,9 +252,7 @@ module _ (rank : Message → ℕ) where
 
     -- and once it has left
     pub first_left : end_left (first_of_rank rank (rank m) (pre ++ m ∷ post)) (last_of_rank rank (rank m) (pre ++ m ∷ post)) (first (heads post)) (head_of m) ≡ first_of_rank rank (rank m) (pre ++ post)
-    first_left =
-        left_is (head_of m) _ _ _ _ _ _ _ first_end last_end.whole_is (λ h near. (last_end.apart h near).1) (last_of_rank-none (rank m) post) (first_of_rank-none (rank m) post)
+    first_left = grind (arith, common_steps, first_end, last_end, last_of_rank-none, first_of_rank-none)
 
     pub last_left : end_left (last_of_rank rank (rank m) (pre ++ m ∷ post)) (first_of_rank rank (rank m) (pre ++ m ∷ post)) (last (heads pre)) (head_of m) ≡ last_of_rank rank (rank m) (pre ++ post)
-    last_left =
-        left_is (head_of m) _ _ _ _ _ _ _ last_end first_end.whole_is (λ h near. (first_end.apart h near).1) (first_of_rank-none (rank m) pre) (last_of_rank-none (rank m) pre)
+    last_left = grind (arith, common_steps, last_end, first_end, first_of_rank-none, last_of_rank-none)

@@ -1,5 +1,6 @@
--- Whether a message may stand at a place, by the messages on both sides of it.
-use Rattle.std.proofs.Common.{◌≡◌, ℕ, Bool, true, false, List, [], ◌∷◌, ◌++◌, Option, Some, None, refl, sym, ap, ◌∙◌, subst}
+-- Whether a message keeps the order at a place, by the messages on both sides of it.
+use Rattle.std.proofs.Common.{arith, ◌≡◌, ℕ, Bool, true, false, List, [], ◌∷◌, ◌++◌, Option, Some, None, refl, sym, ap, ◌∙◌, subst}
+use Rattle.std.proofs.lemmas.Grind.{common_steps}
 use Rattle.std.specs.Prelude.{nat_le}
 use Rattle.std.specs.Option.{ForSome}
 use Rattle.std.proofs.lemmas.Bool.{leb-false, true≢false}
@@ -11,10 +12,10 @@ use Rattle.strm_mblk.specs.Messages.{put_before_head}
 use Rattle.strm_mblk.specs.Shelves.{heads_at, stands_on}
 use Rattle.strm_mblk.proofs.arena.Stands.{heads_apart}
 use Rattle.strm_queue.specs.Rank.{is_ordered, rank_of}
-use Rattle.strm_queue.proofs.shelf.OnShelf.{Parts, after-head, at_there, before-head, first_none, first_of, first_there, heads, last_none, last_of, parts_of, placed-between}
+use Rattle.strm_queue.proofs.shelf.OnShelf.{Parts, after-head, at_there, before-head, first_of, first_there, heads, last_none, last_of, parts_of, placed-between}
 use Rattle.strm_queue.proofs.order.Order.{first_fits, fits_between, fits_first, ordered_last, rises_behind}
 
--- the messages of a shelf on both sides of a place: before this head, or behind all
+-- the messages of a shelf on both sides of a place, which is before this head, or after all messages
 pub record IsParting (a : Arena) (q : ℕ) (o : Option ℕ) : Type 0 where
   pub pre : List Message
   pub post : List Message
@@ -28,10 +29,6 @@ parting a q (Some h) there =
     record { pre = parts.pre; post = parts.at ∷ parts.post; is = parts.is; at = ap Some (sym parts.head) }
 
 module _ (a : Arena) (parted : IsParted a) (q : ℕ) (o : Option ℕ) (pre post : List Message) (is : shelf_at a q ≡ pre ++ post) (at : o ≡ first (heads post)) where
-  -- ahead of all is the last one
-  pub ahead_none : o ≡ None → last (heads_at a q) ≡ last (heads pre)
-  ahead_none none = ap (λ ms. last (heads ms)) (is ∙ ap (λ ms. pre ++ ms) (first_none post (sym at ∙ none)) ∙ append-nil pre)
-
   -- ahead of a message is the one before it
   pub ahead_some : (h : ℕ) → o ≡ Some h → before h (heads_at a q) ≡ last (heads pre)
   ahead_some h some =
@@ -42,28 +39,21 @@ module _ (a : Arena) (parted : IsParted a) (q : ℕ) (o : Option ℕ) (pre post 
 
   module _ (m : Message) where
     pub placed_here : put_before_head head_of o m (shelf_at a q) ≡ pre ++ m ∷ post
-    placed_here =
-        (λ i. put_before_head head_of (at i) m (is i)) ∙ placed-between m pre post (subst (λ ms. IsApart (heads ms)) is (heads_apart a parted q))
+    placed_here = grind (arith, common_steps, placed-between, heads, heads_apart)
 
     abbrev IsOrdered : List Message → Type 0
     IsOrdered ms = is_ordered (rank_of a.store) ms ≡ true
 
     -- before one of greater rank it does not fit
     pub too_low : first_fits (rank_of a.store) (rank_of a.store m) post ≡ false → false ≡ is_ordered (rank_of a.store) (put_before_head head_of o m (shelf_at a q))
-    too_low low = sym (ap (is_ordered (rank_of a.store)) placed_here ∙ low_first post low)
-      where
-        low_first : (ms : List Message) → first_fits (rank_of a.store) (rank_of a.store m) ms ≡ false → is_ordered (rank_of a.store) (pre ++ m ∷ ms) ≡ false
-        low_first [] low = absurd (true≢false low)
-        low_first (y ∷ ys) low = rises_behind (rank_of a.store) pre ys m y (leb-false (rank_of a.store y) (rank_of a.store m) low)
+    too_low low = grind (arith, common_steps, placed_here, first_fits, true≢false, rises_behind, leb-false)
 
     module _ (ordered : IsOrdered (shelf_at a q)) (fits : first_fits (rank_of a.store) (rank_of a.store m) post ≡ true) where
-      -- in front of all it fits
+      -- before all messages it fits
       pub fits_in_front : last (heads pre) ≡ None → true ≡ is_ordered (rank_of a.store) (put_before_head head_of o m (shelf_at a q))
-      fits_in_front none =
-          sym (ap (is_ordered (rank_of a.store)) (placed_here ∙ ap (λ ms. ms ++ m ∷ post) (last_none pre none))
-          ∙ fits_first (rank_of a.store) post m (ordered_last (rank_of a.store) pre post (subst IsOrdered is ordered)) fits)
+      fits_in_front none = grind (arith, common_steps, placed_here, last_none, fits_first, ordered_last)
 
-      -- else by the one ahead of it
+      -- else the message ahead of it decides
       pub fits_behind : (h n : ℕ) → last (heads pre) ≡ Some h → ((front back : List Message) (x : Message) → shelf_at a q ≡ front ++ x ∷ back → head_of x ≡ h → n ≡ rank_of a.store x)
           → nat_le (rank_of a.store m) n ≡ is_ordered (rank_of a.store) (put_before_head head_of o m (shelf_at a q))
       fits_behind h n some asked =
@@ -73,23 +63,19 @@ module _ (a : Arena) (parted : IsParted a) (q : ℕ) (o : Option ℕ) (pre post 
           ∙ fits_between (rank_of a.store) found.pre post found.at m (subst IsOrdered here ordered) fits
           ∙ sym (ap (is_ordered (rank_of a.store)) (placed_here ∙ ap (λ ms. ms ++ m ∷ post) found.is))
 
--- the first behind a place, as it was asked
+-- `is_at_most` says whether the first message after the place fits
 pub first_asked : (a : Arena) (q r : ℕ) (o : Option ℕ) (answer : Bool) → (o ≡ None → answer ≡ true)
     → ((pre post : List Message) (m : Message) → shelf_at a q ≡ pre ++ m ∷ post → o ≡ Some (head_of m) → answer ≡ nat_le (rank_of a.store m) r)
     → (parting : IsParting a q o) → first_fits (rank_of a.store) r parting.post ≡ answer
-first_asked a q r o answer none some parting = of parting.post parting.is parting.at
-  where
-    of : (post : List Message) → shelf_at a q ≡ parting.pre ++ post → o ≡ first (heads post) → first_fits (rank_of a.store) r post ≡ answer
-    of [] is at = sym (none at)
-    of (y ∷ ys) is at = sym (some parting.pre ys y is at)
+first_asked a q r o answer none some parting = grind (arith, common_steps)
 
--- the last one ahead of a place stands on the shelf
+-- the last message ahead of a place is on the shelf
 pub last_there : (a : Arena) (q : ℕ) (pre post : List Message) → shelf_at a q ≡ pre ++ post → (h : ℕ) → last (heads pre) ≡ Some h → stands_on a q h ≡ true
 last_there a q pre post is h some =
     let found = last_of h pre some in
     ap (λ ms. has h (heads ms)) (is ∙ ap (λ ms. ms ++ post) found.is ∙ append_assoc found.pre (found.at ∷ []) post) ∙ at_there h found.pre post found.at found.head
 
--- so does what stands ahead of a message, and what stands behind it
+-- so are the neighbours of a message
 module _ (a : Arena) (parted : IsParted a) (q h : ℕ) (there : stands_on a q h ≡ true) (k : ℕ) where
   abbrev parts : Parts h (shelf_at a q)
   parts = parts_of h (shelf_at a q) there
@@ -98,13 +84,7 @@ module _ (a : Arena) (parted : IsParted a) (q h : ℕ) (there : stands_on a q h 
   apart = subst (λ ms. IsApart (heads ms)) parts.is (heads_apart a parted q)
 
   pub ahead_there : before h (heads_at a q) ≡ Some k → stands_on a q k ≡ true
-  ahead_there some =
-      last_there a q parts.pre (parts.at ∷ parts.post) parts.is k
-      (sym (before-head parts.pre parts.post parts.at apart) ∙ (λ i. before (parts.head i) (heads (sym parts.is i))) ∙ some)
+  ahead_there some = grind (arith, common_steps, last_there, before-head, apart, heads)
 
   pub behind_there : after h (heads_at a q) ≡ Some k → stands_on a q k ≡ true
-  behind_there some =
-      let is : shelf_at a q ≡ (parts.pre ++ parts.at ∷ []) ++ parts.post = parts.is ∙ sym (append_assoc parts.pre (parts.at ∷ []) parts.post) in
-      ap (λ ms. has k (heads ms)) is
-      ∙ first_there k (parts.pre ++ parts.at ∷ []) parts.post
-      (sym (after-head parts.pre parts.post parts.at apart) ∙ (λ i. after (parts.head i) (heads (sym parts.is i))) ∙ some)
+  behind_there some = grind (arith, common_steps, append_assoc, heads, first_there, after-head, apart)

@@ -22,7 +22,7 @@ begun h ms = filter (λ m. head_of m == h) ms
 abbrev AreSome : List (List Message) → Type 0
 AreSome shelves = (s : ℕ) → All (λ m. 0 < length m) (get_or shelves s [])
 
--- how often a number stands on these shelves
+-- how often these shelves have a block of a number
 abbrev times_on : ℕ → List (List Message) → ℕ
 times_on h shelves = count_by (number_is h) (blocks_on shelves)
 
@@ -34,7 +34,7 @@ none_on h (ms ∷ shelves) some none =
     ∙ ap (λ ys. ys ++ begun h (flat_map (λ xs. xs) shelves)) (none_begins h ms (some 0) (omega (arith, both, none)))
     ∙ none_on h shelves (λ s. some (suc s)) (omega (arith, both, none))
 
--- one of a list begins with the number
+-- if a message of a list begins with the number, its blocks have it
 begun_counts : (h : ℕ) (m : Message) (ms : List Message) → begun h ms ≡ m ∷ [] → 0 < length m → head_of m ≡ h → 0 < count_by (number_is h) (flat_map (λ x. x) ms)
 begun_counts h m ms is some same =
     omega (
@@ -83,7 +83,7 @@ module _ (a : Arena) (parted : IsParted a) where
         at (x ∷ pre) post some = at pre post (λ k d within. some (suc k) d (omega (arith, within)))
 
     -- it is the message with its head
-    pub shelved_message-at : shelved_message a (head_of m) ≡ m
-    shelved_message-at =
+    pub shelved_message_at : shelved_message a (head_of m) ≡ m
+    shelved_message_at =
         ap (λ ms. blocks_of (slice_get ms 0))
         (across (head_of m) a.shelves q m parted.shelved (once_on (head_of m)) (ap (begun (head_of m)) is ∙ with-at pre post m apart_here) some_here refl)

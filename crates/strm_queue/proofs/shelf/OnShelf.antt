@@ -1,10 +1,11 @@
--- The messages of one shelf by their heads, none of which stands there twice.
-use Rattle.std.proofs.Common.{◌≡◌, ℕ, zero, suc, true, false, ◌==◌, List, [], ◌∷◌, ◌++◌, map, drop, set, Some, None, is_none, refl, sym, ap, ◌∙◌, subst, inl, inr}
+-- The messages of one shelf, found by their heads, which are all different.
+use Rattle.std.proofs.Common.{arith, ◌≡◌, ℕ, zero, suc, true, false, ◌==◌, List, [], ◌∷◌, ◌++◌, map, drop, set, Some, None, is_none, refl, sym, ap, ◌∙◌, subst, inl, inr}
+use Rattle.std.proofs.lemmas.Grind.{common_steps}
 use Rattle.std.specs.Prelude.{filter, slice_get}
 use Rattle.std.proofs.lemmas.Bool.{cond-true, cond-false, eq-eqb, ne_eqb, false≢true, not_from_true, not_from_false}
 use Rattle.std.proofs.lemmas.List.{map-append, append-nil}
 use Rattle.std.proofs.lemmas.Option.{none-some, same_Some}
-use Rattle.strm_links.specs.Rows.{IsApart, after, before, first, has, is_some_of, last, last_or}
+use Rattle.strm_links.specs.Rows.{IsApart, after, before, first, has, last, last_or}
 use Rattle.strm_links.proofs.lists.OneList.{absent_around, absent_parts, after-at, before-at, has_cases, has_head, has_left, has_right, last_has, last_some}
 use Rattle.strm_mblk.specs.Arena.{Arena, shelf_at, with_held, with_shelf}
 use Rattle.strm_mblk.specs.Block.{Message, head_of}
@@ -17,7 +18,7 @@ heads ms = map head_of ms
 heads-append : (pre post : List Message) → heads (pre ++ post) ≡ heads pre ++ heads post
 heads-append pre post = map-append head_of pre post
 
--- a message with this head, and those before and behind it
+-- a message with this head, and those before and after it
 pub record Parts (h : ℕ) (ms : List Message) : Type 0 where
   pub pre : List Message
   pub at : Message
@@ -52,17 +53,17 @@ pub last_of : (h : ℕ) (ms : List Message) → last (heads ms) ≡ Some h → L
 last_of h [] is = absurd (none-some h is)
 last_of h (x ∷ xs) is = last_from h x xs is
 
--- where there is no last one, there is none
+-- if there is no last one, there is none
 pub last_none : (ms : List Message) → last (heads ms) ≡ None → ms ≡ []
 last_none [] none = refl
 last_none (x ∷ xs) none = absurd (false≢true (sym (last_some (head_of x) (heads xs)) ∙ ap is_none none))
 
--- where there is no first one, there is none
+-- if there is no first one, there is none
 pub first_none : (ms : List Message) → first (heads ms) ≡ None → ms ≡ []
 first_none [] none = refl
 first_none (x ∷ xs) none = absurd (none-some (head_of x) (sym none))
 
--- the first of these, and those behind it
+-- the first of these, and those after it
 pub record FirstParts (h : ℕ) (ms : List Message) : Type 0 where
   pub at : Message
   pub post : List Message
@@ -73,21 +74,20 @@ pub first_of : (h : ℕ) (ms : List Message) → first (heads ms) ≡ Some h →
 first_of h [] is = absurd (none-some h is)
 first_of h (x ∷ xs) is = record { at = x; post = xs; is = refl; head = same_Some _ _ is }
 
--- the first behind a place stands on the shelf
+-- the first message after a place is on the shelf
 pub first_there : (h : ℕ) (pre post : List Message) → first (heads post) ≡ Some h → has h (heads (pre ++ post)) ≡ true
 first_there h pre [] is = absurd (none-some h is)
 first_there h pre (x ∷ xs) is = ap (has h) (heads-append pre (x ∷ xs)) ∙ has_right h (heads pre) (heads (x ∷ xs)) (has_head (head_of x) h (heads xs) (same_Some _ _ is))
 
--- and so does the last before it
+-- and so is the last one ahead of it
 pub last_there : (h : ℕ) (pre post : List Message) → last (heads pre) ≡ Some h → has h (heads (pre ++ post)) ≡ true
-last_there h pre post is =
-    ap (has h) (heads-append pre post) ∙ has_left h (heads pre) (heads post) (last_has (heads pre) h (ap (is_some_of h) is ∙ eq-eqb h h refl))
+last_there h pre post is = grind (arith, common_steps, heads-append, has_left, last_has, eq-eqb)
 
--- so does a message at a place
+-- and so is a message at the place
 pub at_there : (h : ℕ) (pre post : List Message) (x : Message) → head_of x ≡ h → has h (heads (pre ++ x ∷ post)) ≡ true
 at_there h pre post x same = first_there h pre (x ∷ post) (ap Some same)
 
--- the first behind a place is the one at it
+-- the first message from place k on is the one at k
 pub first_at : (ms : List Message) (k : ℕ) → first (heads (drop k ms)) ≡ slice_get (heads ms) k
 first_at [] zero = refl
 first_at [] (suc k) = refl
@@ -95,7 +95,7 @@ first_at (x ∷ xs) zero = refl
 first_at (x ∷ xs) (suc k) = first_at xs k
 
 module _ (pre post : List Message) (x : Message) (apart : IsApart (heads (pre ++ x ∷ post))) where
-  -- no other one has its head
+  -- no other message has its head
   pub no_other : (has (head_of x) (heads pre) ≡ false) × (has (head_of x) (heads post) ≡ false)
   no_other = absent_around (heads pre) (heads post) (head_of x) (subst IsApart (heads-append pre (x ∷ post)) apart)
 
@@ -113,7 +113,7 @@ placed-here m x (y ∷ pre) post absent =
     let off = absent_parts (head_of y) (head_of x) (heads pre) absent in
     cond-false _ _ _ (ne_eqb (head_of y) (head_of x) off.0) ∙ ap (λ ys. y ∷ ys) (placed-here m x pre post off.1)
 
--- put before the first behind a place, or last, it stands at that place
+-- put before the first message after a place, or last, a message is at that place
 pub placed-between : (m : Message) (pre post : List Message) → IsApart (heads (pre ++ post)) → put_before_head head_of (first (heads post)) m (pre ++ post) ≡ pre ++ m ∷ post
 placed-between m pre [] apart = ap (λ ys. ys ++ m ∷ []) (append-nil pre)
 placed-between m pre (x ∷ post) apart = placed-here m x pre post (no_other pre post x apart).0
@@ -154,7 +154,7 @@ module _ (pre post : List Message) (x : Message) (apart : IsApart (heads (pre ++
   pub without-at : without_head head_of (head_of x) (pre ++ x ∷ post) ≡ pre ++ post
   without-at = let off = no_other pre post x apart in others x post off.1 pre off.0
 
--- a message that stood between these has left its shelf, and is held
+-- the message between these leaves its shelf and is held
 pub unshelved : (a : Arena) (q : ℕ) (pre post : List Message) (x : Message) → shelf_at a q ≡ pre ++ x ∷ post → IsApart (heads_at a q) → unshelve q (head_of x) a ≡ with_held x (with_shelf q (pre ++ post) a)
 unshelved a q pre post x is apart =
     let here = subst (λ ms. IsApart (heads ms)) is apart in

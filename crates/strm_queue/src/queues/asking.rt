@@ -1,4 +1,4 @@
-//! What is asked of queues, and their flags and the run list for callers.
+//! Calls that read a queue's messages, bytes and marks; `bcanput`; and calls on the run list.
 ghost use Rattle.std.specs.Prelude.{Ok, ◌≡◌};
 ghost use Rattle.strm_mblk.specs.Arena.{Arena};
 ghost use Rattle.strm_mblk.specs.Given.{answer_of};
@@ -12,9 +12,7 @@ use strm_data::Refusal;
 use strm_mblk::Blocks;
 
 impl Queues {
-    /// How many messages stand on a queue. Takes constant time. Nothing changes.
-    ///
-    /// Refused as `NoSuchQueue` where there is no such queue.
+    /// Returns the number of messages on a queue. Refused as `NoSuchQueue`. Takes constant time.
     pub fn qsize(&self, blocks: &Blocks, queue: u8) -> Result<u32, Refusal>
         requires { Agrees self.now blocks.now }
         ensures { result ≡ answer_of (model.qsize queue (together self.now blocks.now)) }
@@ -25,10 +23,8 @@ impl Queues {
         Ok(self.len(queue))
     }
 
-    /// What there is to tell of a queue: its messages, their bytes, and its marks. Takes constant time. Nothing
-    /// changes.
-    ///
-    /// Refused as `NoSuchQueue` where there is no such queue.
+    /// Returns the number of messages and bytes on a queue, and its marks. Refused as `NoSuchQueue`. Takes constant time.
+    /// This project's own call.
     pub fn queue_info(&self, blocks: &Blocks, queue: u8) -> Result<QueueInfo, Refusal>
         requires { Agrees self.now blocks.now }
         ensures { result ≡ answer_of (model.queue_info queue (together self.now blocks.now)) }
@@ -45,10 +41,8 @@ impl Queues {
         })
     }
 
-    /// What there is to tell of one band of a queue: the bytes of its messages, of which those of high priority count with
-    /// band 0, and its marks. Takes constant time. Nothing changes.
-    ///
-    /// Refused as `NoSuchQueue` where there is no such queue.
+    /// Returns the bytes of one band of a queue, and its marks; high priority messages count with band 0. Refused as
+    /// `NoSuchQueue`. Takes constant time. This project's own call; STREAMS has `qband` structures.
     pub fn band_info(&self, blocks: &Blocks, queue: u8, band: u8) -> Result<BandInfo, Refusal>
         requires { Agrees self.now blocks.now }
         ensures { result ≡ answer_of (model.band_info queue band (together self.now blocks.now)) }
@@ -63,15 +57,14 @@ impl Queues {
         })
     }
 
-    /// Whether a message of a band may be put: asked of the first queue with a service procedure from this one on, or of
-    /// the last one there. Where the band has at least as many bytes as its high water mark there, it is full: its wanted
-    /// mark is set, and the answer is false. Takes a step for each queue that is passed.
-    ///
-    /// Refused as `NoSuchQueue` where there is no such queue; nothing changes then.
-    #[tactic(auto, using(strm_mblk::proofs::arena::Calls::leaves_blocks))]
+    /// Says whether a band has room at the target: the first queue with a service procedure from this one on, or else the
+    /// last one. If the band is full there, this sets its wanted mark and returns false. Refused as `NoSuchQueue`; then
+    /// nothing changes. Takes a step for each queue that is passed.
+    #[tactic(auto, using(strm_mblk::proofs::arena::Calls::leaves_blocks, crate::proofs::flow::Settling::agrees_wanted))]
     pub fn bcanput(&mut self, blocks: &Blocks, queue: u8, band: u8) -> Result<bool, Refusal>
         requires { Agrees self.old blocks.now }
-        ensures does { LeavesBlocks arena (model.bcanput queue band (together self.old blocks.now)) (together self.old blocks.now) (together self.new blocks.now) result }
+        ensures does { LeavesBlocks arena (model.bcanput queue band (together self.old blocks.now))
+            (together self.old blocks.now) (together self.new blocks.now) result }
         ensures agrees { Agrees self.new blocks.now }
     {
         if !self.has_queue(queue) {
@@ -86,13 +79,12 @@ impl Queues {
         Ok(false)
     }
 
-    /// Enables a queue: adds it at the end of the run list, unless it is there or has no service procedure. Takes
-    /// constant time.
-    ///
-    /// Refused as `NoSuchQueue` where there is no such queue; nothing changes then.
+    /// Adds a queue at the end of the run list, unless it is on the list or has no service procedure. Refused as
+    /// `NoSuchQueue`; then nothing changes. Takes constant time.
     #[tactic(auto, using(strm_mblk::proofs::arena::Calls::leaves_blocks))]
     pub fn qenable(&mut self, queue: u8) -> Result<(), Refusal>
-        ensures does { (a : Arena) → LeavesBlocks arena (model.qenable queue (together self.old a)) (together self.old a) (together self.new a) result }
+        ensures does { (a : Arena) → LeavesBlocks arena (model.qenable queue (together self.old a))
+            (together self.old a) (together self.new a) result }
         ensures agrees { (a : Arena) → Agrees self.old a → Agrees self.new a }
     {
         if !self.has_queue(queue) {
@@ -102,38 +94,40 @@ impl Queues {
         Ok(())
     }
 
-    /// Switches enabling off: nothing but a high priority message that is put on the queue or put back, `qenable`, and
-    /// back-enabling enables it any more. Takes constant time.
-    ///
-    /// Refused as `NoSuchQueue` where there is no such queue; nothing changes then.
+    /// Switches enabling off: now only a high priority message in `putq` or `putbq`, `qenable` and back-enabling enable the
+    /// queue. Refused as `NoSuchQueue`; then nothing changes. Takes constant time.
     pub fn noenable(&mut self, queue: u8) -> Result<(), Refusal>
-        ensures does { (a : Arena) → LeavesBlocks arena (model.noenable queue (together self.old a)) (together self.old a) (together self.new a) result }
+        ensures does { (a : Arena) → LeavesBlocks arena (model.noenable queue (together self.old a))
+            (together self.old a) (together self.new a) result }
         ensures agrees { (a : Arena) → Agrees self.old a → Agrees self.new a }
     {
         self.switch(queue, true)
     }
 
-    /// Switches enabling on again. Enables nothing by itself. Takes constant time.
-    ///
-    /// Refused as `NoSuchQueue` where there is no such queue; nothing changes then.
+    /// Switches enabling on again, and enables nothing by itself. Refused as `NoSuchQueue`; then nothing changes. Takes
+    /// constant time.
     pub fn enableok(&mut self, queue: u8) -> Result<(), Refusal>
-        ensures does { (a : Arena) → LeavesBlocks arena (model.enableok queue (together self.old a)) (together self.old a) (together self.new a) result }
+        ensures does { (a : Arena) → LeavesBlocks arena (model.enableok queue (together self.old a))
+            (together self.old a) (together self.new a) result }
         ensures agrees { (a : Arena) → Agrees self.old a → Agrees self.new a }
     {
         self.switch(queue, false)
     }
 
-    /// Takes the first queue off the run list, to be served, or none where the list is empty. Takes constant time.
+    /// Takes the first queue off the run list and returns its number, or none if the list is empty. Takes constant time.
+    /// This project's own call: in STREAMS the scheduler does this.
     #[tactic(auto, using(strm_mblk::proofs::arena::Calls::leaves_blocks))]
     pub fn next_service(&mut self) -> Option<u8>
-        ensures does { (a : Arena) → LeavesBlocks arena (Ok (model.next_service (together self.old a))) (together self.old a) (together self.new a) (Ok result) }
+        ensures does { (a : Arena) → LeavesBlocks arena (Ok (model.next_service (together self.old a)))
+            (together self.old a) (together self.new a) (Ok result) }
         ensures agrees { (a : Arena) → Agrees self.old a → Agrees self.new a }
     {
         self.take_first()
     }
 
-    /// The queue at a place of the run list, counted from 0, or none where the list is not so long. Takes as many steps.
-    /// Nothing changes.
+    /// Returns the queue at a place of the run list, counted from 0, or none if the list is shorter. Takes at most
+    /// `place` steps. This project's own call.
+    #[tactic(auto, using(crate::proofs::layout::Running::run_within, crate::proofs::layout::Running::run_step))]
     pub fn run_at(&self, place: u32) -> Option<u8>
         ensures { (arena : Arena) → result ≡ model.run_at place (together self.now arena) }
     {

@@ -1,4 +1,4 @@
-//! How many messages a queue has, and the bytes of these, by band.
+//! The stored number of a queue's messages and bytes, which is the true one while the queues are in order.
 ghost use Rattle.std.specs.Prelude.{◌≡◌, ◌<◌, length};
 ghost use Rattle.strm_mblk.specs.Arena.{Arena, shelf_at};
 ghost use Rattle.strm_queue.specs.Flow.{band_count, bytes_on, fills, hiwat_of};
@@ -7,7 +7,7 @@ ghost use Rattle.strm_queue.specs.QueuedBlocks.{AreInOrder};
 use super::Queues;
 
 impl Queues {
-    // How many messages stand on a queue.
+    // The number of messages on a queue.
     pub(super) fn len(&self, queue: u8) -> u32
         requires { queue < length self.now.state.specs }
         ensures { (arena : Arena) → AreInOrder self.now arena → result ≡ length (shelf_at arena queue) }
@@ -15,10 +15,11 @@ impl Queues {
         self.tally(queue).len()
     }
 
-    // How many bytes one band of a queue has.
+    // The number of bytes of one band of a queue.
     pub(super) fn band_count(&self, queue: u8, band: u8) -> u32
         requires { queue < length self.now.state.specs }
-        ensures { (arena : Arena) → AreInOrder self.now arena → result ≡ band_count arena.store band (shelf_at arena queue) }
+        ensures { (arena : Arena) → AreInOrder self.now arena
+            → result ≡ band_count arena.store band (shelf_at arena queue) }
     {
         self.tally(queue).count(band)
     }
@@ -32,7 +33,7 @@ impl Queues {
         self.tally(queue).is_full(band)
     }
 
-    // How many bytes a queue has.
+    // The number of bytes on a queue.
     pub(super) fn bytes(&self, queue: u8) -> u32
         requires { queue < length self.now.state.specs }
         ensures { (arena : Arena) → AreInOrder self.now arena → result ≡ bytes_on (shelf_at arena queue) }

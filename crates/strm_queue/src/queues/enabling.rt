@@ -1,4 +1,4 @@
-//! Queues are enabled, and served.
+//! The run list: which queue a call enables, and when.
 ghost use Rattle.std.specs.Prelude.{◌≡◌, ◌<◌, drop, length};
 ghost use Rattle.std.specs.Option.{ForSome};
 ghost use Rattle.strm_links.specs.Rows as rows;
@@ -9,7 +9,8 @@ use super::Queues;
 use crate::limits::HIGH_RANK;
 
 impl Queues {
-    // The first queue with a service procedure from this one on, or the last one there. Takes a step for each.
+    // The first queue with a service procedure from this one on, or else the last one. Takes a step for each queue passed.
+    #[tactic(auto, using(crate::proofs::flow::Targets::target_next))]
     pub(super) fn target(&self, queue: u8) -> u8
         requires { queue < length self.now.state.specs }
         ensures value { result ≡ flow.target self.now.state.specs queue }
@@ -30,7 +31,8 @@ impl Queues {
         at
     }
 
-    // The queue whose next is this one, if there is one. Looks at those of lower number.
+    // The queue whose next is this one, if any. Takes a step for each queue of lower number.
+    #[tactic(auto, using(crate::proofs::flow::Targets::behind_found, crate::proofs::flow::Targets::behind_none, crate::proofs::flow::Targets::names_is))]
     fn behind(&self, queue: u8) -> Option<u8>
         requires { queue < length self.now.state.specs }
         ensures value { result ≡ flow.behind self.now.state.specs queue }
@@ -45,7 +47,8 @@ impl Queues {
         None
     }
 
-    // The nearest queue behind with a service procedure, if there is one.
+    // The nearest queue behind with a service procedure, if any. At most 15 queues are behind; finding each takes a step
+    // for each lower number, at most 120 steps in all.
     pub(super) fn waker(&self, queue: u8) -> Option<u8>
         requires { queue < length self.now.state.specs }
         ensures value { result ≡ flow.waker self.now.state.specs queue }
@@ -69,7 +72,7 @@ impl Queues {
         self.run.list_of(u32::from(queue)).is_some()
     }
 
-    // Adds a queue at the end of the run list, unless it is there or has no service procedure. Takes constant time.
+    // Puts a queue at the end of the run list, unless it is on the list or has no service procedure. Takes constant time.
     pub(super) fn enable(&mut self, queue: u8)
         requires { queue < length self.old.state.specs }
         ensures { self.new ≡ record self.old { state = enabled queue self.old.state } }
@@ -79,7 +82,7 @@ impl Queues {
         }
     }
 
-    // So, where it is to be.
+    // Enables the queue if `so` is true; otherwise nothing changes.
     pub(super) fn enable_where(&mut self, so: bool, queue: u8)
         requires { queue < length self.old.state.specs }
         ensures { self.new ≡ record self.old { state = enabled_where so queue self.old.state } }
@@ -89,7 +92,7 @@ impl Queues {
         }
     }
 
-    // Whether a message of this rank that is put on a queue enables it.
+    // Whether `putq` of a message of this rank enables the queue.
     pub(super) fn enables_put(&self, queue: u8, rank: u16) -> bool
         requires { queue < length self.now.state.specs }
         ensures { result ≡ flow.enables_put (flags_at self.now.state queue) rank }
@@ -97,7 +100,7 @@ impl Queues {
         rank == HIGH_RANK || !self.is_off(queue) && (self.is_read(queue) || rank > 0)
     }
 
-    // Whether one that is put back does.
+    // Whether `putbq` of a message of this rank enables the queue.
     pub(super) fn enables_put_back(&self, queue: u8, rank: u16) -> bool
         requires { queue < length self.now.state.specs }
         ensures { result ≡ flow.enables_put_back (flags_at self.now.state queue) rank }
@@ -105,7 +108,7 @@ impl Queues {
         rank == HIGH_RANK || !self.is_off(queue) && self.is_read(queue)
     }
 
-    // Whether one that is inserted does.
+    // Whether `insq` of a message enables the queue.
     pub(super) fn enables_inserted(&self, queue: u8) -> bool
         requires { queue < length self.now.state.specs }
         ensures { result ≡ flow.enables_inserted (flags_at self.now.state queue) }
@@ -113,10 +116,16 @@ impl Queues {
         !self.is_off(queue) && self.is_read(queue)
     }
 
-    // Takes the first queue off the run list.
+    // Takes the first queue off the run list, if any.
+    #[tactic(auto, using(crate::proofs::layout::Running::lawful_left, crate::proofs::layout::Running::run_left))]
     pub(super) fn take_first(&mut self) -> Option<u8>
         ensures value { result ≡ rows.first self.old.state.run }
-        ensures state { self.new ≡ record self.old { state = record self.old.state { run = drop 1 self.old.state.run } } }
+        ensures state { self.new ≡ record self.old {
+          state = record self.old.state {
+            run = drop 1
+                self.old.state.run;
+          };
+        } }
     {
         self.run.parts_nodes();
         let node = self.run.front(0)?;

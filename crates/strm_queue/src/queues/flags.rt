@@ -1,4 +1,4 @@
-//! The flags of queues.
+//! The flags of a queue: want to read, no enabling, and the wanted bands.
 ghost use Rattle.std.specs.Prelude.{◌≡◌, ◌<◌, length};
 ghost use Rattle.strm_mblk.specs.Calls.{LeavesBlocks};
 ghost use Rattle.strm_queue.specs.Flow.{flags_at, has_band, lowat_of, some_relieved, still_wanted, with_flags, with_noenable, with_read, with_wanted};
@@ -11,7 +11,7 @@ use super::{Queue, Queues};
 use strm_data::Refusal;
 
 impl Queues {
-    // Whether somebody wants to read from a queue.
+    // Whether the want-to-read mark is set.
     pub(super) fn is_read(&self, queue: u8) -> bool
         requires { queue < length self.now.state.specs }
         ensures { result ≡ (flags_at self.now.state queue).read }
@@ -27,7 +27,7 @@ impl Queues {
         self.queues[usize::from(queue)].noenable
     }
 
-    // Whether somebody waits for room in a band.
+    // Whether the wanted mark of a band is set.
     pub(super) fn is_wanted(&self, queue: u8, band: u8) -> bool
         requires { queue < length self.now.state.specs }
         ensures { result ≡ has_band (flags_at self.now.state queue).wanted band }
@@ -51,10 +51,11 @@ impl Queues {
         self.queues[usize::from(queue)].noenable = off;
     }
 
-    // Switches enabling off or on, where there is the queue.
+    // Switches enabling off or on. Refused as `NoSuchQueue`.
     #[tactic(auto, using(strm_mblk::proofs::arena::Calls::leaves_blocks))]
     pub(super) fn switch(&mut self, queue: u8, off: bool) -> Result<(), Refusal>
-        ensures does { (a : Arena) → LeavesBlocks arena (switched queue off (together self.old a)) (together self.old a) (together self.new a) result }
+        ensures does { (a : Arena) → LeavesBlocks arena (switched queue off (together self.old a)) (together self.old a)
+            (together self.new a) result }
         ensures agrees { (a : Arena) → Agrees self.old a → Agrees self.new a }
     {
         if !self.has_queue(queue) {
@@ -72,13 +73,20 @@ impl Queues {
         self.queues[usize::from(queue)].wanted.insert(band);
     }
 
-    // Takes away the wanted mark of each band that has room again: it has at most as many bytes as its low water mark.
-    // Whether there was one.
+    // Clears the wanted mark of each band that has drained: it has at most as many bytes as its low water mark. Says whether
+    // there was any.
     pub(super) fn relieve(&mut self, queue: u8) -> bool
         requires { queue < length self.old.state.specs }
         ensures flags { let flags = flags_at self.old.state queue in
-            self.new ≡ record self.old { state = with_flags queue (record flags { wanted = still_wanted flags.wanted (count_of (tally_at self.old queue)) (lowat_of self.old.state queue) }) self.old.state } }
-        ensures some { result ≡ some_relieved (flags_at self.old.state queue).wanted (count_of (tally_at self.old queue)) (lowat_of self.old.state queue) }
+            self.new ≡ record self.old {
+              state = with_flags queue
+                  (record flags {
+                    wanted = still_wanted flags.wanted (count_of (tally_at self.old queue))
+                        (lowat_of self.old.state queue);
+                  }) self.old.state;
+            } }
+        ensures some { result ≡ some_relieved (flags_at self.old.state queue).wanted
+            (count_of (tally_at self.old queue)) (lowat_of self.old.state queue) }
     {
         let Queue {
             tally,

@@ -1,4 +1,4 @@
-//! Messages are flushed.
+//! `flushq` and `flushband`: messages of a queue are freed where they are.
 ghost use Rattle.std.specs.Prelude.{◌≡◌, ◌<◌, ◌∷◌, ◌++◌, ℕ, IsSome, IsTrue, List, filter, length, map, not};
 ghost use Rattle.std.specs.Option.{ForSome};
 ghost use Rattle.strm_links.specs.Rows as rows;
@@ -18,7 +18,7 @@ use crate::tally::band_of;
 use strm_data::{MsgType, Refusal};
 use strm_mblk::{BlockNo, Blocks};
 
-// Whether messages of this type carry data, so that flushing data takes them.
+// Whether messages of this type carry data, so that `Flush::Data` frees them.
 fn carries_data(kind: MsgType) -> bool
     ensures { result ≡ carries_data kind }
 {
@@ -28,10 +28,12 @@ fn carries_data(kind: MsgType) -> bool
     )
 }
 
-// Whether a flush takes the message with this head, of whatever band.
+// Whether a flush of all bands frees the message with this head.
+#[tactic(auto, using(crate::proofs::moving::Flushing::head_told, crate::proofs::moving::Flushing::data_told))]
 fn takes(blocks: &Blocks, head: BlockNo, flush: Flush) -> bool
     requires { IsSome (shelf_of blocks.now head) }
-    ensures { (queue : ℕ) (pre post : List Message) (m : Message) → shelf_at blocks.now queue ≡ pre ++ m ∷ post → head_of m ≡ head
+    ensures { (queue : ℕ) (pre post : List Message) (m : Message) → shelf_at blocks.now queue ≡ pre ++ m ∷ post
+        → head_of m ≡ head
         → result ≡ is_flushed blocks.now.store flush m }
 {
     blocks.lawful();
@@ -42,27 +44,26 @@ fn takes(blocks: &Blocks, head: BlockNo, flush: Flush) -> bool
 }
 
 impl Queues {
-    /// Frees the messages of a queue front to back: all, or those that carry data. What stays keeps its place and enables
-    /// nothing. Then the queue is settled, as by `getq`: a wanted band that has at most as many bytes as its low water mark
-    /// loses its wanted mark, and the nearest queue behind with a service procedure is enabled. Takes a step for each
-    /// message, two for each block that is freed, and those to settle, as of `getq`.
+    /// Frees messages of a queue, front to back: all, or only those that carry data. The others keep their places. Then the
+    /// queue is settled, as by [`Queues::getq`]. Nothing else enables a queue.
     ///
-    /// Refused as `NoSuchQueue` where there is no such queue; nothing changes then.
+    /// Refused as `NoSuchQueue`; then nothing changes. Takes a step for each message, three for each block that is freed,
+    /// and those to settle.
     pub fn flushq(&mut self, blocks: &mut Blocks, queue: u8, flush: Flush) -> Result<(), Refusal>
         requires { Agrees self.old blocks.old }
-        ensures does { Flushes arena (model.flushq queue flush (together self.old blocks.old)) (together self.old blocks.old) (together self.new blocks.new) result }
+        ensures does { Flushes arena (model.flushq queue flush (together self.old blocks.old))
+            (together self.old blocks.old) (together self.new blocks.new) result }
         ensures agrees { Agrees self.new blocks.new }
     {
         self.flush_band(blocks, queue, None, flush)
     }
 
-    /// Frees the messages of one band of a queue, front to back: all of them, or those that carry data. High priority
-    /// messages are of band 0. What stays keeps its place and enables nothing. Then the queue is settled, as by `getq`: a
-    /// wanted band that has at most as many bytes as its low water mark loses its wanted mark, and the nearest queue behind
-    /// with a service procedure is enabled. Takes a step for each message of the band, two for each block that is freed, and
-    /// those to settle, as of `getq`.
+    /// Frees messages of one band of a queue, front to back: all, or only those that carry data. High priority messages
+    /// belong to band 0. The others keep their places. Then the queue is settled, as by [`Queues::getq`]. Nothing else
+    /// enables a queue.
     ///
-    /// Refused as `NoSuchQueue` where there is no such queue; nothing changes then.
+    /// Refused as `NoSuchQueue`; then nothing changes. Takes a step for each message of the band, three for each block that
+    /// is freed, and those to settle.
     pub fn flushband(
         &mut self,
         blocks: &mut Blocks,
@@ -71,13 +72,14 @@ impl Queues {
         flush: Flush,
     ) -> Result<(), Refusal>
         requires { Agrees self.old blocks.old }
-        ensures does { Flushes arena (model.flushband queue band flush (together self.old blocks.old)) (together self.old blocks.old) (together self.new blocks.new) result }
+        ensures does { Flushes arena (model.flushband queue band flush (together self.old blocks.old))
+            (together self.old blocks.old) (together self.new blocks.new) result }
         ensures agrees { Agrees self.new blocks.new }
     {
         self.flush_band(blocks, queue, Some(band), flush)
     }
 
-    // Frees the messages of a queue, or of one band of it, that a flush takes.
+    // Frees the messages that a flush picks, of a queue or of one band of it, and settles the queue.
     #[tactic(auto, using(strm_mblk::proofs::arena::Calls::flushes_none))]
     fn flush_band(
         &mut self,
@@ -87,7 +89,8 @@ impl Queues {
         flush: Flush,
     ) -> Result<(), Refusal>
         requires { Agrees self.old blocks.old }
-        ensures does { Flushes arena (model.flushed queue band flush (together self.old blocks.old)) (together self.old blocks.old) (together self.new blocks.new) result }
+        ensures does { Flushes arena (model.flushed queue band flush (together self.old blocks.old))
+            (together self.old blocks.old) (together self.new blocks.new) result }
         ensures agrees { Agrees self.new blocks.new }
     {
         if !self.has_queue(queue) {
@@ -98,8 +101,8 @@ impl Queues {
         Ok(())
     }
 
-    // The head of the first message of a band from one on that stands on a queue, if there is one; where no band is given,
-    // that one. Other bands are passed over at once.
+    // The head of the first message that counts with the band, from `at` on, if any; without a band, `at`. Skips other
+    // bands in one step.
     fn onward(
         &self,
         blocks: &Blocks,
@@ -110,7 +113,8 @@ impl Queues {
         requires queue { queue < length self.now.state.specs }
         requires in_order { AreInOrder self.now blocks.now }
         requires at { ForSome at (λ head. IsTrue (stands_on blocks.now queue head)) }
-        ensures { (pre post : List Message) → shelf_at blocks.now queue ≡ pre ++ post → at ≡ rows.first (map head_of post)
+        ensures { (pre post : List Message) → shelf_at blocks.now queue ≡ pre ++ post
+            → at ≡ rows.first (map head_of post)
             → result ≡ rows.first (map head_of (from_band blocks.now.store band post)) }
     {
         let (Some(band), Some(head)) = (band, at) else {
@@ -127,7 +131,7 @@ impl Queues {
         self.tally(queue).first(u16::from(band))
     }
 
-    // Frees the messages of a queue, or of one band of it, that a flush takes, front to back.
+    // Frees the messages that a flush picks, of a queue or of one band of it, front to back.
     fn flush_shelf(&mut self, blocks: &mut Blocks, queue: u8, band: Option<u8>, flush: Flush)
         requires queue { queue < length self.old.state.specs }
         requires in_order { AreInOrder self.old blocks.old }

@@ -1,4 +1,4 @@
-//! Messages are taken off queues.
+//! `getq` and `rmvq`: messages leave a queue and are held again.
 ghost use Rattle.std.specs.Prelude.{None};
 ghost use Rattle.strm_mblk.specs.Calls.{Takes, TakesAny};
 ghost use Rattle.strm_queue.specs.QueueCalls as model;
@@ -10,18 +10,20 @@ use strm_data::Refusal;
 use strm_mblk::{Blocks, Token};
 
 impl Queues {
-    /// Takes the first message off a queue, clears its want-to-read mark, and settles it: each wanted band that has at most
-    /// as many bytes as its low water mark loses its wanted mark, and where one does, the nearest queue behind with a
-    /// service procedure is enabled. Takes a step for each block of the message, and to settle one for each wanted band of the
-    /// queue, and where one of them has room again one for each pair of queues behind at most.
+    /// Removes the first message of a queue and returns its token, or returns none if the queue is empty.
     ///
-    /// Where the queue is empty, it gives nothing and sets the want-to-read mark: somebody wants to read from it.
+    /// If it removes a message, it clears the want-to-read mark and settles the queue: each wanted band with at most as
+    /// many bytes as its low water mark loses its wanted mark. If one does, the nearest queue behind with a service
+    /// procedure is enabled. If the queue is empty, this sets the want-to-read mark.
     ///
-    /// Refused as `NoSuchQueue` where there is no such queue; nothing changes then.
+    /// Refused as `NoSuchQueue`; then nothing changes. Takes a step for each block of the message. To settle takes a step
+    /// for each wanted band. If a band loses its mark, the search for the queue to enable takes at most 120 more: for each
+    /// queue behind, it looks at all queues of lower number.
     #[tactic(auto, using(strm_mblk::proofs::arena::Calls::takes_any_none))]
     pub fn getq(&mut self, blocks: &mut Blocks, queue: u8) -> Result<Option<Token>, Refusal>
         requires { Agrees self.old blocks.old }
-        ensures does { TakesAny arena (model.getq queue (together self.old blocks.old)) (together self.old blocks.old) (together self.new blocks.new) result }
+        ensures does { TakesAny arena (model.getq queue (together self.old blocks.old)) (together self.old blocks.old)
+            (together self.new blocks.new) result }
         ensures agrees { Agrees self.new blocks.new }
     {
         blocks.lawful();
@@ -38,17 +40,16 @@ impl Queues {
         Ok(Some(token))
     }
 
-    /// Takes the message at `place`, counted from 0, off a queue, and settles it, as `getq` does: a wanted band that has at
-    /// most as many bytes as its low water mark loses its wanted mark, and the nearest queue behind with a service procedure
-    /// is enabled. The want-to-read mark stays. Takes `place` steps, one for each block of the message, and those to settle, as
-    /// of `getq`.
+    /// Removes the message at `place`, counted from 0, and returns its token. It settles the queue, as [`Queues::getq`]
+    /// does; the want-to-read mark stays.
     ///
-    /// Refused as `NoSuchQueue` where there is no such queue, then as `NoSuchPlace` where it has no such message; nothing
-    /// changes then.
+    /// Refused as `NoSuchQueue`, then as `NoSuchPlace` if there is no such message; then nothing changes. Takes `place`
+    /// steps, one for each block of the message, and those to settle.
     #[tactic(auto, using(strm_mblk::proofs::arena::Calls::takes_none))]
     pub fn rmvq(&mut self, blocks: &mut Blocks, queue: u8, place: u32) -> Result<Token, Refusal>
         requires { Agrees self.old blocks.old }
-        ensures does { Takes arena (model.rmvq queue place (together self.old blocks.old)) (together self.old blocks.old) (together self.new blocks.new) result }
+        ensures does { Takes arena (model.rmvq queue place (together self.old blocks.old))
+            (together self.old blocks.old) (together self.new blocks.new) result }
         ensures agrees { Agrees self.new blocks.new }
     {
         blocks.lawful();

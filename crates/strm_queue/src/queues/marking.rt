@@ -1,4 +1,4 @@
-//! The water marks of a band are given, and told.
+//! `strqset` and `strqget`: the water marks of a band.
 ghost use Rattle.std.specs.Prelude.{◌≡◌, ◌<◌, length};
 ghost use Rattle.strm_mblk.specs.Arena.{Arena};
 ghost use Rattle.strm_mblk.specs.Given.{answer_of};
@@ -13,18 +13,16 @@ use strm_data::Refusal;
 use strm_mblk::Blocks;
 
 impl Queues {
-    /// Gives one band of a queue water marks of its own. All other bands keep theirs, whatever stands on the queue.
+    /// Sets both water marks of one band of a queue, in bytes. All other bands keep theirs.
     ///
-    /// The band is full from now on where it has at least `hiwat` bytes; then nobody waits for room yet, since `bcanput`
-    /// alone sets a wanted mark. Then the queue is settled, as by `getq`: a wanted band, this one or another, that has at most
-    /// as many bytes as its low water mark loses its wanted mark, and the nearest queue behind with a service procedure is
-    /// enabled. Takes the steps to settle, as of `getq`.
+    /// The band is full from now on if it has at least `hiwat` bytes. This sets no wanted mark, as only `bcanput` does
+    /// that. Then the queue is settled, as by [`Queues::getq`].
     ///
-    /// STREAMS' `strqset` sets one of many fields; of these there are the two water marks here. That both are set at once, that
-    /// `lowat` must be below `hiwat`, that the band is full or not at once, and that the queue is settled, is this project's own choice.
+    /// Refused as `NoSuchQueue`, then as `BadMarks` if `lowat` is not below `hiwat`; then nothing changes. Takes the steps
+    /// to settle.
     ///
-    /// Refused as `NoSuchQueue` where there is no such queue, then as `BadMarks` where `lowat` is not below `hiwat`; nothing
-    /// changes then.
+    /// STREAMS' `strqset` sets one of many fields, among them `QHIWAT` and `QLOWAT`. Our own choices: it sets both at once,
+    /// `lowat` must be below `hiwat`, the full mark follows at once, and the queue is settled.
     #[tactic(auto, using(strm_mblk::proofs::arena::Calls::leaves_blocks))]
     pub fn strqset(
         &mut self,
@@ -35,7 +33,8 @@ impl Queues {
         lowat: u32,
     ) -> Result<(), Refusal>
         requires { Agrees self.old blocks.now }
-        ensures does { LeavesBlocks arena (model.strqset queue band hiwat lowat (together self.old blocks.now)) (together self.old blocks.now) (together self.new blocks.now) result }
+        ensures does { LeavesBlocks arena (model.strqset queue band hiwat lowat (together self.old blocks.now))
+            (together self.old blocks.now) (together self.new blocks.now) result }
         ensures agrees { Agrees self.new blocks.now }
     {
         if !self.has_queue(queue) {
@@ -50,11 +49,9 @@ impl Queues {
         Ok(())
     }
 
-    /// The water marks of one band of a queue: those that the queue was made with, or that `strqset` gave last. Takes
-    /// constant time. Nothing changes. STREAMS' `strqget` tells one of many fields; that both water marks are told at once, and no
-    /// other field, is this project's own choice.
-    ///
-    /// Refused as `NoSuchQueue` where there is no such queue.
+    /// Returns the water marks of one band of a queue: those of its spec, or of the last `strqset`. Refused as
+    /// `NoSuchQueue`. Takes constant time. STREAMS' `strqget` returns one of many fields; this returns both water marks,
+    /// and no others.
     pub fn strqget(&self, queue: u8, band: u8) -> Result<Marks, Refusal>
         ensures { (arena : Arena) → result ≡ answer_of (model.strqget queue band (together self.now arena)) }
     {
@@ -64,7 +61,7 @@ impl Queues {
         Ok(self.marks(queue, band))
     }
 
-    // Gives a band of a queue water marks.
+    // Sets the water marks of a band, and leaves its full mark.
     fn set_marks(&mut self, queue: u8, band: u8, marks: Marks)
         requires queue { queue < length self.old.state.specs }
         requires apart { marks.lowat < marks.hiwat }

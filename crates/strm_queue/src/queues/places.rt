@@ -1,4 +1,4 @@
-//! The rank of a message, and the place on a queue where it belongs.
+//! The rank of a message, and the place where it belongs on a queue.
 ghost use Rattle.std.specs.Prelude.{◌≡◌, ◌<◌, ℕ, true, List, ◌∷◌, ◌++◌, None, Some, IsSome, IsTrue, length, map, nat_le, slice_get, if◌then◌else◌};
 ghost use Rattle.std.specs.Option.{ForSome};
 ghost use Rattle.strm_data.specs.MsgType.{is_high_priority};
@@ -30,12 +30,13 @@ fn rank(kind: MsgType, band: u8) -> u16
     }
 }
 
-// The rank of a held message. That of high priority means that the message has it.
+// The rank of a held message, by its first block.
 pub(super) fn held_rank(blocks: &Blocks, token: &Token) -> u16
     requires { IsTrue (has blocks.now token.now) }
     ensures value { result ≡ rank_of blocks.now.store (message_at blocks.now token.now.head) }
     ensures few { result < ranks }
-    ensures high { let m = message_at blocks.now token.now.head in result ≡ high_rank → as_queued blocks.now.store m ≡ banded 0 m }
+    ensures high { let m = message_at blocks.now token.now.head in result ≡ high_rank
+        → as_queued blocks.now.store m ≡ banded 0 m }
 {
     match blocks.block(token, 0) {
         Ok(first) => rank(first.kind, first.band),
@@ -44,9 +45,11 @@ pub(super) fn held_rank(blocks: &Blocks, token: &Token) -> u16
 }
 
 // The rank of a message on a queue.
+#[tactic(auto, using(crate::proofs::order::Ranks::rank_asked, crate::proofs::shelf::Across::shelved_message_at))]
 pub(super) fn queued_rank(blocks: &Blocks, head: BlockNo) -> u16
     requires { IsSome (shelf_of blocks.now head) }
-    ensures value { (queue : ℕ) (pre post : List Message) (m : Message) → shelf_at blocks.now queue ≡ pre ++ m ∷ post → head_of m ≡ head
+    ensures value { (queue : ℕ) (pre post : List Message) (m : Message) → shelf_at blocks.now queue ≡ pre ++ m ∷ post
+        → head_of m ≡ head
         → result ≡ rank_of blocks.now.store m }
     ensures few { result < ranks }
 {
@@ -54,7 +57,7 @@ pub(super) fn queued_rank(blocks: &Blocks, head: BlockNo) -> u16
     rank(blocks.head_kind(head), blocks.head_band(head))
 }
 
-// The head of the message at a place, counted from 0, if there is one. Takes as many steps.
+// The head of the message at a place, counted from 0, if any. Takes `place` steps.
 pub(super) fn head_at(blocks: &Blocks, queue: u8, place: u32) -> Option<BlockNo>
     requires { queue < length blocks.now.shelves }
     ensures value { result ≡ slice_get (heads_at blocks.now queue) place }
@@ -68,11 +71,12 @@ pub(super) fn head_at(blocks: &Blocks, queue: u8, place: u32) -> Option<BlockNo>
     at
 }
 
-// Whether the message with this head, if there is one, has at most this rank.
+// Whether the message with this head has at most this rank; true if there is none.
 fn is_at_most(blocks: &Blocks, at: Option<BlockNo>, rank: u16) -> bool
     requires { ForSome at (λ head. IsSome (shelf_of blocks.now head)) }
     ensures none { at ≡ None → result ≡ true }
-    ensures some { (queue : ℕ) (pre post : List Message) (m : Message) → shelf_at blocks.now queue ≡ pre ++ m ∷ post → at ≡ Some (head_of m)
+    ensures some { (queue : ℕ) (pre post : List Message) (m : Message) → shelf_at blocks.now queue ≡ pre ++ m ∷ post
+        → at ≡ Some (head_of m)
         → result ≡ nat_le (rank_of blocks.now.store m) rank }
 {
     match at {
@@ -81,11 +85,12 @@ fn is_at_most(blocks: &Blocks, at: Option<BlockNo>, rank: u16) -> bool
     }
 }
 
-// The head of the last message ahead of a place: before the message with this head, or of all where none is given.
+// The head of the message just before this one, or of the last message if none is given.
 pub(super) fn ahead_of(blocks: &Blocks, queue: u8, before: Option<BlockNo>) -> Option<BlockNo>
     requires queue { queue < length blocks.now.shelves }
     requires before { ForSome before (λ head. IsTrue (stands_on blocks.now queue head)) }
-    ensures { (pre post : List Message) → shelf_at blocks.now queue ≡ pre ++ post → before ≡ rows.first (map head_of post)
+    ensures { (pre post : List Message) → shelf_at blocks.now queue ≡ pre ++ post
+        → before ≡ rows.first (map head_of post)
         → result ≡ rows.last (map head_of pre) }
 {
     blocks.lawful();
@@ -95,7 +100,7 @@ pub(super) fn ahead_of(blocks: &Blocks, queue: u8, before: Option<BlockNo>) -> O
     }
 }
 
-// Whether ranks do not rise once a message of this rank stands before the one with this head, or last where none is
+// Whether ranks still do not rise once a message of this rank is put before the one with this head, or last if none is
 // given.
 pub(super) fn fits_before(blocks: &Blocks, queue: u8, before: Option<BlockNo>, rank: u16) -> bool
     requires queue { queue < length blocks.now.shelves }
@@ -115,16 +120,17 @@ pub(super) fn fits_before(blocks: &Blocks, queue: u8, before: Option<BlockNo>, r
 }
 
 impl Queues {
-    // The head of the message before which one of this rank stands behind its equals, or none where it is last: it is
-    // the one behind the last message of the smallest rank from this one on that has messages, or else the first. Often
-    // the queue is empty, and then no rank is looked for.
+    // Where `putq` puts a message of this rank: the head of the message that comes after it, or none for the end. That is
+    // the one after the last message of the smallest rank, this or above, that has messages, or else the queue's first
+    // message. An empty queue needs no search.
     pub(super) fn place_behind(&self, blocks: &Blocks, queue: u8, rank: u16) -> Option<BlockNo>
         requires queue { queue < length self.now.state.specs }
         requires rank { rank < ranks }
         requires in_order { AreInOrder self.now blocks.now }
         ensures there { ForSome result (λ head. IsTrue (stands_on blocks.now queue head)) }
         ensures place { (m : Message) → rank_of blocks.now.store m ≡ rank
-            → put_before_head head_of result m (shelf_at blocks.now queue) ≡ put_behind (rank_of blocks.now.store) m (shelf_at blocks.now queue) }
+            → put_before_head head_of result m (shelf_at blocks.now queue)
+            ≡ put_behind (rank_of blocks.now.store) m (shelf_at blocks.now queue) }
     {
         blocks.lawful();
         let tally = self.tally(queue);
@@ -142,15 +148,16 @@ impl Queues {
         }
     }
 
-    // The head of the message before which one of this rank stands before its equals, or none where it is last: it is
-    // the first message of the greatest rank up to this one that has messages.
+    // Where `putbq` puts a message of this rank: before the first message of the greatest rank, this or below, that has
+    // messages. Returns its head, or none for the end.
     pub(super) fn place_ahead(&self, blocks: &Blocks, queue: u8, rank: u16) -> Option<BlockNo>
         requires queue { queue < length self.now.state.specs }
         requires rank { rank < ranks }
         requires in_order { AreInOrder self.now blocks.now }
         ensures there { ForSome result (λ head. IsTrue (stands_on blocks.now queue head)) }
         ensures place { (m : Message) → rank_of blocks.now.store m ≡ rank
-            → put_before_head head_of result m (shelf_at blocks.now queue) ≡ put_ahead (rank_of blocks.now.store) m (shelf_at blocks.now queue) }
+            → put_before_head head_of result m (shelf_at blocks.now queue)
+            ≡ put_ahead (rank_of blocks.now.store) m (shelf_at blocks.now queue) }
     {
         blocks.lawful();
         let tally = self.tally(queue);

@@ -1,4 +1,4 @@
-//! Messages are put on queues.
+//! `putq`, `putbq` and `insq`: held messages join a queue.
 ghost use Rattle.std.specs.Prelude.{◌≡◌, ◌<◌, [], ◌∷◌, IsTrue, None, length};
 ghost use Rattle.std.specs.Option.{ForSome};
 ghost use Rattle.strm_mblk.specs.Arena.{has, held_at, message_at, shelf_at};
@@ -20,7 +20,7 @@ use strm_data::Refusal;
 use strm_mblk::{BlockNo, Blocks, Rejected, Token};
 
 impl Queues {
-    // Puts a message of this rank on a queue, as `shelve` does, and enables the queue, where it is to be.
+    // Puts a message of this rank on a queue, as `shelve` does, and enables the queue if `enables` is true.
     fn put(
         &mut self,
         blocks: &mut Blocks,
@@ -35,12 +35,15 @@ impl Queues {
         requires had { IsTrue (has blocks.old token) }
         requires rank { rank ≡ rank_of blocks.old.store (message_at blocks.old token.head) }
         requires few { rank < ranks }
-        requires high { let m = message_at blocks.old token.head in rank ≡ high_rank → as_queued blocks.old.store m ≡ banded 0 m }
+        requires high { let m = message_at blocks.old token.head in rank ≡ high_rank
+            → as_queued blocks.old.store m ≡ banded 0 m }
         requires before { ForSome before (λ head. IsTrue (stands_on blocks.old queue head)) }
         requires ordered { let m = as_queued blocks.old.store (message_at blocks.old token.head) in
             IsTrue (is_ordered (rank_of blocks.old.store) (put_before_head head_of before m (shelf_at blocks.old queue))) }
         ensures after { let m = as_queued blocks.old.store (message_at blocks.old token.head) in
-            together self.new blocks.new ≡ model.with_state (enabled_where enables queue) (model.with_put queue token.head (put_before_head head_of before m (shelf_at blocks.old queue)) (together self.old blocks.old)) }
+            together self.new blocks.new ≡ model.with_state (enabled_where enables queue)
+            (model.with_put queue token.head (put_before_head head_of before m (shelf_at blocks.old queue))
+            (together self.old blocks.old)) }
         ensures gone { held_at blocks.new token.head ≡ None }
         ensures others { LeavesOthers (token.head ∷ []) blocks.old blocks.new }
         ensures agrees { Agrees self.new blocks.new }
@@ -49,18 +52,20 @@ impl Queues {
         self.enable_where(enables, queue);
     }
 
-    /// Puts a message on a queue, behind the last one of rank at least its own. A high priority message ranks above all
-    /// bands, and its first block gets band 0. Takes a step for each block of the message.
+    /// Puts a message on a queue, after the last message whose rank is at least its own. A high priority message
+    /// ranks above all bands, and its first block gets band 0.
     ///
-    /// Enables the queue, as `qenable` does, where the message is of high priority; or else where enabling is not switched
-    /// off, and either somebody wants to read from the queue or the message is of a band above 0.
+    /// It enables the queue, as [`Queues::qenable`] does, if the message is high priority. Otherwise it does so if enabling
+    /// is on, and either the want-to-read mark is set or the message's band is above 0.
     ///
-    /// Rejected as `NoSuchQueue` where there is no such queue; nothing changes then, and the token comes back.
+    /// Rejected as `NoSuchQueue`; then nothing changes, and the token comes back. Takes a step for each block of the
+    /// message.
     #[tactic(auto, using(strm_mblk::proofs::arena::Calls::puts_none))]
     pub fn putq(&mut self, blocks: &mut Blocks, queue: u8, token: Token) -> Result<(), Rejected>
         requires agrees { Agrees self.old blocks.old }
         requires had { IsTrue (has blocks.old token) }
-        ensures does { Puts arena token (model.putq queue token.head (together self.old blocks.old)) (together self.old blocks.old) (together self.new blocks.new) result }
+        ensures does { Puts arena token (model.putq queue token.head (together self.old blocks.old))
+            (together self.old blocks.old) (together self.new blocks.new) result }
         ensures agrees { Agrees self.new blocks.new }
     {
         if !self.has_queue(queue) {
@@ -74,18 +79,20 @@ impl Queues {
         Ok(())
     }
 
-    /// Puts a message back on a queue, before the first one of rank at most its own. A high priority message ranks above
-    /// all bands, and its first block gets band 0. Takes a step for each block of the message.
+    /// Puts a message on a queue, before the first message whose rank is at most its own. A high priority message
+    /// ranks above all bands, and its first block gets band 0.
     ///
-    /// Enables the queue, as `qenable` does, where the message is of high priority; or else where enabling is not switched
-    /// off and somebody wants to read from the queue. The band of the message does not count.
+    /// It enables the queue, as [`Queues::qenable`] does, if the message is high priority, or if enabling is on and the
+    /// want-to-read mark is set. The message's band makes no difference.
     ///
-    /// Rejected as `NoSuchQueue` where there is no such queue; nothing changes then, and the token comes back.
+    /// Rejected as `NoSuchQueue`; then nothing changes, and the token comes back. Takes a step for each block of the
+    /// message.
     #[tactic(auto, using(strm_mblk::proofs::arena::Calls::puts_none))]
     pub fn putbq(&mut self, blocks: &mut Blocks, queue: u8, token: Token) -> Result<(), Rejected>
         requires agrees { Agrees self.old blocks.old }
         requires had { IsTrue (has blocks.old token) }
-        ensures does { Puts arena token (model.putbq queue token.head (together self.old blocks.old)) (together self.old blocks.old) (together self.new blocks.new) result }
+        ensures does { Puts arena token (model.putbq queue token.head (together self.old blocks.old))
+            (together self.old blocks.old) (together self.new blocks.new) result }
         ensures agrees { Agrees self.new blocks.new }
     {
         if !self.has_queue(queue) {
@@ -99,15 +106,15 @@ impl Queues {
         Ok(())
     }
 
-    /// Puts a message on a queue before the one at `place`, counted from 0, or last where `place` is the number of
-    /// messages. The first block of a high priority message gets band 0. Takes `place` steps, and one for each block of the
-    /// message.
+    /// Puts a message on a queue before the one at `place`, counted from 0, or last if `place` is the number of messages.
+    /// The first block of a high priority message gets band 0.
     ///
-    /// Enables the queue, as `qenable` does, where enabling is not switched off and somebody wants to read from the queue.
-    /// Not even high priority counts.
+    /// It enables the queue, as [`Queues::qenable`] does, if enabling is on and the want-to-read mark is set, whatever the
+    /// rank.
     ///
-    /// Rejected as `NoSuchQueue` where there is no such queue, then as `NoSuchPlace` where it has fewer messages, then as
-    /// `BadOrder` where ranks would rise from front to back; nothing changes then, and the token comes back.
+    /// Rejected as `NoSuchQueue`, then as `NoSuchPlace` if the queue has fewer messages, then as `BadOrder` if ranks would
+    /// rise from front to back; then nothing changes, and the token comes back. Takes `place` steps, and one for each block
+    /// of the message.
     #[tactic(auto, using(strm_mblk::proofs::arena::Calls::puts_none))]
     pub fn insq(
         &mut self,
@@ -118,7 +125,8 @@ impl Queues {
     ) -> Result<(), Rejected>
         requires agrees { Agrees self.old blocks.old }
         requires had { IsTrue (has blocks.old token) }
-        ensures does { Puts arena token (model.insq queue place token.head (together self.old blocks.old)) (together self.old blocks.old) (together self.new blocks.new) result }
+        ensures does { Puts arena token (model.insq queue place token.head (together self.old blocks.old))
+            (together self.old blocks.old) (together self.new blocks.new) result }
         ensures agrees { Agrees self.new blocks.new }
     {
         blocks.lawful();

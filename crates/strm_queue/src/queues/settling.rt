@@ -1,4 +1,4 @@
-//! Wanted marks go where there is room again.
+//! Settling: each wanted band that has drained loses its wanted mark; if one does, the waker is enabled.
 ghost use Rattle.std.specs.Prelude.{◌≡◌, ◌≢◌, ◌<◌, ℕ, length};
 ghost use Rattle.strm_mblk.specs.Arena.{Arena};
 ghost use Rattle.strm_queue.specs.QueueCalls.{settled, waker_enabled};
@@ -7,20 +7,21 @@ ghost use Rattle.strm_queue.specs.QueuedBlocks.{Agrees, AreInOrder, AreMarksLawf
 use super::Queues;
 
 impl Queues {
-    // Takes away the wanted mark of each band that has room again, and enables the nearest queue behind with a service
-    // procedure where there was one. Takes a step for each wanted band, and where one has room again one for each pair of
-    // queues behind at most.
+    // Clears the wanted mark of each band that has drained, and if there was any, enables the waker. Takes a step for each
+    // wanted band; the waker takes at most 120 more, over all lower queues.
     pub(super) fn settle(&mut self, queue: u8)
         requires queue { queue < length self.old.state.specs }
-        ensures state { (arena : Arena) → AreInOrder self.old arena → together self.new arena ≡ settled queue (together self.old arena) }
-        ensures agrees { (arena : Arena) → AreInOrder self.old arena → ((other : ℕ) → other ≢ queue → AreMarksLawful self.old.state arena other) → Agrees self.new arena }
+        ensures state { (arena : Arena) → AreInOrder self.old arena
+            → together self.new arena ≡ settled queue (together self.old arena) }
+        ensures agrees { (arena : Arena) → AreInOrder self.old arena
+            → ((other : ℕ) → other ≢ queue → AreMarksLawful self.old.state arena other) → Agrees self.new arena }
     {
         if self.relieve(queue) {
             self.enable_waker(queue);
         }
     }
 
-    // Enables the nearest queue behind with a service procedure, if there is one.
+    // Enables the waker, the nearest queue behind with a service procedure, if any.
     fn enable_waker(&mut self, queue: u8)
         requires { queue < length self.old.state.specs }
         ensures { self.new ≡ record self.old { state = waker_enabled queue self.old.state } }

@@ -1,4 +1,4 @@
-//! Messages join a queue and leave it, and what is stored of the queue stays true.
+//! Messages join and leave a queue's shelf, and what is stored of the queue stays true.
 ghost use Rattle.std.specs.Prelude.{Ok, ◌≡◌, ◌<◌, [], ◌∷◌, IsTrue, None, length};
 ghost use Rattle.std.specs.Option.{ForSome};
 ghost use Rattle.strm_mblk.specs.Arena.{has, held_at, message_at, shelf_at, with_shelf, without_held};
@@ -20,8 +20,8 @@ use crate::tally::Placed;
 use strm_mblk::{BlockNo, Blocks, Token};
 
 impl Queues {
-    // Puts a message of this rank on a queue, before one that stands there, or last, where ranks do not rise then. The first
-    // block of a high priority one gets band 0. Takes a step for each block of the message.
+    // Puts a message of this rank on a queue's shelf, before the one with this head, or last. Ranks must not rise then.
+    // High priority gives the first block band 0. Takes a step for each block of the message.
     pub(super) fn shelve(
         &mut self,
         blocks: &mut Blocks,
@@ -35,11 +35,14 @@ impl Queues {
         requires had { IsTrue (has blocks.old token) }
         requires rank { rank ≡ rank_of blocks.old.store (message_at blocks.old token.head) }
         requires few { rank < ranks }
-        requires high { let m = message_at blocks.old token.head in rank ≡ high_rank → as_queued blocks.old.store m ≡ banded 0 m }
+        requires high { let m = message_at blocks.old token.head in rank ≡ high_rank
+            → as_queued blocks.old.store m ≡ banded 0 m }
         requires before { ForSome before (λ head. IsTrue (stands_on blocks.old queue head)) }
         requires ordered { let m = as_queued blocks.old.store (message_at blocks.old token.head) in
             IsTrue (is_ordered (rank_of blocks.old.store) (put_before_head head_of before m (shelf_at blocks.old queue))) }
-        ensures after { blocks.new ≡ with_shelf queue (put_before_head head_of before (as_queued blocks.old.store (message_at blocks.old token.head)) (shelf_at blocks.old queue)) (without_held token.head blocks.old) }
+        ensures after { blocks.new ≡ with_shelf queue (put_before_head head_of before
+            (as_queued blocks.old.store (message_at blocks.old token.head)) (shelf_at blocks.old queue))
+            (without_held token.head blocks.old) }
         ensures gone { held_at blocks.new token.head ≡ None }
         ensures others { LeavesOthers (token.head ∷ []) blocks.old blocks.new }
         ensures state { self.new.state ≡ self.old.state }
@@ -61,12 +64,13 @@ impl Queues {
         self.join(queue, placed);
     }
 
-    // Takes the message with this head off a queue. Takes a step for each of its blocks.
+    // Takes the message with this head off a queue's shelf. Takes a step for each of its blocks.
     pub(super) fn unshelve(&mut self, blocks: &mut Blocks, queue: u8, head: BlockNo) -> Token
         requires queue { queue < length self.old.state.specs }
         requires in_order { AreInOrder self.old blocks.old }
         requires there { IsTrue (stands_on blocks.old queue head) }
-        ensures takes { Takes itself (Ok (head, model.unshelve queue head blocks.old)) blocks.old blocks.new (Ok result) }
+        ensures takes { Takes itself (Ok (head, model.unshelve queue head blocks.old))
+            blocks.old blocks.new (Ok result) }
         ensures state { self.new.state ≡ self.old.state }
         ensures in_order { AreInOrder self.new blocks.new }
     {

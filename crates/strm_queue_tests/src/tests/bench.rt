@@ -1,4 +1,4 @@
-//! Queues with message blocks of their own. A method makes a call, which has to answer as it says.
+//! A bench: queues with their own message blocks. Each method makes a call, and compares its result with what is expected.
 ghost use Rattle.strm_queue.specs.QueueSpecs as queue_specs;
 ghost use Rattle.std.specs.Prelude.{IsTrue};
 ghost use Rattle.strm_data.specs.Classes.{are_lawful};
@@ -22,7 +22,7 @@ pub(super) struct Bench {
 }
 
 impl Bench {
-    // Empty queues, made so, with `MESSAGES` message blocks.
+    // Makes empty queues as these specs say, with `MESSAGES` message blocks.
     pub(super) fn opened(
         rt: &impl Abort,
         alloc: Global,
@@ -37,7 +37,7 @@ impl Bench {
         Bench { queues, blocks }
     }
 
-    // A new message.
+    // Makes a message as the draft says.
     pub(super) fn drafted(&mut self, rt: &impl Abort, how: Draft) -> Token
         requires { Agrees self.old.queues self.old.blocks }
         ensures { Agrees self.new.queues self.new.blocks }

@@ -1,4 +1,4 @@
-//! Drawn calls on a queue, beside plain lists of its messages and of its bands.
+//! Random calls on a queue, compared with plain lists of its messages and of its bands.
 ghost use Rattle.std.specs.Prelude.{◌<◌, IsTrue};
 ghost use Rattle.strm_data.specs.Classes.{are_lawful};
 ghost use Rattle.strm_queue.specs.QueuedBlocks.{Agrees};
@@ -14,7 +14,7 @@ mod plain;
 
 use plain::{Band, Plain, Standing, band_of};
 
-// A data block for each message, and one for all.
+// A data block for each message block, in one class.
 const MANY: [ClassSpec; 1] = [ClassSpec {
     size: 8,
     count: MESSAGES,
@@ -22,7 +22,7 @@ const MANY: [ClassSpec; 1] = [ClassSpec {
 
 const ONE: [ClassSpec; 1] = [ClassSpec { size: 8, count: 1 }];
 
-// The ranks that messages have: 16 bands, in all words of a set of bands, and high priority.
+// The ranks that messages have: 16 bands, spread over all words of a set of bands, and high priority.
 const SPREAD: [u16; 17] = [
     0, 1, 2, 31, 32, 33, 63, 64, 95, 96, 127, 128, 200, 223, 254, 255, HIGH_RANK,
 ];
@@ -36,7 +36,7 @@ fn below(draw: &mut u32, limit: u32) -> u32
     (*draw >> 8) % limit
 }
 
-// A message of this rank and so many bytes.
+// A draft of a message of this rank and `size` bytes.
 fn sized(rank: u16, size: u32) -> Draft {
     Draft {
         size,
@@ -49,7 +49,7 @@ struct Drawn {
     bench: Bench,
     plain: Plain,
     draw: u32,
-    // How many ranks messages have: so many of `SPREAD`, or all.
+    // The number of ranks that messages have: the first `ranks` of `SPREAD`, or all.
     ranks: u16,
 }
 
@@ -85,7 +85,7 @@ impl Drawn {
         }
     }
 
-    // Puts a new message behind its equals.
+    // Puts a new message after its equals.
     fn putq(&mut self, rt: &impl Abort, rank: u16, size: u32)
         requires { Agrees self.old.bench.queues self.old.bench.blocks }
         ensures { Agrees self.new.bench.queues self.new.bench.blocks }
@@ -105,7 +105,7 @@ impl Drawn {
         self.plain.put(rt, place, Standing { head, rank, size });
     }
 
-    // Puts a new message at a place, if it may stand there.
+    // Puts a new message at a place, if its rank fits there.
     fn insq(&mut self, rt: &impl Abort, place: u32, rank: u16, size: u32)
         requires { Agrees self.old.bench.queues self.old.bench.blocks }
         ensures { Agrees self.new.bench.queues self.new.bench.blocks }
@@ -127,7 +127,7 @@ impl Drawn {
         }
     }
 
-    // Takes the first message, if there is one.
+    // Takes the first message, if any.
     fn getq(&mut self, rt: &impl Abort)
         requires { Agrees self.old.bench.queues self.old.bench.blocks }
         ensures { Agrees self.new.bench.queues self.new.bench.blocks }
@@ -141,7 +141,7 @@ impl Drawn {
         }
     }
 
-    // Takes the message at a place, if there is one.
+    // Takes the message at a place, if any.
     fn rmvq(&mut self, rt: &impl Abort, place: u32)
         requires { Agrees self.old.bench.queues self.old.bench.blocks }
         ensures { Agrees self.new.bench.queues self.new.bench.blocks }
@@ -166,7 +166,7 @@ impl Drawn {
         self.plain.settle();
     }
 
-    // Asks for room in a band.
+    // Calls `bcanput` for a band.
     fn bcanput(&mut self, rt: &impl Abort, band: u8)
         requires { Agrees self.old.bench.queues self.old.bench.blocks }
         ensures { Agrees self.new.bench.queues self.new.bench.blocks }
@@ -175,7 +175,7 @@ impl Drawn {
         self.bench.bcanput(rt, (0, band), Ok(room));
     }
 
-    // Gives a band water marks, which may make it full or not under its messages.
+    // Sets the water marks of a band, which may change its full mark at once.
     fn strqset(&mut self, rt: &impl Abort, band: u8, marks: (u32, u32))
         requires { Agrees self.old.bench.queues self.old.bench.blocks }
         ensures { Agrees self.new.bench.queues self.new.bench.blocks }
@@ -191,7 +191,7 @@ impl Drawn {
         }
     }
 
-    // Puts a message of a drawn rank and size, where there is a data block for it.
+    // Puts a message of a random rank and size, if there is a data block for it.
     fn put_some(&mut self, rt: &impl Abort)
         requires { Agrees self.old.bench.queues self.old.bench.blocks }
         ensures { Agrees self.new.bench.queues self.new.bench.blocks }
@@ -210,7 +210,7 @@ impl Drawn {
         }
     }
 
-    // Asks for room in the band of a drawn rank, or gives it drawn water marks.
+    // Calls `bcanput` for the band of a random rank, or sets its water marks to random ones.
     fn ask_some(&mut self, rt: &impl Abort)
         requires { Agrees self.old.bench.queues self.old.bench.blocks }
         ensures { Agrees self.new.bench.queues self.new.bench.blocks }
@@ -224,7 +224,7 @@ impl Drawn {
         }
     }
 
-    // A drawn call. Some two in three try to put a message.
+    // Makes a random call. About two in three try to put a message.
     fn step(&mut self, rt: &impl Abort)
         requires { Agrees self.old.bench.queues self.old.bench.blocks }
         ensures { Agrees self.new.bench.queues self.new.bench.blocks }
@@ -244,7 +244,7 @@ impl Drawn {
         }
     }
 
-    // Each band tells as many bytes as its messages have, and whether it is full and wanted.
+    // Each band has the bytes of its messages, and the full and wanted marks that the plain lists have.
     fn assert_bands(&self, rt: &impl Abort)
         requires { Agrees self.now.bench.queues self.now.bench.blocks }
     {
@@ -257,14 +257,14 @@ impl Drawn {
         }
     }
 
-    // The queue reads alike both ways, and has these heads.
+    // Read both ways, the queue has the heads that the plain lists have.
     fn assert_same(&self, rt: &impl Abort)
         requires { Agrees self.now.bench.queues self.now.bench.blocks }
     {
         self.bench.assert_heads(rt, 0, self.plain.heads());
     }
 
-    // So many drawn calls. All bands are compared after each, and the whole queue is read after each eighth.
+    // Makes `steps` random calls. All bands are compared after each call, and the whole queue eight times.
     fn walk(&mut self, rt: &impl Abort, steps: u32)
         requires { Agrees self.old.bench.queues self.old.bench.blocks }
         ensures { Agrees self.new.bench.queues self.new.bench.blocks }
@@ -278,7 +278,7 @@ impl Drawn {
         }
     }
 
-    // The first messages, so many, become one.
+    // Joins the first `many` messages into one.
     fn join_first(&mut self, rt: &impl Abort, many: u32)
         requires { Agrees self.old.bench.queues self.old.bench.blocks }
         ensures { Agrees self.new.bench.queues self.new.bench.blocks }
@@ -292,7 +292,7 @@ impl Drawn {
         self.assert_bands(rt);
     }
 
-    // Puts as many messages of a rank as there may be, of a byte each.
+    // Puts messages of a rank, of one byte each, until there are no more blocks.
     fn fill(&mut self, rt: &impl Abort, rank: u16)
         requires { Agrees self.old.bench.queues self.old.bench.blocks }
         ensures { Agrees self.new.bench.queues self.new.bench.blocks }
@@ -304,7 +304,7 @@ impl Drawn {
         self.assert_bands(rt);
     }
 
-    // All messages are taken off, and then all message blocks are free.
+    // Takes all messages off; then all message blocks are free.
     fn end(&mut self, rt: &impl Abort)
         requires { Agrees self.old.bench.queues self.old.bench.blocks }
         ensures { Agrees self.new.bench.queues self.new.bench.blocks }
@@ -317,7 +317,7 @@ impl Drawn {
         self.bench.assert_all_free(rt);
     }
 
-    // So many drawn calls. Once there were so many messages at one time.
+    // Makes `steps` random calls. At some time the queue must have had `many` messages.
     fn run(&mut self, rt: &impl Abort, steps: u32, many: usize)
         requires { Agrees self.old.bench.queues self.old.bench.blocks }
         ensures { Agrees self.new.bench.queues self.new.bench.blocks }

@@ -1,4 +1,4 @@
-//! The messages of a queue, read both ways.
+//! Reads the messages of a queue, from either end.
 ghost use Rattle.std.specs.Prelude.{◌<◌, IsTrue, length};
 ghost use Rattle.std.specs.Option.{ForSome};
 ghost use Rattle.strm_mblk.specs.Shelves.{stands_on};
@@ -24,7 +24,7 @@ fn last(blocks: &Blocks, queue: u8) -> Option<BlockNo>
     blocks.last(queue)
 }
 
-// The head of the message behind this one.
+// The head of the message after this one.
 fn behind(blocks: &Blocks, queue: u8, head: BlockNo) -> Option<BlockNo>
     requires { IsTrue (stands_on blocks.now queue head) }
     ensures { ForSome result (λ next. IsTrue (stands_on blocks.now queue next)) }
@@ -33,7 +33,7 @@ fn behind(blocks: &Blocks, queue: u8, head: BlockNo) -> Option<BlockNo>
     blocks.after(head)
 }
 
-// The head of the message ahead of this one.
+// The head of the message before this one.
 fn ahead(blocks: &Blocks, queue: u8, head: BlockNo) -> Option<BlockNo>
     requires { IsTrue (stands_on blocks.now queue head) }
     ensures { ForSome result (λ next. IsTrue (stands_on blocks.now queue next)) }
@@ -43,7 +43,7 @@ fn ahead(blocks: &Blocks, queue: u8, head: BlockNo) -> Option<BlockNo>
     next
 }
 
-// From the front on, the heads are these.
+// Read from the front, the queue has these heads.
 fn assert_forward(rt: &impl Abort, blocks: &Blocks, queue: u8, heads: &[u32])
     requires { queue < length blocks.now.shelves }
 {
@@ -58,7 +58,7 @@ fn assert_forward(rt: &impl Abort, blocks: &Blocks, queue: u8, heads: &[u32])
     assert!(rt; at.is_none());
 }
 
-// From the back on, they are these from the last to the first.
+// Read from the back, the queue has these heads, last to first.
 fn assert_backward(rt: &impl Abort, blocks: &Blocks, queue: u8, heads: &[u32])
     requires { queue < length blocks.now.shelves }
 {
@@ -73,7 +73,7 @@ fn assert_backward(rt: &impl Abort, blocks: &Blocks, queue: u8, heads: &[u32])
     assert!(rt; at.is_none());
 }
 
-// A queue has these messages, read either way, and as many as is stored.
+// Read either way, a queue has these heads, and their number is the stored one.
 pub(super) fn assert_on(rt: &impl Abort, queues: &Queues, blocks: &Blocks, queue: u8, heads: &[u32])
     requires { Agrees queues.now blocks.now }
 {

@@ -1,4 +1,4 @@
-//! Flow control and the run list, and what there is to tell.
+//! Calls of the bench for flow control, the run list, and what can be read of queues and bands.
 ghost use Rattle.strm_queue.specs.QueuedBlocks.{Agrees};
 
 use super::Bench;
@@ -9,7 +9,7 @@ use strm_data::Refusal;
 use strm_queue::{BandInfo, Marks, QueueInfo};
 
 impl Bench {
-    // Whether there is room in a band is answered so.
+    // `bcanput` returns this.
     pub(in crate::tests) fn bcanput(
         &mut self,
         rt: &impl Abort,
@@ -22,7 +22,7 @@ impl Bench {
         assert!(rt; self.queues.bcanput(&self.blocks, at.0, at.1) == wanted);
     }
 
-    // Gives a band water marks, the high one first, and that is answered so.
+    // `strqset`, with the high water mark first, returns this.
     pub(in crate::tests) fn strqset(
         &mut self,
         rt: &impl Abort,
@@ -38,7 +38,7 @@ impl Bench {
         assert!(rt; answer == wanted);
     }
 
-    // The water marks of a band are answered so.
+    // `strqget` returns this.
     pub(in crate::tests) fn strqget(
         &self,
         rt: &impl Abort,
@@ -54,7 +54,7 @@ impl Bench {
         self.strqget(rt, at, Ok(Marks { hiwat, lowat }));
     }
 
-    // Has a queue served, and that is answered so.
+    // `qenable` returns this.
     pub(in crate::tests) fn qenable(
         &mut self,
         rt: &impl Abort,
@@ -67,7 +67,7 @@ impl Bench {
         assert!(rt; self.queues.qenable(queue) == wanted);
     }
 
-    // Switches off that messages enable a queue, and that is answered so.
+    // `noenable` returns this.
     pub(in crate::tests) fn noenable(
         &mut self,
         rt: &impl Abort,
@@ -80,7 +80,7 @@ impl Bench {
         assert!(rt; self.queues.noenable(queue) == wanted);
     }
 
-    // Switches it on again, and that is answered so.
+    // `enableok` returns this.
     pub(in crate::tests) fn enableok(
         &mut self,
         rt: &impl Abort,
@@ -93,7 +93,7 @@ impl Bench {
         assert!(rt; self.queues.enableok(queue) == wanted);
     }
 
-    // The first queue is taken off the run list: it is this one, or there is none.
+    // `next_service` takes this queue off the run list, or none.
     pub(in crate::tests) fn next_service(&mut self, rt: &impl Abort, wanted: Option<u8>)
         requires { Agrees self.old.queues self.old.blocks }
         ensures { Agrees self.new.queues self.new.blocks }
@@ -101,7 +101,7 @@ impl Bench {
         assert!(rt; self.queues.next_service() == wanted);
     }
 
-    // The run list is these queues, of which there are two at most.
+    // The run list has these queues, at most two.
     pub(in crate::tests) fn assert_waiting(&self, rt: &impl Abort, queues: &[u8]) {
         for place in 0..3 {
             let wanted = queues.get(place as usize).copied();
@@ -109,14 +109,14 @@ impl Bench {
         }
     }
 
-    // How many messages there are is answered so.
+    // `qsize` returns this.
     pub(in crate::tests) fn qsize(&self, rt: &impl Abort, queue: u8, wanted: Result<u32, Refusal>)
         requires { Agrees self.now.queues self.now.blocks }
     {
         assert!(rt; self.queues.qsize(&self.blocks, queue) == wanted);
     }
 
-    // What there is to tell of a queue is answered so.
+    // `queue_info` returns this.
     pub(in crate::tests) fn queue_info(
         &self,
         rt: &impl Abort,
@@ -128,7 +128,7 @@ impl Bench {
         assert!(rt; self.queues.queue_info(&self.blocks, queue) == wanted);
     }
 
-    // What there is to tell of a band is answered so.
+    // `band_info` returns this.
     pub(in crate::tests) fn band_info(
         &self,
         rt: &impl Abort,
@@ -140,7 +140,7 @@ impl Bench {
         assert!(rt; self.queues.band_info(&self.blocks, at.0, at.1) == wanted);
     }
 
-    // A band of a queue has so many bytes, and is full and wanted, or is not.
+    // A band has this number of bytes, and these full and wanted marks.
     pub(in crate::tests) fn assert_band(
         &self,
         rt: &impl Abort,
@@ -159,7 +159,7 @@ impl Bench {
         self.band_info(rt, at, Ok(told));
     }
 
-    // There is such a queue, or there is none.
+    // `has_queue` returns this.
     pub(in crate::tests) fn has_queue(&self, rt: &impl Abort, queue: u8, wanted: bool) {
         assert!(rt; self.queues.has_queue(queue) == wanted);
     }
@@ -171,12 +171,12 @@ impl Bench {
         assert_on(rt, &self.queues, &self.blocks, queue, heads);
     }
 
-    // Whether there is a data block for a new message.
+    // Whether `testb` says that a new message can be made.
     pub(in crate::tests) fn has_free(&self) -> bool {
         self.blocks.testb(0)
     }
 
-    // There is a data block for a new message, or there is none.
+    // `testb` returns this.
     pub(in crate::tests) fn testb(&self, rt: &impl Abort, wanted: bool) {
         assert!(rt; self.has_free() == wanted);
     }

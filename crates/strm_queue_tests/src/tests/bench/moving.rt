@@ -1,4 +1,4 @@
-//! Messages are put on queues, taken off, and flushed.
+//! Calls of the bench that put messages on queues, take them off, and flush them.
 ghost use Rattle.strm_queue.specs.QueuedBlocks.{Agrees};
 
 use super::Bench;
@@ -8,11 +8,11 @@ use strm_data::Refusal;
 use strm_mblk::{BlockInfo, Rejected, Token};
 use strm_queue::Flush;
 
-// What a message is known by where it comes back: its head and its first block.
+// What identifies a message that comes back: its head and its first block.
 type Known = (u32, Result<BlockInfo, Refusal>);
 
 impl Bench {
-    // Puts a message behind its equals.
+    // Puts a message after its equals.
     fn putq(&mut self, rt: &impl Abort, queue: u8, token: Token)
         requires { Agrees self.old.queues self.old.blocks }
         ensures { Agrees self.new.queues self.new.blocks }
@@ -22,7 +22,7 @@ impl Bench {
         assert_put(rt, &mut self.blocks, answer);
     }
 
-    // Puts a new message behind its equals, and gives its head.
+    // Puts a new message after its equals, and returns its head.
     pub(in crate::tests) fn put_new(&mut self, rt: &impl Abort, queue: u8, how: Draft) -> u32
         requires { Agrees self.old.queues self.old.blocks }
         ensures { Agrees self.new.queues self.new.blocks }
@@ -33,7 +33,7 @@ impl Bench {
         head
     }
 
-    // Puts a new message before its equals, and gives its head.
+    // Puts a new message before its equals, and returns its head.
     pub(in crate::tests) fn put_back_new(&mut self, rt: &impl Abort, queue: u8, how: Draft) -> u32
         requires { Agrees self.old.queues self.old.blocks }
         ensures { Agrees self.new.queues self.new.blocks }
@@ -45,7 +45,7 @@ impl Bench {
         head
     }
 
-    // Puts a new message on a queue, and one that names the same data on another or the same.
+    // Puts a new message on one queue, and a duplicate, which references the same data, on another or the same.
     pub(in crate::tests) fn put_twice(&mut self, rt: &impl Abort, queues: (u8, u8), how: Draft)
         requires { Agrees self.old.queues self.old.blocks }
         ensures { Agrees self.new.queues self.new.blocks }
@@ -54,6 +54,19 @@ impl Bench {
         let copy = duplicated(rt, &self.queues, &mut self.blocks, &token);
         self.putq(rt, queues.0, token);
         self.putq(rt, queues.1, copy);
+    }
+
+    // Puts a new message of two blocks after its equals.
+    pub(in crate::tests) fn put_linked(&mut self, rt: &impl Abort, queue: u8, how: (Draft, Draft))
+        requires { Agrees self.old.queues self.old.blocks }
+        ensures { Agrees self.new.queues self.new.blocks }
+    {
+        let mut message = drafted(rt, &self.queues, &mut self.blocks, how.0);
+        let tail = drafted(rt, &self.queues, &mut self.blocks, how.1);
+        assert!(rt; self.blocks.has(&message));
+        assert!(rt; self.blocks.has(&tail));
+        linked(&self.queues, &mut self.blocks, &mut message, tail);
+        self.putq(rt, queue, message);
     }
 
     // Puts a message at a place of a queue.
@@ -71,7 +84,7 @@ impl Bench {
         (token.head(), self.blocks.block(token, 0))
     }
 
-    // A message came back for this reason, as it was.
+    // A message came back unchanged, for this reason.
     fn back(
         &self,
         rt: &impl Abort,
@@ -88,7 +101,7 @@ impl Bench {
         }
     }
 
-    // A message that is not put on a queue at a place, and why; it comes back with its rank and its band.
+    // `insq` refuses the message at this place for this reason, and returns it with its rank and band.
     pub(in crate::tests) fn not_put(
         &mut self,
         rt: &impl Abort,
@@ -105,7 +118,7 @@ impl Bench {
         self.back(rt, answer, refusal, &known)
     }
 
-    // A message that is put neither behind nor before its equals, since there is no such queue; it comes back so too.
+    // `putq` and `putbq` refuse the message, since there is no such queue, and return it unchanged.
     pub(in crate::tests) fn not_queued(&mut self, rt: &impl Abort, queue: u8, token: Token) -> Token
         requires { Agrees self.old.queues self.old.blocks }
         ensures { Agrees self.new.queues self.new.blocks }
@@ -119,7 +132,7 @@ impl Bench {
         self.back(rt, answer, Refusal::NoSuchQueue, &known)
     }
 
-    // A message that was taken off has this head and this rank. It is freed.
+    // The message that was taken has this head and this rank. Frees it.
     fn assert_is(&mut self, rt: &impl Abort, token: Token, head: u32, rank: u16)
         requires { Agrees self.old.queues self.old.blocks }
         ensures { Agrees self.new.queues self.new.blocks }
@@ -128,7 +141,7 @@ impl Bench {
         self.free(token);
     }
 
-    // The first message of a queue has this head and this rank. It is freed.
+    // `getq` returns a message with this head and this rank. Frees it.
     pub(in crate::tests) fn assert_first(
         &mut self,
         rt: &impl Abort,
@@ -143,7 +156,7 @@ impl Bench {
         self.assert_is(rt, token, head, rank);
     }
 
-    // Takes the first message off a queue.
+    // Takes the first message of a queue.
     fn first(&mut self, rt: &impl Abort, queue: u8) -> Token
         requires { Agrees self.old.queues self.old.blocks }
         ensures { Agrees self.new.queues self.new.blocks }
@@ -154,7 +167,7 @@ impl Bench {
         }
     }
 
-    // The first messages of a queue, so many, become one, which is put behind its equals.
+    // Takes the first `many` messages of a queue, joins them, and puts the result after its equals.
     pub(in crate::tests) fn join_first(&mut self, rt: &impl Abort, queue: u8, many: u32)
         requires { Agrees self.old.queues self.old.blocks }
         ensures { Agrees self.new.queues self.new.blocks }
@@ -170,7 +183,7 @@ impl Bench {
         self.putq(rt, queue, message);
     }
 
-    // Takes the first message off a queue, and frees it.
+    // Takes the first message of a queue, and frees it.
     pub(in crate::tests) fn drop_first(&mut self, rt: &impl Abort, queue: u8)
         requires { Agrees self.old.queues self.old.blocks }
         ensures { Agrees self.new.queues self.new.blocks }
@@ -179,7 +192,7 @@ impl Bench {
         self.free(token);
     }
 
-    // No message is taken off a queue, and that is answered so.
+    // `getq` returns this, and no message.
     pub(in crate::tests) fn assert_none(
         &mut self,
         rt: &impl Abort,
@@ -199,7 +212,7 @@ impl Bench {
         }
     }
 
-    // The message at a place of a queue has this head and this rank. It is freed.
+    // `rmvq` at this place returns a message with this head and this rank. Frees it.
     pub(in crate::tests) fn assert_at(
         &mut self,
         rt: &impl Abort,
@@ -216,7 +229,7 @@ impl Bench {
         }
     }
 
-    // There is no message to take out at a place of a queue.
+    // `rmvq` at this place finds no message.
     pub(in crate::tests) fn assert_not_at(
         &mut self,
         rt: &impl Abort,
@@ -235,7 +248,7 @@ impl Bench {
         }
     }
 
-    // Frees what a flush takes, and that is answered so.
+    // `flushq` returns this.
     pub(in crate::tests) fn flushq(
         &mut self,
         rt: &impl Abort,
@@ -249,7 +262,7 @@ impl Bench {
         assert!(rt; self.queues.flushq(&mut self.blocks, queue, flush) == wanted);
     }
 
-    // Frees what a flush takes of a band, and that is answered so.
+    // `flushband` returns this.
     pub(in crate::tests) fn flushband(
         &mut self,
         rt: &impl Abort,

@@ -1,9 +1,9 @@
-//! What stands on a queue as plain lists, front to back, and what its bands have.
+//! The plain model: the messages of a queue as lists, front to back, and what each band has.
 use std::alloc::Global;
 use std::process::Abort;
 use strm_queue::BANDS;
 
-// A message: its head, its rank, and how many bytes it has.
+// A message on the queue: its head, its rank, and its number of bytes.
 #[derive(Clone, Copy)]
 pub(super) struct Standing {
     pub(super) head: u32,
@@ -11,7 +11,7 @@ pub(super) struct Standing {
     pub(super) size: u32,
 }
 
-// The water marks of a band, and whether it was found full and has had more bytes than its low one since.
+// A band: its water marks, and whether it was found full and has had more bytes than its low mark since.
 #[derive(Clone, Copy)]
 pub(super) struct Band {
     pub(super) hiwat: u32,
@@ -19,7 +19,7 @@ pub(super) struct Band {
     pub(super) wanted: bool,
 }
 
-// The messages, by three lists, the bands, and how many messages stood there at most.
+// The queue: its messages as three lists, its bands, and the greatest number of messages that there were.
 #[derive(Drop)]
 pub(super) struct Plain {
     heads: Vec<u32>,
@@ -29,13 +29,13 @@ pub(super) struct Plain {
     most: usize,
 }
 
-// The band of a rank: that of high priority is 0.
+// The band of a rank: 0 for high priority.
 pub(super) fn band_of(rank: u16) -> u8 {
     u8::try_from(rank).unwrap_or(0)
 }
 
 impl Plain {
-    // No messages, and each band so.
+    // An empty queue, whose bands are all like this one.
     pub(super) fn new(alloc: Global, band: Band) -> Plain {
         Plain {
             heads: Vec::new(alloc),
@@ -46,32 +46,32 @@ impl Plain {
         }
     }
 
-    // How many messages there are.
+    // The number of messages.
     pub(super) fn len(&self) -> usize {
         self.heads.len()
     }
 
-    // How many there were at most.
+    // The greatest number of messages that there were.
     pub(super) fn most(&self) -> usize {
         self.most
     }
 
-    // Their heads.
+    // The heads of the messages.
     pub(super) fn heads(&self) -> &[u32] {
         &self.heads
     }
 
-    // How many have at least this rank.
+    // The number of messages of at least this rank.
     pub(super) fn as_high(&self, rank: u16) -> usize {
         self.ranks.iter().filter(|other| **other >= rank).count()
     }
 
-    // How many have a greater one.
+    // The number of messages of a greater rank.
     pub(super) fn higher(&self, rank: u16) -> usize {
         self.ranks.iter().filter(|other| **other > rank).count()
     }
 
-    // A message comes to a place.
+    // Adds a message at a place.
     pub(super) fn put(&mut self, rt: &impl Abort, place: usize, message: Standing) {
         assert!(rt;
             place <= self.heads.len() && place <= self.ranks.len() && place <= self.sizes.len()
@@ -82,7 +82,7 @@ impl Plain {
         self.most = self.most.max(self.heads.len());
     }
 
-    // The message at a place goes.
+    // Removes the message at a place.
     pub(super) fn take(&mut self, rt: &impl Abort, place: usize) -> Standing {
         assert!(rt;
             place < self.heads.len() && place < self.ranks.len() && place < self.sizes.len()
@@ -94,7 +94,7 @@ impl Plain {
         }
     }
 
-    // The first messages go, so many: one that has the head and the rank of the first, and the bytes of all.
+    // Removes the first `many` messages, and returns one with the head and rank of the first and the bytes of all.
     pub(super) fn take_first(&mut self, rt: &impl Abort, many: u32) -> Standing {
         let mut first = self.take(rt, 0);
         for _other in 1..many {
@@ -110,7 +110,7 @@ impl Plain {
             .is_some_and(|rank| band_of(*rank) == band)
     }
 
-    // The messages of a band go.
+    // Removes the messages of a band.
     pub(super) fn flush(&mut self, rt: &impl Abort, band: u8) {
         let mut place = 0usize;
         for _message in 0..self.ranks.len() {
@@ -122,7 +122,7 @@ impl Plain {
         }
     }
 
-    // How many bytes the messages of each band have.
+    // The number of bytes of each band's messages.
     pub(super) fn counts(&self) -> [u32; BANDS] {
         let mut counts = [0u32; BANDS];
         for (rank, size) in self.ranks.iter().zip(self.sizes.iter()) {
@@ -132,19 +132,19 @@ impl Plain {
         counts
     }
 
-    // What a band has.
+    // The water marks and the wanted mark of a band.
     pub(super) fn band(&self, band: u8) -> Band {
         self.bands[usize::from(band)]
     }
 
-    // A band gets water marks.
+    // Sets the water marks of a band.
     pub(super) fn set_marks(&mut self, band: u8, hiwat: u32, lowat: u32) {
         let band = &mut self.bands[usize::from(band)];
         band.hiwat = hiwat;
         band.lowat = lowat;
     }
 
-    // Whether a band has room; where it has not, it is wanted.
+    // Whether a band has room; if not, sets its wanted mark.
     pub(super) fn has_room(&mut self, band: u8) -> bool {
         let count = self.counts()[usize::from(band)];
         let band = &mut self.bands[usize::from(band)];
@@ -153,7 +153,7 @@ impl Plain {
         room
     }
 
-    // No band is wanted that has at most as many bytes as its low water mark.
+    // Clears the wanted mark of each band with at most as many bytes as its low water mark.
     pub(super) fn settle(&mut self) {
         let counts = self.counts();
         for (band, count) in self.bands.iter_mut().zip(counts.iter()) {

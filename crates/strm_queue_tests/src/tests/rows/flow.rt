@@ -1,12 +1,12 @@
-//! Flow control step by step.
+//! Flow control step by step: full and wanted marks, water marks, targets and wakers.
 ghost use Rattle.strm_queue.specs.QueuedBlocks.{Agrees};
 
-use super::CLASSES;
+use super::{CLASSES, chained, of_band};
 use crate::tests::bench::Bench;
 use crate::tests::{Draft, QUEUE};
 use std::alloc::Global;
 use std::process::Abort;
-use strm_data::{MsgType, Refusal};
+use strm_data::Refusal;
 use strm_queue::{Flush, QueueSpec};
 
 // Two queues with service procedures.
@@ -33,20 +33,12 @@ const AHEAD: [QueueSpec; 3] = [
     QUEUE,
 ];
 
-// A message of a band with so many bytes.
-fn of_band(band: u8, size: u32) -> Draft {
-    Draft {
-        kind: MsgType::MData,
-        band,
-        size,
-    }
-}
-
-// A message of band 0 with so many bytes.
+// A draft of a message of band 0 with `size` bytes.
 fn bytes(size: u32) -> Draft {
     of_band(0, size)
 }
 
+// A wanted band that drains to its low water mark back-enables the queue behind.
 #[test]
 fn back_enabling(rt: HostRuntime) {
     let mut bench = Bench::opened(&rt, rt.alloc(), &CLASSES, &TWO);
@@ -58,7 +50,7 @@ fn back_enabling(rt: HostRuntime) {
     bench.bcanput(&rt, (1, 0), Ok(false));
     bench.assert_band(&rt, (1, 0), 10, (true, true));
     bench.assert_waiting(&rt, &[1]);
-    // Six bytes are above the low water mark, and three are not.
+    // The band has six bytes, above its low water mark, and then three, which are not.
     bench.drop_first(&rt, 1);
     bench.assert_band(&rt, (1, 0), 6, (false, true));
     bench.assert_waiting(&rt, &[1]);
@@ -67,6 +59,7 @@ fn back_enabling(rt: HostRuntime) {
     bench.assert_waiting(&rt, &[1, 0]);
 }
 
+// `strqset` sets both water marks of one band, and settles the queue. The low mark must be below the high one.
 #[test]
 fn water_marks_of_a_band(rt: HostRuntime) {
     let mut bench = Bench::opened(&rt, rt.alloc(), &CLASSES, &TWO);
@@ -74,7 +67,7 @@ fn water_marks_of_a_band(rt: HostRuntime) {
     bench.put_new(&rt, 1, bytes(3));
     bench.put_new(&rt, 1, bytes(3));
     bench.bcanput(&rt, (1, 0), Ok(false));
-    // As many bytes as the new low water mark.
+    // The band has as many bytes as the new low water mark.
     bench.strqset(&rt, (1, 0), (20, 10), Ok(()));
     bench.assert_band(&rt, (1, 0), 10, (false, false));
     bench.assert_waiting(&rt, &[1, 0]);
@@ -83,7 +76,7 @@ fn water_marks_of_a_band(rt: HostRuntime) {
     bench.strqset(&rt, (1, 0), (5, 5), refused);
     bench.assert_marks(&rt, (1, 0), (20, 10));
     bench.assert_marks(&rt, (1, 3), (10, 4));
-    // Full under its messages, and nobody waits until somebody asks.
+    // The band is now full with the messages that it has. It is wanted only once `bcanput` is called.
     bench.strqset(&rt, (1, 0), (10, 9), Ok(()));
     bench.assert_band(&rt, (1, 0), 10, (true, false));
     bench.bcanput(&rt, (1, 0), Ok(false));
@@ -96,7 +89,18 @@ fn water_marks_of_a_band(rt: HostRuntime) {
     bench.strqset(&rt, (1, 255), (0, 0), refused);
 }
 
-// Bands 1 and 2 of queue 1 have 8 and 10 bytes, and somebody waits for room in both.
+// All bands start with the water marks of their queue. `strqset` changes those of one band of one queue.
+#[test]
+fn marks_of_other_bands_and_queues(rt: HostRuntime) {
+    let mut bench = chained(&rt, rt.alloc());
+    bench.assert_marks(&rt, (3, 9), (10, 4));
+    bench.strqset(&rt, (3, 9), (2, 1), Ok(()));
+    bench.assert_marks(&rt, (3, 9), (2, 1));
+    bench.assert_marks(&rt, (3, 8), (10, 4));
+    bench.assert_marks(&rt, (2, 9), (10, 4));
+}
+
+// Bands 1 and 2 of queue 1 have 8 and 10 bytes, and both are wanted.
 fn two_wanted(rt: &impl Abort, alloc: Global) -> Bench
     ensures { Agrees result.queues result.blocks }
 {
@@ -111,19 +115,22 @@ fn two_wanted(rt: &impl Abort, alloc: Global) -> Bench
     bench
 }
 
+// New water marks of a third band clear the wanted mark of no other band, and set none.
 #[test]
 fn a_third_band_clears_none(rt: HostRuntime) {
     let mut bench = two_wanted(&rt, rt.alloc());
     bench.strqset(&rt, (1, 3), (100, 50), Ok(()));
     bench.assert_band(&rt, (1, 1), 8, (true, true));
     bench.assert_band(&rt, (1, 2), 10, (true, true));
+    bench.assert_band(&rt, (1, 3), 0, (false, false));
     bench.assert_waiting(&rt, &[]);
 }
 
+// A band loses its wanted mark by its own low water mark, and other bands keep theirs.
 #[test]
 fn each_band_by_its_own_low_mark(rt: HostRuntime) {
     let mut bench = two_wanted(&rt, rt.alloc());
-    // Full no more, and still waited for.
+    // The band is full no more, but still wanted.
     bench.strqset(&rt, (1, 1), (20, 7), Ok(()));
     bench.assert_band(&rt, (1, 1), 8, (false, true));
     bench.assert_waiting(&rt, &[]);
@@ -131,12 +138,14 @@ fn each_band_by_its_own_low_mark(rt: HostRuntime) {
     bench.strqset(&rt, (1, 1), (20, 10), Ok(()));
     bench.assert_band(&rt, (1, 1), 8, (false, false));
     bench.assert_band(&rt, (1, 2), 10, (true, true));
+    bench.assert_band(&rt, (1, 3), 0, (false, false));
     bench.assert_waiting(&rt, &[0]);
     bench.strqset(&rt, (1, 2), (11, 10), Ok(()));
     bench.assert_band(&rt, (1, 2), 10, (false, false));
     bench.assert_waiting(&rt, &[0]);
 }
 
+// From a queue without a service procedure on, the target is the first queue that has one.
 #[test]
 fn looks_ahead(rt: HostRuntime) {
     let mut bench = Bench::opened(&rt, rt.alloc(), &CLASSES, &AHEAD);
@@ -150,9 +159,55 @@ fn looks_ahead(rt: HostRuntime) {
     bench.assert_band(&rt, (0, 0), 10, (true, false));
     bench.assert_band(&rt, (2, 0), 10, (true, true));
     bench.assert_band(&rt, (2, 1), 0, (false, false));
-    // Nothing behind has a service procedure that could be enabled.
+    // No queue behind has a service procedure, so none is enabled.
     bench.drop_first(&rt, 2);
     bench.drop_first(&rt, 2);
     bench.assert_band(&rt, (2, 0), 0, (false, false));
     bench.assert_waiting(&rt, &[2]);
+}
+
+// Both the target and the waker are past the queues without service procedures.
+#[test]
+fn far_target_and_far_waker(rt: HostRuntime) {
+    let mut bench = chained(&rt, rt.alloc());
+    // The target of queue 1 is queue 3. Its band 9 has 2 bytes, below the high water mark of 10; its band 3 has 15.
+    bench.bcanput(&rt, (1, 9), Ok(true));
+    bench.bcanput(&rt, (1, 3), Ok(false));
+    bench.assert_band(&rt, (3, 3), 15, (true, true));
+    bench.assert_waiting(&rt, &[]);
+    // Without message 1, band 3 has 4 bytes, exactly its low water mark. The waker of queue 3 is queue 0.
+    bench.assert_at(&rt, (3, 1), 1, 3);
+    bench.assert_band(&rt, (3, 3), 4, (false, false));
+    bench.assert_waiting(&rt, &[0]);
+}
+
+// A queue with a service procedure is its own target, even if it has a next queue. With no queue behind it, it has no waker.
+#[test]
+fn own_target(rt: HostRuntime) {
+    let mut bench = chained(&rt, rt.alloc());
+    // Band 3 is full on queue 3, and has room on queue 0.
+    bench.assert_band(&rt, (3, 3), 15, (true, false));
+    bench.bcanput(&rt, (0, 3), Ok(true));
+    bench.put_new(&rt, 0, of_band(3, 8));
+    bench.put_new(&rt, 0, of_band(3, 2));
+    bench.next_service(&rt, Some(0));
+    bench.bcanput(&rt, (0, 3), Ok(false));
+    bench.assert_band(&rt, (0, 3), 10, (true, true));
+    bench.assert_band(&rt, (3, 3), 15, (true, false));
+    // The 2 bytes that stay are below the low water mark.
+    bench.drop_first(&rt, 0);
+    bench.assert_band(&rt, (0, 3), 2, (false, false));
+    bench.assert_waiting(&rt, &[]);
+}
+
+// A queue without a service procedure is its own target if it has no next queue.
+#[test]
+fn last_queue_is_the_target(rt: HostRuntime) {
+    let mut bench = chained(&rt, rt.alloc());
+    bench.bcanput(&rt, (4, 3), Ok(true));
+    bench.put_new(&rt, 4, of_band(3, 8));
+    bench.put_new(&rt, 4, of_band(3, 2));
+    bench.bcanput(&rt, (4, 3), Ok(false));
+    bench.assert_band(&rt, (4, 3), 10, (true, true));
+    bench.assert_band(&rt, (3, 3), 15, (true, false));
 }

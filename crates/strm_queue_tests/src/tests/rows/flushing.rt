@@ -1,5 +1,5 @@
-//! Flushing step by step.
-use super::CLASSES;
+//! Flushing step by step: which messages `flushq` and `flushband` free, and in which order.
+use super::{CLASSES, chained, of_band};
 use crate::tests::bench::Bench;
 use crate::tests::{Draft, QUEUE};
 use strm_data::{ClassSpec, MsgType};
@@ -18,6 +18,7 @@ fn message(kind: MsgType, band: u8) -> Draft {
     }
 }
 
+// A flush takes the messages of a queue or of one band: all, or those that carry data. High priority ones belong to band 0.
 #[test]
 fn data_or_all_of_a_queue_or_a_band(rt: HostRuntime) {
     let mut bench = Bench::opened(&rt, rt.alloc(), &CLASSES, &QUEUES);
@@ -28,7 +29,7 @@ fn data_or_all_of_a_queue_or_a_band(rt: HostRuntime) {
     bench.assert_heads(&rt, 0, &[2, 0, 1, 3]);
     bench.flushq(&rt, 0, Flush::Data, Ok(()));
     bench.assert_heads(&rt, 0, &[0]);
-    // The block that was freed last is given first.
+    // The block that was freed last is taken first.
     bench.put_new(&rt, 0, message(MsgType::MPcproto, 0));
     bench.put_new(&rt, 0, message(MsgType::MData, 0));
     bench.put_new(&rt, 0, message(MsgType::MData, 5));
@@ -43,6 +44,7 @@ fn data_or_all_of_a_queue_or_a_band(rt: HostRuntime) {
     bench.assert_heads(&rt, 0, &[]);
 }
 
+// Data that two messages reference is free once both are flushed.
 #[test]
 fn data_that_two_messages_name(rt: HostRuntime) {
     let mut bench = Bench::opened(&rt, rt.alloc(), &ONE_BLOCK, &QUEUES);
@@ -52,7 +54,7 @@ fn data_that_two_messages_name(rt: HostRuntime) {
     bench.assert_band(&rt, (0, 1), 4, (false, false));
     bench.flushq(&rt, 0, Flush::Data, Ok(()));
     bench.assert_all_free(&rt);
-    // They are on two, and what one names stays while the other is flushed.
+    // The two are on two queues: the data stays in use while only one of them is flushed.
     bench.put_twice(&rt, (0, 1), message(MsgType::MData, 1));
     bench.flushband(&rt, (0, 1), Flush::All, Ok(()));
     bench.testb(&rt, false);
@@ -61,4 +63,41 @@ fn data_that_two_messages_name(rt: HostRuntime) {
     bench.assert_all_free(&rt);
     bench.put_new(&rt, 0, message(MsgType::MData, 0));
     bench.testb(&rt, false);
+}
+
+// A flush frees messages front to back, and the blocks of a message from the first on. The block that was freed last is taken
+// first.
+#[test]
+fn frees_front_to_back(rt: HostRuntime) {
+    let mut bench = chained(&rt, rt.alloc());
+    let held = bench.drafted(&rt, of_band(3, 1));
+    // This frees blocks 1 and 2, which are one message, and block 3. Block 4 is held; those from 5 on were free before.
+    bench.flushband(&rt, (3, 3), Flush::All, Ok(()));
+    bench.assert_heads(&rt, 3, &[0]);
+    bench.put_new(&rt, 4, of_band(0, 0));
+    bench.put_new(&rt, 4, of_band(0, 0));
+    bench.put_new(&rt, 4, of_band(0, 0));
+    bench.put_new(&rt, 4, of_band(0, 0));
+    bench.put_new(&rt, 4, of_band(0, 0));
+    bench.put_new(&rt, 4, of_band(0, 0));
+    bench.assert_heads(&rt, 4, &[3, 2, 1, 5, 6, 7]);
+    bench.free(held);
+}
+
+// The bytes of a high priority message count for band 0. A flush of band 0 takes that message, but no message of another band
+// that has a later block of band 0.
+#[test]
+fn high_priority_is_of_band_0(rt: HostRuntime) {
+    let mut bench = chained(&rt, rt.alloc());
+    let urgent = Draft {
+        kind: MsgType::MPcproto,
+        ..of_band(3, 1)
+    };
+    bench.put_new(&rt, 3, urgent);
+    bench.assert_heads(&rt, 3, &[4, 0, 1, 3]);
+    bench.assert_band(&rt, (3, 0), 1, (false, false));
+    bench.assert_band(&rt, (3, 3), 15, (true, false));
+    // The second block of message 1 is of band 0.
+    bench.flushband(&rt, (3, 0), Flush::All, Ok(()));
+    bench.assert_heads(&rt, 3, &[0, 1, 3]);
 }

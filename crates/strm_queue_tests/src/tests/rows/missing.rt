@@ -1,16 +1,17 @@
-//! Calls on a queue that is not there.
+//! Each call on a queue that does not exist is refused as `NoSuchQueue`, and changes nothing.
 use super::CLASSES;
 use crate::tests::bench::Bench;
 use crate::tests::{ALONE, HIGH_RANK, ranked};
 use strm_data::Refusal;
 use strm_queue::Flush;
 
+// Calls that put, take or flush messages refuse a missing queue, and return the token.
 #[test]
 fn moves_nothing(rt: HostRuntime) {
     let mut bench = Bench::opened(&rt, rt.alloc(), &CLASSES, &ALONE);
     bench.has_queue(&rt, 0, true);
     bench.has_queue(&rt, 1, false);
-    // One of high priority keeps its band.
+    // A refused high priority message keeps its band.
     let token = bench.drafted(&rt, ranked(HIGH_RANK));
     let token = bench.not_queued(&rt, 1, token);
     bench.free(token);
@@ -20,6 +21,7 @@ fn moves_nothing(rt: HostRuntime) {
     bench.assert_all_free(&rt);
 }
 
+// Calls on room, water marks and counts refuse a missing queue, and do so before they look at other arguments.
 #[test]
 fn tells_nothing(rt: HostRuntime) {
     let mut bench = Bench::opened(&rt, rt.alloc(), &CLASSES, &ALONE);
@@ -31,6 +33,7 @@ fn tells_nothing(rt: HostRuntime) {
     bench.band_info(&rt, (1, 0), Err(Refusal::NoSuchQueue));
 }
 
+// Calls on enabling refuse a missing queue.
 #[test]
 fn enables_nothing(rt: HostRuntime) {
     let mut bench = Bench::opened(&rt, rt.alloc(), &CLASSES, &ALONE);

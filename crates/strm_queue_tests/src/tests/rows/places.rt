@@ -1,9 +1,10 @@
-//! Places of messages in a queue.
+//! The places that `putq`, `putbq` and `insq` give messages, step by step.
 use super::CLASSES;
 use crate::tests::bench::Bench;
 use crate::tests::{ALONE, HIGH_RANK, ranked};
 use strm_data::Refusal;
 
+// `putq` puts a message after those of its rank or a greater one. High priority is the greatest rank, and then has band 0.
 #[test]
 fn priority_order(rt: HostRuntime) {
     let mut bench = Bench::opened(&rt, rt.alloc(), &CLASSES, &ALONE);
@@ -21,6 +22,7 @@ fn priority_order(rt: HostRuntime) {
     bench.assert_none(&rt, 0, Ok(()));
 }
 
+// `putbq` puts a message before those of its rank or a lower one.
 #[test]
 fn put_back_in_front(rt: HostRuntime) {
     let mut bench = Bench::opened(&rt, rt.alloc(), &CLASSES, &ALONE);
@@ -38,6 +40,7 @@ fn put_back_in_front(rt: HostRuntime) {
     bench.assert_none(&rt, 0, Ok(()));
 }
 
+// `insq` and `rmvq` refuse a place that the queue does not have, and `insq` one where ranks would rise from front to back.
 #[test]
 fn insert_at_a_place(rt: HostRuntime) {
     let mut bench = Bench::opened(&rt, rt.alloc(), &CLASSES, &ALONE);

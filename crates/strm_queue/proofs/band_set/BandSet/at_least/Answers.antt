@@ -1,13 +1,8 @@
 use Rattle.std.proofs.Common.{◌+◌, ◌*◌, ◌∙◌, sym, ap, arith, rules, subst}
 use Rattle.strm_queue.specs.BandSets.{IsFirstFrom}
 use Rattle.strm_queue.specs.Flow.{has_band}
-use Rattle.strm_queue.proofs.bands.Bands.{first_in, next_word, none_marked}
+use Rattle.strm_queue.proofs.bands.Bands.{first_in, none_marked}
 use Rattle.strm_queue.proofs.band_set.BandSet.at_least.Goals as goal
-
-pub loop-word-preserved : goal.loop-word-preserved
-loop-word-preserved c =
-    let next = next_word c.self.inside.words c.loop-word.word (search rules) c.args.band c.loop-word.from c.loop-word.invariant.1 c.loop-word.invariant.2 (rw c.from.ensures at c.in_default.ensures.none) in
-    (search rules, omega (arith, c.loop-word.invariant.0, c.loop-word.invariant.1), λ x above below. next x above (omega (arith, below)))
 
 pub returns-in-Some-clause-some : goal.returns-in-Some-clause-some
 returns-in-Some-clause-some c =

@@ -1,15 +1,8 @@
-use Rattle.std.proofs.Common.{◌≡◌, ◌+◌, ◌*◌, ◌<◌, ◌∙◌, sym, ap, arith, rules, subst}
+use Rattle.std.proofs.Common.{◌≡◌, ◌+◌, ◌*◌, ◌∙◌, sym, ap, arith, rules, subst}
 use Rattle.strm_queue.specs.BandSets.{IsLastTo}
 use Rattle.strm_queue.specs.Flow.{has_band}
 use Rattle.strm_queue.proofs.bands.Bands.{last_in, none_marked, word_before}
 use Rattle.strm_queue.proofs.band_set.BandSet.at_most.Goals as goal
-
-pub loop-word-preserved : goal.loop-word-preserved
-loop-word-preserved c =
-    let (within, end, none) = c.loop-word.invariant in
-    let before = word_before c.self.inside.words c.loop-word.word (search rules) c.args.band c.loop-word.to within end none (rw c.from.ensures at c.in_default.ensures.none) in
-    let some : 0 < c.loop-word.word = search rules in
-    (search rules, omega (arith, end, some), λ x above below. before x (omega (arith, above, some)) below)
 
 pub returns-in-Some-clause-some : goal.returns-in-Some-clause-some
 returns-in-Some-clause-some c =

@@ -1,24 +1,18 @@
 use Rattle.std.proofs.Common.{◌+◌, ◌<◌, false, arith, rules}
 use Rattle.strm_queue.specs.Limits.{bands}
-use Rattle.strm_queue.proofs.bands.Bands.{AreLookedAt, first_from, looked_at_first, looked_at_last, looked_leaves, looked_stays, looked_to}
-use Rattle.strm_queue.proofs.band_set.BandSet.relieve.Invariants.{has_room_again}
+use Rattle.strm_queue.proofs.bands.Bands.{AreLookedAt, looked_at_first, looked_at_last, looked_leaves, looked_stays, looked_to}
+use Rattle.strm_queue.proofs.band_set.BandSet.relieve.Invariants.{has_drained_at}
 use Rattle.strm_queue.proofs.band_set.BandSet.relieve.Goals.{then-counts-from, else-counts-from}
 use Rattle.strm_queue.proofs.band_set.BandSet.relieve.Goals as goal
 
 pub loop-next-init : goal.loop-next-init
 loop-next-init c =
-    let may = has_room_again c.args.counts.now c.args.marks.now in
+    let may = has_drained_at c.args.counts.now c.args.marks.now in
     looked_to c.args.self.now may 0 c.args.self.now false (looked_at_first c.args.self.now may c.lawful.ensures) c.at_least-next.result (omega arith) c.at_least-next.ensures.some c.at_least-next.ensures.none
-
-pub loop-next-smaller : goal.loop-next-smaller
-loop-next-smaller c =
-    let low : c.in-Some.band < bands = search rules in
-    let further = first_from c.if-counts-from.self (c.in-Some.band + 1) c.above-next.result (omega (arith, low)) c.above-next.ensures.some in
-    rw c.in-Some.is (omega (arith, low, further))
 
 pub loop-next-preserved : goal.loop-next-preserved
 loop-next-preserved c =
-    let may = has_room_again c.args.counts.now c.args.marks.now in
+    let may = has_drained_at c.args.counts.now c.args.marks.now in
     let (are, marked) = rw c.in-Some.is at c.loop-next.invariant in
     let low : c.in-Some.band < bands = search rules in
     let next : AreLookedAt c.args.self.now may (c.in-Some.band + 1) c.if-counts-from.self c.if-counts-from.some =
@@ -30,7 +24,7 @@ loop-next-preserved c =
     looked_to c.args.self.now may (c.in-Some.band + 1) c.if-counts-from.self c.if-counts-from.some next c.above-next.result (omega (arith, low)) c.above-next.ensures.some c.above-next.ensures.none
 
 pub returns-clause-left : goal.returns-clause-left
-returns-clause-left c = (looked_at_last c.args.self.now (has_room_again c.args.counts.now c.args.marks.now) c.loop-next.self c.loop-next.some (rw c.in_default.is at c.loop-next.invariant.0)).0
+returns-clause-left c = (looked_at_last c.args.self.now (has_drained_at c.args.counts.now c.args.marks.now) c.loop-next.self c.loop-next.some (rw c.in_default.is at c.loop-next.invariant.0)).0
 
 pub returns-clause-some : goal.returns-clause-some
-returns-clause-some c = (looked_at_last c.args.self.now (has_room_again c.args.counts.now c.args.marks.now) c.loop-next.self c.loop-next.some (rw c.in_default.is at c.loop-next.invariant.0)).1
+returns-clause-some c = (looked_at_last c.args.self.now (has_drained_at c.args.counts.now c.args.marks.now) c.loop-next.self c.loop-next.some (rw c.in_default.is at c.loop-next.invariant.0)).1

@@ -1,6 +1,6 @@
 use Rattle.strm_queue.proofs.flow.Targets.{NoneBehind}
 use Rattle.strm_queue.proofs.queues.Queues.behind.Given as goal
 
--- none of the queues that were looked at names this one
+-- none of the queues below `other` has this one as its next
 abbrev pub invariant-loop-other : goal.invariant-loop-other
 invariant-loop-other l = NoneBehind l.self.state.specs l.queue l.other

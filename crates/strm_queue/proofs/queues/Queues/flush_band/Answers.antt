@@ -10,7 +10,7 @@ use Rattle.strm_queue.specs.Flush.{is_picked}
 use Rattle.strm_queue.specs.QueueCalls.{settled}
 use Rattle.strm_queue.specs.QueuedBlocks.{AreMarksLawful, QueuedBlocks, together}
 use Rattle.strm_queue.proofs.moving.Flushing.{flushed_flags}
-use Rattle.strm_queue.proofs.moving.Others.{others_freed}
+use Rattle.strm_queue.proofs.moving.Flushing.{others_freed}
 use Rattle.strm_queue.proofs.queues.Queues.flush_band.Goals as goal
 
 pub returns-clause-does : goal.returns-clause-does

@@ -14,7 +14,7 @@ use Rattle.strm_queue.proofs.shelf.OnShelf.{FirstParts, first_there, heads}
 use Rattle.strm_queue.proofs.queues.Queues.flush_shelf.Goals as goal
 use Rattle.strm_queue.proofs.queues.Queues.flush_shelf.Goals.{After-reads_alike, After-takes, then-takes, else-takes}
 
--- there is such a shelf
+-- the shelf exists
 within : (c : After-reads_alike) → c.args.queue < length c.args.blocks.now.shelves
 within c = omega (arith, c.requires.queue, c.requires.in_order.shelves)
 
@@ -37,11 +37,11 @@ module _ (c : After-reads_alike) where
   abbrev so_far : IsFlushing picked taken c.args.blocks.now c.args.queue c.loop-message._message c.loop-message.at c.loop-message.blocks
   so_far = c.loop-message.invariant.0
 
-  -- the first message behind
+  -- the message at the loop's head
   abbrev one : FirstParts c.in-Some.head so_far.post
   one = next picked taken c.args.blocks.now c.args.queue (within c) c.loop-message._message c.loop-message.at c.loop-message.blocks so_far c.in-Some.head c.in-Some.is
 
-  -- it stands on the queue
+  -- it is on the queue
   there : stands_on c.loop-message.blocks c.args.queue c.in-Some.head ≡ true
   there = next_there picked taken c.args.blocks.now c.args.queue (within c) c.loop-message._message c.loop-message.at c.loop-message.blocks so_far c.in-Some.head c.in-Some.is
 
@@ -54,11 +54,11 @@ module _ (c : After-reads_alike) where
   same_data : c.loop-message.blocks.store.blocks ≡ c.args.blocks.now.store.blocks
   same_data = flushing_data picked taken c.args.blocks.now c.args.queue (within c) c.loop-message._message c.loop-message.at c.loop-message.blocks so_far
 
-  -- the one behind that
+  -- the message after it
   behind : (o : Option ℕ) → o ≡ after c.in-Some.head (heads_at c.loop-message.blocks c.args.queue) → o ≡ first (heads one.post)
   behind = behind_next picked taken c.args.blocks.now c.args.queue (within c) c.loop-message._message c.loop-message.at c.loop-message.blocks so_far c.in-Some.head c.in-Some.is (c.reads_alike.ensures.apart c.args.queue)
 
-  -- what comes next of the band
+  -- the rest of the shelf from the band's next message on
   abbrev rest : List Message
   rest = from_band c.args.blocks.now.store c.args.band one.post
 
@@ -80,7 +80,7 @@ takes-requires c = shelf_of-there c.loop-message.blocks c.args.queue c.in-Some.h
 pub unshelve-token-requires-clause-there : goal.unshelve-token-requires-clause-there
 unshelve-token-requires-clause-there c = there (goal.at.unshelve-token-requires-clause-there c).After-reads_alike
 
--- whether it is picked
+-- `takes` says whether it is picked
 asked : (c : After-takes) → c.takes.result ≡ picked c.before.before.before (one c.before.before.before).at
 asked c =
     let at = c.before.before.before in
@@ -88,7 +88,7 @@ asked c =
     ∙ flushed_same c.args.blocks.now.store c.loop-message.blocks.store (same_data at) c.args.flush (one at).at
     ∙ sym (next_taken (picked at) (taken at) c.args.blocks.now c.args.queue (within at) c.loop-message._message c.loop-message.at c.loop-message.blocks (so_far at) c.in-Some.head c.in-Some.is)
 
--- where it goes on
+-- where the loop goes on
 gone_on : (c : After-takes) → c.onward-at-in-loop-message.result ≡ first (heads (rest c.before.before.before))
 gone_on c =
     let at = c.before.before.before in

@@ -4,7 +4,7 @@ use Rattle.strm_queue.specs.QueuedBlocks.{AreInOrder}
 use Rattle.strm_queue.proofs.moving.Flushing.{IsFlushing}
 use Rattle.strm_queue.proofs.queues.Queues.flush_shelf.Given as goal
 
--- so many messages were passed
+-- `_message` messages were passed
 abbrev pub invariant-loop-message : goal.invariant-loop-message
 invariant-loop-message l =
     IsFlushing (is_picked l.fn.blocks.store l.fn.band l.fn.flush) (is_flushed l.fn.blocks.store l.fn.flush) l.fn.blocks l.queue l._message l.at l.blocks

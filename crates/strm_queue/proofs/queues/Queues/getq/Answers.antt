@@ -1,4 +1,4 @@
-use Rattle.std.proofs.Common.{arith, [], ◌≡◌, Some, true, false, length, ap, subst, sym, ◌∙◌}
+use Rattle.std.proofs.Common.{arith, ◌≡◌, Some, true, false, length, ap, subst, sym, ◌∙◌}
 use Rattle.std.proofs.lemmas.Grind.{common_steps}
 use Rattle.std.specs.Prelude.{nat_lt}
 use Rattle.strm_links.specs.Rows.{first}
@@ -6,13 +6,12 @@ use Rattle.strm_mblk.specs.Shelves.{heads_at}
 use Rattle.strm_queue.specs.Flow.{with_read}
 use Rattle.strm_queue.specs.QueueCalls.{with_state}
 use Rattle.strm_queue.specs.QueuedBlocks.{Agrees, QueuesValue, together}
-use Rattle.strm_mblk.proofs.arena.Frame.{leaves_same}
 use Rattle.strm_queue.proofs.agreeing.Agreeing.{agrees_read}
 use Rattle.strm_queue.proofs.moving.Gets.{IsGot, getq_after, got_others}
 use Rattle.strm_queue.proofs.queues.Queues.getq.Goals as goal
 use Rattle.strm_queue.proofs.queues.Queues.getq.Goals.{After-unshelve-token}
 
--- there is such a queue
+-- the queue exists
 there : (c : After-unshelve-token) → nat_lt c.args.queue (length c.args.self.now.state.specs) ≡ true
 there c = sym c.has_queue.ensures ∙ c.if-not-has_queue.false
 
@@ -36,9 +35,6 @@ returns-clause-does c =
       unheld = grind (arith, common_steps);
       others = grind (arith, common_steps);
     }
-
-pub returns-in_default-clause-does : goal.returns-in_default-clause-does
-returns-in_default-clause-does c = record { after = grind (arith, common_steps); token = grind (arith, common_steps); had = tt; unheld = tt; others = (leaves_same c.args.blocks.now []).others }
 
 pub returns-clause-agrees : goal.returns-clause-agrees
 returns-clause-agrees c =

@@ -1,4 +1,5 @@
 use Rattle.std.proofs.Common.{◌≡◌, ◌≤◌, true, length, ap, sym, ◌∙◌, arith}
+use Rattle.std.proofs.lemmas.Grind.{common_steps}
 use Rattle.std.specs.Prelude.{nat_lt}
 use Rattle.strm_data.specs.declared.refusal.Refusal.TheVariants.{BadOrder}
 use Rattle.strm_mblk.specs.Arena.{message_at, shelf_at}
@@ -13,20 +14,18 @@ use Rattle.strm_queue.proofs.order.Ranks.{rank_of-queued}
 use Rattle.strm_queue.proofs.queues.Queues.insq.Goals as goal
 use Rattle.strm_queue.proofs.queues.Queues.insq.Goals.{After-fits_before}
 
--- there is such a queue
+-- the queue exists
 abbrev there : (c : After-fits_before) → nat_lt c.args.queue (length c.args.self.now.state.specs) ≡ true
 there c = sym c.has_queue.ensures ∙ c.if-not-has_queue.false
 
--- there are so many messages
+-- the place is at most the number of messages
 few : (c : After-fits_before) → c.args.place ≤ length (shelf_at c.args.blocks.now c.args.queue)
 few c = omega (arith, c.len.ensures c.args.blocks.now c.requires.agrees.in_order, c.if-place-len.false)
 
--- whether the order is kept
+-- whether the message keeps the order there
 fits : (c : After-fits_before) → c.fits_before.result
     ≡ is_ordered (rank_of c.args.blocks.now.store) (put_before_head head_of c.head_at-before.result (as_queued c.args.blocks.now.store (message_at c.args.blocks.now c.args.token.head)) (shelf_at c.args.blocks.now c.args.queue))
-fits c =
-    c.fits_before.ensures (as_queued c.args.blocks.now.store (message_at c.args.blocks.now c.args.token.head))
-    (rank_of-queued c.args.blocks.now.store (message_at c.args.blocks.now c.args.token.head) ∙ sym c.held_rank-rank.ensures.value)
+fits c = grind (arith, common_steps, rank_of-queued)
 
 pub returns-then-not-fits_before-clause-does : goal.returns-then-not-fits_before-clause-does
 returns-then-not-fits_before-clause-does c =
@@ -34,9 +33,6 @@ returns-then-not-fits_before-clause-does c =
     puts_none arena (together c.args.self.now c.args.blocks.now) c.args.token _ BadOrder
     (insq_refused c.args.self.now c.args.blocks.now c.args.queue c.args.token.head (there here) c.args.place (few here) c.lawful.ensures.parted c.head_at-before.result
     c.head_at-before.ensures.value (sym (fits here) ∙ c.if-not-fits_before.true)) c.requires.had
-
-pub put-requires-clause-ordered : goal.put-requires-clause-ordered
-put-requires-clause-ordered c = sym (fits (goal.at.put-requires-clause-ordered c).After-fits_before) ∙ c.if-not-fits_before.false
 
 pub returns-clause-does : goal.returns-clause-does
 returns-clause-does c =

@@ -1,4 +1,5 @@
 use Rattle.std.proofs.Common.{◌≡◌, ◌<◌, rules, Fits, w8, ◌++◌, ◌∷◌, List, Some, ap, arith, sym, true, ◌∙◌}
+use Rattle.std.proofs.lemmas.Grind.{common_steps}
 use Rattle.strm_links.specs.Rows.{first}
 use Rattle.strm_mblk.specs.Arena.{shelf_at}
 use Rattle.strm_mblk.specs.Block.{Message}
@@ -17,11 +18,11 @@ use Rattle.strm_queue.proofs.queues.Queues.onward.Goals.{After-queued_rank-rank}
 pub queued_rank-rank-requires : goal.queued_rank-rank-requires
 queued_rank-rank-requires c = shelf_of-there c.args.blocks.now c.args.queue c.in-Some-Some.head (c.requires.at c.in-Some-Some.head c.in-Some-Some.is-1)
 
--- the message with this head, and those behind it
+-- the message with this head, and those after it
 parts : (c : After-queued_rank-rank) (post : List Message) → c.args.at ≡ first (heads post) → FirstParts c.in-Some-Some.head post
 parts c post at = first_of c.in-Some-Some.head post (sym at ∙ c.in-Some-Some.is-1)
 
--- the band is one
+-- the argument is the number of a band
 low : (c : After-queued_rank-rank) → c.in-Some-Some.band < bands
 low c = let fits : Fits w8 c.in-Some-Some.band = search rules in omega (arith, fits)
 
@@ -35,24 +36,16 @@ module _ (c : After-queued_rank-rank) (pre post : List Message) (is : shelf_at c
   ordered : is_ordered (rank_of c.args.blocks.now.store) (pre ++ one.at ∷ one.post) ≡ true
   ordered = sym (ap (is_ordered (rank_of c.args.blocks.now.store)) here) ∙ c.requires.in_order.ordered c.args.queue
 
-  -- its rank was told
+  -- `queued_rank` returns its rank
   rank_is : c.queued_rank-rank.result ≡ rank_of c.args.blocks.now.store one.at
   rank_is = c.queued_rank-rank.ensures.value c.args.queue pre one.post one.at here one.head
 
-  -- what is asked of the band that is given
+  -- the band is given
   of_band : from_band c.args.blocks.now.store (Some c.in-Some-Some.band) (one.at ∷ one.post) ≡ from_band c.args.blocks.now.store c.args.band post
   of_band = λ i. from_band c.args.blocks.now.store (sym c.in-Some-Some.is-0 i) (sym one.is i)
 
 pub returns-then-rank-from : goal.returns-then-rank-from
-returns-then-rank-from c pre post is at =
-    let asked = (goal.at.returns-then-rank-from c).After-queued_rank-rank in
-    let m = one asked pre post is at in
-    let rank = rank_is asked pre post is at in
-    ap (λ ms. first (heads ms))
-    (sym (from_band-past c.args.blocks.now.store c.in-Some-Some.band (low asked) pre m.post m.at (ordered asked pre post is at)
-    (λ same. c.if-band_of-band.false (c.band_of.ensures ∙ ap band_of_rank rank ∙ same))
-    (omega (arith, rank, c.from.ensures, c.if-rank-from.true)))
-    ∙ of_band asked pre post is at)
+returns-then-rank-from c pre post is at = grind (arith, common_steps, from_band-past, heads)
 
 pub returns : goal.returns
 returns c pre post is at =

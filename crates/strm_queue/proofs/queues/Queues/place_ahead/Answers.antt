@@ -1,4 +1,5 @@
-use Rattle.std.proofs.Common.{ap, subst, sym, ◌∙◌}
+use Rattle.std.proofs.Common.{arith, ap, subst, sym, ◌∙◌}
+use Rattle.std.proofs.lemmas.Grind.{common_steps}
 use Rattle.strm_mblk.specs.Arena.{shelf_at}
 use Rattle.strm_mblk.specs.Block.{head_of}
 use Rattle.strm_mblk.specs.Messages.{put_before_head}
@@ -10,7 +11,7 @@ use Rattle.strm_queue.proofs.order.Places.{none_told, placed_ahead-none, placed_
 use Rattle.strm_queue.proofs.queues.Queues.place_ahead.Goals as goal
 use Rattle.strm_queue.proofs.queues.Queues.place_ahead.Goals.{After-rank_at_most}
 
--- what is stored for ranks is true
+-- the tally's first and last heads are true
 ends : (c : After-rank_at_most) → AreEndsOf (rank_of c.args.blocks.now.store) (shelf_at c.args.blocks.now c.args.queue) c.tally-tally.result.now
 ends c = subst (AreEndsOf (rank_of c.args.blocks.now.store) (shelf_at c.args.blocks.now c.args.queue)) (sym c.tally-tally.ensures) (c.requires.in_order.true_of c.args.queue c.requires.queue).ends
 
@@ -24,9 +25,7 @@ returns-in_err-found-clause-place c m is =
     (λ x most. none_told (rank_of store) ms c.tally-tally.result.now at x (c.in_err-found.ensures.none x most)) m is
 
 pub returns-clause-there : goal.returns-clause-there
-returns-clause-there c x some =
-    let at = ends (goal.at.returns-clause-there c).After-rank_at_most in
-    first_of_rank-has (rank_of c.args.blocks.now.store) x c.in_ok-found.found (shelf_at c.args.blocks.now c.args.queue) (sym (at.firsts c.in_ok-found.found) ∙ sym c.first.ensures ∙ some)
+returns-clause-there c x some = grind (arith, common_steps, first_of_rank-has)
 
 pub returns-clause-place : goal.returns-clause-place
 returns-clause-place c m is =

@@ -1,4 +1,5 @@
-use Rattle.std.proofs.Common.{◌≡◌, Some, ap, inl, inr, subst, sym, true, ◌∙◌}
+use Rattle.std.proofs.Common.{arith, ◌≡◌, Some, ap, inl, inr, subst, sym, true, ◌∙◌}
+use Rattle.std.proofs.lemmas.Grind.{common_steps}
 use Rattle.std.proofs.lemmas.Bool.{cases_lt}
 use Rattle.std.proofs.lemmas.Option.{none-some}
 use Rattle.strm_mblk.specs.Arena.{shelf_at}
@@ -15,18 +16,13 @@ use Rattle.strm_queue.proofs.order.Places.{after_there, none_beyond, none_told, 
 use Rattle.strm_queue.proofs.queues.Queues.place_behind.Goals as goal
 use Rattle.strm_queue.proofs.queues.Queues.place_behind.Goals.{After-rank_at_least, In-Some-last}
 
--- what is stored for ranks is true
+-- the tally's first and last heads are true
 ends : (c : After-rank_at_least) → AreEndsOf (rank_of c.args.blocks.now.store) (shelf_at c.args.blocks.now c.args.queue) c.tally-tally.result.now
 ends c = subst (AreEndsOf (rank_of c.args.blocks.now.store) (shelf_at c.args.blocks.now c.args.queue)) (sym c.tally-tally.ensures) (c.requires.in_order.true_of c.args.queue c.requires.queue).ends
 
 -- the rank that was found has a last message
 pub unreachable-requires : goal.unreachable-requires
-unreachable-requires c =
-    let at = ends (goal.at.unreachable-requires c).After-rank_at_least in
-    let store = c.args.blocks.now.store in
-    let ms = shelf_at c.args.blocks.now c.args.queue in
-    let some = some_told (rank_of store) ms c.tally-tally.result.now at c.in-Some.found c.in-Some.ensures.some.2 in
-    none-some some.0 (sym (first_of_rank-none (rank_of store) c.in-Some.found ms (sym (at.lasts c.in-Some.found) ∙ sym c.last.ensures ∙ c.in_default.is)) ∙ some.1)
+unreachable-requires c = grind (arith, common_steps, some_told, none-some, first_of_rank-none)
 
 abbrev Ends : In-Some-last → Type 0
 Ends c = AreEndsOf (rank_of c.args.blocks.now.store) (shelf_at c.args.blocks.now c.args.queue) c.tally-tally.result.now
@@ -34,7 +30,7 @@ Ends c = AreEndsOf (rank_of c.args.blocks.now.store) (shelf_at c.args.blocks.now
 last_is : (c : In-Some-last) → Ends c → last_of_rank (rank_of c.args.blocks.now.store) c.in-Some.found (shelf_at c.args.blocks.now c.args.queue) ≡ Some c.in-Some-last.last
 last_is c at = sym (at.lasts c.in-Some.found) ∙ sym c.last.ensures ∙ c.in-Some-last.is
 
--- it stands on the queue
+-- it is on the queue
 there : (c : In-Some-last) → Ends c → stands_on c.args.blocks.now c.args.queue c.in-Some-last.last ≡ true
 there c at = last_of_rank-has (rank_of c.args.blocks.now.store) c.in-Some-last.last c.in-Some.found (shelf_at c.args.blocks.now c.args.queue) (last_is c at)
 

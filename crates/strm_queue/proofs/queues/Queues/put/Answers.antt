@@ -1,15 +1,9 @@
-use Rattle.std.proofs.Common.{ap, sym, ◌∙◌, subst}
+use Rattle.std.proofs.Common.{ap, sym, subst}
 use Rattle.strm_mblk.specs.Arena.{Arena, message_at}
-use Rattle.strm_queue.specs.Flow.{enabled_where}
-use Rattle.strm_queue.specs.QueuedBlocks.{Agrees, AreMarksLawful, QueuesValue}
+use Rattle.strm_queue.specs.QueuedBlocks.{Agrees, AreMarksLawful}
 use Rattle.strm_queue.specs.Rank.{as_queued}
 use Rattle.strm_queue.proofs.agreeing.Agreeing.{agrees_enabled, marks_put}
 use Rattle.strm_queue.proofs.queues.Queues.put.Goals as goal
-
-pub returns-clause-after : goal.returns-clause-after
-returns-clause-after c =
-    let state = ap (λ (v : QueuesValue). v.state) c.enable_where.ensures ∙ ap (enabled_where c.args.enables c.args.queue) c.shelve.ensures.state in
-    λ i. record { queues = state i; arena = c.shelve.ensures.after i }
 
 pub returns-clause-agrees : goal.returns-clause-agrees
 returns-clause-agrees c =

@@ -11,11 +11,11 @@ use Rattle.strm_queue.proofs.order.Ranks.{rank_of-queued}
 use Rattle.strm_queue.proofs.queues.Queues.putq.Goals as goal
 use Rattle.strm_queue.proofs.queues.Queues.putq.Goals.{After-place_behind-before}
 
--- the message, as it stands on the queue
+-- the message, as the queue has it
 abbrev m : After-place_behind-before → Message
 m c = as_queued c.args.blocks.now.store (message_at c.args.blocks.now c.args.token.head)
 
--- it goes where it belongs
+-- the place is after the last message of at least its rank
 place : (c : After-place_behind-before) → put_before_head head_of c.place_behind-before.result (m c) (shelf_at c.args.blocks.now c.args.queue) ≡ put_behind (rank_of c.args.blocks.now.store) (m c) (shelf_at c.args.blocks.now c.args.queue)
 place c = c.place_behind-before.ensures.place (m c) (rank_of-queued c.args.blocks.now.store (message_at c.args.blocks.now c.args.token.head) ∙ sym c.held_rank-rank.ensures.value)
 

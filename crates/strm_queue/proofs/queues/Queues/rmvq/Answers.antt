@@ -4,15 +4,15 @@ use Rattle.std.specs.Prelude.{nat_lt, slice_get}
 use Rattle.strm_mblk.specs.Arena.{token_of}
 use Rattle.strm_mblk.specs.Given.{answer_map, answer_of}
 use Rattle.strm_mblk.specs.Shelves.{heads_at}
-use Rattle.strm_queue.proofs.moving.Gets.{IsGot, got_others, rmvq_after, rmvq_given}
+use Rattle.strm_queue.proofs.moving.Gets.{IsGot, rmvq_after, rmvq_given}
 use Rattle.strm_queue.proofs.queues.Queues.rmvq.Goals as goal
 use Rattle.strm_queue.proofs.queues.Queues.rmvq.Goals.{After-unshelve-token}
 
--- there is such a queue
+-- the queue exists
 there : (c : After-unshelve-token) → nat_lt c.args.queue (length c.args.self.now.state.specs) ≡ true
 there c = sym c.has_queue.ensures ∙ c.if-not-has_queue.false
 
--- and it has such a message
+-- and it has a message at the place
 some : (c : After-unshelve-token) → slice_get (heads_at c.args.blocks.now c.args.queue) c.args.place ≡ Some c.in-Some.head
 some c = sym c.head_at.ensures.value ∙ c.in-Some.is
 
@@ -34,9 +34,3 @@ returns-clause-does c =
       unheld = grind (arith, common_steps);
       others = grind (arith, common_steps);
     }
-
-pub returns-clause-agrees : goal.returns-clause-agrees
-returns-clause-agrees c =
-    let here = (goal.at.returns-clause-agrees c).After-unshelve-token in
-    c.settle.ensures.agrees c.unshelve-token.new.blocks c.unshelve-token.ensures.in_order
-    (got_others c.args.self.now c.args.blocks.now c.requires c.lawful.ensures.parted c.args.queue (there here) c.in-Some.head c.unshelve-token.new.self c.unshelve-token.new.blocks (got here))

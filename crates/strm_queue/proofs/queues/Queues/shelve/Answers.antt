@@ -1,9 +1,8 @@
-use Rattle.std.proofs.Common.{None, refl, ◌≡◌, ◌<◌, ◌^◌, ap, arith, length, subst, sym, ◌∙◌, get_or-set_same, length-set, [], ◌++◌, ◌∷◌, set, length-append}
+use Rattle.std.proofs.Common.{◌≡◌, ◌<◌, ◌^◌, ap, arith, subst, sym, ◌∙◌, get_or-set_same, [], ◌++◌, ◌∷◌, set}
+use Rattle.std.proofs.lemmas.Grind.{common_steps}
 use Rattle.strm_mblk.specs.Arena.{Arena, message_at, shelf_at, with_shelf, without_held}
 use Rattle.strm_mblk.specs.Block.{Message, head_of}
-use Rattle.strm_mblk.specs.Frame.{LeavesOthers}
-use Rattle.strm_mblk.specs.Limits.{most_message_blocks}
-use Rattle.strm_mblk.specs.Messages.{put_before_head, blocks_of}
+use Rattle.strm_mblk.specs.Messages.{put_before_head}
 use Rattle.strm_mblk.specs.Shelves.{shelve}
 use Rattle.strm_mblk.proofs.arena.Tokens.{had_message}
 use Rattle.strm_queue.specs.Flow.{bytes_on, hiwat_of}
@@ -13,19 +12,17 @@ use Rattle.strm_queue.specs.Rank.{as_queued, rank_of, is_ordered}
 use Rattle.strm_queue.proofs.agreeing.Agreeing.{in_order_put}
 use Rattle.strm_queue.proofs.counting.Counts.{bytes_fit}
 use Rattle.strm_queue.proofs.order.Ranks.{rank_of-queued, size_of-queued, head_of-queued}
-use Rattle.strm_queue.proofs.moving.Shelve.{few_on_shelf, shelve_high, shelve_low}
+use Rattle.strm_queue.proofs.moving.Puts.{few_on_shelf, shelve_high, shelve_low}
 use Rattle.strm_queue.proofs.counting.Tallies.{joins_all, joins_few, numbered, IsPlaced}
 use Rattle.strm_queue.proofs.queues.Queues.shelve.Goals as goal
 use Rattle.strm_queue.proofs.queues.Queues.shelve.Goals.{After-lawful-2, then-rank-eq-HIGH_RANK, else-rank-eq-HIGH_RANK}
 use Rattle.strm_links.specs.Rows.{IsApart}
 use Rattle.strm_queue.proofs.shelf.OnShelf.{heads}
 use Rattle.strm_queue.proofs.order.Fits.{IsParting, parting, placed_here}
-use Rattle.strm_mblk.proofs.arena.Frame.{others_one}
 use Rattle.strm_mblk.proofs.arena.Stands.{heads_apart}
 use Rattle.strm_queue.specs.declared.tally.Placed.{Placed}
-use Rattle.std.specs.Prelude.{IfSome}
 
--- the message, as it stands on the queue
+-- the message, as the queue has it
 abbrev m : After-lawful-2 → Message
 m c = as_queued c.args.blocks.now.store (message_at c.args.blocks.now c.args.token.head)
 
@@ -46,7 +43,7 @@ after c =
 abbrev sides : (c : After-lawful-2) → IsParting c.args.blocks.now c.args.queue c.args.before
 sides c = parting c.args.blocks.now c.args.queue c.args.before c.requires.before
 
--- the queue with it
+-- the messages of the queue with it
 between : (c : After-lawful-2) → put_before_head head_of c.args.before (m c) (shelf_at c.args.blocks.now c.args.queue) ≡ (sides c).pre ++ m c ∷ (sides c).post
 between c = placed_here c.args.blocks.now c.lawful.ensures.parted c.args.queue c.args.before (sides c).pre (sides c).post (sides c).is (sides c).at (m c)
 
@@ -56,15 +53,12 @@ here c =
     ∙ get_or-set_same c.args.blocks.now.shelves c.args.queue (put_before_head head_of c.args.before (m c) (shelf_at c.args.blocks.now c.args.queue)) [] (omega (arith, c.requires.queue, c.requires.in_order.shelves))
     ∙ between c
 
--- how it stands there
+-- its entry for the tally
 abbrev own : After-lawful-2 → Placed
 own c = record { head = c.head.result; rank = c.args.rank; size = c.size.result; ahead = c.ahead_of.result; behind = c.args.before }
 
 head_is : (c : After-lawful-2) → head_of (message_at c.args.blocks.now c.args.token.head) ≡ c.args.token.head
-head_is c =
-    let had = had_message c.args.blocks.now c.args.token c.requires.had in
-    ap (λ o. head_of (blocks_of o)) had.1.held
-    ∙ (subst (λ o. IfSome o (λ m. (0 < length m) × (head_of m ≡ c.args.token.head))) had.1.held (c.lawful.ensures.parted.heads c.args.token.head)).1
+head_is c = grind (arith, common_steps, had_message)
 
 placed : (c : After-lawful-2) → IsPlaced c.args.blocks.now.store (sides c).pre (sides c).post (m c) (own c)
 placed c = record {
@@ -81,27 +75,16 @@ join-requires-clause-numbered c =
     let at = (goal.at.join-requires-clause-numbered c).After-lawful-2 in
     numbered c.shelve.new.self c.lawful-2.ensures.parted c.lawful-2.ensures.few c.args.queue c.args.blocks.now.store (sides at).pre (sides at).post (m at) (own at) (here at) (placed at)
 
--- what is stored is true of the queue without it
+-- the tally is true of the queue without it
 true_of : (c : After-lawful-2) → IsTallyOf c.args.blocks.now.store (hiwat_of c.args.self.now.state c.args.queue) ((sides c).pre ++ (sides c).post) (tally_at c.args.self.now c.args.queue)
 true_of c =
     subst (λ ms. IsTallyOf c.args.blocks.now.store (hiwat_of c.args.self.now.state c.args.queue) ms (tally_at c.args.self.now c.args.queue)) (sides c).is
     (c.requires.in_order.true_of c.args.queue c.requires.queue)
 
 pub join-requires-clause-len : goal.join-requires-clause-len
-join-requires-clause-len c =
-    let at = (goal.at.join-requires-clause-len c).After-lawful-2 in
-    omega (
-      arith,
-      few_on_shelf c.shelve.new.self c.lawful-2.ensures.parted c.args.queue most_message_blocks
-          (omega (arith, c.requires.queue, c.requires.in_order.shelves, ap (λ (b : Arena). length b.shelves) (after at), length-set c.args.blocks.now.shelves c.args.queue (put_before_head head_of c.args.before (m at) (shelf_at c.args.blocks.now c.args.queue))))
-          (omega (arith, c.lawful-2.ensures.few, c.lawful-2.ensures.whole)),
-      ap length (here at),
-      length-append (sides at).pre (m at ∷ (sides at).post),
-      length-append (sides at).pre (sides at).post,
-      (true_of at).len,
-    )
+join-requires-clause-len c = grind (arith, common_steps, few_on_shelf)
 
--- so few bytes that they can be counted
+-- the queue's bytes fit 32 bits
 few_bytes : (c : After-lawful-2) → bytes_on ((sides c).pre ++ m c ∷ (sides c).post) < 2 ^ 32
 few_bytes c =
     subst (λ ms. bytes_on ms < 2 ^ 32) (here c) (bytes_fit c.shelve.new.self c.lawful-2.ensures.kept c.lawful-2.ensures.within c.lawful-2.ensures.few c.lawful-2.ensures.whole c.args.queue)
@@ -127,8 +110,3 @@ returns-clause-in_order c =
     (subst (λ ms. IsApart (heads ms)) (here at) (heads_apart c.shelve.new.self c.lawful-2.ensures.parted c.args.queue)) (sides at).is
     (ap (λ (b : Arena). b.shelves) (after at) ∙ ap (set c.args.blocks.now.shelves c.args.queue) (between at))
     (sym (ap (is_ordered (rank_of c.args.blocks.now.store)) (between at)) ∙ c.requires.ordered))
-
-pub returns-clause-others : goal.returns-clause-others
-returns-clause-others c =
-    let at = (goal.at.returns-clause-others c).After-lawful-2 in
-    subst (LeavesOthers (c.args.token.head ∷ []) c.args.blocks.now) (sym (after at)) (others_one c.args.blocks.now (with_shelf c.args.queue (put_before_head head_of c.args.before (m at) (shelf_at c.args.blocks.now c.args.queue)) (without_held c.args.token.head c.args.blocks.now)) c.args.token.head None refl refl)

@@ -4,32 +4,26 @@ use Rattle.std.specs.Prelude.{nat_lt}
 use Rattle.std.proofs.lemmas.Bool.{ltb-true}
 use Rattle.strm_mblk.specs.Given.{value_after}
 use Rattle.strm_queue.specs.declared.marks.Marks.{Marks}
-use Rattle.strm_queue.specs.Flow.{hiwat_of}
 use Rattle.strm_queue.specs.QueueCalls.{settled}
-use Rattle.strm_queue.specs.QueuedBlocks.{AreInOrder, AreMarksLawful, QueuesValue, tally_at, together, with_tally}
-use Rattle.strm_queue.specs.Tallies.{recounted}
-use Rattle.strm_queue.proofs.flow.Marking.{marked_in_order, marked_others, strqset_given, with_recounted}
+use Rattle.strm_queue.specs.QueuedBlocks.{AreInOrder, AreMarksLawful, QueuesValue, together}
+use Rattle.strm_queue.proofs.flow.Settling.{marked_in_order, marked_others, strqset_given, with_recounted}
 use Rattle.strm_queue.proofs.queues.Queues.strqset.Goals as goal
 use Rattle.strm_queue.proofs.queues.Queues.strqset.Goals.{After-recount}
 
--- the new marks
+-- the new water marks
 abbrev m : After-recount → Marks
 m c = record { hiwat = c.args.hiwat; lowat = c.args.lowat }
 
--- there is such a queue
+-- the queue exists
 there : (c : After-recount) → nat_lt c.args.queue (length c.args.self.now.state.specs) ≡ true
 there c = sym c.has_queue.ensures ∙ c.if-not-has_queue.false
 
 -- the queues before they are settled
 marked : (c : After-recount) → c.recount.new.self ≡ with_recounted c.args.self.now c.args.blocks.now c.args.queue c.args.band (m c)
-marked c =
-    c.recount.ensures
-    ∙ ap (λ (w : QueuesValue). with_tally c.args.queue (recounted (hiwat_of w.state c.args.queue c.args.band) c.args.band (tally_at w c.args.queue)) w) c.set_marks.ensures
+marked c = grind (arith, common_steps)
 
 in_order : (c : After-recount) → AreInOrder c.recount.new.self c.args.blocks.now
-in_order c =
-    subst (λ w. AreInOrder w c.args.blocks.now) (sym (marked c))
-    (marked_in_order c.args.self.now c.args.blocks.now c.args.queue c.args.band (m c) c.requires.in_order (ltb-true c.args.queue (length c.args.self.now.state.specs) (there c)) (omega (arith, c.ranges.band)))
+in_order c = grind (arith, common_steps, marked_in_order, ltb-true)
 
 pub returns-clause-does : goal.returns-clause-does
 returns-clause-does c =

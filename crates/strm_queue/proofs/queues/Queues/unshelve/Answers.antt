@@ -6,16 +6,16 @@ use Rattle.strm_mblk.proofs.arena.Stands.{heads_apart, shelf_of-there}
 use Rattle.strm_queue.specs.Flow.{hiwat_of}
 use Rattle.strm_queue.specs.QueuedBlocks.{AreInOrder, tally_at}
 use Rattle.strm_queue.specs.Tallies.{IsTallyOf}
-use Rattle.strm_queue.proofs.shelf.Across.{shelved_message-at}
+use Rattle.strm_queue.proofs.shelf.Across.{shelved_message_at}
 use Rattle.strm_queue.proofs.agreeing.Agreeing.{in_order_got}
 use Rattle.strm_queue.proofs.shelf.OnShelf.{Parts, parts_of, unshelved, heads, after-head, before-head}
-use Rattle.strm_queue.proofs.counting.Tallies.{leaves_all, leaves_enough, leaves_some, numbered, IsPlaced}
+use Rattle.strm_queue.proofs.counting.Tallies.{leaves_all, leaves_enough, numbered, IsPlaced}
 use Rattle.strm_queue.proofs.queues.Queues.unshelve.Goals as goal
 use Rattle.strm_queue.proofs.queues.Queues.unshelve.Goals.{After-after}
 use Rattle.strm_links.specs.Rows.{IsApart, after, before}
 use Rattle.strm_queue.specs.declared.tally.Placed.{Placed}
 
--- the message, and those before and behind it
+-- the message, and those before and after it
 abbrev parts : (c : After-after) → Parts c.args.head (shelf_at c.args.blocks.now c.args.queue)
 parts c = parts_of c.args.head (shelf_at c.args.blocks.now c.args.queue) c.requires.there
 
@@ -24,11 +24,11 @@ true_of c =
     subst (λ ms. IsTallyOf c.args.blocks.now.store (hiwat_of c.args.self.now.state c.args.queue) ms (tally_at c.args.self.now c.args.queue)) (parts c).is
     (c.requires.in_order.true_of c.args.queue c.requires.queue)
 
--- no two messages of the queue have one head
+-- no two messages of the queue have the same head
 apart : (c : After-after) → IsApart (heads ((parts c).pre ++ (parts c).at ∷ (parts c).post))
 apart c = subst (λ ms. IsApart (heads ms)) (parts c).is (heads_apart c.args.blocks.now c.lawful.ensures.parted c.args.queue)
 
--- how it stands there
+-- its entry for the tally
 abbrev own : After-after → Placed
 own c = record { head = c.args.head; rank = c.queued_rank.result; size = c.head_size.result; ahead = c.before-2.result; behind = c.after.result }
 
@@ -38,7 +38,7 @@ placed c = record {
   rank = c.queued_rank.ensures.value c.args.queue (parts c).pre (parts c).post (parts c).at (parts c).is (parts c).head;
   size =
       c.head_size.ensures
-      ∙ ap size_of (ap (shelved_message c.args.blocks.now) (sym (parts c).head) ∙ shelved_message-at c.args.blocks.now c.lawful.ensures.parted c.args.queue (parts c).pre (parts c).post (parts c).at (parts c).is);
+      ∙ ap size_of (ap (shelved_message c.args.blocks.now) (sym (parts c).head) ∙ shelved_message_at c.args.blocks.now c.lawful.ensures.parted c.args.queue (parts c).pre (parts c).post (parts c).at (parts c).is);
   ahead =
       c.before-2.ensures c.args.queue c.requires.there ∙ (λ i. before (sym (parts c).head i) (heads ((parts c).is i)))
       ∙ before-head (parts c).pre (parts c).post (parts c).at (apart c);
@@ -64,11 +64,6 @@ pub leave-requires-clause-numbered : goal.leave-requires-clause-numbered
 leave-requires-clause-numbered c =
     let at = (goal.at.leave-requires-clause-numbered c).After-after in
     numbered c.args.blocks.now c.lawful.ensures.parted c.lawful.ensures.few c.args.queue c.args.blocks.now.store (parts at).pre (parts at).post (parts at).at (own at) (parts at).is (placed at)
-
-pub leave-requires-clause-len : goal.leave-requires-clause-len
-leave-requires-clause-len c =
-    let at = (goal.at.leave-requires-clause-len c).After-after in
-    leaves_some c.args.blocks.now.store (parts at).at (hiwat_of c.args.self.now.state c.args.queue) (tally_at c.args.self.now c.args.queue) (parts at).pre (parts at).post (own at) (placed at) (true_of at)
 
 pub leave-requires-clause-bytes : goal.leave-requires-clause-bytes
 leave-requires-clause-bytes c =

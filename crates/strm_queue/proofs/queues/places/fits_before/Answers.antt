@@ -11,7 +11,7 @@ use Rattle.strm_queue.proofs.queues.places.fits_before.Goals.{After-is_at_most}
 sides : (c : After-is_at_most) → IsParting c.args.blocks.now c.args.queue c.args.before
 sides c = parting c.args.blocks.now c.args.queue c.args.before c.requires.before
 
--- whether the first behind it is of at most the rank
+-- whether the first message after it is of at most the rank
 asked : (c : After-is_at_most) → first_fits (rank_of c.args.blocks.now.store) c.args.rank (sides c).post ≡ c.is_at_most.result
 asked c = first_asked c.args.blocks.now c.args.queue c.args.rank c.args.before c.is_at_most.result c.is_at_most.ensures.none (λ pre post m. c.is_at_most.ensures.some c.args.queue pre post m) (sides c)
 
