@@ -1,4 +1,4 @@
--- What a call of C answers: what goes through a pointer, or a code.
+-- What a call of C gives: a value that is stored through a pointer, or a code; and the numbers of codes.
 use Rattle.std.specs.Prelude.{ℕ, zero, suc, ℤ, pos, negsuc, Option, None, Some, Result, Ok, Err}
 use Rattle.strm_data.specs.declared.refusal.Refusal.{Refusal}
 use Rattle.strm_data.specs.Refusal as refusals
@@ -9,12 +9,12 @@ use Rattle.strm_named.specs.declared.fault.Fault.TheVariants as faults
 use Rattle.strm_c.specs.declared.code.Code.{Code}
 use Rattle.strm_c.specs.declared.code.Code.TheVariants.{BadArgument, BadConfig, Invalid, IsOpen, NoMemory, NotOpen, Nothing, Refused}
 
--- n below 0, from 1 on
+-- -n
 abbrev pub minus : ℕ → ℤ
 minus zero = pos 0
 minus (suc n) = negsuc n
 
--- of the first fault of a configuration
+-- the number, without its sign, of the first fault of a configuration
 abbrev pub number_of_fault : Which → ℕ
 number_of_fault which.Mblks = 11
 number_of_fault which.Classes = 12
@@ -42,12 +42,12 @@ number_of (BadConfig fault) = minus (number_of_fault fault)
 abbrev pub Answer : Type 0 → Type 0
 Answer Z = Result Z Code
 
--- the number that the call returns
+-- the number that the call returns: 0, or that of the code
 abbrev pub returned : {Z : Type 0} → Answer Z → ℤ
 returned (Ok z) = pos 0
 returned (Err code) = number_of code
 
--- what is behind the pointer then
+-- what is stored behind the pointer after the call
 abbrev pub written : {Z : Type 0} → Z → Answer Z → Z
 written before (Ok z) = z
 written before (Err code) = before
@@ -58,17 +58,17 @@ abbrev pub code_of : Fault → Code
 code_of faults.Invalid = Invalid
 code_of (faults.Refused why) = Refused why
 
--- what is told of an answer, by what is told of what it gives
+-- the answer to a call on names, from the answer to its result
 abbrev pub told : {Y Z : Type 0} → (Y → Answer Z) → Result Y Fault → Answer Z
 told tells (Ok y) = tells y
 told tells (Err fault) = Err (code_of fault)
 
--- so of one that no name stands in the way of
+-- the answer to a call without names, from the answer to its result
 abbrev pub told_of_refused : {Y Z : Type 0} → (Y → Answer Z) → Result Y Refusal → Answer Z
 told_of_refused tells (Ok y) = tells y
 told_of_refused tells (Err why) = Err (Refused why)
 
--- what there is, if there is something
+-- the value, if any; otherwise the code `Nothing`
 abbrev pub any : {Z : Type 0} → Option Z → Answer Z
 any None = Err Nothing
 any (Some z) = Ok z

@@ -1,5 +1,5 @@
--- What a call of C does with the pool of a handle, and answers. No call is defined anew: an export cites the definition that the call
--- of the named pool cites, and one of the forms below.
+-- What a call of C does with the pool of a handle, and what it returns and stores. No call is defined anew: an export cites the
+-- definition that the call of the named pool, or of its `Pool`, cites, and one of the forms below.
 use Rattle.std.specs.Prelude.{◌≡◌, ℕ, ◌-◌, min, ℤ, List, ◌++◌, drop, length, take, Option, None, Some, Err, IfOk, if◌then◌else◌}
 use Rattle.strm_mblk.specs.Arena.{message_at}
 use Rattle.strm_mblk.specs.Block.{bytes_of, size_of}
@@ -11,62 +11,63 @@ use Rattle.strm_named.specs.NamedValue.{KeepsNames, NamedValue, Renames, is_vali
 use Rattle.strm_c.specs.declared.code.Code.TheVariants.{BadArgument, NotOpen}
 use Rattle.strm_c.specs.Codes.{Answer, number_of, returned, told, told_of_refused, written}
 
--- what a handle holds, where it is open
+-- the pool of a handle, if the handle is open
 abbrev pub Held : Type 0
 Held = Option NamedValue
 
--- ---- what a call leaves and tells
+-- ---- what a call leaves and stores
 
--- Of a call: what the handle held and holds, the number that it returns, and what was and is behind its pointer.
+-- A statement on a call: the pools of the handle before and after it, the number that it returns, and the values behind its
+-- pointer before and after it.
 abbrev pub Seen : Type 0 → Type 1
 Seen Z = Held → Held → ℤ → Z → Z → Type 0
 
--- A call that leaves one pool in the place of another, and answers. A handle that is not open is told, and stays so.
+-- A call that changes the pool and answers. If the handle is not open, it returns `NotOpen`, and nothing changes.
 abbrev pub Leaves : {Z : Type 0} → (NamedValue → NamedValue) → (NamedValue → Answer Z) → Seen Z
 Leaves after answer None new number was is = (new ≡ None) × ((number ≡ number_of NotOpen) × (is ≡ was))
 Leaves after answer (Some v) new number was is = (new ≡ Some (after v)) × ((number ≡ returned (answer v)) × (is ≡ written was (answer v)))
 
--- A call that asks, and changes nothing.
+-- A call that answers and changes nothing.
 abbrev pub Asks : {Z : Type 0} → (NamedValue → Answer Z) → Seen Z
 Asks = Leaves (λ v. v)
 
 -- ---- which names are valid then
 
--- what is said of the pools before and after, where the handle is open
+-- what is said of the pools before and after, if the handle is open
 abbrev pub WhileOpen : (NamedValue → NamedValue → Type 0) → Held → Held → Type 0
 WhileOpen says (Some v) (Some w) = says v w
 WhileOpen says old new = Unit {0}
 
 -- ---- the calls of the named pool
 
--- One on names: the named pool after it, what it answers, and which names are valid then.
+-- A call on names: the named pool after it, its answer, and which names are valid then.
 abbrev pub Does : {X Y Z : Type 0} → Shape X Y → (Y → Answer Z) → (NamedValue → Outcome X) → List ℕ → Seen Z
 Does shape tells outcome spent old new number was is =
     Leaves (λ v. named_after shape v (outcome v)) (λ v. told tells (answer_told shape (named_after shape v (outcome v)) (outcome v))) old new number was is
     × WhileOpen (λ v w. IfOk (outcome v) (λ given. Renames spent (shape.heads given.0) v w)) old new
 
--- One that takes and gives no names.
+-- A call that changes no name.
 abbrev pub DoesOnPool : {X Z : Type 0} → (X → Answer Z) → (PoolValue → Given PoolValue X) → Seen Z
 DoesOnPool tells given old new number was is =
     Leaves (λ v. with_pool v (value_after v.pool (given v.pool))) (λ v. told_of_refused tells (answer_of (given v.pool))) old new number was is
     × WhileOpen KeepsNames old new
 
--- One that takes something off a list of the pool's, if there is something.
+-- A call that takes something off a list of the pool, if there is anything.
 abbrev pub Takes : {X Z : Type 0} → (X → Answer Z) → (PoolValue → X × PoolValue) → Seen Z
 Takes tells taken old new number was is =
     Leaves (λ v. with_pool v (taken v.pool).1) (λ v. tells (taken v.pool).0) old new number was is
     × WhileOpen KeepsNames old new
 
--- ---- numbers that are types of their own
+-- ---- numbers that mean a value of a type
 
--- A call with a number that stands for something; one that stands for nothing is told, and nothing changes.
+-- A call with a number. If the number means nothing, the call returns `BadArgument`, and nothing changes.
 abbrev pub Ranged : {A Z : Type 0} → Option A → (A → Seen Z) → Seen Z
 Ranged None says = Asks (λ v. Err BadArgument)
 Ranged (Some a) says = says a
 
 -- ---- bytes
 
--- what a buffer holds once the bytes of a message were read into it, from place `at` on: as many as there are, and room for
+-- A buffer after bytes of a message were copied into it, from place `at` on: as many as there are and as fit.
 abbrev pub laid_over : List ℕ → ℕ → ℕ → List ℕ → List ℕ
 laid_over bytes count at into = take count (drop at bytes) ++ drop count into
 

@@ -1,4 +1,4 @@
--- What a handle owns: the box of its pool, where it is open. No public clause cites this module.
+-- What a handle owns in memory: the box of its pool, if it is open. No public clause cites this module.
 use Rattle.std.specs.Prelude.{ℕ, Bool, ◌==◌, Option, None, Some, is_some}
 use Rattle.std.specs.Coded.{coded_option}
 use base.Fml.{Fml, ftrue, feq, fsep}
@@ -9,15 +9,15 @@ use Rattle.std.specs.Global.{Global}
 use Rattle.std_heap.specs.contracts.GlobalAllocator.TheImpl.{ghosts}
 use Rattle.strm_named.specs.contracts.named_pool.NamedPool.{the_row}
 
--- the state of a handle that is open: the letters STRM
+-- the state of an open handle: the letters STRM
 abbrev pub open_state : ℕ
 open_state = 1398035021
 
--- whether a handle in this state is open: any other state is that of one that is not
+-- a handle is open if it has this state
 abbrev pub is_open : ℕ → Bool
 is_open state = state == open_state
 
--- all handles to the heap are one
+-- all allocators of the heap are one value
 abbrev pub heap : Global
 heap = record { memory = record { seal = tt } }
 
@@ -25,7 +25,7 @@ abbrev pub held : Ptr → Option the_row.Denot → Fml
 held at None = ftrue
 held at (Some v) = box_owns (ghosts.dealloc_token heap) the_row at v
 
--- a handle at this box, in this state
+-- a handle owns the box at this place exactly if its state is that of an open one
 abbrev pub owned : Ptr → ℕ → Option the_row.Denot → Fml
 owned at state v = fsep (feq Bool (is_open state) (is_some v)) (held at v)
 

@@ -1,4 +1,4 @@
--- Numbers and structs of strm.h, and what they stand for.
+-- Numbers and structs of strm.h, and what they mean.
 use Rattle.std.specs.Prelude.{ℕ, Bool, true, false, ◌==◌, nat_lt, Option, None, Some, Ok, if◌then◌else◌, slice_get, unwrap_or}
 use Rattle.strm_data.specs.declared.class_info.ClassInfo.{ClassInfo}
 use Rattle.strm_data.specs.MsgType.{all_types}
@@ -24,29 +24,29 @@ use Rattle.strm_c.specs.declared.layout.StrmWish.{StrmWish}
 
 -- ---- numbers that C gives
 
--- a queue or a class: there are far fewer than 255, so any number from there on is that of none
+-- the number of a queue or a class: there are fewer than 255 of each, so 255 means every greater number too
 abbrev pub capped : ℕ → ℕ
 capped n = if nat_lt n 255 then n else 255
 
--- a band
+-- the number of a band
 abbrev pub band_of : ℕ → Option ℕ
 band_of n = if nat_lt n 256 then Some n else None
 
--- a type, by its number, which is its place among all types
+-- the type with this number, which is its place among all types
 abbrev pub type_of : ℕ → Option MsgType
 type_of n = slice_get all_types n
 
--- what a flush takes
+-- which messages a flush frees: 0 means all, 1 those that carry data
 abbrev pub flush_of : ℕ → Option Flush
 flush_of n = if n == 0 then Some All else (if n == 1 then Some Data else None)
 
--- ---- what C is told
+-- ---- what C gets
 
 abbrev pub flag : Bool → ℕ
 flag false = 0
 flag true = 1
 
--- the number of a type
+-- the number of a type in strm.h
 abbrev pub number_of_type : MsgType → ℕ
 number_of_type MData = 0
 number_of_type MProto = 1
@@ -96,6 +96,6 @@ class_in_c c = record { size = c.size; free = c.free; total = c.total }
 abbrev pub no_name : Name
 no_name = record { pool = 0; head = 0; stamp = 0 }
 
--- two names, of which the second may be that of no message
+-- two names; the second is that of no message if there is only one
 abbrev pub both : Name × Option Name → Answer (Name × Name)
 both names = Ok (names.0, unwrap_or names.1 no_name)

@@ -1,4 +1,4 @@
--- What opening and closing a handle does.
+-- What opening and closing a handle does, and which code it returns.
 use Rattle.std.specs.Prelude.{◌≡◌, ℕ, ℤ, pos, Bool, not, ◌&&◌, ◌==◌, nat_le, List, length, map, Option, None, Some, Result, Ok, Err, if◌then◌else◌}
 use Rattle.std.specs.Global.{Box}
 use Rattle.strm_data.specs.declared.class_spec.ClassSpec.{ClassSpec}
@@ -22,18 +22,18 @@ use Rattle.strm_c.specs.InC.{capped}
 abbrev pub class_spec_of : StrmClassSpec → ClassSpec
 class_spec_of c = record { size = c.size; count = c.count }
 
--- 2 ^ 32 - 1 stands for no queue
+-- the number of a next queue; 2^32 - 1 means none
 abbrev pub next_of : ℕ → Option ℕ
 next_of n = if n == 4294967295 then None else Some (capped n)
 
 abbrev pub queue_spec_of : StrmQueueSpec → QueueSpec
 queue_spec_of q = record { hiwat = q.hiwat; lowat = q.lowat; service = not (q.service == 0); next = next_of q.next }
 
--- whether there are not more classes and queues than a pool can have
+-- there are no more classes and queues than a pool can have
 abbrev pub are_few : List StrmClassSpec → List StrmQueueSpec → Bool
 are_few classes queues = nat_le (length classes) most_classes && nat_le (length queues) most_queues
 
--- the configuration, if they are
+-- the configuration, if there are no more classes and queues than that
 abbrev pub config_of : ℕ → ℕ → List StrmClassSpec → List StrmQueueSpec → ℕ → ℕ → Option Config
 config_of id mblks classes queues bufcalls first_id =
     if are_few classes queues then Some (record {
@@ -47,22 +47,23 @@ config_of id mblks classes queues bufcalls first_id =
 
 -- ---- opening
 
--- a lawful one opens a pool that has no names yet, or there is not enough memory
+-- A lawful configuration opens a pool in which no name is valid, or memory is refused.
 abbrev pub OpensLawful : Config → Held → ℤ → Type 0
 OpensLawful c None number = number ≡ number_of NoMemory
 OpensLawful c (Some v) number = (v ≡ opening_named c) × (HasNoNames v × (number ≡ pos 0))
 
--- one with a fault is told, before any want of memory, and the handle stays closed
+-- If the configuration has a fault, its code is returned before any memory is taken, and the handle stays closed.
 abbrev pub OpensBy : Option Which → Config → Held → ℤ → Type 0
 OpensBy None c new number = OpensLawful c new number
 OpensBy (Some which) c new number = (new ≡ None) × (number ≡ number_of (BadConfig which))
 
--- so of the box that a handle is to hold, or why there is none
+-- the same for the box of the pool, before the handle gets it
 abbrev pub OpensBoxed : Config → Result (Box NamedValue) Code → Type 0
 OpensBoxed c (Ok named) = OpensBy (fault_of c) c (Some named.value) (pos 0)
 OpensBoxed c (Err code) = OpensBy (fault_of c) c None (number_of code)
 
--- an open handle stays as it is; one that is not is opened by a configuration, if there is one
+-- An open handle stays unchanged, with the code `IsOpen`. Another is opened by the configuration; without one the code is
+-- `BadArgument`.
 abbrev pub OpensHandle : Option Config → Held → Held → ℤ → Type 0
 OpensHandle config (Some v) new number = (new ≡ Some v) × (number ≡ number_of IsOpen)
 OpensHandle None None new number = (new ≡ None) × (number ≡ number_of BadArgument)
@@ -70,7 +71,7 @@ OpensHandle (Some c) None new number = OpensBy (fault_of c) c new number
 
 -- ---- closing
 
--- what is told of a handle that is closed
+-- what closing a handle answers
 abbrev pub closed : Held → Answer (Unit {0})
 closed None = Err NotOpen
 closed (Some v) = Ok tt

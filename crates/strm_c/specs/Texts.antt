@@ -1,4 +1,4 @@
--- The names and the texts of codes in strm.h.
+-- The names and the texts of the codes in strm.h, and the version.
 use Rattle.std.specs.Prelude.{ℕ, ℤ, pos, ◌++◌, drop, length, List, [], ◌∷◌, take, find, Option, codes, if◌then◌else◌}
 use Rattle.std.specs.Option.{option_map_or}
 use Rattle.std.specs.Ordering.{int_eq}
@@ -16,7 +16,7 @@ all_codes = (Refused TooLarge) ∷ (Refused NoMblk) ∷ (Refused NoData) ∷ (Re
 abbrev pub no_text : List ℕ
 no_text = codes "no such code"
 
--- refusals that no call of strm.h is told have no name
+-- The name of a code. Refusals that no call of strm.h returns have an empty one.
 abbrev pub name_of : Code → List ℕ
 name_of (Refused TooLarge) = codes "STRM_TOO_LARGE"
 name_of (Refused NoMblk) = codes "STRM_NO_MBLK"
@@ -91,25 +91,25 @@ text_of (Refused Worn) = no_text
 text_of (Refused DeskMissing) = no_text
 text_of (Refused BadShared) = no_text
 
--- the first of some codes that has a number, if one has
+-- the first of these codes that has this number, if any
 abbrev pub first_at : List Code → ℤ → Option Code
 first_at cs n = find (λ c. int_eq (number_of c) n) cs
 
--- the code of a number, if it is one
+-- the code with this number, if any
 unfoldable pub code_at : ℤ → Option Code
 code_at n = first_at all_codes n
 
--- the name of a number, which is empty where that is no code
+-- the name of the code with this number, or an empty text if there is none
 abbrev pub name_at : ℤ → List ℕ
 name_at n = if int_eq n (pos 0) then codes "STRM_OK" else option_map_or name_of (code_at n) []
 
--- its text
+-- the text of the code with this number
 abbrev pub text_at : ℤ → List ℕ
 text_at n = if int_eq n (pos 0) then codes "done" else option_map_or text_of (code_at n) no_text
 
 abbrev pub version : List ℕ
 version = codes "0.1.0"
 
--- a buffer once a text was copied into it, as much as fits
+-- a buffer after as much of a text as fits was copied into it
 abbrev pub copied_into : List ℕ → List ℕ → List ℕ
 copied_into text into = take (length into) text ++ drop (length text) into

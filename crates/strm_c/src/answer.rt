@@ -1,4 +1,4 @@
-//! Answers of the named pool, as calls of C give them.
+//! From answers of the named pool to what calls of C return and store.
 ghost use Rattle.std.specs.Prelude.{◌≡◌, Ok};
 ghost use Rattle.strm_c.specs.Codes.{any, returned, told, told_of_refused, written};
 ghost use Rattle.strm_c.specs.InC.{both};
@@ -14,7 +14,8 @@ const NO_NAME: Name = Name {
     stamp: 0,
 };
 
-// Takes the pool out of a handle, for the rest of a function that returns a code; one that is not open is answered.
+// Takes the pool out of a handle, for the rest of a function that returns a code. If the handle is not open, the function
+// returns `NotOpen`.
 macro_rules! opened {
     ($alloc:expr, $pool:expr) => {{
         let Some(named) = $pool.take($alloc) else {
@@ -26,7 +27,8 @@ macro_rules! opened {
 
 pub(crate) use opened;
 
-// What a number stands for, in a function that has taken the pool out of its handle; one that stands for nothing is answered.
+// What a number from C means, in a function that has taken the pool out of its handle. If it means nothing, the function
+// returns `BadArgument`.
 macro_rules! ranged {
     ($meaning:expr, $pool:expr, $named:expr) => {{
         let Some(meaning) = $meaning else {
@@ -39,14 +41,14 @@ macro_rules! ranged {
 
 pub(crate) use ranged;
 
-// An answer, with a code for a fault.
+// An answer with a code for its fault.
 pub(crate) fn coded<T>(answer: Result<T, Fault>) -> Result<T, Code>
     ensures { result ≡ told Ok answer }
 {
     answer.map_err(Code::of)
 }
 
-// So of one that may give nothing.
+// An answer that may be none, which is the code `Nothing`.
 pub(crate) fn coded_any<T>(answer: Result<Option<T>, Fault>) -> Result<T, Code>
     ensures { result ≡ told any answer }
 {
@@ -56,7 +58,7 @@ pub(crate) fn coded_any<T>(answer: Result<Option<T>, Fault>) -> Result<T, Code>
     }
 }
 
-// So of one that gives a message, and maybe another, for which the name of none stands.
+// An answer of one message, and perhaps a second; if not, the second name is that of no message.
 pub(crate) fn coded_both(answer: Result<(Name, Option<Name>), Fault>) -> Result<(Name, Name), Code>
     ensures { result ≡ told both answer }
 {
@@ -66,21 +68,21 @@ pub(crate) fn coded_both(answer: Result<(Name, Option<Name>), Fault>) -> Result<
     }
 }
 
-// So of one that only the pool refuses.
+// An answer to a call without names, with a code for its refusal.
 pub(crate) fn coded_refusal<T>(answer: Result<T, Refusal>) -> Result<T, Code>
     ensures { result ≡ told_of_refused Ok answer }
 {
     answer.map_err(Code::Refused)
 }
 
-// What there is, if there is something.
+// The value, if any; otherwise the code `Nothing`.
 pub(crate) fn present<T>(given: Option<T>) -> Result<T, Code>
     ensures { result ≡ any given }
 {
     given.ok_or(Code::Nothing)
 }
 
-// Puts what is given where a pointer of C leads, and returns 0; or leaves what stands there, and returns the code.
+// Stores the answer's value through a pointer of C and returns 0; or returns the code and stores nothing.
 pub(crate) fn put<T: Copy>(answer: Result<T, Code>, into: &mut T) -> i32
     ensures number { result ≡ returned answer }
     ensures into { into.new ≡ written into.old answer }
@@ -94,7 +96,7 @@ pub(crate) fn put<T: Copy>(answer: Result<T, Code>, into: &mut T) -> i32
     }
 }
 
-// What a call returns that gives nothing: 0, or the code.
+// What a call returns that stores nothing: 0, or the code.
 pub(crate) fn number(answer: Result<(), Code>) -> i32
     ensures { result ≡ returned answer }
 {

@@ -1,4 +1,4 @@
-//! The calls on bytes and fields of a message.
+//! Calls on the bytes and fields of a message's blocks.
 ghost use Rattle.std.specs.Prelude.{◌≡◌, ◌-◌, [], Ok, length, min};
 ghost use Rattle.strm_mblk.specs.Arena.{message_at};
 ghost use Rattle.strm_mblk.specs.Block.{data_size_of, size_of};
@@ -19,7 +19,7 @@ use crate::numbers::{band_of, type_of};
 use std::alloc::Global;
 use strm_named::Name;
 
-/// `NamedPool::write`.
+/// Puts bytes at the write place of a block. As [`NamedPool::write`] of strm_named.
 #[unsafe(no_mangle)]
 pub extern "C" fn strm_c_write(
     alloc: Global,
@@ -28,7 +28,8 @@ pub extern "C" fn strm_c_write(
     place: u32,
     bytes: &[u8],
 ) -> i32
-    ensures { Does plain Ok (λ v. on_name v msg (on_arena v.pool (blocks.write msg.head place bytes.now v.pool.arena))) [] pool.old.named pool.new.named result tt tt }
+    ensures { Does plain Ok (λ v. on_name v msg (on_arena v.pool (blocks.write msg.head place bytes.now v.pool.arena)))
+        [] pool.old.named pool.new.named result tt tt }
 {
     let mut named = opened!(alloc, pool);
     let answer = named.write(msg, place, bytes);
@@ -36,7 +37,7 @@ pub extern "C" fn strm_c_write(
     number(coded(answer))
 }
 
-/// `NamedPool::read`: the number of bytes goes to `count`.
+/// Copies bytes of a message into a buffer, and stores their number in `count`. As [`NamedPool::read`] of strm_named.
 #[unsafe(no_mangle)]
 pub extern "C" fn strm_c_read(
     alloc: Global,
@@ -46,7 +47,9 @@ pub extern "C" fn strm_c_read(
     into: &mut [u8],
     count: &mut usize,
 ) -> i32
-    ensures count { Asks (λ v. told Ok (if_valid v msg (min (length into.old) (size_of (message_at v.pool.arena msg.head) - at)))) pool.old.named pool.new.named result count.old count.new }
+    ensures count { Asks (λ v. told Ok (if_valid v msg
+        (min (length into.old) (size_of (message_at v.pool.arena msg.head) - at))))
+        pool.old.named pool.new.named result count.old count.new }
     ensures bytes { into.new ≡ bytes_read pool.old.named msg at into.old }
 {
     let named = opened!(alloc, pool);
@@ -55,7 +58,7 @@ pub extern "C" fn strm_c_read(
     put(coded(answer), count)
 }
 
-/// `NamedPool::settype`. A number that is that of no type is a `BadArgument`.
+/// Gives the data block of a block a type. As [`NamedPool::settype`] of strm_named. A number of no type is a `BadArgument`.
 #[unsafe(no_mangle)]
 pub extern "C" fn strm_c_settype(
     alloc: Global,
@@ -64,7 +67,9 @@ pub extern "C" fn strm_c_settype(
     place: u32,
     kind: u32,
 ) -> i32
-    ensures { Ranged (type_of kind) (λ t. Does plain Ok (λ v. on_name v msg (on_arena v.pool (blocks.settype msg.head place t v.pool.arena))) []) pool.old.named pool.new.named result tt tt }
+    ensures { Ranged (type_of kind) (λ t. Does plain Ok
+        (λ v. on_name v msg (on_arena v.pool (blocks.settype msg.head place t v.pool.arena))) [])
+        pool.old.named pool.new.named result tt tt }
 {
     let mut named = opened!(alloc, pool);
     let kind = ranged!(type_of(kind), pool, named);
@@ -73,10 +78,12 @@ pub extern "C" fn strm_c_settype(
     number(coded(answer))
 }
 
-/// `NamedPool::setband`. A band above 255 is a `BadArgument`.
+/// Gives a message's first block a band. As [`NamedPool::setband`] of strm_named. A band above 255 is a `BadArgument`.
 #[unsafe(no_mangle)]
 pub extern "C" fn strm_c_setband(alloc: Global, pool: &mut StrmPool, msg: Name, band: u32) -> i32
-    ensures { Ranged (band_of band) (λ b. Does plain Ok (λ v. on_name v msg (done (with_arena v.pool (blocks.setband msg.head b v.pool.arena)))) []) pool.old.named pool.new.named result tt tt }
+    ensures { Ranged (band_of band) (λ b. Does plain Ok
+        (λ v. on_name v msg (done (with_arena v.pool (blocks.setband msg.head b v.pool.arena)))) [])
+        pool.old.named pool.new.named result tt tt }
 {
     let mut named = opened!(alloc, pool);
     let band = ranged!(band_of(band), pool, named);
@@ -85,10 +92,11 @@ pub extern "C" fn strm_c_setband(alloc: Global, pool: &mut StrmPool, msg: Name, 
     number(coded(answer))
 }
 
-/// `NamedPool::size`: the number of bytes goes to `bytes`.
+/// Stores the number of a message's bytes in `bytes`. As [`NamedPool::size`] of strm_named.
 #[unsafe(no_mangle)]
 pub extern "C" fn strm_c_size(alloc: Global, pool: &mut StrmPool, msg: Name, bytes: &mut u32) -> i32
-    ensures { Asks (λ v. told Ok (if_valid v msg (size_of (message_at v.pool.arena msg.head)))) pool.old.named pool.new.named result bytes.old bytes.new }
+    ensures { Asks (λ v. told Ok (if_valid v msg (size_of (message_at v.pool.arena msg.head))))
+        pool.old.named pool.new.named result bytes.old bytes.new }
 {
     let named = opened!(alloc, pool);
     let answer = named.size(msg);
@@ -96,7 +104,7 @@ pub extern "C" fn strm_c_size(alloc: Global, pool: &mut StrmPool, msg: Name, byt
     put(coded(answer), bytes)
 }
 
-/// `NamedPool::msgdsize`: the number of bytes goes to `bytes`.
+/// Stores the number of a message's bytes in M_DATA blocks in `bytes`. As [`NamedPool::msgdsize`] of strm_named.
 #[unsafe(no_mangle)]
 pub extern "C" fn strm_c_msgdsize(
     alloc: Global,
@@ -104,7 +112,8 @@ pub extern "C" fn strm_c_msgdsize(
     msg: Name,
     bytes: &mut u32,
 ) -> i32
-    ensures { Asks (λ v. told Ok (if_valid v msg (data_size_of v.pool.arena.store (message_at v.pool.arena msg.head)))) pool.old.named pool.new.named result bytes.old bytes.new }
+    ensures { Asks (λ v. told Ok (if_valid v msg (data_size_of v.pool.arena.store (message_at v.pool.arena msg.head))))
+        pool.old.named pool.new.named result bytes.old bytes.new }
 {
     let named = opened!(alloc, pool);
     let answer = named.msgdsize(msg);
@@ -112,7 +121,7 @@ pub extern "C" fn strm_c_msgdsize(
     put(coded(answer), bytes)
 }
 
-/// `NamedPool::block`: what there is to tell goes to `block`.
+/// Stores what a block is like in `block`. As [`NamedPool::block`] of strm_named.
 #[unsafe(no_mangle)]
 pub extern "C" fn strm_c_block(
     alloc: Global,
@@ -121,7 +130,9 @@ pub extern "C" fn strm_c_block(
     place: u32,
     block: &mut StrmBlockInfo,
 ) -> i32
-    ensures { Asks (λ v. told (λ b. Ok (block_in_c b)) (answer_told plain v (on_name v msg (on_arena v.pool (blocks.block msg.head place v.pool.arena))))) pool.old.named pool.new.named result block.old block.new }
+    ensures { Asks (λ v. told (λ b. Ok (block_in_c b))
+        (answer_told plain v (on_name v msg (on_arena v.pool (blocks.block msg.head place v.pool.arena)))))
+        pool.old.named pool.new.named result block.old block.new }
 {
     let named = opened!(alloc, pool);
     let answer = named.block(msg, place);
@@ -129,7 +140,7 @@ pub extern "C" fn strm_c_block(
     put(coded(answer).map(StrmBlockInfo::of), block)
 }
 
-/// `NamedPool::has`: 1 or 0 goes to `yes`.
+/// Stores 1 in `yes` if a name is valid, otherwise 0. As [`NamedPool::has`] of strm_named.
 #[unsafe(no_mangle)]
 pub extern "C" fn strm_c_has(alloc: Global, pool: &mut StrmPool, msg: Name, yes: &mut u32) -> i32
     ensures { Asks (λ v. Ok (flag (is_valid v msg))) pool.old.named pool.new.named result yes.old yes.new }

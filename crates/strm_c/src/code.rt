@@ -1,36 +1,36 @@
-//! What a call returns where it does not give what it is asked for.
+//! The codes that calls of C return, by their numbers in strm.h.
 ghost use Rattle.std.specs.Prelude.{◌≡◌};
 
 use strm_named::Fault;
 use strm_pool::{Refusal, Which};
 
-/// What a call returns where it does not give what it is asked for. Nothing changes then, but where `Nothing` is returned by a call
-/// that was done: `freeb` has freed the one block of a message, and `getq` has set the want-to-read mark of an empty queue. Each has a
-/// number in strm.h; 0 is done.
+/// Why a call stored no result. Nothing changed, except if `Nothing` is returned by a call that was done: `freeb` freed the
+/// only block of a message, or `getq` set the want-to-read mark of an empty queue. Each code has a number in strm.h, where 0
+/// means done.
 #[derive(Clone, Copy, Debug, PartialEq, Eq)]
 pub enum Code {
-    /// The pool refused the call. Its number is the refusal's.
+    /// The pool refused the call. The code's number is that of the refusal.
     Refused(Refusal),
-    /// The call was done, and there is nothing to give.
+    /// The call was done, and there was nothing to return.
     Nothing,
-    /// A name is not valid.
+    /// A name is not valid, or both names of `linkb` are of one message.
     Invalid,
     /// The handle is not open.
     NotOpen,
-    /// A number is out of its range, or there are more classes or queues than a pool can have.
+    /// A number is out of range, or there are more classes or queues than a pool can have.
     BadArgument,
     /// The handle is open already.
     IsOpen,
-    /// There is not enough memory.
+    /// Memory was refused.
     NoMemory,
-    /// The configuration is not lawful: its first fault.
+    /// The configuration is not lawful; this is its first fault.
     BadConfig(Which),
 }
 
 impl Code {
     ghost use Rattle.strm_c.specs.Codes.{code_of, number_of};
 
-    /// The number in strm.h.
+    /// Returns the code's number in strm.h.
     pub fn number(self) -> i32
         ensures { result ≡ number_of self }
     {
@@ -54,7 +54,7 @@ impl Code {
         }
     }
 
-    // That of a fault of the named pool.
+    // The code of a fault of the named pool.
     pub(crate) fn of(fault: Fault) -> Code
         ensures { result ≡ code_of fault }
     {

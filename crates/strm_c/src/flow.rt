@@ -1,4 +1,4 @@
-//! The calls on flow control and service.
+//! Calls on flow control and on the run list.
 ghost use Rattle.std.specs.Prelude.{Ok};
 ghost use Rattle.strm_mblk.specs.Given.{answer_of};
 ghost use Rattle.strm_queue.specs.QueueCalls as queues;
@@ -14,7 +14,8 @@ use crate::layout::StrmMarks;
 use crate::numbers::{band_of, capped};
 use std::alloc::Global;
 
-/// `NamedPool::bcanput`: 1 or 0 goes to `yes`. A band above 255 is a `BadArgument`.
+/// Stores 1 in `yes` if a band has room at the target of a queue, otherwise 0. As [`NamedPool::bcanput`] of strm_named. A band
+/// above 255 is a `BadArgument`.
 #[unsafe(no_mangle)]
 pub extern "C" fn strm_c_bcanput(
     alloc: Global,
@@ -23,7 +24,9 @@ pub extern "C" fn strm_c_bcanput(
     band: u32,
     yes: &mut u32,
 ) -> i32
-    ensures { Ranged (band_of band) (λ b. DoesOnPool (λ y. Ok (flag y)) (λ p. on_queues p (queues.bcanput (capped queue) b (queued p)))) pool.old.named pool.new.named result yes.old yes.new }
+    ensures { Ranged (band_of band) (λ b. DoesOnPool (λ y. Ok (flag y))
+        (λ p. on_queues p (queues.bcanput (capped queue) b (queued p))))
+        pool.old.named pool.new.named result yes.old yes.new }
 {
     let mut named = opened!(alloc, pool);
     let band = ranged!(band_of(band), pool, named);
@@ -32,7 +35,7 @@ pub extern "C" fn strm_c_bcanput(
     put(coded_refusal(answer).map(u32::from), yes)
 }
 
-/// `NamedPool::strqset`. A band above 255 is a `BadArgument`.
+/// Sets both water marks of a band. As [`NamedPool::strqset`] of strm_named. A band above 255 is a `BadArgument`.
 #[unsafe(no_mangle)]
 pub extern "C" fn strm_c_strqset(
     alloc: Global,
@@ -42,7 +45,9 @@ pub extern "C" fn strm_c_strqset(
     hiwat: u32,
     lowat: u32,
 ) -> i32
-    ensures { Ranged (band_of band) (λ b. DoesOnPool Ok (λ p. on_queues p (queues.strqset (capped queue) b hiwat lowat (queued p)))) pool.old.named pool.new.named result tt tt }
+    ensures { Ranged (band_of band) (λ b. DoesOnPool Ok
+        (λ p. on_queues p (queues.strqset (capped queue) b hiwat lowat (queued p))))
+        pool.old.named pool.new.named result tt tt }
 {
     let mut named = opened!(alloc, pool);
     let band = ranged!(band_of(band), pool, named);
@@ -51,7 +56,7 @@ pub extern "C" fn strm_c_strqset(
     number(coded_refusal(answer))
 }
 
-/// `NamedPool::strqget`: the marks go to `marks`. A band above 255 is a `BadArgument`.
+/// Stores the water marks of a band in `marks`. As [`Pool::strqget`] of strm_pool. A band above 255 is a `BadArgument`.
 #[unsafe(no_mangle)]
 pub extern "C" fn strm_c_strqget(
     alloc: Global,
@@ -60,19 +65,23 @@ pub extern "C" fn strm_c_strqget(
     band: u32,
     marks: &mut StrmMarks,
 ) -> i32
-    ensures { Ranged (band_of band) (λ b. Asks (λ v. told_of_refused (λ m. Ok (marks_in_c m)) (answer_of (queues.strqget (capped queue) b (queued v.pool))))) pool.old.named pool.new.named result marks.old marks.new }
+    ensures { Ranged (band_of band) (λ b. Asks
+        (λ v. told_of_refused (λ m. Ok (marks_in_c m)) (answer_of (queues.strqget (capped queue) b (queued v.pool)))))
+        pool.old.named pool.new.named result marks.old marks.new }
 {
     let named = opened!(alloc, pool);
     let band = ranged!(band_of(band), pool, named);
-    let answer = named.strqget(capped(queue), band);
+    let answer = named.pool().strqget(capped(queue), band);
     pool.hold(named);
     put(coded_refusal(answer).map(StrmMarks::of), marks)
 }
 
-/// `NamedPool::qenable`.
+/// Puts a queue at the end of the run list, unless it is on the list or has no service procedure. As [`NamedPool::qenable`] of
+/// strm_named.
 #[unsafe(no_mangle)]
 pub extern "C" fn strm_c_qenable(alloc: Global, pool: &mut StrmPool, queue: u32) -> i32
-    ensures { DoesOnPool Ok (λ p. on_queues p (queues.qenable (capped queue) (queued p))) pool.old.named pool.new.named result tt tt }
+    ensures { DoesOnPool Ok (λ p. on_queues p (queues.qenable (capped queue) (queued p)))
+        pool.old.named pool.new.named result tt tt }
 {
     let mut named = opened!(alloc, pool);
     let answer = named.qenable(capped(queue));
@@ -80,10 +89,11 @@ pub extern "C" fn strm_c_qenable(alloc: Global, pool: &mut StrmPool, queue: u32)
     number(coded_refusal(answer))
 }
 
-/// `NamedPool::noenable`.
+/// Switches enabling of a queue off. As [`NamedPool::noenable`] of strm_named.
 #[unsafe(no_mangle)]
 pub extern "C" fn strm_c_noenable(alloc: Global, pool: &mut StrmPool, queue: u32) -> i32
-    ensures { DoesOnPool Ok (λ p. on_queues p (queues.noenable (capped queue) (queued p))) pool.old.named pool.new.named result tt tt }
+    ensures { DoesOnPool Ok (λ p. on_queues p (queues.noenable (capped queue) (queued p)))
+        pool.old.named pool.new.named result tt tt }
 {
     let mut named = opened!(alloc, pool);
     let answer = named.noenable(capped(queue));
@@ -91,10 +101,11 @@ pub extern "C" fn strm_c_noenable(alloc: Global, pool: &mut StrmPool, queue: u32
     number(coded_refusal(answer))
 }
 
-/// `NamedPool::enableok`.
+/// Switches enabling of a queue on again. As [`NamedPool::enableok`] of strm_named.
 #[unsafe(no_mangle)]
 pub extern "C" fn strm_c_enableok(alloc: Global, pool: &mut StrmPool, queue: u32) -> i32
-    ensures { DoesOnPool Ok (λ p. on_queues p (queues.enableok (capped queue) (queued p))) pool.old.named pool.new.named result tt tt }
+    ensures { DoesOnPool Ok (λ p. on_queues p (queues.enableok (capped queue) (queued p)))
+        pool.old.named pool.new.named result tt tt }
 {
     let mut named = opened!(alloc, pool);
     let answer = named.enableok(capped(queue));
@@ -102,10 +113,12 @@ pub extern "C" fn strm_c_enableok(alloc: Global, pool: &mut StrmPool, queue: u32
     number(coded_refusal(answer))
 }
 
-/// `NamedPool::next_service`: the number of the queue goes to `queue`; `Nothing` where no queue is on the run list.
+/// Takes the first queue off the run list, and stores its number in `queue`. As [`NamedPool::next_service`] of strm_named.
+/// Returns `Nothing` if the list is empty.
 #[unsafe(no_mangle)]
 pub extern "C" fn strm_c_next_service(alloc: Global, pool: &mut StrmPool, queue: &mut u32) -> i32
-    ensures { Takes any (λ p. ((queues.next_service (queued p)).0, with_queued p (queues.next_service (queued p)).1)) pool.old.named pool.new.named result queue.old queue.new }
+    ensures { Takes any (λ p. ((queues.next_service (queued p)).0, with_queued p (queues.next_service (queued p)).1))
+        pool.old.named pool.new.named result queue.old queue.new }
 {
     let mut named = opened!(alloc, pool);
     let answer = named.next_service();
@@ -113,7 +126,8 @@ pub extern "C" fn strm_c_next_service(alloc: Global, pool: &mut StrmPool, queue:
     put(present(answer).map(u32::from), queue)
 }
 
-/// `NamedPool::run_at`: the number of the queue goes to `queue`; `Nothing` where the run list is not so long.
+/// Stores the number of the queue at a place of the run list in `queue`. As [`Pool::run_at`] of strm_pool. Returns
+/// `Nothing` if the list is shorter.
 #[unsafe(no_mangle)]
 pub extern "C" fn strm_c_run_at(
     alloc: Global,
@@ -121,10 +135,11 @@ pub extern "C" fn strm_c_run_at(
     place: u32,
     queue: &mut u32,
 ) -> i32
-    ensures { Asks (λ v. any (queues.run_at place (queued v.pool))) pool.old.named pool.new.named result queue.old queue.new }
+    ensures { Asks (λ v. any (queues.run_at place (queued v.pool)))
+        pool.old.named pool.new.named result queue.old queue.new }
 {
     let named = opened!(alloc, pool);
-    let answer = named.run_at(place);
+    let answer = named.pool().run_at(place);
     pool.hold(named);
     put(present(answer).map(u32::from), queue)
 }

@@ -1,4 +1,4 @@
-//! The handle of a pool, in the memory of a program in C.
+//! The handle of a pool, which is a variable of a program in C.
 ghost use Rattle.std.specs.Prelude.{◌≡◌, None, Option, Some, IsSome, is_some, option_map};
 ghost use Rattle.strm_named.specs.declared.named_pool.NamedPool.{NamedPool};
 ghost use Rattle.strm_c.specs.Holding.{coded, is_open, owned};
@@ -9,11 +9,11 @@ use std::marker::Model;
 use std::mem::replace;
 use strm_named::NamedPool;
 
-// The state of a handle that is open: the letters STRM.
+// The state of an open handle: the letters STRM.
 const OPEN: usize = 0x5354_524D;
 
-/// The handle of a pool, in the memory of a program in C, which may move it, and not copy it. It holds the pool's box where its
-/// state is that of an open one; all zeros, or any other state, are a handle that is not open. Dropped, it forgets the box.
+/// The handle of a pool, in the memory of a program in C. The program may move it, but not copy it. An open handle owns the box
+/// of its pool; zeros, or any other state, mean that it is not open. A handle that is dropped forgets the box.
 #[repr(C)]
 #[derive(Drop)]
 pub struct StrmPool {
@@ -27,7 +27,7 @@ impl Model for StrmPool {
 }
 
 impl StrmPool {
-    // One that is not open.
+    // A handle that is not open.
     fn closed() -> StrmPool
         ensures { result.named ≡ None }
     {
@@ -37,7 +37,7 @@ impl StrmPool {
         }
     }
 
-    // One that holds the box of these parts.
+    // An open handle, which owns the box of these parts.
     fn of(parts: Parts<NamedPool, Global>) -> StrmPool
         ensures { result.named ≡ Some parts.value }
     {
@@ -48,7 +48,7 @@ impl StrmPool {
         }
     }
 
-    // Its state, and itself.
+    // The handle's state, and the handle.
     fn with_state(self) -> (usize, StrmPool)
         ensures { (is_open result.0 ≡ is_some self.named) × (result.1 ≡ self) }
     {
@@ -56,7 +56,7 @@ impl StrmPool {
         (state, StrmPool { at, state })
     }
 
-    // The parts of the box that it holds.
+    // The parts of the box that the handle owns.
     fn into_parts(self, alloc: Global) -> Parts<NamedPool, Global>
         requires { IsSome self.named }
         ensures { Some result.value ≡ self.named }
@@ -68,7 +68,7 @@ impl StrmPool {
         }
     }
 
-    // The box that it holds, if it is open.
+    // The box that the handle owns, if it is open.
     fn into_box(self, alloc: Global) -> Option<Box<NamedPool>>
         ensures { option_map (λ b. b.value) result ≡ self.named }
     {
@@ -80,7 +80,7 @@ impl StrmPool {
         }
     }
 
-    /// Takes the pool out, if the handle is open, and closes it.
+    /// Takes the pool out and closes the handle, if it is open.
     pub fn take(&mut self, alloc: Global) -> Option<Box<NamedPool>>
         ensures taken { option_map (λ b. b.value) result ≡ self.old.named }
         ensures closed { self.new.named ≡ None }
@@ -88,7 +88,7 @@ impl StrmPool {
         replace(self, StrmPool::closed()).into_box(alloc)
     }
 
-    /// Holds a pool, and is open. One that it held before is forgotten, with its memory.
+    /// Makes the handle open, with this pool. A pool that it had before is forgotten, and its memory is lost.
     pub fn hold(&mut self, named: Box<NamedPool>)
         ensures { self.new.named ≡ Some named.value }
     {

@@ -1,4 +1,4 @@
-//! The calls that join messages, part them, and trim them.
+//! Calls that join messages, part them, trim them and pull them up.
 ghost use Rattle.std.specs.Prelude.{[], ◌∷◌, Ok};
 ghost use Rattle.strm_mblk.specs.BlockCalls as blocks;
 ghost use Rattle.strm_mblk.specs.Trimming as trimming;
@@ -15,10 +15,12 @@ use crate::handle::StrmPool;
 use std::alloc::Global;
 use strm_named::Name;
 
-/// `NamedPool::linkb`.
+/// Appends a message to another. As [`NamedPool::linkb`] of strm_named.
 #[unsafe(no_mangle)]
 pub extern "C" fn strm_c_linkb(alloc: Global, pool: &mut StrmPool, msg: Name, tail: Name) -> i32
-    ensures { Does plain Ok (λ v. on_names v msg tail (done (with_arena v.pool (blocks.linkb msg.head tail.head v.pool.arena)))) (tail.head ∷ []) pool.old.named pool.new.named result tt tt }
+    ensures { Does plain Ok (λ v. on_names v msg tail
+        (done (with_arena v.pool (blocks.linkb msg.head tail.head v.pool.arena)))) (tail.head ∷ [])
+        pool.old.named pool.new.named result tt tt }
 {
     let mut named = opened!(alloc, pool);
     let answer = named.linkb(msg, tail);
@@ -26,7 +28,8 @@ pub extern "C" fn strm_c_linkb(alloc: Global, pool: &mut StrmPool, msg: Name, ta
     number(coded(answer))
 }
 
-/// `NamedPool::unlinkb`: the name of the blocks behind the first goes to `rest`; `Nothing` where there are none.
+/// Makes the blocks after the first a message, and stores its name in `rest`. As [`NamedPool::unlinkb`] of strm_named. Returns
+/// `Nothing` if there are no such blocks.
 #[unsafe(no_mangle)]
 pub extern "C" fn strm_c_unlinkb(
     alloc: Global,
@@ -34,7 +37,8 @@ pub extern "C" fn strm_c_unlinkb(
     msg: Name,
     rest: &mut Name,
 ) -> i32
-    ensures { Does any_message any (λ v. on_name v msg (on_arena v.pool (Ok (blocks.unlinkb msg.head v.pool.arena)))) [] pool.old.named pool.new.named result rest.old rest.new }
+    ensures { Does any_message any (λ v. on_name v msg (on_arena v.pool (Ok (blocks.unlinkb msg.head v.pool.arena)))) []
+        pool.old.named pool.new.named result rest.old rest.new }
 {
     let mut named = opened!(alloc, pool);
     let answer = named.unlinkb(msg);
@@ -42,8 +46,8 @@ pub extern "C" fn strm_c_unlinkb(
     put(coded_any(answer), rest)
 }
 
-/// `NamedPool::rmvb`: the name of the block goes to `block`, and that of the others to `rest`, which is that of no message where
-/// there are none.
+/// Makes a block a message. Stores its name in `block`, and that of the other blocks in `rest`, which is the name of no message
+/// if there are none. As [`NamedPool::rmvb`] of strm_named.
 #[unsafe(no_mangle)]
 pub extern "C" fn strm_c_rmvb(
     alloc: Global,
@@ -53,7 +57,8 @@ pub extern "C" fn strm_c_rmvb(
     block: &mut Name,
     rest: &mut Name,
 ) -> i32
-    ensures { Does two_messages both (λ v. on_name v msg (on_arena v.pool (blocks.rmvb msg.head place v.pool.arena))) (msg.head ∷ []) pool.old.named pool.new.named result (block.old, rest.old) (block.new, rest.new) }
+    ensures { Does two_messages both (λ v. on_name v msg (on_arena v.pool (blocks.rmvb msg.head place v.pool.arena)))
+        (msg.head ∷ []) pool.old.named pool.new.named result (block.old, rest.old) (block.new, rest.new) }
 {
     let mut named = opened!(alloc, pool);
     let answer = named.rmvb(msg, place);
@@ -65,10 +70,11 @@ pub extern "C" fn strm_c_rmvb(
     number
 }
 
-/// `NamedPool::adjmsg`.
+/// Removes bytes at the head or the tail of a message. As [`NamedPool::adjmsg`] of strm_named.
 #[unsafe(no_mangle)]
 pub extern "C" fn strm_c_adjmsg(alloc: Global, pool: &mut StrmPool, msg: Name, count: i32) -> i32
-    ensures { Does plain Ok (λ v. on_name v msg (on_arena v.pool (trimming.adjmsg msg.head count v.pool.arena))) [] pool.old.named pool.new.named result tt tt }
+    ensures { Does plain Ok (λ v. on_name v msg (on_arena v.pool (trimming.adjmsg msg.head count v.pool.arena))) []
+        pool.old.named pool.new.named result tt tt }
 {
     let mut named = opened!(alloc, pool);
     let answer = named.adjmsg(msg, count);
@@ -76,10 +82,11 @@ pub extern "C" fn strm_c_adjmsg(alloc: Global, pool: &mut StrmPool, msg: Name, c
     number(coded(answer))
 }
 
-/// `NamedPool::pullupmsg`.
+/// Brings bytes of a message into its first block. As [`NamedPool::pullupmsg`] of strm_named.
 #[unsafe(no_mangle)]
 pub extern "C" fn strm_c_pullupmsg(alloc: Global, pool: &mut StrmPool, msg: Name, count: i32) -> i32
-    ensures { Does plain Ok (λ v. on_name v msg (on_arena v.pool (trimming.pullupmsg msg.head count v.pool.arena))) [] pool.old.named pool.new.named result tt tt }
+    ensures { Does plain Ok (λ v. on_name v msg (on_arena v.pool (trimming.pullupmsg msg.head count v.pool.arena))) []
+        pool.old.named pool.new.named result tt tt }
 {
     let mut named = opened!(alloc, pool);
     let answer = named.pullupmsg(msg, count);

@@ -1,4 +1,4 @@
-//! The structs of strm.h.
+//! The structs of strm.h, field by field, and how values of the pool are stored in them.
 ghost use Rattle.std.specs.Prelude.{◌≡◌};
 ghost use Rattle.strm_c.specs.InC.{band_in_c, block_in_c, census_in_c, class_in_c, marks_in_c, queue_in_c, wish_in_c};
 
@@ -10,7 +10,7 @@ use strm_pool::{BandInfo, BlockInfo, Census, ClassInfo, Marks, QueueInfo};
 pub struct StrmClassSpec {
     /// The capacity of each data block, in bytes.
     pub size: u32,
-    /// How many data blocks there are.
+    /// The number of data blocks.
     pub count: u32,
 }
 
@@ -22,53 +22,53 @@ pub struct StrmQueueSpec {
     pub hiwat: u32,
     /// The low water mark that each band has at first, in bytes.
     pub lowat: u32,
-    /// Whether it has a service procedure: 0 for none.
+    /// Whether the queue has a service procedure: 0 means no.
     pub service: u32,
-    /// The next queue, or 2^32 - 1 where there is none.
+    /// The number of the next queue, or 2^32 - 1 for none.
     pub next: u32,
 }
 
-/// What there is to tell of a block of a message.
+/// What a block of a message is like.
 #[repr(C)]
 #[derive(Clone, Copy, Debug)]
 pub struct StrmBlockInfo {
-    /// The type of its data block, by its number.
+    /// The type of its data block, as its number in strm.h.
     pub kind: u32,
-    /// How many bytes stand between its read place and its write place.
+    /// The number of bytes between its read place and its write place.
     pub length: u32,
-    /// Its band, 0 to 255.
+    /// The block's band, 0 to 255.
     pub band: u32,
-    /// How many bytes its data block has room for behind the write place.
+    /// The number of bytes for which its data block has room after the write place.
     pub room: u32,
-    /// How many message blocks name its data block.
+    /// The number of references to its data block.
     pub names: u32,
 }
 
-/// What there is to tell of a queue.
+/// The number of messages and bytes on a queue, and its marks.
 #[repr(C)]
 #[derive(Clone, Copy, Debug)]
 pub struct StrmQueueInfo {
-    /// How many messages stand on it.
+    /// The number of messages on the queue.
     pub msgs: u32,
-    /// How many bytes they have.
+    /// The number of their bytes.
     pub bytes: u32,
-    /// 1 where somebody wants to read from it.
+    /// 1 if the want-to-read mark is set.
     pub read: u32,
-    /// 1 where enabling is switched off.
+    /// 1 if enabling is switched off.
     pub noenable: u32,
-    /// 1 where it is on the run list.
+    /// 1 if the queue is on the run list.
     pub enabled: u32,
 }
 
-/// What there is to tell of a band of a queue.
+/// The bytes and the marks of a band of a queue.
 #[repr(C)]
 #[derive(Clone, Copy, Debug)]
 pub struct StrmBandInfo {
-    /// How many bytes its messages have. Those of high priority count with band 0.
+    /// The number of bytes of its messages. High priority messages count with band 0.
     pub bytes: u32,
-    /// 1 where it has at least as many bytes as its high water mark.
+    /// 1 if the band has at least as many bytes as its high water mark.
     pub full: u32,
-    /// 1 where somebody found it full, and it has had more bytes than its low water mark since.
+    /// 1 if `bcanput` found the band full, and it has had more bytes than its low water mark since.
     pub wanted: u32,
 }
 
@@ -86,38 +86,38 @@ pub struct StrmMarks {
 #[repr(C)]
 #[derive(Clone, Copy, Debug)]
 pub struct StrmWish {
-    /// Its id.
+    /// The wish's id.
     pub id: u32,
-    /// How many bytes its data block has to have.
+    /// The number of bytes that its data block must have.
     pub size: u32,
 }
 
-/// Where the message blocks are.
+/// The numbers of free, queued and held message blocks.
 #[repr(C)]
 #[derive(Clone, Copy, Debug)]
 pub struct StrmCensus {
-    /// Those that are free.
+    /// The number of free blocks.
     pub free: u32,
-    /// Those in messages on queues.
+    /// The number of blocks in messages on queues.
     pub queued: u32,
-    /// Those in messages that are held.
+    /// The number of blocks in held messages.
     pub held: u32,
 }
 
-/// What is free of a size class.
+/// The size of a class, and its free and total data blocks.
 #[repr(C)]
 #[derive(Clone, Copy, Debug)]
 pub struct StrmClassInfo {
     /// The capacity of each data block, in bytes.
     pub size: u32,
-    /// How many data blocks are free.
+    /// The number of free data blocks.
     pub free: u32,
-    /// How many data blocks there are.
+    /// The number of data blocks.
     pub total: u32,
 }
 
 impl StrmBlockInfo {
-    // This, in C.
+    // A block's fields as the struct of C.
     pub(crate) fn of(block: BlockInfo) -> StrmBlockInfo
         ensures { result ≡ block_in_c block }
     {
@@ -132,7 +132,7 @@ impl StrmBlockInfo {
 }
 
 impl StrmQueueInfo {
-    // This, in C.
+    // A queue's counts and marks as the struct of C.
     pub(crate) fn of(queue: QueueInfo) -> StrmQueueInfo
         ensures { result ≡ queue_in_c queue }
     {
@@ -147,7 +147,7 @@ impl StrmQueueInfo {
 }
 
 impl StrmBandInfo {
-    // This, in C.
+    // A band's bytes and marks as the struct of C.
     pub(crate) fn of(band: BandInfo) -> StrmBandInfo
         ensures { result ≡ band_in_c band }
     {
@@ -160,7 +160,7 @@ impl StrmBandInfo {
 }
 
 impl StrmMarks {
-    // These, in C.
+    // Water marks as the struct of C.
     pub(crate) fn of(marks: Marks) -> StrmMarks
         ensures { result ≡ marks_in_c marks }
     {
@@ -172,7 +172,7 @@ impl StrmMarks {
 }
 
 impl StrmWish {
-    // A wish of this id and size, in C.
+    // A wish's id and size as the struct of C.
     pub(crate) fn of(wish: (u32, u32)) -> StrmWish
         ensures { result ≡ wish_in_c wish }
     {
@@ -182,7 +182,7 @@ impl StrmWish {
 }
 
 impl StrmCensus {
-    // This, in C.
+    // A census as the struct of C.
     pub(crate) fn of(census: Census) -> StrmCensus
         ensures { result ≡ census_in_c census }
     {
@@ -195,7 +195,7 @@ impl StrmCensus {
 }
 
 impl StrmClassInfo {
-    // This, in C.
+    // A class's counts as the struct of C.
     pub(crate) fn of(class: ClassInfo) -> StrmClassInfo
         ensures { result ≡ class_in_c class }
     {

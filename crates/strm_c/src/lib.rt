@@ -1,7 +1,9 @@
-//! The calls of a pool whose messages are known by names, for programs in C.
+//! The exports behind strm.h: calls of a named pool for programs in C.
 //!
-//! Each export is the call of strm.h with its name less the `c_`, and says what the call of the named pool says. strm.c stands
-//! before them, and tells null pointers. A handle that is not open is answered as `NotOpen`, and nothing changes then.
+//! An export is named as its call of strm.h, with `c_` after `strm_`. strm.c calls it, after it has checked the pointers. An
+//! export with a handle, except `strm_c_open`, returns `NotOpen` if the handle is not open, and nothing changes then.
+//! Otherwise, unless it returns `BadArgument`, it does what the call of the named pool or of its `Pool` does that its comment
+//! links.
 #![tactic(auto)]
 
 mod answer;

@@ -1,4 +1,4 @@
-//! The calls that make messages, and free them.
+//! Calls that make messages and store their names, and calls that free messages.
 ghost use Rattle.std.specs.Prelude.{[], ◌∷◌, Ok};
 ghost use Rattle.strm_mblk.specs.BlockCalls as blocks;
 ghost use Rattle.strm_mblk.specs.Freeing as freeing;
@@ -15,7 +15,7 @@ use crate::handle::StrmPool;
 use std::alloc::Global;
 use strm_named::Name;
 
-/// `NamedPool::allocb`: the name of the new message goes to `msg`.
+/// Makes a message for a size, and stores its name in `msg`. As [`NamedPool::allocb`] of strm_named.
 #[unsafe(no_mangle)]
 pub extern "C" fn strm_c_allocb(
     alloc: Global,
@@ -23,7 +23,8 @@ pub extern "C" fn strm_c_allocb(
     size: u32,
     msg: &mut Name,
 ) -> i32
-    ensures { Does one_message Ok (λ v. outcome_of (on_arena v.pool (blocks.allocb size v.pool.arena))) [] pool.old.named pool.new.named result msg.old msg.new }
+    ensures { Does one_message Ok (λ v. outcome_of (on_arena v.pool (blocks.allocb size v.pool.arena))) []
+        pool.old.named pool.new.named result msg.old msg.new }
 {
     let mut named = opened!(alloc, pool);
     let answer = named.allocb(size);
@@ -31,21 +32,23 @@ pub extern "C" fn strm_c_allocb(
     put(coded(answer), msg)
 }
 
-/// `NamedPool::testb`: 1 or 0 goes to `yes`.
+/// Stores 1 in `yes` if `allocb` would succeed now, otherwise 0. As [`Pool::testb`] of strm_pool.
 #[unsafe(no_mangle)]
 pub extern "C" fn strm_c_testb(alloc: Global, pool: &mut StrmPool, size: u32, yes: &mut u32) -> i32
-    ensures { Asks (λ v. Ok (flag (blocks.testb size v.pool.arena))) pool.old.named pool.new.named result yes.old yes.new }
+    ensures { Asks (λ v. Ok (flag (blocks.testb size v.pool.arena)))
+        pool.old.named pool.new.named result yes.old yes.new }
 {
     let named = opened!(alloc, pool);
-    let answer = named.testb(size);
+    let answer = named.pool().testb(size);
     pool.hold(named);
     put(Ok(u32::from(answer)), yes)
 }
 
-/// `NamedPool::dupb`: the name of the duplicate goes to `copy`.
+/// Duplicates a message's first block, and stores the duplicate's name in `copy`. As [`NamedPool::dupb`] of strm_named.
 #[unsafe(no_mangle)]
 pub extern "C" fn strm_c_dupb(alloc: Global, pool: &mut StrmPool, msg: Name, copy: &mut Name) -> i32
-    ensures { Does one_message Ok (λ v. on_name v msg (on_arena v.pool (blocks.dupb msg.head v.pool.arena))) [] pool.old.named pool.new.named result copy.old copy.new }
+    ensures { Does one_message Ok (λ v. on_name v msg (on_arena v.pool (blocks.dupb msg.head v.pool.arena))) []
+        pool.old.named pool.new.named result copy.old copy.new }
 {
     let mut named = opened!(alloc, pool);
     let answer = named.dupb(msg);
@@ -53,7 +56,7 @@ pub extern "C" fn strm_c_dupb(alloc: Global, pool: &mut StrmPool, msg: Name, cop
     put(coded(answer), copy)
 }
 
-/// `NamedPool::dupmsg`: the name of the duplicate goes to `copy`.
+/// Duplicates a message, and stores the duplicate's name in `copy`. As [`NamedPool::dupmsg`] of strm_named.
 #[unsafe(no_mangle)]
 pub extern "C" fn strm_c_dupmsg(
     alloc: Global,
@@ -61,7 +64,8 @@ pub extern "C" fn strm_c_dupmsg(
     msg: Name,
     copy: &mut Name,
 ) -> i32
-    ensures { Does one_message Ok (λ v. on_name v msg (on_arena v.pool (blocks.dupmsg msg.head v.pool.arena))) [] pool.old.named pool.new.named result copy.old copy.new }
+    ensures { Does one_message Ok (λ v. on_name v msg (on_arena v.pool (blocks.dupmsg msg.head v.pool.arena))) []
+        pool.old.named pool.new.named result copy.old copy.new }
 {
     let mut named = opened!(alloc, pool);
     let answer = named.dupmsg(msg);
@@ -69,7 +73,7 @@ pub extern "C" fn strm_c_dupmsg(
     put(coded(answer), copy)
 }
 
-/// `NamedPool::copyb`: the name of the copy goes to `copy`.
+/// Copies a message's first block, and stores the copy's name in `copy`. As [`NamedPool::copyb`] of strm_named.
 #[unsafe(no_mangle)]
 pub extern "C" fn strm_c_copyb(
     alloc: Global,
@@ -77,7 +81,8 @@ pub extern "C" fn strm_c_copyb(
     msg: Name,
     copy: &mut Name,
 ) -> i32
-    ensures { Does one_message Ok (λ v. on_name v msg (on_arena v.pool (blocks.copyb msg.head v.pool.arena))) [] pool.old.named pool.new.named result copy.old copy.new }
+    ensures { Does one_message Ok (λ v. on_name v msg (on_arena v.pool (blocks.copyb msg.head v.pool.arena))) []
+        pool.old.named pool.new.named result copy.old copy.new }
 {
     let mut named = opened!(alloc, pool);
     let answer = named.copyb(msg);
@@ -85,7 +90,7 @@ pub extern "C" fn strm_c_copyb(
     put(coded(answer), copy)
 }
 
-/// `NamedPool::copymsg`: the name of the copy goes to `copy`.
+/// Copies a message, and stores the copy's name in `copy`. As [`NamedPool::copymsg`] of strm_named.
 #[unsafe(no_mangle)]
 pub extern "C" fn strm_c_copymsg(
     alloc: Global,
@@ -93,7 +98,8 @@ pub extern "C" fn strm_c_copymsg(
     msg: Name,
     copy: &mut Name,
 ) -> i32
-    ensures { Does one_message Ok (λ v. on_name v msg (on_arena v.pool (blocks.copymsg msg.head v.pool.arena))) [] pool.old.named pool.new.named result copy.old copy.new }
+    ensures { Does one_message Ok (λ v. on_name v msg (on_arena v.pool (blocks.copymsg msg.head v.pool.arena))) []
+        pool.old.named pool.new.named result copy.old copy.new }
 {
     let mut named = opened!(alloc, pool);
     let answer = named.copymsg(msg);
@@ -101,7 +107,8 @@ pub extern "C" fn strm_c_copymsg(
     put(coded(answer), copy)
 }
 
-/// `NamedPool::freeb`: the name of the blocks behind the first goes to `rest`; `Nothing` where there are none.
+/// Frees the first block of a message, and stores the name of the others in `rest`. As [`NamedPool::freeb`] of strm_named.
+/// Returns `Nothing` if there are no others.
 #[unsafe(no_mangle)]
 pub extern "C" fn strm_c_freeb(
     alloc: Global,
@@ -109,7 +116,8 @@ pub extern "C" fn strm_c_freeb(
     msg: Name,
     rest: &mut Name,
 ) -> i32
-    ensures { Does any_message any (λ v. on_name v msg (on_arena v.pool (Ok (blocks.freeb msg.head v.pool.arena)))) (msg.head ∷ []) pool.old.named pool.new.named result rest.old rest.new }
+    ensures { Does any_message any (λ v. on_name v msg (on_arena v.pool (Ok (blocks.freeb msg.head v.pool.arena))))
+        (msg.head ∷ []) pool.old.named pool.new.named result rest.old rest.new }
 {
     let mut named = opened!(alloc, pool);
     let answer = named.freeb(msg);
@@ -117,10 +125,11 @@ pub extern "C" fn strm_c_freeb(
     put(coded_any(answer), rest)
 }
 
-/// `NamedPool::freemsg`.
+/// Frees a message. As [`NamedPool::freemsg`] of strm_named.
 #[unsafe(no_mangle)]
 pub extern "C" fn strm_c_freemsg(alloc: Global, pool: &mut StrmPool, msg: Name) -> i32
-    ensures { Does plain Ok (λ v. on_name v msg (done (with_arena v.pool (freeing.freemsg msg.head v.pool.arena)))) (msg.head ∷ []) pool.old.named pool.new.named result tt tt }
+    ensures { Does plain Ok (λ v. on_name v msg (done (with_arena v.pool (freeing.freemsg msg.head v.pool.arena))))
+        (msg.head ∷ []) pool.old.named pool.new.named result tt tt }
 {
     let mut named = opened!(alloc, pool);
     let answer = named.freemsg(msg);

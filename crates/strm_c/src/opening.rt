@@ -1,4 +1,4 @@
-//! The calls that open a pool, and close it.
+//! Calls that open a pool in a handle, and close it.
 ghost use Rattle.std.specs.Prelude.{◌≡◌, ◌≤◌, None, length, map};
 ghost use Rattle.strm_data.specs.Limits.{most_classes};
 ghost use Rattle.strm_queue.specs.Limits.{most_queues};
@@ -16,7 +16,7 @@ use strm_data::MOST_CLASSES;
 use strm_named::NamedPool;
 use strm_pool::{ClassSpec, ClassSpecs, Config, MOST_QUEUES, NewFault, QueueSpec, QueueSpecs};
 
-// The size classes, of which there are not more than a pool can have.
+// The size classes, which are no more than a pool can have.
 fn classes_of(classes: &[StrmClassSpec]) -> ClassSpecs
     requires { length classes.now ≤ most_classes }
     ensures { result ≡ map class_spec_of classes.now }
@@ -31,7 +31,7 @@ fn classes_of(classes: &[StrmClassSpec]) -> ClassSpecs
     ClassSpecs::of(array)
 }
 
-// The queues, of which there are not more than a pool can have.
+// The queues, which are no more than a pool can have.
 fn queues_of(queues: &[StrmQueueSpec]) -> QueueSpecs
     requires { length queues.now ≤ most_queues }
     ensures { result ≡ map queue_spec_of queues.now }
@@ -48,7 +48,7 @@ fn queues_of(queues: &[StrmQueueSpec]) -> QueueSpecs
     QueueSpecs::of(array)
 }
 
-// The configuration, unless there are more classes or queues than a pool can have.
+// The configuration, if there are no more classes and queues than a pool can have.
 fn config_of(
     id: u32,
     mblks: u32,
@@ -72,7 +72,7 @@ fn config_of(
     })
 }
 
-// The pool that a configuration opens, in a box.
+// The pool of a configuration, in a box.
 fn boxed(alloc: Global, config: Config) -> Result<Box<NamedPool>, Code>
     ensures { OpensBoxed config result }
 {
@@ -85,8 +85,9 @@ fn boxed(alloc: Global, config: Config) -> Result<Box<NamedPool>, Code>
     Box::new(alloc, named).map_err(|_| Code::NoMemory)
 }
 
-/// `NamedPool::new`, in a handle that is not open: `IsOpen` where it is, then `BadArgument` where there are more classes or queues
-/// than a pool can have, then the first fault of the configuration, then `NoMemory`. The handle stays as it was then.
+/// Opens the pool of a configuration in a handle. As [`NamedPool::new`] of strm_named. Returns `IsOpen` if the handle is open,
+/// then `BadArgument` if there are more classes or queues than a pool can have, then `BadConfig` with the first fault, then
+/// `NoMemory`. The handle is unchanged then.
 #[unsafe(no_mangle)]
 pub extern "C" fn strm_c_open(
     alloc: Global,
@@ -98,7 +99,8 @@ pub extern "C" fn strm_c_open(
     bufcalls: u32,
     first_id: u32,
 ) -> i32
-    ensures { OpensHandle (config_of id mblks classes.now queues.now bufcalls first_id) pool.old.named pool.new.named result }
+    ensures { OpensHandle (config_of id mblks classes.now queues.now bufcalls first_id)
+        pool.old.named pool.new.named result }
 {
     if let Some(named) = pool.take(alloc) {
         pool.hold(named);
@@ -116,7 +118,7 @@ pub extern "C" fn strm_c_open(
     }
 }
 
-/// Closes a handle, with all that its pool has, and gives the memory back.
+/// Closes a handle, and frees its pool with all messages. Returns `NotOpen` if it is not open.
 #[unsafe(no_mangle)]
 pub extern "C" fn strm_c_close(alloc: Global, pool: &mut StrmPool) -> i32
     ensures held { pool.new.named ≡ None }

@@ -1,4 +1,4 @@
-//! The calls on the messages of queues.
+//! Calls that put messages on queues, take them off, count them and flush them.
 ghost use Rattle.std.specs.Prelude.{[], ◌∷◌, Ok};
 ghost use Rattle.strm_mblk.specs.Given.{answer_of};
 ghost use Rattle.strm_queue.specs.QueueCalls as queues;
@@ -15,10 +15,12 @@ use crate::numbers::{band_of, capped, flush_of};
 use std::alloc::Global;
 use strm_named::Name;
 
-/// `NamedPool::putq`.
+/// Puts a message on a queue, after its equals. As [`NamedPool::putq`] of strm_named.
 #[unsafe(no_mangle)]
 pub extern "C" fn strm_c_putq(alloc: Global, pool: &mut StrmPool, queue: u32, msg: Name) -> i32
-    ensures { Does plain Ok (λ v. on_name v msg (on_queues v.pool (queues.putq (capped queue) msg.head (queued v.pool)))) (msg.head ∷ []) pool.old.named pool.new.named result tt tt }
+    ensures { Does plain Ok (λ v. on_name v msg
+        (on_queues v.pool (queues.putq (capped queue) msg.head (queued v.pool)))) (msg.head ∷ [])
+        pool.old.named pool.new.named result tt tt }
 {
     let mut named = opened!(alloc, pool);
     let answer = named.putq(capped(queue), msg);
@@ -26,10 +28,12 @@ pub extern "C" fn strm_c_putq(alloc: Global, pool: &mut StrmPool, queue: u32, ms
     number(coded(answer))
 }
 
-/// `NamedPool::putbq`.
+/// Puts a message on a queue, before its equals. As [`NamedPool::putbq`] of strm_named.
 #[unsafe(no_mangle)]
 pub extern "C" fn strm_c_putbq(alloc: Global, pool: &mut StrmPool, queue: u32, msg: Name) -> i32
-    ensures { Does plain Ok (λ v. on_name v msg (on_queues v.pool (queues.putbq (capped queue) msg.head (queued v.pool)))) (msg.head ∷ []) pool.old.named pool.new.named result tt tt }
+    ensures { Does plain Ok (λ v. on_name v msg
+        (on_queues v.pool (queues.putbq (capped queue) msg.head (queued v.pool)))) (msg.head ∷ [])
+        pool.old.named pool.new.named result tt tt }
 {
     let mut named = opened!(alloc, pool);
     let answer = named.putbq(capped(queue), msg);
@@ -37,7 +41,7 @@ pub extern "C" fn strm_c_putbq(alloc: Global, pool: &mut StrmPool, queue: u32, m
     number(coded(answer))
 }
 
-/// `NamedPool::insq`.
+/// Puts a message on a queue at a place. As [`NamedPool::insq`] of strm_named.
 #[unsafe(no_mangle)]
 pub extern "C" fn strm_c_insq(
     alloc: Global,
@@ -46,7 +50,9 @@ pub extern "C" fn strm_c_insq(
     place: u32,
     msg: Name,
 ) -> i32
-    ensures { Does plain Ok (λ v. on_name v msg (on_queues v.pool (queues.insq (capped queue) place msg.head (queued v.pool)))) (msg.head ∷ []) pool.old.named pool.new.named result tt tt }
+    ensures { Does plain Ok (λ v. on_name v msg
+        (on_queues v.pool (queues.insq (capped queue) place msg.head (queued v.pool)))) (msg.head ∷ [])
+        pool.old.named pool.new.named result tt tt }
 {
     let mut named = opened!(alloc, pool);
     let answer = named.insq(capped(queue), place, msg);
@@ -54,10 +60,12 @@ pub extern "C" fn strm_c_insq(
     number(coded(answer))
 }
 
-/// `NamedPool::getq`: the name of the message goes to `msg`; `Nothing` where the queue is empty.
+/// Takes the first message of a queue, and stores its name in `msg`. As [`NamedPool::getq`] of strm_named. Returns `Nothing` if
+/// the queue is empty.
 #[unsafe(no_mangle)]
 pub extern "C" fn strm_c_getq(alloc: Global, pool: &mut StrmPool, queue: u32, msg: &mut Name) -> i32
-    ensures { Does any_message any (λ v. outcome_of (on_queues v.pool (queues.getq (capped queue) (queued v.pool)))) [] pool.old.named pool.new.named result msg.old msg.new }
+    ensures { Does any_message any (λ v. outcome_of (on_queues v.pool (queues.getq (capped queue) (queued v.pool)))) []
+        pool.old.named pool.new.named result msg.old msg.new }
 {
     let mut named = opened!(alloc, pool);
     let answer = named.getq(capped(queue));
@@ -65,7 +73,7 @@ pub extern "C" fn strm_c_getq(alloc: Global, pool: &mut StrmPool, queue: u32, ms
     put(coded_any(answer), msg)
 }
 
-/// `NamedPool::rmvq`: the name of the message goes to `msg`.
+/// Takes the message at a place of a queue, and stores its name in `msg`. As [`NamedPool::rmvq`] of strm_named.
 #[unsafe(no_mangle)]
 pub extern "C" fn strm_c_rmvq(
     alloc: Global,
@@ -74,7 +82,9 @@ pub extern "C" fn strm_c_rmvq(
     place: u32,
     msg: &mut Name,
 ) -> i32
-    ensures { Does one_message Ok (λ v. outcome_of (on_queues v.pool (queues.rmvq (capped queue) place (queued v.pool)))) [] pool.old.named pool.new.named result msg.old msg.new }
+    ensures { Does one_message Ok (λ v. outcome_of
+        (on_queues v.pool (queues.rmvq (capped queue) place (queued v.pool)))) []
+        pool.old.named pool.new.named result msg.old msg.new }
 {
     let mut named = opened!(alloc, pool);
     let answer = named.rmvq(capped(queue), place);
@@ -82,7 +92,7 @@ pub extern "C" fn strm_c_rmvq(
     put(coded(answer), msg)
 }
 
-/// `NamedPool::qsize`: the number of messages goes to `msgs`.
+/// Stores the number of messages on a queue in `msgs`. As [`Pool::qsize`] of strm_pool.
 #[unsafe(no_mangle)]
 pub extern "C" fn strm_c_qsize(
     alloc: Global,
@@ -90,18 +100,21 @@ pub extern "C" fn strm_c_qsize(
     queue: u32,
     msgs: &mut u32,
 ) -> i32
-    ensures { Asks (λ v. told_of_refused Ok (answer_of (queues.qsize (capped queue) (queued v.pool)))) pool.old.named pool.new.named result msgs.old msgs.new }
+    ensures { Asks (λ v. told_of_refused Ok (answer_of (queues.qsize (capped queue) (queued v.pool))))
+        pool.old.named pool.new.named result msgs.old msgs.new }
 {
     let named = opened!(alloc, pool);
-    let answer = named.qsize(capped(queue));
+    let answer = named.pool().qsize(capped(queue));
     pool.hold(named);
     put(coded_refusal(answer), msgs)
 }
 
-/// `NamedPool::flushq`. A number that stands for no flush is a `BadArgument`.
+/// Frees messages of a queue. As [`NamedPool::flushq`] of strm_named. A number of no flush is a `BadArgument`.
 #[unsafe(no_mangle)]
 pub extern "C" fn strm_c_flushq(alloc: Global, pool: &mut StrmPool, queue: u32, flush: u32) -> i32
-    ensures { Ranged (flush_of flush) (λ f. DoesOnPool Ok (λ p. on_queues p (queues.flushq (capped queue) f (queued p)))) pool.old.named pool.new.named result tt tt }
+    ensures { Ranged (flush_of flush) (λ f. DoesOnPool Ok
+        (λ p. on_queues p (queues.flushq (capped queue) f (queued p))))
+        pool.old.named pool.new.named result tt tt }
 {
     let mut named = opened!(alloc, pool);
     let flush = ranged!(flush_of(flush), pool, named);
@@ -110,7 +123,8 @@ pub extern "C" fn strm_c_flushq(alloc: Global, pool: &mut StrmPool, queue: u32, 
     number(coded_refusal(answer))
 }
 
-/// `NamedPool::flushband`. A band above 255, or a number that stands for no flush, is a `BadArgument`.
+/// Frees messages of one band of a queue. As [`NamedPool::flushband`] of strm_named. A band above 255, or a number of no flush,
+/// is a `BadArgument`.
 #[unsafe(no_mangle)]
 pub extern "C" fn strm_c_flushband(
     alloc: Global,
@@ -119,7 +133,9 @@ pub extern "C" fn strm_c_flushband(
     band: u32,
     flush: u32,
 ) -> i32
-    ensures { Ranged (band_of band) (λ b. Ranged (flush_of flush) (λ f. DoesOnPool Ok (λ p. on_queues p (queues.flushband (capped queue) b f (queued p))))) pool.old.named pool.new.named result tt tt }
+    ensures { Ranged (band_of band) (λ b. Ranged (flush_of flush)
+        (λ f. DoesOnPool Ok (λ p. on_queues p (queues.flushband (capped queue) b f (queued p)))))
+        pool.old.named pool.new.named result tt tt }
 {
     let mut named = opened!(alloc, pool);
     let band = ranged!(band_of(band), pool, named);

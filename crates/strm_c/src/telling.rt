@@ -1,4 +1,4 @@
-//! The calls that tell of a pool.
+//! Calls that read counts and marks of a pool.
 ghost use Rattle.std.specs.Prelude.{Ok, option_map, slice_get};
 ghost use Rattle.strm_data.specs.DataStore.{class_infos};
 ghost use Rattle.strm_mblk.specs.Arena.{census_of};
@@ -16,18 +16,20 @@ use crate::layout::{StrmBandInfo, StrmCensus, StrmClassInfo, StrmQueueInfo};
 use crate::numbers::{band_of, capped};
 use std::alloc::Global;
 
-/// `NamedPool::census`: the counts go to `census`.
+/// Stores the numbers of free, queued and held message blocks in `census`. As [`Pool::census`] of strm_pool.
 #[unsafe(no_mangle)]
 pub extern "C" fn strm_c_census(alloc: Global, pool: &mut StrmPool, census: &mut StrmCensus) -> i32
-    ensures { Asks (λ v. Ok (census_in_c (census_of v.pool.arena))) pool.old.named pool.new.named result census.old census.new }
+    ensures { Asks (λ v. Ok (census_in_c (census_of v.pool.arena)))
+        pool.old.named pool.new.named result census.old census.new }
 {
     let named = opened!(alloc, pool);
-    let answer = named.census();
+    let answer = named.pool().census();
     pool.hold(named);
     put(Ok(StrmCensus::of(answer)), census)
 }
 
-/// `NamedPool::class_info`: what there is to tell goes to `info`; `Nothing` where there is no such class.
+/// Stores the counts of a size class in `info`. As [`Pool::class_info`] of strm_pool. Returns `Nothing` if there is no
+/// such class.
 #[unsafe(no_mangle)]
 pub extern "C" fn strm_c_class_info(
     alloc: Global,
@@ -35,15 +37,16 @@ pub extern "C" fn strm_c_class_info(
     place: u32,
     info: &mut StrmClassInfo,
 ) -> i32
-    ensures { Asks (λ v. any (option_map class_in_c (slice_get (class_infos v.pool.arena.store) (capped place)))) pool.old.named pool.new.named result info.old info.new }
+    ensures { Asks (λ v. any (option_map class_in_c (slice_get (class_infos v.pool.arena.store) (capped place))))
+        pool.old.named pool.new.named result info.old info.new }
 {
     let named = opened!(alloc, pool);
-    let answer = named.class_info(capped(place));
+    let answer = named.pool().class_info(capped(place));
     pool.hold(named);
     put(present(answer.map(StrmClassInfo::of)), info)
 }
 
-/// `NamedPool::queue_info`: what there is to tell goes to `info`.
+/// Stores the counts and marks of a queue in `info`. As [`Pool::queue_info`] of strm_pool.
 #[unsafe(no_mangle)]
 pub extern "C" fn strm_c_queue_info(
     alloc: Global,
@@ -51,15 +54,18 @@ pub extern "C" fn strm_c_queue_info(
     queue: u32,
     info: &mut StrmQueueInfo,
 ) -> i32
-    ensures { Asks (λ v. told_of_refused (λ i. Ok (queue_in_c i)) (answer_of (queues.queue_info (capped queue) (queued v.pool)))) pool.old.named pool.new.named result info.old info.new }
+    ensures { Asks (λ v. told_of_refused (λ i. Ok (queue_in_c i))
+        (answer_of (queues.queue_info (capped queue) (queued v.pool))))
+        pool.old.named pool.new.named result info.old info.new }
 {
     let named = opened!(alloc, pool);
-    let answer = named.queue_info(capped(queue));
+    let answer = named.pool().queue_info(capped(queue));
     pool.hold(named);
     put(coded_refusal(answer).map(StrmQueueInfo::of), info)
 }
 
-/// `NamedPool::band_info`: what there is to tell goes to `info`. A band above 255 is a `BadArgument`.
+/// Stores the bytes and marks of a band in `info`. As [`Pool::band_info`] of strm_pool. A band above 255 is a
+/// `BadArgument`.
 #[unsafe(no_mangle)]
 pub extern "C" fn strm_c_band_info(
     alloc: Global,
@@ -68,11 +74,13 @@ pub extern "C" fn strm_c_band_info(
     band: u32,
     info: &mut StrmBandInfo,
 ) -> i32
-    ensures { Ranged (band_of band) (λ b. Asks (λ v. told_of_refused (λ i. Ok (band_in_c i)) (answer_of (queues.band_info (capped queue) b (queued v.pool))))) pool.old.named pool.new.named result info.old info.new }
+    ensures { Ranged (band_of band) (λ b. Asks
+        (λ v. told_of_refused (λ i. Ok (band_in_c i)) (answer_of (queues.band_info (capped queue) b (queued v.pool)))))
+        pool.old.named pool.new.named result info.old info.new }
 {
     let named = opened!(alloc, pool);
     let band = ranged!(band_of(band), pool, named);
-    let answer = named.band_info(capped(queue), band);
+    let answer = named.pool().band_info(capped(queue), band);
     pool.hold(named);
     put(coded_refusal(answer).map(StrmBandInfo::of), info)
 }

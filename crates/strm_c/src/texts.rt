@@ -132,7 +132,7 @@ fn text_of(code: Code) -> &'static str
     }
 }
 
-// The first of some codes that has a number, if one has.
+// The first of these codes that has this number, if any.
 fn first_at(codes: &[Code], number: i32) -> Option<Code>
     ensures { result ≡ first_at codes.now number }
 {
@@ -144,7 +144,7 @@ fn first_at(codes: &[Code], number: i32) -> Option<Code>
     None
 }
 
-// The code of a number, if it is one.
+// The code with this number, if any.
 #[tactic(auto, unfolding(crate::specs::Texts::code_at))]
 fn code_at(number: i32) -> Option<Code>
     ensures { result ≡ code_at number }
@@ -152,7 +152,7 @@ fn code_at(number: i32) -> Option<Code>
     first_at(&CODES, number)
 }
 
-// The name of a number, which is empty where that is no code.
+// The name of the code with this number, or an empty text if there is none.
 fn name_at(number: i32) -> &'static str
     ensures { result.now ≡ name_at number }
 {
@@ -165,7 +165,7 @@ fn name_at(number: i32) -> &'static str
     }
 }
 
-// The text of a number.
+// The text of the code with this number.
 fn text_at(number: i32) -> &'static str
     ensures { result.now ≡ text_at number }
 {
@@ -178,7 +178,7 @@ fn text_at(number: i32) -> &'static str
     }
 }
 
-// Copies as much of a text as fits, and answers how long the whole is, in bytes.
+// Copies as much of a text as fits, and returns the length of the whole text in bytes.
 fn copy(text: &str, into: &mut [u8]) -> usize
     ensures length { result ≡ length text.now }
     ensures into { into.new ≡ copied_into text.now into.old }
@@ -189,7 +189,7 @@ fn copy(text: &str, into: &mut [u8]) -> usize
     bytes.len()
 }
 
-/// Copies as much of the text of a code as fits, without a 0, and answers how long the whole is, in bytes.
+/// Copies as much of a code's text as fits, without a 0 at the end, and returns the length of the whole text in bytes.
 #[unsafe(no_mangle)]
 pub extern "C" fn strm_c_text(code: i32, text: &mut [u8]) -> usize
     ensures length { result ≡ length (text_at code) }
@@ -198,7 +198,7 @@ pub extern "C" fn strm_c_text(code: i32, text: &mut [u8]) -> usize
     copy(text_at(code), text)
 }
 
-/// So with the name of a code, which is empty for a number that is none.
+/// Copies a code's name as `strm_c_text` copies its text. The name is empty if no code has this number.
 #[unsafe(no_mangle)]
 pub extern "C" fn strm_c_name(code: i32, text: &mut [u8]) -> usize
     ensures length { result ≡ length (name_at code) }
@@ -207,7 +207,7 @@ pub extern "C" fn strm_c_name(code: i32, text: &mut [u8]) -> usize
     copy(name_at(code), text)
 }
 
-/// So with the version of the library.
+/// Copies the library's version as `strm_c_text` copies a text.
 #[unsafe(no_mangle)]
 pub extern "C" fn strm_c_version(text: &mut [u8]) -> usize
     ensures length { result ≡ length version }

@@ -1,4 +1,3 @@
 mod Fitted
 mod Renamed
 mod Shaped
-mod Joined

@@ -1,4 +1,4 @@
--- When places and message blocks fit together. No public clause cites this module.
+-- When the tokens at places are those of the arena's held messages. No public clause cites this module.
 use Rattle.std.specs.Prelude.{◌≡◌, ℕ, true, length, option_map, Option}
 use Rattle.strm_mblk.specs.declared.token.TokenValue.{TokenValue}
 use Rattle.strm_mblk.specs.Arena.{Arena, has, held_at, token_of}
@@ -15,13 +15,13 @@ named p s = record { pool = p; stamps = s.stamps }
 abbrev pub token_at : Arena → ℕ → Option TokenValue
 token_at a h = option_map (λ m. token_of a h) (held_at a h)
 
--- there is a place for each message block, and the token of each held message is at that of its head
+-- There is a place for each message block, and the place of each held message's head has its token.
 pub record Fits (a : Arena) (p : PlacesValue) : Type 0 where
   pub slots : length p.slots ≡ length a.held
   pub stamps : length p.stamps ≡ length a.held
   pub tokens : (h : ℕ) → token_in p h ≡ token_at a h
 
--- the token of the message that a name stands for
+-- the token of the message that a name is for
 pub record IsTokenOf (n : Name) (a : Arena) (t : TokenValue) : Type 0 where
   pub had : has a t ≡ true
   pub head : t.head ≡ n.head

@@ -1,4 +1,4 @@
--- Calls of a pool, as those of one whose messages are known by names. No call is defined anew.
+-- Calls of a pool as calls on names. Each is defined by the pool's own call; names and stamps are added.
 use Rattle.std.specs.Prelude.{◌≡◌, ℕ, ◌&&◌, not, ◌==◌, List, [], ◌∷◌, option_map, Option, None, Some, Result, Ok, Err, IfOk, if◌then◌else◌}
 use Rattle.strm_data.specs.declared.refusal.Refusal.{Refusal}
 use Rattle.strm_mblk.specs.Given.{Given, answer_of, value_after}
@@ -10,43 +10,43 @@ use Rattle.strm_named.specs.NamedValue.{KeepsNames, NamedValue, Renames, is_vali
 
 -- ---- what comes of a call
 
--- an answer beside the pool that the call leaves, or why it was not done
+-- what a call gives: its answer and the pool after it, or why it was refused
 abbrev pub Outcome : Type 0 → Type 0
 Outcome X = Result (X × PoolValue) Fault
 
--- of a call of the pool
+-- what a call of the pool gives
 abbrev pub outcome_of : {X : Type 0} → Given PoolValue X → Outcome X
 outcome_of (Ok given) = Ok given
 outcome_of (Err why) = Err (Refused why)
 
--- of one on the message of a name, where that is valid
+-- what a call on a named message gives, if the name is valid
 abbrev pub on_name : {X : Type 0} → NamedValue → Name → Given PoolValue X → Outcome X
 on_name v n given = if is_valid v n then outcome_of given else Err Invalid
 
--- of one on the messages of two names, where both are valid, and two
+-- what a call on two named messages gives, if both names are valid and of different messages
 abbrev pub on_names : {X : Type 0} → NamedValue → Name → Name → Given PoolValue X → Outcome X
 on_names v n m given = if is_valid v n && (is_valid v m && not (n.head == m.head)) then outcome_of given else Err Invalid
 
--- what is asked of the message of a name, where that is valid
+-- what a question about a named message answers, if the name is valid
 abbrev pub if_valid : {X : Type 0} → NamedValue → Name → X → Result X Fault
 if_valid v n answer = if is_valid v n then Ok answer else Err Invalid
 
 -- ---- what a call gives
 
--- of an answer, the heads of the messages that are given, and the answer that is told, with their names
+-- How a call's answer is turned into names: the heads of the messages that it gives, and the answer with names for heads.
 pub record Shape (X Y : Type 0) : Type 0 where
   pub heads : X → List ℕ
   pub told : NamedValue → X → Y
 
--- no message
+-- the call gives no message
 abbrev pub plain : {X : Type 0} → Shape X X
 plain = record { heads = λ x. []; told = λ v x. x }
 
--- one
+-- the call gives one message
 abbrev pub one_message : Shape ℕ Name
 one_message = record { heads = λ h. h ∷ []; told = λ v h. name_of v h }
 
--- one, if there is one
+-- the call gives one message or none
 abbrev pub heads_in : Option ℕ → List ℕ
 heads_in None = []
 heads_in (Some h) = h ∷ []
@@ -54,28 +54,28 @@ heads_in (Some h) = h ∷ []
 abbrev pub any_message : Shape (Option ℕ) (Option Name)
 any_message = record { heads = heads_in; told = λ v o. option_map (name_of v) o }
 
--- one, and another one, if there is one
+-- the call gives one message, and perhaps a second
 abbrev pub two_messages : Shape (ℕ × Option ℕ) (Name × Option Name)
 two_messages = record { heads = λ hs. hs.0 ∷ heads_in hs.1; told = λ v hs. (name_of v hs.0, option_map (name_of v) hs.1) }
 
--- the named pool after a call; where it was not done, nothing changes
+-- The named pool after a call: each message that was given has a new stamp. A refused call changes nothing.
 abbrev pub named_after : {X Y : Type 0} → Shape X Y → NamedValue → Outcome X → NamedValue
 named_after s v (Ok given) = record { pool = given.1; stamps = stamps_given (s.heads given.0) v.stamps }
 named_after s v (Err fault) = v
 
--- the answer, where the named pool is so after it
+-- the call's answer with names, from the named pool after it
 abbrev pub answer_told : {X Y : Type 0} → Shape X Y → NamedValue → Outcome X → Result Y Fault
 answer_told s v (Ok given) = Ok (s.told v given.0)
 answer_told s v (Err fault) = Err fault
 
--- A call that spends the names with some heads, where it is done: the named pool after it, what is answered, and which names are
--- valid then.
+-- A call that spends the names of the messages with these heads: the named pool after it, its answer, and which names are valid
+-- then.
 pub record Does {X Y : Type 0} (s : Shape X Y) (outcome : Outcome X) (spent : List ℕ) (old new : NamedValue) (answer : Result Y Fault) : Type 0 where
   pub after : new ≡ named_after s old outcome
   pub told : answer ≡ answer_told s new outcome
   pub names : IfOk outcome (λ given. Renames spent (s.heads given.0) old new)
 
--- A call that leaves the names: the pool after it, as a call of the pool has it, and what it answers.
+-- A call that changes no name: the pool after it is that of the pool's own call, and so is its answer.
 pub record LeavesNames {X : Type 0} (call : Given PoolValue X) (old new : NamedValue) (result : Result X Refusal) : Type 0 where
   pub pool : new ≡ with_pool old (value_after old.pool call)
   pub answer : result ≡ answer_of call

@@ -1,4 +1,4 @@
--- How a named pool lies in memory. No public clause cites this module.
+-- How a named pool stores its pool and places. No public clause cites this module.
 use Rattle.strm_named.specs.declared.named_pool.NamedPool.TheInside.{Inside}
 use Rattle.strm_named.specs.Fitting.{Fits, named}
 use Rattle.strm_named.specs.NamedValue.{NamedValue}

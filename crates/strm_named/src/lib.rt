@@ -1,4 +1,4 @@
-//! A pool whose messages are known by names: plain values, of which no use is undefined.
+//! A pool whose messages have names: plain values that any program can copy and keep, and that no call trusts.
 #![tactic(auto)]
 
 mod fault;

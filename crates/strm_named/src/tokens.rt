@@ -1,4 +1,4 @@
-//! The tokens of names that are valid.
+//! From valid names to tokens, and from results of the pool to those of the named pool.
 ghost use Rattle.std.specs.Prelude.{◌≡◌, ◌≢◌, ◌&&◌, IsTrue, not, ◌==◌};
 ghost use Rattle.strm_named.specs.Fitting.{Fits, IsTokenOf, named};
 ghost use Rattle.strm_named.specs.NamedValue.{is_valid};
@@ -9,7 +9,7 @@ use crate::name::Name;
 use crate::places::Places;
 use strm_pool::{Pool, Refusal, Token};
 
-// The token of a name that is valid. The pool that it is of, with these places, is named for the contract alone.
+// Lends the token of a valid name. The pool is an argument for the contract only.
 pub(crate) fn lent<'a>(pool: &Pool, places: &'a Places, name: Name) -> &'a Token
     requires fits { Fits pool.now.arena places.now }
     requires valid { IsTrue (is_valid (named pool.now places.now) name) }
@@ -19,7 +19,7 @@ pub(crate) fn lent<'a>(pool: &Pool, places: &'a Places, name: Name) -> &'a Token
     places.token(name.head)
 }
 
-// Takes the token of a name that is valid out of its place.
+// Takes the token of a valid name out of its place.
 pub(crate) fn taken(pool: &Pool, places: &mut Places, name: Name) -> Token
     requires fits { Fits pool.now.arena places.old }
     requires valid { IsTrue (is_valid (named pool.now places.old) name) }
@@ -30,7 +30,7 @@ pub(crate) fn taken(pool: &Pool, places: &mut Places, name: Name) -> Token
     places.take(name.head)
 }
 
-// Takes the tokens of two names that are valid out of their places.
+// Takes the tokens of two valid names out of their places.
 pub(crate) fn taken_both(
     pool: &Pool,
     places: &mut Places,
@@ -38,7 +38,8 @@ pub(crate) fn taken_both(
     second: Name,
 ) -> (Token, Token)
     requires fits { Fits pool.now.arena places.old }
-    requires valid { IsTrue (is_valid (named pool.now places.old) first && (is_valid (named pool.now places.old) second && not (first.head == second.head))) }
+    requires valid { IsTrue (is_valid (named pool.now places.old) first
+        && (is_valid (named pool.now places.old) second && not (first.head == second.head))) }
     ensures first { IsTokenOf first pool.now.arena result.0 }
     ensures second { IsTokenOf second pool.now.arena result.1 }
     ensures apart { first.head ≢ second.head }
@@ -49,7 +50,7 @@ pub(crate) fn taken_both(
     (token, places.take(second.head))
 }
 
-// What the pool answered, as an answer of the named pool.
+// The pool's result as a result of the named pool.
 pub(crate) fn answered<T>(answer: Result<T, Refusal>) -> Result<T, Fault>
     ensures { result ≡ refusing answer }
 {

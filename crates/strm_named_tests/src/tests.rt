@@ -8,8 +8,7 @@ mod blocks;
 mod queues;
 mod spent;
 
-// What a pool of an id and so many message blocks is made with: eight data blocks of 16 bytes, and two queues, of which the first
-// feeds the second.
+// A configuration with this id and number of message blocks, eight data blocks of 16 bytes, and two queues: 1 is next of 0.
 fn config(id: u32, mblks: u32) -> Config {
     let mut classes = ArrayVec::new();
     classes.push(ClassSpec { size: 16, count: 8 });
@@ -26,7 +25,7 @@ fn config(id: u32, mblks: u32) -> Config {
     }
 }
 
-// A queue with a service procedure.
+// The spec of a queue with a service procedure.
 const fn queue(next: Option<u8>) -> QueueSpec {
     QueueSpec {
         hiwat: 10,
@@ -36,12 +35,12 @@ const fn queue(next: Option<u8>) -> QueueSpec {
     }
 }
 
-// A pool of this id with eight message blocks.
+// Opens a pool with this id and eight message blocks.
 fn opened(rt: &impl Abort, alloc: Global, id: u32) -> NamedPool {
     NamedPool::new(alloc, config(id, 8)).expect(rt, "a pool")
 }
 
-// The name of a message that is given: the pool's id is 1.
+// A name with pool id 1.
 const fn name(head: u32, stamp: u64) -> Name {
     Name {
         pool: 1,
@@ -50,25 +49,25 @@ const fn name(head: u32, stamp: u64) -> Name {
     }
 }
 
-// A message of these bytes.
+// Makes a message of these bytes.
 fn message(rt: &impl Abort, pool: &mut NamedPool, bytes: &[u8]) -> Name {
     let name = pool.allocb(16).expect(rt, "a message");
     assert_is(rt, pool.write(name, 0, bytes), Ok(()));
     name
 }
 
-// What was given is what was wanted.
+// The two values are equal.
 fn assert_is<T: PartialEq + Drop>(rt: &impl Abort, given: T, wanted: T) {
     assert!(rt; given == wanted);
 }
 
-// So many message blocks are free, in messages on queues and held.
+// The census is this: free, queued and held message blocks.
 fn assert_census(rt: &impl Abort, pool: &NamedPool, wanted: (u32, u32, u32)) {
-    let census = pool.census();
+    let census = pool.pool().census();
     assert_is(rt, (census.free, census.queued, census.held), wanted);
 }
 
-// So many bytes has the message of this name.
+// `size` returns this for the message.
 fn assert_size(rt: &impl Abort, pool: &NamedPool, name: Name, wanted: Result<u32, Fault>) {
     assert_is(rt, pool.size(name), wanted);
 }
@@ -95,6 +94,6 @@ fn tells_what_is_wrong_with_a_configuration(rt: HostRuntime) {
 #[test]
 fn refuses_as_the_pool_does(rt: HostRuntime) {
     let mut pool = opened(&rt, rt.alloc(), 1);
-    assert!(rt; pool.testb(16) && !pool.testb(17));
+    assert!(rt; pool.pool().testb(16) && !pool.pool().testb(17));
     assert_is(&rt, pool.allocb(17), Err(Fault::Refused(Refusal::TooLarge)));
 }

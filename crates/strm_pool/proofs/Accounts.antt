@@ -21,7 +21,7 @@ use Rattle.strm_pool.specs.Registers.{Entries, entry_of, entries_of, tells, time
 abbrev pub stands : Arena → ℕ → ℕ → ℕ
 stands a h n = if is_of_length n (held_at a h) then 1 else 0
 
--- from one arena to another, what is held and what registers tell of it change alike
+-- from one arena to another, held messages and the entries of registers change alike
 abbrev pub Balanced : Arena → Arena → Entries → Entries → Type 0
 Balanced a b es fs = (h n : ℕ) → stands b h n + count_by (tells h n) es ≡ stands a h n + count_by (tells h n) fs
 
@@ -81,7 +81,7 @@ module _ {X : Type 0} (p : X → Bool) where
 pub table-at : (rs : List (Option TokenValue)) (x : ℕ) → register (table_of rs) x ≡ option_map (λ t. t.head) (register rs x)
 table-at rs x = get_or-map (option_map (λ (t : TokenValue). t.head)) rs x None
 
--- what entries tell of a register
+-- the entry of a register
 pub entries-at : (rs : List (Option TokenValue)) (x : ℕ) → register (entries_of rs) x ≡ option_map entry_of (register rs x)
 entries-at rs x = get_or-map (option_map entry_of) rs x None
 
@@ -92,7 +92,7 @@ record Holds (rs : List (Option TokenValue)) (x h n : ℕ) : Type 0 where
   head : token.head ≡ h
   blocks : token.blocks ≡ n
 
--- an entry that tells of a message is that of a token
+-- the entry of a message is that of a token
 holds_told : (rs : List (Option TokenValue)) (x h n : ℕ) → tells h n (register (entries_of rs) x) ≡ true → Holds rs x h n
 holds_told rs x h n told = at (register rs x) refl (sym (ap (tells h n) (entries-at rs x)) ∙ told)
   where
@@ -102,7 +102,7 @@ holds_told rs x h n told = at (register rs x) refl (sym (ap (tells h n) (entries
         let both = and_parts _ _ telling in
         record { token = t; there = is; head = eqb-true t.head h both.0; blocks = eqb-true t.blocks n both.1 }
 
--- a head in the table is told of, with a number of blocks
+-- a head in the table has an entry, with a number of blocks
 told_head : (rs : List (Option TokenValue)) (x h : ℕ) → register (table_of rs) x ≡ Some h → (n : ℕ) × (tells h n (register (entries_of rs) x) ≡ true)
 told_head rs x h shown = at (register rs x) refl (sym (table-at rs x) ∙ shown)
   where
@@ -153,7 +153,7 @@ owns_from w (r ∷ rs) each = and_from _ _ (here r (λ t is. each 0 t is)) (owns
     here None each = refl
     here (Some t) each = each t refl
 
--- where each carries its id, and each register that holds one tells of a held message
+-- if each token carries the pool's id and each entry is of a held message, the pool owns the registers
 pub owned_told : (v : PoolValue) (rs : List (Option TokenValue)) → CarryId v.arena.id rs → TellOfHeld v.arena (entries_of rs) → owns v rs ≡ true
 owned_told v rs carry told = owns_from v rs (λ x t there. and_from _ _ (eq-eqb t.pool v.arena.id (carried x t there)) (held x t there))
   where
@@ -163,7 +163,7 @@ owned_told v rs carry told = owns_from v rs (λ x t there. and_from _ _ (eq-eqb 
     held : (x : ℕ) (t : TokenValue) → register rs x ≡ Some t → is_of_length t.blocks (held_at v.arena t.head) ≡ true
     held x t there = subst (λ (o : Option (ℕ × ℕ)). IfSome o (λ e. is_of_length e.1 (held_at v.arena e.0) ≡ true)) (entries-at rs x ∙ ap (option_map entry_of) there) (told x)
 
--- each entry of these registers tells of a held message, and no two of the same
+-- each entry of these registers is of a held message, and no two are of the same
 abbrev AreHeld : Arena → List (Option TokenValue) → Type 0
 AreHeld a rs = (h n : ℕ) → count_by (tells h n) (entries_of rs) ≤ stands a h n
 
@@ -218,7 +218,7 @@ accounted_balanced a b es fs balanced desks desk within is accounted h n =
       ap (count_by (tells h n)) is,
     )
 
--- where each held message stands in one register of one desk, each entry of a desk tells of one, and no two of the same
+-- if each held message is in one register of one desk, each entry of a desk is of a held message, and no two are of the same
 pub held_accounted : (a : Arena) (rs : List (Option TokenValue)) (desks : List Entries) (desk : ℕ) → desk < length desks → slice_index_or desks desk [] ≡ entries_of rs
     → AreAccounted a desks → AreHeld a rs
 held_accounted a rs desks desk within is accounted h n =
@@ -235,7 +235,7 @@ module _ (v : PoolValue) (rs : List (Option TokenValue)) (desks : List Entries) 
   pub accounted_distinct : AreDistinct (table_of rs)
   accounted_distinct = distinct_held v.arena rs (held_accounted v.arena rs desks desk within is accounted)
 
-  -- and each that holds a token tells of a held message
+  -- and each that holds a token has an entry of a held message
   told_held : TellOfHeld v.arena (entries_of rs)
   told_held x = each (register (entries_of rs) x) refl
     where
@@ -262,7 +262,7 @@ owned_carry v rs owned x = at (register rs x) refl
 
 -- ---- desks with empty registers
 
--- empty registers tell of nothing
+-- empty registers have no entries
 none_told : (h n desks : ℕ) → times_told h n (replicate desks (replicate most_registers None)) ≡ 0
 none_told h n zero = refl
 none_told h n (suc desks) =

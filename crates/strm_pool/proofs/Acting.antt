@@ -7,6 +7,7 @@ use Rattle.strm_mblk.specs.declared.token.TokenValue.{TokenValue}
 use Rattle.strm_mblk.specs.Arena.{has}
 use Rattle.strm_pool.specs.PoolValue.{PoolValue, owns}
 use Rattle.strm_pool.specs.Registers.{register}
+use Rattle.strm_pool.proofs.Tokens.{cleared}
 
 -- a pool owns registers that hold a token less
 pub owns_less : (v : PoolValue) (rs : List (Option TokenValue)) (x : ℕ) → owns v rs ≡ true → owns v (set rs x None) ≡ true
@@ -22,11 +23,6 @@ emptied [] x y = refl
 emptied (r ∷ rs) zero zero = refl
 emptied (r ∷ rs) zero (suc y) = refl
 emptied (r ∷ rs) (suc x) zero = cleared rs x
-  where
-    cleared : (us : List (Option TokenValue)) (k : ℕ) → register (set us k None) k ≡ None
-    cleared [] k = refl
-    cleared (u ∷ us) zero = refl
-    cleared (u ∷ us) (suc k) = cleared us k
 emptied (r ∷ rs) (suc x) (suc y) = emptied rs x y
 
 -- a token is put back into the register that it was taken from

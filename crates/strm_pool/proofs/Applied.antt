@@ -8,6 +8,7 @@ use Rattle.strm_links.specs.Rows as rows
 use Rattle.strm_mblk.specs.declared.token.TokenValue.{TokenValue}
 use Rattle.strm_mblk.specs.Arena.{Arena, has, token_of}
 use Rattle.strm_mblk.specs.Frame.{LeavesOthers}
+use Rattle.strm_mblk.proofs.arena.Tokens.{had_is}
 use Rattle.strm_pool.specs.declared.call.Call.{Call}
 use Rattle.strm_pool.specs.declared.reply.Reply.{Reply}
 use Rattle.strm_pool.specs.declared.reply.Reply.TheVariants.{Empty, Taken, Refused}
@@ -17,10 +18,8 @@ use Rattle.strm_pool.specs.Registers.{AreAccounted, AreDistinct, RegisterTable, 
 use Rattle.strm_pool.specs.Shapes.{IsReady, refusal_of}
 use Rattle.strm_pool.specs.Step.{Applies, act, is_named, is_taken, misses_queue, misses_token, replying, step}
 use Rattle.strm_pool.proofs.Accounts.{Balanced, accounted_balanced, accounted_distinct, owned_balanced, owned_token, table-at}
-use Rattle.strm_pool.proofs.Moved.{Changes, Each, Moves, moves_balanced, moves_had, news, olds, registers_of, token-has, with_new, with_other, with_tokens}
-
-pub same_some : {X : Type 0} {x y : X} → (let o : Option X = Some x in let p : Option X = Some y in o ≡ p) → x ≡ y
-same_some is = cc
+use Rattle.strm_pool.proofs.Moved.{Changes, moves_balanced, moves_had, news, olds, registers_of, with_new, with_other, with_tokens}
+use Rattle.strm_pool.proofs.Tokens.{Each, Moves, same_some}
 
 -- which of three tests comes first
 first_of : {X Y : Type 0} (f : X → Y) (one two three : Bool) (x y z : X) (rest : Y) {w : X} → (if one then Some x else (if two then Some y else (if three then Some z else None))) ≡ Some w
@@ -45,7 +44,7 @@ step_act {v} {rs} {call} is ready =
 -- a token that the pool has, or none, is that of what the table shows
 shown : (a : Arena) (o : Option TokenValue) → ((t : TokenValue) → o ≡ Some t → has a t ≡ true) → o ≡ option_map (token_of a) (option_map (λ t. t.head) o)
 shown a None had = refl
-shown a (Some t) had = ap (λ (y : TokenValue). Some y) (token-has a t (had t refl))
+shown a (Some t) had = ap (λ (y : TokenValue). Some y) (had_is a t (had t refl))
 
 named_or_not : {X : Type 0} (b : Bool) (y z o : X) → (b ≡ true → o ≡ y) → (b ≡ false → o ≡ z) → o ≡ (if b then y else z)
 named_or_not true y z o first second = first refl
@@ -80,7 +79,7 @@ module _ {v w : PoolValue} {rs : List (Option TokenValue)} {call other : Call} {
         (λ no. with_other us rs x (changes x ∙ no));
     owned = λ distinct.
         owned_balanced v w rs (with_tokens us rs) (balanced distinct)
-        (moves_had v rs us w.arena left.id (λ x t there. owned_token v rs x t ready.owned there) apart within distinct (moves distinct)) ready.owned distinct;
+        (moves_had v rs us w.arena (λ x t there. owned_token v rs x t ready.owned there) apart within distinct (moves distinct)) ready.owned distinct;
     same = left.id;
     size = left.size;
     accounted = λ desks desk there at all.

@@ -2,6 +2,7 @@ mod Constants
 mod OnParts
 mod Reading
 pub mod Accounts
+pub mod Tokens
 mod Moved
 mod Applied
 mod Shaped

@@ -9,43 +9,15 @@ use Rattle.strm_links.proofs.lists.Counting.{one_if}
 use Rattle.strm_links.specs.Rows.{IsApart}
 use Rattle.strm_links.specs.Rows as rows
 use Rattle.strm_mblk.specs.declared.token.TokenValue.{TokenValue}
-use Rattle.strm_mblk.specs.Arena.{Arena, has, held_at, is_of_length, token_of}
+use Rattle.strm_mblk.specs.Arena.{Arena, has, held_at, is_of_length}
 use Rattle.strm_mblk.specs.Block.{Message}
-use Rattle.strm_mblk.specs.Messages.{blocks_of}
+use Rattle.strm_mblk.proofs.arena.Tokens.{had_again, had_message}
 use Rattle.strm_pool.specs.PoolValue.{PoolValue}
 use Rattle.strm_pool.specs.Registers.{AreDistinct, entries_of, entry_of, register, table_of, tells}
 use Rattle.strm_pool.proofs.Accounts.{Balanced, stands, table-at}
+use Rattle.strm_pool.proofs.Tokens.{Each, Moves, heads_of, held_has, tokens_in}
 
 -- ---- tokens
-
--- this holds of each of them
-abbrev pub Each : {X : Type 0} → (X → Type 0) → List X → Type 0
-Each P [] = Unit {0}
-Each P (x ∷ xs) = P x × Each P xs
-
-abbrev pub heads_of : List TokenValue → List ℕ
-heads_of ts = map (λ t. t.head) ts
-
--- a token that the pool has is of a held message
-pub held_has : (a : Arena) (t : TokenValue) → has a t ≡ true → held_at a t.head ≡ None → ⊥
-held_has a t had none = false≢true (ap (is_of_length t.blocks) (sym none) ∙ (and_parts (eqb t.pool a.id) _ had).1)
-
--- and it is that of its message
-pub token-has : (a : Arena) (t : TokenValue) → has a t ≡ true → t ≡ token_of a t.head
-token-has a t had =
-    let parts = and_parts (eqb t.pool a.id) (is_of_length t.blocks (held_at a t.head)) had in
-    same_token (eqb-true t.pool a.id parts.0) refl (long (held_at a t.head) t.blocks parts.1)
-  where
-    long : (o : Option Message) (n : ℕ) → is_of_length n o ≡ true → n ≡ length (blocks_of o)
-    long None n is = cc
-    long (Some m) n is = sym (eqb-true (length m) n is)
-
-    same_token : {p q h k b c : ℕ} → p ≡ q → h ≡ k → b ≡ c → let x : TokenValue = record { pool = p; head = h; blocks = b } in let y : TokenValue = record { pool = q; head = k; blocks = c } in x ≡ y
-    same_token p h b = cc
-
--- a message that is held still is had by the same token
-pub has-kept : (a b : Arena) (t : TokenValue) → b.id ≡ a.id → held_at b t.head ≡ held_at a t.head → has a t ≡ true → has b t ≡ true
-has-kept a b t id held had = ap (λ i. eqb t.pool i && is_of_length t.blocks (held_at b t.head)) id ∙ ap (λ (o : Option Message). eqb t.pool a.id && is_of_length t.blocks o) held ∙ had
 
 -- how many of these tokens are of a message of n blocks with head h
 abbrev weigh : ℕ → ℕ → List TokenValue → ℕ
@@ -94,15 +66,6 @@ weigh_stands a (t ∷ ts) had apart h n is =
 
 -- ---- from one arena to another
 
--- The messages of these tokens change: before, they are those of the first tokens, and afterwards those of the others.
-pub record Moves (a b : Arena) (before after : List TokenValue) : Type 0 where
-  pub others : (h : ℕ) → rows.has h (heads_of before) ≡ false → rows.has h (heads_of after) ≡ false → held_at b h ≡ held_at a h
-  pub had : Each (λ t. has a t ≡ true) before
-  pub has_now : Each (λ t. has b t ≡ true) after
-  pub apart : IsApart (heads_of after)
-  pub gone : (h : ℕ) → rows.has h (heads_of before) ≡ true → rows.has h (heads_of after) ≡ false → held_at b h ≡ None
-  pub new : (h : ℕ) → rows.has h (heads_of before) ≡ false → rows.has h (heads_of after) ≡ true → held_at a h ≡ None
-
 moves_weigh : (a b : Arena) (before after : List TokenValue) → Moves a b before after → IsApart (heads_of before) → (h n : ℕ) → stands b h n + weigh h n before ≡ stands a h n + weigh h n after
 moves_weigh a b before after moves apart h n =
     elim (cases_Bool (rows.has h (heads_of before))) [
@@ -128,10 +91,6 @@ registers_of us = map (λ u. u.0) us
 abbrev pub with_tokens : Changes → List (Option TokenValue) → List (Option TokenValue)
 with_tokens [] rs = rs
 with_tokens (u ∷ us) rs = with_tokens us (set rs u.0 u.1)
-
-abbrev pub tokens_in : Option TokenValue → List TokenValue
-tokens_in None = []
-tokens_in (Some t) = t ∷ []
 
 -- the tokens that these registers held, and those that they hold afterwards
 abbrev pub olds : Changes → List (Option TokenValue) → List TokenValue
@@ -248,7 +207,7 @@ moves_balanced a b us rs apart within distinct moves h n =
     omega (arith, moves_weigh a b (olds us rs) (news us) moves (olds_apart us rs distinct apart) h n, count_with us rs h n apart within)
 
 -- each register has a token that the pool has
-module _ (v : PoolValue) (rs : List (Option TokenValue)) (us : Changes) (b : Arena) (id : b.id ≡ v.arena.id)
+module _ (v : PoolValue) (rs : List (Option TokenValue)) (us : Changes) (b : Arena)
     (owned : (x : ℕ) (t : TokenValue) → register rs x ≡ Some t → has v.arena t ≡ true)
     (apart : IsApart (registers_of us)) (within : Each (λ y. y < length rs) (registers_of us))
     (distinct : AreDistinct (table_of rs)) (moves : Moves v.arena b (olds us rs) (news us)) where
@@ -262,6 +221,8 @@ module _ (v : PoolValue) (rs : List (Option TokenValue)) (us : Changes) (b : Are
             let lack = olds_lack us rs x t.head distinct (table-at rs x ∙ ap (option_map (λ (y : TokenValue). y.head)) was) other in
             elim (cases_Bool (rows.has t.head (heads_of (news us)))) [
               | inl new ↦ absurd (held_has v.arena t before (moves.new t.head lack new))
-              | inr old ↦ has-kept v.arena b t id (moves.others t.head lack old) before
+              | inr old ↦
+                  let message = had_message v.arena t before in
+                  had_again v.arena b t message.0 message.0 message.1 (moves.others t.head lack old ∙ message.1.held) refl moves.id
             ]
       ]

@@ -1,8 +1,8 @@
 -- The shapes of calls on registers: what a call on tokens that answers so does to registers is its step.
-use Rattle.std.proofs.Common.{◌≡◌, ◌≢◌, ℕ, zero, suc, ◌<◌, Bool, true, false, eqb, ◌||◌, arith, ◌⊎◌, List, [], ◌∷◌, ◌++◌, length, set, Option, Some, None, Result, Ok, Err, refl, sym, ap, ◌∙◌, subst, inl, inr, get_or-set_other}
+use Rattle.std.proofs.Common.{◌≡◌, ◌≢◌, ℕ, zero, suc, ◌<◌, true, false, eqb, ◌||◌, arith, List, [], ◌∷◌, ◌++◌, length, set, Option, Some, None, Result, Ok, Err, refl, sym, ap, ◌∙◌, subst, get_or-set_other}
 use Rattle.std.specs.Prelude.{IfSome, is_none, is_some, option_map, unwrap_or}
 use Rattle.std.specs.Option.{option_map_or}
-use Rattle.std.proofs.lemmas.Bool.{cases_Bool, cases_eq, eq-eqb, eqb-true, false≢true, ne_eqb, or_parts}
+use Rattle.std.proofs.lemmas.Bool.{false≢true, ne_eqb, or_parts}
 use Rattle.std.proofs.lemmas.List.{set-get_or, set-set}
 use Rattle.strm_data.specs.declared.refusal.Refusal.{Refusal}
 use Rattle.strm_links.specs.Rows.{IsApart}
@@ -10,7 +10,7 @@ use Rattle.strm_links.specs.Rows as rows
 use Rattle.strm_mblk.specs.declared.rejected.Rejected.{Rejected}
 use Rattle.strm_mblk.specs.declared.token.TokenValue.{TokenValue}
 use Rattle.strm_mblk.specs.Arena.{Arena, has, held_at, token_of}
-use Rattle.strm_mblk.specs.Calls.{Alters, Flushes, Frees, Gives, Joins, LeavesBlocks, Parts, Puts, Takes, TakesAny, Unlinks}
+use Rattle.strm_mblk.specs.Calls.{Alters, Flushes, Frees, Gives, Joins, Parts, Puts, Takes, TakesAny, Unlinks}
 use Rattle.strm_mblk.specs.Frame.{LeavesOthers, head_given}
 use Rattle.strm_mblk.specs.Given.{Given, answer_of, value_after}
 use Rattle.strm_pool.specs.declared.call.Call.{Call}
@@ -22,17 +22,9 @@ use Rattle.strm_pool.specs.Registers.{AreDistinct, register, table_of}
 use Rattle.strm_pool.specs.Shapes.{IsReady, Settled, any_given_to, given_to, parted_to, rejected_to, reply_done, reply_made}
 use Rattle.strm_pool.specs.Step.{Applies, act, answers, doing, gives, head_held, keeps, leaves, may_give, misses_token, parts, replying, spends}
 use Rattle.strm_pool.proofs.Accounts.{owned_token, table-at}
-use Rattle.strm_pool.proofs.Applied.{applies_by, applies_nothing, same_some, step_act}
-use Rattle.strm_pool.proofs.Moved.{Each, Moves, held_has, news, table-set, tokens_in}
-
-pub err_not_ok : {X Y : Type 0} {e : Y} {x : X} → Err e ≡ Ok x → ⊥
-err_not_ok is = cc
-
-pub same_ok : {X Y : Type 0} {x y : X} → (let r : Result X Y = Ok x in let s : Result X Y = Ok y in r ≡ s) → x ≡ y
-same_ok is = cc
-
-pub same_err : {X Y : Type 0} {x y : Y} → (let r : Result X Y = Err x in let s : Result X Y = Err y in r ≡ s) → x ≡ y
-same_err is = cc
+use Rattle.strm_pool.proofs.Applied.{applies_by, applies_nothing, step_act}
+use Rattle.strm_pool.proofs.Moved.{news, table-set}
+use Rattle.strm_pool.proofs.Tokens.{Each, Moves, cleared, err_not_ok, moves_beside, moves_gone, moves_joined, moves_new, moves_none, moves_parted, moves_rest, moves_stay, not_both, same_err, same_ok, same_some, set-comm, some_not_none, tokens_in}
 
 -- the head of a register that holds a token
 pub head_is : (rs : List (Option TokenValue)) (x : ℕ) (t : TokenValue) → register rs x ≡ Some t → head_held (table_of rs) x ≡ t.head
@@ -62,46 +54,11 @@ within_list (r ∷ rs) (suc x) t is = omega (arith, within_list rs x t is)
 
 -- one that holds a token is no other than one that holds none
 free_other : (rs : List (Option TokenValue)) (x y : ℕ) (t : TokenValue) → register rs x ≡ Some t → register rs y ≡ None → x ≢ y
-free_other rs x y t held free same = absurd (let e : Some t ≡ None = sym held ∙ ap (register rs) same ∙ free in cc)
+free_other rs x y t held free same = absurd (some_not_none (sym held ∙ ap (register rs) same ∙ free))
 
 -- a token of the same head shows the same
 kept_head : (rs : List (Option TokenValue)) (x : ℕ) (t s : TokenValue) → register rs x ≡ Some t → s.head ≡ t.head → set (table_of rs) x (Some s.head) ≡ table_of rs
 kept_head rs x t s was head = ap (set (table_of rs) x) (ap (λ k. Some k) head ∙ sym (table-at rs x ∙ ap (option_map (λ (y : TokenValue). y.head)) was)) ∙ set-get_or (table_of rs) x None
-
-lone : (h k : ℕ) → rows.has h (k ∷ []) ≡ true → k ≡ h
-lone h k is = elim (cases_Bool (eqb k h)) [ inl same ↦ eqb-true k h same | inr other ↦ absurd (false≢true (sym (ap (λ b. b || false) other) ∙ is)) ]
-
-not_both : {b : Bool} → b ≡ true → b ≡ false → ⊥
-not_both is not = false≢true (sym not ∙ is)
-
--- a message stays held at its head, and changes
-moves_stay : {a b : Arena} {t s : TokenValue} → s.head ≡ t.head → has a t ≡ true → has b s ≡ true → LeavesOthers (t.head ∷ []) a b → Moves a b (t ∷ []) (s ∷ [])
-moves_stay head had has_now left = record {
-  others = λ h before after. left.held h before;
-  had = (had, tt);
-  has_now = (has_now, tt);
-  apart = (refl, tt);
-  gone = λ h before after. absurd (not_both (ap (λ k. rows.has h (k ∷ [])) head ∙ before) after);
-  new = λ h before after. absurd (not_both (ap (λ k. rows.has h (k ∷ [])) (sym head) ∙ after) before);
-}
-
--- it stays so, and a message is new whose head no held message had
-moves_beside : {a b : Arena} {t s r : TokenValue} → s.head ≡ t.head → has a t ≡ true → has b s ≡ true → has b r ≡ true → held_at a r.head ≡ None
-    → ((h : ℕ) → rows.has h (t.head ∷ r.head ∷ []) ≡ false → held_at b h ≡ held_at a h) → Moves a b (t ∷ []) (s ∷ r ∷ [])
-moves_beside {a} {b} {t} {s} {r} head had kept given unheld others = record {
-  others = λ h before after. others h (ap (λ b. b || rows.has h (r.head ∷ [])) (or_parts (eqb t.head h) false before).0 ∙ (or_parts (eqb s.head h) (rows.has h (r.head ∷ [])) after).1);
-  had = (had, tt);
-  has_now = (kept, (given, tt));
-  apart = (ap (λ b. b || false) (ne_eqb r.head s.head (λ same. held_has a t had (ap (held_at a) (sym (same ∙ head)) ∙ unheld))), (refl, tt));
-  gone = λ h before after. absurd (not_both (eq-eqb s.head h (head ∙ lone h t.head before)) (or_parts (eqb s.head h) (rows.has h (r.head ∷ [])) after).0);
-  new = λ h before after.
-      subst (λ k. held_at a k ≡ None)
-      (lone h r.head (ap (λ b. b || rows.has h (r.head ∷ [])) (sym (ap (λ k. eqb k h) head ∙ (or_parts (eqb t.head h) false before).0)) ∙ after)) unheld;
-}
-
--- a call that leaves the arena leaves all messages
-all_stays : {a b : Arena} → b ≡ a → LeavesOthers [] a b
-all_stays {a} same = subst (LeavesOthers [] a) (sym same) (record { id = refl; size = refl; held = λ h none. refl })
 
 module _ {v : PoolValue} {rs : List (Option TokenValue)} {call other : Call} (called : call ≡ other) (ready : IsReady v rs call) where
   -- its destination is there, and holds nothing
@@ -131,15 +88,7 @@ module _ {v w : PoolValue} {rs : List (Option TokenValue)} {call other : Call} (
   pub leaves_held : {reply : Reply} → [] ≡ registers_in (names_of other) → LeavesOthers [] v.arena w.arena → act v (table_of rs) other ≡ replying w (table_of rs) reply → Applies v rs call w rs reply
   leaves_held named left does =
       applies_by [] called ready named tt tt tt left
-      (λ distinct. record {
-        others = λ h before after. left.held h refl;
-        had = tt;
-        has_now = tt;
-        apart = tt;
-        gone = λ h before after. absurd (false≢true before);
-        new = λ h before after. absurd (false≢true after);
-      })
-      does
+      (λ distinct. moves_none left) does
 
   -- the reply is made of the answer
   tells : {X : Type 0} (made : X → Reply) (g : Given PoolValue X) {answer : Result X Refusal} {reply : Reply} → [] ≡ registers_in (names_of other) → LeavesOthers [] v.arena w.arena
@@ -150,17 +99,13 @@ module _ {v w : PoolValue} {rs : List (Option TokenValue)} {call other : Call} (
       telling (Ok given) after = ap (λ u. replying u (table_of rs) (made given.0)) (sym after)
       telling (Err why) after = ap (λ u. replying u (table_of rs) (Refused why)) (sym after)
 
-  pub tells_stay : {X : Type 0} (made : X → Reply) (g : Given PoolValue X) {answer : Result X Refusal} {reply : Reply} → [] ≡ registers_in (names_of other) → act v (table_of rs) other ≡ doing v (table_of rs) (answers made) g
-      → LeavesBlocks arena g v w answer → reply ≡ reply_made made answer → Applies v rs call w rs reply
-  tells_stay made g named does is told = tells made g named (all_stays is.arena_stays) does is.after is.answer told
-
   pub flushes : (g : Given PoolValue (Unit {0})) {answer : Result (Unit {0}) Refusal} {reply : Reply} → [] ≡ registers_in (names_of other) → act v (table_of rs) other ≡ doing v (table_of rs) (answers (λ done. Done)) g
       → Flushes arena g v w answer → reply ≡ reply_done answer → Applies v rs call w rs reply
   flushes g named does is told = tells (λ done. Done) g named is.others does is.after is.answer told
 
   -- ---- one register takes part
 
-  -- its message is altered, and its token may tell of another number of blocks
+  -- the register's message is altered, and its token may have another number of blocks
   pub alters : (f : ℕ → Given Arena (Unit {0})) (x : ℕ) {t s : TokenValue} {done : Result (Unit {0}) Refusal} {ss : List (Option TokenValue)} {reply : Reply} → x ∷ [] ≡ registers_in (names_of other) → register rs x ≡ Some t
       → act v (table_of rs) other ≡ doing v (table_of rs) keeps (on_arena v (f (head_held (table_of rs) x))) → Alters arena t s (on_arena v (f t.head)) v w done
       → ss ≡ set rs x (Some s) → reply ≡ reply_done done → Applies v rs call w ss reply
@@ -181,25 +126,17 @@ module _ {v w : PoolValue} {rs : List (Option TokenValue)} {call other : Call} (
       same : table_of rs ≡ table_of (set rs x (Some s))
       same = sym (table-set rs x (Some s) ∙ kept_head rs x t s was head)
 
-  -- and tells of as many as before
+  -- the register's message is altered, and its token has as many blocks as before
   pub alters_kept : (f : ℕ → Given Arena (Unit {0})) (x : ℕ) {t : TokenValue} {done : Result (Unit {0}) Refusal} {reply : Reply} → x ∷ [] ≡ registers_in (names_of other) → register rs x ≡ Some t
       → act v (table_of rs) other ≡ doing v (table_of rs) keeps (on_arena v (f (head_held (table_of rs) x))) → Alters arena t t (on_arena v (f t.head)) v w done → reply ≡ reply_done done → Applies v rs call w rs reply
   alters_kept f x {t} named was does is told = alters f x named was does is (sym (put_back rs x t was)) told
 
   -- its message goes, and none is held at its head
-  spent_one : (x : ℕ) {t : TokenValue} {heads : List ℕ} → x ∷ [] ≡ registers_in (names_of other) → register rs x ≡ Some t → LeavesOthers heads v.arena w.arena
-      → ((h : ℕ) → rows.has h (t.head ∷ []) ≡ false → rows.has h heads ≡ false) → held_at w.arena t.head ≡ None
+  spent_one : (x : ℕ) {t : TokenValue} → x ∷ [] ≡ registers_in (names_of other) → register rs x ≡ Some t → LeavesOthers (t.head ∷ []) v.arena w.arena → held_at w.arena t.head ≡ None
       → act v (table_of rs) other ≡ replying w (set (table_of rs) x None) Done → Applies v rs call w (set rs x None) Done
-  spent_one x {t} named was left only gone does =
+  spent_one x {t} named was left gone does =
       applies_by ((x, None) ∷ []) called ready named (refl, tt) (within_list rs x t was, tt) tt left
-      (λ distinct. subst (λ o. Moves v.arena w.arena (tokens_in o ++ []) []) (sym was) (record {
-        others = λ h before after. left.held h (only h before);
-        had = (owned_token v rs x t ready.owned was, tt);
-        has_now = tt;
-        apart = tt;
-        gone = λ h before after. ap (held_at w.arena) (sym (lone h t.head before)) ∙ gone;
-        new = λ h before after. absurd (false≢true after);
-      }))
+      (λ distinct. subst (λ o. Moves v.arena w.arena (tokens_in o ++ []) []) (sym was) (moves_gone (owned_token v rs x t ready.owned was) gone left))
       (does ∙ ap (λ table. replying w table Done) (sym (table-set rs x None)))
 
   -- a call that spends a token, or gives it back
@@ -211,7 +148,7 @@ module _ {v w : PoolValue} {rs : List (Option TokenValue)} {call other : Call} (
     where
       each : (g : Given PoolValue (Unit {0})) (done : Result (Unit {0}) Rejected) → act v (table_of rs) other ≡ doing v (table_of rs) (spends x) g → Puts arena t g v w done
           → let settled = rejected_to x done (set rs x None) in Applies v rs call w settled.0 settled.1
-      each (Ok given) (Ok u) does is = spent_one x named was is.others (λ h none. none) is.gone (does ∙ ap (λ p. replying p (set (table_of rs) x None) Done) (sym is.after))
+      each (Ok given) (Ok u) does is = spent_one x named was is.others is.gone (does ∙ ap (λ p. replying p (set (table_of rs) x None) Done) (sym is.after))
       each (Ok given) (Err rejected) does is = absurd (err_not_ok is.answer)
       each (Err why) (Ok u) does is = absurd (err_not_ok (sym is.answer))
       each (Err why) (Err rejected) does is =
@@ -229,19 +166,12 @@ module _ {v w : PoolValue} {rs : List (Option TokenValue)} {call other : Call} (
     where
       each : (rest : Option TokenValue) (o : Option ℕ) → rest ≡ option_map (token_of w.arena) o → IfSome rest (λ s. has w.arena s ≡ true) → IfSome rest (λ s. held_at v.arena s.head ≡ None)
           → LeavesOthers (t.head ∷ head_given rest) v.arena w.arena → act v (table_of rs) other ≡ replying w (set (table_of rs) x o) Done → Applies v rs call w (set rs x rest) Done
-      each None None same had unheld left does = spent_one x named was left (λ h none. none) is.gone does
-      each None (Some n) same had unheld left does = absurd (let e : None ≡ Some (token_of w.arena n) = same in cc)
-      each (Some s) None same had unheld left does = absurd (let e : Some s ≡ None = same in cc)
+      each None None same had unheld left does = spent_one x named was left is.gone does
+      each None (Some n) same had unheld left does = absurd (some_not_none (sym same))
+      each (Some s) None same had unheld left does = absurd (some_not_none same)
       each (Some s) (Some n) same had unheld left does =
           applies_by ((x, Some s) ∷ []) called ready named (refl, tt) (within_list rs x t was, tt) (had, tt) left
-          (λ distinct. subst (λ o. Moves v.arena w.arena (tokens_in o ++ []) (s ∷ [])) (sym was) (record {
-            others = λ h before after. left.held h (ap (λ b. b || rows.has h (s.head ∷ [])) (or_parts (eqb t.head h) false before).0 ∙ after);
-            had = (owned_token v rs x t ready.owned was, tt);
-            has_now = (had, tt);
-            apart = (refl, tt);
-            gone = λ h before after. subst (λ k. held_at w.arena k ≡ None) (lone h t.head before) is.gone;
-            new = λ h before after. subst (λ k. held_at v.arena k ≡ None) (lone h s.head after) unheld;
-          }))
+          (λ distinct. subst (λ o. Moves v.arena w.arena (tokens_in o ++ []) (s ∷ [])) (sym was) (moves_rest (owned_token v rs x t ready.owned was) is.gone had unheld left))
           (does ∙ ap (λ table. replying w table Done) (ap (λ (y : TokenValue). set (table_of rs) x (Some y.head)) (sym (same_some same)) ∙ sym (table-set rs x (Some s))))
 
   -- ---- a register is given a token
@@ -252,14 +182,7 @@ module _ {v w : PoolValue} {rs : List (Option TokenValue)} {call other : Call} (
     given_one s had unheld left does =
         let free = destination called ready None None y named in
         applies_by ((y, Some s) ∷ []) called ready (ap registers_in (sym named)) (refl, tt) (free.1, tt) (had, tt) left
-        (λ distinct. subst (λ o. Moves v.arena w.arena (tokens_in o ++ []) (s ∷ [])) (sym free.0) (record {
-          others = λ h before after. left.held h after;
-          had = tt;
-          has_now = (had, tt);
-          apart = (refl, tt);
-          gone = λ h before after. absurd (false≢true before);
-          new = λ h before after. subst (λ k. held_at v.arena k ≡ None) (lone h s.head after) unheld;
-        }))
+        (λ distinct. subst (λ o. Moves v.arena w.arena (tokens_in o ++ []) (s ∷ [])) (sym free.0) (moves_new had unheld left))
         (does ∙ ap (λ table. replying w table Done) (sym (table-set rs y (Some s))))
 
     given_none : LeavesOthers [] v.arena w.arena → act v (table_of rs) other ≡ replying w (table_of rs) Nothing → Applies v rs call w rs Nothing
@@ -268,14 +191,7 @@ module _ {v w : PoolValue} {rs : List (Option TokenValue)} {call other : Call} (
         let same : set rs y None ≡ rs = ap (set rs y) (sym free.0) ∙ set-get_or rs y None in
         subst (λ ss. Applies v rs call w ss Nothing) same
         (applies_by ((y, None) ∷ []) called ready (ap registers_in (sym named)) (refl, tt) (free.1, tt) tt left
-        (λ distinct. subst (λ o. Moves v.arena w.arena (tokens_in o ++ []) []) (sym free.0) (record {
-          others = λ h before after. left.held h refl;
-          had = tt;
-          has_now = tt;
-          apart = tt;
-          gone = λ h before after. absurd (false≢true before);
-          new = λ h before after. absurd (false≢true after);
-        }))
+        (λ distinct. subst (λ o. Moves v.arena w.arena (tokens_in o ++ []) []) (sym free.0) (moves_none left))
         (does ∙ ap (λ l. replying w (table_of l) Nothing) (sym same)))
 
     pub gives_one : (g : Given PoolValue ℕ) {given : Result TokenValue Refusal} {settled : Settled} → act v (table_of rs) other ≡ doing v (table_of rs) (gives y) g → Takes arena g v w given
@@ -305,8 +221,8 @@ module _ {v w : PoolValue} {rs : List (Option TokenValue)} {call other : Call} (
         each (Ok (Some n, u)) (Ok (Some s)) does is =
             given_one s is.had is.unheld is.others
             (does ∙ ap (λ p. replying p (set (table_of rs) y (Some n)) Done) (sym is.after) ∙ ap (λ (t : TokenValue). replying w (set (table_of rs) y (Some t.head)) Done) (sym (same_some (same_ok is.token))))
-        each (Ok (Some n, u)) (Ok None) does is = absurd (let e : None ≡ Some (token_of w.arena n) = same_ok is.token in cc)
-        each (Ok (None, u)) (Ok (Some s)) does is = absurd (let e : Some s ≡ None = same_ok is.token in cc)
+        each (Ok (Some n, u)) (Ok None) does is = absurd (some_not_none (sym (same_ok is.token)))
+        each (Ok (None, u)) (Ok (Some s)) does is = absurd (some_not_none (same_ok is.token))
         each (Ok (None, u)) (Ok None) does is = given_none is.others (does ∙ ap (λ p. replying p (table_of rs) Nothing) (sym is.after))
         each (Ok given) (Err why) does is = absurd (err_not_ok is.token)
         each (Err why) (Ok o) does is = absurd (err_not_ok (sym is.token))
@@ -340,7 +256,7 @@ module _ {v w : PoolValue} {rs : List (Option TokenValue)} {call other : Call} (
         each (Ok given) (Ok r) does is =
             subst (λ l. Applies v rs call w (set l y (Some r)) Done) (put_back rs x t was)
             (two (Some t) (Some r) is.others (is.kept, (is.had, tt))
-            (moves_beside refl (owned_token v rs x t ready.owned was) is.kept is.had is.unheld (λ h none. is.others.held h (or_parts (eqb t.head h) (rows.has h (r.head ∷ [])) none).1))
+            (moves_beside refl (owned_token v rs x t ready.owned was) is.kept is.had is.unheld is.others (λ h none. (or_parts (eqb t.head h) (rows.has h (r.head ∷ [])) none).1))
             (does ∙ ap (λ p. replying p (set (table_of rs) y (Some given.0)) Done) (sym is.after) ∙ ap (λ (s : TokenValue). replying w (set (table_of rs) y (Some s.head)) Done) (sym (same_ok is.token))
             ∙ ap (λ table. replying w (set table y (Some r.head)) Done) (sym (kept_head rs x t t was refl))))
         each (Ok given) (Err why) does is = absurd (err_not_ok is.token)
@@ -374,10 +290,10 @@ module _ {v w : PoolValue} {rs : List (Option TokenValue)} {call other : Call} (
             → IfSome rest (λ r. has w.arena r ≡ true) → IfSome rest (λ r. held_at v.arena r.head ≡ None) → LeavesOthers (t.head ∷ head_given rest) v.arena w.arena
             → let settled = any_given_to y (Ok rest) (set rs x (Some s)) in Applies v rs call w settled.0 settled.1
         each (Some r) (Some n) does is had unheld left =
-            two (Some s) (Some r) left (kept, (had, tt)) (moves_beside head (owned_token v rs x t ready.owned was) kept had unheld left.held)
+            two (Some s) (Some r) left (kept, (had, tt)) (moves_beside head (owned_token v rs x t ready.owned was) kept had unheld left (λ h none. none))
             (does ∙ ap (λ (q : TokenValue). replying w (set (table_of rs) y (Some q.head)) Done) (sym (same_some is)) ∙ ap (λ table. replying w (set table y (Some r.head)) Done) (sym (kept_head rs x t s was head)))
-        each (Some r) None does is had unheld left = absurd (let e : Some r ≡ None = is in cc)
-        each None (Some n) does is had unheld left = absurd (let e : None ≡ Some (token_of w.arena n) = is in cc)
+        each (Some r) None does is had unheld left = absurd (some_not_none is)
+        each None (Some n) does is had unheld left = absurd (some_not_none (sym is))
         each None None does is had unheld left =
             subst (λ ss. Applies v rs call w ss Nothing) same (two (Some s) None left (kept, tt) (moves_stay head (owned_token v rs x t ready.owned was) kept left) (does ∙ ap (λ table. replying w table Nothing) table))
 
@@ -391,7 +307,7 @@ module _ {v w : PoolValue} {rs : List (Option TokenValue)} {call other : Call} (
         (refused (parts x y) rejected.why (does ∙ ap (λ (r : Rejected). doing v (table_of rs) (parts x y) (Err r.why)) (sym (same_err is.answer))) is.after)
     parts_each (Ok ((n, o), u)) (Ok (f, rest)) does is =
         subst (λ l. Applies v rs call w (set l y (Some f)) Done) (sym (set-set rs x None rest))
-        (two rest (Some f) is.others (each rest is.rest_had) (moves rest is.rest_had is.rest_unheld is.apart is.others.held is.kept)
+        (two rest (Some f) is.others (each rest is.rest_had) (moves_parted rest (owned_token v rs x t ready.owned was) is)
         (does ∙ ap (λ p. replying p (set (set (table_of rs) x o) y (Some n)) Done) (sym is.after)
         ∙ (λ i. replying w (set (set (table_of rs) x (heads_same i)) y (Some (first_same i))) Done)))
       where
@@ -412,48 +328,6 @@ module _ {v w : PoolValue} {rs : List (Option TokenValue)} {call other : Call} (
         each None rest_had = (is.had, tt)
         each (Some r) rest_had = (rest_had, (is.had, tt))
 
-        moves : (r : Option TokenValue) → IfSome r (λ s. has w.arena s ≡ true) → IfSome r (λ s. s.head ≢ t.head → held_at v.arena s.head ≡ None)
-            → IfSome r (λ s. s.head ≢ f.head) → ((h : ℕ) → rows.has h (t.head ∷ f.head ∷ head_given r) ≡ false → held_at w.arena h ≡ held_at v.arena h)
-            → (f.head ≡ t.head) ⊎ (option_map (λ (s : TokenValue). s.head) r ≡ Some t.head) → Moves v.arena w.arena (t ∷ []) (tokens_in r ++ (f ∷ []))
-        moves None rest_had rest_unheld apart others kept = record {
-          others = λ h before after. others h (ap (λ b. b || rows.has h (f.head ∷ [])) (or_parts (eqb t.head h) false before).0 ∙ after);
-          had = (owned_token v rs x t ready.owned was, tt);
-          has_now = (is.had, tt);
-          apart = (refl, tt);
-          gone = λ h before after.
-              elim kept [
-                | inl same ↦ absurd (not_both (ap (λ k. rows.has h (k ∷ [])) same ∙ before) after)
-                | inr none ↦ absurd cc
-              ];
-          new = λ h before after.
-              subst (λ k. held_at v.arena k ≡ None) (lone h f.head after)
-              (is.unheld (λ same. not_both (eq-eqb t.head h (sym same ∙ lone h f.head after)) (or_parts (eqb t.head h) false before).0));
-        }
-        moves (Some r) rest_had rest_unheld apart others kept = record {
-          others = λ h before after.
-              let parts = or_parts (eqb r.head h) (rows.has h (f.head ∷ [])) after in
-              others h
-              (ap (λ b. b || rows.has h (f.head ∷ r.head ∷ [])) (or_parts (eqb t.head h) false before).0
-              ∙ ap (λ b. b || rows.has h (r.head ∷ [])) (or_parts (eqb f.head h) false parts.1).0 ∙ ap (λ b. b || false) parts.0);
-          had = (owned_token v rs x t ready.owned was, tt);
-          has_now = (rest_had, (is.had, tt));
-          apart = (ap (λ b. b || false) (ne_eqb f.head r.head (λ same. apart (sym same))), (refl, tt));
-          gone = λ h before after.
-              let parts = or_parts (eqb r.head h) (rows.has h (f.head ∷ [])) after in
-              elim kept [
-                | inl same ↦ absurd (not_both (ap (λ k. rows.has h (k ∷ [])) same ∙ before) parts.1)
-                | inr some ↦ absurd (not_both (eq-eqb r.head h (same_some some ∙ lone h t.head before)) parts.0)
-              ];
-          new = λ h before after.
-              let other : h ≢ t.head = λ same. not_both (eq-eqb t.head h (sym same)) (or_parts (eqb t.head h) false before).0 in
-              elim (cases_eq r.head h) [
-                | inl same ↦ subst (λ k. held_at v.arena k ≡ None) same (rest_unheld (λ e. other (sym same ∙ e)))
-                | inr not ↦
-                    let same : f.head ≡ h = lone h f.head (ap (λ b. b || rows.has h (f.head ∷ [])) (sym (ne_eqb r.head h not)) ∙ after) in
-                    subst (λ k. held_at v.arena k ≡ None) same (is.unheld (λ e. other (sym same ∙ e)))
-              ];
-        }
-
     pub parts_two : (f : ℕ → Given Arena (ℕ × Option ℕ)) {parted : Result (TokenValue × Option TokenValue) Rejected} {settled : Settled} → act v (table_of rs) other ≡ doing v (table_of rs) (parts x y) (on_arena v (f (head_held (table_of rs) x)))
         → Parts arena t (on_arena v (f t.head)) v w parted
         → settled ≡ parted_to x y parted (set rs x None) → Applies v rs call w settled.0 settled.1
@@ -463,25 +337,13 @@ module _ {v w : PoolValue} {rs : List (Option TokenValue)} {call other : Call} (
 
 -- ---- two messages are joined
 
-set-comm : {X : Type 0} (xs : List X) (i j : ℕ) (a b : X) → i ≢ j → set (set xs i a) j b ≡ set (set xs j b) i a
-set-comm [] i j a b other = refl
-set-comm (x ∷ xs) zero zero a b other = absurd (other refl)
-set-comm (x ∷ xs) zero (suc j) a b other = refl
-set-comm (x ∷ xs) (suc i) zero a b other = refl
-set-comm (x ∷ xs) (suc i) (suc j) a b other = ap (λ l. x ∷ l) (set-comm xs i j a b (λ same. other (ap suc same)))
-
 -- a second source that holds a token still, once the first is empty, is another one
 pub sources_apart : {v : PoolValue} {rs : List (Option TokenValue)} {call other : Call} → call ≡ other → IsReady v rs call → (x y : ℕ) {t : TokenValue} → IsNaming other (Some x) (Some y) None → register rs x ≡ Some t → x ≢ y
 sources_apart {v} {rs} called ready x y named was same =
     let emptied = set (table_of rs) x None in
     let there : misses_token (table_of rs) (naming None (Some x) (Some y) None) ≡ false = ap (misses_token (table_of rs)) (sym (ap names_of called ∙ named)) ∙ ready.sources in
     let second : is_none (register emptied y) ≡ false = (or_parts (is_none (register (table_of rs) x)) (is_none (register emptied y)) there).1 in
-    absurd (not_both (ap is_none (ap (register emptied) (sym same) ∙ none_at (table_of rs) x)) second)
-  where
-    none_at : (ks : List (Option ℕ)) (i : ℕ) → register (set ks i None) i ≡ None
-    none_at [] i = refl
-    none_at (k ∷ ks) zero = refl
-    none_at (k ∷ ks) (suc i) = none_at ks i
+    absurd (not_both (ap is_none (ap (register emptied) (sym same) ∙ cleared (table_of rs) x)) second)
 
 module _ {v w : PoolValue} {rs : List (Option TokenValue)} {call other : Call} (called : call ≡ other) (ready : IsReady v rs call) (x y : ℕ) {t u s : TokenValue} (named : x ∷ y ∷ [] ≡ registers_in (names_of other))
     (was : register rs x ≡ Some t) (tail : register rs y ≡ Some u) (apart : x ≢ y) {next : PoolValue} (is : Joins arena t s u next v w) where
@@ -503,14 +365,6 @@ module _ {v w : PoolValue} {rs : List (Option TokenValue)} {call other : Call} (
           ∙ sym (table-set (set rs x (Some s)) y None)
 
       moves : AreDistinct (table_of rs) → Moves v.arena w.arena (t ∷ u ∷ []) (s ∷ [])
-      moves distinct = record {
-        others = λ h before after. is.others.held h before;
-        had = (owned_token v rs x t ready.owned was, (owned_token v rs y u ready.owned tail, tt));
-        has_now = (is.had, tt);
-        apart = (refl, tt);
-        gone = λ h before after.
-            let not : eqb t.head h ≡ false = ap (λ k. eqb k h) (sym (ap (λ (r : TokenValue). r.head) is.token)) ∙ (or_parts (eqb s.head h) false after).0 in
-            let same : u.head ≡ h = lone h u.head (ap (λ b. b || rows.has h (u.head ∷ [])) (sym not) ∙ before) in
-            subst (λ k. held_at w.arena k ≡ None) same (is.gone (λ e. apart (distinct x y u.head (shown x t was ∙ ap (λ k. Some k) e) (shown y u tail))));
-        new = λ h before after. absurd (not_both (ap (λ k. rows.has h (k ∷ [])) (sym (ap (λ (r : TokenValue). r.head) is.token)) ∙ after) (ap (λ b. b || false) (or_parts (eqb t.head h) (rows.has h (u.head ∷ [])) before).0));
-      }
+      moves distinct =
+          moves_joined (ap (λ (r : TokenValue). r.head) is.token) (owned_token v rs x t ready.owned was) (owned_token v rs y u ready.owned tail) is.had
+          (is.gone (λ e. apart (distinct x y u.head (shown x t was ∙ ap (λ k. Some k) e) (shown y u tail)))) is.others

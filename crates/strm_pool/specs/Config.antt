@@ -1,4 +1,4 @@
--- When a configuration is lawful, and the first fault where it is not.
+-- When a configuration is lawful; if it is not, its first fault.
 use Rattle.std.specs.Prelude.{ℕ, Bool, not, ◌&&◌, ◌||◌, ◌==◌, nat_lt, nat_le, List, length, Option, Some, None, if◌then◌else◌, codes}
 use Rattle.strm_data.specs.Classes.{sizes_rise, each_has_blocks, total_of}
 use Rattle.strm_data.specs.Limits.{most_data_blocks}
@@ -20,11 +20,11 @@ name_of Next = codes "Next"
 name_of Bufcalls = codes "Bufcalls"
 name_of FirstId = codes "FirstId"
 
--- whether there is nothing in a list
+-- whether a list is empty
 abbrev pub is_nil : {X : Type 0} → List X → Bool
 is_nil xs = length xs == 0
 
--- the first fault of a configuration, in the order of `Which`
+-- the first fault of a configuration, if any, in the order of `Which`
 abbrev pub fault_of : Config → Option Which
 fault_of c =
     if not (nat_le 1 c.mblks && nat_le c.mblks most_message_blocks) then Some Mblks

@@ -1,11 +1,11 @@
--- How many there may be of what this crate counts. Each number stands here once, and src/limits.rt has a constant of its name.
+-- The limits of this crate: registers, wishes, ids and bytes. src/limits.rt has a constant of each name.
 use Rattle.std.specs.Prelude.{ℕ}
 
--- the registers of one desk, a to z: there are always so many
+-- the number of registers of one worker, a to z
 abbrev pub most_registers : ℕ
 most_registers = 26
 
--- the bufcall wishes that are recorded at one time
+-- the greatest number of bufcall wishes at one time
 abbrev pub most_wishes : ℕ
 most_wishes = 64
 
@@ -13,6 +13,6 @@ most_wishes = 64
 abbrev pub last_id : ℕ
 last_id = 4294967295
 
--- the bytes that a call or a reply carries
+-- the greatest number of bytes in a call or a reply
 abbrev pub most_octets : ℕ
 most_octets = 64

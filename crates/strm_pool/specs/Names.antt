@@ -1,4 +1,4 @@
--- What a call names: a queue, registers that it takes from, and one that it puts into.
+-- What a call names: a queue, sources, which are the registers whose messages it uses, and a destination.
 use Rattle.std.specs.Prelude.{ℕ, List, [], ◌∷◌, Option, None, Some}
 use Rattle.strm_pool.specs.declared.call.Call.{Call}
 use Rattle.strm_pool.specs.declared.call.Call.TheVariants.{Allocb, Testb, Dupb, Dupmsg, Copyb, Copymsg, Write, Settype, Setband, Linkb, Unlinkb, Rmvb, Adjmsg, Pullupmsg, Msgdsize, Size, Read, Block, Freeb, Freemsg, Putq, Putbq, Insq, Getq, Rmvq, Flushq, Flushband, Bcanput, Strqset, Strqget, Qsize, Qenable, Noenable, Enableok, Service, Bufcall, Unbufcall, Ready, Census}
@@ -50,11 +50,11 @@ names_of (Unbufcall id) = naming None None None None
 names_of Ready = naming None None None None
 names_of Census = naming None None None None
 
--- a register in front of others, if there is one
+-- a register, if any, before others
 abbrev pub listed : Option ℕ → List ℕ → List ℕ
 listed None xs = xs
 listed (Some x) xs = x ∷ xs
 
--- the registers that are named: sources in written order, then the destination
+-- the registers that are named: sources in the order of the script's words, then the destination
 abbrev pub registers_in : Names → List ℕ
 registers_in names = listed names.source (listed names.second (listed names.destination []))

@@ -1,4 +1,4 @@
--- How a pool lies in memory. No public clause cites this module.
+-- How `Pool` stores its parts. No public clause cites this module.
 use Rattle.strm_queue.specs.QueuedBlocks.{Agrees}
 use Rattle.strm_pool.specs.declared.pool.Pool.TheInside.{Inside}
 use Rattle.strm_pool.specs.PoolValue.{PoolValue}
@@ -6,6 +6,6 @@ use Rattle.strm_pool.specs.PoolValue.{PoolValue}
 abbrev pub pool_value : Inside → PoolValue
 pool_value a = record { arena = a.blocks; queues = a.queues.state; wishes = a.wishes }
 
--- the message blocks are those of the queues
+-- the queues agree with the message blocks
 abbrev pub IsSound : Inside → Type 0
 IsSound a = Agrees a.queues a.blocks

@@ -1,4 +1,4 @@
--- A pool as lists, and how a call on a part of it is one on the whole.
+-- A pool as a value of lists, and how a call on one of its parts is a call on the pool.
 use Rattle.std.specs.Prelude.{◌≡◌, ℕ, Bool, true, fold, List, [], length, Option, None, Some, Result, Ok, Err}
 use Rattle.std.specs.List.{list_all}
 use Rattle.std.specs.Option.{option_map_or}
@@ -14,29 +14,27 @@ use Rattle.strm_queue.specs.QueueCalls as queues
 use Rattle.strm_queue.specs.Flow.{QueueState, opening_queues}
 use Rattle.strm_queue.specs.QueuedBlocks.{QueuedBlocks}
 
--- a wish for message blocks: its id and a size
+-- a wish for a message block: its id and a size
 abbrev pub Wish : Type 0
 Wish = ℕ × ℕ
 
--- the wishes: how many may be recorded at one time, the id of the next, until all have been given, and those that are
--- recorded, in that order
+-- The wishes: how many there may be at one time, the next id (none after the last), and the recorded wishes in order.
 pub record WishState : Type 0 where
   pub most : ℕ
   pub next : Option ℕ
   pub pending : List Wish
 
--- a pool: its blocks and messages, of which shelf q has those of queue q; what is true of the queues besides; and the
--- wishes
+-- A pool: its arena, in which shelf q has the messages of queue q; the state of its queues; and its wishes.
 pub record PoolValue : Type 0 where
   pub arena : Arena
   pub queues : QueueState
   pub wishes : WishState
 
--- its message blocks
+-- the message blocks of a pool
 abbrev pub arena : PoolValue → Arena
 arena v = v.arena
 
--- the pool that a configuration opens
+-- the pool that a lawful configuration opens
 abbrev pub opening : Config → PoolValue
 opening c = record {
   arena = opening_arena c.id c.mblks c.classes (length c.queues);
@@ -44,7 +42,8 @@ opening c = record {
   wishes = record { most = c.bufcalls; next = Some c.first_id; pending = [] };
 }
 
--- a pool is what its lawful configuration opens; else the first fault comes, before any want of memory
+-- A lawful configuration opens its pool, unless memory is refused. Of any other the first fault is returned, before any memory
+-- is taken.
 abbrev pub Opens : Config → Result PoolValue NewFault → Type 0
 Opens c (Ok v) = (fault_of c ≡ None) × (v ≡ opening c)
 Opens c (Err (BadConfig which)) = fault_of c ≡ Some which
@@ -62,11 +61,11 @@ abbrev pub on_arena : {X : Type 0} → PoolValue → Given Arena X → Given Poo
 on_arena v (Ok given) = Ok (given.0, with_arena v given.1)
 on_arena v (Err why) = Err why
 
--- the queues of a pool, and the message blocks on them
+-- the queues of a pool, with the message blocks on them
 abbrev pub queued : PoolValue → QueuedBlocks
 queued v = record { queues = v.queues; arena = v.arena }
 
--- a pool with other ones
+-- a pool with other queues and message blocks
 abbrev pub with_queued : PoolValue → QueuedBlocks → PoolValue
 with_queued v w = record v { arena = w.arena; queues = w.queues }
 
@@ -90,7 +89,7 @@ has_queue v q = queues.has_queue (queued v) q
 
 -- ---- tokens
 
--- whether the pool has each token that these registers hold
+-- whether the pool has each token in these registers
 abbrev pub owns : PoolValue → List (Option TokenValue) → Bool
 owns v rs = list_all (λ o. option_map_or (has v.arena) o true) rs
 

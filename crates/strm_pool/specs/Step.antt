@@ -1,4 +1,4 @@
--- One call as a step of the model: on a pool and a register table, with its reply.
+-- One call as a step of the model, on a pool and a register table, with its reply; and replays of many calls.
 use Rattle.std.specs.Prelude.{◌≡◌, ℕ, ◌<◌, Bool, false, ◌||◌, not, IsTrue, option_map, List, [], ◌∷◌, length, Option, None, Some, Ok, Err, is_some, is_none, unwrap_or, slice_index_or, slice_set, take, drop, replicate, if◌then◌else◌}
 use Rattle.std.specs.Option.{option_map_or}
 use Rattle.strm_data.specs.declared.refusal.Refusal.TheVariants.{NoSuchQueue}
@@ -24,7 +24,7 @@ use Rattle.strm_pool.specs.PoolValue.{PoolValue, Wish, has_queue, on_arena, on_q
 use Rattle.strm_pool.specs.Wishes as wishes
 use Rattle.strm_pool.specs.Registers.{AreAccounted, AreDistinct, Entries, RegisterTable, entries_of, register, table_of}
 
--- a pool and a register table after a call, and the reply to it
+-- what a step gives: the pool and the register table after the call, and the reply
 pub record Stepped : Type 0 where
   pub pool : PoolValue
   pub table : RegisterTable
@@ -32,29 +32,29 @@ pub record Stepped : Type 0 where
 
 -- ---- the tests that come before the call's own
 
--- a queue that is not there
+-- whether the call names a queue that does not exist
 abbrev pub misses_queue : PoolValue → Names → Bool
 misses_queue v names = option_map_or (λ q. not (has_queue v q)) names.queue false
 
--- a source that holds nothing
+-- whether a source has no message
 abbrev pub is_empty : RegisterTable → Option ℕ → Bool
 is_empty t source = option_map_or (λ x. is_none (register t x)) source false
 
--- the registers once the message of a source has been taken out
+-- the register table without the message of a source
 abbrev pub without_source : Option ℕ → RegisterTable → RegisterTable
 without_source source t = option_map_or (λ x. slice_set t x None) source t
 
--- whether a source holds nothing, once those before it are empty
+-- whether a source has no message, once that of the source before it is taken
 abbrev pub misses_token : RegisterTable → Names → Bool
 misses_token t names = is_empty t names.source || is_empty (without_source names.source t) names.second
 
--- whether the destination holds a token
+-- whether the destination has a message
 abbrev pub is_taken : RegisterTable → Names → Bool
 is_taken t names = option_map_or (λ x. is_some (register t x)) names.destination false
 
 -- ---- what the call does
 
--- registers that change, each to hold the message with a head or nothing, and the reply
+-- the registers that change, each with the head of its message or none, and the reply
 abbrev pub Told : Type 0
 Told = List (ℕ × Option ℕ) × Reply
 
@@ -62,41 +62,41 @@ abbrev pub with_changes : List (ℕ × Option ℕ) → RegisterTable → Registe
 with_changes [] t = t
 with_changes (c ∷ cs) t = with_changes cs (slice_set t c.0 c.1)
 
--- this pool and these registers, with this reply
+-- what a step gives: this pool, this register table and this reply
 abbrev pub replying : PoolValue → RegisterTable → Reply → Stepped
 replying v t reply = record { pool = v; table = t; reply = reply }
 
--- a call on the pool, whose answer tells how registers change and what the reply is; refused, it changes nothing
+-- A call on the pool; its answer says which registers change, and what the reply is. If it is refused, nothing changes.
 abbrev pub doing : {X : Type 0} → PoolValue → RegisterTable → (X → Told) → Given PoolValue X → Stepped
 doing v t told (Ok given) = replying given.1 (with_changes (told given.0).0 t) (told given.0).1
 doing v t told (Err why) = replying v t (Refused why)
 
--- the registers stay
+-- no register changes
 abbrev pub keeps : Unit {0} → Told
 keeps done = ([], Done)
 
--- the message of x has gone
+-- register x loses its message
 abbrev pub spends : ℕ → Unit {0} → Told
 spends x done = ((x, None) ∷ [], Done)
 
--- y has the message
+-- register y gets the message
 abbrev pub gives : ℕ → ℕ → Told
 gives y h = ((y, Some h) ∷ [], Done)
 
--- y has the message, if there is one
+-- register y gets the message, if any
 abbrev pub may_give : ℕ → Option ℕ → Told
 may_give y None = ([], Nothing)
 may_give y (Some h) = gives y h
 
--- x has what is left, if anything is
+-- register x gets the message that is left, if any
 abbrev pub leaves : ℕ → Option ℕ → Told
 leaves x rest = ((x, rest) ∷ [], Done)
 
--- y has the first message, and x the second, if there is one
+-- register y gets the first message, and x the second, if any
 abbrev pub parts : ℕ → ℕ → ℕ × Option ℕ → Told
 parts x y heads = ((x, heads.1) ∷ (y, Some heads.0) ∷ [], Done)
 
--- the reply is made of the answer
+-- no register changes, and the reply has the call's answer
 abbrev pub answers : {X : Type 0} → (X → Reply) → X → Told
 answers reply given = ([], reply given)
 
@@ -114,11 +114,11 @@ abbrev pub ready_or_nothing : Option Wish → Reply
 ready_or_nothing None = Nothing
 ready_or_nothing (Some w) = replies.Ready w.0 w.1
 
--- the head of the message whose token the register holds
+-- the head of the message of a register that has one
 abbrev pub head_held : RegisterTable → ℕ → ℕ
 head_held t x = unwrap_or (register t x) 0
 
--- what a call does whose queue, sources and destination are as they must be
+-- what a call does if its queue exists, its sources have messages, and its destination is empty
 abbrev pub act : PoolValue → RegisterTable → Call → Stepped
 act v t (Allocb x size) = doing v t (gives x) (on_arena v (blocks.allocb size v.arena))
 act v t (Testb size) = replying v t (yes_or_no (blocks.testb size v.arena))
@@ -160,8 +160,8 @@ act v t (Unbufcall id) = doing v t keeps (wishes.unbufcall id v)
 act v t Ready = replying (wishes.take_ready v).1 t (ready_or_nothing (wishes.take_ready v).0)
 act v t Census = replying v t (replies.Census (census_of v.arena))
 
--- one call: a queue that is not there comes first, then a source that holds nothing, then a destination that
--- holds a token, then the call's own refusals
+-- One call. These refusals come first, in this order: its queue does not exist, a source is empty, the destination has a
+-- message. Then come the call's own.
 abbrev pub step : PoolValue → RegisterTable → Call → Stepped
 step v t call =
     if misses_queue v (names_of call) then replying v t (Refused NoSuchQueue)
@@ -175,11 +175,10 @@ step v t call =
 abbrev pub is_named : Call → ℕ → Bool
 is_named call x = rows.has x (registers_in (names_of call))
 
--- A call was applied: pool, registers and reply are those of a step. A register that the call names has the
--- token of its message, if it holds one, and every other register what it had. Where no two registers held one
--- message, none do, and the pool has the token of each. It keeps its id, and has as many message blocks. And where these
--- registers were those of one of several desks, and each held message stood in one register of one desk, each does so
--- now: the other desks have what they had.
+-- A call was applied: pool, registers and reply are those of a step. Registers that the call names have the tokens of their
+-- messages, and the others keep theirs. The pool keeps its id and its number of message blocks. If all registers had
+-- different messages before, so they have after, and the pool has all their tokens. If these are the registers of one of
+-- several desks, and each held message was in one register of one desk, each still is.
 pub record Applies (v : PoolValue) (rs : List (Option TokenValue)) (call : Call) (w : PoolValue) (ss : List (Option TokenValue)) (reply : Reply) : Type 0 where
   pub step : step v (table_of rs) call ≡ record { pool = w; table = table_of ss; reply = reply }
   pub tokens : (x : ℕ) → register ss x ≡ (if is_named call x then option_map (token_of w.arena) (register (table_of ss) x) else register rs x)
@@ -191,12 +190,12 @@ pub record Applies (v : PoolValue) (rs : List (Option TokenValue)) (call : Call)
 
 -- ---- replay
 
--- a call of one of several desks
+-- a call of one of several desks, on that desk's registers
 pub record DeskCall : Type 0 where
   pub desk : ℕ
   pub call : Call
 
--- the pool and the register tables of all desks after some calls, and the replies to them
+-- the pool and all desks' register tables after some calls, and the replies to these
 pub record Replay : Type 0 where
   pub pool : PoolValue
   pub tables : List RegisterTable
@@ -208,17 +207,17 @@ table_at ts desk = slice_index_or ts desk []
 abbrev pub with_reply : Reply → Replay → Replay
 with_reply reply rest = record rest { replies = reply ∷ rest.replies }
 
--- so many desks' tables, all registers empty
+-- the register tables of n desks, all empty
 abbrev pub empty_tables : ℕ → List RegisterTable
 empty_tables desks = replicate desks (replicate most_registers None)
 
--- the calls, one after another, each on its own desk's table
+-- the calls, one after another, each on the register table of its desk
 abbrev pub replay_from : PoolValue → List RegisterTable → List DeskCall → Replay
 replay_from v ts [] = record { pool = v; tables = ts; replies = [] }
 replay_from v ts (first ∷ calls) =
     let o = step v (table_at ts first.desk) first.call in
     with_reply o.reply (replay_from o.pool (slice_set ts first.desk o.table) calls)
 
--- the calls of so many desks, of which each begins with empty registers
+-- a replay: the calls of n desks, whose registers are empty at first
 abbrev pub replay : PoolValue → ℕ → List DeskCall → Replay
 replay v desks calls = replay_from v (empty_tables desks) calls

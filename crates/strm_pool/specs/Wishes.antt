@@ -1,4 +1,4 @@
--- Wishes for message blocks: what each call on them does.
+-- Wishes for message blocks: what `bufcall`, `unbufcall` and `take_ready` do.
 use Rattle.std.specs.Prelude.{ℕ, ◌+◌, ◌<◌, ◌≤◌, Bool, not, ◌==◌, nat_le, nat_lt, [], ◌∷◌, ◌++◌, length, Option, None, Some, Ok, Err, slice_get, if◌then◌else◌}
 use Rattle.std.specs.List.{All, AllPairs, position, remove}
 use Rattle.strm_data.specs.declared.refusal.Refusal.TheVariants.{Full, IdsSpent, NotPending, TooLarge}
@@ -8,26 +8,26 @@ use Rattle.strm_mblk.specs.Given.{Given}
 use Rattle.strm_pool.specs.Limits.{last_id}
 use Rattle.strm_pool.specs.PoolValue.{PoolValue, Wish, WishState, on_wishes, with_wishes}
 
--- the id behind this one, if it is not the last
+-- the id after this one, or none after the last
 abbrev pub id_after : ℕ → Option ℕ
 id_after id = if nat_lt id last_id then Some (id + 1) else None
 
--- a wish with this id, if there is one left, stands behind all others
+-- a wish is recorded after all others with this id, or refused if no id is left
 abbrev pub recorded_as : ℕ → Option ℕ → WishState → Given WishState ℕ
 recorded_as size None s = Err IdsSpent
 recorded_as size (Some id) s = Ok (id, record s { next = id_after id; pending = s.pending ++ (id, size) ∷ [] })
 
--- so, where there is room
+-- a wish of a size is recorded, if there are fewer than there may be
 abbrev pub recorded : ℕ → WishState → Given WishState ℕ
 recorded size s = if nat_le s.most (length s.pending) then Err Full else recorded_as size s.next s
 
--- without the wish at place k
+-- the wishes without the one at place k
 abbrev pub wishes_without : ℕ → WishState → WishState
 wishes_without k s = record s { pending = remove s.pending k }
 
 -- ---- the calls
 
--- a wish of a size that `allocb` may serve some time; the answer is its id
+-- records a wish of a size that some class fits, and returns its id
 abbrev pub bufcall : ℕ → PoolValue → Given PoolValue ℕ
 bufcall size v = if not (fits_a_class size v.arena.store.classes) then Err TooLarge else on_wishes v (recorded size v.wishes)
 
@@ -35,35 +35,35 @@ bufcall size v = if not (fits_a_class size v.arena.store.classes) then Err TooLa
 abbrev pub has_id : ℕ → Wish → Bool
 has_id id w = w.0 == id
 
--- without the wish at the place that was found
+-- removes the wish at the place that was found, if any
 abbrev pub withdrawn : PoolValue → Option ℕ → Given PoolValue (Unit {0})
 withdrawn v None = Err NotPending
 withdrawn v (Some k) = Ok (tt, with_wishes v (wishes_without k v.wishes))
 
--- the wish with this id is no more
+-- removes the wish with this id
 abbrev pub unbufcall : ℕ → PoolValue → Given PoolValue (Unit {0})
 unbufcall id v = withdrawn v (position (has_id id) v.wishes.pending)
 
--- whether `allocb` would serve a wish now
+-- whether `allocb` would succeed for a wish now
 abbrev pub is_ready : PoolValue → Wish → Bool
 is_ready v w = blocks.testb w.1 v.arena
 
--- the wish at the place that was found, which is no more
+-- removes and returns the wish at the place that was found, if any
 abbrev pub readied : PoolValue → Option ℕ → Option Wish × PoolValue
 readied v None = (None, v)
 readied v (Some k) = (slice_get v.wishes.pending k, with_wishes v (wishes_without k v.wishes))
 
--- the first wish that `allocb` would serve now, if there is one, which is no more; nothing is kept for it
+-- removes and returns the earliest wish for which `allocb` would succeed now, if any; reserves no block
 abbrev pub take_ready : PoolValue → Option Wish × PoolValue
 take_ready v = readied v (position (is_ready v) v.wishes.pending)
 
--- the wish at place k, in order of recording
+-- the wish at place k, in the order of recording
 abbrev pub wish_at : ℕ → PoolValue → Option Wish
 wish_at k v = slice_get v.wishes.pending k
 
 -- ---- the law
 
--- an id is below the next one, where there is a next one
+-- an id is below the next one, if there is a next one
 abbrev pub IsGiven : Option ℕ → ℕ → Type 0
 IsGiven None id = Unit {0}
 IsGiven (Some next) id = id < next
@@ -72,7 +72,7 @@ IsGiven (Some next) id = id < next
 abbrev pub Rises : Wish → Wish → Type 0
 Rises first second = first.0 < second.0
 
--- there are no more wishes than may be recorded, and their ids rise in order of recording, below the next one
+-- there are no more wishes than there may be, and their ids rise in the order of recording, below the next id
 pub record AreLawful (s : WishState) : Type 0 where
   pub few : length s.pending ≤ s.most
   pub rising : AllPairs Rises s.pending

@@ -1,4 +1,4 @@
-//! Calls as data.
+//! Calls as data, which name registers instead of tokens.
 ghost use Rattle.std.specs.Prelude.{◌≡◌};
 ghost use Rattle.strm_pool.specs.Names.{names_of};
 
@@ -8,13 +8,13 @@ use crate::short_list::Octets;
 use strm_data::MsgType;
 use strm_queue::Flush;
 
-/// A call on a pool, with registers in the place of tokens, and its numbers in the order in which a script has them.
-/// Sizes are in bytes; blocks of a message, its bytes and messages of a queue are counted from 0.
+/// A call on a pool, with registers instead of tokens, and numbers in the order of a script's words. Sizes are in bytes.
+/// Blocks of a message, its bytes, and messages of a queue are counted from 0.
 #[derive(Debug, Drop)]
 pub enum Call {
-    /// `allocb` of a size, into a register.
+    /// `allocb` for a size, into a register.
     Allocb(Reg, u32),
-    /// Whether `allocb` of a size would give a message.
+    /// `testb`: whether `allocb` for a size would succeed.
     Testb(u32),
     /// `dupb` of the message in a register, into another.
     Dupb(Reg, Reg),
@@ -24,29 +24,29 @@ pub enum Call {
     Copyb(Reg, Reg),
     /// `copymsg` of the message in a register, into another.
     Copymsg(Reg, Reg),
-    /// Bytes behind the write place of a block of the message in a register.
+    /// `write`: puts bytes after the write place of a block of the message in a register.
     Write(Reg, u32, Octets),
-    /// The type of a block's data block, of the message in a register.
+    /// `settype`: the type of the data block of a block of the message in a register.
     Settype(Reg, u32, MsgType),
-    /// The band of the first block of the message in a register.
+    /// `setband`: the band of the first block of the message in a register.
     Setband(Reg, u8),
-    /// `linkb`: the message in the second register goes behind the one in the first.
+    /// `linkb`: appends the message in the second register to the one in the first.
     Linkb(Reg, Reg),
-    /// `unlinkb` of the message in a register, all but the first block into another.
+    /// `unlinkb` of the message in a register; all blocks but the first go into another.
     Unlinkb(Reg, Reg),
-    /// `rmvb` of a block of the message in a register, into another.
+    /// `rmvb` of a block of the message in a register; that block goes into another.
     Rmvb(Reg, u32, Reg),
-    /// `adjmsg` of the message in a register by a number of bytes: at the head, or where it is negative at the tail.
+    /// `adjmsg` of the message in a register by a number of bytes: at the head, or if it is below 0, at the tail.
     Adjmsg(Reg, i32),
-    /// `pullupmsg` of so many bytes of the message in a register; -1 stands for all those of its leading blocks of one type.
+    /// `pullupmsg` of a number of bytes of the message in a register; -1 means all bytes of its leading blocks of one type.
     Pullupmsg(Reg, i32),
-    /// How many bytes the message in a register has in its blocks of type M_DATA.
+    /// `msgdsize`: the bytes of the message in a register in its blocks of type M_DATA.
     Msgdsize(Reg),
-    /// How many bytes the message in a register has.
+    /// `size`: the bytes of the message in a register.
     Size(Reg),
-    /// The bytes of the message in a register from a place on.
+    /// `read`: the bytes of the message in a register, from a place on.
     Read(Reg, u32),
-    /// What there is to tell of a block of the message in a register.
+    /// `block`: what a block of the message in a register is like.
     Block(Reg, u32),
     /// `freeb` of the first block of the message in a register.
     Freeb(Reg),
@@ -66,13 +66,13 @@ pub enum Call {
     Flushq(u8, Flush),
     /// `flushband` of a band of a queue.
     Flushband(u8, u8, Flush),
-    /// Whether a message of a band may be put on a queue.
+    /// `bcanput`: whether a band has room at the target of a queue.
     Bcanput(u8, u8),
     /// `strqset` of a band of a queue: its high and its low water mark.
     Strqset(u8, u8, u32, u32),
     /// `strqget` of a band of a queue.
     Strqget(u8, u8),
-    /// How many messages stand on a queue.
+    /// `qsize`: the number of messages on a queue.
     Qsize(u8),
     /// `qenable` of a queue.
     Qenable(u8),
@@ -80,20 +80,74 @@ pub enum Call {
     Noenable(u8),
     /// `enableok` of a queue.
     Enableok(u8),
-    /// The queue that is to be served next, which then waits no more.
+    /// `next_service`: takes the first queue off the run list.
     Service,
     /// `bufcall` of a size.
     Bufcall(u32),
     /// `unbufcall` of an id.
     Unbufcall(u32),
-    /// The first wish that `allocb` would serve now, which then is no more.
+    /// `take_ready`: removes the first wish for which `allocb` would succeed now.
     Ready,
-    /// The census of message blocks.
+    /// `census`: how many message blocks are free, queued and held.
     Census,
 }
 
-// What a function makes of the values given and of what a call names: its queue, the registers that it takes from, and the one
-// that it puts into.
+/// The table of calls. `calls!(rows WORDS)` expands to `rows!` with these words and then a row for each call. A row has:
+///
+/// 1. the name of the variant of `Call`;
+/// 2. the call's fields in order, all `Copy`, or with `;` before a last one that is not;
+/// 3. the function of this crate that `Pool::act` calls with these fields, with `regs` if it takes the registers too.
+#[macro_export]
+macro_rules! calls {
+    ($rows:ident $($with:tt)*) => {
+        $rows! {
+            $($with)*
+            Allocb(into, size): act_allocb(regs);
+            Testb(size): act_testb();
+            Dupb(from, into): act_dupb(regs);
+            Dupmsg(from, into): act_dupmsg(regs);
+            Copyb(from, into): act_copyb(regs);
+            Copymsg(from, into): act_copymsg(regs);
+            Write(reg, place; bytes): act_write(regs);
+            Settype(reg, place, kind): act_settype(regs);
+            Setband(reg, band): act_setband(regs);
+            Linkb(reg, behind): act_linkb(regs);
+            Unlinkb(reg, into): act_unlinkb(regs);
+            Rmvb(reg, place, into): act_rmvb(regs);
+            Adjmsg(reg, count): act_adjmsg(regs);
+            Pullupmsg(reg, count): act_pullupmsg(regs);
+            Msgdsize(reg): act_msgdsize(regs);
+            Size(reg): act_size(regs);
+            Read(reg, at): act_read(regs);
+            Block(reg, place): act_block(regs);
+            Freeb(reg): act_freeb(regs);
+            Freemsg(reg): act_freemsg(regs);
+            Putq(queue, reg): act_putq(regs);
+            Putbq(queue, reg): act_putbq(regs);
+            Insq(queue, place, reg): act_insq(regs);
+            Getq(queue, into): act_getq(regs);
+            Rmvq(queue, place, into): act_rmvq(regs);
+            Flushq(queue, flush): act_flushq();
+            Flushband(queue, band, flush): act_flushband();
+            Bcanput(queue, band): act_bcanput();
+            Strqset(queue, band, hiwat, lowat): act_strqset();
+            Strqget(queue, band): act_strqget();
+            Qsize(queue): act_qsize();
+            Qenable(queue): act_qenable();
+            Noenable(queue): act_noenable();
+            Enableok(queue): act_enableok();
+            Service: act_service();
+            Bufcall(size): act_bufcall();
+            Unbufcall(id): act_unbufcall();
+            Ready: act_ready();
+            Census: act_census();
+        }
+    };
+}
+
+pub(crate) use calls;
+
+// Calls a function with the given values and with what a call names: its queue, its sources, and its destination.
 macro_rules! naming {
     ($call:expr, $make:path $(, $with:expr)*) => {
         match *$call {
@@ -147,6 +201,15 @@ macro_rules! naming {
 
 pub(crate) use naming;
 
+// A copy of a call.
+macro_rules! copied {
+    ($call:expr; $($name:ident $(($($field:ident),+ $(; $lent:ident)?))?: $act:ident $regs:tt;)+) => {
+        match *$call {
+            $(Call::$name $(($($field),+ $(, ref $lent)?))? => Call::$name $(($($field),+ $(, $lent.copy())?))?,)+
+        }
+    };
+}
+
 impl Call {
     /// The queue and the registers that the call names.
     pub fn names(&self) -> Names
@@ -155,50 +218,11 @@ impl Call {
         naming!(self, Names::of)
     }
 
-    /// An equal call, with bytes of its own where this one carries bytes. It takes no memory, and nothing changes.
+    /// Returns an equal call, with its own bytes if it carries any. This allocates nothing, so it cannot fail as `clone`
+    /// can.
     pub fn copy(&self) -> Call
         ensures { result ≡ self.now }
     {
-        match *self {
-            Call::Allocb(into, size) => Call::Allocb(into, size),
-            Call::Testb(size) => Call::Testb(size),
-            Call::Dupb(from, into) => Call::Dupb(from, into),
-            Call::Dupmsg(from, into) => Call::Dupmsg(from, into),
-            Call::Copyb(from, into) => Call::Copyb(from, into),
-            Call::Copymsg(from, into) => Call::Copymsg(from, into),
-            Call::Write(reg, place, ref bytes) => Call::Write(reg, place, bytes.copy()),
-            Call::Settype(reg, place, kind) => Call::Settype(reg, place, kind),
-            Call::Setband(reg, band) => Call::Setband(reg, band),
-            Call::Linkb(reg, behind) => Call::Linkb(reg, behind),
-            Call::Unlinkb(from, into) => Call::Unlinkb(from, into),
-            Call::Rmvb(from, place, into) => Call::Rmvb(from, place, into),
-            Call::Adjmsg(reg, count) => Call::Adjmsg(reg, count),
-            Call::Pullupmsg(reg, count) => Call::Pullupmsg(reg, count),
-            Call::Msgdsize(reg) => Call::Msgdsize(reg),
-            Call::Size(reg) => Call::Size(reg),
-            Call::Read(reg, at) => Call::Read(reg, at),
-            Call::Block(reg, place) => Call::Block(reg, place),
-            Call::Freeb(reg) => Call::Freeb(reg),
-            Call::Freemsg(reg) => Call::Freemsg(reg),
-            Call::Putq(queue, reg) => Call::Putq(queue, reg),
-            Call::Putbq(queue, reg) => Call::Putbq(queue, reg),
-            Call::Insq(queue, place, reg) => Call::Insq(queue, place, reg),
-            Call::Getq(queue, into) => Call::Getq(queue, into),
-            Call::Rmvq(queue, place, into) => Call::Rmvq(queue, place, into),
-            Call::Flushq(queue, flush) => Call::Flushq(queue, flush),
-            Call::Flushband(queue, band, flush) => Call::Flushband(queue, band, flush),
-            Call::Bcanput(queue, band) => Call::Bcanput(queue, band),
-            Call::Strqset(queue, band, hiwat, lowat) => Call::Strqset(queue, band, hiwat, lowat),
-            Call::Strqget(queue, band) => Call::Strqget(queue, band),
-            Call::Qsize(queue) => Call::Qsize(queue),
-            Call::Qenable(queue) => Call::Qenable(queue),
-            Call::Noenable(queue) => Call::Noenable(queue),
-            Call::Enableok(queue) => Call::Enableok(queue),
-            Call::Service => Call::Service,
-            Call::Bufcall(size) => Call::Bufcall(size),
-            Call::Unbufcall(id) => Call::Unbufcall(id),
-            Call::Ready => Call::Ready,
-            Call::Census => Call::Census,
-        }
+        calls!(copied self;)
     }
 }

@@ -1,4 +1,4 @@
-//! What a pool is made with, and what may be wrong with it.
+//! The configuration of a pool, and what can be wrong with it.
 ghost use Rattle.std.specs.Prelude.{◌≡◌, ◌≤◌, length};
 ghost use Rattle.strm_data.specs.Classes.{sizes_rise, each_has_blocks, total_of};
 ghost use Rattle.strm_data.specs.Limits.{most_classes};
@@ -11,59 +11,58 @@ use strm_mblk::MOST_MESSAGE_BLOCKS;
 use strm_queue::QueueSpec;
 use thiserror::Error;
 
-/// What a pool is made with. The limits are this project's own choice.
+/// What [`Pool::new`](crate::Pool::new) makes a pool from. The limits are this project's own choice.
 #[derive(Debug, Drop)]
 pub struct Config {
-    /// The pool's id, which its tokens carry. Pools whose tokens can meet want different ids.
+    /// The pool's id, which its tokens carry. Give different ids to pools whose tokens can meet.
     pub id: u32,
     /// The number of message blocks, 1 to `MOST_MESSAGE_BLOCKS`.
     pub mblks: u32,
-    /// The size classes: sizes rise and are 1 to `MOST_DATA_BLOCK_BYTES`, counts are above 0 and at most
-    /// `MOST_DATA_BLOCKS` in all.
+    /// The size classes: sizes rise, from 1 to `MOST_DATA_BLOCK_BYTES`; counts are above 0, and at most `MOST_DATA_BLOCKS`
+    /// in all.
     pub classes: ClassSpecs,
-    /// The queues: a low water mark is below the high one; a next queue has a greater number than its own
-    /// queue, is one of these and is named once.
+    /// The queues: a low water mark is below the high one; a next queue exists, has a greater number than its own queue,
+    /// and is named once.
     pub queues: QueueSpecs,
-    /// How many `bufcall` wishes may be recorded at one time, at most `MOST_WISHES`.
+    /// How many `bufcall` wishes there may be at one time, at most `MOST_WISHES`.
     pub bufcalls: u32,
-    /// The id of the first wish, above 0.
+    /// The id of the first wish, from 1 on.
     pub first_id: u32,
 }
 
-/// What is wrong with a configuration.
+/// What is wrong with a configuration, in the order of the checks.
 #[derive(Clone, Copy, Debug, PartialEq, Eq)]
 pub enum Which {
     /// There are no message blocks, or more than `MOST_MESSAGE_BLOCKS`.
     Mblks,
-    /// There is no size class.
+    /// There are no size classes.
     Classes,
     /// A size is not above the one before it, or is 0 or above `MOST_DATA_BLOCK_BYTES`.
     ClassSize,
-    /// A class has no data blocks, or all together have more than `MOST_DATA_BLOCKS`.
+    /// A class has no data blocks, or all classes together have more than `MOST_DATA_BLOCKS`.
     ClassTotal,
-    /// There is no queue.
+    /// There are no queues.
     Queues,
     /// The low water mark of a queue is not below its high one.
     Marks,
-    /// A next queue has no greater number than its own queue, is not there, or is named twice.
+    /// A next queue does not exist, is named twice, or does not have a greater number than its own queue.
     Next,
-    /// There may be more wishes than `MOST_WISHES`.
+    /// `bufcalls` is above `MOST_WISHES`.
     Bufcalls,
     /// The id of the first wish is 0.
     FirstId,
 }
 
-/// Why a pool was not made.
+/// Why a pool was not made, or not shared.
 #[derive(Clone, Copy, Debug, PartialEq, Eq, Error)]
 pub enum NewFault {
-    /// The configuration is not lawful: the first fault, in the order of `Which`.
+    /// The configuration is not lawful; this is the first fault in the order of [`Which`].
     #[error("bad config: {which}", which = .0.name())]
     BadConfig(Which),
-    /// There are no desks, or too many; a trace is to have no entry, or too many; or the first stamp is too great. Told where a
-    /// pool is to be shared, never where one is made.
+    /// The number of desks, the number of trace entries, or the first stamp is out of range. Only strm_shared returns this.
     #[error("bad shared")]
     BadShared,
-    /// Memory was refused, and what was taken before is given back.
+    /// Memory was refused; what was taken before is freed.
     #[error("out of memory")]
     Memory,
 }
@@ -71,7 +70,7 @@ pub enum NewFault {
 impl Which {
     ghost use Rattle.strm_pool.specs.Config.{name_of};
 
-    /// The fault's name.
+    /// Returns the fault's name, as `strm` prints it.
     pub fn name(self) -> &'static str
         ensures { result.now ≡ name_of self }
     {
@@ -89,7 +88,7 @@ impl Which {
     }
 }
 
-// Whether each size is above the one before it and in range.
+// Whether each size is above the one before it, and in range.
 fn sizes_rise(classes: &[ClassSpec]) -> bool
     ensures { result ≡ sizes_rise 0 classes.now }
 {
@@ -103,7 +102,7 @@ fn sizes_rise(classes: &[ClassSpec]) -> bool
     true
 }
 
-// Whether no class is empty.
+// Whether each class has data blocks.
 fn each_has_blocks(classes: &[ClassSpec]) -> bool
     ensures { result ≡ each_has_blocks classes.now }
 {
@@ -125,7 +124,7 @@ fn marks_meet(queues: &[QueueSpec]) -> bool
     queues.iter().any(|spec| spec.lowat >= spec.hiwat)
 }
 
-// How many queues name this one as their next.
+// The number of queues whose next is this one.
 fn times_next(queues: &[QueueSpec], queue: u8) -> usize
     ensures { result ≡ times_next queues.now queue }
 {
@@ -135,7 +134,7 @@ fn times_next(queues: &[QueueSpec], queue: u8) -> usize
         .count()
 }
 
-// Whether each next queue has a greater number than its queue, is there, and is named once.
+// Whether each next queue exists, has a greater number than its own queue, and is named once.
 fn nexts_fit(queues: &[QueueSpec]) -> bool
     ensures { result ≡ nexts_fit queues.now }
 {
@@ -153,7 +152,7 @@ fn nexts_fit(queues: &[QueueSpec]) -> bool
 impl Config {
     ghost use Rattle.strm_pool.specs.Config.{fault_of};
 
-    /// The first fault, in the order of `Which`, or none where the configuration is lawful.
+    /// Returns the first fault, in the order of [`Which`], or none if the configuration is lawful.
     pub fn fault(&self) -> Option<Which>
         ensures { result ≡ fault_of self.now }
     {

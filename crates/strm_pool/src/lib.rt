@@ -1,4 +1,4 @@
-//! The buffer pool of STREAMS for one thread: message blocks over data blocks, held as tokens or put on queues.
+//! The buffer pool of STREAMS for one thread: messages are held as tokens or are on queues, and `bufcall` records wishes.
 #![tactic(auto)]
 
 mod apply;
@@ -11,7 +11,7 @@ mod reg;
 mod regs;
 mod reply;
 mod short_list;
-mod slot;
+mod token_slot;
 mod wishes;
 
 pub use call::Call;
@@ -23,7 +23,7 @@ pub use reg::Reg;
 pub use regs::Regs;
 pub use reply::Reply;
 pub use short_list::{ClassSpecs, Octets, QueueSpecs, ShortList};
-pub use slot::Slot;
 pub use strm_data::{ClassInfo, ClassSpec, MsgType, Refusal};
 pub use strm_mblk::{BlockInfo, Blocks, Census, Rejected, Token, TokenValue};
 pub use strm_queue::{BANDS, BandInfo, Flush, MOST_QUEUES, Marks, QueueInfo, QueueSpec, Queues};
+pub use token_slot::TokenSlot;

@@ -1,13 +1,13 @@
-//! How many there may be of what this crate counts.
+//! The limits of this crate: registers, wishes, ids, and bytes in a call or reply.
 
-/// The most registers, a to z. There are always so many.
+/// The number of registers, a to z.
 pub const MOST_REGISTERS: usize = 26;
 
-/// The most `bufcall` wishes that may be recorded at one time.
+/// The greatest number of `bufcall` wishes at one time.
 pub const MOST_WISHES: usize = 64;
 
 /// The id of the last wish that can be recorded.
 pub const LAST_ID: u32 = 4_294_967_295;
 
-/// The most bytes that a call or a reply carries.
+/// The greatest number of bytes in a call or a reply.
 pub const MOST_OCTETS: usize = 64;

@@ -1,24 +1,24 @@
-//! What a call names.
+//! What a call names, which is checked before the call runs.
 ghost use Rattle.std.specs.Prelude.{◌≡◌};
 ghost use Rattle.strm_pool.specs.Names.{naming};
 
 use crate::reg::Reg;
 
-/// The queue and the registers that a call names.
+/// The queue and the registers that a call names, each if any.
 #[derive(Clone, Copy, Debug)]
 pub struct Names {
-    /// The queue.
+    /// The queue's number.
     pub queue: Option<u8>,
-    /// The register that it takes from, or the first of two.
+    /// The first source: a register whose message the call uses.
     pub source: Option<Reg>,
-    /// The second register that it takes from.
+    /// The second source.
     pub second: Option<Reg>,
-    /// The register that it puts into.
+    /// The destination: a register for a message that the call gives.
     pub destination: Option<Reg>,
 }
 
 impl Names {
-    // These.
+    // The names that are given.
     pub(crate) fn of(
         queue: Option<u8>,
         source: Option<Reg>,

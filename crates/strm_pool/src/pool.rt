@@ -1,4 +1,4 @@
-//! The pool: messages held as tokens or put on queues.
+//! The pool: what it is made of, its laws, and what it says of tokens, registers and blocks.
 ghost use Rattle.std.specs.Prelude.{◌≡◌, true, IfOk, IsTrue, None, slice_get};
 ghost use Rattle.std.specs.Option.{option_map_or};
 ghost use Rattle.strm_data.specs.DataStore.{class_infos};
@@ -22,8 +22,8 @@ use strm_data::ClassInfo;
 use strm_mblk::{Blocks, Census, Token};
 use strm_queue::Queues;
 
-/// A pool of message blocks over data blocks, with its queues. A message is held as a token by the caller, or
-/// stands on a queue. No call but `new` takes memory.
+/// A pool of message blocks over data blocks, with its queues and wishes. Callers hold messages as tokens; the others are
+/// on queues. Only `new` allocates.
 #[derive(Debug, Drop)]
 pub struct Pool {
     blocks: Blocks,
@@ -44,13 +44,11 @@ impl Model for Pool {
 }
 
 impl Pool {
-    /// The pool that a configuration opens: all blocks are free, and no queue has a message.
-    ///
-    /// `BadConfig` comes where the configuration is not lawful, with its first fault, before any want of memory; `Memory` where
-    /// memory was refused, and then none is kept.
+    /// Makes the pool of a configuration: all blocks are free, and all queues are empty. Returns `BadConfig` with the first
+    /// fault, if any, then `Memory` if memory is refused; no memory is kept then.
     pub fn new(alloc: Global, config: Config) -> Result<Pool, NewFault>
         ensures opens { Opens config result }
-        // Nothing is held in it.
+        // No message is held.
         ensures idle { IfOk result (λ pool. (census_of pool.arena).held ≡ 0) }
     {
         if let Some(which) = config.fault() {
@@ -62,7 +60,7 @@ impl Pool {
         }
     }
 
-    // The pool that a lawful configuration opens.
+    // Makes the pool of a lawful configuration.
     fn build(alloc: Global, config: &Config) -> Result<Pool, AllocError>
         requires { fault_of config.now ≡ None }
         ensures { IfOk result (λ v. v ≡ opening config.now) }
@@ -81,7 +79,7 @@ impl Pool {
         })
     }
 
-    /// The laws of every pool, whatever calls made it so. Does nothing.
+    /// Law: each pool is as [`IsLawful`] says: each block is in one place, and each queue in priority order. Does nothing.
     pub fn lawful(&self)
         ensures { IsLawful self.now }
     {
@@ -90,7 +88,7 @@ impl Pool {
         self.wishes.lawful();
     }
 
-    /// The queues, lent, which agree with the message blocks.
+    /// Lends the queues, which agree with the message blocks.
     pub fn queues(&self) -> &Queues
         ensures state { result.now.state ≡ self.now.queues }
         ensures agrees { Agrees result.now self.now.arena }
@@ -98,21 +96,21 @@ impl Pool {
         &self.queues
     }
 
-    /// The message blocks, lent.
+    /// Lends the message blocks.
     pub fn blocks(&self) -> &Blocks
         ensures { result.now ≡ self.now.arena }
     {
         &self.blocks
     }
 
-    /// Whether the token carries this pool's id and a held message has its head and its number of blocks.
+    /// Says whether the pool has the token. As [`Blocks::has`] of strm_mblk.
     pub fn has(&self, token: &Token) -> bool
         ensures { result ≡ has self.now.arena token.now }
     {
         self.blocks.has(token)
     }
 
-    // Whether the pool has the token of a register, if there is one.
+    // Whether the pool has the token of a register; true if the register is empty.
     fn has_any(&self, slot: &Option<Token>) -> bool
         ensures { result ≡ option_map_or (has self.now.arena) slot.now true }
     {
@@ -122,37 +120,37 @@ impl Pool {
         }
     }
 
-    /// Whether the pool has each token that the registers hold.
+    /// Says whether the pool has each token in these registers.
     pub fn owns(&self, regs: &Regs) -> bool
         ensures { result ≡ owns self.now regs.now }
     {
         regs.slots().iter().all(|slot| self.has_any(slot.token()))
     }
 
-    /// The law of registers that a pool owns: whose tokens carry its id, and of which each that holds one tells of a held message,
-    /// with its number of blocks. Does nothing.
+    /// Law: a pool has the tokens of registers if they all carry its id, and each is of a held message with its number of
+    /// blocks. Does nothing.
     pub fn lawful_regs(&self, regs: &Regs)
-        ensures { CarryId self.now.arena.id regs.now → TellOfHeld self.now.arena (entries_of regs.now) → IsTrue (owns self.now regs.now) }
+        ensures { CarryId self.now.arena.id regs.now → TellOfHeld self.now.arena (entries_of regs.now)
+            → IsTrue (owns self.now regs.now) }
     {
         let _ = regs;
     }
 
-    /// Whether there is a queue of this number.
+    /// Says whether there is a queue of this number.
     pub fn has_queue(&self, queue: u8) -> bool
         ensures { result ≡ has_queue self.now queue }
     {
         self.queues.has_queue(queue)
     }
 
-    /// The size of a class, how many of its data blocks are free, and how many it has; none where there is no
-    /// such class. Classes are counted from 0, the smallest first.
+    /// Returns the size of a class and its free and total data blocks, or none. As [`Blocks::class_info`] of strm_mblk.
     pub fn class_info(&self, class: u8) -> Option<ClassInfo>
         ensures { result ≡ slice_get (class_infos self.now.arena.store) class }
     {
         self.blocks.class_info(class)
     }
 
-    /// How many message blocks are free, in messages on queues, and in messages held as tokens.
+    /// Counts message blocks: free, queued and held. As [`Blocks::census`] of strm_mblk.
     pub fn census(&self) -> Census
         ensures { result ≡ census_of self.now.arena }
     {

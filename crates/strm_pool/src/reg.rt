@@ -1,4 +1,4 @@
-//! The names of registers.
+//! The names of registers, as checked numbers.
 ghost use Rattle.std.specs.Prelude.{◌≡◌, ◌<◌};
 ghost use Rattle.std.specs.Option.{SomeIff};
 ghost use Rattle.strm_pool.specs.Limits.{most_registers};
@@ -6,7 +6,7 @@ ghost use Rattle.strm_pool.specs.Limits.{most_registers};
 use crate::limits::MOST_REGISTERS;
 use std::marker::Model;
 
-/// The name of a register, a to z, by its place in the alphabet from 0.
+/// The name of a register, a to z, as its place in the alphabet from 0.
 #[derive(Clone, Copy, Debug)]
 pub struct Reg {
     place: u8,
@@ -26,7 +26,7 @@ impl Model for Reg {
 }
 
 impl Reg {
-    /// The register with this place in the alphabet, or none above 25.
+    /// Makes the name of the register with this place in the alphabet, or none above 25.
     pub fn new(place: u8) -> Option<Reg>
         ensures { SomeIff result (place < most_registers) place }
     {
@@ -37,7 +37,7 @@ impl Reg {
         }
     }
 
-    /// The place in the alphabet, from 0.
+    /// Returns the register's place in the alphabet, from 0.
     pub fn index(self) -> usize
         ensures value { result ≡ self }
         ensures small { result < most_registers }

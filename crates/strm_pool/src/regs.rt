@@ -1,4 +1,4 @@
-//! Registers that hold tokens.
+//! Registers: how calls as data hold their tokens.
 ghost use Rattle.std.specs.Prelude.{◌≡◌, ◌≢◌, ◌<◌, None, Some, IsNone, IsSome, is_some, length, replicate, slice_set};
 ghost use Rattle.std.specs.Option.{ForSome};
 ghost use Rattle.strm_pool.specs.Limits.{most_registers};
@@ -10,15 +10,15 @@ ghost use Rattle.strm_pool.specs.Step.{is_empty, is_taken, misses_token};
 use crate::limits::MOST_REGISTERS;
 use crate::reg::Reg;
 use crate::reply::Reply;
-use crate::slot::Slot;
+use crate::token_slot::TokenSlot;
 use std::marker::Model;
 use strm_data::Refusal;
 use strm_mblk::{Rejected, Token};
 
-/// Twenty-six registers, a to z, each of which holds a token or none. Registers must be spent, as tokens must:
-/// they can be neither cloned nor dropped, so no message is lost but by `forget`.
+/// Twenty-six registers, a to z, each with a token or none. They cannot be cloned or dropped, so no message is lost: spend
+/// them by [`Pool::drain`](crate::Pool::drain), or lose their tokens by `forget`.
 pub struct Regs {
-    slots: [Slot; MOST_REGISTERS],
+    slots: [TokenSlot; MOST_REGISTERS],
 }
 
 impl Model for Regs {
@@ -31,43 +31,43 @@ impl Model for Regs {
 }
 
 impl Regs {
-    /// Registers that hold nothing.
+    /// Makes registers without tokens.
     pub fn new() -> Regs
         ensures { result ≡ replicate most_registers None }
     {
         Regs {
             slots: [
-                Slot::none(),
-                Slot::none(),
-                Slot::none(),
-                Slot::none(),
-                Slot::none(),
-                Slot::none(),
-                Slot::none(),
-                Slot::none(),
-                Slot::none(),
-                Slot::none(),
-                Slot::none(),
-                Slot::none(),
-                Slot::none(),
-                Slot::none(),
-                Slot::none(),
-                Slot::none(),
-                Slot::none(),
-                Slot::none(),
-                Slot::none(),
-                Slot::none(),
-                Slot::none(),
-                Slot::none(),
-                Slot::none(),
-                Slot::none(),
-                Slot::none(),
-                Slot::none(),
+                TokenSlot::none(),
+                TokenSlot::none(),
+                TokenSlot::none(),
+                TokenSlot::none(),
+                TokenSlot::none(),
+                TokenSlot::none(),
+                TokenSlot::none(),
+                TokenSlot::none(),
+                TokenSlot::none(),
+                TokenSlot::none(),
+                TokenSlot::none(),
+                TokenSlot::none(),
+                TokenSlot::none(),
+                TokenSlot::none(),
+                TokenSlot::none(),
+                TokenSlot::none(),
+                TokenSlot::none(),
+                TokenSlot::none(),
+                TokenSlot::none(),
+                TokenSlot::none(),
+                TokenSlot::none(),
+                TokenSlot::none(),
+                TokenSlot::none(),
+                TokenSlot::none(),
+                TokenSlot::none(),
+                TokenSlot::none(),
             ],
         }
     }
 
-    /// Whether a register holds a token.
+    /// Says whether a register has a token.
     pub fn holds(&self, reg: Reg) -> bool
         ensures value { result ≡ is_some (register self.now reg) }
         ensures there { reg < length self.now }
@@ -76,10 +76,11 @@ impl Regs {
         self.slots[reg.index()].token().is_some()
     }
 
-    /// Puts a token into a register, or gives it back where the register holds one.
+    /// Puts a token into a register, or returns it if the register has one already.
     pub fn put(&mut self, reg: Reg, token: Token) -> Option<Token>
         ensures held { IsSome (register self.old reg) → (result ≡ Some token) × (self.new ≡ self.old) }
-        ensures free { IsNone (register self.old reg) → (result ≡ None) × (self.new ≡ slice_set self.old reg (Some token)) }
+        ensures free { IsNone (register self.old reg) → (result ≡ None)
+            × (self.new ≡ slice_set self.old reg (Some token)) }
         ensures there { reg < length self.old }
         ensures count { length self.new ≡ most_registers }
     {
@@ -91,7 +92,7 @@ impl Regs {
         }
     }
 
-    /// Takes the token out of a register, or nothing where it holds none.
+    /// Takes the token out of a register, if it has one.
     pub fn take(&mut self, reg: Reg) -> Option<Token>
         ensures token { result ≡ register self.old reg }
         ensures empty { self.new ≡ slice_set self.old reg None }
@@ -101,8 +102,7 @@ impl Regs {
         self.slots[reg.index()].take()
     }
 
-    /// What the token of a register tells of its message: the number of its first block, and how many blocks it has.
-    /// None where the register holds nothing.
+    /// Returns the head of the message of a register's token, and its number of blocks, or none if the register is empty.
     pub fn entry(&self, reg: Reg) -> Option<(u32, u32)>
         ensures { result ≡ register (entries_of self.now) reg }
     {
@@ -112,20 +112,19 @@ impl Regs {
         }
     }
 
-    /// The law of all registers: there are 26. Does nothing.
+    /// Law: there are 26 registers. Does nothing.
     pub fn lawful(&self)
         ensures { length self.now ≡ most_registers }
     {
         let _ = self.slots[0].token().is_some();
     }
 
-    /// Gives the registers up, and the tokens in them. The messages of these stay held, and nothing can reach them any
-    /// more.
+    /// Loses the registers and their tokens. The messages stay held, and no call can reach them any more.
     pub fn forget(self) {
         let Regs { slots: _ } = self;
     }
 
-    // Puts a token into a register that holds none.
+    // Puts a token into an empty register.
     pub(crate) fn hold(&mut self, reg: Reg, token: Token)
         requires { IsNone (register self.old reg) }
         ensures { self.new ≡ slice_set self.old reg (Some token) }
@@ -136,7 +135,7 @@ impl Regs {
         }
     }
 
-    // The token that a register holds.
+    // The token of a register that has one.
     pub(crate) fn token(&self, reg: Reg) -> &Token
         requires { IsSome (register self.now reg) }
         ensures { register self.now reg ≡ Some result.now }
@@ -147,7 +146,7 @@ impl Regs {
         }
     }
 
-    // Takes the token out of a register that holds one.
+    // Takes the token out of a register that has one.
     pub(crate) fn pick(&mut self, reg: Reg) -> Token
         requires { IsSome (register self.old reg) }
         ensures token { register self.old reg ≡ Some result }
@@ -156,7 +155,7 @@ impl Regs {
         self.take(reg).unwrap()
     }
 
-    // Puts a token into a register that holds none, if there is one.
+    // Puts a token, if any, into an empty register.
     pub(crate) fn hold_any(&mut self, reg: Reg, given: Option<Token>)
         requires { IsNone (register self.old reg) }
         ensures { self.new ≡ slice_set self.old reg given }
@@ -166,7 +165,7 @@ impl Regs {
         }
     }
 
-    // Puts the token that a call gave into a register that holds none, and sets the reply.
+    // Puts the token that a call gave into an empty register. Sets the reply: `Done`, or the refusal.
     pub(crate) fn give(&mut self, into: Reg, given: Result<Token, Refusal>, reply: &mut Reply)
         requires { IsNone (register self.old into) }
         ensures { (self.new, reply.new) ≡ given_to into given self.old }
@@ -180,7 +179,8 @@ impl Regs {
         }
     }
 
-    // Puts the token that a call gave, if it gave one, into a register that holds none, and sets the reply.
+    // Puts the token that a call gave, if any, into an empty register. Sets the reply: `Done`, `Nothing` without a
+    // token, or the refusal.
     pub(crate) fn give_any(
         &mut self,
         into: Reg,
@@ -200,7 +200,7 @@ impl Regs {
         }
     }
 
-    // Puts the token that a call rejected back into a register that holds none, and sets the reply.
+    // Sets the reply to a call that spends a token; if it was rejected, the token returns to its register.
     pub(crate) fn spend(&mut self, from: Reg, spent: Result<(), Rejected>, reply: &mut Reply)
         requires { IsNone (register self.old from) }
         ensures { (self.new, reply.new) ≡ rejected_to from spent self.old }
@@ -214,7 +214,7 @@ impl Regs {
         }
     }
 
-    // Puts the two tokens that a call gave, or the one that it rejected, into registers that hold none, and sets the reply.
+    // Puts the two tokens that a call gave, or the one that it rejected, into empty registers, and sets the reply.
     pub(crate) fn part(
         &mut self,
         from: Reg,
@@ -240,7 +240,7 @@ impl Regs {
         }
     }
 
-    // Whether a register that is named holds nothing.
+    // Whether a register that is named is empty.
     fn is_empty(&self, source: Option<Reg>) -> bool
         ensures { result ≡ is_empty (table_of self.now) source }
     {
@@ -250,7 +250,7 @@ impl Regs {
         }
     }
 
-    // Whether a source holds nothing, once those before it are empty.
+    // Whether a source is empty, once the token of the source before it is taken.
     pub(crate) fn misses_token(&self, source: Option<Reg>, second: Option<Reg>) -> bool
         ensures { result ≡ misses_token (table_of self.now) (naming None source second None) }
     {
@@ -266,7 +266,7 @@ impl Regs {
         }
     }
 
-    // Whether the destination, which is one of these registers, holds a token.
+    // Whether the destination, if any, has a token.
     pub(crate) fn is_taken(&self, destination: Option<Reg>) -> bool
         ensures value { result ≡ is_taken (table_of self.now) (naming None None None destination) }
         ensures there { ForSome destination (λ reg. reg < length self.now) }
@@ -277,15 +277,15 @@ impl Regs {
         }
     }
 
-    // What the registers hold, a to z.
-    pub(crate) fn slots(&self) -> &[Slot]
+    // The slots of the registers, a to z.
+    pub(crate) fn slots(&self) -> &[TokenSlot]
         ensures { result.now ≡ self.now }
     {
         &self.slots
     }
 
-    // Takes the registers apart: what they held, a to z.
-    pub(crate) fn into_slots(self) -> [Slot; MOST_REGISTERS]
+    // Takes the registers apart into their slots, a to z.
+    pub(crate) fn into_slots(self) -> [TokenSlot; MOST_REGISTERS]
         ensures { result ≡ self }
     {
         let Regs { slots } = self;

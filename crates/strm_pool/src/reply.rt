@@ -1,4 +1,4 @@
-//! Replies as data.
+//! Replies as data, and how each is made from a call's result.
 ghost use Rattle.std.specs.Prelude.{◌≡◌};
 ghost use Rattle.strm_pool.specs.declared.reply.Reply.TheVariants as replies;
 ghost use Rattle.strm_pool.specs.Shapes.{reply_done, reply_made};
@@ -9,26 +9,26 @@ use strm_data::Refusal;
 use strm_mblk::{BlockInfo, Census};
 use strm_queue::Marks;
 
-/// The reply to a call.
+/// The reply to a call that is given as data.
 #[derive(Debug, PartialEq, Eq, Drop)]
 pub enum Reply {
     /// The call was done.
     Done,
-    /// To `testb`: `allocb` of this size would give a message. To `bcanput`: the band has room.
+    /// To `testb`: `allocb` for this size would succeed. To `bcanput`: the band has room.
     Yes,
-    /// To `testb`: `allocb` of this size would be refused. To `bcanput`: the band is full, and is wanted from now on.
+    /// To `testb`: `allocb` for this size would be refused. To `bcanput`: the band is full, and is wanted from now on.
     No,
-    /// The call was done, and there was nothing to give.
+    /// The call was done, and there was nothing to return.
     Nothing,
-    /// A register that the call takes from holds no token, and nothing was done.
+    /// A source of the call has no token, and nothing changed.
     Empty,
-    /// A register that the call puts into holds a token, and nothing was done.
+    /// The destination of the call has a token, and nothing changed.
     Taken,
-    /// How many bytes a message has, or how many messages a queue.
+    /// The number of bytes of a message, or of messages on a queue.
     Size(u32),
     /// Bytes of a message.
     Bytes(Octets),
-    /// What there is to tell of a block.
+    /// What a block is like.
     Block(BlockInfo),
     /// The id of a wish.
     Id(u32),
@@ -38,14 +38,15 @@ pub enum Reply {
     Queue(u8),
     /// The high and the low water mark of a band.
     Marks(u32, u32),
-    /// How many message blocks are where.
+    /// The numbers of free, queued and held message blocks.
     Census(Census),
-    /// The call was refused, and nothing was done.
+    /// The call was refused, and nothing changed.
     Refused(Refusal),
 }
 
 impl Reply {
-    /// An equal reply, with bytes of its own where this one carries bytes. It takes no memory, and nothing changes.
+    /// Returns an equal reply, with its own bytes if it carries any. This allocates nothing, so it cannot fail as `clone`
+    /// can.
     pub fn copy(&self) -> Reply
         ensures { result ≡ self.now }
     {
@@ -68,7 +69,7 @@ impl Reply {
         }
     }
 
-    // `Yes` where it is true, else `No`.
+    // Sets `Yes` if the answer is true, else `No`.
     pub(crate) fn set_yes_or_no(&mut self, answer: bool)
         ensures { self.new ≡ yes_or_no answer }
     {
@@ -79,7 +80,7 @@ impl Reply {
         }
     }
 
-    // Whether it is true, or the refusal.
+    // Sets `Yes`, `No`, or the refusal.
     pub(crate) fn set_truth(&mut self, answer: Result<bool, Refusal>)
         ensures { self.new ≡ reply_made yes_or_no answer }
     {
@@ -89,7 +90,7 @@ impl Reply {
         }
     }
 
-    // The number of a queue, or that there is none.
+    // Sets the number of a queue, or `Nothing`.
     pub(crate) fn set_queue(&mut self, answer: Option<u8>)
         ensures { self.new ≡ queue_or_nothing answer }
     {
@@ -99,7 +100,7 @@ impl Reply {
         }
     }
 
-    // The water marks of a band, or the refusal.
+    // Sets the water marks of a band, or the refusal.
     pub(crate) fn set_marks(&mut self, answer: Result<Marks, Refusal>)
         ensures { self.new ≡ reply_made marks_told answer }
     {
@@ -109,7 +110,7 @@ impl Reply {
         }
     }
 
-    // The id of a wish, or the refusal.
+    // Sets the id of a wish, or the refusal.
     pub(crate) fn set_id(&mut self, answer: Result<u32, Refusal>)
         ensures { self.new ≡ reply_made (λ id. replies.Id id) answer }
     {
@@ -119,7 +120,7 @@ impl Reply {
         }
     }
 
-    // A wish, or that there is none.
+    // Sets the id and size of a wish, or `Nothing`.
     pub(crate) fn set_ready(&mut self, answer: Option<(u32, u32)>)
         ensures { self.new ≡ ready_or_nothing answer }
     {
@@ -129,7 +130,7 @@ impl Reply {
         }
     }
 
-    // `Done`, or the refusal.
+    // Sets `Done`, or the refusal.
     pub(crate) fn set_done(&mut self, answer: Result<(), Refusal>)
         ensures { self.new ≡ reply_done answer }
     {
@@ -139,7 +140,7 @@ impl Reply {
         }
     }
 
-    // What there is to tell of a block, or the refusal.
+    // Sets what a block is like, or the refusal.
     pub(crate) fn set_block(&mut self, answer: Result<BlockInfo, Refusal>)
         ensures { self.new ≡ reply_made (λ info. replies.Block info) answer }
     {
@@ -149,7 +150,7 @@ impl Reply {
         }
     }
 
-    // A size, or the refusal.
+    // Sets a size, or the refusal.
     pub(crate) fn set_size(&mut self, answer: Result<u32, Refusal>)
         ensures { self.new ≡ reply_made (λ size. replies.Size size) answer }
     {

@@ -1,4 +1,4 @@
-//! Lists over arrays.
+//! Lists over arrays, for plain data that a call or a configuration carries.
 ghost use Rattle.std.specs.Prelude.{◌≡◌, ◌≤◌, length};
 ghost use Rattle.std.specs.Cmp.Lexicographic.{lists_equiv, lists_per, pointwise};
 
@@ -32,14 +32,14 @@ impl<T, const MOST: usize> Model for ShortList<T, MOST> {
 }
 
 impl<T, const MOST: usize> ShortList<T, MOST> {
-    /// These items.
+    /// Makes the list of these items.
     pub fn of(array: ArrayVec<T, MOST>) -> ShortList<T, MOST>
         ensures { result ≡ array.items }
     {
         ShortList { array }
     }
 
-    /// The items, in order.
+    /// Returns the items, in order.
     pub fn items(&self) -> &[T]
         ensures value { result.now ≡ self.now }
         ensures few { length result.now ≤ MOST }

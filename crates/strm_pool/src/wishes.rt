@@ -1,4 +1,4 @@
-//! Wishes for message blocks, in the order in which they were recorded.
+//! The wishes of `bufcall`, in the order in which they were recorded.
 ghost use Rattle.std.specs.Prelude.{◌≡◌, ◌<◌, ◌≤◌, IfSome, Some, [], length, slice_get};
 ghost use Rattle.std.specs.List.{position};
 ghost use Rattle.strm_mblk.specs.Given.{answer_of, value_after};
@@ -10,13 +10,13 @@ use arrayvec::ArrayVec;
 use std::marker::Model;
 use strm_data::Refusal;
 
-// Wishes, each an id and a size.
+// Wishes, each with an id and a size.
 #[derive(Debug, Drop)]
 pub(crate) struct Wishes {
     pending: ArrayVec<(u32, u32), MOST_WISHES>,
-    // How many may be recorded at one time.
+    // How many wishes there may be at one time.
     most: u32,
-    // The id of the next one, until all ids have been given.
+    // The id of the next wish, or none after `LAST_ID`.
     next: Option<u32>,
 }
 
@@ -33,7 +33,7 @@ impl Model for Wishes {
 }
 
 impl Wishes {
-    // No wishes, of which so many may be recorded, the first with this id.
+    // No wishes yet; there may be `most` of them, and the first gets this id.
     pub(crate) fn new(most: u32, first_id: u32) -> Wishes
         requires { most ≤ most_wishes }
         ensures { result ≡ record { most = most; next = Some first_id; pending = [] } }
@@ -45,7 +45,7 @@ impl Wishes {
         }
     }
 
-    // What holds of all wishes, whatever calls made them so. Does nothing.
+    // Law: wishes are within their limit, and their ids rise. Does nothing.
     pub(crate) fn lawful(&self)
         ensures lawful { AreLawful self.now }
         ensures few { length self.now.pending ≤ most_wishes }
@@ -53,14 +53,14 @@ impl Wishes {
         let _ = &self.pending;
     }
 
-    // The wishes, the one that was recorded first in front.
+    // The wishes, earliest first.
     pub(crate) fn items(&self) -> &[(u32, u32)]
         ensures { result.now ≡ self.now.pending }
     {
         self.pending.as_slice()
     }
 
-    // Records a wish of a size, and answers its id.
+    // Records a wish of a size, and returns its id.
     pub(crate) fn record(&mut self, size: u32) -> Result<u32, Refusal>
         ensures after { self.new ≡ value_after self.old (recorded size self.old) }
         ensures answer { result ≡ answer_of (recorded size self.old) }
@@ -76,7 +76,7 @@ impl Wishes {
         Ok(id)
     }
 
-    // The place of the wish with an id.
+    // The place of the wish with this id, if any.
     pub(crate) fn place_of(&self, id: u32) -> Option<usize>
         ensures place { result ≡ position (has_id id) self.now.pending }
         ensures there { IfSome result (λ place. place < length self.now.pending) }
@@ -84,7 +84,7 @@ impl Wishes {
         self.items().iter().position(|wish| wish.0 == id)
     }
 
-    // Takes out the wish at a place, counted from 0.
+    // Removes and returns the wish at a place, counted from 0.
     pub(crate) fn remove(&mut self, place: usize) -> Option<(u32, u32)>
         requires { place < length self.old.pending }
         ensures after { self.new ≡ wishes_without place self.old }

@@ -19,10 +19,10 @@ mod second;
 mod slots;
 mod tally;
 
-// Data blocks of two sizes, and how many.
+// Two size classes: the size of each, and its number of data blocks.
 const SIZES: [(u32, u32); 2] = [(16, 4), (64, 2)];
 
-// Classes of a size and a count each.
+// Size classes, each of a size and a count.
 fn classes(rt: &impl Abort, specs: &[(u32, u32)]) -> ClassSpecs {
     let mut list = ArrayVec::new();
     for (size, count) in specs {
@@ -35,7 +35,7 @@ fn classes(rt: &impl Abort, specs: &[(u32, u32)]) -> ClassSpecs {
     ClassSpecs::of(list)
 }
 
-// Queues of a high and a low water mark and a next queue each.
+// Queues, each of a high and a low water mark, and a next queue if any.
 fn queues(rt: &impl Abort, specs: &[(u32, u32, Option<u8>)]) -> QueueSpecs {
     let mut list = ArrayVec::new();
     for (hiwat, lowat, next) in specs {
@@ -50,7 +50,7 @@ fn queues(rt: &impl Abort, specs: &[(u32, u32, Option<u8>)]) -> QueueSpecs {
     QueueSpecs::of(list)
 }
 
-// A pool of an id and so many message blocks, with these classes and queues, and so many wishes, the first with this id.
+// Opens a pool with this id, number of message blocks, classes, queues, greatest number of wishes, and first wish id.
 fn opened(
     rt: &impl Abort,
     alloc: Global,
@@ -70,24 +70,24 @@ fn opened(
     Pool::new(alloc, config).expect(rt, "a lawful configuration")
 }
 
-// These bytes, at most `MOST_OCTETS`.
+// The bytes as a call or reply carries them; at most `MOST_OCTETS`.
 fn octets(rt: &impl Abort, bytes: &[u8]) -> Octets {
     let mut list = ArrayVec::new();
     assert!(rt; list.try_extend_from_slice(bytes).is_ok());
     Octets::of(list)
 }
 
-// The register of a letter.
+// The register named by a letter.
 fn reg(rt: &impl Abort, letter: u8) -> Reg {
     register(rt, letter.wrapping_sub(b'a'))
 }
 
-// The register of this place, counted from 0.
+// The register at this place of the alphabet, from 0.
 fn register(rt: &impl Abort, place: u8) -> Reg {
     Reg::new(place).expect(rt, "a register")
 }
 
-// A call was answered so.
+// The reply to a call is this one.
 fn assert_reply(rt: &impl Abort, call: &Call, given: &Reply, reply: &Reply) {
     assert!(rt; given == reply, "{call:?} {given:?}");
 }

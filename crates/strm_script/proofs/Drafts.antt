@@ -1,4 +1,4 @@
--- What a draft stands for once it has taken a line.
+-- Which entries a draft has, once it has taken a line.
 use Rattle.std.proofs.Common.{◌≡◌, ◌≢◌, ℕ, ◌+◌, ◌-◌, sum_by, Bool, true, false, List, [], ◌∷◌, ◌++◌, length, Option, Some, refl, sym, ap, ◌∙◌, arith, append-nil, slice_get}
 use Rattle.std.specs.Option.{option_map_or}
 use Rattle.std.proofs.lemmas.List.{length_push}
@@ -29,8 +29,7 @@ slice_get-push (y ∷ xs) x = slice_get-push xs x
 stage_of-push : (es : List Numbered) (e : Numbered) → stage_of (es ++ e ∷ []) ≡ stage_behind e.entry
 stage_of-push es e =
     let last : length (es ++ e ∷ []) - 1 ≡ length es = omega (arith, length_push es e) in
-    ap (λ n. option_map_or (λ (x : Numbered). stage_behind x.entry) (slice_get (es ++ e ∷ []) n) stages.Start) last
-    ∙ ap (λ o. option_map_or (λ (x : Numbered). stage_behind x.entry) o stages.Start) (slice_get-push es e)
+    cc (last, slice_get-push es e)
 
 said-more : {X : Type 0} (line : Entry → Option X) (es : List Numbered) (e : Numbered) (xs ys : List X) → said line es ≡ xs → said line (e ∷ []) ≡ ys → said line (es ++ e ∷ []) ≡ xs ++ ys
 said-more line es e xs ys before here = filter_map-append (λ (x : Numbered). line x.entry) es (e ∷ []) ∙ ap (λ zs. zs ++ said line (e ∷ [])) before ∙ ap (λ zs. xs ++ zs) here
@@ -50,9 +49,7 @@ with_section-append _ lines parts more = refl
 parts_of-more : (es : List Numbered) (e : Numbered) → lines_of_section (e ∷ []) ≡ [] → parts_of (es ++ e ∷ []) ≡ parts_of es ++ parts_of (e ∷ [])
 parts_of-more [] e here = refl
 parts_of-more (x ∷ es) e here =
-    ap (λ lines. with_section x.entry lines (parts_of (es ++ e ∷ []))) (lines_of_section-same es e here)
-    ∙ ap (with_section x.entry (lines_of_section es)) (parts_of-more es e here)
-    ∙ with_section-append x.entry (lines_of_section es) (parts_of es) (parts_of (e ∷ []))
+    cc (lines_of_section-same es e here, parts_of-more es e here, with_section-append x.entry (lines_of_section es) (parts_of es) (parts_of (e ∷ [])))
 
 parts_of-same : (es : List Numbered) (e : Numbered) (parts : List (List Line)) → parts_of es ≡ parts → lines_of_section (e ∷ []) ≡ [] → parts_of (e ∷ []) ≡ [] → parts_of (es ++ e ∷ []) ≡ parts
 parts_of-same es e parts before here none = parts_of-more es e here ∙ ap (λ ps. ps ++ parts_of (e ∷ [])) before ∙ ap (λ ps. parts ++ ps) none ∙ append-nil parts
@@ -70,8 +67,7 @@ left-section es e left room here begun =
     ap (λ ps. left + sum_by length ps) (parts_of-more es e here ∙ ap (λ ps. parts_of es ++ ps) begun) ∙ ap (λ n. left + n) (sum_by-empty (parts_of es)) ∙ room
 
 one_more : (parts : List (List Line)) (lines : List Line) (line : Line) → sum_by length (parts ++ (lines ++ line ∷ []) ∷ []) ≡ sum_by length (parts ++ lines ∷ []) + 1
-one_more parts lines line =
-    omega (arith, sum_by_push length parts (lines ++ line ∷ []), sum_by_push length parts lines, length_push lines line)
+one_more parts lines line = omega (arith, sum_by_push length parts (lines ++ line ∷ []), sum_by_push length parts lines, length_push lines line)
 
 -- ---- a command more
 
@@ -95,7 +91,7 @@ untouched-behind x es n call (Class spec) is none rest = let u = rest none in re
 untouched-behind x es n call (Queue spec) is none rest = let u = rest none in record { lines = rw is u.lines; parts = rw is u.parts }
 untouched-behind x es n call (Bufcalls wishes first_id) is none rest = let u = rest none in record { lines = rw is u.lines; parts = rw is u.parts }
 
--- before the first section a command would stand in no part
+-- before the first section, no part could have a command
 untouched : (es : List Numbered) (n : ℕ) (call : Call) → parts_of es ≡ [] → Untouched es n call
 untouched [] n call none = record { lines = refl; parts = refl }
 untouched (x ∷ es) n call none = untouched-behind x es n call x.entry refl none (untouched es n call)
@@ -262,11 +258,7 @@ next_section d es n parts lines pushed blank room at so =
       classes = said-same class_line es e _ so.classes refl;
       queues = said-same queue_line es e _ so.queues refl;
       wishes = said-same bufcalls_line es e _ so.wishes refl;
-      parts =
-          parts_of-more es e refl
-          ∙ ap (λ ps. ps ++ [] ∷ []) (so.parts ∙ ap (λ s. parts_at s d.parts.items d.lines.items) at ∙ sym pushed)
-          ∙ ap (λ (ls : List Line). parts.items ++ ls ∷ []) (sym blank)
-          ∙ sym (ap (λ s. parts_at s parts.items lines.items) at);
+      parts = cc (parts_of-more es e refl, so.parts, at, pushed, blank);
       left = left-section es e d.left so.left refl refl;
       few = omega (arith, room, ap length pushed, length_push d.parts.items d.lines.items);
       idle = rw at tt;

@@ -41,15 +41,11 @@ with_front-before front b (Some bytes) = ap (λ (bs : List ℕ). Some bs) (sym (
 pub hex_bytes-step : (front : List ℕ) (rest : List ℕ) (word : List ℕ) (b : ℕ) → 2 ≤ length rest → hex_pair (get_or rest 0 0) (get_or rest 1 0) ≡ Some b → with_front front (hex_bytes rest) ≡ hex_bytes word → with_front (front ++ b ∷ []) (hex_bytes (take (length rest - 2) (drop 2 rest))) ≡ hex_bytes word
 hex_bytes-step front [] word b long pair so = absurd (omega arith)
 hex_bytes-step front (x ∷ []) word b long pair so = absurd (omega arith)
-hex_bytes-step front (x ∷ y ∷ rest) word b long pair so =
-    ap (λ bytes. with_front (front ++ b ∷ []) (hex_bytes bytes)) (take_rest (x ∷ y ∷ rest) 2)
-    ∙ sym (with_front-before front b (hex_bytes rest))
-    ∙ ap (λ byte. with_front front (before_bytes byte (hex_bytes rest))) (sym pair)
-    ∙ so
+hex_bytes-step front (x ∷ y ∷ rest) word b long pair so = cc (take_rest (x ∷ y ∷ rest) 2, with_front-before front b (hex_bytes rest), pair, so)
 
 -- ---- digits by the table
 
--- what a byte stands for, and 16 for one that is no digit
+-- the value of a hexadecimal digit, or 16 for another byte
 abbrev digit_or_16 : ℕ → ℕ
 digit_or_16 b = unwrap_or (hex_digit b) 16
 

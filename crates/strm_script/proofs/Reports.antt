@@ -21,11 +21,11 @@ use Rattle.strm_queue.specs.QueuedBlocks.{QueuedBlocks}
 use Rattle.strm_script.specs.Piece.{Begins}
 use Rattle.strm_script.specs.Text.{band_lines, band_text, bands_text, list_text, queue_lines, queue_text}
 
--- what is written so far stands behind the text that there was, and with the rest that comes it is all
+-- the text so far begins with the text that there was, and with the rest it is the whole
 abbrev pub IsPartly : List ℕ → List ℕ → List ℕ → List ℕ → Type 0
 IsPartly start so_far rest all = Begins start so_far × (so_far ++ rest ≡ start ++ all)
 
--- what stands in front of the text so far stands in front of what grows out of it
+-- what the text so far begins with, a longer text begins with too
 begins_still : (start so_far more : List ℕ) → Begins start so_far → Begins so_far more → Begins start more
 begins_still start so_far more front grown = grind (arith, common_steps)
 
@@ -41,7 +41,7 @@ pub lines-next : {X : Type 0} (line : X → List ℕ) (start so_far more all : L
     → IsPartly start so_far (flat_map line (drop i items)) all → IsPartly start more (flat_map line (drop (i + 1) items)) all
 lines-next line start so_far more all items i item is grown before =
     let next : drop i items ≡ item ∷ drop (i + 1) items =
-    drop_more items i item (slice_get_within items i item is) ∙ ap (λ x. x ∷ drop (i + 1) items) (get_or_from_slice_get items i item item is) in
+    cc (drop_more items i item (slice_get_within items i item is), get_or_from_slice_get items i item item is) in
     written start so_far more all (line item) (flat_map line (drop (i + 1) items)) (flat_map line (drop i items)) (ap (flat_map line) next) grown before
 
 -- and behind the last item all is written
@@ -63,12 +63,12 @@ number_at n k below =
 number_past : (n k : ℕ) → nat_lt k n ≡ false → slice_get (range_with_len 0 n) k ≡ None
 number_past n k above = slice_get_past (range_with_len 0 n) k (omega (arith, ltb-false k n above, length-range_with_len 0 n))
 
--- what is told of a queue that is there
+-- the report of a queue that exists
 told : {X V : Type 0} (there : Bool) (x y : X) (v : V) (why : Refusal) → answer_of (if there then Ok (x, v) else Err why) ≡ Ok y → (there ≡ true) × (y ≡ x)
 told true x y v why is = (refl, cc)
 told false x y v why is = cc
 
--- and where there is none
+-- and of one that does not
 untold : {X V : Type 0} (there : Bool) (x : X) (v : V) (why seen : Refusal) → answer_of (if there then Ok (x, v) else Err why) ≡ Err seen → there ≡ false
 untold true x v why seen is = cc
 untold false x v why seen is = refl
@@ -127,5 +127,4 @@ pub list-end : {X : Type 0} (name : List ℕ) (item : X → List ℕ) (start so_
 list-end name item start so_far [] place some none before = cc
 list-end name item start so_far (x ∷ xs) place some none before =
     let listed : List ℕ = flat_map item (x ∷ xs) in
-    ap (λ bs. bs ++ codes "\n") (lines-end item (start ++ name) so_far listed (x ∷ xs) place none before)
-    ∙ append_assoc (start ++ name) listed (codes "\n") ∙ append_assoc start name (listed ++ codes "\n")
+    cc (lines-end item (start ++ name) so_far listed (x ∷ xs) place none before, append_assoc (start ++ name) listed (codes "\n"), append_assoc start name (listed ++ codes "\n"))

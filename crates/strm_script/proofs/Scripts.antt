@@ -35,26 +35,19 @@ continues-start d bytes short stands = record { es = []; stands = stands; gives 
 
 -- what line n says decides
 given-line : (d : Draft) (n : ℕ) (text bytes line rest : List ℕ) (k : Continues d n text bytes) → pieces_of text ≡ line ∷ pieces_of rest → closed (length (pieces_of bytes)) (then_lines n (with_line k.es n line) (λ more. entries_from more (n + 1) (pieces_of rest))) ≡ script_of bytes
-given-line d n text bytes line rest k cut =
-    ap (closed (length (pieces_of bytes)))
-    (sym (ap (entries_from k.es n) cut ∙ entries_from-line k.es n line (pieces_of rest) (some_piece rest)))
-    ∙ k.gives
+given-line d n text bytes line rest k cut = cc (cut, entries_from-line k.es n line (pieces_of rest) (some_piece rest), k.gives)
 
 -- a line was read
 pub continues-line : (d : Draft) (n : ℕ) (text bytes line rest : List ℕ) (k : Continues d n text bytes) (new : Draft) → pieces_of text ≡ line ∷ pieces_of rest → (es : List Numbered) × (with_line k.es n line ≡ Ok es) × StandsFor new es → Continues new (n + 1) rest bytes
 continues-line d n text bytes line rest k new cut read = record {
   es = read.0;
   stands = read.2;
-  gives =
-      ap (λ r. closed (length (pieces_of bytes)) (then_lines n r (λ more. entries_from more (n + 1) (pieces_of rest)))) (sym read.1)
-      ∙ given-line d n text bytes line rest k cut;
+  gives = cc (read.1, given-line d n text bytes line rest k cut);
   count = omega (arith, k.count, ap length cut);
   few = k.few;
 }
 
 -- a line has a fault, or memory ran out
 pub stops-line : (d : Draft) (n : ℕ) (text bytes line rest : List ℕ) (k : Continues d n text bytes) (new : Draft) (fault : LineFault) → pieces_of text ≡ line ∷ pieces_of rest → Reads new (Err fault) (with_line k.es n line) → Parses (Err (on_line n fault)) (script_of bytes)
-stops-line d n text bytes line rest k new (faults.Kind kind) cut read =
-    sym (given-line d n text bytes line rest k cut)
-    ∙ ap (λ r. closed (length (pieces_of bytes)) (then_lines n r (λ more. entries_from more (n + 1) (pieces_of rest)))) read
+stops-line d n text bytes line rest k new (faults.Kind kind) cut read = cc (given-line d n text bytes line rest k cut, read)
 stops-line d n text bytes line rest k new faults.Memory cut read = tt

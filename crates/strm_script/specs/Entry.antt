@@ -1,19 +1,19 @@
--- What a line of a script says, by its words.
+-- Entries: what a line of a script says, by its words.
 use Rattle.std.specs.Prelude.{ℕ, Bool, List, Option, Result, Ok}
 use Rattle.strm_data.specs.declared.class_spec.ClassSpec.{ClassSpec}
 use Rattle.strm_queue.specs.declared.queue_spec.QueueSpec.{QueueSpec}
 use Rattle.strm_pool.specs.declared.call.Call.{Call}
 use Rattle.strm_pool.specs.declared.call.Call.TheVariants as calls
 use Rattle.strm_script.specs.declared.fault.Kind.{Kind}
-use Rattle.strm_script.specs.declared.verb.Verb.{Verb}
-use Rattle.strm_script.specs.declared.verb.Verb.TheVariants as verbs
+use Rattle.strm_script.specs.declared.word.Verb.{Verb}
+use Rattle.strm_script.specs.declared.word.Verb.TheVariants as verbs
 use Rattle.strm_script.specs.declared.word.Word.{Word}
 use Rattle.strm_script.specs.declared.word.Word.TheVariants as words
 use Rattle.strm_script.specs.Shape.{◌>>=◌, none, one, two, three, four}
 use Rattle.strm_script.specs.Form.{u32_of, u8_of, i32_of, register_of, type_of, flush_of, service_of, next_of, octets_of}
 
--- what a line says: the pool's id and the number of its message blocks, a size class, a queue, how many wishes there may be
--- and the id of the first, that a section begins, or a command
+-- What a line says. Pool: the pool's id and its number of message blocks. Class, Queue: the spec. Bufcalls: how many wishes
+-- there may be, and the id of the first. Worker: a section begins. Command: the call.
 pub data Entry : Type 0 where
   Pool : ℕ → ℕ → Entry
   Class : ClassSpec → Entry
@@ -22,7 +22,7 @@ pub data Entry : Type 0 where
   Worker : Entry
   Command : Call → Entry
 
--- the call of a command line, by the words behind its first one
+-- the call of a command line with this first word and these arguments
 abbrev pub call_of : Verb → List (List ℕ) → Result Call Kind
 call_of verbs.Allocb = two register_of u32_of calls.Allocb
 call_of verbs.Testb = one u32_of calls.Testb
@@ -70,7 +70,7 @@ class_spec size count = Class (record { size = size; count = count })
 abbrev pub queue_spec : ℕ → ℕ → Bool → Option ℕ → Entry
 queue_spec hiwat lowat service next = Queue (record { hiwat = hiwat; lowat = lowat; service = service; next = next })
 
--- what a line says, by the words behind its first one
+-- what a line with this first word and these arguments says
 abbrev pub entry_of : Word → List (List ℕ) → Result Entry Kind
 entry_of words.Pool = two u32_of u32_of Pool
 entry_of words.Class = two u32_of u32_of class_spec

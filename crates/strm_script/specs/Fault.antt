@@ -1,4 +1,4 @@
--- The name of each kind of fault, and the fault of a script that a line has.
+-- The names of a script's faults, and the fault of a script by that of a line.
 use Rattle.std.specs.Prelude.{ℕ, List, codes}
 use Rattle.strm_script.specs.declared.fault.Kind.{Kind}
 use Rattle.strm_script.specs.declared.fault.LineFault.{LineFault}
@@ -19,7 +19,7 @@ kind_text Word = codes "word"
 kind_text Hex = codes "hex"
 kind_text Missing = codes "missing"
 
--- why a script is not read of which a line is not
+-- why a script was not read, by why its line n was not read
 abbrev pub on_line : ℕ → LineFault → ParseFault
 on_line n (lines.Kind kind) = faults.Script (record { line = n; kind = kind })
 on_line n lines.Memory = faults.Memory

@@ -1,4 +1,4 @@
--- What a word stands for, where a form wants a number, a register, a word or bytes.
+-- Arguments: what a word means as a number, a register, a word or bytes.
 use Rattle.std.specs.Prelude.{ℕ, ◌+◌, ◌-◌, ◌*◌, ◌^◌, ℤ, pos, neg_ℤ, Bool, true, false, not, ◌&&◌, ◌==◌, nat_lt, nat_le, fold, find, List, [], ◌∷◌, length, Option, None, Some, Result, Ok, Err, bytes_eq, option_and_then, option_map, ok_or, if◌then◌else◌, codes}
 use Rattle.std.specs.List.{list_all}
 use Rattle.strm_data.specs.MsgType.{all_types, name_of}
@@ -9,32 +9,32 @@ use Rattle.strm_queue.specs.declared.flush.Flush.TheVariants.{All, Data}
 use Rattle.strm_script.specs.declared.fault.Kind.{Kind}
 use Rattle.strm_script.specs.declared.fault.Kind.TheVariants.{Number, Register, Word, Hex}
 
--- one of `0` to `9`
+-- a byte is one of `0` to `9`
 abbrev pub is_digit : ℕ → Bool
 is_digit b = nat_le 48 b && nat_le b 57
 
 abbrev pub are_digits : List ℕ → Bool
 are_digits word = list_all is_digit word
 
--- there is a byte, and the first is not `0` unless it is the only one
+-- a word has a first byte, which is `0` only if the word has no other
 abbrev pub begins_well : List ℕ → Bool
 begins_well [] = false
 begins_well (b ∷ []) = true
 begins_well (b ∷ c ∷ bs) = not (b == 48)
 
--- `0`, or digits of which the first isn't `0`
+-- a word is `0`, or digits of which the first is not `0`
 abbrev pub is_numeral : List ℕ → Bool
 is_numeral word = are_digits word && begins_well word
 
--- the number that digits stand for
+-- the number that digits mean
 abbrev pub value_of : List ℕ → ℕ
 value_of digits = fold (λ n b. 10 * n + (b - 48)) 0 digits
 
--- a number from 0 to the greatest one
+-- a number from 0 to `most`
 abbrev pub number_of : ℕ → List ℕ → Result ℕ Kind
 number_of most word = if is_numeral word && nat_le (value_of word) most then Ok (value_of word) else Err Number
 
--- a number of 32 bits, and a queue or a band
+-- a number from 0 to 2^32 - 1; and the number of a queue or a band, from 0 to 255
 abbrev pub u32_of : List ℕ → Result ℕ Kind
 u32_of word = number_of (2 ^ 32 - 1) word
 
@@ -45,11 +45,11 @@ abbrev pub signed : (ℕ → ℤ) → Result ℕ Kind → Result ℤ Kind
 signed sign (Ok n) = Ok (sign n)
 signed sign (Err kind) = Err kind
 
--- the number below 0 that `-` before these digits stands for; before `0` it stands for none
+-- the number below 0 that `-` and these digits mean; `-0` is no number
 abbrev pub negative_of : List ℕ → Result ℤ Kind
 negative_of digits = if bytes_eq digits (codes "0") then Err Number else signed (λ n. neg_ℤ (pos n)) (number_of (2 ^ 31) digits)
 
--- a number of 32 bits with a sign: `-` may stand before a number that isn't `0`
+-- a number from -2^31 to 2^31 - 1: `-` may come before a number that is not `0`
 abbrev pub i32_of : List ℕ → Result ℤ Kind
 i32_of [] = Err Number
 i32_of (b ∷ bs) = if b == 45 then negative_of bs else signed (λ n. pos n) (number_of (2 ^ 31 - 1) (b ∷ bs))
@@ -60,7 +60,7 @@ register_of [] = Err Register
 register_of (b ∷ []) = if nat_le 97 b && nat_le b 122 then Ok (b - 97) else Err Register
 register_of (b ∷ c ∷ bs) = Err Register
 
--- the type of this name
+-- the type with this name, if any
 abbrev pub type_named : List ℕ → Option MsgType
 type_named word = find (λ t. bytes_eq (name_of t) word) all_types
 
@@ -68,7 +68,7 @@ type_named word = find (λ t. bytes_eq (name_of t) word) all_types
 abbrev pub type_of : List ℕ → Result MsgType Kind
 type_of word = ok_or (type_named word) Word
 
--- which messages a flush takes: `all` or `data`
+-- which messages a flush frees: `all` or `data`
 abbrev pub flush_of : List ℕ → Result Flush Kind
 flush_of word = if bytes_eq word (codes "all") then Ok All else (if bytes_eq word (codes "data") then Ok Data else Err Word)
 
@@ -76,7 +76,7 @@ flush_of word = if bytes_eq word (codes "all") then Ok All else (if bytes_eq wor
 abbrev pub service_of : List ℕ → Result Bool Kind
 service_of word = if bytes_eq word (codes "s") then Ok true else (if bytes_eq word (codes "n") then Ok false else Err Word)
 
--- `-`, which stands for nothing
+-- `-`, which means none
 abbrev pub is_dash : List ℕ → Bool
 is_dash word = bytes_eq word (codes "-")
 
@@ -88,19 +88,19 @@ as_next (Err kind) = Err kind
 abbrev pub next_of : List ℕ → Result (Option ℕ) Kind
 next_of word = if is_dash word then Ok None else as_next (number_of 255 word)
 
--- a lower case hexadecimal digit
+-- the value of a lower case hexadecimal digit
 abbrev pub hex_digit : ℕ → Option ℕ
 hex_digit b = if is_digit b then Some (b - 48) else (if nat_le 97 b && nat_le b 102 then Some (b - 87) else None)
 
--- the byte that two digits stand for
+-- the byte that two hexadecimal digits mean
 abbrev pub hex_pair : ℕ → ℕ → Option ℕ
 hex_pair high low = option_and_then (λ h. option_map (λ l. 16 * h + l) (hex_digit low)) (hex_digit high)
 
--- a byte before others, where all of them are there
+-- a byte before others, if all of them are there
 abbrev pub before_bytes : Option ℕ → Option (List ℕ) → Option (List ℕ)
 before_bytes byte bytes = option_and_then (λ b. option_map (λ bs. b ∷ bs) bytes) byte
 
--- two digits for each byte
+-- the bytes of a word with two hexadecimal digits for each, if all are right
 abbrev pub hex_bytes : List ℕ → Option (List ℕ)
 hex_bytes [] = Some []
 hex_bytes (b ∷ []) = None

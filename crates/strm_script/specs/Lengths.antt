@@ -1,4 +1,4 @@
--- The first words of one length. No clause of `parse` cites this.
+-- The first words of each length. No clause of `parse` cites this module.
 use Rattle.std.specs.Prelude.{ℕ, ◌==◌, List, length, filter}
 use Rattle.strm_script.specs.declared.word.Word.{Word}
 use Rattle.strm_script.specs.Word.{all_words}

@@ -1,23 +1,23 @@
--- In which order the lines of several workers are served.
+-- Merges: orders of the lines of several workers.
 use Rattle.std.specs.Prelude.{◌≡◌, ℕ, ◌==◌, List, [], filter, map, slice_index_or}
 use Rattle.std.specs.List.{flat_map, enumerate_from}
 use Rattle.strm_shared.specs.declared.entry.Entry.{Entry}
 use Rattle.strm_shared.specs.declared.line.Line.{Line}
 
--- a line of a worker
+-- a line, with its worker
 pub record Served : Type 0 where
   pub worker : ℕ
   pub line : Line
 
--- the lines of one worker, in the order in which they are served
+-- the lines of one worker, in this order
 abbrev pub part_of : ℕ → List Served → List Line
 part_of worker served = map (λ s. s.line) (filter (λ s. s.worker == worker) served)
 
--- the lines of all workers are served, each worker's in order
+-- A merge has all lines of all workers, each worker's in order.
 abbrev pub IsMerge : List (List Line) → List Served → Type 0
 IsMerge parts served = (worker : ℕ) → part_of worker served ≡ slice_index_or parts worker []
 
--- these lines, as one worker's
+-- these lines, with this worker
 abbrev pub by_worker : ℕ → List Line → List Served
 by_worker worker lines = map (λ line. record { worker = worker; line = line }) lines
 

@@ -1,4 +1,4 @@
--- The script that bytes are, or its first fault.
+-- The script that some bytes mean, or its first fault.
 use Rattle.std.specs.Prelude.{ℕ, ◌+◌, ◌-◌, Bool, true, false, not, ◌==◌, nat_le, sum_by, List, [], ◌∷◌, ◌++◌, length, Option, None, Some, Result, Ok, Err, unwrap_or, slice_get, if◌then◌else◌}
 use Rattle.std.specs.List.{slice_split, filter_map}
 use Rattle.std.specs.Option.{option_map_or}
@@ -22,7 +22,7 @@ use Rattle.strm_script.specs.Word.{word_of}
 use Rattle.strm_script.specs.Limits.{most_command_lines}
 use Rattle.strm_shared.specs.Limits.{most_workers}
 
--- what a line says, with the line's number
+-- what a line says, with its number
 pub record Numbered : Type 0 where
   pub number : ℕ
   pub entry : Entry
@@ -49,7 +49,7 @@ bufcalls_line _ = None
 abbrev pub said : {X : Type 0} → (Entry → Option X) → List Numbered → List X
 said line es = filter_map (λ e. line e.entry) es
 
--- the two numbers of the first entry of a kind
+-- the two numbers of the first entry of a kind, or zeros
 abbrev pub numbers_said : (Entry → Option (ℕ × ℕ)) → List Numbered → ℕ × ℕ
 numbers_said line es = unwrap_or (slice_get (said line es) 0) (0, 0)
 
@@ -79,12 +79,12 @@ abbrev pub with_section : Entry → List Line → List (List Line) → List (Lis
 with_section Worker lines rest = lines ∷ rest
 with_section _ lines rest = rest
 
--- the command lines behind each worker line, up to the next one
+-- the command lines after each worker line, up to the next one
 abbrev pub parts_of : List Numbered → List (List Line)
 parts_of [] = []
 parts_of (e ∷ es) = with_section e.entry (lines_of_section es) (parts_of es)
 
--- ---- where a line may stand
+-- ---- where a line is allowed
 
 abbrev pub stage_behind : Entry → Stage
 stage_behind (Pool id mblks) = stages.Pool
@@ -94,11 +94,11 @@ stage_behind (Bufcalls wishes first_id) = stages.Bufcalls
 stage_behind Worker = stages.Body
 stage_behind (Command call) = stages.Body
 
--- how far a script has come with these entries
+-- how far a script was read that has these entries
 abbrev pub stage_of : List Numbered → Stage
 stage_of es = option_map_or (λ e. stage_behind e.entry) (slice_get es (length es - 1)) stages.Start
 
--- whether a line that begins with this word may stand at this stage
+-- whether a line with this first word is allowed at this stage
 abbrev pub may_stand : Stage → Word → Bool
 may_stand stages.Start words.Pool = true
 may_stand stages.Pool words.Class = true
@@ -111,7 +111,7 @@ may_stand stages.Body words.Worker = true
 may_stand stages.Body (words.Command verb) = true
 may_stand _ _ = false
 
--- whether there are as many lines already that begin so as there may be; commands are counted over all sections
+-- whether there are as many lines with this first word as there may be; commands are counted over all sections
 abbrev pub is_full : List Numbered → Word → Bool
 is_full es words.Pool = false
 is_full es words.Class = nat_le most_classes (length (said class_line es))
@@ -122,7 +122,7 @@ is_full es (words.Command verb) = nat_le most_command_lines (sum_by length (part
 
 -- ---- lines
 
--- an empty line, or a comment, which begins with `#`
+-- a line that says nothing is empty, or is a comment, which begins with `#`
 abbrev pub is_skipped : List ℕ → Bool
 is_skipped [] = true
 is_skipped (b ∷ bs) = b == 35
@@ -141,29 +141,29 @@ abbrev pub with_words : List Numbered → ℕ → List (List ℕ) → Result (Li
 with_words es n [] = Err Unknown
 with_words es n (first ∷ arguments) = with_word es n (word_of first) arguments
 
--- the entries once line n is read, which each space splits into words
+-- the entries after line n, which spaces split into words
 abbrev pub with_line : List Numbered → ℕ → List ℕ → Result (List Numbered) Kind
 with_line es n text = if is_skipped text then Ok es else with_words es n (slice_split (λ b. b == 32) text)
 
 abbrev pub fault : {X : Type 0} → ℕ → Kind → Result X Fault
 fault n kind = Err (record { line = n; kind = kind })
 
--- the rest, from the entries that a line gave, or the line's fault
+-- what the rest gives, from the entries so far; or the fault of line n
 abbrev pub then_lines : ℕ → Result (List Numbered) Kind → (List Numbered → Result (List Numbered) Fault) → Result (List Numbered) Fault
 then_lines n (Ok es) rest = rest es
 then_lines n (Err kind) rest = fault n kind
 
--- the entries of all lines, of which the first is line n; the last piece has no line end behind it
+-- The entries of all lines, from line n on. The last piece has no line end, so it must be empty.
 abbrev pub entries_from : List Numbered → ℕ → List (List ℕ) → Result (List Numbered) Fault
 entries_from es n [] = Ok es
 entries_from es n (piece ∷ []) = if is_nil piece then Ok es else fault n Cut
 entries_from es n (text ∷ piece ∷ pieces) = then_lines n (with_line es n text) (λ more. entries_from more (n + 1) (piece ∷ pieces))
 
--- the text between line ends
+-- the texts between line ends
 abbrev pub pieces_of : List ℕ → List (List ℕ)
 pieces_of bytes = slice_split (λ b. b == 10) bytes
 
--- the script of all entries; a script of n - 1 lines that has no section is missing one on line n
+-- the script of all entries; if it has no section, one is missing on line n, after its last line
 abbrev pub closed : ℕ → Result (List Numbered) Fault → Result Script Fault
 closed n (Ok es) = if is_nil (parts_of es) then fault n Missing else Ok (record { config = config_of es; parts = parts_of es })
 closed n (Err found) = Err found

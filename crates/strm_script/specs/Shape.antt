@@ -1,20 +1,20 @@
--- The words behind the first one of a line: so many of them, each of its own form. Another number of words is no
--- form, and then the first word that isn't of its form decides.
+-- Shapes: a line's number of arguments, each with its own form. A wrong number of arguments is the fault `Shape`; otherwise the
+-- first argument that does not fit its form has the fault.
 use Rattle.std.specs.Prelude.{ℕ, List, [], ◌∷◌, Result, Ok, Err}
 use Rattle.strm_script.specs.declared.fault.Kind.{Kind}
 use Rattle.strm_script.specs.declared.fault.Kind.TheVariants.{Shape}
 
--- what a word stands for, or its fault
+-- what a word means, or its fault
 abbrev pub Form : Type 0 → Type 0
 Form A = List ℕ → Result A Kind
 
--- what was read, and then what is made of it; the first fault decides
+-- the second reading goes on from the result of the first; the first fault counts
 infixl 10 ◌>>=◌
 abbrev pub ◌>>=◌ : {A B : Type 0} → Result A Kind → (A → Result B Kind) → Result B Kind
 (Ok x) >>= f = f x
 (Err kind) >>= f = Err kind
 
--- ---- what so many words stand for
+-- ---- reading a number of arguments
 
 abbrev pub read_none : List (List ℕ) → Result (Unit {0}) Kind
 read_none [] = Ok tt
@@ -48,7 +48,7 @@ read_four f g h i (a ∷ b ∷ c ∷ d ∷ []) = do
   Ok (x, y, z, w)
 read_four f g h i _ = Err Shape
 
--- ---- and what is made of it
+-- ---- making something from them
 
 abbrev pub none : {X : Type 0} → X → List (List ℕ) → Result X Kind
 none made ws = read_none ws >>= (λ _. Ok made)

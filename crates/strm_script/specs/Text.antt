@@ -1,4 +1,4 @@
--- What is written for a script: a line for each reply, and then the report of the pool.
+-- The text of a script: a line for each reply, and then the report of the pool.
 use Rattle.std.specs.Prelude.{ℕ, ◌+◌, ◌/◌, ◌%◌, ◌==◌, Bool, false, List, [], ◌∷◌, ◌++◌, length, map, reverse, codes, decimal, if◌then◌else◌}
 use Rattle.std.specs.Fmt.{digits}
 use Rattle.std.specs.Int.{from_bool}
@@ -25,11 +25,11 @@ use Rattle.strm_shared.specs.declared.entry.Entry.{Entry}
 use Rattle.strm_script.specs.Merge.{Served}
 use Rattle.strm_script.specs.declared.script.Script.{Script}
 
--- a byte as two digits in base 16, of which those from ten on are in lower case
+-- a byte as two lower case hexadecimal digits
 abbrev pub hex_text : ℕ → List ℕ
 hex_text b = digits 16 false (b / 16) ++ digits 16 false (b % 16)
 
--- bytes, or `-` where there are none
+-- bytes in hexadecimal, or `-` if there are none
 abbrev pub octets_text : List ℕ → List ℕ
 octets_text [] = codes "-"
 octets_text (b ∷ bs) = flat_map hex_text (b ∷ bs)
@@ -56,15 +56,15 @@ reply_text (replies.Marks hiwat lowat) = codes "marks " ++ (decimal hiwat ++ (co
 reply_text (replies.Census c) = codes "census " ++ (decimal c.free ++ (codes " " ++ (decimal c.queued ++ (codes " " ++ decimal c.held))))
 reply_text (Refused why) = codes "refused " ++ (decimal (number_of why) ++ (codes " " ++ name_of why))
 
--- the line for the reply to line `number` of the script, which is a worker's
+-- the line for the reply to line `number` of the script, which is a line of this worker
 abbrev pub reply_line : ℕ → ℕ → Reply → List ℕ
 reply_line worker number reply = decimal worker ++ (codes ":" ++ (decimal number ++ (codes " " ++ (reply_text reply ++ codes "\n"))))
 
--- the line of an entry of a trace
+-- the line for an entry of a trace
 abbrev pub entry_text : Entry → List ℕ
 entry_text e = reply_line e.desk e.line e.reply
 
--- the reply to a worker's line
+-- the line for the reply to a worker's line
 abbrev pub line_text : Served × Reply → List ℕ
 line_text (served, reply) = reply_line served.worker served.line.number reply
 
@@ -83,40 +83,40 @@ class_text i =
 abbrev pub classes_text : List ClassInfo → List ℕ
 classes_text infos = flat_map class_text infos
 
--- a mark: 1 where it stands, else 0
+-- a mark: 1 if it is set, else 0
 abbrev pub flag_text : Bool → List ℕ
 flag_text stands = decimal (from_bool stands)
 
--- queue q, its messages and their bytes, and its marks
+-- the line of queue q: its number of messages and bytes, and its marks
 abbrev pub queue_text : ℕ → QueueInfo → List ℕ
 queue_text q i =
     codes "queue " ++ (decimal q ++ (codes " msgs=" ++ (decimal i.msgs ++ (codes " bytes=" ++ (decimal i.bytes
     ++ (codes " read=" ++ (flag_text i.read ++ (codes " noenable=" ++ (flag_text i.noenable
     ++ (codes " enabled=" ++ (flag_text i.enabled ++ codes "\n")))))))))))
 
--- a band, its bytes, and its marks; nothing where it has no bytes
+-- the line of a band: its bytes and its marks; nothing if it has no bytes
 abbrev pub band_text : ℕ → BandInfo → List ℕ
 band_text band i =
     if i.bytes == 0 then []
     else codes "band " ++ (decimal band ++ (codes " bytes=" ++ (decimal i.bytes ++ (codes " full=" ++ (flag_text i.full
     ++ (codes " wanted=" ++ (flag_text i.wanted ++ codes "\n")))))))
 
--- what is written of a band of queue q
+-- the line of a band of queue q, if the band has bytes
 abbrev pub band_lines : QueuedBlocks → ℕ → ℕ → List ℕ
 band_lines v q band = band_text band (band_info_of v q band)
 
--- the bands of queue q, from the last one down to band 0
+-- the lines of the bands of queue q, from band 255 down to band 0
 abbrev pub bands_text : QueuedBlocks → ℕ → List ℕ
 bands_text v q = flat_map (band_lines v q) (reverse every_band)
 
--- what is written of queue q: its line, and behind it those of its bands
+-- the line of queue q, and then those of its bands
 abbrev pub queue_lines : QueuedBlocks → ℕ → List ℕ
 queue_lines v q = queue_text q (info_of v q) ++ bands_text v q
 
 abbrev pub queues_text : QueuedBlocks → List ℕ
 queues_text v = flat_map (queue_lines v) (range_with_len 0 (length v.queues.specs))
 
--- a queue of the run list
+-- the number of a queue of the run list
 abbrev pub waiting_text : ℕ → List ℕ
 waiting_text q = codes " " ++ decimal q
 
@@ -124,34 +124,34 @@ waiting_text q = codes " " ++ decimal q
 abbrev pub wish_text : Wish → List ℕ
 wish_text w = codes " " ++ (decimal w.0 ++ (codes ":" ++ decimal w.1))
 
--- a line of items in order, or `-` where there is none
+-- a line with a name and items in order, or `-` if there are none
 abbrev pub list_text : {X : Type 0} → List ℕ → (X → List ℕ) → List X → List ℕ
 list_text name item [] = name ++ codes " -\n"
 list_text name item (x ∷ xs) = name ++ (flat_map item (x ∷ xs) ++ codes "\n")
 
--- the queues that wait to be served
+-- the line of the run list
 abbrev pub run_text : List ℕ → List ℕ
 run_text run = list_text (codes "run") waiting_text run
 
--- the wishes that are recorded
+-- the line of the wishes
 abbrev pub wishes_text : List Wish → List ℕ
 wishes_text wishes = list_text (codes "wishes") wish_text wishes
 
--- a line on message blocks, one on each size class, those on each queue, one on the run list, and one on wishes
+-- the report: a line on message blocks, one on each size class, those on each queue, one on the run list, and one on wishes
 abbrev pub report_text : PoolValue → List ℕ
 report_text v = blocks_text (census_of v.arena) ++ (classes_text (class_infos v.arena.store) ++ (queues_text (queued v) ++ (run_text v.queues.run ++ wishes_text v.wishes.pending)))
 
 abbrev pub desk_calls : List Served → List DeskCall
 desk_calls served = map (λ s. record { desk = s.worker; call = s.line.call }) served
 
--- what is written once the lines have been served in this order
+-- the text after the lines were executed in this order, with this replay
 abbrev pub text_after : List Served → Replay → List ℕ
 text_after served end = transcript served end.replies ++ report_text end.pool
 
--- what is written for lines that are served in this order, from this pool and these registers on
+-- the text of lines that are executed in this order, from this pool and these registers on
 abbrev pub text_from : PoolValue → List RegisterTable → List Served → List ℕ
 text_from v tables served = text_after served (replay_from v tables (desk_calls served))
 
--- what is written for a script whose lines are served in this order
+-- the text of a script whose lines are executed in this order
 abbrev pub text_of : Script → List Served → List ℕ
 text_of script served = text_from (opening script.config) (empty_tables (length script.parts)) served

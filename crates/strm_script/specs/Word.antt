@@ -1,10 +1,10 @@
--- The words that a line may begin with.
+-- The first words of a script's lines.
 use Rattle.std.specs.Prelude.{ℕ, List, [], ◌∷◌, Option, None, Some, bytes_eq, if◌then◌else◌, codes}
-use Rattle.strm_script.specs.declared.verb.Verb.TheVariants as verbs
+use Rattle.strm_script.specs.declared.word.Verb.TheVariants as verbs
 use Rattle.strm_script.specs.declared.word.Word.{Word}
 use Rattle.strm_script.specs.declared.word.Word.TheVariants as words
 
--- all first words, as a script has them: those of commands, and then those of the header and of sections
+-- All first words: those of commands, then those of the header and of sections.
 abbrev pub all_words : List (List ℕ × Word)
 all_words =
     (codes "allocb", words.Command verbs.Allocb)
@@ -53,7 +53,7 @@ all_words =
     ∷ (codes "worker", words.Worker)
     ∷ []
 
--- the word that a text is in a table, byte for byte, or none
+-- the first word of a table that is this text byte for byte, if any
 abbrev pub word_among : List (List ℕ × Word) → List ℕ → Option Word
 word_among [] text = None
 word_among (w ∷ ws) text = if bytes_eq w.0 text then Some w.1 else word_among ws text

@@ -1,4 +1,4 @@
-//! A text cut at line ends and at spaces.
+//! Cuts a text at line ends and at spaces.
 ghost use Rattle.std.specs.Prelude.{◌≡◌, ◌<◌, ◌==◌, ◌∷◌, ℕ, IfSome, length, position};
 ghost use Rattle.std.specs.List.{slice_split};
 ghost use Rattle.std.specs.Option.{option_copied};
@@ -6,7 +6,7 @@ ghost use Rattle.strm_script.specs.Cut.{pieces_behind};
 
 use memchr::memchr;
 
-// The bytes before a place, and those behind it where there is one.
+// The bytes before a place, and those after it if there is a place.
 fn cut_at(text: &[u8], place: Option<usize>) -> (&[u8], Option<&[u8]>)
     requires { IfSome place (λ at. at < length text.now) }
     ensures { (byte : ℕ) → place ≡ position (λ b. b == byte) text.now
@@ -18,7 +18,7 @@ fn cut_at(text: &[u8], place: Option<usize>) -> (&[u8], Option<&[u8]>)
     }
 }
 
-// Where the first byte like this stands.
+// The place of the first byte of this value, if any.
 fn find(byte: u8, text: &[u8]) -> Option<usize>
     ensures place { result ≡ position (λ b. b == byte) text.now }
     ensures there { IfSome result (λ at. at < length text.now) }
@@ -26,7 +26,7 @@ fn find(byte: u8, text: &[u8]) -> Option<usize>
     memchr(byte, text)
 }
 
-// Where the first space stands. In a short word no search pays.
+// The place of the first space, if any. In a short word a fast search does not pay.
 fn space(text: &[u8]) -> Option<usize>
     ensures place { result ≡ position (λ b. b == 32) text.now }
     ensures there { IfSome result (λ at. at < length text.now) }
@@ -34,21 +34,21 @@ fn space(text: &[u8]) -> Option<usize>
     text.iter().position(|b| *b == b' ')
 }
 
-/// The bytes before the first line end, and those behind it where there is one.
+/// Returns the bytes before the first line end, and those after it if there is one.
 pub fn cut_line(text: &[u8]) -> (&[u8], Option<&[u8]>)
     ensures { slice_split (λ b. b == 10) text.now ≡ result.0.now ∷ pieces_behind 10 (option_copied result.1) }
 {
     cut_at(text, find(b'\n', text))
 }
 
-/// The bytes before the first space, and those behind it where there is one.
+/// Returns the bytes before the first space, and those after it if there is one.
 pub fn cut_word(text: &[u8]) -> (&[u8], Option<&[u8]>)
     ensures { slice_split (λ b. b == 32) text.now ≡ result.0.now ∷ pieces_behind 32 (option_copied result.1) }
 {
     cut_at(text, space(text))
 }
 
-/// The same, for a first word that may be long.
+/// Does what [`cut_word`] does, for a first word that may be long.
 pub fn cut_long_word(text: &[u8]) -> (&[u8], Option<&[u8]>)
     ensures { slice_split (λ b. b == 32) text.now ≡ result.0.now ∷ pieces_behind 32 (option_copied result.1) }
 {

@@ -1,4 +1,4 @@
-//! A script that is being read.
+//! A draft: what has been read of a script so far.
 ghost use Rattle.std.specs.Prelude.{◌≡◌, ◌<◌, ◌≤◌, ◌++◌, ◌∷◌, [], List, ℕ, true, false, length, sum_by, Ok, IfOk, OnOk};
 ghost use Rattle.strm_script.specs.Cut.{words_behind};
 ghost use Rattle.strm_shared.specs.Limits.{most_workers};
@@ -23,7 +23,7 @@ use strm_data::MOST_CLASSES;
 use strm_pool::{Call, ClassSpec, ClassSpecs, Config, MOST_QUEUES, QueueSpec, QueueSpecs};
 use strm_shared::{Line, Lines, MOST_WORKERS, Parts};
 
-/// What the lines of a script have said so far.
+/// What the lines of a script said so far, as a configuration and sections.
 #[derive(Drop)]
 pub struct Draft {
     alloc: Global,
@@ -34,10 +34,10 @@ pub struct Draft {
     queues: ArrayVec<QueueSpec, MOST_QUEUES>,
     bufcalls: u32,
     first_id: u32,
-    // The sections that are whole, and the lines of the one that is being read.
+    // The complete sections, and the lines of the section that is being read.
     parts: Vec<Lines>,
     lines: Vec<Line>,
-    // For how many command lines more there is room.
+    // The number of further command lines that may come.
     left: usize,
 }
 
@@ -49,7 +49,7 @@ fn is_skipped(text: &[u8]) -> bool
 }
 
 impl Draft {
-    /// A draft before the first line.
+    /// Makes a draft before the first line.
     pub fn new(alloc: Global) -> Draft
         ensures { StandsFor result [] }
     {
@@ -68,7 +68,7 @@ impl Draft {
         }
     }
 
-    // Whether there are as many lines already that begin so as there may be.
+    // Whether there are already as many lines with this first word as there may be.
     fn is_full(&self, word: Word) -> bool
         ensures exact { (es : List Numbered) → StandsFor self.now es → result ≡ is_full es word }
         ensures room { result ≡ false → HasRoom self.now word }
@@ -77,13 +77,13 @@ impl Draft {
             Word::Pool | Word::Bufcalls => false,
             Word::Class => self.classes.is_full(),
             Word::Queue => self.queues.is_full(),
-            // Beside those that are whole there is the one that is being read.
+            // The section that is being read counts too.
             Word::Worker => self.parts.len() + 1 >= MOST_WORKERS,
             Word::Command(_) => self.left == 0,
         }
     }
 
-    // The word that a line begins with, where it may stand here and there is room for it.
+    // The first word of a line, if it is allowed at this stage and there is room for it.
     fn first_word(&self, text: &[u8]) -> Result<Word, Kind>
         ensures stands { IfOk result (λ word. may_stand self.now.stage word ≡ true) }
         ensures room { IfOk result (λ word. HasRoom self.now word) }
@@ -98,7 +98,7 @@ impl Draft {
         }
     }
 
-    // Begins a section. The one that was being read is whole.
+    // Begins a section. The one that was being read is complete.
     fn begin_section(&mut self) -> Result<(), AllocError>
         requires stands { may_stand self.old.stage Word.Worker ≡ true }
         requires room { HasRoom self.old Word.Worker }
@@ -113,7 +113,7 @@ impl Draft {
         Ok(self.parts.push(Lines::of(lines))?)
     }
 
-    // Puts a line behind those of the section that is being read.
+    // Adds a line to the section that is being read.
     fn put_call(&mut self, number: u32, call: Call) -> Result<(), AllocError>
         requires begun { self.old.stage ≡ Stage.Body }
         requires room { 0 < self.old.left }
@@ -125,7 +125,7 @@ impl Draft {
         Ok(())
     }
 
-    // Takes what a line says that begins with this word, behind which these stand.
+    // Takes in a line with this first word and these arguments.
     fn take(&mut self, number: u32, word: Word, arguments: Option<&[u8]>) -> Result<(), LineFault>
         requires stands { may_stand self.old.stage word ≡ true }
         requires room { HasRoom self.old word }
@@ -168,7 +168,7 @@ impl Draft {
         Ok(())
     }
 
-    /// Reads line `number`.
+    /// Reads line `number`, or returns its first fault, or out of memory.
     pub fn read(&mut self, number: u32, text: &[u8]) -> Result<(), LineFault>
         ensures { (es : List Numbered) → StandsFor self.old es
             → Reads self.new result (with_line es number text.now) }
@@ -181,12 +181,14 @@ impl Draft {
         self.take(number, word, arguments)
     }
 
-    /// The script that ends before line `number`. Where no worker section has begun, one is missing on that line.
+    /// Returns the script, which ends before line `number`. If there is no worker section, one is missing on that line.
     pub fn finish(self, number: u32) -> Result<Script, ParseFault>
         ensures parses { (es : List Numbered) → StandsFor self es → Parses result (closed number (Ok es)) }
         ensures some { IfOk result (λ script. 1 ≤ length script.parts) }
-        ensures few { (es : List Numbered) → StandsFor self es → IfOk result (λ script. length script.parts ≤ most_workers) }
-        ensures within { (es : List Numbered) → StandsFor self es → IfOk result (λ script. sum_by length script.parts ≤ most_command_lines) }
+        ensures few { (es : List Numbered) → StandsFor self es
+            → IfOk result (λ script. length script.parts ≤ most_workers) }
+        ensures within { (es : List Numbered) → StandsFor self es
+            → IfOk result (λ script. sum_by length script.parts ≤ most_command_lines) }
     {
         if self.stage != Stage::Body {
             let kind = Kind::Missing;

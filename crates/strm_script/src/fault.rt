@@ -1,4 +1,4 @@
-//! What is wrong with a script, and why it is not read.
+//! The faults of a script, with their names, and why a script or line was not read.
 ghost use Rattle.std.specs.Prelude.{◌≡◌};
 ghost use Rattle.strm_script.specs.Fault.{kind_text, on_line};
 
@@ -6,27 +6,27 @@ use std::alloc::AllocError;
 use std::fmt;
 use thiserror::Error;
 
-/// What is wrong with a line of a script. On one line the kinds are looked for in this order; those of a word,
-/// from `Number` to `Hex`, come word by word from the left.
+/// What is wrong with a line of a script. The checks of a line come in this order; those of arguments, from `Number` to `Hex`,
+/// are made argument by argument from the left.
 #[derive(Clone, Copy, Debug, PartialEq, Eq)]
 pub enum Kind {
     /// The last line has no line end.
     Cut,
-    /// The first word is none of a script's.
+    /// The first word is not one of a script's.
     Unknown,
-    /// The line may not stand here.
+    /// The line is not allowed at this place of the script.
     Order,
-    /// There are as many such lines already as there may be.
+    /// There are already as many lines of this kind as there may be.
     Toomany,
-    /// The line has another number of words than its form.
+    /// The number of arguments is wrong.
     Shape,
-    /// A word is not a number, or not one in range.
+    /// An argument is not a number in its range.
     Number,
     /// A word is not a register.
     Register,
-    /// A word is none of those that may stand there.
+    /// An argument is not one of the words that are allowed there.
     Word,
-    /// A word is not a string of bytes.
+    /// An argument is not a string of bytes in hexadecimal.
     Hex,
     /// The script ends before its first worker section.
     Missing,
@@ -39,28 +39,28 @@ pub struct Fault {
     pub kind: Kind,
 }
 
-/// Why a script was not read.
+/// Why a script was not read: its first fault, or out of memory.
 #[derive(Clone, Copy, Debug, PartialEq, Eq, Error)]
 pub enum ParseFault {
-    /// The script has a fault, of which this is the first.
+    /// The first fault of the script.
     #[error("{0}")]
     Script(Fault),
-    /// There is not enough memory.
+    /// Memory was refused.
     #[error("memory")]
     Memory,
 }
 
-/// Why a line was not read.
+/// Why a line was not read: its fault, or out of memory.
 #[derive(Clone, Copy, Debug, PartialEq, Eq)]
 pub enum LineFault {
-    /// What is wrong with it.
+    /// The fault of the line.
     Kind(Kind),
-    /// There is not enough memory.
+    /// Memory was refused.
     Memory,
 }
 
 impl Kind {
-    /// The kind's name.
+    /// Returns the fault's name, as `strm` prints it.
     pub fn name(self) -> &'static str
         ensures { result.now ≡ kind_text self }
     {
@@ -80,7 +80,7 @@ impl Kind {
 }
 
 impl LineFault {
-    /// The same, of the script that has this line.
+    /// Returns the fault of a script whose line `line` has this fault.
     pub fn on_line(self, line: u32) -> ParseFault
         ensures { result ≡ on_line line self }
     {

@@ -1,4 +1,4 @@
-//! What a word stands for, where the form of a line wants a number, a register, a word or bytes.
+//! Arguments: how a word of a line is read as a number, a register, a word or bytes.
 ghost use Rattle.std.specs.Prelude.{◌≡◌, ◌*◌, ◌≤◌, length, option_map, unwrap_or};
 ghost use Rattle.strm_pool.specs.Limits.{most_octets};
 ghost use Rattle.strm_script.specs.Form.{is_digit, begins_well, number_of, negative_of, is_dash, type_named, hex_digit, hex_bytes};
@@ -7,20 +7,19 @@ use crate::fault::Kind;
 use arrayvec::ArrayVec;
 use strm_pool::{Flush, MOST_OCTETS, MsgType, Octets, Reg};
 
-/// What a word behind the first one of a line can stand for. Each type has one form, so the types of what is made of
-/// a line say the forms of its words.
+/// What an argument can mean. Each type has one form, so the types that a call takes say the forms of its words.
 pub trait Argument: Sized {
     ghost use Rattle.std.specs.Prelude.{ℕ, List, Result};
     ghost use Rattle.strm_script.specs.declared.fault.Kind.{Kind};
 
     ghost form: { List ℕ → Result Self Kind };
 
-    /// What the word stands for, or what is wrong with it.
+    /// Reads the word, or returns its fault.
     fn read(word: &[u8]) -> Result<Self, Kind>
         ensures { result ≡ form word.now };
 }
 
-// What each byte stands for as a lower case hexadecimal digit, and 16 for one that is none.
+// The value of each byte as a lower case hexadecimal digit, or 16 if it is not one.
 const HEX_DIGITS: [u8; 256] = [
     16, 16, 16, 16, 16, 16, 16, 16, 16, 16, 16, 16, 16, 16, 16, 16, 16, 16, 16, 16, 16, 16, 16, 16,
     16, 16, 16, 16, 16, 16, 16, 16, 16, 16, 16, 16, 16, 16, 16, 16, 16, 16, 16, 16, 16, 16, 16, 16,
@@ -42,7 +41,7 @@ fn is_digit(byte: u8) -> bool
     (48..=57).contains(&byte)
 }
 
-// Whether a word has a first byte, which is not `0` unless it is the only one.
+// Whether a word has a first byte, which is `0` only if the word has no other.
 fn begins_well(word: &[u8]) -> bool
     ensures { result ≡ begins_well word.now }
 {
@@ -53,7 +52,7 @@ fn begins_well(word: &[u8]) -> bool
     }
 }
 
-// The number that a word stands for, at most `most`.
+// The number that a word means, at most `most`.
 fn number_of(most: u32, word: &[u8]) -> Result<u32, Kind>
     ensures { result ≡ number_of most word.now }
 {
@@ -73,7 +72,7 @@ fn number_of(most: u32, word: &[u8]) -> Result<u32, Kind>
     Ok(value as u32)
 }
 
-// The number below 0 that `-` before these digits stands for.
+// The number below 0 that `-` and these digits mean.
 fn negative_of(digits: &[u8]) -> Result<i32, Kind>
     ensures { result ≡ negative_of digits.now }
 {
@@ -90,7 +89,7 @@ fn is_dash(word: &[u8]) -> bool
     word == b"-".as_slice()
 }
 
-// The type of this name.
+// The type with this name, if any.
 fn type_named(word: &[u8]) -> Option<MsgType>
     ensures { result ≡ type_named word.now }
 {
@@ -100,14 +99,14 @@ fn type_named(word: &[u8]) -> Option<MsgType>
         .find(|kind| kind.name().as_bytes() == word)
 }
 
-// What a lower case hexadecimal digit stands for, and 16 for a byte that is none.
+// The value of a lower case hexadecimal digit, or 16 if the byte is not one.
 fn hex_digit(byte: u8) -> u8
     ensures { result ≡ unwrap_or (hex_digit byte) 16 }
 {
     HEX_DIGITS[usize::from(byte)]
 }
 
-// The bytes that pairs of hexadecimal digits stand for.
+// The bytes that pairs of hexadecimal digits mean, if they are all right.
 fn hex_bytes(word: &[u8]) -> Option<ArrayVec<u8, MOST_OCTETS>>
     requires { length word.now ≤ 2 * most_octets }
     ensures { option_map (λ bytes. bytes.items) result ≡ hex_bytes word.now }
@@ -125,7 +124,7 @@ fn hex_bytes(word: &[u8]) -> Option<ArrayVec<u8, MOST_OCTETS>>
     rest.is_empty().then_some(bytes)
 }
 
-/// A number of 32 bits.
+/// A number from 0 to 2^32 - 1.
 impl Argument for u32 {
     ghost use Rattle.strm_script.specs.Form.{u32_of};
 
@@ -136,7 +135,7 @@ impl Argument for u32 {
     }
 }
 
-/// A queue or a band.
+/// The number of a queue or band, from 0 to 255.
 impl Argument for u8 {
     ghost use Rattle.strm_script.specs.Form.{u8_of};
 
@@ -147,7 +146,7 @@ impl Argument for u8 {
     }
 }
 
-/// A number of 32 bits with a sign.
+/// A number from -2^31 to 2^31 - 1.
 impl Argument for i32 {
     ghost use Rattle.strm_script.specs.Form.{i32_of};
 
@@ -174,7 +173,7 @@ impl Argument for Reg {
     }
 }
 
-/// The type of a message.
+/// The type of a data block, by its STREAMS name.
 impl Argument for MsgType {
     ghost use Rattle.strm_script.specs.Form.{type_of};
 
@@ -185,7 +184,7 @@ impl Argument for MsgType {
     }
 }
 
-/// Which messages a flush takes.
+/// Which messages a flush frees: `all` or `data`.
 impl Argument for Flush {
     ghost use Rattle.strm_script.specs.Form.{flush_of};
 
@@ -200,7 +199,7 @@ impl Argument for Flush {
     }
 }
 
-/// Whether a queue has a service procedure.
+/// Whether a queue has a service procedure: `s` or `n`.
 impl Argument for bool {
     ghost use Rattle.strm_script.specs.Form.{service_of};
 
@@ -215,7 +214,7 @@ impl Argument for bool {
     }
 }
 
-/// The next queue, or none.
+/// The number of the next queue, or `-` for none.
 impl Argument for Option<u8> {
     ghost use Rattle.strm_script.specs.Form.{next_of};
 
@@ -229,7 +228,7 @@ impl Argument for Option<u8> {
     }
 }
 
-/// Bytes, two hexadecimal digits for each.
+/// 1 to `MOST_OCTETS` bytes, each as two hexadecimal digits, or `-` for none.
 impl Argument for Octets {
     ghost use Rattle.strm_script.specs.Form.{octets_of};
 

@@ -1,4 +1,4 @@
-//! The script of a pool, read from bytes, and the text that is written for it.
+//! Scripts of calls, read from bytes, and the text of their replies and of the pool's report.
 #![tactic(auto)]
 
 mod call;
@@ -13,7 +13,6 @@ mod script;
 mod shape;
 mod stage;
 mod transcript;
-mod verb;
 mod word;
 
 pub use fault::{Fault, Kind, ParseFault};

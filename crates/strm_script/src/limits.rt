@@ -1,7 +1,7 @@
-//! How many there may be of what this crate counts.
+//! The limits of this crate: command lines and bytes of a script.
 
-/// The most command lines of a script, over all its sections.
+/// The greatest number of command lines of a script, over all its sections.
 pub const MOST_COMMAND_LINES: usize = 1_048_576;
 
-/// The most bytes of a script.
+/// The greatest number of bytes of a script.
 pub const MOST_SCRIPT_BYTES: u32 = 16_777_216;

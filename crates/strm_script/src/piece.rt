@@ -1,11 +1,11 @@
-//! The pieces of which a text is made.
+//! Pieces: values that are appended to a text.
 ghost use Rattle.std.specs.Prelude.{◌≡◌, ◌++◌, ℕ, List, OnOk, OnErr, decimal};
 ghost use Rattle.strm_script.specs.Piece.{Begins};
 
 use itoa::Buffer;
 use std::alloc::AllocError;
 
-/// Pieces one behind another, as one piece.
+/// Makes one piece from several, in order.
 macro_rules! pieces {
     ($last:expr) => { $last };
     ($first:expr, $($rest:expr),+) => { ($first, pieces!($($rest),+)) };
@@ -13,11 +13,11 @@ macro_rules! pieces {
 
 pub(crate) use pieces;
 
-/// What can be appended to a text.
+/// A value that can be appended to a text.
 pub trait Piece: Copy {
     ghost bytes: { Self → List ℕ };
 
-    /// Appends it. Where memory is refused, a part of it may stand behind the text.
+    /// Appends the piece. If memory is refused, the text may end with a part of it.
     fn append(self, text: &mut Vec<u8>) -> Result<(), AllocError>
         ensures ok { OnOk result (text.new.items ≡ text.old.items ++ bytes self) }
         ensures refused { OnErr result (Begins text.old.items text.new.items) };
@@ -35,7 +35,7 @@ impl Piece for &str {
 impl Piece for u8 {
     ghost bytes = { decimal };
 
-    // Most have one digit.
+    // Fast path: most numbers have one digit.
     fn append(self, text: &mut Vec<u8>) -> Result<(), AllocError> {
         if self < 10 {
             text.extend_from_slice(&[b'0' + self])
@@ -61,7 +61,7 @@ impl Piece for u64 {
     }
 }
 
-/// 1 where it is true, else 0.
+/// `1` if it is true, else `0`.
 impl Piece for bool {
     ghost use Rattle.strm_script.specs.Text.{flag_text};
 
@@ -72,7 +72,7 @@ impl Piece for bool {
     }
 }
 
-/// One piece, and another behind it.
+/// The first piece, then the second.
 impl<A: Piece, B: Piece> Piece for (A, B) {
     ghost bytes = { λ pieces. A.bytes pieces.0 ++ B.bytes pieces.1 };
 
@@ -83,7 +83,7 @@ impl<A: Piece, B: Piece> Piece for (A, B) {
     }
 }
 
-/// Appends a piece, or nothing where memory is refused.
+/// Appends a piece. If memory is refused, the text is unchanged.
 pub fn append_whole<P: Piece>(text: &mut Vec<u8>, piece: P) -> Result<(), AllocError>
     ensures ok { OnOk result (text.new.items ≡ text.old.items ++ P.bytes piece) }
     ensures refused { OnErr result (text.new.items ≡ text.old.items) }

@@ -1,4 +1,4 @@
-//! The report of a pool.
+//! The report of a pool: lines on blocks, size classes, queues, bands, the run list and wishes.
 ghost use Rattle.std.specs.Prelude.{◌≡◌, ◌++◌, OnOk, OnErr, IsTrue};
 ghost use Rattle.strm_pool.specs.PoolValue.{has_queue, queued};
 ghost use Rattle.strm_script.specs.Text.{report_text};
@@ -67,7 +67,7 @@ impl Piece for Classes<'_> {
     }
 }
 
-// A queue, and what there is to tell of it.
+// The line of a queue with this number.
 #[derive(Clone, Copy)]
 struct QueueLine(u8, QueueInfo);
 
@@ -98,7 +98,7 @@ impl Piece for QueueLine {
     }
 }
 
-// A band, and what there is to tell of it.
+// The line of a band with this number, if the band has bytes.
 #[derive(Clone, Copy)]
 struct BandLine(u8, BandInfo);
 
@@ -128,7 +128,7 @@ impl Piece for BandLine {
     }
 }
 
-// The lines on the bands of a queue that is there.
+// The lines on the bands of a queue that exists.
 #[derive(Clone, Copy)]
 struct Bands<'a> {
     pool: &'a Pool,
@@ -152,7 +152,7 @@ impl Piece for Bands<'_> {
     }
 }
 
-// The lines on queues, each with those on its bands.
+// The lines on queues, each followed by those on its bands.
 #[derive(Clone, Copy)]
 struct Queues<'a>(&'a Pool);
 
@@ -223,9 +223,9 @@ impl Piece for Wishes<'_> {
     }
 }
 
-/// Appends the report of a pool: a line on its message blocks, one on each size class, one on each queue with one on
-/// each of its bands that has bytes, one on the run list, and one on wishes. Where memory is refused the text is as it
-/// was.
+/// Appends the report of a pool: a line on its message blocks, one on each size class, one on each queue, one on the run list,
+/// and one on wishes. A queue's line is followed by one on each of its bands with bytes. If memory is refused, the text is
+/// unchanged.
 pub fn report_text(text: &mut Vec<u8>, pool: &Pool) -> Result<(), AllocError>
     ensures ok { OnOk result (text.new.items ≡ text.old.items ++ report_text pool.now) }
     ensures refused { OnErr result (text.new.items ≡ text.old.items) }

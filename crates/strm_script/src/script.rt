@@ -1,4 +1,4 @@
-//! A script: a pool's configuration, and what its workers do.
+//! A script as data: the configuration of a pool, and the command lines of its workers.
 ghost use Rattle.std.specs.Prelude.{◌≤◌, IfOk, length, sum_by};
 ghost use Rattle.strm_shared.specs.Limits.{most_workers};
 ghost use Rattle.strm_script.specs.Limits.{most_command_lines, most_script_bytes};
@@ -12,17 +12,17 @@ use std::alloc::Global;
 use strm_pool::Config;
 use strm_shared::Parts;
 
-/// A script.
+/// A script that was read without a fault.
 #[derive(Debug, Drop)]
 pub struct Script {
-    /// What the pool is made with.
+    /// The configuration of the pool.
     pub config: Config,
     /// The command lines of each of its 1 to `MOST_WORKERS` sections.
     pub parts: Parts,
 }
 
-/// Reads a script of at most `MOST_SCRIPT_BYTES` bytes: the script, or its first fault, or want of memory, whichever is
-/// met first, line by line.
+/// Reads a script of at most `MOST_SCRIPT_BYTES` bytes, line by line. Returns the first fault, or out of memory, whichever
+/// comes first.
 pub fn parse(alloc: Global, bytes: &[u8]) -> Result<Script, ParseFault>
     requires { length bytes.now ≤ most_script_bytes }
     ensures parses { Parses result (script_of bytes.now) }

@@ -1,5 +1,5 @@
-//! The words behind the first one of a line: so many of them, each of its own form. These functions are inlined, so that
-//! what stands for each word needs no place in memory.
+//! Shapes: a line's number of arguments, each with its own form. These functions are inlined, so that what each argument means
+//! needs no place in memory.
 ghost use Rattle.std.specs.Prelude.{◌≡◌, ◌∷◌, [], IfOk, IfErr};
 ghost use Rattle.strm_script.specs.Cut.{words_behind};
 ghost use Rattle.strm_script.specs.Shape.{read_none, read_one, read_two, read_three, read_four};
@@ -8,7 +8,7 @@ use crate::cut::{cut_long_word, cut_word};
 use crate::fault::Kind;
 use crate::form::Argument;
 
-// The next word, and what stands behind it.
+// The next word, and the text after it, if any.
 #[inline(always)]
 fn next(text: Option<&[u8]>) -> Result<(&[u8], Option<&[u8]>), Kind>
     ensures word { IfOk result (λ cut. words_behind text.entry ≡ cut.0.now ∷ words_behind cut.1) }
@@ -20,7 +20,7 @@ fn next(text: Option<&[u8]>) -> Result<(&[u8], Option<&[u8]>), Kind>
     }
 }
 
-// The same, where the next word may be long.
+// Does what [`next`] does, for a word that may be long.
 #[inline(always)]
 fn next_long(text: Option<&[u8]>) -> Result<(&[u8], Option<&[u8]>), Kind>
     ensures word { IfOk result (λ cut. words_behind text.entry ≡ cut.0.now ∷ words_behind cut.1) }
@@ -32,7 +32,7 @@ fn next_long(text: Option<&[u8]>) -> Result<(&[u8], Option<&[u8]>), Kind>
     }
 }
 
-/// No words.
+/// Reads no arguments.
 #[inline(always)]
 pub fn none(text: Option<&[u8]>) -> Result<(), Kind>
     ensures { result ≡ read_none (words_behind text.entry) }
@@ -43,7 +43,7 @@ pub fn none(text: Option<&[u8]>) -> Result<(), Kind>
     }
 }
 
-/// What one word stands for.
+/// Reads one argument.
 #[inline(always)]
 pub fn one<A: Argument>(text: Option<&[u8]>) -> Result<A, Kind>
     ensures { result ≡ read_one A.form (words_behind text.entry) }
@@ -53,7 +53,7 @@ pub fn one<A: Argument>(text: Option<&[u8]>) -> Result<A, Kind>
     A::read(first)
 }
 
-/// What two words stand for.
+/// Reads two arguments.
 #[inline(always)]
 pub fn two<A: Argument + Drop, B: Argument>(text: Option<&[u8]>) -> Result<(A, B), Kind>
     ensures { result ≡ read_two A.form B.form (words_behind text.entry) }
@@ -64,7 +64,7 @@ pub fn two<A: Argument + Drop, B: Argument>(text: Option<&[u8]>) -> Result<(A, B
     Ok((A::read(first)?, B::read(second)?))
 }
 
-/// What three words stand for.
+/// Reads three arguments.
 #[inline(always)]
 pub fn three<A: Argument + Drop, B: Argument + Drop, C: Argument>(
     text: Option<&[u8]>,
@@ -78,7 +78,7 @@ pub fn three<A: Argument + Drop, B: Argument + Drop, C: Argument>(
     Ok((A::read(first)?, B::read(second)?, C::read(third)?))
 }
 
-/// What four words stand for.
+/// Reads four arguments.
 #[inline(always)]
 pub fn four<A: Argument + Drop, B: Argument + Drop, C: Argument + Drop, D: Argument>(
     text: Option<&[u8]>,

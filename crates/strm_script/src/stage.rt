@@ -1,13 +1,13 @@
-//! Where a line of a script may stand.
+//! Stages: which lines are allowed at which place of a script.
 ghost use Rattle.std.specs.Prelude.{◌≡◌};
 ghost use Rattle.strm_script.specs.Script.{may_stand};
 
 use crate::word::Word;
 
-/// How far a script has come.
+/// How far a script was read, by its last line that says something.
 #[derive(Clone, Copy, Debug, PartialEq, Eq)]
 pub enum Stage {
-    /// No line has been read that says anything.
+    /// Only empty lines and comments were read.
     Start,
     Pool,
     Class,
@@ -18,7 +18,7 @@ pub enum Stage {
 }
 
 impl Stage {
-    /// Whether a line that begins with this word may stand at this stage.
+    /// Says whether a line with this first word is allowed at this stage.
     pub fn allows(self, word: Word) -> bool
         ensures { result ≡ may_stand self word }
     {

@@ -1,4 +1,4 @@
-//! The transcript: a line for each reply.
+//! The transcript: a line for each reply, as `WORKER:LINE REPLY`.
 ghost use Rattle.std.specs.Prelude.{◌≡◌, ◌++◌, OnOk, OnErr};
 ghost use Rattle.strm_script.specs.Text.{reply_line};
 
@@ -7,16 +7,16 @@ use itoa::write_digits;
 use std::alloc::AllocError;
 use strm_pool::{BlockInfo, Census, Reply};
 
-// How many bytes a worker, a colon and a line have at most.
+// The greatest number of bytes of a worker, a colon and a line number.
 const MOST_LABEL: usize = 14;
 
-// How many bytes the three numbers of a census have at most, with a byte behind each.
+// The greatest number of bytes of a census's three numbers, with one more byte for each.
 const MOST_COUNTS: usize = 33;
 
 // The digits of base 16.
 const DIGITS: [u8; 16] = *b"0123456789abcdef";
 
-// What a line of text begins with: a worker, and a line of the script.
+// The beginning of a transcript's line: the number of a worker, and of a line of the script.
 #[derive(Clone, Copy)]
 struct Label {
     worker: u8,
@@ -84,7 +84,7 @@ impl Piece for BlockInfo {
     }
 }
 
-// The numbers of a census, and the end of the line: written from the last byte to the first, and appended at once.
+// The numbers of a census, and the line end. They are written from the last byte to the first, and appended at once.
 #[derive(Clone, Copy)]
 struct Counts(Census);
 
@@ -106,7 +106,7 @@ impl Piece for Counts {
     }
 }
 
-// What a line says of its reply, and its end.
+// The text of a reply, and the line end.
 impl Piece for &Reply {
     ghost use Rattle.std.specs.Prelude.{codes};
     ghost use Rattle.strm_script.specs.Text.{reply_text};
@@ -139,7 +139,7 @@ impl Piece for &Reply {
     }
 }
 
-/// Appends the line for a worker's reply to a line of the script. Where memory is refused the text is as it was.
+/// Appends the transcript's line for a reply to a worker's line. If memory is refused, the text is unchanged.
 pub fn reply_text(
     text: &mut Vec<u8>,
     worker: u8,

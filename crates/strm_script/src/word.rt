@@ -1,11 +1,53 @@
-//! The words that a line of a script may begin with.
+//! The first words of a script's lines, found by their lengths.
 ghost use Rattle.std.specs.Prelude.{◌≡◌, length};
 ghost use Rattle.strm_script.specs.Word.{word_among, word_of};
 ghost use Rattle.strm_script.specs.Lengths.{words_of_length};
 
-use crate::verb::Verb;
+/// The first word of a command line, named as its call.
+#[derive(Clone, Copy, Debug, PartialEq, Eq)]
+pub enum Verb {
+    Allocb,
+    Testb,
+    Dupb,
+    Dupmsg,
+    Copyb,
+    Copymsg,
+    Write,
+    Settype,
+    Setband,
+    Linkb,
+    Unlinkb,
+    Rmvb,
+    Adjmsg,
+    Pullupmsg,
+    Msgdsize,
+    Size,
+    Read,
+    Block,
+    Freeb,
+    Freemsg,
+    Putq,
+    Putbq,
+    Insq,
+    Getq,
+    Rmvq,
+    Flushq,
+    Flushband,
+    Bcanput,
+    Strqset,
+    Strqget,
+    Qsize,
+    Qenable,
+    Noenable,
+    Enableok,
+    Service,
+    Bufcall,
+    Unbufcall,
+    Ready,
+    Census,
+}
 
-/// The first word of a line.
+/// The first word of a line: of the header, of a section, or of a command.
 #[derive(Clone, Copy, Debug, PartialEq, Eq)]
 pub enum Word {
     Pool,
@@ -13,11 +55,11 @@ pub enum Word {
     Queue,
     Bufcalls,
     Worker,
-    /// A command line's.
+    /// The first word of a command line.
     Command(Verb),
 }
 
-// The first word of four letters that a text is, or none.
+// The first word of four letters that is this text, if any.
 fn four_letters(text: &[u8]) -> Option<Word>
     requires { length text.now ≡ 4 }
     ensures { result ≡ word_among (words_of_length 4) text.now }
@@ -36,7 +78,7 @@ fn four_letters(text: &[u8]) -> Option<Word>
     }
 }
 
-// The first word of five letters that a text is, or none.
+// The first word of five letters that is this text, if any.
 fn five_letters(text: &[u8]) -> Option<Word>
     requires { length text.now ≡ 5 }
     ensures { result ≡ word_among (words_of_length 5) text.now }
@@ -57,7 +99,7 @@ fn five_letters(text: &[u8]) -> Option<Word>
     }
 }
 
-// The first word of six letters that a text is, or none.
+// The first word of six letters that is this text, if any.
 fn six_letters(text: &[u8]) -> Option<Word>
     requires { length text.now ≡ 6 }
     ensures { result ≡ word_among (words_of_length 6) text.now }
@@ -73,7 +115,7 @@ fn six_letters(text: &[u8]) -> Option<Word>
     }
 }
 
-// The first word of seven letters that a text is, or none.
+// The first word of seven letters that is this text, if any.
 fn seven_letters(text: &[u8]) -> Option<Word>
     requires { length text.now ≡ 7 }
     ensures { result ≡ word_among (words_of_length 7) text.now }
@@ -94,7 +136,7 @@ fn seven_letters(text: &[u8]) -> Option<Word>
     }
 }
 
-// The first word of eight letters that a text is, or none.
+// The first word of eight letters that is this text, if any.
 fn eight_letters(text: &[u8]) -> Option<Word>
     requires { length text.now ≡ 8 }
     ensures { result ≡ word_among (words_of_length 8) text.now }
@@ -108,7 +150,7 @@ fn eight_letters(text: &[u8]) -> Option<Word>
     }
 }
 
-// The first word of nine letters that a text is, or none.
+// The first word of nine letters that is this text, if any.
 fn nine_letters(text: &[u8]) -> Option<Word>
     requires { length text.now ≡ 9 }
     ensures { result ≡ word_among (words_of_length 9) text.now }
@@ -121,7 +163,7 @@ fn nine_letters(text: &[u8]) -> Option<Word>
     }
 }
 
-/// The first word that a text is, or none.
+/// Returns the first word that is this text, if any.
 pub fn word_of(text: &[u8]) -> Option<Word>
     ensures { result ≡ word_of text.now }
 {

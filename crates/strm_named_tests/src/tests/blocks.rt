@@ -55,7 +55,7 @@ fn joins_messages(rt: HostRuntime) {
     assert_size(&rt, &pool, name(1, 2), Ok(3));
 }
 
-// One of the two parts keeps the head, and has another name all the same.
+// One of the two parts keeps the head, but gets a new name.
 #[test]
 fn parts_messages(rt: HostRuntime) {
     let mut pool = opened(&rt, rt.alloc(), 1);
@@ -103,7 +103,7 @@ fn names_what_it_copies(rt: HostRuntime) {
     assert_census(&rt, &pool, (3, 0, 5));
 }
 
-// A message of two blocks, of which the second is of another type.
+// Makes a message of two blocks; the second has another type.
 fn two_types(rt: &impl Abort, pool: &mut NamedPool) -> Name {
     let first = message(rt, pool, b"one");
     let second = message(rt, pool, b"two");
@@ -135,7 +135,7 @@ fn changes_a_message(rt: HostRuntime) {
     );
 }
 
-// The blocks behind the first are freed, and the name is still valid.
+// The blocks after the first are freed, and the name is still valid.
 #[test]
 fn pulls_a_message_up(rt: HostRuntime) {
     let mut pool = opened(&rt, rt.alloc(), 1);

@@ -32,7 +32,7 @@ fn assert_removed(rt: &impl Abort, pool: &mut NamedPool, place: u32, wanted: Res
     assert_is(rt, pool.rmvq(0, place), wanted);
 }
 
-// Three messages stand on queue 0, with heads 1, 0 and 2.
+// Puts three messages on queue 0, with heads 1, 0 and 2.
 fn filled(rt: &impl Abort, pool: &mut NamedPool) {
     let first = message(rt, pool, b"one");
     let second = message(rt, pool, b"two");
@@ -70,7 +70,7 @@ fn puts_and_gets(rt: HostRuntime) {
 fn flushes(rt: HostRuntime) {
     let mut pool = opened(&rt, rt.alloc(), 1);
     filled(&rt, &mut pool);
-    assert_is(&rt, pool.qsize(0), Ok(3));
+    assert_is(&rt, pool.pool().qsize(0), Ok(3));
     assert_is(&rt, pool.bcanput(0, 0), Ok(false));
     assert_is(&rt, pool.flushband(0, 1, Flush::All), Ok(()));
     assert_census(&rt, &pool, (5, 3, 0));
@@ -81,12 +81,16 @@ fn flushes(rt: HostRuntime) {
 #[test]
 fn serves_queues(rt: HostRuntime) {
     let mut pool = opened(&rt, rt.alloc(), 1);
-    assert!(rt; pool.has_queue(1) && !pool.has_queue(2));
+    assert!(rt; pool.pool().has_queue(1) && !pool.pool().has_queue(2));
     assert_is(&rt, pool.noenable(0), Ok(()));
     assert_is(&rt, pool.enableok(0), Ok(()));
     assert_is(&rt, pool.qenable(0), Ok(()));
     assert_is(&rt, pool.qenable(2), Err(Refusal::NoSuchQueue));
-    assert_is(&rt, (pool.run_at(0), pool.run_at(1)), (Some(0), None));
+    assert_is(
+        &rt,
+        (pool.pool().run_at(0), pool.pool().run_at(1)),
+        (Some(0), None),
+    );
     assert_is(&rt, pool.next_service(), Some(0));
 }
 
@@ -95,7 +99,7 @@ fn sets_water_marks(rt: HostRuntime) {
     let mut pool = opened(&rt, rt.alloc(), 1);
     assert_is(&rt, pool.strqset(0, 3, 20, 20), Err(Refusal::BadMarks));
     assert_is(&rt, pool.strqset(0, 3, 21, 20), Ok(()));
-    let marks = pool.strqget(0, 3);
+    let marks = pool.pool().strqget(0, 3);
     assert!(rt; marks.is_ok_and(|marks| marks.hiwat == 21 && marks.lowat == 20));
 }
 
@@ -103,9 +107,13 @@ fn sets_water_marks(rt: HostRuntime) {
 fn tells_of_queues_and_classes(rt: HostRuntime) {
     let mut pool = opened(&rt, rt.alloc(), 1);
     filled(&rt, &mut pool);
-    assert!(rt; pool.queue_info(0).is_ok_and(|info| info.msgs == 3));
-    assert!(rt; pool.band_info(0, 0).is_ok_and(|info| info.bytes == 11));
-    assert!(rt; pool.class_info(0).is_some() && pool.class_info(1).is_none());
+    assert!(rt; pool.pool().queue_info(0).is_ok_and(|info| info.msgs == 3));
+    assert!(rt;
+        pool.pool()
+            .band_info(0, 0)
+            .is_ok_and(|info| info.bytes == 11)
+    );
+    assert!(rt; pool.pool().class_info(0).is_some() && pool.pool().class_info(1).is_none());
 }
 
 #[test]
@@ -114,7 +122,7 @@ fn records_wishes(rt: HostRuntime) {
     assert_is(&rt, pool.bufcall(16), Ok(1));
     assert_is(&rt, pool.bufcall(16), Ok(2));
     assert_is(&rt, pool.unbufcall(1), Ok(()));
-    assert_is(&rt, pool.wish_at(0), Some((2, 16)));
+    assert_is(&rt, pool.pool().wish_at(0), Some((2, 16)));
     assert_is(&rt, pool.take_ready(), Some((2, 16)));
     assert_is(&rt, pool.take_ready(), None);
 }

@@ -52,9 +52,9 @@ fn assert_not_put(rt: &impl Abort, pool: &mut NamedPool, name: Name) {
     assert_is(rt, pool.insq(0, 0, name), Err(Fault::Invalid));
 }
 
-// No call does anything with this name.
+// Each call refuses this name as `Invalid`.
 pub(super) fn assert_invalid(rt: &impl Abort, pool: &mut NamedPool, name: Name) {
-    let before = pool.census();
+    let before = pool.pool().census();
     assert_not_copied(rt, pool, name);
     assert_not_parted(rt, pool, name);
     assert_not_changed(rt, pool, name);
@@ -62,7 +62,7 @@ pub(super) fn assert_invalid(rt: &impl Abort, pool: &mut NamedPool, name: Name) 
     assert_not_told(rt, pool, name);
     assert_not_read(rt, pool, name);
     assert_not_put(rt, pool, name);
-    assert_is(rt, pool.census(), before);
+    assert_is(rt, pool.pool().census(), before);
 }
 
 #[test]
@@ -72,7 +72,7 @@ fn spends_a_name_once(rt: HostRuntime) {
     assert_is(&rt, first, name(0, 1));
     assert_freed(&rt, &mut pool, first, Ok(()));
     assert_invalid(&rt, &mut pool, first);
-    // The same message block again: its name is another one.
+    // The second message begins with the same block, but has another name.
     let second = message(&rt, &mut pool, b"two");
     assert_is(&rt, second, name(0, 2));
     assert_invalid(&rt, &mut pool, first);

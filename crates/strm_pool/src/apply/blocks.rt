@@ -1,6 +1,6 @@
-//! Calls on registers that are about messages: each function does the call of its name, whose queue is there, whose sources hold
-//! tokens, and whose destination holds none. Those that are long once compiled, with what is put into them, are not inlined: what they
-//! clear and save at their entry is no other call's cost.
+//! Calls on registers that are about messages. Each function does the call of its name; the queue exists, the sources have
+//! tokens, and the destination has none. Functions that compile to long code are not inlined: otherwise every call would
+//! clear and save at its entry what they need.
 ghost use Rattle.strm_pool.specs.declared.call.Call.TheVariants as calls;
 ghost use Rattle.strm_pool.specs.Shapes.{Does, IsReady};
 ghost use Rattle.strm_pool.specs.Step.{Applies};

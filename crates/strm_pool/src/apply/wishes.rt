@@ -1,4 +1,4 @@
-//! Calls on registers that are about wishes, made and inlined as those about messages are (blocks.rt).
+//! Calls on registers that are about wishes; blocks.rt says when they are inlined.
 ghost use Rattle.strm_pool.specs.declared.call.Call.TheVariants as calls;
 ghost use Rattle.strm_pool.specs.Shapes.{Does};
 

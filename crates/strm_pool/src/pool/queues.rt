@@ -1,4 +1,4 @@
-//! The calls on queues.
+//! Calls on queues: each makes the call of strm_queue with its name, on the pool's own message blocks.
 ghost use Rattle.std.specs.Prelude.{Ok, ◌≡◌, IsTrue};
 ghost use Rattle.strm_mblk.specs.Arena.{has};
 ghost use Rattle.strm_mblk.specs.Calls.{Flushes, LeavesBlocks, Puts, Takes, TakesAny};
@@ -12,194 +12,152 @@ use strm_mblk::{Rejected, Token};
 use strm_queue::{BandInfo, Flush, Marks, QueueInfo};
 
 impl Pool {
-    /// Puts a message on a queue, behind the last one of rank at least its own. A high priority message ranks above all
-    /// bands, and its first block gets band 0.
-    ///
-    /// The queue is enabled, as by `qenable`, where the message is of high priority; or else where enabling is not switched
-    /// off and somebody wants to read from the queue or the message's band is above 0.
-    ///
-    /// Rejected as `NoSuchQueue` where there is no such queue; nothing changes then, and the token comes back.
+    /// Puts a message on a queue, after the last message whose rank is at least its own. Rejected as `NoSuchQueue`. As
+    /// [`Queues::putq`] of strm_queue.
     pub fn putq(&mut self, queue: u8, token: Token) -> Result<(), Rejected>
         requires { IsTrue (has self.old.arena token) }
-        ensures { Puts arena token (on_queues self.old (queues.putq queue token.head (queued self.old))) self.old self.new result }
+        ensures { Puts arena token (on_queues self.old (queues.putq queue token.head (queued self.old)))
+            self.old self.new result }
     {
         self.queues.putq(&mut self.blocks, queue, token)
     }
 
-    /// Puts a message back on a queue, before the first one of rank at most its own. A high priority message ranks above
-    /// all bands, and its first block gets band 0.
-    ///
-    /// The queue is enabled, as by `qenable`, where the message is of high priority; or else where enabling is not switched
-    /// off and somebody wants to read from the queue.
-    ///
-    /// Rejected as `NoSuchQueue` where there is no such queue; nothing changes then, and the token comes back.
+    /// Puts a message on a queue, before the first message whose rank is at most its own. Rejected as `NoSuchQueue`. As
+    /// [`Queues::putbq`] of strm_queue.
     pub fn putbq(&mut self, queue: u8, token: Token) -> Result<(), Rejected>
         requires { IsTrue (has self.old.arena token) }
-        ensures { Puts arena token (on_queues self.old (queues.putbq queue token.head (queued self.old))) self.old self.new result }
+        ensures { Puts arena token (on_queues self.old (queues.putbq queue token.head (queued self.old)))
+            self.old self.new result }
     {
         self.queues.putbq(&mut self.blocks, queue, token)
     }
 
-    /// Puts a message on a queue before the one at `place`, counted from 0, or last where `place` is the number of
-    /// messages. The first block of a high priority message gets band 0.
-    ///
-    /// The queue is enabled, as by `qenable`, where enabling is not switched off and somebody wants to read from it.
-    ///
-    /// Rejected as `NoSuchQueue` where there is no such queue, then as `NoSuchPlace` where it has fewer messages, then as
-    /// `BadOrder` where ranks would rise from front to back; nothing changes then, and the token comes back.
+    /// Puts a message on a queue at `place`, counted from 0. Rejected as `NoSuchQueue`, `NoSuchPlace`, then `BadOrder`. As
+    /// [`Queues::insq`] of strm_queue.
     pub fn insq(&mut self, queue: u8, place: u32, token: Token) -> Result<(), Rejected>
         requires { IsTrue (has self.old.arena token) }
-        ensures { Puts arena token (on_queues self.old (queues.insq queue place token.head (queued self.old))) self.old self.new result }
+        ensures { Puts arena token (on_queues self.old (queues.insq queue place token.head (queued self.old)))
+            self.old self.new result }
     {
         self.queues.insq(&mut self.blocks, queue, place, token)
     }
 
-    /// Takes the first message off a queue, or nothing where the queue is empty: then somebody wants to read from it, else
-    /// nobody does any more. Where a message came, the queue settles: each wanted band with at most its low water mark loses
-    /// its wanted mark, and where one did, the nearest queue behind with a service procedure is enabled.
-    ///
-    /// Refused as `NoSuchQueue` where there is no such queue; nothing changes then.
+    /// Removes the first message of a queue, if any, and returns its token. Refused as `NoSuchQueue`. As [`Queues::getq`]
+    /// of strm_queue.
     pub fn getq(&mut self, queue: u8) -> Result<Option<Token>, Refusal>
         ensures { TakesAny arena (on_queues self.old (queues.getq queue (queued self.old))) self.old self.new result }
     {
         self.queues.getq(&mut self.blocks, queue)
     }
 
-    /// Takes the message at `place`, counted from 0, off a queue, which settles: each wanted band with at most its low water
-    /// mark loses its wanted mark, and where one did, the nearest queue behind with a service procedure is enabled.
-    ///
-    /// Refused as `NoSuchQueue` where there is no such queue, then as `NoSuchPlace` where it has no such message; nothing
-    /// changes then.
+    /// Removes the message at `place` of a queue, counted from 0, and returns its token. Refused as `NoSuchQueue`, then
+    /// `NoSuchPlace`. As [`Queues::rmvq`] of strm_queue.
     pub fn rmvq(&mut self, queue: u8, place: u32) -> Result<Token, Refusal>
-        ensures { Takes arena (on_queues self.old (queues.rmvq queue place (queued self.old))) self.old self.new result }
+        ensures { Takes arena (on_queues self.old (queues.rmvq queue place (queued self.old)))
+            self.old self.new result }
     {
         self.queues.rmvq(&mut self.blocks, queue, place)
     }
 
-    /// How many messages stand on a queue. Nothing changes.
-    ///
-    /// Refused as `NoSuchQueue` where there is no such queue.
+    /// Returns the number of messages on a queue. Refused as `NoSuchQueue`. As [`Queues::qsize`] of strm_queue.
     pub fn qsize(&self, queue: u8) -> Result<u32, Refusal>
         ensures { result ≡ answer_of (queues.qsize queue (queued self.now)) }
     {
         self.queues.qsize(&self.blocks, queue)
     }
 
-    /// Frees the messages of a queue front to back: all, or those that carry data. What stays keeps its place. The queue
-    /// settles: each wanted band with at most its low water mark loses its wanted mark, and where one did, the nearest queue
-    /// behind with a service procedure is enabled.
-    ///
-    /// Refused as `NoSuchQueue` where there is no such queue; nothing changes then.
+    /// Frees messages of a queue: all, or only those that carry data. Refused as `NoSuchQueue`. As [`Queues::flushq`] of
+    /// strm_queue.
     pub fn flushq(&mut self, queue: u8, flush: Flush) -> Result<(), Refusal>
-        ensures { Flushes arena (on_queues self.old (queues.flushq queue flush (queued self.old))) self.old self.new result }
+        ensures { Flushes arena (on_queues self.old (queues.flushq queue flush (queued self.old)))
+            self.old self.new result }
     {
         self.queues.flushq(&mut self.blocks, queue, flush)
     }
 
-    /// Frees the messages of one band of a queue, front to back: all of them, or those that carry data. High priority
-    /// messages are of band 0. What stays keeps its place. The queue settles: each wanted band, of whatever number, with at
-    /// most its low water mark loses its wanted mark, and where one did, the nearest queue behind with a service procedure is
-    /// enabled.
-    ///
-    /// Refused as `NoSuchQueue` where there is no such queue; nothing changes then.
+    /// Frees messages of one band of a queue: all, or only those that carry data. Refused as `NoSuchQueue`. As
+    /// [`Queues::flushband`] of strm_queue.
     pub fn flushband(&mut self, queue: u8, band: u8, flush: Flush) -> Result<(), Refusal>
-        ensures { Flushes arena (on_queues self.old (queues.flushband queue band flush (queued self.old))) self.old self.new result }
+        ensures { Flushes arena (on_queues self.old (queues.flushband queue band flush (queued self.old)))
+            self.old self.new result }
     {
         self.queues.flushband(&mut self.blocks, queue, band, flush)
     }
 
-    /// Whether a message of a band may be put: asked of the first queue with a service procedure from this one on, or of
-    /// the last one there. Where the band has as many bytes as its high water mark there, or more, its wanted mark is set,
-    /// and the answer is false.
-    ///
-    /// Refused as `NoSuchQueue` where there is no such queue; nothing changes then.
+    /// Says whether a band has room at the target of a queue; if not, the band is wanted there. Refused as `NoSuchQueue`.
+    /// As [`Queues::bcanput`] of strm_queue.
     pub fn bcanput(&mut self, queue: u8, band: u8) -> Result<bool, Refusal>
-        ensures { LeavesBlocks arena (on_queues self.old (queues.bcanput queue band (queued self.old))) self.old self.new result }
+        ensures { LeavesBlocks arena (on_queues self.old (queues.bcanput queue band (queued self.old)))
+            self.old self.new result }
     {
         self.queues.bcanput(&self.blocks, queue, band)
     }
 
-    /// Gives one band of a queue water marks of its own; all other bands keep theirs. The band is full from now on where it
-    /// has at least `hiwat` bytes. The queue settles: each wanted band, this one or another, with at most its low water mark
-    /// loses its wanted mark, and where one did, the nearest queue behind with a service procedure is enabled.
-    ///
-    /// STREAMS' `strqset` sets one of many fields; of these there are the two water marks here. That both are set at once, that
-    /// `lowat` must be below `hiwat`, that the band is full or not at once, and that the queue settles, is this project's own choice.
-    ///
-    /// Refused as `NoSuchQueue` where there is no such queue, then as `BadMarks` where `lowat` is not below `hiwat`; nothing
-    /// changes then.
+    /// Sets both water marks of one band of a queue, in bytes. Refused as `NoSuchQueue`, then `BadMarks`. As
+    /// [`Queues::strqset`] of strm_queue.
     pub fn strqset(&mut self, queue: u8, band: u8, hiwat: u32, lowat: u32) -> Result<(), Refusal>
-        ensures { LeavesBlocks arena (on_queues self.old (queues.strqset queue band hiwat lowat (queued self.old))) self.old self.new result }
+        ensures { LeavesBlocks arena (on_queues self.old (queues.strqset queue band hiwat lowat (queued self.old)))
+            self.old self.new result }
     {
         self.queues.strqset(&self.blocks, queue, band, hiwat, lowat)
     }
 
-    /// The water marks of one band of a queue: those that the queue was made with, or that `strqset` gave last. Nothing
-    /// changes. STREAMS' `strqget` tells one of many fields; that both water marks are told at once, and no other field, is this
-    /// project's own choice.
-    ///
-    /// Refused as `NoSuchQueue` where there is no such queue.
+    /// Returns both water marks of one band of a queue. Refused as `NoSuchQueue`. As [`Queues::strqget`] of strm_queue.
     pub fn strqget(&self, queue: u8, band: u8) -> Result<Marks, Refusal>
         ensures { result ≡ answer_of (queues.strqget queue band (queued self.now)) }
     {
         self.queues.strqget(queue, band)
     }
 
-    /// Enables a queue: adds it at the end of the run list, unless it is there or has no service procedure.
-    ///
-    /// Refused as `NoSuchQueue` where there is no such queue; nothing changes then.
+    /// Puts a queue at the end of the run list, unless it is on the list or has no service procedure. Refused as
+    /// `NoSuchQueue`. As [`Queues::qenable`] of strm_queue.
     pub fn qenable(&mut self, queue: u8) -> Result<(), Refusal>
-        ensures { LeavesBlocks arena (on_queues self.old (queues.qenable queue (queued self.old))) self.old self.new result }
+        ensures { LeavesBlocks arena (on_queues self.old (queues.qenable queue (queued self.old)))
+            self.old self.new result }
     {
         self.queues.qenable(queue)
     }
 
-    /// Switches enabling off: nothing but a high priority message that is put on the queue or put back, `qenable`, and
-    /// back-enabling enables it any more.
-    ///
-    /// Refused as `NoSuchQueue` where there is no such queue; nothing changes then.
+    /// Switches enabling of a queue off. Refused as `NoSuchQueue`. As [`Queues::noenable`] of strm_queue.
     pub fn noenable(&mut self, queue: u8) -> Result<(), Refusal>
-        ensures { LeavesBlocks arena (on_queues self.old (queues.noenable queue (queued self.old))) self.old self.new result }
+        ensures { LeavesBlocks arena (on_queues self.old (queues.noenable queue (queued self.old)))
+            self.old self.new result }
     {
         self.queues.noenable(queue)
     }
 
-    /// Switches enabling on again. Enables nothing by itself.
-    ///
-    /// Refused as `NoSuchQueue` where there is no such queue; nothing changes then.
+    /// Switches enabling of a queue on again. Refused as `NoSuchQueue`. As [`Queues::enableok`] of strm_queue.
     pub fn enableok(&mut self, queue: u8) -> Result<(), Refusal>
-        ensures { LeavesBlocks arena (on_queues self.old (queues.enableok queue (queued self.old))) self.old self.new result }
+        ensures { LeavesBlocks arena (on_queues self.old (queues.enableok queue (queued self.old)))
+            self.old self.new result }
     {
         self.queues.enableok(queue)
     }
 
-    /// Takes the first queue off the run list, to be served, or none where the list is empty.
+    /// Takes the first queue, if any, off the run list, and returns its number. As [`Queues::next_service`] of strm_queue.
     pub fn next_service(&mut self) -> Option<u8>
-        ensures { LeavesBlocks arena (on_queues self.old (Ok (queues.next_service (queued self.old)))) self.old self.new (Ok result) }
+        ensures { LeavesBlocks arena (on_queues self.old (Ok (queues.next_service (queued self.old))))
+            self.old self.new (Ok result) }
     {
         self.queues.next_service()
     }
 
-    /// The queue at a place of the run list, counted from 0, or none where the list is not so long. Nothing changes.
+    /// Returns the queue at a place of the run list, counted from 0, if any. As [`Queues::run_at`] of strm_queue.
     pub fn run_at(&self, place: u32) -> Option<u8>
         ensures { result ≡ queues.run_at place (queued self.now) }
     {
         self.queues.run_at(place)
     }
 
-    /// What there is to tell of a queue: its messages, their bytes, and its marks. Nothing changes.
-    ///
-    /// Refused as `NoSuchQueue` where there is no such queue.
+    /// Returns the messages, bytes and marks of a queue. Refused as `NoSuchQueue`. As [`Queues::queue_info`] of strm_queue.
     pub fn queue_info(&self, queue: u8) -> Result<QueueInfo, Refusal>
         ensures { result ≡ answer_of (queues.queue_info queue (queued self.now)) }
     {
         self.queues.queue_info(&self.blocks, queue)
     }
 
-    /// What there is to tell of one band of a queue: the bytes of its messages, of which those of high priority count with
-    /// band 0, and its marks. Nothing changes.
-    ///
-    /// Refused as `NoSuchQueue` where there is no such queue.
+    /// Returns the bytes and marks of one band of a queue. Refused as `NoSuchQueue`. As [`Queues::band_info`] of
+    /// strm_queue.
     pub fn band_info(&self, queue: u8, band: u8) -> Result<BandInfo, Refusal>
         ensures { result ≡ answer_of (queues.band_info queue band (queued self.now)) }
     {

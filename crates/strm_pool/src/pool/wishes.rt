@@ -1,4 +1,4 @@
-//! The calls on wishes for message blocks.
+//! Calls on wishes: `bufcall`, `unbufcall`, and `take_ready`, which callers use instead of a callback.
 ghost use Rattle.std.specs.Prelude.{Ok, ◌≡◌, ◌<◌, IfSome, length};
 ghost use Rattle.std.specs.List.{position};
 ghost use Rattle.strm_mblk.specs.Calls.{LeavesBlocks};
@@ -9,11 +9,12 @@ use super::Pool;
 use strm_data::Refusal;
 
 impl Pool {
-    /// Records a wish for a message block over a data block of `size` bytes or more, behind all others, and answers its id.
-    /// Ids rise by 1 from the configuration's first one; `LAST_ID` is the last. Takes constant time.
+    /// Records a wish for a message block over a data block of `size` bytes or more, after all others, and returns its id.
+    /// Ids rise by 1 from the configuration's first one up to `LAST_ID`.
     ///
-    /// Refused as `TooLarge` where the size is above the largest class, then as `Full` where as many wishes are recorded as
-    /// the configuration allows, then as `IdsSpent` where the last id has been given; nothing changes then.
+    /// Refused as `TooLarge` if the size is above the largest class, then as `Full` if there are as many wishes as the
+    /// configuration allows, then as `IdsSpent` after the last id; then nothing changes. Takes at most a step for each size
+    /// class. STREAMS' `bufcall` later calls a function; here callers ask [`Pool::take_ready`].
     pub fn bufcall(&mut self, size: u32) -> Result<u32, Refusal>
         ensures { LeavesBlocks arena (wishes.bufcall size self.old) self.old self.new result }
     {
@@ -23,9 +24,8 @@ impl Pool {
         self.wishes.record(size)
     }
 
-    /// Takes back the wish with this id. Takes a step for each wish.
-    ///
-    /// Refused as `NotPending` where no wish has it; nothing changes then.
+    /// Removes the wish with this id. Refused as `NotPending` if there is none; then nothing changes. Takes a step for each
+    /// wish.
     pub fn unbufcall(&mut self, id: u32) -> Result<(), Refusal>
         ensures { LeavesBlocks arena (wishes.unbufcall id self.old) self.old self.new result }
     {
@@ -38,7 +38,7 @@ impl Pool {
         }
     }
 
-    // The place of the first wish for which `allocb` would give a message now.
+    // The place of the first wish for which `allocb` would succeed now, if any.
     fn ready_place(&self) -> Option<usize>
         ensures place { result ≡ position (wishes.is_ready self.now) self.now.wishes.pending }
         ensures there { IfSome result (λ place. place < length self.now.wishes.pending) }
@@ -49,8 +49,8 @@ impl Pool {
             .position(|wish| self.blocks.testb(wish.1))
     }
 
-    /// Takes the wish that was recorded first of those for which `allocb` would give a message now, and answers its id and
-    /// its size; or none. Nothing is kept for it. Takes a step for each wish and each size class.
+    /// Removes the earliest wish for which `allocb` would succeed now, if any, and returns its id and size. It reserves no
+    /// block. Takes at most two steps for each pair of a wish and a size class. This project's own call.
     pub fn take_ready(&mut self) -> Option<(u32, u32)>
         ensures { LeavesBlocks arena (Ok (wishes.take_ready self.old)) self.old self.new (Ok result) }
     {
@@ -58,8 +58,8 @@ impl Pool {
         self.wishes.remove(place)
     }
 
-    /// The id and the size of the wish at a place, counted from 0 in the order in which they were recorded, or none where
-    /// there are not so many. Nothing changes.
+    /// Returns the id and the size of the wish at a place, counted from 0 in the order of recording, if any. This project's
+    /// own call.
     pub fn wish_at(&self, place: u32) -> Option<(u32, u32)>
         ensures { result ≡ wishes.wish_at place self.now }
     {

@@ -1,4 +1,4 @@
-//! A pool with registers of its own.
+//! A bench: a pool with its own registers. Each method makes calls, and compares what they return.
 use super::{assert_reply, classes, opened, queues, register};
 use std::alloc::Global;
 use std::process::Abort;
@@ -11,8 +11,8 @@ pub(super) struct Bench {
 }
 
 impl Bench {
-    // A pool of an id and so many message blocks, over data blocks of some sizes, with one queue. The registers hold
-    // nothing.
+    // Opens a pool with this id and number of message blocks, over data blocks of these sizes, with one queue. The
+    // registers are empty.
     pub(super) fn opened(
         rt: &impl Abort,
         alloc: Global,
@@ -22,7 +22,7 @@ impl Bench {
         Bench::wishing(rt, alloc, named, sizes, (2, 1))
     }
 
-    // So too, with so many wishes at one time and the id of the first.
+    // Opens a pool as `opened` does, with a greatest number of wishes and the id of the first.
     pub(super) fn wishing(
         rt: &impl Abort,
         alloc: Global,
@@ -42,13 +42,13 @@ impl Bench {
         &mut self.regs
     }
 
-    // Applies a call, and answers its reply.
+    // Applies a call, and returns its reply.
     fn reply(&mut self, rt: &impl Abort, call: &Call) -> Reply {
         assert!(rt; self.pool.owns(&self.regs));
         self.pool.apply(&mut self.regs, call)
     }
 
-    // Applies the calls, each reply into the place of the one before it, and compares each.
+    // Applies the calls, all with one `Reply` that each overwrites, and compares each reply.
     fn replies(&mut self, rt: &impl Abort, rows: &[(Call, Reply)]) {
         let mut given = Reply::Done;
         for (call, reply) in rows {
@@ -58,7 +58,7 @@ impl Bench {
         }
     }
 
-    // Applies calls that are done. Then the first registers hold messages with these heads.
+    // Applies calls that reply `Done`; then the first registers must have messages with these heads.
     pub(super) fn done(&mut self, rt: &impl Abort, calls: &[Call], heads: &[Option<u32>]) {
         for call in calls {
             let given = self.reply(rt, call);
@@ -67,7 +67,7 @@ impl Bench {
         self.assert_heads(rt, heads);
     }
 
-    // The first registers hold messages with these heads.
+    // The first registers have messages with these heads.
     fn assert_heads(&self, rt: &impl Abort, heads: &[Option<u32>]) {
         let mut place = 0u8;
         for head in heads {
@@ -76,24 +76,24 @@ impl Bench {
         }
     }
 
-    // The head of the message of a register, if it holds one.
+    // The head of the message in a register, if any.
     fn head(&self, reg: Reg) -> Option<u32> {
         let (head, _) = self.regs.entry(reg)?;
         Some(head)
     }
 
-    // Whether the pool has what the registers of another hold.
+    // Whether the pool has the tokens of another bench's registers.
     pub(super) fn owns(&self, other: &Bench) -> bool {
         self.pool.owns(&other.regs)
     }
 
-    // So many message blocks are free, and so many held; none stand on queues.
+    // `census` counts these free and held message blocks, and no queued ones.
     pub(super) fn assert_census(&self, rt: &impl Abort, free: u32, held: u32) {
         let census = self.pool.census();
         assert!(rt; (census.free, census.queued, census.held) == (free, 0, held));
     }
 
-    // The pool lends its parts, under their laws: queue 0 has so many messages, and data block 0 so many names.
+    // The pool lends its parts, and their laws hold: queue 0 has `size` messages, and data block 0 has `names` references.
     pub(super) fn assert_lent(&self, rt: &impl Abort, size: u32, names: u8) {
         let (queues, blocks) = (self.pool.queues(), self.pool.blocks());
         queues.lawful(blocks);
@@ -104,7 +104,7 @@ impl Bench {
         assert!(rt; data.count(0) == names);
     }
 
-    // Takes the token of a register, which then holds nothing.
+    // Takes the token out of a register.
     pub(super) fn taken(&mut self, rt: &impl Abort, reg: Reg) -> Token {
         match self.regs.take(reg) {
             Some(token) => {
@@ -115,7 +115,7 @@ impl Bench {
         }
     }
 
-    // Puts a token into a free register.
+    // Puts a token into an empty register.
     pub(super) fn hold(&mut self, rt: &impl Abort, reg: Reg, token: Token) {
         if let Some(token) = self.regs.put(reg, token) {
             self.pool.freemsg(token);
@@ -127,7 +127,7 @@ impl Bench {
         self.pool.freemsg(token);
     }
 
-    // There is no such queue, and the token comes back.
+    // `putq` refuses the missing queue, and returns the token.
     pub(super) fn not_put(&mut self, rt: &impl Abort, queue: u8, token: Token) -> Token {
         assert!(rt; self.pool.has(&token) && !self.pool.has_queue(queue));
         match self.pool.putq(queue, token) {
@@ -139,7 +139,7 @@ impl Bench {
         }
     }
 
-    // Frees what the registers hold, and gives other ones.
+    // Frees the messages of the registers, and returns the bench with empty registers.
     pub(super) fn drained(self) -> Bench {
         let Bench { mut pool, regs } = self;
         pool.drain(regs);
@@ -149,14 +149,14 @@ impl Bench {
         }
     }
 
-    // Frees what the registers hold.
+    // Frees the messages of the registers.
     pub(super) fn end(self) {
         let Bench { mut pool, regs } = self;
         pool.lawful();
         pool.drain(regs);
     }
 
-    // Applies the calls, and compares each reply. Then the first registers hold messages with these heads.
+    // Applies the calls, and compares each reply; then the first registers must have messages with these heads.
     pub(super) fn serve(mut self, rt: &impl Abort, rows: &[(Call, Reply)], heads: &[Option<u32>]) {
         self.replies(rt, rows);
         self.assert_heads(rt, heads);

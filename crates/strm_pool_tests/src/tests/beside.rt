@@ -1,11 +1,11 @@
-//! A pool beside its calls done a second time: both answer alike, and have the same afterwards.
+//! Compares a pool with the second: after each call both have given the same reply, and have the same messages and marks.
 use super::second::{QUEUES, REGISTERS, Second};
 use super::{assert_reply, register};
 use std::process::Abort;
 use strm_mblk::Blocks;
 use strm_pool::{Call, MOST_OCTETS, MOST_REGISTERS, Pool, Refusal, Reg, Regs, Reply, Token};
 
-// The first block of a message, and those behind it: one more place than there are blocks.
+// Each block of a message is the same in both, and both refuse the place after the last.
 fn assert_blocks(rt: &impl Abort, pool: &Pool, blocks: &Blocks, token: &Token, other: &Token) {
     assert!(rt; pool.has(token) && blocks.has(other));
     for place in 0..=token.blocks() {
@@ -13,7 +13,7 @@ fn assert_blocks(rt: &impl Abort, pool: &Pool, blocks: &Blocks, token: &Token, o
     }
 }
 
-// The first bytes of a message, as far as a reply carries them.
+// The first bytes of a message, as many as a reply carries, are the same in both.
 fn assert_bytes(rt: &impl Abort, pool: &Pool, blocks: &Blocks, token: &Token, other: &Token) {
     assert!(rt; pool.has(token) && blocks.has(other));
     let (mut bytes, mut others) = ([0; MOST_OCTETS], [0; MOST_OCTETS]);
@@ -22,13 +22,13 @@ fn assert_bytes(rt: &impl Abort, pool: &Pool, blocks: &Blocks, token: &Token, ot
     assert!(rt; bytes == others);
 }
 
-// A token tells the same.
+// Two tokens have the same pool id, head and number of blocks.
 fn assert_tokens(rt: &impl Abort, token: &Token, other: &Token) {
     assert!(rt; token.pool() == other.pool() && token.head() == other.head());
     assert!(rt; token.blocks() == other.blocks());
 }
 
-// A message has the same blocks, and the same bytes, as far as a reply carries them.
+// A message has the same token, blocks and first bytes in both.
 fn assert_message(rt: &impl Abort, pool: &Pool, blocks: &Blocks, token: &Token, other: &Token) {
     assert_tokens(rt, token, other);
     assert_blocks(rt, pool, blocks, token, other);
@@ -43,7 +43,7 @@ fn put_back(rt: &impl Abort, regs: &mut Regs, reg: Reg, token: Token) {
     }
 }
 
-// A register of the pool and that of the second have the same message, or hold nothing.
+// A register has the same message in both, or is empty in both.
 fn assert_place(rt: &impl Abort, pool: &Pool, regs: &mut Regs, second: &mut Second, reg: Reg) {
     assert!(rt; regs.holds(reg) == second.places().holds(reg));
     if let Some(token) = regs.take(reg) {
@@ -55,7 +55,7 @@ fn assert_place(rt: &impl Abort, pool: &Pool, regs: &mut Regs, second: &mut Seco
     }
 }
 
-// The pool has no message that stands on a queue, which a place behind the registers has.
+// The message at a place after the registers is on a queue, so the pool has no token for it.
 fn assert_queued(rt: &impl Abort, pool: &Pool, second: &mut Second, reg: Reg) {
     if let Some(token) = second.places().take(reg) {
         assert!(rt; !pool.has(&token));
@@ -63,7 +63,7 @@ fn assert_queued(rt: &impl Abort, pool: &Pool, second: &mut Second, reg: Reg) {
     }
 }
 
-// Each register of the pool has the message of its place. The pool has no message that stands on a queue.
+// All registers have the same messages in both, and the pool has no tokens of queued messages.
 fn assert_places(rt: &impl Abort, pool: &Pool, regs: &mut Regs, second: &mut Second) {
     for place in 0..MOST_REGISTERS as u8 {
         let reg = register(rt, place);
@@ -75,7 +75,7 @@ fn assert_places(rt: &impl Abort, pool: &Pool, regs: &mut Regs, second: &mut Sec
     }
 }
 
-// The size classes are the same, and the queues are as long.
+// The size classes are the same in both, and so are the numbers of messages on queues.
 fn assert_counts(rt: &impl Abort, pool: &Pool, second: &Second) {
     for class in 0..4 {
         assert!(rt; pool.class_info(class) == second.blocks().class_info(class));
@@ -86,7 +86,7 @@ fn assert_counts(rt: &impl Abort, pool: &Pool, second: &Second) {
     }
 }
 
-// A queue has the same counts and marks, and so has each band that messages are put into.
+// A queue has the same counts and marks in both, and so has each band that messages get.
 fn assert_queue(rt: &impl Abort, pool: &Pool, second: &Second, queue: u8) {
     let info = second.queue_info(rt, usize::from(queue));
     assert!(rt; pool.queue_info(queue) == Ok(info));
@@ -96,7 +96,7 @@ fn assert_queue(rt: &impl Abort, pool: &Pool, second: &Second, queue: u8) {
     }
 }
 
-// So has each queue, and the same ones wait to be served. Wishes are the same.
+// All queues, the run list and the wishes are the same in both.
 fn assert_queues(rt: &impl Abort, pool: &Pool, second: &Second) {
     for queue in 0..QUEUES as u8 {
         assert_queue(rt, pool, second, queue);
@@ -109,7 +109,7 @@ fn assert_queues(rt: &impl Abort, pool: &Pool, second: &Second) {
     }
 }
 
-// Does a call on both, on the pool by a copy of it, and answers a copy of its reply.
+// Makes a call on both, on the pool by a copy of the call, and returns a copy of the reply.
 pub(super) fn serve(
     rt: &impl Abort,
     pool: &mut Pool,

@@ -16,12 +16,12 @@ type Row<'a> = (
     Option<Which>,
 );
 
-// Message blocks, classes, queues, wishes, first id, and the fault.
+// Number of message blocks, classes, queues, wishes, first id, and the first fault.
 const ROWS: [Row<'static>; 16] = [
     (1, &[(1, 1)], &[(1, 0, None)], 0, 1, None),
     (16_383, &[(4096, 16_383)], &QUEUES, 64, u32::MAX, None),
     (4, &CLASSES, &[(u32::MAX, 0, None)], 64, 1, None),
-    // Each fault, with all that come later.
+    // Each fault together with all later ones: the first is reported.
     (0, &[], &[], 65, 0, Some(Which::Mblks)),
     (16_384, &[], &[], 65, 0, Some(Which::Mblks)),
     (4, &[], &[], 65, 0, Some(Which::Classes)),
@@ -32,7 +32,7 @@ const ROWS: [Row<'static>; 16] = [
     (4, &[(1, 1)], &[(5, 4, Some(0))], 65, 0, Some(Which::Next)),
     (4, &[(1, 1)], &[(5, 4, None)], 65, 0, Some(Which::Bufcalls)),
     (4, &[(1, 1)], &[(5, 4, None)], 64, 0, Some(Which::FirstId)),
-    // All but one thing is right.
+    // All is right but one thing.
     (u32::MAX, &CLASSES, &QUEUES, 0, 1, Some(Which::Mblks)),
     (4, &CLASSES, &QUEUES, u32::MAX, 1, Some(Which::Bufcalls)),
     (4, &CLASSES, &QUEUES, 0, 0, Some(Which::FirstId)),
@@ -74,7 +74,7 @@ const QUEUE_ROWS: [Row<'static>; 7] = [
         1,
         Some(Which::Marks),
     ),
-    // Itself, one that is not there, one behind, one named twice.
+    // A next queue that is the queue itself, does not exist, has a lower number, or is named twice.
     (
         4,
         &CLASSES,
@@ -110,7 +110,7 @@ const QUEUE_ROWS: [Row<'static>; 7] = [
     ),
 ];
 
-// The first fault of the configuration is this; without one its pool opens.
+// The configuration has this first fault; if it has none, its pool opens.
 fn assert_fault(rt: &impl Abort, alloc: Global, config: Config, fault: Option<Which>) {
     let mblks = config.mblks;
     assert!(rt; config.fault() == fault);

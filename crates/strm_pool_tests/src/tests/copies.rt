@@ -1,4 +1,4 @@
-//! Copies of calls and replies that are gone. Drawn calls are copied beside their second doing.
+//! Copies of calls and replies outlive their originals. Random calls are copied in beside.rt.
 use super::{octets, reg};
 use std::process::Abort;
 use strm_pool::{Call, MOST_OCTETS, Reply};
@@ -14,13 +14,13 @@ fn counted() -> [u8; MOST_OCTETS] {
     bytes
 }
 
-// A copy of a call with these bytes, which itself is gone.
+// A copy of a call with these bytes; the original is dropped.
 fn copied_call(rt: &impl Abort, bytes: &[u8]) -> Call {
     let call = Call::Write(reg(rt, b'z'), 4094, octets(rt, bytes));
     call.copy()
 }
 
-// A copy of a reply with these bytes, which itself is gone.
+// A copy of a reply with these bytes; the original is dropped.
 fn copied_reply(rt: &impl Abort, bytes: &[u8]) -> Reply {
     let reply = Reply::Bytes(octets(rt, bytes));
     reply.copy()

@@ -1,10 +1,10 @@
-//! Marks of queues and the run list, plainly.
+//! The plain model of the marks of queues and of the run list.
 use super::second::QUEUES;
 use std::alloc::Global;
 use std::process::Abort;
 use strm_pool::{BANDS, Call, QueueSpec};
 
-// What the queues are made with: the one in the middle has no service procedure.
+// The specs of the queues: the middle one has no service procedure.
 pub(super) const SPECS: [QueueSpec; QUEUES] = [
     QueueSpec {
         hiwat: 10,
@@ -26,8 +26,7 @@ pub(super) const SPECS: [QueueSpec; QUEUES] = [
     },
 ];
 
-// Whether somebody wants to read from a queue, whether enabling is off, and for each band its high and its low water mark,
-// and whether somebody waits for room.
+// The marks of a queue: want to read, no enabling, and for each band its water marks and its wanted mark.
 #[derive(Clone, Copy)]
 struct Marks {
     read: bool,
@@ -43,7 +42,7 @@ const OPENING: Marks = Marks {
     wanted: [false; BANDS],
 };
 
-// The marks of each queue, and the queues that wait to be served.
+// The marks of each queue, and the run list.
 #[derive(Drop)]
 pub(super) struct Flow {
     marks: [Marks; QUEUES],
@@ -58,12 +57,12 @@ impl Flow {
         }
     }
 
-    // The queues that wait, the next one first.
+    // The run list, first queue first.
     pub(super) fn run(&self) -> &[u8] {
         &self.run
     }
 
-    // Whether somebody wants to read from a queue, and whether enabling is off.
+    // The want-to-read mark of a queue, and whether enabling is off.
     pub(super) fn marks(&self, rt: &impl Abort, queue: usize) -> (bool, bool) {
         assert!(rt; queue < QUEUES);
         (self.marks[queue].read, self.marks[queue].off)
@@ -85,7 +84,7 @@ impl Flow {
         self.marks[queue].wanted[usize::from(band)]
     }
 
-    // A queue with a service procedure waits, behind those that do.
+    // Puts a queue with a service procedure at the end of the run list, unless it is there.
     pub(super) fn enable(&mut self, rt: &impl Abort, queue: usize) {
         assert!(rt; queue < QUEUES);
         if SPECS[queue].service && !self.run.contains(&(queue as u8)) {
@@ -93,7 +92,7 @@ impl Flow {
         }
     }
 
-    // A message of a rank was put on a queue by a call.
+    // Enables a queue, if it must, after a call put a message of this rank there.
     pub(super) fn put(&mut self, rt: &impl Abort, call: &Call, queue: usize, rank: u16) {
         let (read, off) = self.marks(rt, queue);
         let enables = match call {
@@ -106,7 +105,7 @@ impl Flow {
         }
     }
 
-    // A queue was read from, and had no message or one.
+    // Sets the want-to-read mark after `getq` returned none, or clears it after `getq` returned a message.
     pub(super) fn read(&mut self, rt: &impl Abort, queue: usize, empty: bool) {
         assert!(rt; queue < QUEUES);
         self.marks[queue].read = empty;
@@ -117,13 +116,13 @@ impl Flow {
         self.marks[queue].off = off;
     }
 
-    // Somebody waits for room in a band.
+    // Sets the wanted mark of a band.
     pub(super) fn want(&mut self, rt: &impl Abort, queue: usize, band: u8) {
         assert!(rt; queue < QUEUES);
         self.marks[queue].wanted[usize::from(band)] = true;
     }
 
-    // A band has no more bytes than its low water mark. Whether somebody waited for that.
+    // Clears the wanted mark of a band that has drained, and says whether it was set.
     pub(super) fn relieve(&mut self, rt: &impl Abort, queue: usize, band: u8) -> bool {
         let was = self.is_wanted(rt, queue, band);
         assert!(rt; queue < QUEUES);
@@ -131,7 +130,7 @@ impl Flow {
         was
     }
 
-    // The first queue leaves the run list.
+    // Takes the first queue off the run list.
     pub(super) fn next(&mut self) -> Option<u8> {
         if self.run.is_empty() {
             None
@@ -141,12 +140,12 @@ impl Flow {
     }
 }
 
-// The queue that is asked for room in the place of this one: the first with a service procedure.
+// The target of a queue: the first queue from it on that has a service procedure.
 pub(super) fn target(queue: usize) -> usize {
     if queue == 1 { 2 } else { queue }
 }
 
-// The nearest queue behind with a service procedure: the first one, from both others.
+// The waker of a queue, the nearest queue behind with a service procedure: queue 0 for both others.
 pub(super) fn waker(queue: usize) -> Option<usize> {
     (queue > 0).then_some(0)
 }

@@ -1,4 +1,4 @@
-//! Thousands of calls beside their second doing.
+//! Runs thousands of random calls on a pool and on the second, and compares the two after each call.
 ghost use Rattle.std.specs.Prelude.{◌<◌, ◌≤◌, IsTrue};
 ghost use Rattle.strm_data.specs.Classes.{are_lawful};
 ghost use Rattle.strm_mblk.specs.Limits.{most_message_blocks};
@@ -13,14 +13,14 @@ use std::alloc::Global;
 use std::process::Abort;
 use strm_pool::{Call, ClassSpec, ClassSpecs, Flush, MsgType, Pool, QueueSpecs, Reg, Regs};
 
-// Few data blocks of each size, so that every refusal comes but that of 255 names.
+// Few data blocks of each size, so that random calls meet every refusal but that of 255 references.
 const SMALL: [ClassSpec; 3] = [
     ClassSpec { size: 8, count: 6 },
     ClassSpec { size: 16, count: 5 },
     ClassSpec { size: 32, count: 4 },
 ];
 
-// Three parts in four are M_DATA.
+// Three types in four are M_DATA.
 const KINDS: [MsgType; 4] = [
     MsgType::MData,
     MsgType::MData,
@@ -28,7 +28,7 @@ const KINDS: [MsgType; 4] = [
     MsgType::MPcproto,
 ];
 
-// A pool, its registers, and the second doing of its calls.
+// A pool, its registers, and the second, which gets the same calls.
 struct Both {
     pool: Pool,
     regs: Regs,
@@ -48,7 +48,7 @@ fn any_reg(rt: &impl Abort, draw: &mut u32) -> Reg {
     Reg::new(below(draw, u32::from(REGISTERS)) as u8).expect(rt, "a letter")
 }
 
-// Writes up to 12 bytes.
+// A random `write` of up to 12 bytes.
 fn any_write(rt: &impl Abort, draw: &mut u32, reg: Reg, place: u32) -> Call {
     let mut bytes = [0; 12];
     for byte in bytes.iter_mut() {
@@ -58,7 +58,7 @@ fn any_write(rt: &impl Abort, draw: &mut u32, reg: Reg, place: u32) -> Call {
     Call::Write(reg, place, octets(rt, &bytes[..count]))
 }
 
-// Any of the calls that make a message.
+// A random call that makes a message.
 fn any_new(draw: &mut u32, from: Reg, into: Reg) -> Call {
     match below(draw, 16) {
         0..8 => Call::Allocb(into, below(draw, 36)),
@@ -70,7 +70,7 @@ fn any_new(draw: &mut u32, from: Reg, into: Reg) -> Call {
     }
 }
 
-// Any of the calls that alter a message.
+// A random call that changes a message.
 fn any_alteration(rt: &impl Abort, draw: &mut u32, reg: Reg) -> Call {
     let place = below(draw, 9) / 6;
     match below(draw, 16) {
@@ -83,7 +83,7 @@ fn any_alteration(rt: &impl Abort, draw: &mut u32, reg: Reg) -> Call {
     }
 }
 
-// Any of the calls that take and give no message of a queue, of which there are three.
+// A random call on a queue that takes and gives no message. Queues 0 to 2 exist; queue 3, which does not, is drawn rarely.
 fn any_control(draw: &mut u32) -> Call {
     let queue = (below(draw, 13) / 4) as u8;
     let band = below(draw, 3) as u8;
@@ -105,7 +105,7 @@ fn any_control(draw: &mut u32) -> Call {
     }
 }
 
-// Any of the calls on wishes. Their ids are not far apart.
+// A random call on wishes, with ids that are close together.
 fn any_wish(draw: &mut u32, wished: u32) -> Call {
     match below(draw, 8) {
         0..4 => Call::Bufcall(below(draw, 36)),
@@ -114,7 +114,7 @@ fn any_wish(draw: &mut u32, wished: u32) -> Call {
     }
 }
 
-// Any of the calls that change nothing.
+// A random call that changes nothing.
 fn any_question(draw: &mut u32, reg: Reg) -> Call {
     match below(draw, 8) {
         0 => Call::Msgdsize(reg),
@@ -126,7 +126,7 @@ fn any_question(draw: &mut u32, reg: Reg) -> Call {
     }
 }
 
-// Any of the calls that join, part or free messages.
+// A random call that joins, parts or frees messages.
 fn any_move(draw: &mut u32, reg: Reg, other: Reg) -> Call {
     match below(draw, 16) {
         0..6 => Call::Linkb(reg, other),
@@ -137,7 +137,7 @@ fn any_move(draw: &mut u32, reg: Reg, other: Reg) -> Call {
     }
 }
 
-// Any of the calls that change a queue. There are three.
+// A random call that puts a message on a queue, or takes one off. Queues are drawn as in `any_control`.
 fn any_on_queue(draw: &mut u32, reg: Reg) -> Call {
     let queue = (below(draw, 13) / 4) as u8;
     match below(draw, 12) {
@@ -164,7 +164,7 @@ fn any_call(rt: &impl Abort, draw: &mut u32, wished: u32) -> Call {
 }
 
 impl Both {
-    // Message blocks over data blocks of these classes, and three queues.
+    // Opens a pool and a second, with these classes and three queues.
     fn opened(rt: &impl Abort, alloc: Global, mblks: u32, classes: &[ClassSpec]) -> Both
         requires few_blocks { mblks ≤ most_message_blocks }
         requires classes { IsTrue (are_lawful classes.now) }
@@ -181,7 +181,7 @@ impl Both {
         }
     }
 
-    // Does a call, and counts it.
+    // Makes a call on both, and counts it.
     fn serve(&mut self, rt: &impl Abort, tally: &mut Tally, call: &Call) {
         let reply = serve(rt, &mut self.pool, &mut self.regs, &mut self.second, call);
         tally.count(rt, call, &reply);
@@ -200,7 +200,7 @@ impl Both {
     }
 }
 
-// So many drawn calls.
+// Makes this number of random calls.
 fn serve_any(rt: &impl Abort, both: &mut Both, tally: &mut Tally, calls: u32) {
     let mut draw = 1;
     for _call in 0..calls {
@@ -209,7 +209,7 @@ fn serve_any(rt: &impl Abort, both: &mut Both, tally: &mut Tally, calls: u32) {
     }
 }
 
-// These calls, so many times.
+// Makes these calls this number of times.
 fn repeat(rt: &impl Abort, both: &mut Both, tally: &mut Tally, times: u32, calls: &[Call]) {
     for _time in 0..times {
         for call in calls {
@@ -218,7 +218,7 @@ fn repeat(rt: &impl Abort, both: &mut Both, tally: &mut Tally, times: u32, calls
     }
 }
 
-// A message whose blocks all name one data block of three bytes: 128 of them, and then 255.
+// Makes a message whose blocks all reference one data block of three bytes: 128 blocks, and then 255.
 fn name_often(rt: &impl Abort, both: &mut Both, tally: &mut Tally) {
     let (a, b) = (reg(rt, b'a'), reg(rt, b'b'));
     let first = [Call::Allocb(a, 1), Call::Write(a, 0, octets(rt, b"abc"))];

@@ -3,7 +3,7 @@ use std::process::Abort;
 use std::test::Fail;
 use strm_pool::{NewFault, Which};
 
-// The fault's text is this.
+// The fault has this name.
 fn assert_told(rt: &impl Abort, alloc: Global, fault: NewFault, text: &str) -> Result<(), Fail> {
     assert!(rt; format!(in alloc; "{fault}")?.as_str() == text);
     Ok(())

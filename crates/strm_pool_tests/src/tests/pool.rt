@@ -4,7 +4,7 @@ use std::alloc::Global;
 use std::process::Abort;
 use strm_pool::Call;
 
-// A pool of an id and four message blocks, and a message in register a.
+// A bench with a pool of this id and four message blocks, and a message in register a.
 fn holding(rt: &impl Abort, alloc: Global, id: u32) -> Bench {
     let mut bench = Bench::opened(rt, alloc, (id, 4), &SIZES);
     bench.done(rt, &[Call::Allocb(reg(rt, b'a'), 1)], &[Some(0)]);
@@ -43,7 +43,7 @@ fn spends_the_token_of_another_pool(rt: HostRuntime) {
 
 #[test]
 fn has_no_message_that_was_freed(rt: HostRuntime) {
-    // Two pools of one id: each has the token of the other.
+    // Two pools with one id: each has a token that fits the other.
     let one = holding(&rt, rt.alloc(), 1);
     let mut two = holding(&rt, rt.alloc(), 1);
     assert!(rt; one.owns(&two));
@@ -57,7 +57,7 @@ fn has_no_message_that_was_freed(rt: HostRuntime) {
     two.end();
 }
 
-// A pool whose registers a and b hold two tokens of its one message: that in b is of another pool with its id.
+// A pool whose registers a and b have two tokens of its one message: the one in b is from another pool with its id.
 fn held_twice(rt: &impl Abort, alloc: Global) -> Bench {
     let mut one = holding(rt, alloc, 1);
     let mut two = holding(rt, alloc, 1);

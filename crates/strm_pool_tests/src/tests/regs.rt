@@ -10,7 +10,7 @@ fn there_are_registers_a_to_z(rt: HostRuntime) {
     }
 }
 
-// How a register is numbered, if one is named.
+// The number of a register, if there is one.
 fn place(reg: Option<Reg>) -> Option<usize> {
     match reg {
         Some(reg) => Some(reg.index()),
@@ -39,19 +39,19 @@ fn a_call_names_a_queue_and_registers(rt: HostRuntime) {
     }
 }
 
-// Whether registers a and z hold tokens.
+// Whether registers a and z have tokens.
 fn assert_holds(rt: &impl Abort, regs: &Regs, a: bool, z: bool) {
     assert!(rt; regs.holds(reg(rt, b'a')) == a);
     assert!(rt; regs.holds(reg(rt, b'z')) == z);
 }
 
-// What registers a and z tell.
+// The entries of registers a and z.
 fn assert_entries(rt: &impl Abort, regs: &Regs, a: Option<(u32, u32)>, z: Option<(u32, u32)>) {
     assert!(rt; regs.entry(reg(rt, b'a')) == a);
     assert!(rt; regs.entry(reg(rt, b'z')) == z);
 }
 
-// The register keeps what it holds, and the token comes back.
+// The register keeps its token, and `put` returns the other one.
 fn rejected(rt: &impl Abort, regs: &mut Regs, reg: Reg, token: Token) -> Token {
     match regs.put(reg, token) {
         Some(token) => token,

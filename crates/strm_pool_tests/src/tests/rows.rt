@@ -1,4 +1,4 @@
-//! Calls on registers with the replies and the heads that are expected.
+//! Calls on registers, worked out by hand: the reply to each, and the heads that the registers have afterwards.
 use super::bench::Bench;
 use super::{SIZES, octets, reg};
 use strm_pool::{BlockInfo, Call, Census, Flush, MsgType, Refusal, Reg, Reply};
@@ -11,7 +11,7 @@ const fn refused(why: Refusal) -> Reply {
     Reply::Refused(why)
 }
 
-// What there is to tell of a block of band 0.
+// The reply to `block` for a block of band 0.
 const fn block(kind: MsgType, len: u32, room: u32, names: u8) -> Reply {
     Reply::Block(BlockInfo {
         kind,
@@ -45,7 +45,7 @@ fn first_run(rt: HostRuntime) {
 fn refuses_in_order(rt: HostRuntime) {
     let (a, b, c) = (reg(&rt, b'a'), reg(&rt, b'b'), reg(&rt, b'c'));
     let rows = [
-        // A queue that is not there comes before a register that holds nothing.
+        // A missing queue is found before an empty source.
         (Call::Putq(1, a), refused(Refusal::NoSuchQueue)),
         (Call::Insq(1, 9, a), refused(Refusal::NoSuchQueue)),
         (Call::Qsize(255), refused(Refusal::NoSuchQueue)),
@@ -54,19 +54,19 @@ fn refuses_in_order(rt: HostRuntime) {
         (Call::Allocb(a, 65), refused(Refusal::TooLarge)),
         (Call::Allocb(a, 0), Reply::Done),
         (Call::Allocb(b, 0), Reply::Done),
-        // It comes before one that holds a token, and that before what the call refuses.
+        // A missing queue is found before a full destination, and that before the call's own refusals.
         (Call::Getq(255, a), refused(Refusal::NoSuchQueue)),
         (Call::Getq(0, a), Reply::Taken),
         (Call::Rmvq(0, 9, a), Reply::Taken),
         (Call::Allocb(a, 65), Reply::Taken),
-        // A register that holds nothing comes before one that holds a token.
+        // An empty source is found before a full destination.
         (Call::Dupb(c, a), Reply::Empty),
         (Call::Unlinkb(c, a), Reply::Empty),
         (Call::Rmvb(c, 9, a), Reply::Empty),
         (Call::Unlinkb(a, b), Reply::Taken),
         (Call::Rmvb(a, 9, b), Reply::Taken),
         (Call::Rmvb(a, 9, c), refused(Refusal::NoSuchBlock)),
-        // A register with itself.
+        // A source that is also the destination, or both sources.
         (Call::Dupmsg(a, a), Reply::Taken),
         (Call::Copyb(a, a), Reply::Taken),
         (Call::Unlinkb(a, a), Reply::Taken),
@@ -144,7 +144,7 @@ fn takes_the_last_freed_first(rt: HostRuntime) {
     let (a, b, c) = (reg(&rt, b'a'), reg(&rt, b'b'), reg(&rt, b'c'));
     let three = [Call::Allocb(a, 1), Call::Allocb(b, 1), Call::Allocb(c, 1)];
     bench.done(&rt, &three, &[Some(0), Some(1), Some(2)]);
-    // Messages are freed one after another.
+    // The blocks of two messages, freed one after the other.
     let two = [
         Call::Freemsg(b),
         Call::Freemsg(c),
@@ -152,23 +152,23 @@ fn takes_the_last_freed_first(rt: HostRuntime) {
         Call::Allocb(c, 1),
     ];
     bench.done(&rt, &two, &[Some(0), Some(2), Some(1)]);
-    // A message's blocks are freed first to last.
+    // The blocks of one message are freed first to last.
     let all = [Call::Linkb(a, b), Call::Linkb(a, c), Call::Freemsg(a)];
     bench.done(&rt, &all, &[None, None, None]);
     bench.done(&rt, &three, &[Some(1), Some(2), Some(0)]);
-    // The block that is removed goes into the other register, and the rest stays.
+    // `rmvb` puts the removed block into the other register; the other blocks stay.
     let removed = [Call::Linkb(a, b), Call::Rmvb(a, 0, b)];
     bench.done(&rt, &removed, &[Some(2), Some(1), Some(0)]);
-    // Only the first block is freed.
+    // `freeb` frees the first block only.
     let first = [Call::Linkb(a, b), Call::Freeb(a), Call::Copyb(a, b)];
     bench.done(&rt, &first, &[Some(1), Some(2), Some(0)]);
-    // Registers are drained a to z.
+    // `drain` frees the messages of registers a to z in this order.
     let mut bench = bench.drained();
     bench.done(&rt, &three, &[Some(0), Some(2), Some(1)]);
     bench.end();
 }
 
-// A call that gives a message this rank: high priority for 256, else a band.
+// A call that gives a message this rank: high priority for 256, otherwise a band.
 fn ranking(reg: Reg, rank: u16) -> Call {
     match u8::try_from(rank) {
         Ok(band) => Call::Setband(reg, band),

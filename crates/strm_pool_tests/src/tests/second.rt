@@ -1,4 +1,5 @@
-//! Calls done on message blocks of their own, with a plain vector for each queue.
+//! The second: it makes the same calls on its own message blocks, with a plain vector for each queue, to compare with a
+//! pool.
 ghost use Rattle.std.specs.Prelude.{◌≤◌, IsTrue};
 ghost use Rattle.strm_data.specs.Classes.{are_lawful};
 ghost use Rattle.strm_mblk.specs.Limits.{most_message_blocks};
@@ -14,14 +15,13 @@ use strm_pool::{
     QueueInfo, Refusal, Reg, Regs, Rejected, Reply, Token,
 };
 
-// How many queues there are.
+// The number of queues.
 pub(super) const QUEUES: usize = 3;
 
-// Calls have these registers: the first so many. Messages on queues have the others.
+// The number of places that are registers; places after these have the tokens of messages on queues.
 pub(super) const REGISTERS: u8 = 8;
 
-// A message on a queue: its rank when it was put, its bytes, whether it is of a type that carries data, and where its
-// token is.
+// A message on a queue: its rank when it was put, its bytes, whether it carries data, and the place of its token.
 #[derive(Clone, Copy)]
 struct Entry {
     rank: u16,
@@ -30,17 +30,17 @@ struct Entry {
     place: Reg,
 }
 
-// Message blocks, the tokens of all messages, the messages of each queue, front to back, what is true of queues
-// besides, and wishes, of which there may be two.
+// The second: message blocks, places with the tokens of all messages, each queue front to back, marks, and at most two
+// wishes.
 pub(super) struct Second {
     blocks: Blocks,
     places: Regs,
     queues: [Vec<Entry>; QUEUES],
     flow: Flow,
-    // The id and the size of each wish, and how many there have been.
+    // The id and the size of each wish, and the number of wishes that there have been.
     wishes: Vec<(u32, u32)>,
     wished: u32,
-    // How often other water marks made a band full under its messages, and how often full no more.
+    // How often `strqset` made a band full, and how often it made one not full.
     filled: u32,
     eased: u32,
 }
@@ -55,7 +55,7 @@ fn rank_of(rt: &impl Abort, blocks: &Blocks, token: &Token) -> u16 {
     }
 }
 
-// What stands on a queue for a message, which is kept at this place.
+// The entry of a message on a queue, whose token is at this place.
 fn entry_of(rt: &impl Abort, blocks: &Blocks, token: &Token, place: Reg) -> Entry {
     let rank = rank_of(rt, blocks, token);
     assert!(rt; blocks.has(token));
@@ -76,7 +76,7 @@ fn is_of_band(entry: &Entry, band: u8) -> bool {
     entry.rank % 256 == u16::from(band)
 }
 
-// How many bytes a band has.
+// The number of bytes of a band.
 fn bytes_of_band(entries: &[Entry], band: u8) -> u32 {
     let mut bytes = 0u32;
     for entry in entries {
@@ -87,7 +87,7 @@ fn bytes_of_band(entries: &[Entry], band: u8) -> u32 {
     bytes
 }
 
-// How many messages of a queue rank above this, and how many below.
+// The numbers of messages on a queue with a greater and with a lower rank.
 fn others(entries: &[Entry], rank: u16) -> (usize, usize) {
     let (mut higher, mut lower): (usize, usize) = (0, 0);
     for entry in entries {
@@ -100,7 +100,7 @@ fn others(entries: &[Entry], rank: u16) -> (usize, usize) {
     (higher, lower)
 }
 
-// Where a call puts a message of a rank: behind its equals, before them, or at a place where ranks do not rise.
+// The place where a call puts a message of a rank: after its equals, before them, or at a place where ranks do not rise.
 fn place_of(rt: &impl Abort, entries: &[Entry], call: &Call, rank: u16) -> Result<usize, Refusal> {
     let (higher, lower) = others(entries, rank);
     let behind = entries.len().saturating_sub(lower);
@@ -116,7 +116,7 @@ fn place_of(rt: &impl Abort, entries: &[Entry], call: &Call, rank: u16) -> Resul
     }
 }
 
-// Does a call that makes a message of another.
+// Makes a call that makes a message from another.
 fn made(
     rt: &impl Abort,
     blocks: &mut Blocks,
@@ -133,7 +133,7 @@ fn made(
     }
 }
 
-// Does a call that alters a message.
+// Makes a call that changes a message.
 fn altered(
     rt: &impl Abort,
     blocks: &mut Blocks,
@@ -154,7 +154,7 @@ fn altered(
     }
 }
 
-// The first bytes of a message from a place on.
+// The bytes of a message from a place on, as many as a reply carries.
 fn bytes_of(rt: &impl Abort, blocks: &Blocks, token: &Token, at: u32) -> Octets {
     assert!(rt; blocks.has(token));
     let mut bytes = ArrayVec::from([0; MOST_OCTETS]);
@@ -163,7 +163,7 @@ fn bytes_of(rt: &impl Abort, blocks: &Blocks, token: &Token, at: u32) -> Octets 
     Octets::of(bytes)
 }
 
-// Does a call that asks about a message.
+// Makes a call that reads a message.
 fn asked(rt: &impl Abort, blocks: &Blocks, call: &Call, token: &Token) -> Reply {
     assert!(rt; blocks.has(token));
     match call {
@@ -203,7 +203,7 @@ fn freed(rt: &impl Abort, blocks: &mut Blocks, token: Token) -> Option<Token> {
     blocks.freeb(token)
 }
 
-// A message of high priority gets band 0.
+// Gives a high priority message band 0.
 fn clear_band(rt: &impl Abort, blocks: &mut Blocks, token: &Token, rank: u16) {
     if rank == 256 {
         assert!(rt; blocks.has(token));
@@ -212,7 +212,7 @@ fn clear_band(rt: &impl Abort, blocks: &mut Blocks, token: &Token, rank: u16) {
 }
 
 impl Second {
-    // So many message blocks over the data blocks of these classes.
+    // Makes the second, with this number of message blocks over data blocks of these classes.
     pub(super) fn opened(
         rt: &impl Abort,
         alloc: Global,
@@ -239,18 +239,18 @@ impl Second {
         &self.blocks
     }
 
-    // What the places hold.
+    // The places and their tokens.
     pub(super) fn places(&mut self) -> &mut Regs {
         &mut self.places
     }
 
-    // How many messages stand on a queue, if there is one.
+    // The number of messages on a queue, if the queue exists.
     pub(super) fn queue_len(&self, queue: u8) -> Option<u32> {
         let entries = self.queues.get(usize::from(queue))?;
         u32::try_from(entries.len()).ok()
     }
 
-    // Puts a token where none is.
+    // Puts a token at an empty place.
     fn keep(&mut self, rt: &impl Abort, place: Reg, token: Token) {
         if let Some(token) = self.places.put(place, token) {
             self.blocks.freemsg(token);
@@ -258,7 +258,7 @@ impl Second {
         }
     }
 
-    // Takes the token of a register that a call takes from, where the one that it puts into is free.
+    // Takes the token of a call's source, if its destination is empty.
     fn source(&mut self, from: Reg, into: Option<Reg>) -> Result<Token, Reply> {
         if let Some(into) = into
             && self.places.holds(from)
@@ -272,7 +272,7 @@ impl Second {
         }
     }
 
-    // A place behind the registers.
+    // An empty place after the registers.
     fn free_place(&self, rt: &impl Abort) -> Reg {
         for place in REGISTERS..26 {
             let place = Reg::new(place).expect(rt, "a place");
@@ -283,7 +283,7 @@ impl Second {
         panic!(rt; "no place");
     }
 
-    // A register gets the message that a call gave.
+    // Puts the message that a call gave into its destination.
     fn give(&mut self, rt: &impl Abort, into: Reg, given: Result<Token, Refusal>) -> Reply {
         match given {
             Ok(token) => {
@@ -294,7 +294,7 @@ impl Second {
         }
     }
 
-    // A register gets what is left of a message, if anything is.
+    // Puts what is left of a message, if anything, into a register.
     fn keep_rest(&mut self, rt: &impl Abort, into: Reg, rest: Option<Token>) -> Reply {
         match rest {
             Some(token) => {
@@ -423,7 +423,7 @@ impl Second {
         assert!(rt; entries.insert(place, entry).is_ok());
     }
 
-    // Takes the message at a place off a queue, which has it, into a register.
+    // Takes the message at a place off a queue, into a register.
     fn remove(&mut self, rt: &impl Abort, queue: usize, place: usize, into: Reg) -> Reply {
         assert!(rt; queue < QUEUES);
         let entries = &mut self.queues[queue];
@@ -439,13 +439,14 @@ impl Second {
         }
     }
 
-    // How many bytes a band of a queue has.
+    // The number of bytes of a band of a queue.
     fn count(&self, rt: &impl Abort, queue: usize, band: u8) -> u32 {
         assert!(rt; queue < QUEUES);
         bytes_of_band(&self.queues[queue], band)
     }
 
-    // Messages left a queue, or a band has other water marks: a queue behind is enabled where somebody waited for room and there is some.
+    // Settles a queue after messages left it or a band got water marks: if a wanted band has drained, the waker is
+    // enabled.
     fn settle(&mut self, rt: &impl Abort, queue: usize) {
         let mut some = false;
         for band in 0..=u8::MAX {
@@ -460,7 +461,7 @@ impl Second {
         }
     }
 
-    // Frees the messages of a queue that a flush takes, of one band or of all.
+    // Frees the messages of a queue that a flush picks, of one band or of all.
     fn flush(&mut self, rt: &impl Abort, queue: usize, band: Option<u8>, flush: Flush) {
         assert!(rt; queue < QUEUES);
         let mut at = 0;
@@ -513,7 +514,7 @@ impl Second {
         Reply::No
     }
 
-    // Does a call that takes and gives no message, on a queue that is there.
+    // Makes a call on a queue that exists, without a message.
     fn control(&mut self, rt: &impl Abort, call: &Call, queue: usize) -> Reply {
         match *call {
             Call::Flushq(_, flush) => self.flush(rt, queue, None, flush),
@@ -573,32 +574,32 @@ impl Second {
         Reply::Nothing
     }
 
-    // How many wishes there have been.
+    // The number of wishes that there have been.
     pub(super) fn wished(&self) -> u32 {
         self.wished
     }
 
-    // How often other water marks made a band full under its messages.
+    // How often `strqset` made a band full.
     pub(super) fn filled(&self) -> u32 {
         self.filled
     }
 
-    // How often they made one full no more.
+    // How often `strqset` made a full band not full.
     pub(super) fn eased(&self) -> u32 {
         self.eased
     }
 
-    // The id and the size of a wish, in order of recording.
+    // The id and size of the wish at a place, in the order of recording.
     pub(super) fn wish_at(&self, place: usize) -> Option<(u32, u32)> {
         self.wishes.get(place).copied()
     }
 
-    // The queues that wait to be served, the next one first.
+    // The run list, first queue first.
     pub(super) fn run(&self) -> &[u8] {
         self.flow.run()
     }
 
-    // What there is to tell of a queue that is there.
+    // What `queue_info` returns for a queue that exists.
     pub(super) fn queue_info(&self, rt: &impl Abort, queue: usize) -> QueueInfo {
         assert!(rt; queue < QUEUES);
         let mut bytes = 0u32;
@@ -615,7 +616,7 @@ impl Second {
         }
     }
 
-    // What there is to tell of one band of it.
+    // What `band_info` returns for a band of a queue that exists.
     pub(super) fn band_info(&self, rt: &impl Abort, queue: usize, band: u8) -> BandInfo {
         let bytes = self.count(rt, queue, band);
         BandInfo {
@@ -625,7 +626,7 @@ impl Second {
         }
     }
 
-    // Puts the message of a register on a queue that is there.
+    // Puts the message of a register on a queue that exists.
     fn put_on(
         &mut self,
         rt: &impl Abort,
@@ -694,7 +695,7 @@ impl Second {
         }
     }
 
-    // Of the blocks that are not free, those of messages behind the registers are on queues.
+    // The census: blocks of messages at places after the registers are queued, other blocks that are not free are held.
     fn census(&self, rt: &impl Abort) -> Reply {
         let mut queued: u32 = 0;
         for place in REGISTERS..MOST_REGISTERS as u8 {
@@ -710,7 +711,7 @@ impl Second {
         })
     }
 
-    // Does a call, and answers its reply.
+    // Makes a call, and returns its reply.
     pub(super) fn serve(&mut self, rt: &impl Abort, call: &Call) -> Reply {
         match *call {
             Call::Allocb(into, size) => self.allocb(rt, into, size),
@@ -758,7 +759,7 @@ impl Second {
         }
     }
 
-    // Frees all messages, and gives back the places, which hold nothing.
+    // Frees all messages, and returns the empty places.
     pub(super) fn end(self, rt: &impl Abort) -> Regs {
         let Second {
             mut blocks,

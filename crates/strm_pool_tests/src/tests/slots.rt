@@ -1,7 +1,7 @@
 use super::bench::Bench;
 use super::{SIZES, reg};
 use std::process::Abort;
-use strm_pool::{Call, Slot, Token};
+use strm_pool::{Call, Token, TokenSlot};
 
 // There is no token.
 fn assert_none(rt: &impl Abort, given: Option<Token>) {
@@ -11,15 +11,15 @@ fn assert_none(rt: &impl Abort, given: Option<Token>) {
     }
 }
 
-// The token that there is tells of this head.
+// Returns the token, which must have this head.
 fn token(rt: &impl Abort, given: Option<Token>, head: u32) -> Token {
     let token = given.expect(rt, "a token");
     assert!(rt; token.head() == head);
     token
 }
 
-// Of which head the token in a slot tells, if it holds one.
-fn assert_holds(rt: &impl Abort, slot: &Slot, head: Option<u32>) {
+// The slot's token has this head, or there is none.
+fn assert_holds(rt: &impl Abort, slot: &TokenSlot, head: Option<u32>) {
     assert!(rt; slot.token().as_ref().map(Token::head) == head);
 }
 
@@ -32,7 +32,7 @@ fn slots_give_back_what_they_held(rt: HostRuntime) {
         &[Call::Allocb(a, 1), Call::Allocb(b, 1)],
         &[Some(0), Some(1)],
     );
-    let mut slot = Slot::none();
+    let mut slot = TokenSlot::none();
     assert_holds(&rt, &slot, None);
     assert_none(&rt, slot.replace(bench.taken(&rt, a)));
     assert_holds(&rt, &slot, Some(0));
@@ -54,7 +54,7 @@ fn a_dropped_slot_gives_its_token_up(rt: HostRuntime) {
     let mut bench = Bench::opened(&rt, rt.alloc(), (7, 4), &SIZES);
     let a = reg(&rt, b'a');
     bench.done(&rt, &[Call::Allocb(a, 1)], &[Some(0)]);
-    let mut slot = Slot::none();
+    let mut slot = TokenSlot::none();
     assert_none(&rt, slot.replace(bench.taken(&rt, a)));
     drop(slot);
     let bench = bench.drained();

@@ -2,8 +2,8 @@ use std::process::Abort;
 use strm_pool::{Pool, Regs, Reply};
 use strm_script::{MOST_SCRIPT_BYTES, Script, parse, reply_text, report_text};
 
-// Five messages stand on the first queue: of bands 255, 1, 7 and 0, of which that of band 7 is empty, and one of high
-// priority. A message went over the last queue.
+// Queue 0 has five messages: of bands 255, 1, 7 and 0, of which the one of band 7 is empty, and a high priority one. A message
+// was put on the last queue and taken off.
 const QUEUED: &str =
     "pool 1 16\nclass 16 8\nclass 64 4\nqueue 10 4 s 1\nqueue 20 5 n -\nqueue 8 2 s -\nbufcalls 2 1\n\
     worker\nallocb a 10\nwrite a 0 00010203040506070809\nputq 0 a\nallocb a 3\nwrite a 0 616263\nsettype a 0 M_PCPROTO\n\
@@ -11,7 +11,7 @@ const QUEUED: &str =
     write a 0 000102030405060708090a0b\nsetband a 255\nputq 0 a\nallocb a 1\nsetband a 7\nputq 0 a\n\
     allocb a 2\nputq 2 a\ngetq 2 a\n";
 
-// The pool that a script opens, and its registers, once the calls of the script are done.
+// Opens the pool of a script, and makes the script's calls; returns the pool and its registers.
 fn served(rt: &(impl Abort + AllocGlobal), script: &str) -> (Pool, Regs) {
     assert!(rt; script.len() <= MOST_SCRIPT_BYTES as usize);
     let Script { config, parts } = parse(rt.alloc(), script.as_bytes()).expect(rt, "a script");
@@ -26,7 +26,7 @@ fn served(rt: &(impl Abort + AllocGlobal), script: &str) -> (Pool, Regs) {
     (pool, regs)
 }
 
-// A line of a transcript, and the report of a pool behind it. The pool's registers are drained.
+// A line of a transcript, followed by the report of a pool, whose registers are then drained.
 fn report_of(rt: &(impl Abort + AllocGlobal), mut pool: Pool, regs: Regs) -> Vec<u8> {
     let mut text = Vec::new(rt.alloc());
     reply_text(&mut text, 0, 7, &Reply::Done).expect(rt, "memory");

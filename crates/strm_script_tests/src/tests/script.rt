@@ -1,15 +1,15 @@
-//! Scripts that are read, and the first faults of scripts that are not.
+//! Scripts that are read, and the first faults of scripts that are not, worked out by hand.
 use std::process::Abort;
 use strm_pool::{ClassSpec, QueueSpec};
 use strm_script::{Fault, Kind, MOST_SCRIPT_BYTES, ParseFault, parse};
 
-// Five lines, behind which commands may stand.
+// Five lines, after which command lines are allowed.
 const OPEN: &str = "pool 1 4\nclass 8 2\nqueue 2 1 s -\nbufcalls 1 1\nworker\n";
 
-// Two lines, behind which a queue may stand.
+// Two lines, after which a queue line is allowed.
 const CLASSES: &str = "pool 1 4\nclass 8 2\n";
 
-// Three lines, behind which the bufcalls line may stand.
+// Three lines, after which the bufcalls line is allowed.
 const QUEUES: &str = "pool 1 4\nclass 8 2\nqueue 2 1 s -\n";
 
 fn class(size: u32, count: u32) -> ClassSpec {
@@ -25,7 +25,7 @@ fn queue(hiwat: u32, lowat: u32, service: bool, next: Option<u8>) -> QueueSpec {
     }
 }
 
-// The first fault of a text of two parts is this one.
+// The first fault of the text `start` and `end` is this one.
 fn expect(rt: &(impl Abort + AllocGlobal), start: &str, end: &str, line: u32, kind: Kind) {
     let text = format!(in rt.alloc(); "{start}{end}").expect(rt, "memory");
     assert!(rt; text.len() <= MOST_SCRIPT_BYTES as usize);
@@ -61,7 +61,7 @@ fn reads_a_configuration(rt: HostRuntime) {
     assert!(rt; lines.items().is_empty());
 }
 
-// The calls that the command lines of a text are read as, one on each line of the other.
+// The calls of these command lines, each written on its own line.
 fn expect_calls(rt: &(impl Abort + AllocGlobal), commands: &str, calls: &[(u32, &str)]) {
     let text = format!(in rt.alloc(); "{OPEN}{commands}").expect(rt, "memory");
     assert!(rt; text.len() <= MOST_SCRIPT_BYTES as usize);
@@ -317,7 +317,7 @@ fn finds_the_first_fault_of_a_queue_or_a_wish(rt: HostRuntime) {
     }
 }
 
-// So many times a text, behind another.
+// A text after another, this number of times.
 fn repeated(rt: &(impl Abort + AllocGlobal), start: &str, text: &str, times: u32) -> String {
     let mut all = String::from_str(rt.alloc(), start).expect(rt, "memory");
     for _ in 0..times {

@@ -9,7 +9,7 @@ const CENSUS: Census = Census {
     held: 12,
 };
 
-// A text gets a line for each of these, and is what is wanted then.
+// After a line is appended for each of these, the text is this one.
 fn expect(rt: &impl Abort, mut text: Vec<u8>, rows: &[(u8, u32, Reply)], wanted: &[u8]) {
     for (worker, line, reply) in rows {
         reply_text(&mut text, *worker, *line, reply).expect(rt, "memory");

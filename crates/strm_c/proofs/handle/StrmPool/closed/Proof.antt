@@ -1,21 +1,9 @@
 -- A handle that holds nothing is made of nothing.
 use Rattle.std.proofs.Common.{◌≡◌, [], ◌∷◌, refl, lit<}
 use Rattle.std.specs.Prelude.{Bool, false, None}
-use mir.Syntax.{Fn}
-use mir.Val.{Val}
-use base.Logic.{SProp, emp, id⊢}
-use base.Fml.{ftrue}
-use contract.Monad.{fact, fact_i}
-use contract.Running.{tables}
-use types.Kit.{‵, raw, ◌⊛◌, ◌$◌, ◌∵◌, !, qed, by, move, drop, use0, use1, split, fjoin, feq_i}
-use types.Part.{agg}
-use types.Run.{lit, no_more, and_then, returns, enter}
-use types.ByLocal.{alloc_all, pass_all, free_all, look_at, sets}
-use denote.RawPtr.{null_ptr}
-use denote.Steps.{nothing}
-use denote.Triple.Entry.{alive}
-use denote.Triple.Walked.{Stays, walk_of}
-use Rattle.std.proofs.raw_atomic.Walks.{proved_at, leaves}
+use Rattle.strm_c.proofs.Machine.{Fn, Val, SProp, emp, id⊢, ftrue, fact, fact_i, tables}
+use Rattle.strm_c.proofs.Steps.{‵, raw, ◌⊛◌, ◌$◌, ◌∵◌, !, qed, by, move, drop, use0, use1, split, fjoin, feq_i, agg, lit, no_more, and_then, returns, enter, alloc_all, pass_all, free_all, look_at, sets, nothing, proved_at, leaves}
+use Rattle.strm_c.proofs.Meaning.{null_ptr, alive, Stays, walk_of}
 use Rattle.strm_c.specs.Holding.{is_open}
 use Rattle.strm_c.proofs.Words.{sized_val, sized_own, sized_made}
 use Rattle.strm_c.specs.contracts.handle.StrmPool as handle

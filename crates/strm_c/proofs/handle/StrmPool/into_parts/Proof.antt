@@ -1,29 +1,9 @@
 -- The parts own what the handle owned.
 use Rattle.std.proofs.Common.{◌≡◌, ◌∙◌, List, [], ◌∷◌, ◌++◌, refl, sym, ap}
 use Rattle.std.specs.Prelude.{IsSome, Some}
-use mir.Syntax.{Fn}
-use mir.Val.{Val}
-use base.Logic.{SProp, emp, id⊢, never, fst∗}
-use prog.Wp.{WpFn}
-use types.Logic.{sem}
-use contract.Monad.{fact, fact_i}
-use contract.Running.{tables}
-use types.Kit.{‵, raw, ◌⊛◌, prop, ◌$◌, ◌∵◌, !, qed, by, move, drop, use0, use1, split, regoal, rewrite, fsplit, fjoin}
-use types.Part.{whole, sub, agg}
-use types.Run.{stop, fld, of_opd, no_more, and_then, returns, enter}
-use types.ByLocal.{alloc_all, pass_all, free_all, look_at, get, get_in, sets}
-use denote.RattleType.{owns}
-use denote.RawPtr.{Ptr, block_ptr, null_ptr, in_a_block}
-use denote.Signature.{types_at}
-use denote.Steps.{nothing, heard}
-use denote.Triple.Entry.{alive}
-use denote.Triple.Walked.{Stays, stay_dropped, walk_of}
-use Rattle.core.proofs.alloc.Calls.{Goes-blank, token, handle_tells}
-use Rattle.std_alloc.specs.Box.Ownership.{box_owns}
-use Rattle.std_alloc.proofs.BoxSteps.Form.{D, R, τ, word, box_typed}
-use Rattle.std_alloc.proofs.BoxSteps.Steps.{box_in}
-use mir.Raw.{raw as bare}
-use Rattle.std.proofs.raw_atomic.Walks.{proved_at, leaves}
+use Rattle.strm_c.proofs.Machine.{Fn, Val, SProp, emp, id⊢, never, fst∗, WpFn, fact, fact_i, tables, bare}
+use Rattle.strm_c.proofs.Steps.{sem, ‵, raw, ◌⊛◌, prop, ◌$◌, ◌∵◌, !, qed, by, move, drop, use0, use1, split, regoal, rewrite, fsplit, fjoin, whole, sub, agg, stop, fld, of_opd, no_more, and_then, returns, enter, alloc_all, pass_all, free_all, look_at, get, get_in, sets, nothing, heard, box_in, proved_at, leaves}
+use Rattle.strm_c.proofs.Meaning.{owns, Ptr, block_ptr, null_ptr, in_a_block, types_at, alive, Stays, stay_dropped, walk_of, Goes-blank, token, handle_tells, box_owns, D, R, τ, word, box_typed}
 use Rattle.strm_c.specs.Holding.{held}
 use Rattle.strm_c.proofs.AsBox.{E}
 use Rattle.strm_c.proofs.Words.{sized_val, sized_told, slot_at, there_is}

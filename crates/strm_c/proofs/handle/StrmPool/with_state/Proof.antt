@@ -1,28 +1,12 @@
 -- The fields are moved, and what the handle owns goes with them.
 use Rattle.std.proofs.Common.{◌≡◌, ◌^◌, List, [], ◌∷◌, ◌++◌, refl, w64}
 use Rattle.std.specs.Prelude.{Bool, is_some}
-use mir.Syntax.{Fn}
-use mir.Val.{Val, vint}
-use base.Logic.{SProp, emp}
-use base.Fml.{ftrue}
-use prog.Wp.{WpFn}
-use contract.Monad.{fact, fact_i}
-use contract.Running.{tables}
-use types.Kit.{‵, raw, ◌⊛◌, prop, ◌$◌, ◌∵◌, !, qed, by, move, drop, use0, use2, split, regoal, fsplit, fjoin, feq_i, feq_l, flt_i}
-use types.Part.{whole, sub, agg}
-use types.Run.{stop, fld, of_opd, no_more, and_then, returns, enter}
-use types.ByLocal.{alloc_all, pass_all, free_all, look_at, get, get_in, sets}
-use denote.RattleType.{owns}
 use denote.Builtin.{usize}
-use denote.Signature.{types_at}
-use denote.Steps.{nothing}
-use denote.Struct.Tuple.{Tuple}
-use denote.Triple.Entry.{alive}
-use denote.Triple.Walked.{Stays, stay_dropped, walk_of}
-use Rattle.core.proofs.alloc.Calls.{Goes-blank}
 use Rattle.std_alloc.proofs.ResultValues.{and_tt}
 use Rattle.std_alloc.proofs.Pairs.{pair_of, pair_val}
-use Rattle.std.proofs.raw_atomic.Walks.{proved_at, leaves}
+use Rattle.strm_c.proofs.Machine.{Fn, Val, vint, SProp, emp, ftrue, WpFn, fact, fact_i, tables}
+use Rattle.strm_c.proofs.Steps.{‵, raw, ◌⊛◌, prop, ◌$◌, ◌∵◌, !, qed, by, move, drop, use0, use2, split, regoal, fsplit, fjoin, feq_i, feq_l, flt_i, whole, sub, agg, stop, fld, of_opd, no_more, and_then, returns, enter, alloc_all, pass_all, free_all, look_at, get, get_in, sets, nothing, proved_at, leaves}
+use Rattle.strm_c.proofs.Meaning.{owns, types_at, Tuple, alive, Stays, stay_dropped, walk_of, Goes-blank}
 use Rattle.strm_c.specs.Holding.{is_open}
 use Rattle.strm_c.proofs.Words.{ptr_typed, sized_val, sized_own, sized_told, sized_made, slot_at}
 use Rattle.strm_c.specs.contracts.handle.StrmPool as handle

@@ -1,30 +1,20 @@
-use Rattle.std.proofs.Common.{◌≡◌, true, [], refl, sym, ◌∙◌, subst, rules, FitsSigned, w32}
+use Rattle.std.proofs.Common.{[], refl, sym, ◌∙◌, subst, rules, FitsSigned, w32}
 use Rattle.std.proofs.lemmas.Int.{to_z-of_z}
 use Rattle.strm_mblk.specs.Calls.{Alters}
 use Rattle.strm_mblk.specs.Trimming as trimming
 use Rattle.strm_pool.specs.PoolValue.{arena, on_arena}
-use Rattle.strm_named.specs.NamedValue.{NamedValue, is_valid}
 use Rattle.strm_named.specs.NamedCalls.{plain, outcome_of}
-use Rattle.strm_named.proofs.Shaped.{Called, stays, on_invalid, on_valid}
+use Rattle.strm_named.proofs.Shaped.{Called, stays, on_valid}
 use Rattle.strm_named.proofs.named_pool.NamedPool.adjmsg.Goals.{After-answered}
 use Rattle.strm_named.proofs.named_pool.NamedPool.adjmsg.Goals as goal
-
-pub returns-then-not-has : goal.returns-then-not-has
-returns-then-not-has c = on_invalid c.args.name (on_arena c.args.self.now.pool (trimming.adjmsg c.args.name.head c.args.count c.args.self.now.pool.arena)) (sym c.has.ensures ∙ c.if-not-has.true)
-
-pub lent-token-requires-clause-valid : goal.lent-token-requires-clause-valid
-lent-token-requires-clause-valid c = (subst (λ (v : NamedValue). is_valid v c.args.name ≡ true) (sym c.self.view_is) (sym c.has.ensures ∙ c.if-not-has.false))
-
-pub adjmsg-requires : goal.adjmsg-requires
-adjmsg-requires c = c.lent-token.ensures.had
 
 called : (c : After-answered) → Called plain (outcome_of (on_arena c.self.inside.pool (trimming.adjmsg c.args.name.head c.args.count c.self.inside.pool.arena))) [] c.self.inside.pool c.adjmsg.new.self c.self.inside.places c.self.inside.places (c.answered.result)
 called c =
     let fits : FitsSigned w32 c.args.count = search rules in
-    stays _ _ _ _ c.self.invariant c.lent-token.ensures (λ h. on_arena c.self.inside.pool (trimming.adjmsg h c.args.count c.self.inside.pool.arena)) (subst (λ z. Alters arena c.lent-token.result.now c.lent-token.result.now (on_arena c.self.inside.pool (trimming.adjmsg c.lent-token.result.now.head z c.self.inside.pool.arena)) c.self.inside.pool c.adjmsg.new.self c.adjmsg.result) (to_z-of_z w32 c.args.count fits) c.adjmsg.ensures) refl c.answered.ensures
+    stays c.self.invariant c.lent-token.ensures (λ h. on_arena c.self.inside.pool (trimming.adjmsg h c.args.count c.self.inside.pool.arena)) (subst (λ z. Alters arena c.lent-token.result.now c.lent-token.result.now (on_arena c.self.inside.pool (trimming.adjmsg c.lent-token.result.now.head z c.self.inside.pool.arena)) c.self.inside.pool c.adjmsg.new.self c.adjmsg.result) (to_z-of_z w32 c.args.count fits) c.adjmsg.ensures) refl c.answered.ensures
 
 pub invariant_of-self : goal.invariant_of-self
 invariant_of-self c = (called (goal.at.invariant_of-self c).After-answered).fits
 
 pub returns : goal.returns
-returns c = on_valid c.args.name (λ v. on_arena v.pool (trimming.adjmsg c.args.name.head c.args.count v.pool.arena)) c.self.view_is (subst (λ (v : NamedValue). is_valid v c.args.name ≡ true) (sym c.self.view_is) (sym c.has.ensures ∙ c.if-not-has.false)) (called (goal.at.returns c).After-answered).does
+returns c = on_valid (λ v. on_arena v.pool (trimming.adjmsg c.args.name.head c.args.count v.pool.arena)) c.self.view_is (sym c.has.ensures ∙ c.if-not-has.false) (called (goal.at.returns c).After-answered).does

@@ -2,17 +2,13 @@ use Rattle.std.proofs.Common.{[]}
 use Rattle.strm_mblk.specs.BlockCalls as blocks
 use Rattle.strm_pool.specs.PoolValue.{on_arena}
 use Rattle.strm_named.specs.NamedCalls.{one_message, outcome_of}
-use Rattle.strm_named.proofs.Fitted.{there_answer}
 use Rattle.strm_named.proofs.Shaped.{Called, gives_new, on_any}
 use Rattle.strm_named.proofs.named_pool.NamedPool.allocb.Goals.{After-answer}
 use Rattle.strm_named.proofs.named_pool.NamedPool.allocb.Goals as goal
 
-pub answer-requires : goal.answer-requires
-answer-requires c = there_answer c.allocb-given.new.self.arena c.allocb-given.result c.self.invariant c.allocb-given.ensures.had c.allocb-given.ensures.others.size
-
 called : (c : After-answer) → Called one_message (outcome_of (on_arena c.self.inside.pool (blocks.allocb c.args.size c.self.inside.pool.arena))) [] c.self.inside.pool c.allocb-given.new.self c.self.inside.places c.answer.new.self (c.answer.result)
 called c =
-    gives_new _ _ _ _ c.self.invariant c.allocb-given.ensures c.answer.ensures.places c.answer.ensures.name
+    gives_new c.self.invariant c.allocb-given.ensures c.answer.ensures.places c.answer.ensures.name
 
 pub invariant_of-self : goal.invariant_of-self
 invariant_of-self c = (called (goal.at.invariant_of-self c).After-answer).fits

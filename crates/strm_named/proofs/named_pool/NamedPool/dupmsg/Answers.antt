@@ -1,30 +1,16 @@
-use Rattle.std.proofs.Common.{◌≡◌, true, [], sym, ◌∙◌, subst}
+use Rattle.std.proofs.Common.{[], sym, ◌∙◌}
 use Rattle.strm_mblk.specs.BlockCalls as blocks
 use Rattle.strm_pool.specs.PoolValue.{on_arena}
-use Rattle.strm_named.specs.NamedValue.{NamedValue, is_valid}
 use Rattle.strm_named.specs.NamedCalls.{one_message, outcome_of}
-use Rattle.strm_named.proofs.Fitted.{there_answer}
-use Rattle.strm_named.proofs.Shaped.{Called, gives_beside, on_invalid, on_valid}
+use Rattle.strm_named.proofs.Shaped.{Called, gives_beside, on_valid}
 use Rattle.strm_named.proofs.named_pool.NamedPool.dupmsg.Goals.{After-answer}
 use Rattle.strm_named.proofs.named_pool.NamedPool.dupmsg.Goals as goal
 
-pub returns-then-not-has : goal.returns-then-not-has
-returns-then-not-has c = on_invalid c.args.name (on_arena c.args.self.now.pool (blocks.dupmsg c.args.name.head c.args.self.now.pool.arena)) (sym c.has.ensures ∙ c.if-not-has.true)
-
-pub lent-requires-clause-valid : goal.lent-requires-clause-valid
-lent-requires-clause-valid c = (subst (λ (v : NamedValue). is_valid v c.args.name ≡ true) (sym c.self.view_is) (sym c.has.ensures ∙ c.if-not-has.false))
-
-pub dupmsg-given-requires : goal.dupmsg-given-requires
-dupmsg-given-requires c = c.lent.ensures.had
-
-pub answer-requires : goal.answer-requires
-answer-requires c = there_answer c.dupmsg-given.new.self.arena c.dupmsg-given.result c.self.invariant c.dupmsg-given.ensures.had c.dupmsg-given.ensures.others.size
-
 called : (c : After-answer) → Called one_message (outcome_of (on_arena c.self.inside.pool (blocks.dupmsg c.args.name.head c.self.inside.pool.arena))) [] c.self.inside.pool c.dupmsg-given.new.self c.self.inside.places c.answer.new.self c.answer.result
-called c = gives_beside _ _ _ _ c.self.invariant c.lent.ensures (λ h. on_arena c.self.inside.pool (blocks.dupmsg h c.self.inside.pool.arena)) c.dupmsg-given.ensures c.answer.ensures.places c.answer.ensures.name
+called c = gives_beside c.self.invariant c.lent.ensures (λ h. on_arena c.self.inside.pool (blocks.dupmsg h c.self.inside.pool.arena)) c.dupmsg-given.ensures c.answer.ensures.places c.answer.ensures.name
 
 pub invariant_of-self : goal.invariant_of-self
 invariant_of-self c = (called (goal.at.invariant_of-self c).After-answer).fits
 
 pub returns : goal.returns
-returns c = on_valid c.args.name (λ v. on_arena v.pool (blocks.dupmsg c.args.name.head v.pool.arena)) c.self.view_is (subst (λ (v : NamedValue). is_valid v c.args.name ≡ true) (sym c.self.view_is) (sym c.has.ensures ∙ c.if-not-has.false)) (called (goal.at.returns c).After-answer).does
+returns c = on_valid (λ v. on_arena v.pool (blocks.dupmsg c.args.name.head v.pool.arena)) c.self.view_is (sym c.has.ensures ∙ c.if-not-has.false) (called (goal.at.returns c).After-answer).does

@@ -1,10 +1,7 @@
 use Rattle.strm_queue.specs.QueueCalls as queues
 use Rattle.strm_pool.specs.PoolValue.{on_queues, queued}
-use Rattle.strm_named.proofs.Shaped.{leaves_all, leaves_names, still_fits}
+use Rattle.strm_named.proofs.Shaped.{leaves_all, leaves_names}
 use Rattle.strm_named.proofs.named_pool.NamedPool.enableok.Goals as goal
-
-pub invariant_of-self : goal.invariant_of-self
-invariant_of-self c = still_fits (leaves_all c.enableok.ensures.arena_stays) c.self.invariant
 
 pub returns : goal.returns
 returns c = leaves_names c.self.inside.places (λ p. on_queues p (queues.enableok c.args.queue (queued p))) c.self.view_is c.enableok.ensures.after c.enableok.ensures.answer (leaves_all c.enableok.ensures.arena_stays)

@@ -2,17 +2,13 @@ use Rattle.std.proofs.Common.{[]}
 use Rattle.strm_queue.specs.QueueCalls as queues
 use Rattle.strm_pool.specs.PoolValue.{on_queues, queued}
 use Rattle.strm_named.specs.NamedCalls.{any_message, outcome_of}
-use Rattle.strm_named.proofs.Fitted.{there_any}
 use Rattle.strm_named.proofs.Shaped.{Called, gives_any, on_any}
 use Rattle.strm_named.proofs.named_pool.NamedPool.getq.Goals.{After-answer_any}
 use Rattle.strm_named.proofs.named_pool.NamedPool.getq.Goals as goal
 
-pub answer_any-requires : goal.answer_any-requires
-answer_any-requires c = there_any c.getq-given.new.self.arena c.getq-given.result c.self.invariant c.getq-given.ensures.had c.getq-given.ensures.others.size
-
 called : (c : After-answer_any) → Called any_message (outcome_of (on_queues c.self.inside.pool (queues.getq c.args.queue (queued c.self.inside.pool)))) [] c.self.inside.pool c.getq-given.new.self c.self.inside.places c.answer_any.new.self (c.answer_any.result)
 called c =
-    gives_any _ _ _ _ c.self.invariant c.getq-given.ensures c.answer_any.ensures.places c.answer_any.ensures.name
+    gives_any c.self.invariant c.getq-given.ensures c.answer_any.ensures.places c.answer_any.ensures.name
 
 pub invariant_of-self : goal.invariant_of-self
 invariant_of-self c = (called (goal.at.invariant_of-self c).After-answer_any).fits

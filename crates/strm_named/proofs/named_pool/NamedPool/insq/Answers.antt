@@ -1,32 +1,18 @@
-use Rattle.std.proofs.Common.{◌≡◌, true, [], ◌∷◌, sym, ap, ◌∙◌, subst}
+use Rattle.std.proofs.Common.{[], ◌∷◌, sym, ap, ◌∙◌}
 use Rattle.strm_queue.specs.QueueCalls as queues
 use Rattle.strm_pool.specs.PoolValue.{on_queues, queued}
-use Rattle.strm_named.specs.NamedValue.{NamedValue, is_valid}
 use Rattle.strm_named.specs.NamedCalls.{plain, outcome_of}
 use Rattle.strm_named.specs.PlacesValue.{with_rejected}
-use Rattle.strm_named.proofs.Fitted.{as_long, as_long_without, there_back}
-use Rattle.strm_named.proofs.Shaped.{Called, spends, on_invalid, on_valid}
+use Rattle.strm_named.proofs.Shaped.{Called, spends, on_valid}
 use Rattle.strm_named.proofs.named_pool.NamedPool.insq.Goals.{After-spend}
 use Rattle.strm_named.proofs.named_pool.NamedPool.insq.Goals as goal
 
-pub returns-then-not-has : goal.returns-then-not-has
-returns-then-not-has c = on_invalid c.args.name (on_queues c.args.self.now.pool (queues.insq c.args.queue c.args.place c.args.name.head (queued c.args.self.now.pool))) (sym c.has.ensures ∙ c.if-not-has.true)
-
-pub taken-token-requires-clause-valid : goal.taken-token-requires-clause-valid
-taken-token-requires-clause-valid c = (subst (λ (v : NamedValue). is_valid v c.args.name ≡ true) (sym c.self.view_is) (sym c.has.ensures ∙ c.if-not-has.false))
-
-pub insq-put-requires : goal.insq-put-requires
-insq-put-requires c = c.taken-token.ensures.of.had
-
-pub spend-requires : goal.spend-requires
-spend-requires c = there_back c.taken-token.result c.insq-put.result _ c.self.invariant c.taken-token.ensures.of.had (as_long_without c.args.name.head c.taken-token.ensures.places (as_long c.self.inside.places)) c.insq-put.ensures.answer
-
 called : (c : After-spend) → Called plain (outcome_of (on_queues c.self.inside.pool (queues.insq c.args.queue c.args.place c.args.name.head (queued c.self.inside.pool)))) (c.args.name.head ∷ []) c.self.inside.pool c.insq-put.new.self c.self.inside.places c.spend.new.self (c.spend.result)
 called c =
-    spends _ _ _ _ c.self.invariant c.taken-token.ensures.of (λ h. on_queues c.self.inside.pool (queues.insq c.args.queue c.args.place h (queued c.self.inside.pool))) c.insq-put.ensures (c.spend.ensures.places ∙ ap (with_rejected c.insq-put.result) c.taken-token.ensures.places) c.spend.ensures.answer
+    spends c.self.invariant c.taken-token.ensures.of (λ h. on_queues c.self.inside.pool (queues.insq c.args.queue c.args.place h (queued c.self.inside.pool))) c.insq-put.ensures (c.spend.ensures.places ∙ ap (with_rejected c.insq-put.result) c.taken-token.ensures.places) c.spend.ensures.answer
 
 pub invariant_of-self : goal.invariant_of-self
 invariant_of-self c = (called (goal.at.invariant_of-self c).After-spend).fits
 
 pub returns : goal.returns
-returns c = on_valid c.args.name (λ v. on_queues v.pool (queues.insq c.args.queue c.args.place c.args.name.head (queued v.pool))) c.self.view_is (subst (λ (v : NamedValue). is_valid v c.args.name ≡ true) (sym c.self.view_is) (sym c.has.ensures ∙ c.if-not-has.false)) (called (goal.at.returns c).After-spend).does
+returns c = on_valid (λ v. on_queues v.pool (queues.insq c.args.queue c.args.place c.args.name.head (queued v.pool))) c.self.view_is (sym c.has.ensures ∙ c.if-not-has.false) (called (goal.at.returns c).After-spend).does

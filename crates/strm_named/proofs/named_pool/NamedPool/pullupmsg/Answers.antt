@@ -1,35 +1,21 @@
-use Rattle.std.proofs.Common.{◌≡◌, true, [], sym, ap, ◌∙◌, subst, rules, FitsSigned, w32}
+use Rattle.std.proofs.Common.{[], sym, ap, ◌∙◌, subst, rules, FitsSigned, w32}
 use Rattle.std.proofs.lemmas.Int.{to_z-of_z}
 use Rattle.strm_mblk.specs.Calls.{Alters}
 use Rattle.strm_mblk.specs.Trimming as trimming
 use Rattle.strm_pool.specs.PoolValue.{arena, on_arena}
-use Rattle.strm_named.specs.NamedValue.{NamedValue, is_valid}
 use Rattle.strm_named.specs.NamedCalls.{plain, outcome_of}
 use Rattle.strm_named.specs.PlacesValue.{with_token}
-use Rattle.strm_named.proofs.Fitted.{as_long, as_long_without, there_had}
-use Rattle.strm_named.proofs.Shaped.{Called, alters, on_invalid, on_valid}
+use Rattle.strm_named.proofs.Shaped.{Called, alters, on_valid}
 use Rattle.strm_named.proofs.named_pool.NamedPool.pullupmsg.Goals.{After-answered}
 use Rattle.strm_named.proofs.named_pool.NamedPool.pullupmsg.Goals as goal
-
-pub returns-then-not-has : goal.returns-then-not-has
-returns-then-not-has c = on_invalid c.args.name (on_arena c.args.self.now.pool (trimming.pullupmsg c.args.name.head c.args.count c.args.self.now.pool.arena)) (sym c.has.ensures ∙ c.if-not-has.true)
-
-pub taken-token-requires-clause-valid : goal.taken-token-requires-clause-valid
-taken-token-requires-clause-valid c = (subst (λ (v : NamedValue). is_valid v c.args.name ≡ true) (sym c.self.view_is) (sym c.has.ensures ∙ c.if-not-has.false))
-
-pub pullupmsg-pulled-requires : goal.pullupmsg-pulled-requires
-pullupmsg-pulled-requires c = c.taken-token.ensures.of.had
-
-pub hold-requires : goal.hold-requires
-hold-requires c = there_had c.pullupmsg-pulled.new.self.arena c.pullupmsg-pulled.new.token c.self.invariant c.pullupmsg-pulled.ensures.others.size c.pullupmsg-pulled.ensures.had (as_long_without c.args.name.head c.taken-token.ensures.places (as_long c.self.inside.places))
 
 called : (c : After-answered) → Called plain (outcome_of (on_arena c.self.inside.pool (trimming.pullupmsg c.args.name.head c.args.count c.self.inside.pool.arena))) [] c.self.inside.pool c.pullupmsg-pulled.new.self c.self.inside.places c.hold.new.self (c.answered.result)
 called c =
     let fits : FitsSigned w32 c.args.count = search rules in
-    alters _ _ _ _ c.self.invariant c.taken-token.ensures.of (λ h. on_arena c.self.inside.pool (trimming.pullupmsg h c.args.count c.self.inside.pool.arena)) (subst (λ z. Alters arena c.taken-token.result c.pullupmsg-pulled.new.token (on_arena c.self.inside.pool (trimming.pullupmsg c.taken-token.result.head z c.self.inside.pool.arena)) c.self.inside.pool c.pullupmsg-pulled.new.self c.pullupmsg-pulled.result) (to_z-of_z w32 c.args.count fits) c.pullupmsg-pulled.ensures) (c.hold.ensures ∙ ap (with_token c.pullupmsg-pulled.new.token) c.taken-token.ensures.places) c.answered.ensures
+    alters c.self.invariant c.taken-token.ensures.of (λ h. on_arena c.self.inside.pool (trimming.pullupmsg h c.args.count c.self.inside.pool.arena)) (subst (λ z. Alters arena c.taken-token.result c.pullupmsg-pulled.new.token (on_arena c.self.inside.pool (trimming.pullupmsg c.taken-token.result.head z c.self.inside.pool.arena)) c.self.inside.pool c.pullupmsg-pulled.new.self c.pullupmsg-pulled.result) (to_z-of_z w32 c.args.count fits) c.pullupmsg-pulled.ensures) (c.hold.ensures ∙ ap (with_token c.pullupmsg-pulled.new.token) c.taken-token.ensures.places) c.answered.ensures
 
 pub invariant_of-self : goal.invariant_of-self
 invariant_of-self c = (called (goal.at.invariant_of-self c).After-answered).fits
 
 pub returns : goal.returns
-returns c = on_valid c.args.name (λ v. on_arena v.pool (trimming.pullupmsg c.args.name.head c.args.count v.pool.arena)) c.self.view_is (subst (λ (v : NamedValue). is_valid v c.args.name ≡ true) (sym c.self.view_is) (sym c.has.ensures ∙ c.if-not-has.false)) (called (goal.at.returns c).After-answered).does
+returns c = on_valid (λ v. on_arena v.pool (trimming.pullupmsg c.args.name.head c.args.count v.pool.arena)) c.self.view_is (sym c.has.ensures ∙ c.if-not-has.false) (called (goal.at.returns c).After-answered).does

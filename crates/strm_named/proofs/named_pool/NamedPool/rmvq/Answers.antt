@@ -2,17 +2,13 @@ use Rattle.std.proofs.Common.{[]}
 use Rattle.strm_queue.specs.QueueCalls as queues
 use Rattle.strm_pool.specs.PoolValue.{on_queues, queued}
 use Rattle.strm_named.specs.NamedCalls.{one_message, outcome_of}
-use Rattle.strm_named.proofs.Fitted.{there_answer}
 use Rattle.strm_named.proofs.Shaped.{Called, gives_one, on_any}
 use Rattle.strm_named.proofs.named_pool.NamedPool.rmvq.Goals.{After-answer}
 use Rattle.strm_named.proofs.named_pool.NamedPool.rmvq.Goals as goal
 
-pub answer-requires : goal.answer-requires
-answer-requires c = there_answer c.rmvq-given.new.self.arena c.rmvq-given.result c.self.invariant c.rmvq-given.ensures.had c.rmvq-given.ensures.others.size
-
 called : (c : After-answer) → Called one_message (outcome_of (on_queues c.self.inside.pool (queues.rmvq c.args.queue c.args.place (queued c.self.inside.pool)))) [] c.self.inside.pool c.rmvq-given.new.self c.self.inside.places c.answer.new.self (c.answer.result)
 called c =
-    gives_one _ _ _ _ c.self.invariant c.rmvq-given.ensures c.answer.ensures.places c.answer.ensures.name
+    gives_one c.self.invariant c.rmvq-given.ensures c.answer.ensures.places c.answer.ensures.name
 
 pub invariant_of-self : goal.invariant_of-self
 invariant_of-self c = (called (goal.at.invariant_of-self c).After-answer).fits

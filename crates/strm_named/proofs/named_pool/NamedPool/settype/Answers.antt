@@ -1,27 +1,17 @@
-use Rattle.std.proofs.Common.{◌≡◌, true, [], refl, sym, ◌∙◌, subst}
+use Rattle.std.proofs.Common.{[], refl, sym, ◌∙◌}
 use Rattle.strm_mblk.specs.BlockCalls as blocks
 use Rattle.strm_pool.specs.PoolValue.{on_arena}
-use Rattle.strm_named.specs.NamedValue.{NamedValue, is_valid}
 use Rattle.strm_named.specs.NamedCalls.{plain, outcome_of}
-use Rattle.strm_named.proofs.Shaped.{Called, stays, on_invalid, on_valid}
+use Rattle.strm_named.proofs.Shaped.{Called, stays, on_valid}
 use Rattle.strm_named.proofs.named_pool.NamedPool.settype.Goals.{After-answered}
 use Rattle.strm_named.proofs.named_pool.NamedPool.settype.Goals as goal
 
-pub returns-then-not-has : goal.returns-then-not-has
-returns-then-not-has c = on_invalid c.args.name (on_arena c.args.self.now.pool (blocks.settype c.args.name.head c.args.place c.args.kind c.args.self.now.pool.arena)) (sym c.has.ensures ∙ c.if-not-has.true)
-
-pub lent-token-requires-clause-valid : goal.lent-token-requires-clause-valid
-lent-token-requires-clause-valid c = (subst (λ (v : NamedValue). is_valid v c.args.name ≡ true) (sym c.self.view_is) (sym c.has.ensures ∙ c.if-not-has.false))
-
-pub settype-requires : goal.settype-requires
-settype-requires c = c.lent-token.ensures.had
-
 called : (c : After-answered) → Called plain (outcome_of (on_arena c.self.inside.pool (blocks.settype c.args.name.head c.args.place c.args.kind c.self.inside.pool.arena))) [] c.self.inside.pool c.settype.new.self c.self.inside.places c.self.inside.places (c.answered.result)
 called c =
-    stays _ _ _ _ c.self.invariant c.lent-token.ensures (λ h. on_arena c.self.inside.pool (blocks.settype h c.args.place c.args.kind c.self.inside.pool.arena)) c.settype.ensures refl c.answered.ensures
+    stays c.self.invariant c.lent-token.ensures (λ h. on_arena c.self.inside.pool (blocks.settype h c.args.place c.args.kind c.self.inside.pool.arena)) c.settype.ensures refl c.answered.ensures
 
 pub invariant_of-self : goal.invariant_of-self
 invariant_of-self c = (called (goal.at.invariant_of-self c).After-answered).fits
 
 pub returns : goal.returns
-returns c = on_valid c.args.name (λ v. on_arena v.pool (blocks.settype c.args.name.head c.args.place c.args.kind v.pool.arena)) c.self.view_is (subst (λ (v : NamedValue). is_valid v c.args.name ≡ true) (sym c.self.view_is) (sym c.has.ensures ∙ c.if-not-has.false)) (called (goal.at.returns c).After-answered).does
+returns c = on_valid (λ v. on_arena v.pool (blocks.settype c.args.name.head c.args.place c.args.kind v.pool.arena)) c.self.view_is (sym c.has.ensures ∙ c.if-not-has.false) (called (goal.at.returns c).After-answered).does

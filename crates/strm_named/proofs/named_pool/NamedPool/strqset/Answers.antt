@@ -1,10 +1,7 @@
 use Rattle.strm_queue.specs.QueueCalls as queues
 use Rattle.strm_pool.specs.PoolValue.{on_queues, queued}
-use Rattle.strm_named.proofs.Shaped.{leaves_all, leaves_names, still_fits}
+use Rattle.strm_named.proofs.Shaped.{leaves_all, leaves_names}
 use Rattle.strm_named.proofs.named_pool.NamedPool.strqset.Goals as goal
-
-pub invariant_of-self : goal.invariant_of-self
-invariant_of-self c = still_fits (leaves_all c.strqset.ensures.arena_stays) c.self.invariant
 
 pub returns : goal.returns
 returns c = leaves_names c.self.inside.places (λ p. on_queues p (queues.strqset c.args.queue c.args.band c.args.hiwat c.args.lowat (queued p))) c.self.view_is c.strqset.ensures.after c.strqset.ensures.answer (leaves_all c.strqset.ensures.arena_stays)

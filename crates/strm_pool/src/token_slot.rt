@@ -1,17 +1,15 @@
-//! A place for a token.
+//! A slot for a token. Unlike the token, the slot may be dropped, as elements of arrays and vectors must.
 ghost use Rattle.std.specs.Prelude.{◌≡◌, None, Some};
 
 use std::marker::Model;
 use strm_mblk::Token;
 
-/// A token or none, for arrays and vectors, whose elements must be such as may be dropped.
-///
-/// A slot that is dropped gives its token up: the token is forgotten, and its message stays held in its pool.
-pub struct Slot {
+/// A token or none. A slot that is dropped loses its token: the message stays held in its pool.
+pub struct TokenSlot {
     token: Option<Token>,
 }
 
-impl Model for Slot {
+impl Model for TokenSlot {
     ghost use Rattle.std.specs.Prelude.{Option};
     ghost use Rattle.strm_mblk.specs.declared.token.TokenValue.{TokenValue};
 
@@ -20,31 +18,31 @@ impl Model for Slot {
     ghost view = { λ s. s.token };
 }
 
-impl Drop for Slot {
+impl Drop for TokenSlot {
     fn drop(self) {
-        let Slot { token } = self;
+        let TokenSlot { token } = self;
         if let Some(token) = token {
             token.forget();
         }
     }
 }
 
-impl Slot {
-    /// A slot that holds nothing.
-    pub fn none() -> Slot
+impl TokenSlot {
+    /// Makes a slot without a token.
+    pub fn none() -> TokenSlot
         ensures { result ≡ None }
     {
-        Slot { token: None }
+        TokenSlot { token: None }
     }
 
-    /// What it holds. Nothing changes.
+    /// Lends the token, if any.
     pub fn token(&self) -> &Option<Token>
         ensures { result.now ≡ self.now }
     {
         &self.token
     }
 
-    /// Takes what it holds, and leaves nothing there.
+    /// Takes the token, if any, and leaves none.
     pub fn take(&mut self) -> Option<Token>
         ensures token { result ≡ self.old }
         ensures empty { self.new ≡ None }
@@ -52,7 +50,7 @@ impl Slot {
         self.token.take()
     }
 
-    /// Puts a token there, and gives back the one that it held, if there was one.
+    /// Puts a token into the slot, and returns the one that was there, if any.
     pub fn replace(&mut self, token: Token) -> Option<Token>
         ensures token { result ≡ self.old }
         ensures held { self.new ≡ Some token }
@@ -60,11 +58,11 @@ impl Slot {
         self.token.replace(token)
     }
 
-    /// Takes the slot apart: what it held.
+    /// Takes the slot apart, and returns its token, if any.
     pub fn into_token(self) -> Option<Token>
         ensures { result ≡ self }
     {
-        let Slot { token } = self;
+        let TokenSlot { token } = self;
         token
     }
 }
