@@ -21,13 +21,7 @@ apart : (xs : List ℕ) → ((k : ℕ) → times k xs ≤ 1) → (i j : ℕ) →
 apart [] once i j before within same = omega (arith, within)
 apart (x ∷ xs) once i zero before within same = omega (arith, before)
 apart (x ∷ xs) once zero (suc j) before within same =
-    omega (
-      arith,
-      once x,
-      times_here x x xs refl,
-      times_some xs j (omega (arith, within)),
-      ap (λ n. times n xs) same,
-    )
+    omega (arith, once x, times_here x x xs refl, times_some xs j (omega (arith, within)), ap (λ n. times n xs) same)
 apart (x ∷ xs) once (suc i) (suc j) before within same =
     apart xs (λ k. omega (arith, once k, times-cons k x xs)) i j (omega (arith, before)) (omega (arith, within)) same
 
@@ -47,12 +41,7 @@ module _ (ds : List DeskValue) (sorted : IsNonDecreasingBy (λ (d : DeskValue). 
       let front = get_or-map (λ (d : DeskValue). d.number) ds (i + k) no_desk 0 (omega (arith, within)) in
       let back = get_or-map (λ (d : DeskValue). d.number) ds (i + suc k) no_desk 0 within in
       let differ : (get_or ds (i + k) no_desk).number ≡ (get_or ds (i + suc k) no_desk).number → ⊥ = λ same. other (front ∙ same ∙ sym back) in
-      omega (
-        arith,
-        rises i k (omega (arith, within)),
-        sorted (i + k) (i + suc k) no_desk (omega (arith, before)) within,
-        differ,
-      )
+      omega (arith, rises i k (omega (arith, within)), sorted (i + k) (i + suc k) no_desk (omega (arith, before)) within, differ)
 
   -- as many as there are numbers, each stands at the place of its number
   pub number_at : All (λ (d : DeskValue). d.number < length ds) ds → (k : ℕ) → k < length ds → (get_or ds k no_desk).number ≡ k
@@ -80,7 +69,7 @@ module _ (desks first : ℕ) (h : History) (v : PoolValue) (ds : List DeskValue)
       let is = met k d within in
       accounted_owned v x.regs h.tables x.number (omega (arith, is.desk.below, many)) is.table accounted is.desk.carry
 
-  -- and where all came, each held message stands in one register of one of them
+  -- and if all came, each held message is in one register of one of them
   module _ (sorted : IsNonDecreasingBy (λ (d : DeskValue). d.number) ds) (once : (k : ℕ) → times k (map (λ (d : DeskValue). d.number) ds) ≤ 1) (all : length ds ≡ desks) where
     listed : map (λ (d : DeskValue). entries_of d.regs) ds ≡ h.tables
     listed =

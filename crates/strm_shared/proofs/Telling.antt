@@ -1,4 +1,4 @@
--- What is told of served calls, from the first on: pool, tables and replies of a replay, and the chronicle.
+-- The served calls, from the first on: a replay of them gives pool, tables and replies, and the chronicle gives the pairs.
 use Rattle.std.proofs.Common.{◌≡◌, ℕ, zero, suc, ◌+◌, ◌<◌, ◌≤◌, List, [], ◌∷◌, ◌++◌, Option, Some, None, length, map, replicate, get_or, take, refl, sym, ap, ◌∙◌, subst, arith}
 use Rattle.std.specs.Prelude.{All, slice_set}
 use Rattle.std.specs.List.{take-map}
@@ -54,7 +54,7 @@ told_at {opened} {desks} {first} {stamp} {es} {v} {ts} {ps} told k within =
     ∙ chronicle_at opened (empty_tables desks) first (calls_of es) k (omega (arith, within, length-map es (λ (x : Entry). let y : DeskCall = record { desk = x.desk; call = x.call } in y)))
     ∙ ap (λ (cs : List DeskCall). pair_at (first + k) (replay opened desks cs).pool) (take-map (λ (x : Entry). let y : DeskCall = record { desk = x.desk; call = x.call } in y) k es)
 
--- the heads that a desk's table tells of are those of its tokens
+-- the heads in a desk's table are those of its tokens
 heads_told-entries_of : (rs : List (Option TokenValue)) → heads_told (entries_of rs) ≡ table_of rs
 heads_told-entries_of [] = refl
 heads_told-entries_of (None ∷ rs) = ap (λ (t : RegisterTable). None ∷ t) (heads_told-entries_of rs)
@@ -78,10 +78,7 @@ module _ {opened : PoolValue} {desks first : ℕ} {b c : BookValue} {d e : DeskV
   known = get_or-map heads_told b.tables d.number [] ∙ ap heads_told served.known ∙ heads_told-entries_of d.regs
 
   tables : slice_set (map heads_told b.tables) d.number (table_of e.regs) ≡ map heads_told c.tables
-  tables =
-      ap (λ (t : RegisterTable). slice_set (map heads_told b.tables) d.number t) (sym (heads_told-entries_of e.regs))
-      ∙ sym (map-set heads_told b.tables d.number (entries_of e.regs))
-      ∙ ap (map heads_told) (sym served.tables)
+  tables = cc (heads_told-entries_of e.regs, map-set heads_told b.tables d.number (entries_of e.regs), served.tables)
 
   -- the replay of all calls before, and of this one
   more : replay_more (replay opened desks (calls_of b.entries)) (record { desk = d.number; call = call })

@@ -1,11 +1,11 @@
 -- A call on a desk that the book knows: it may be applied, and what it leaves is lawful again.
 use Rattle.std.proofs.Common.{◌≡◌, ℕ, ◌+◌, ◌<◌, ◌≤◌, Bool, true, false, List, [], ◌∷◌, ◌++◌, length, set, Option, Some, None, Ok, refl, sym, ap, ◌∙◌, subst, arith, if◌then◌else◌, length-set}
-use Rattle.std.specs.Prelude.{All, Contains, option_map, ◌==◌}
+use Rattle.std.specs.Prelude.{All, Contains, ◌==◌}
 use Rattle.std.proofs.lemmas.Bool.{eqb-false}
 use Rattle.std.proofs.lemmas.Option.{none-some}
 use Rattle.strm_data.specs.declared.refusal.Refusal.TheVariants.{TraceFull, Worn}
 use Rattle.strm_mblk.specs.declared.token.TokenValue.{TokenValue}
-use Rattle.strm_mblk.specs.Arena.{census_of, token_of}
+use Rattle.strm_mblk.specs.Arena.{census_of}
 use Rattle.strm_pool.specs.declared.call.Call.{Call}
 use Rattle.strm_pool.specs.declared.call.Call.TheVariants as calls
 use Rattle.strm_pool.specs.declared.reply.Reply.{Reply}
@@ -40,8 +40,8 @@ pub record IsKnown (id desks first : ℕ) (b : BookValue) (d : DeskValue) : Type
   pub desk : IsDeskOf id desks d
   pub table : table_at b d.number ≡ entries_of d.regs
 
--- A call on such a desk was served: what became of book and desk, that what is held of the pool moved by what the desk's
--- registers tell, and that the pool has as many message blocks.
+-- After a served call, book and desk are sound again, and the answer is that of a served call. The number of held blocks changed by as
+-- much as that of the desk's registers. The pool has as many message blocks as before.
 pub record Turns (id desks first : ℕ) (b : BookValue) (d : DeskValue) (line : ℕ) (call : Call) (c : BookValue) (e : DeskValue) (reply : Reply) : Type 0 where
   pub book : IsBookOf id desks first c
   pub desk : IsDeskOf id desks e
@@ -63,9 +63,7 @@ module _ {id desks first : ℕ} {b : BookValue} {d : DeskValue} (known : IsKnown
   module _ {call : Call} {w : PoolValue} {rs : List (Option TokenValue)} {reply : Reply} (applies : Applies b.pool d.regs call w rs reply) where
     -- registers that the call does not name
     pub others : (x : ℕ) → is_named call x ≡ false → register rs x ≡ register d.regs x
-    others x unnamed =
-        applies.tokens x
-        ∙ ap (λ (named : Bool). if named then option_map (token_of w.arena) (register (table_of rs) x) else register d.regs x) unnamed
+    others x unnamed = cc (applies.tokens x, unnamed)
 
     -- what is held of the pool moves by what the desk's registers tell
     pub held_moved : (census_of w.arena).held + blocks_held d.regs ≡ (census_of b.pool.arena).held + blocks_held rs

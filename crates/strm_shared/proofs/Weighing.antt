@@ -1,4 +1,4 @@
--- What the registers of all desks tell of, block for block, is what is held of the pool; and what a call moves of both.
+-- The registers of all desks have as many blocks as the pool has held ones, and a call changes both numbers alike.
 use Rattle.std.proofs.Common.{◌≡◌, ℕ, suc, ◌+◌, ◌<◌, true, false, ◌&&◌, ◌==◌, List, [], ◌∷◌, length, Option, Some, None, refl, sym, ap, ◌∙◌, inl, inr, arith, get_or-set_same, get_or-set_other}
 use Rattle.std.specs.Prelude.{count_by, slice_index_or, slice_set}
 use Rattle.std.specs.List.{flat_map}
@@ -13,11 +13,11 @@ use Rattle.strm_mblk.proofs.arena.Counts.{flat_map-set_adds, length_adds, sum_ad
 use Rattle.strm_pool.specs.Registers.{AreAccounted, Entries, tells}
 use Rattle.strm_shared.specs.Ledger.{blocks_told, entry_blocks}
 
--- each of these messages is told of once, with its number of blocks, and nothing else is told of
+-- the entries have each of these messages once, with its number of blocks, and nothing else
 abbrev AreTold : Entries → List (Option Message) → Type 0
 AreTold es held = (h n : ℕ) → count_by (tells h n) es ≡ one_if (is_of_length n (held_in held h))
 
--- ---- where no message is told of, none is held
+-- ---- where the entries have no message, none is held
 
 none_in : (held : List (Option Message)) → ((h : ℕ) → held_in held h ≡ None) → length (flat_map blocks_of held) ≡ 0
 none_in [] none = refl
@@ -32,7 +32,7 @@ untold held told h = at (held_in held h) refl
     at (Some m) is =
         absurd (omega (arith, told h (length m), ap (λ o. one_if (is_of_length (length m) o)) is, ap one_if (eq-eqb (length m) (length m) refl)))
 
--- ---- a message that is told of, and the others
+-- ---- a message in the entries, and the others
 
 module _ (e : ℕ × ℕ) (es : Entries) (held : List (Option Message)) (told : AreTold (Some e ∷ es) held) where
   more : (h n : ℕ) → count_by (tells h n) (Some e ∷ es) ≡ one_if (tells h n (Some e)) + count_by (tells h n) es
@@ -63,7 +63,7 @@ module _ (e : ℕ × ℕ) (es : Entries) (held : List (Option Message)) (told : 
         | inr beyond ↦ absurd (false≢true (sym (ap (is_of_length e.1) (get_or_past held e.0 None beyond)) ∙ is_told))
       ]
 
-  -- in as many blocks as it is told of
+  -- in as many blocks as the entry says
   alike : (n : ℕ) → is_of_length n (held_in held e.0) ≡ tells e.0 n (Some e)
   alike n = at (held_in held e.0) is_told
     where
@@ -71,23 +71,21 @@ module _ (e : ℕ × ℕ) (es : Entries) (held : List (Option Message)) (told : 
       at None is = absurd (false≢true is)
       at (Some m) is = ap (λ k. k == n) (eqb-true (length m) e.1 is) ∙ sym (ap (λ b. b && e.1 == n) (eq-eqb e.0 e.0 refl))
 
-  -- without it, the others are told of
+  -- the other entries have the other messages
   others : AreTold es (slice_set held e.0 None)
   others h n =
       elim (cases_eq h e.0) [
         | inl same ↦
             let once : count_by (tells e.0 n) es ≡ 0 = omega (arith, more e.0 n, told e.0 n, ap one_if (alike n)) in
             let gone : held_in (slice_set held e.0 None) e.0 ≡ None = get_or-set_same held e.0 None None within in
-            ap (λ k. count_by (tells k n) es) same
-            ∙ once
-            ∙ sym (ap (λ k. one_if (is_of_length n (held_in (slice_set held e.0 None) k))) same ∙ ap (λ o. one_if (is_of_length n o)) gone)
+            cc (same, once, gone)
         | inr other ↦
             let apart : tells h n (Some e) ≡ false = ap (λ b. b && e.1 == n) (ne_eqb e.0 h (λ same. other (sym same))) in
             let there : held_in (slice_set held e.0 None) h ≡ held_in held h = get_or-set_other held e.0 h None None other in
             omega (arith, more h n, told h n, ap one_if apart, ap (λ o. one_if (is_of_length n o)) there)
       ]
 
--- so what is told of has as many blocks as are held
+-- so the entries have as many blocks as are held
 told_at : (es : Entries) (held : List (Option Message)) → AreTold es held → blocks_told es ≡ length (flat_map blocks_of held)
 told_at [] held told = sym (none_in held (untold held told))
 told_at (None ∷ es) held told =

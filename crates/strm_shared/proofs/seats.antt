@@ -1,4 +1,4 @@
--- The word of a shared pool: histories, who has which number, that each kind of step keeps the rule, and what seats know then.
+-- The word of a shared pool: histories, the numbers of desks, each kind of step keeps the rule, and what seats know after it.
 pub mod Histories
 pub mod Numbers
 pub mod Keeping

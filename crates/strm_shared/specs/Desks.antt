@@ -1,4 +1,4 @@
--- What a desk is: its number, what its registers hold, and what it has seen.
+-- A desk as a value: its number, its registers, and what it has seen.
 use Rattle.std.specs.Prelude.{ℕ, zero, suc, ◌<◌, List, [], ◌∷◌, ◌++◌, Option, None, replicate}
 use Rattle.strm_mblk.specs.declared.token.TokenValue.{TokenValue}
 use Rattle.strm_pool.specs.Limits.{most_registers}
@@ -6,8 +6,7 @@ use Rattle.strm_pool.specs.Registers.{CarryId}
 use Rattle.strm_shared.specs.declared.entry.Entry.{Entry}
 use Rattle.strm_shared.specs.Pairs.{Pair, last_pair}
 
--- a desk: its number, its registers, the pairs that it has seen, in the order in which it saw them, and the calls that it was
--- served, each with its stamp
+-- A desk: its number, its registers, the pairs that it saw, in order, and the calls that it was served, each with its stamp.
 pub record DeskValue : Type 0 where
   pub number : ℕ
   pub regs : List (Option TokenValue)
@@ -17,31 +16,31 @@ pub record DeskValue : Type 0 where
 abbrev pub desk_value : ℕ → List (Option TokenValue) → List Pair → List (ℕ × Entry) → DeskValue
 desk_value n rs ps ss = record { number = n; regs = rs; pairs = ps; served = ss }
 
--- the desk, once it has seen one pair more
+-- the desk after it saw one more pair
 abbrev pub shown : Pair → DeskValue → DeskValue
 shown p d = record d { pairs = d.pairs ++ p ∷ [] }
 
--- the pair that it saw last, and the stamp of that
+-- the pair that the desk saw last, and that pair's stamp
 abbrev pub newest : DeskValue → Pair
 newest d = last_pair d.pairs
 
 abbrev pub stamp_seen : DeskValue → ℕ
 stamp_seen d = (newest d).0
 
--- a desk of a pool with this id, of so many desks: its number is below that, and its tokens carry the id
+-- A desk of a pool with this id and number of desks: its number is below that, and its tokens have the id.
 pub record IsDeskOf (id desks : ℕ) (d : DeskValue) : Type 0 where
   pub below : d.number < desks
   pub carry : CarryId id d.regs
 
--- a desk that has not been used, and has seen these pairs
+-- a desk that was served nothing, and has seen these pairs
 abbrev pub empty_desk : ℕ → List Pair → DeskValue
 empty_desk n ps = desk_value n (replicate most_registers None) ps []
 
--- so many of these, numbered from 0
+-- this number of unused desks, numbered from 0
 abbrev pub fresh : ℕ → List Pair → List DeskValue
 fresh zero ps = []
 fresh (suc n) ps = fresh n ps ++ empty_desk n ps ∷ []
 
--- the desk that stands where there is none
+-- the desk that is found at a place without one
 abbrev pub no_desk : DeskValue
 no_desk = empty_desk 0 []

@@ -1,4 +1,4 @@
--- How a list of desks lies in memory. No public clause cites this module.
+-- How `Desks` stores its desks in slots. No public clause cites this module.
 use Rattle.std.specs.Prelude.{◌≤◌, List, map, length, Option, Some, None, IsSome}
 use Rattle.std.specs.List.{All}
 use Rattle.strm_shared.specs.declared.desk_slot.DeskSlot.{DeskSlot}
@@ -23,6 +23,6 @@ desk_in s = desk_or s.desk
 abbrev pub desks_in : {N : Type 0} → List (DeskSlot N) → List DeskValue
 desks_in ss = map desk_in ss
 
--- there are so many at most, and each is filled
+-- there are at most `most_workers` slots, and each has a desk
 abbrev pub AreFilled : {N : Type 0} → List (DeskSlot N) → Type 0
 AreFilled ss = (length ss ≤ most_workers) × All IsFilled ss

@@ -1,4 +1,4 @@
--- What workers did whose replies are kept or not. No public clause cites this module.
+-- What workers did, with their replies kept or not. No public clause cites this module.
 use Rattle.std.specs.Prelude.{◌≡◌, Bool, true, List}
 use Rattle.strm_pool.specs.declared.reply.Reply.{Reply}
 use Rattle.strm_shared.specs.declared.line.Line.{Line}
@@ -7,10 +7,10 @@ use Rattle.strm_shared.specs.declared.outcome.End.{End}
 use Rattle.strm_shared.specs.Desks.{DeskValue}
 use Rattle.strm_shared.specs.Runs.{AllWorked, Worked}
 
--- so a worker did, by some replies, which are these where they are kept
+-- a worker worked as `Worked` says, with some replies; these are they if replies are kept
 abbrev pub WorkedKeeping : {N : Type 0} → Bool → Ghosts N → List Line → DeskValue → End → List Reply → DeskValue → Type 0
 WorkedKeeping keeps n lines d end replies e = (all : List Reply) × Worked n lines d end all e × (keeps ≡ true → replies ≡ all)
 
--- and so did all workers
+-- each worker worked so
 abbrev pub AllWorkedKeeping : {N : Type 0} → Bool → Ghosts N → List (List Line) → List DeskValue → List End → List (List Reply) → List DeskValue → Type 0
 AllWorkedKeeping keeps n parts before ends replies after = (all : List (List Reply)) × AllWorked n parts before ends all after × (keeps ≡ true → replies ≡ all)

@@ -13,6 +13,7 @@ pub mod Books
 pub mod SeatsLayout
 pub mod Starts
 pub mod StartsLayout
+pub mod Invariants
 pub mod Runs
 pub mod Keeping
 pub mod RunsLayout

@@ -1,14 +1,14 @@
--- How many there may be of what this crate counts. Each number stands here once, and src/limits.rt has a constant of its name.
+-- The limits of this crate: workers, stamps and trace entries. src/limits.rt has a constant of each name.
 use Rattle.std.specs.Prelude.{ℕ}
 
--- the workers, and so the desks
+-- the greatest number of workers, and so of desks
 abbrev pub most_workers : ℕ
 most_workers = 16
 
--- the stamp at which no call is served any more
+-- the last stamp, at which each call is refused
 abbrev pub most_stamp : ℕ
 most_stamp = 68719476735
 
--- the entries of a trace
+-- the greatest number of entries of a trace
 abbrev pub most_trace : ℕ
 most_trace = 1048576

@@ -1,4 +1,4 @@
--- What workers did.
+-- What workers did with their lines, on their desks.
 use Rattle.std.specs.Prelude.{◌≡◌, ℕ, ◌<◌, List, [], ◌∷◌, length, slice_index_or, Ok, Err}
 use Rattle.strm_pool.specs.declared.reply.Reply.{Reply}
 use Rattle.strm_shared.specs.declared.line.Line.{Line}
@@ -8,20 +8,19 @@ use Rattle.strm_shared.specs.declared.outcome.End.TheVariants.{Done, Refused, No
 use Rattle.strm_shared.specs.Books.{IsAfter, IsEnd}
 use Rattle.strm_shared.specs.Desks.{DeskValue, no_desk, stamp_seen}
 
--- the replies are those to the first lines, one for each, in order, served on this desk one after another
+-- the replies are those to the first lines, in order, served on this desk one after another
 abbrev pub AreServed : {N : Type 0} → Ghosts N → List Line → DeskValue → List Reply → DeskValue → Type 0
 AreServed n lines d [] e = e ≡ d
 AreServed n [] d (reply ∷ replies) e = ⊥
 AreServed n (line ∷ lines) d (reply ∷ replies) e = (m : DeskValue) × IsAfter n d line.number line.call m (Ok reply) × AreServed n lines m replies e
 
--- all lines were served, or those before one whose call was refused so, as the desk has seen, or the worker has not started
+-- A worker served all its lines; or those before one that was refused, as its desk has seen; or it was not started.
 abbrev pub Worked : {N : Type 0} → Ghosts N → List Line → DeskValue → End → List Reply → DeskValue → Type 0
 Worked n lines d Done replies e = (length replies ≡ length lines) × AreServed n lines d replies e
 Worked n lines d (Refused why) replies e = (length replies < length lines) × (m : DeskValue) × AreServed n lines d replies m × (line : Line) × IsAfter n m line.number line.call e (Err why) × IsEnd n why (stamp_seen e)
 Worked n lines d NotStarted replies e = (replies ≡ []) × (e ≡ d)
 
--- So did each worker at the shared pool of this name, by its place: with its lines, its desk before, its end, its replies and
--- its desk afterwards.
+-- Each worker of the named pool worked so, with its lines, its desk before, its end, its replies and its desk after.
 pub record AllWorked {N : Type 0} (n : Ghosts N) (parts : List (List Line)) (before : List DeskValue) (ends : List End) (all : List (List Reply)) (after : List DeskValue) : Type 0 where
   pub ended : length ends ≡ length parts
   pub replied : length all ≡ length parts

@@ -1,4 +1,4 @@
--- The rule of the word: what each seat knows, and what each kind of step changes and tells. No public clause cites this module.
+-- The rule of the word: what each seat knows, and what each kind of step does and shows. No public clause cites this module.
 use Rattle.std.specs.Prelude.{◌≡◌, ℕ, ◌+◌, ◌<◌, ◌≤◌, List, [], ◌∷◌, ◌++◌, map, length, All, Contains, None, slice_index_or, slice_set, replicate, nat_lt, if◌then◌else◌}
 use Rattle.std.specs.List.{flat_map}
 use lib.ListN.{get_elem?}
@@ -19,15 +19,15 @@ use Rattle.strm_shared.specs.Chronicle.{served_from}
 use Rattle.strm_shared.specs.Pairs.{AreRising, HasStamp, Pair, count_in, last_pair, no_pair}
 use Rattle.strm_shared.specs.Words.{pair_of, word_of}
 
--- ---- what names nothing
+-- ---- an entry of no call
 
 abbrev pub no_entry : Entry
 no_entry = record { desk = 0; line = 0; call = Census; reply = Done }
 
 -- ---- a history, and what desks know of it
 
--- A history from this opening pair on, which is its first: stamps rise by 1, each census counts the blocks of the pool, each pair
--- but the first has its entry, of a desk that there is, and each desk has its table.
+-- A history that begins with this opening pair. Stamps rise by 1, and each census counts the pool's blocks. Each pair but the
+-- first has the entry of a call at an existing desk, and each desk has a table.
 pub record IsHistory (o : Pair) (h : History) : Type 0 where
   pub few : count_in o.1 ≤ most_message_blocks
   pub opened : slice_index_or h.pairs 0 no_pair ≡ o
@@ -36,9 +36,8 @@ pub record IsHistory (o : Pair) (h : History) : Type 0 where
   pub there : All (λ e. e.desk < h.desks) h.entries
   pub told : length h.tables ≡ h.desks
 
--- What a desk knows is of a history that begins with this stamp: there is a desk of its number, its pairs are pairs of the
--- history, it was served the entries of its number and no others, it knows the pair of each of these, and its table is that of
--- its number.
+-- What a desk knows fits a history that begins with this stamp. The desk's number exists, and its pairs are pairs of the
+-- history. It was served exactly the entries of its number, and saw the pair of each. Its table is that of its number.
 pub record IsOf (first : ℕ) (h : History) (d : Known) : Type 0 where
   pub below : d.number < h.desks
   pub pairs : All (Contains h.pairs) d.pairs
@@ -48,7 +47,7 @@ pub record IsOf (first : ℕ) (h : History) (d : Known) : Type 0 where
 
 -- ---- the rule
 
--- the desks of a view: the lock's guests, or the desk itself
+-- the desks of a view: the guests of the lock's seat, or the desk itself
 abbrev pub desks_of : View → List Known
 desks_of (Lock h gs) = gs
 desks_of (At d) = d ∷ []
@@ -57,26 +56,26 @@ desks_of Spent = []
 abbrev pub numbers_in : View → List ℕ
 numbers_in v = map (λ d. d.number) (desks_of v)
 
--- the lock's view has this history
+-- if this is the lock's view, it has this history
 abbrev pub HasHistory : History → View → Type 0
 HasHistory h (Lock l gs) = l ≡ h
 HasHistory h (At d) = Unit {0}
 HasHistory h Spent = Unit {0}
 
--- the lock's view is that of this seat
+-- if this is the lock's view, it is that of the seat with this number
 abbrev pub IsLocks : ℕ → ℕ → View → Type 0
 IsLocks lock seat (Lock h gs) = seat ≡ lock
 IsLocks lock seat (At d) = Unit {0}
 IsLocks lock seat Spent = Unit {0}
 
--- a view of this history
+-- a view that fits this history
 pub record IsViewOf (first : ℕ) (h : History) (v : View) : Type 0 where
   pub history : HasHistory h v
   pub desks : All (IsOf first h) (desks_of v)
 
--- The rule, of a table that was opened with this pair: there is a history of which each view is. One seat at most is the
--- lock's. The word is that of the history's last pair. Each number below that of the desks is the number of one desk of one
--- view, and no other is.
+-- The rule of a table that was opened with this pair: there is one history that all views fit. At most one seat is the lock's.
+-- The word is that of the history's last pair. Each desk number below the number of desks is in one view, once, and no other
+-- is.
 pub record IsRuled (o : Pair) (s : State (Unit {0}) View) : Type 0 where
   pub lock : ℕ
   pub history : History
@@ -91,28 +90,28 @@ pub record IsRuled (o : Pair) (s : State (Unit {0}) View) : Type 0 where
 abbrev pub no_entries : Entries
 no_entries = replicate most_registers None
 
--- the history with so many desks before a call was served; open: the lock's seat has it with none
+-- the history before any call was served, with this number of desks; the lock's seat begins with no desks
 abbrev pub opening_history : Pair → ℕ → History
 opening_history o n = record { pairs = o ∷ []; entries = []; desks = n; tables = replicate n no_entries }
 
 abbrev pub first_view : Pair → View
 first_view o = Lock (opening_history o 0) []
 
--- store: the history gets the pair and its entry, and the table of the entry's desk
+-- store: the history gets the pair, its entry, and the table of the entry's desk
 abbrev pub history_after : Pair → Entry → Entries → History → History
 history_after p e t h = record h { pairs = h.pairs ++ p ∷ []; entries = h.entries ++ e ∷ []; tables = slice_set h.tables e.desk t }
 
--- a desk that was served
+-- store: the desk that was served gets the pair, its entry, and its table
 abbrev pub known_after : Pair → Entry → Entries → Known → Known
 known_after p e t d = record d { pairs = d.pairs ++ p ∷ []; served = d.served ++ (p.0, e) ∷ []; table = t }
 
--- the lock's view then: its history has the pair, and so has its guest
+-- store: the lock's history and its guest get the pair
 abbrev pub view_after : Pair → Entry → Entries → View → View
 view_after p e t (Lock h gs) = Lock (history_after p e t h) (map (known_after p e t) gs)
 view_after p e t (At d) = At d
 view_after p e t Spent = Spent
 
--- the seat that stores has this view then
+-- store: the view of the seat that stored
 abbrev pub Stored : Pair → Entry → Entries → Step (Unit {0}) → Me (Unit {0}) View → ℕ → Me (Unit {0}) View → Type 0
 Stored o e t s m w m' = m' ≡ (view_after (pair_of (count_in o.1) w) e t m.0, m.1)
 
@@ -125,7 +124,7 @@ view_with_pair p (Lock h gs) = Lock h (map (with_pair p) gs)
 view_with_pair p (At d) = At (with_pair p d)
 view_with_pair p Spent = Spent
 
--- what a load tells: the pair is the last of a history of which the view is, in which no two desks have one number
+-- What a load shows: the pair is the last one of a history that the view fits, and no two desks of the view have one number.
 pub record Shows (o p : Pair) (v : View) : Type 0 where
   pub history : History
   pub lawful : IsHistory o history
@@ -133,21 +132,21 @@ pub record Shows (o p : Pair) (v : View) : Type 0 where
   pub view : IsViewOf o.0 history v
   pub apart : (n : ℕ) → times n (numbers_in v) ≤ 1
 
--- the seat that loads has the pair, and learns what the load tells
+-- load: the view of the seat that loaded gets the pair, and fits as `Shows` says
 abbrev pub Loaded : Pair → Step (Unit {0}) → Me (Unit {0}) View → ℕ → Me (Unit {0}) View → Type 0
 Loaded o s m w m' = (m' ≡ (view_with_pair (pair_of (count_in o.1) w) m.0, m.1)) × Shows o (pair_of (count_in o.1) w) m'.0
 
--- the lock's view
+-- this is the view of the lock's seat
 abbrev pub IsLockView : View → Type 0
 IsLockView (Lock h gs) = Unit {0}
 IsLockView (At d) = ⊥
 IsLockView Spent = ⊥
 
--- the load of the lock's seat that changes no view; no other seat can take it
+-- the load that changes no view, which only the lock's seat can make
 abbrev pub Read : Pair → Step (Unit {0}) → Me (Unit {0}) View → ℕ → Me (Unit {0}) View → Type 0
 Read o s m w m' = IsLockView m.0 × (m' ≡ m) × Shows o (pair_of (count_in o.1) w) m.0
 
--- join: the desk becomes the lock's guest
+-- join: the desk becomes a guest of the lock's seat
 abbrev pub with_guest : View → View → View
 with_guest (Lock h gs) (At d) = Lock h (d ∷ gs)
 with_guest v w = v
@@ -161,7 +160,7 @@ abbrev pub guest_of : View → View
 guest_of (Lock h (g ∷ gs)) = At g
 guest_of v = Spent
 
--- split of a new desk: it has the next number, empty registers, and all pairs that there are
+-- split of a new desk: it gets the next number, empty registers, and all pairs so far
 abbrev pub new_known : History → Known
 new_known h = record { number = h.desks; pairs = h.pairs; served = []; table = no_entries }
 

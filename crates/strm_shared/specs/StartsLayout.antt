@@ -1,4 +1,4 @@
--- How a pool that is to be shared lies in memory. No public clause cites this module.
+-- How a pool that is ready to be shared is stored. No public clause cites this module.
 use Rattle.std.specs.Prelude.{◌≡◌, ℕ, ◌≤◌, []}
 use Rattle.atomic_table.specs.declared.shared.Seat.{Seat}
 use Rattle.atomic_table.specs.Seated.{TableId}
@@ -11,7 +11,7 @@ use Rattle.strm_shared.specs.SeatsLayout.{IsLock}
 use Rattle.strm_shared.specs.Pairs.{Pair}
 use Rattle.strm_shared.specs.Traces.{TraceValue}
 
--- there are not too few desks, nor too many; nothing is held; the trace has no entry; the ledger is in as many parts as there are desks
+-- The number of desks is in range, no message is held, the trace is empty, and the ledger has a part for each desk.
 pub record IsReady (v : PoolValue) (desks first : ℕ) (trace : TraceValue) (parts : ℕ) : Type 0 where
   pub some : 1 ≤ desks
   pub few : desks ≤ most_workers
@@ -20,7 +20,7 @@ pub record IsReady (v : PoolValue) (desks first : ℕ) (trace : TraceValue) (par
   pub blank : trace.entries ≡ []
   pub shared : parts ≡ desks
 
--- the table of the word: it was opened with this pair, and the lock's seat has taken no step
+-- the table of the word was opened with this pair, and the lock's seat has taken no step
 pub record IsLaid (o : Pair) (z : TableId) (key : Pair) (s : Seat (Unit {0}) View) : Type 0 where
   pub one_word : z.words ≡ 1
   pub opened : key ≡ o

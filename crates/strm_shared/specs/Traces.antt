@@ -1,4 +1,4 @@
--- The trace of a shared pool: which of the calls that it served are kept.
+-- The trace of a shared pool: which served calls are kept, and when it is full.
 use Rattle.std.specs.Prelude.{◌≡◌, ℕ, ◌≤◌, ◌==◌, Bool, false, not, ◌&&◌, nat_le, List, [], length, Option, None, Some, IfSome}
 use Rattle.std.specs.Option.{option_map_or}
 use Rattle.strm_shared.specs.declared.entry.Entry.{Entry}
@@ -6,17 +6,17 @@ use Rattle.strm_shared.specs.declared.setup.Trace.{Trace}
 use Rattle.strm_shared.specs.declared.setup.Trace.TheVariants.{Keep, Off}
 use Rattle.strm_shared.specs.Limits.{most_trace}
 
--- how many entries may be kept, if any, and those that are
+-- The greatest number of entries, if a trace is kept, and the entries.
 pub record TraceValue : Type 0 where
   pub most : Option ℕ
   pub entries : List Entry
 
--- how many a trace may have that is to be kept so
+-- the greatest number of entries that a caller asks for
 abbrev pub most_of : Trace → Option ℕ
 most_of Off = None
 most_of (Keep n) = Some n
 
--- too few, or too many
+-- the number of entries is out of range
 abbrev pub is_bad_trace : Trace → Bool
 is_bad_trace Off = false
 is_bad_trace (Keep n) = not (nat_le 1 n && nat_le n most_trace)
@@ -24,16 +24,16 @@ is_bad_trace (Keep n) = not (nat_le 1 n && nat_le n most_trace)
 abbrev pub empty_trace : Option ℕ → TraceValue
 empty_trace most = record { most = most; entries = [] }
 
--- as many are kept as may be
+-- the trace has as many entries as it may
 abbrev pub is_full : TraceValue → Bool
 is_full t = option_map_or (λ n. length t.entries == n) t.most false
 
--- those of these that are kept: all, or none
+-- the entries that are kept: all of these, or none
 abbrev pub entries_kept : Option ℕ → List Entry → List Entry
 entries_kept None es = []
 entries_kept (Some n) es = es
 
--- the trace of a pool that keeps so many entries, if any, and has served these calls
+-- The trace of a pool that keeps up to this number of entries, if any, and has served these calls.
 pub record IsTraceOf (kept : Option ℕ) (es : List Entry) (t : TraceValue) : Type 0 where
   pub most : t.most ≡ kept
   pub entries : t.entries ≡ entries_kept kept es

@@ -3,15 +3,15 @@ use Rattle.std.specs.Prelude.{ℕ, ◌+◌, ◌-◌, ◌*◌, ◌/◌, ◌%◌}
 use Rattle.strm_mblk.specs.Limits.{most_message_blocks}
 use Rattle.strm_shared.specs.Pairs.{Pair}
 
--- each count of a word lies below this number
+-- each count in a word is below this number
 abbrev pub count_range : ℕ
 count_range = most_message_blocks + 1
 
--- the stamp, then what is free, then what is queued, as three digits of this base
+-- stamp, free and queued blocks as three digits of this base
 abbrev pub word_of : Pair → ℕ
 word_of p = (p.0 * count_range + p.1.free) * count_range + p.1.queued
 
--- the pair of a word, in a pool of so many message blocks, of which those are held that are neither free nor queued
+-- the pair of a word, in a pool of n message blocks; held blocks are those that are neither free nor queued
 abbrev pub pair_of : ℕ → ℕ → Pair
 pair_of blocks w =
     let free : ℕ = w / count_range % count_range in

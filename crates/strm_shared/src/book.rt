@@ -1,4 +1,4 @@
-//! What the lock of a shared pool guards.
+//! The book: what the lock of a shared pool guards, and how a call is served by it.
 ghost use Rattle.std.specs.Prelude.{◌≡◌, ◌+◌, ◌<◌, ◌≤◌, IfErr, length};
 ghost use Rattle.strm_mblk.specs.Given.{answer_map};
 ghost use Rattle.strm_shared.specs.Books.{Answers, IsLawfulBook, end_of, pair_in};
@@ -18,8 +18,8 @@ use std::marker::{Brand, Model, PhantomData};
 use std::sync::ledger::{self, Ledger, Share};
 use strm_pool::{Call, Pool, Refusal, Reply};
 
-/// What the lock of a shared pool guards: the pool; the stamp, which each served call raises by 1; the trace, if one is kept; and
-/// its seat at the word, which each served call stores, and which knows of each desk what its registers tell.
+/// What the lock of a shared pool guards: the pool, the stamp, the trace, if kept, and the seat that stores the word. Each
+/// served call raises the stamp by 1 and stores the word once. In contracts the seat knows the table of each desk's registers.
 #[derive(Drop)]
 pub struct Book<N: Name> {
     pub(crate) pool: Pool,
@@ -31,24 +31,20 @@ pub struct Book<N: Name> {
 }
 
 impl<N: Name> Model for Book<N> {
-    ghost use Rattle.std.specs.Prelude.{length};
-    ghost use Rattle.strm_shared.specs.Books.{BookValue, IsBookOf};
-    ghost use Rattle.strm_shared.specs.Chronicle.{AreTold};
-    ghost use Rattle.strm_shared.specs.LedgerLayout.{IsCounted};
-    ghost use Rattle.strm_shared.specs.Pairs.{pair_at};
-    ghost use Rattle.strm_shared.specs.SeatsLayout.{IsKeptBy, book_with, history_at};
-    ghost use Rattle.strm_shared.specs.Traces.{IsTraceOf};
+    ghost use Rattle.strm_shared.specs.Books.{BookValue};
+    ghost use Rattle.strm_shared.specs.Invariants.{IsSoundBook};
+    ghost use Rattle.strm_shared.specs.SeatsLayout.{book_with, history_at};
 
     ghost Value = { BookValue };
 
     ghost view = { λ b. book_with (history_at b.seat) b.pool b.stamp b.trace };
 
-    ghost invariant = { λ b. IsBookOf N.opened.arena.id N.desks N.first (book_with (history_at b.seat) b.pool b.stamp b.trace) × IsCounted (length N.opened.arena.held) N.desks b.held.total b.pool × IsKeptBy N.board (pair_at N.first N.opened) N.desks b.stamp b.pool (history_at b.seat) b.seat × AreTold N.opened N.desks N.first b.stamp (history_at b.seat).entries b.pool (history_at b.seat).tables (history_at b.seat).pairs × IsTraceOf N.kept (history_at b.seat).entries b.trace };
+    ghost invariant = { λ b. IsSoundBook N.Name b.pool b.stamp b.trace b.held.total b.seat };
 }
 
 impl<N: Name> Book<N> {
-    /// The laws of every book, whatever calls of whatever threads made it so. They hold each time the lock is got. Does
-    /// nothing.
+    /// Law: whenever the lock is taken, the laws of a pool hold, and each held message is in one register of one desk's table.
+    /// Does nothing.
     pub fn lawful(&self)
         ensures law { IsLawfulBook N.Name self.now }
         // The pool has as many message blocks as when it was shared.
@@ -57,14 +53,14 @@ impl<N: Name> Book<N> {
         self.pool.lawful();
     }
 
-    /// The pool as it is now. So what the laws of `Pool` say of any is known of a lent book's.
+    /// Lends the pool, so that the laws of `Pool` are known of it.
     pub fn pool(&self) -> &Pool
         ensures { result.now ≡ self.now.pool }
     {
         &self.pool
     }
 
-    // Why no call is served any more, if none is.
+    // Why the book refuses each call from now on, if it does.
     fn end(&self) -> Option<Refusal>
         ensures { result ≡ end_of self.now }
     {
@@ -90,14 +86,13 @@ impl<N: Name> Book<N> {
         desk.seen = pair.0;
     }
 
-    /// Serves a call on the desk's registers, and answers its reply. The stamp rises by 1, the word is stored once, and the
-    /// desk has seen its pair. `shared` is the pool whose book this is, and has the word; the line is that of the call in its
-    /// script. Where a trace is kept, it gets the call's entry.
-    /// Takes the steps of the call, and a few more; no memory is taken.
+    /// Serves a call on the desk's registers, and returns its reply. The stamp rises by 1, the word is stored, the desk has
+    /// seen the new pair, and a trace that is kept gets the call's entry. `shared` is the pool that has this book; `line` is
+    /// the call's line in its script. Every reply counts as served, also `Refused`, `Empty` and `Taken`.
     ///
-    /// Refused as `Worn` where the stamp is `MOST_STAMP`, and then as `TraceFull` where a trace is kept and has as many entries
-    /// as it may: nothing changes but that the desk has seen the last pair. Every reply counts as served, `Refused`, `Empty` and
-    /// `Taken` too.
+    /// Refused as `Worn` if the stamp is `MOST_STAMP`, then as `TraceFull` if the trace has as many entries as it may; then
+    /// nothing changes, but the desk has seen the last pair. Takes the steps of the call, and a constant number more. Allocates
+    /// nothing.
     pub fn turn(
         &mut self,
         shared: &Shared<N>,
@@ -114,8 +109,8 @@ impl<N: Name> Book<N> {
         }
     }
 
-    /// Serves a call as `turn` does, and puts its reply into `reply`, which stays as it was where the call is refused. `Shared` has
-    /// its calls served so.
+    /// Serves a call as [`Book::turn`] does, and writes the reply into `reply`, which stays unchanged if the call is refused.
+    /// `Shared` serves calls this way.
     pub fn turn_into(
         &mut self,
         shared: &Shared<N>,
@@ -124,7 +119,8 @@ impl<N: Name> Book<N> {
         call: &Call,
         reply: &mut Reply,
     ) -> Result<(), Refusal>
-        ensures answer { Answers self.old desk.old line call.now self.new desk.new (answer_map (λ done. reply.new) result) }
+        ensures answer { Answers self.old desk.old line call.now self.new desk.new
+            (answer_map (λ done. reply.new) result) }
         ensures kept { IfErr result (λ why. reply.new ≡ reply.old) }
     {
         if let Some(why) = self.end() {
@@ -159,7 +155,7 @@ impl<N: Name> Book<N> {
     }
 }
 
-// Counts that so many blocks are held now, where it was so many before, which a desk's call has changed.
+// Counts in the ledger that a desk's call changed the number of held blocks from `before` to `after`.
 fn count_held<L: Ledger>(held: &mut ledger::Book<L>, share: &mut Share<L>, before: u32, after: u32)
     requires part { 0 < share.old.parts }
     requires enough { before ≤ share.old.amount + after }

@@ -1,4 +1,4 @@
-//! A worker's place at a shared pool.
+//! Desks: each gives one worker its place at a shared pool.
 ghost use Rattle.std.specs.Prelude.{◌≡◌, ◌<◌, ◌^◌, All, length};
 ghost use Rattle.strm_shared.specs.Desks.{stamp_seen};
 ghost use Rattle.strm_shared.specs.Ledger.{blocks_held, entry_blocks};
@@ -12,63 +12,59 @@ use std::marker::{Model, PhantomData};
 use std::sync::ledger::Share;
 use strm_pool::{MOST_REGISTERS, Reg, Regs};
 
-/// A worker's place at a shared pool: its number, its own registers, and what it has seen of the pool: stamps, and the census
-/// at each. It can be neither cloned nor dropped: it is gathered or spent, save by `Desks::forget`, which gives up the tokens in
-/// its registers.
+/// A worker's place at a shared pool: its number, its registers, and the pairs of a stamp and the census at it that it saw. A
+/// desk cannot be cloned or dropped. Gather it, spend it, or lose it with its tokens by `Desks::forget`.
 #[must_use]
 pub struct Desk<N: Name> {
     pub(crate) number: u8,
     pub(crate) seen: u64,
     pub(crate) calls: u64,
     pub(crate) regs: Regs,
-    // Where it takes its steps at the word. It is there save while a call moves it.
+    // The seat at which it takes steps at the word; none only while a call moves it.
     pub(crate) seat: Option<Seat<(), View>>,
     pub(crate) share: Share<Held<N>>,
     pub(crate) of: PhantomData<N>,
 }
 
 impl<N: Name> Model for Desk<N> {
-    ghost use Rattle.std.specs.Prelude.{length};
-    ghost use Rattle.strm_pool.specs.Registers.{entries_of};
-    ghost use Rattle.strm_shared.specs.Desks.{DeskValue, desk_value, IsDeskOf};
-    ghost use Rattle.strm_shared.specs.LedgerLayout.{IsPart};
-    ghost use Rattle.strm_shared.specs.Pairs.{pair_at};
-    ghost use Rattle.strm_shared.specs.SeatsLayout.{IsSeated, known_in};
+    ghost use Rattle.strm_shared.specs.Desks.{DeskValue, desk_value};
+    ghost use Rattle.strm_shared.specs.Invariants.{IsSoundDesk};
+    ghost use Rattle.strm_shared.specs.SeatsLayout.{known_in};
 
     ghost Value = { DeskValue };
 
     ghost view = { λ d. desk_value d.number d.regs (known_in d.seat).pairs (known_in d.seat).served };
 
-    ghost invariant = { λ d. IsDeskOf N.opened.arena.id N.desks (desk_value d.number d.regs (known_in d.seat).pairs (known_in d.seat).served) × IsPart d.share.parts d.share.amount d.regs × IsSeated N.board (pair_at N.first N.opened) (length N.opened.arena.held) d.number d.seen d.calls (entries_of d.regs) (known_in d.seat) d.seat };
+    ghost invariant = { λ d. IsSoundDesk N.Name d.number d.seen d.calls d.regs d.share.parts d.share.amount d.seat };
 }
 
 impl<N: Name> Desk<N> {
     ghost use Rattle.strm_shared.specs.Desks.{IsDeskOf};
 
-    /// Its number, from 0.
+    /// Returns the desk's number, from 0.
     pub fn number(&self) -> u8
         ensures { result ≡ self.now.number }
     {
         self.number
     }
 
-    /// The greatest stamp that it has seen, which is that of the pair that it saw last. A new desk has seen the first stamp.
+    /// Returns the stamp of the pair that the desk saw last, the greatest that it saw. A new desk has seen the first stamp.
     pub fn seen(&self) -> u64
         ensures { result ≡ stamp_seen self.now }
     {
         self.seen
     }
 
-    /// How many calls it was served, each answered by a reply.
+    /// Returns the number of calls that the desk was served.
     pub fn calls(&self) -> u64
         ensures { result ≡ length self.now.served }
     {
         self.calls
     }
 
-    /// The laws of every desk: its number is below that of the desks, and its tokens carry the pool's id; what it saw last has
-    /// the greatest stamp of all that it has seen, one stamp has one census there, and each counts the pool's message blocks; of
-    /// each call that it was served it has seen the pair. Does nothing.
+    /// Law: a desk's number is below that of the desks, and its tokens have the pool's id. The pair that it saw last has the
+    /// greatest stamp that it saw, and one stamp has one census. Each census counts the pool's message blocks. The desk saw the
+    /// pair of each call that it was served. Does nothing.
     pub fn lawful(&self)
         ensures desk { IsDeskOf N.opened.arena.id N.desks self.now }
         ensures seen { AreSeen (length N.opened.arena.held) self.now.pairs }
@@ -77,7 +73,7 @@ impl<N: Name> Desk<N> {
         let _ = &self.regs;
     }
 
-    /// Spends the desk, and gives its registers. A shared pool of which a desk was spent can't be gathered any more.
+    /// Spends the desk, and returns its registers. Its shared pool cannot be gathered any more.
     pub fn into_regs(self) -> Regs
         ensures { result ≡ self.regs }
     {
@@ -93,7 +89,7 @@ impl<N: Name> Desk<N> {
         regs
     }
 
-    // How many blocks the tokens in its registers have.
+    // The number of blocks of the tokens in its registers.
     pub(crate) fn blocks_held(&self) -> u64
         ensures { result ≡ blocks_held self.now.regs }
     {
@@ -108,13 +104,13 @@ impl<N: Name> Desk<N> {
         blocks
     }
 
-    // Spends the desk, and gives up the tokens in its registers.
+    // Spends the desk, and loses the tokens in its registers.
     pub(crate) fn forget(self) {
         self.into_regs().forget();
     }
 }
 
-// How many blocks a register's message has, by what it tells.
+// The number of blocks of a register's message, by its entry.
 fn blocks_told(entry: Option<(u32, u32)>) -> u64
     ensures value { result ≡ entry_blocks entry }
     ensures small { result < 2 ^ 32 }

@@ -1,12 +1,11 @@
-//! A place of a list of desks.
+//! A slot for a desk. Unlike the desk, the slot may be dropped, as elements of an `ArrayVec` must.
 ghost use Rattle.std.specs.Prelude.{◌≡◌, Some};
 ghost use Rattle.strm_shared.specs.DesksLayout.{IsFilled, desk_in, filled};
 
 use crate::desk::Desk;
 use crate::name::Name;
 
-// A desk, or none. The elements of an `ArrayVec` must be such as may be dropped; dropped, a slot gives its desk up, with the
-// tokens in it.
+// A desk or none. A slot that is dropped loses its desk, and the desk's tokens with it.
 pub(crate) struct DeskSlot<N: Name> {
     desk: Option<Desk<N>>,
 }
@@ -31,14 +30,14 @@ impl<N: Name> DeskSlot<N> {
     ghost use Rattle.strm_shared.specs.contracts.desk_slot.DeskSlot.{the_row as slot_row};
     ghost use Rattle.strm_shared.specs.contracts.desk.Desk.{the_row as desk_row};
 
-    // With this desk.
+    // A slot with this desk.
     pub(crate) fn of(desk: Desk<N>) -> DeskSlot<N>
         ensures { result ≡ filled desk }
     {
         DeskSlot { desk: Some(desk) }
     }
 
-    // The number of its desk.
+    // The number of the slot's desk.
     pub(crate) fn number(&self) -> u8
         ensures { result ≡ (desk_in self.now).number }
     {
@@ -48,7 +47,7 @@ impl<N: Name> DeskSlot<N> {
         }
     }
 
-    // Lends its desk.
+    // Lends the slot's desk.
     pub(crate) fn desk_mut(&mut self) -> &mut Desk<N>
         requires { IsFilled self.old }
         ensures* writes_back { sem 𝓛 (Lends (slot_row N.row N.Name) (desk_row N.row N.Name) self.entry result filled) }
@@ -60,7 +59,7 @@ impl<N: Name> DeskSlot<N> {
         desk
     }
 
-    // Its desk.
+    // The slot's desk.
     pub(crate) fn into_desk(self) -> Desk<N>
         requires { IsFilled self }
         ensures { self.desk ≡ Some result }

@@ -1,4 +1,4 @@
-//! A list of desks that takes no memory.
+//! A list of desks that allocates nothing, and what gathering does with all desks at once.
 ghost use Rattle.std.specs.Prelude.{◌≡◌, ℕ, ◌+◌, ◌≤◌, ◌<◌, ◌++◌, ◌∷◌, List, [], length, map, All, slice_index_or, IsPermutation, IsTrue, ◌↔◌};
 ghost use Rattle.std.specs.List.Sorted.{IsNonDecreasingBy};
 ghost use Rattle.strm_links.specs.Counting.{times};
@@ -23,8 +23,8 @@ use std::marker::Model;
 use std::sync::ledger::{self, Share};
 use strm_pool::Census;
 
-/// At most `MOST_WORKERS` desks of one shared pool, in order. They lie in the value itself, and no call takes memory. As
-/// its desks, a list of them can be neither cloned nor dropped, and `forget` gives it up with all that they hold.
+/// At most `MOST_WORKERS` desks of one shared pool, in order, stored in the value itself: no call allocates. A list cannot be
+/// cloned or dropped; `forget` loses it with all that its desks have.
 #[must_use]
 pub struct Desks<N: Name> {
     slots: ArrayVec<DeskSlot<N>, MOST_WORKERS>,
@@ -48,7 +48,7 @@ impl<N: Name> Desks<N> {
     ghost use Rattle.strm_shared.specs.contracts.desks.Desks.{the_row as desks_row};
     ghost use Rattle.strm_shared.specs.contracts.desk.Desk.{the_row as desk_row};
 
-    /// No desks.
+    /// Makes an empty list.
     pub fn new() -> Desks<N>
         ensures { result ≡ [] }
     {
@@ -57,7 +57,7 @@ impl<N: Name> Desks<N> {
         }
     }
 
-    /// How many desks there are.
+    /// Returns the number of desks.
     pub fn len(&self) -> usize
         ensures count { result ≡ length self.now }
         ensures few { result ≤ most_workers }
@@ -65,14 +65,14 @@ impl<N: Name> Desks<N> {
         self.slots.len()
     }
 
-    /// Whether there are none.
+    /// Says whether the list is empty.
     pub fn is_empty(&self) -> bool
         ensures { IsTrue result ↔ (self.now ≡ []) }
     {
         self.slots.is_empty()
     }
 
-    /// Adds a desk behind the others, where there is room for one more.
+    /// Adds a desk at the end. The list must have room for it.
     pub fn push(&mut self, desk: Desk<N>)
         requires { length self.old < most_workers }
         ensures { self.new ≡ self.old ++ desk ∷ [] }
@@ -80,7 +80,7 @@ impl<N: Name> Desks<N> {
         self.slots.push(DeskSlot::of(desk));
     }
 
-    /// Takes the last desk, where there is one.
+    /// Removes and returns the last desk. The list must not be empty.
     pub fn take_last(&mut self) -> Desk<N>
         requires { 0 < length self.old }
         ensures { self.old ≡ self.new ++ result ∷ [] }
@@ -91,10 +91,11 @@ impl<N: Name> Desks<N> {
         slot.into_desk()
     }
 
-    /// Lends the desk at a place, counted from 0, where there is one.
+    /// Lends the desk at a place, counted from 0, which must exist.
     pub fn desk_mut(&mut self, place: usize) -> &mut Desk<N>
         requires { place < length self.old }
-        ensures* writes_back { sem 𝓛 (Lends (desks_row N.row N.Name) (desk_row N.row N.Name) self.entry result (slice_set self.old place)) }
+        ensures* writes_back { sem 𝓛 (Lends (desks_row N.row N.Name) (desk_row N.row N.Name) self.entry result
+            (slice_set self.old place)) }
         ensures value { result.now ≡ slice_index_or self.old place result.now }
     {
         let Some(slot) = self.slots.get_mut(place) else {
@@ -103,7 +104,7 @@ impl<N: Name> Desks<N> {
         slot.desk_mut()
     }
 
-    // Puts the desks in the order of their numbers.
+    // Sorts the desks by their numbers.
     pub(crate) fn sort(&mut self)
         ensures same { IsPermutation self.old self.new }
         ensures sorted { IsNonDecreasingBy (λ (d : DeskValue). d.number) self.new }
@@ -113,8 +114,8 @@ impl<N: Name> Desks<N> {
             .sort_unstable_by_key(|slot| slot.number());
     }
 
-    // Tells of the ledger's book that it counts what these desks hold, where all parts of the ledger are here, and of these desks
-    // that there are no more than parts. Nothing changes.
+    // Shows, from the ledger, that there are no more desks than its parts. If all parts are here, the ledger's book counts
+    // exactly the blocks of these desks. Nothing changes.
     pub(crate) fn audit(&mut self, held: &mut ledger::Book<Held<N>>)
         requires some { 0 < length self.old }
         requires few { length self.old ≤ most_workers }
@@ -143,7 +144,7 @@ impl<N: Name> Desks<N> {
         });
     }
 
-    // The same, where some parts of the ledger are in a share beside the desks.
+    // Shows the same if some parts of the ledger are in a share apart from these desks.
     fn audit_beside(&mut self, held: &mut ledger::Book<Held<N>>, share: &mut Share<Held<N>>)
         requires room { length self.old < most_workers }
         requires some { 0 < share.old.parts }
@@ -152,7 +153,8 @@ impl<N: Name> Desks<N> {
         ensures parts { share.new.parts ≡ share.old.parts }
         ensures amount { share.new.amount ≡ share.old.amount }
         ensures within { share.old.parts + length self.old ≤ N.desks }
-        ensures all { N.desks ≤ share.old.parts + length self.old → held.old.total ≡ share.old.amount + blocks_at self.old }
+        ensures all { N.desks ≤ share.old.parts + length self.old
+            → held.old.total ≡ share.old.amount + blocks_at self.old }
     {
         if self.is_empty() {
             held.audit(share);
@@ -182,14 +184,18 @@ impl<N: Name> Desks<N> {
         });
     }
 
-    // All these desks' seats join the lock's, which loads the word once, and then each leaves with the pair.
+    // The seats of all these desks join the lock's seat, which loads the word once. Then each leaves, and its desk has seen the
+    // pair.
     pub(crate) fn meet(&mut self, board: &Board<N>, lock: &mut Seat<(), View>) -> (u64, Census)
         requires lock { (h : History) × (gs : List Known) × IsLock N.board h gs lock.old }
         requires few { length self.old ≤ most_workers }
-        ensures guests { (h : History) (gs : List Known) → IsLock N.board h gs lock.old → AreGuestsShown N.board (pair_at N.first N.opened) h gs result lock.new }
+        ensures guests { (h : History) (gs : List Known) → IsLock N.board h gs lock.old
+            → AreGuestsShown N.board (pair_at N.first N.opened) h gs result lock.new }
         ensures shown { self.new ≡ map (shown result) self.old }
-        ensures met { (h : History) (gs : List Known) → IsLock N.board h gs lock.old → All (IsMet N.opened.arena.id N.desks N.first h) self.new }
-        ensures apart { (h : History) (gs : List Known) → IsLock N.board h gs lock.old → (n : ℕ) → times n (map (λ (d : DeskValue). d.number) self.new ++ map (λ (d : Known). d.number) gs) ≤ 1 }
+        ensures met { (h : History) (gs : List Known) → IsLock N.board h gs lock.old
+            → All (IsMet N.opened.arena.id N.desks N.first h) self.new }
+        ensures apart { (h : History) (gs : List Known) → IsLock N.board h gs lock.old → (n : ℕ)
+            → times n (map (λ (d : DeskValue). d.number) self.new ++ map (λ (d : Known). d.number) gs) ≤ 1 }
     {
         if self.is_empty() {
             return board.show_guests(lock);
@@ -226,8 +232,7 @@ impl<N: Name> Desks<N> {
         let Desks { slots: _ } = self;
     }
 
-    /// Gives the desks up, and the tokens in their registers. The messages of these stay held, and nothing can reach them
-    /// any more.
+    /// Loses the desks and the tokens in their registers. The messages stay held, and no call can reach them any more.
     pub fn forget(self) {
         let Desks { slots: _ } = self;
     }

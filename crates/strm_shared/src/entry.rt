@@ -1,7 +1,7 @@
-//! What is told of a served call.
+//! Entries: what a trace has of each served call.
 use strm_pool::{Call, Reply};
 
-/// A served call: the number of the desk on which it was served, the number of its line, the call and its reply.
+/// A served call: the number of its desk, the number of its line, the call and its reply.
 #[derive(Debug, Drop)]
 pub struct Entry {
     pub desk: u8,
@@ -10,7 +10,7 @@ pub struct Entry {
     pub reply: Reply,
 }
 
-// What an entry tells, lent.
+// What an entry is made from, lent.
 #[derive(Clone, Copy)]
 pub(crate) struct Told<'a> {
     pub(crate) desk: u8,

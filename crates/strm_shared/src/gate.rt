@@ -1,16 +1,16 @@
-//! What is called round each call that a worker has served.
+//! Gates: code of a caller that workers run around each call, for example to hold them up in a test.
 
-/// Called by a worker on its own thread, before it has a line served and after that was answered. A test can hold workers
-/// up so, or watch them. The number is the worker's, and the line's is that of the script.
+/// Code that a worker calls on its own thread before and after each line. The arguments are the worker's number and the line's
+/// number in the script.
 pub trait Gate: Sync {
-    /// Before the line is served.
+    /// Called before the worker has the line served.
     fn before(&self, worker: u8, line: u32);
 
-    /// After it was answered or refused.
+    /// Called after the line was served or refused.
     fn after(&self, worker: u8, line: u32);
 }
 
-/// A gate that holds nobody up.
+/// A gate that does nothing.
 #[derive(Debug, Drop)]
 pub struct OpenGate;
 

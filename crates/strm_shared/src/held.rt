@@ -1,10 +1,10 @@
-//! The ledger of held blocks.
+//! The ledger of held blocks, which ties the pool's count to the tokens of desks.
 use crate::name::Name;
 use std::marker::PhantomData;
 use std::sync::ledger::Ledger;
 
-// The ledger of the message blocks that are held of one shared pool. Its book, in that of the pool, counts them all; it has
-// a part for each desk, and the share of a desk counts the blocks of its tokens.
+// The ledger of one shared pool's held message blocks. Its book, which is in the pool's book, counts them all. It has a part
+// for each desk, whose share counts the blocks of the desk's tokens.
 pub(crate) struct Held<N: Name> {
     of: PhantomData<N>,
 }

@@ -1,4 +1,4 @@
-//! The trace of a shared pool.
+//! The trace of a shared pool, in memory that was taken when the pool was shared.
 ghost use Rattle.std.specs.Prelude.{◌≡◌, ◌++◌, ◌∷◌, [], false, IfOk};
 ghost use Rattle.strm_shared.specs.Chronicle.{entry_of};
 ghost use Rattle.strm_shared.specs.Traces.{empty_trace, entries_kept, is_full, most_of};
@@ -8,7 +8,7 @@ use crate::setup::Trace;
 use std::alloc::{AllocError, Global};
 use std::marker::Model;
 
-// The entries of served calls, where they are kept, with room for as many as may be.
+// The entries of served calls, if they are kept, with room for as many as there may be.
 #[derive(Debug, Drop)]
 pub(crate) struct KeptTrace {
     most: Option<u32>,
@@ -27,7 +27,7 @@ impl Model for KeptTrace {
 }
 
 impl KeptTrace {
-    // With no entry yet.
+    // A trace without entries.
     pub(crate) fn new(alloc: Global, trace: Trace) -> Result<KeptTrace, AllocError>
         ensures { IfOk result (λ kept. kept ≡ empty_trace (most_of trace)) }
     {
@@ -39,7 +39,7 @@ impl KeptTrace {
         Ok(KeptTrace { most, entries })
     }
 
-    // Whether as many entries are kept as may be.
+    // Whether the trace has as many entries as it may.
     pub(crate) fn is_full(&self) -> bool
         ensures { result ≡ is_full self.now }
     {
@@ -49,11 +49,12 @@ impl KeptTrace {
         }
     }
 
-    // Keeps the entry of a call, if entries are kept.
+    // Adds the entry of a call, if entries are kept.
     pub(crate) fn keep(&mut self, told: Told<'_>)
         requires { is_full self.old ≡ false }
         ensures most { self.new.most ≡ self.old.most }
-        ensures entries { self.new.entries ≡ self.old.entries ++ entries_kept self.old.most (entry_of told.entry.desk told.entry.line told.entry.call.now told.entry.reply.now ∷ []) }
+        ensures entries { self.new.entries ≡ self.old.entries ++ entries_kept self.old.most
+            (entry_of told.entry.desk told.entry.line told.entry.call.now told.entry.reply.now ∷ []) }
     {
         if self.most.is_some() {
             self.entries.push_reserved(Entry {
@@ -65,7 +66,7 @@ impl KeptTrace {
         }
     }
 
-    // The entries that are kept.
+    // The entries.
     pub(crate) fn into_entries(self) -> Vec<Entry>
         ensures { result.items ≡ self.entries }
     {

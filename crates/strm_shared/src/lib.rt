@@ -1,5 +1,5 @@
-//! A pool that threads share: a book under a lock, a word that tells the census without it, a desk for each worker, and what
-//! workers are given to serve.
+//! A pool that threads share: a book under a lock, a word that has the census without the lock, a desk for each worker, and
+//! functions that run workers.
 #![tactic(auto)]
 
 mod board;

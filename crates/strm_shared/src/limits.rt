@@ -1,10 +1,10 @@
-//! How many there may be of what this crate counts.
+//! The limits of this crate: workers, stamps and trace entries.
 
-/// The most workers, and so the most desks.
+/// The greatest number of workers, and so of desks.
 pub const MOST_WORKERS: usize = 16;
 
-/// The stamp at which a shared pool is worn: no call is served any more.
+/// The last stamp: a shared pool that has reached it refuses each call as `Worn`.
 pub const MOST_STAMP: u64 = 68_719_476_735;
 
-/// The most entries of a trace.
+/// The greatest number of entries of a trace.
 pub const MOST_TRACE: u32 = 1_048_576;

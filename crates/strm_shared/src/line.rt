@@ -1,4 +1,4 @@
-//! A command line.
+//! Command lines, as workers have them served.
 use strm_pool::Call;
 
 /// A command line: its number in the script, counted from 1 over all lines, and its call.

@@ -1,4 +1,4 @@
-//! Lists over vectors.
+//! Lists over vectors, for lines, replies, entries and ends.
 ghost use Rattle.std.specs.Prelude.{◌≡◌};
 
 use crate::entry::Entry;
@@ -7,13 +7,13 @@ use crate::outcome::End;
 use std::marker::Model;
 use strm_pool::Reply;
 
-/// A list over a vector, which is made from it and gives it back without taking memory.
+/// A list that is made from a vector and returns it, without allocating.
 #[derive(Debug, Drop)]
 pub struct Listed<T> {
     vector: Vec<T>,
 }
 
-/// The command lines of a worker, in the order in which it has them served.
+/// The command lines of a worker, in the order in which they are served.
 pub type Lines = Listed<Line>;
 
 /// The command lines of each worker: worker 0's, then worker 1's, and so on.
@@ -40,21 +40,21 @@ impl<T> Model for Listed<T> {
 }
 
 impl<T> Listed<T> {
-    /// These items.
+    /// Makes the list of these items.
     pub fn of(vector: Vec<T>) -> Listed<T>
         ensures { result ≡ vector.items }
     {
         Listed { vector }
     }
 
-    /// The items, in order.
+    /// Returns the items, in order.
     pub fn items(&self) -> &[T]
         ensures { result.now ≡ self.now }
     {
         &self.vector
     }
 
-    /// The vector of the items.
+    /// Returns the vector of the items.
     pub fn into_vec(self) -> Vec<T>
         ensures { result.items ≡ self }
     {

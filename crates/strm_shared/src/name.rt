@@ -1,29 +1,29 @@
-//! What names a shared pool to contracts.
+//! Names: how the type of a desk says to which shared pool it belongs.
 pub use std::marker::Brand;
 
-/// Names one shared pool to contracts, and costs nothing. A caller hands its `Start` to a function of its own, generic in
-/// the name, which it calls with `Brand`: so a desk goes with its own `Shared` alone, and one of another does not compile.
+/// Names one shared pool in types and contracts, and costs nothing at run time. A caller passes its `Start` to its own function
+/// that is generic in the name, and calls it with `Brand`. A desk then fits its own `Shared` only; another does not compile.
 pub trait Name {
     ghost use Rattle.std.specs.Prelude.{ℕ, Option};
     ghost use Rattle.atomic_table.specs.Seated.{TableId};
     ghost use Rattle.strm_pool.specs.PoolValue.{PoolValue};
 
-    // The pool as it was when it was shared. Its tokens carry its id, and it has as many message blocks as then.
+    // The pool as it was when it was shared. Its id and its number of message blocks never change.
     ghost opened: { PoolValue };
 
-    // The board: the table with its word.
+    // The board, given by its table.
     ghost board: { TableId };
 
-    // How many desks there are.
+    // The number of desks.
     ghost desks: { ℕ };
 
     // The stamp before the first call.
     ghost first: { ℕ };
 
-    // How many entries its trace may have, if one is kept.
+    // The greatest number of entries of its trace, if one is kept.
     ghost kept: { Option ℕ };
 
-    // The ledger of the blocks that are held of the pool.
+    // The ledger of the pool's held blocks.
     ghost ledger: { ℕ };
 }
 

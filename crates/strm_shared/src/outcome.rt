@@ -1,4 +1,4 @@
-//! What workers leave, and how they end.
+//! What workers return: their desks, their replies, and how each ended.
 ghost use Rattle.std.specs.Prelude.{◌≡◌};
 
 use crate::desks::Desks;
@@ -11,28 +11,28 @@ use strm_pool::Refusal;
 pub enum End {
     /// All its lines were served.
     Done,
-    /// A line was refused, and so none behind it was served. As `Worn` or `TraceFull`, the desk has seen the stamp that
-    /// shows it.
+    /// A line was refused, and no later line was served. If the refusal is `Worn` or `TraceFull`, the desk has seen the stamp
+    /// that shows it.
     Refused(Refusal),
-    /// It was not started, since there was no thread for it.
+    /// The worker was not started, since there was no thread for it.
     NotStarted,
 }
 
-/// What workers leave: their desks, the replies to each, one for each line that was served, in order, and how each ended.
+/// What workers return: their desks, the replies to each in order, one for each served line, and how each ended.
 pub struct Outcome<N: Name> {
     pub desks: Desks<N>,
     pub replies: AllReplies,
     pub ends: Ends,
 }
 
-/// What workers leave whose replies nobody gets: their desks, and how each ended.
+/// What workers return without replies: their desks, and how each ended.
 pub struct BareOutcome<N: Name> {
     pub desks: Desks<N>,
     pub ends: Ends,
 }
 
 impl<N: Name> Outcome<N> {
-    // Without the replies.
+    // The outcome without the replies.
     pub(crate) fn bare(self) -> BareOutcome<N>
         ensures { (result.desks ≡ self.desks) × (result.ends ≡ self.ends) }
     {

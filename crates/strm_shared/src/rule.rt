@@ -1,11 +1,11 @@
-//! The rule of the word, and its kinds of step.
+//! The rule of the word, for contracts: what the views of all seats have in common, and what each kind of step does.
 use crate::name::Name;
 use crate::views::View;
 use atomic_table::{Join, Play, Split, TableRule};
 use std::marker::{Brand, PhantomData};
 use strm_pool::Census;
 
-// Names the entry of one call, and what the desk's registers tell afterwards, to contracts alone.
+// The entry of one call, and the table of the desk's registers after it, in contracts only.
 pub(crate) trait Says {
     ghost use Rattle.strm_pool.specs.Registers.{Entries};
     ghost use Rattle.strm_shared.specs.declared.entry.Entry.{Entry};
@@ -24,7 +24,7 @@ impl Says for Brand {
     ghost table = { [] };
 }
 
-// The rule. A table is opened with a pair, which the lock's seat has then.
+// The rule of a table that is opened with a pair, which the lock's seat then knows.
 pub(crate) struct WordRule;
 
 impl TableRule<(), View, (u64, Census)> for WordRule {
@@ -35,7 +35,7 @@ impl TableRule<(), View, (u64, Census)> for WordRule {
     ghost first = { first_view };
 }
 
-// A store, by the lock's seat.
+// A store by the lock's seat: the history gets a pair, an entry and a table.
 pub(crate) struct Stores<N, E> {
     of: PhantomData<(N, E)>,
 }
@@ -47,7 +47,7 @@ impl<N: Name, E: Says> Play<(), View> for Stores<N, E> {
     ghost then = { Stored (pair_at N.first N.opened) E.entry E.table };
 }
 
-// A load, by a desk's seat or the lock's, which lets the desk see the pair, or each of the lock's guests.
+// A load by any seat: the desk sees the pair, or each guest of the lock's seat does.
 pub(crate) struct Loads<N> {
     of: PhantomData<N>,
 }
@@ -59,7 +59,7 @@ impl<N: Name> Play<(), View> for Loads<N> {
     ghost then = { Loaded (pair_at N.first N.opened) };
 }
 
-// A load, by the lock's seat and no other, which changes no view.
+// A load by the lock's seat only. It changes no view.
 pub(crate) struct Reads<N> {
     of: PhantomData<N>,
 }
@@ -71,7 +71,7 @@ impl<N: Name> Play<(), View> for Reads<N> {
     ghost then = { Read (pair_at N.first N.opened) };
 }
 
-// A desk's seat joins the lock's, and leaves it.
+// A desk's seat joins the lock's seat, and leaves it.
 pub(crate) struct Visits;
 
 impl Join<View> for Visits {
@@ -91,7 +91,7 @@ impl Split<View> for Visits {
     ghost right = { guest_of };
 }
 
-// The seat of a new desk leaves the lock's.
+// The seat of a new desk leaves the lock's seat.
 pub(crate) struct NewDesk;
 
 impl Split<View> for NewDesk {

@@ -1,21 +1,21 @@
-//! How a pool is shared.
+//! How a pool is to be shared, as the caller sets it up.
 ghost use Rattle.std.specs.Prelude.{◌≡◌};
 ghost use Rattle.strm_shared.specs.Starts.{is_bad_shared};
 ghost use Rattle.strm_shared.specs.Traces.{is_bad_trace};
 
 use crate::limits::{MOST_STAMP, MOST_TRACE, MOST_WORKERS};
 
-/// Which served calls are kept.
+/// Whether a trace of served calls is kept.
 #[derive(Clone, Copy, Debug, PartialEq, Eq)]
 pub enum Trace {
-    /// None.
+    /// No trace is kept.
     Off,
-    /// All, at most so many, 1 to `MOST_TRACE`: where there are as many, no call is served any more.
+    /// All served calls are kept, up to this number, 1 to `MOST_TRACE`. Later calls are refused as `TraceFull`.
     Keep(u32),
 }
 
 impl Trace {
-    // Whether too few entries are to be kept, or too many.
+    // Whether the number of entries is out of range.
     fn is_bad(self) -> bool
         ensures { result ≡ is_bad_trace self }
     {
@@ -26,20 +26,19 @@ impl Trace {
     }
 }
 
-/// How a pool is shared.
+/// How a pool is to be shared.
 #[derive(Clone, Copy, Debug)]
 pub struct Setup {
-    /// How many desks there are, 1 to `MOST_WORKERS`.
+    /// The number of desks, 1 to `MOST_WORKERS`.
     pub desks: u8,
-    /// Which served calls are kept.
+    /// Whether a trace is kept.
     pub trace: Trace,
-    /// The stamp before the first call, at most `MOST_STAMP`. Each served call raises the stamp by 1.
+    /// The stamp before the first call, at most `MOST_STAMP`. Each served call raises it by 1.
     pub first_stamp: u64,
 }
 
 impl Setup {
-    // Whether the desks are too few or too many, the first stamp is too great, or the trace is to have too few entries or too
-    // many.
+    // Whether the number of desks, the first stamp or the number of trace entries is out of range.
     pub(crate) fn is_bad_shared(&self) -> bool
         ensures { result ≡ is_bad_shared self.now }
     {

@@ -1,4 +1,4 @@
-//! A pool under a lock.
+//! Shared pools: calls under a lock, looks at the census without it, and the end of sharing.
 ghost use Rattle.std.specs.Prelude.{◌≡◌, ◌≤◌, ◌<◌, ℕ, All, IsTrue, length, map, slice_index_or, IfErr, IfOk, OnOk};
 ghost use Rattle.std.specs.List.Sorted.{IsNonDecreasingBy};
 ghost use Rattle.strm_data.specs.declared.refusal.Refusal.TheVariants.{DeskMissing};
@@ -20,11 +20,11 @@ use std::hint::spin_loop;
 use std::sync::{Mutex, MutexGuard, Wait};
 use strm_pool::{Call, Census, Pool, Refusal, Reply};
 
-// How often a thread looks whether the lock is free before it sleeps.
+// How many times a thread looks whether the lock is free before it sleeps.
 const LOOKS: u32 = 16;
 
-/// A pool that threads share, under one lock. Each has a desk of its own. Beside the lock stands one atomic word, which tells a
-/// stamp, and how many message blocks were free, queued and held then; each served call stores it once, inside the lock.
+/// A pool that threads share under one lock, each with its own desk. An atomic word next to the lock has a stamp, and the
+/// numbers of free and queued message blocks at it. Each served call stores the word once, while it has the lock.
 #[derive(Drop)]
 pub struct Shared<N: Name> {
     pub(crate) board: Board<N>,
@@ -32,8 +32,7 @@ pub struct Shared<N: Name> {
     pub(crate) count: DeskCount<N>,
 }
 
-/// What is left of a shared pool when all desks came back: the pool, the trace, which is empty where none was kept, and the desks
-/// in the order of their numbers.
+/// What `gather` returns: the pool, the trace, which is empty if none was kept, and the desks in the order of their numbers.
 pub struct Gathered<N: Name> {
     pub pool: Pool,
     pub trace: TraceEntries,
@@ -41,17 +40,13 @@ pub struct Gathered<N: Name> {
 }
 
 impl<N: Name> Shared<N> {
-    /// Serves a call on the desk's registers under the lock, for which it waits, and answers its reply. The lock is held for
-    /// this one call. It is served, as `Book::turn` says, by a book that this pool may have: who waits for a lock can't say by
-    /// which, since others have had it.
+    /// Serves a call on the desk's registers, and returns its reply. It waits for the lock, and has it for this one call.
+    /// `line` is the number of the call's line in its script, from 1. The call is served as [`Book::turn`] says, by a book that
+    /// this pool may have. Contracts cannot say which, since other threads change it.
     ///
-    /// The line is the call's in its script, counted from 1. What was served has the desk's number, the line, the call and the
-    /// reply, which the desk has with the stamp of its new pair.
-    ///
-    /// Refused as `Worn` and as `TraceFull` where `Book::turn` is, and for no other reason. Of the book a caller sees nothing; but
-    /// refused as `Worn` the desk has seen the last stamp that there is, and as `TraceFull` the first stamp and as many more as
-    /// entries may be kept.
-    // Put into its caller, so that the reply is handed on once less.
+    /// Refused as `Worn`, then as `TraceFull`, as [`Book::turn`] is, and for no other reason. The desk then has seen the last
+    /// stamp that there is, or the stamp at which the trace became full.
+    // Inlined into its caller, so that the reply is moved once less.
     #[inline(always)]
     pub fn serve(
         &self,
@@ -71,8 +66,8 @@ impl<N: Name> Shared<N> {
         }
     }
 
-    /// Serves a call as `serve` does, and puts its reply into `reply`, in the place of what stands there: a reply has room for 64
-    /// bytes, and who keeps it saves copies. Where the call is refused, what stands there stays.
+    /// Serves a call as [`Shared::serve`] does, and writes the reply into `reply`, which stays unchanged if the call is
+    /// refused. A reply has room for 64 bytes, so a caller that keeps one saves a copy.
     pub fn serve_into(
         &self,
         rt: &impl Wait,
@@ -94,8 +89,8 @@ impl<N: Name> Shared<N> {
         answer
     }
 
-    // Waits for the lock. Whoever finds it held pauses, each time twice as long, so that the thread that has it goes on with the pool
-    // in its processor's cache, and is not asked for a wake; behind the last look it sleeps.
+    // Waits for the lock. A thread that finds it taken pauses, twice as long each time: the thread with the lock keeps the pool
+    // in its processor's cache, and need not wake another. After the last look it sleeps.
     fn wait_for_book(&self, rt: &impl Wait) -> MutexGuard<'_, Book<N>> {
         let mut pauses = 1u32;
         for _ in 0..LOOKS {
@@ -108,9 +103,9 @@ impl<N: Name> Shared<N> {
         self.book.lock(rt)
     }
 
-    /// The stamp, and how many message blocks are free, queued and held at it, by one load of the word. It asks for no lock, so
-    /// it waits for nobody, and takes no memory. From then on it is what the desk has seen last; its stamp is never below the one
-    /// that the desk had seen. The desk's number and registers stay as they are.
+    /// Returns a stamp, and how many message blocks were free, queued and held at it. This is one load of the word: it takes no
+    /// lock, waits for no thread, and allocates nothing. The desk has then seen this pair; its stamp is at least the last one
+    /// that the desk saw. Nothing else of the desk changes. This project's own.
     pub fn census_now(&self, desk: &mut Desk<N>) -> (u64, Census)
         ensures longer { desk.new ≡ shown result desk.old }
         ensures later { stamp_seen desk.old ≤ result.0 }
@@ -124,29 +119,29 @@ impl<N: Name> Shared<N> {
         pair
     }
 
-    /// Ends the sharing: the pool, the trace, and the desks in the order of their numbers, each of which has seen the stamp that
-    /// the pool came to, with its census. Their numbers and registers are as they were.
+    /// Ends the sharing: returns the pool, the trace, and the desks in the order of their numbers. Numbers and registers are
+    /// unchanged; each desk has seen the pool's last pair.
     ///
-    /// Where a trace was kept, it has the entry of each call that was served, in order: pool and replies are those of a replay of
-    /// these from the pool as it was shared, all pairs that any desk has seen are those of its chronicle, and each desk was served
-    /// the entries of its number, and no others. Where none was kept, so it is with entries that nobody has.
+    /// There is a list of all served calls such that pool and replies are those of their replay from the pool as it was shared.
+    /// A trace, if kept, is this list. All pairs that desks saw are of its chronicle, and each desk was served exactly the
+    /// calls of its number.
     ///
-    /// Free, queued and held message blocks are as many as when the pool was shared, and as many are held as the tokens in the
-    /// registers of these desks have. The pool owns the registers of each, and each held message is in exactly one register of one
-    /// of them.
+    /// Free, queued and held message blocks are together as many as when the pool was shared; the held ones are those of the
+    /// tokens in registers. The pool has all these tokens, and each held message is in exactly one register of one desk.
     ///
-    /// Refused as `DeskMissing` where fewer desks come than were handed out. Desks and pool come back as they were then. Of the
-    /// book behind the lock contracts see nothing; but a later `gather` that gets all desks tells a pool that is the replay of what
-    /// they were served, and of nothing else.
+    /// Refused as `DeskMissing` if desks are missing; the others come back unchanged, and the pool stays shared. Contracts do
+    /// not see the book behind the lock. But a later `gather` of all desks returns a pool that is the replay of what they were
+    /// served, and nothing else.
     pub fn gather(self, desks: Desks<N>) -> Result<Gathered<N>, (Refusal, Shared<N>, Desks<N>)>
-        ensures missing { IfErr result (λ e. (length desks < N.desks) × (e.0 ≡ DeskMissing) × (e.1 ≡ self) × (e.2 ≡ desks)) }
+        ensures missing { IfErr result (λ e. (length desks < N.desks) × (e.0 ≡ DeskMissing) × (e.1 ≡ self)
+            × (e.2 ≡ desks)) }
         ensures enough { OnOk result (length desks ≡ N.desks) }
         ensures shown { IfOk result (λ g. AreShown N.Name desks g.pool g.trace g.desks) }
         ensures sorted { IfOk result (λ g. IsNonDecreasingBy (λ (d : DeskValue). d.number) g.desks) }
         ensures numbered { IfOk result (λ g. (k : ℕ) → k < N.desks → (slice_index_or g.desks k no_desk).number ≡ k) }
         ensures pool { IfOk result (λ g. g.pool.arena.id ≡ N.opened.arena.id) }
         ensures all { IfOk result (λ g. AreAll (length N.opened.arena.held) g.pool g.desks) }
-        // The pool owns every desk's registers, and each held message is in exactly one register of one desk.
+        // The pool has the tokens of all registers, and each held message is in exactly one register of one desk.
         ensures owned { IfOk result (λ g. All (λ d. IsTrue (owns g.pool d.regs)) g.desks) }
         ensures accounted { IfOk result (λ g. AreAccounted g.pool.arena (map (λ d. entries_of d.regs) g.desks)) }
     {
@@ -176,7 +171,7 @@ impl<N: Name> Shared<N> {
     }
 }
 
-// Pauses so often.
+// Pauses this number of times.
 fn pause(times: u32) {
     for _ in 0..times {
         spin_loop();

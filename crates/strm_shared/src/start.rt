@@ -1,4 +1,4 @@
-//! How a pool is shared out.
+//! The start of sharing: all memory is taken first, then the pool gets its name.
 ghost use Rattle.std.specs.Prelude.{◌≡◌, ◌≤◌, [], ◌∷◌, length};
 ghost use Rattle.strm_mblk.specs.Arena.{census_of};
 ghost use Rattle.strm_mblk.specs.Limits.{most_message_blocks};
@@ -29,7 +29,7 @@ use std::sync::Mutex;
 use std::sync::ledger::{Blank, Share};
 use strm_pool::{Census, NewFault, Pool, Regs};
 
-/// A pool that is to be shared, with all memory that its sharing takes. It has no name yet.
+/// A pool that is ready to be shared, with all memory that its sharing takes. It has no name yet.
 #[derive(Drop)]
 pub struct Start {
     pool: Pool,
@@ -43,22 +43,28 @@ pub struct Start {
 
 impl Model for Start {
     ghost use Rattle.strm_shared.specs.Starts.{StartValue};
-    ghost use Rattle.strm_shared.specs.StartsLayout.{IsLaid, IsReady};
-    ghost use Rattle.strm_shared.specs.Pairs.{pair_at};
+    ghost use Rattle.strm_shared.specs.Invariants.{IsSoundStart};
 
     ghost Value = { StartValue };
 
-    ghost view = { λ s. record { pool = s.pool; board = s.table.shared.table_id; desks = s.desks; first = s.first_stamp; kept = s.trace.most; ledger = s.blank.name } };
+    ghost view = { λ s. record {
+      pool = s.pool;
+      board = s.table.shared.table_id;
+      desks = s.desks;
+      first = s.first_stamp;
+      kept = s.trace.most;
+      ledger = s.blank.name;
+    } };
 
-    ghost invariant = { λ s. IsReady s.pool s.desks s.first_stamp s.trace s.blank.parts × IsLaid (pair_at s.first_stamp s.pool) s.table.shared.table_id s.table.shared.key s.seat };
+    ghost invariant = { λ s. IsSoundStart s.pool s.desks s.first_stamp s.trace s.blank.parts
+        s.table.shared.table_id s.table.shared.key s.seat };
 }
 
 impl Start {
-    /// Takes all memory that sharing the pool so takes. No message of the pool may be held.
+    /// Takes all memory for sharing the pool. No message of the pool may be held.
     ///
-    /// `BadShared` comes where there are no desks or more than `MOST_WORKERS`, where the first stamp is above `MOST_STAMP`, or
-    /// where a trace is to have no entry or more than `MOST_TRACE`, before any want of memory; `Memory` where a growth was
-    /// refused. Where it fails, the pool comes back as it was.
+    /// Returns `BadShared` if the number of desks, the first stamp or the number of trace entries is out of range, then
+    /// `Memory` if memory is refused. The pool then comes back unchanged.
     pub fn new(alloc: Global, pool: Pool, setup: Setup) -> Result<Start, (NewFault, Pool)>
         requires { (census_of pool.arena).held ≡ 0 }
         ensures { Starts pool setup result }
@@ -85,9 +91,8 @@ impl Start {
         })
     }
 
-    /// Shares the pool under a name: the pool under its lock, and its desks 0, 1 and so on, with empty registers, each of which
-    /// has seen the first stamp and the pool's census at it. It takes no memory, and can't fail. The name must be that of this
-    /// start.
+    /// Shares the pool under a name, which must be that of this start. Returns the shared pool and its desks, numbered from 0,
+    /// with empty registers. Each desk has seen the first stamp and the pool's census. This allocates nothing and cannot fail.
     pub fn open<N: Name>(self) -> (Shared<N>, Desks<N>)
         requires { IsNameOf N.Name self }
         ensures { result.1 ≡ fresh N.desks (pair_at N.first N.opened ∷ []) }
@@ -130,8 +135,8 @@ impl Start {
     }
 }
 
-// Desks 0, 1 and so on, so many, each with one of as many parts of a ledger that counts nothing yet, and with a seat that leaves
-// the lock's.
+// Makes the desks, numbered from 0. Each gets one part of a ledger that counts nothing yet, and a seat that leaves the lock's
+// seat.
 fn hand_out<N: Name>(
     board: &Board<N>,
     lock: &mut Seat<(), View>,

@@ -1,10 +1,10 @@
-//! What the seats at the word of a shared pool know. They are seen by contracts alone: no value of these types is made.
+//! Views: what the seats at the word of a shared pool know. Only contracts see them; no value of these types is made.
 use crate::entry::Entry;
 use std::collections::LinkedList;
 use strm_pool::Census;
 
-// What the lock's seat knows: the pairs of a stamp and the census at it, from the opening pair on; the entry of each pair but
-// that one; how many desks there are; and for each desk what its registers tell.
+// What the lock's seat knows: all pairs from the opening pair on, the entry of each pair but the first, the number of desks,
+// and the table of each desk's registers.
 pub(crate) struct History {
     pub(crate) pairs: LinkedList<(u64, Census)>,
     pub(crate) entries: LinkedList<Entry>,
@@ -12,8 +12,8 @@ pub(crate) struct History {
     pub(crate) tables: LinkedList<LinkedList<Option<(u32, u32)>>>,
 }
 
-// What a desk's seat knows: the desk's number, the pairs that it has seen, the entries that it was served, each with its stamp,
-// and what its registers tell.
+// What a desk's seat knows: the desk's number, the pairs that it saw, the entries that it was served, each with its stamp, and
+// the table of its registers.
 pub(crate) struct Known {
     pub(crate) number: u8,
     pub(crate) pairs: LinkedList<(u64, Census)>,
@@ -21,8 +21,7 @@ pub(crate) struct Known {
     pub(crate) table: LinkedList<Option<(u32, u32)>>,
 }
 
-// The view of a seat: the lock's, with what the desks know whose seats have joined it; a desk's; or one that has joined
-// another seat.
+// The view of a seat: of the lock's seat, with what its guests know; of a desk's seat; or of a seat that has joined another.
 pub(crate) enum View {
     Lock(History, LinkedList<Known>),
     At(Known),

@@ -1,4 +1,4 @@
-//! A stamp and the census at it, in one word.
+//! The word of a shared pool: a stamp and the census at it, in 64 bits.
 ghost use Rattle.std.specs.Prelude.{◌≡◌, ◌+◌, ◌≤◌};
 ghost use Rattle.strm_mblk.specs.Limits.{most_message_blocks};
 ghost use Rattle.strm_shared.specs.Limits.{most_stamp};
@@ -8,10 +8,10 @@ ghost use Rattle.strm_shared.specs.Words.{pair_of, word_of};
 use strm_mblk::MOST_MESSAGE_BLOCKS;
 use strm_pool::Census;
 
-// Each count of a word lies below this number, a power of 2.
+// Each count in a word is below this number, a power of 2.
 const COUNT_RANGE: u64 = MOST_MESSAGE_BLOCKS as u64 + 1;
 
-// The word of a stamp and a census. It does not tell what is held: that is the rest of the pool.
+// The word of a stamp and a census. It leaves out the held blocks, which are the rest of the pool.
 pub(crate) fn pack(pair: (u64, Census)) -> u64
     requires unspent { pair.0 ≤ most_stamp }
     requires few { count_in pair.1 ≤ most_message_blocks }
@@ -21,7 +21,7 @@ pub(crate) fn pack(pair: (u64, Census)) -> u64
     (stamp * COUNT_RANGE + u64::from(census.free)) * COUNT_RANGE + u64::from(census.queued)
 }
 
-// The stamp and the census of a word, in a pool of so many message blocks.
+// The stamp and the census of a word, in a pool of `blocks` message blocks.
 pub(crate) fn unpack(blocks: u32, word: u64) -> (u64, Census)
     requires within { (pair_of blocks word).1.free + (pair_of blocks word).1.queued ≤ blocks }
     ensures { result ≡ pair_of blocks word }

@@ -1,4 +1,4 @@
-//! Workers on threads of their own.
+//! Workers: each part of a script is served on its own thread.
 ghost use Rattle.std.specs.Prelude.{◌≡◌, [], IfErr, IfOk, List, length};
 ghost use Rattle.strm_pool.specs.declared.reply.Reply.{Reply};
 ghost use Rattle.strm_shared.specs.Keeping.{AllWorkedKeeping};
@@ -26,14 +26,14 @@ use std::sync::Wait;
 use std::thread;
 use std::thread::Threads;
 
-/// Has each part served on a thread of its own, on the desk of its place, and waits for all. The gate is called round each
-/// line. Room for a reply to each line is taken before the first worker starts, and nothing behind that but what a thread
-/// takes when it starts.
+/// Serves each part on its own thread, on the desk at the same place, and waits for all. The gate is called around each line.
+/// There must be as many desks as parts; there may be none.
 ///
-/// There are as many desks as parts; none at all is lawful. A worker stops at its first refusal. One for which there is no
-/// thread has no replies and its desk as it was, and the others run on; one that was refused as `Worn` or `TraceFull` has seen the stamp
-/// that shows it.
-/// Where memory is refused the desks come back as they were: no call was served on them, and they have seen no more.
+/// A worker stops at its first refusal. If it is `Worn` or `TraceFull`, its desk has seen the stamp that shows it. A worker for
+/// which there is no thread has no replies and its desk unchanged, and the others run on.
+///
+/// Room for all replies is taken before the first worker starts. If memory is refused, the desks come back unchanged, and no
+/// call was served. Afterwards only threads allocate, when they start.
 pub fn run_workers<N: Name + Send + Sync, R: Threads + Wait + Sync, G: Gate>(
     rt: &R,
     alloc: Global,
@@ -50,11 +50,8 @@ pub fn run_workers<N: Name + Send + Sync, R: Threads + Wait + Sync, G: Gate>(
     serve(&site, alloc, desks, parts.items())
 }
 
-/// Does what `run_workers` does, and gives no replies: a trace that is kept has them, and else nobody. Some fifty bytes for each
-/// worker are taken before the first one starts, and nothing behind that but what a thread takes when it starts: so what it takes
-/// does not grow with the lines.
-///
-/// Desks, parts, refusals, a thread that is wanting and want of memory are as `run_workers` says.
+/// Does what [`run_workers`] does, but keeps no replies; a trace that is kept has them. It takes some fifty bytes for each
+/// worker, and what threads take when they start, so its memory does not grow with the lines.
 pub fn run_workers_without_replies<N: Name + Send + Sync, R: Threads + Wait + Sync, G: Gate>(
     rt: &R,
     alloc: Global,
@@ -64,7 +61,8 @@ pub fn run_workers_without_replies<N: Name + Send + Sync, R: Threads + Wait + Sy
     gate: &G,
 ) -> Result<BareOutcome<N>, (AllocError, Desks<N>)>
     requires { length parts.now ≡ length desks }
-    ensures worked { IfOk result (λ o. (all : List (List Reply)) × AllWorked N.Name parts.now desks o.ends all o.desks) }
+    ensures worked { IfOk result (λ o. (all : List (List Reply))
+        × AllWorked N.Name parts.now desks o.ends all o.desks) }
     ensures unserved { IfErr result (λ e. e.1 ≡ desks) }
 {
     let site = Site::new(rt, shared, gate, false);
@@ -74,7 +72,7 @@ pub fn run_workers_without_replies<N: Name + Send + Sync, R: Threads + Wait + Sy
     }
 }
 
-// Has each part served on a thread of its own. The replies are there where the site keeps them.
+// Serves each part on its own thread. The outcome has replies if the site keeps them.
 fn serve<'s, N: Name + Send + Sync, R: Threads + Wait + Sync, G: Gate>(
     site: &'s Site<'s, N, R, G>,
     alloc: Global,
@@ -82,7 +80,8 @@ fn serve<'s, N: Name + Send + Sync, R: Threads + Wait + Sync, G: Gate>(
     parts: &'s [Lines],
 ) -> Result<Outcome<N>, (AllocError, Desks<N>)>
     requires { length parts.now ≡ length desks }
-    ensures worked { IfOk result (λ o. AllWorkedKeeping site.now.keeps N.Name parts.now desks o.ends o.replies o.desks) }
+    ensures worked { IfOk result (λ o. AllWorkedKeeping site.now.keeps N.Name parts.now desks o.ends o.replies
+        o.desks) }
     ensures unserved { IfErr result (λ e. e.1 ≡ desks) }
 {
     let room = match Room::new(alloc, parts, site.keeps) {
@@ -95,7 +94,8 @@ fn serve<'s, N: Name + Send + Sync, R: Threads + Wait + Sync, G: Gate>(
         site.rt,
         |scope| -> Carried<N>
             requires { IsCarried site.now.keeps parts.now carried }
-            ensures { AllWorkedKeeping site.entry.now.keeps N.Name parts.entry.now carried.crew.desks result.done.ends.items result.done.replies.items result.done.desks × (result.crew.desks ≡ []) }
+            ensures { AllWorkedKeeping site.entry.now.keeps N.Name parts.entry.now carried.crew.desks
+                result.done.ends.items result.done.replies.items result.done.desks × (result.crew.desks ≡ []) }
         { carried.serve(scope, site, parts) },
     );
     Ok(carried.outcome())

@@ -26,7 +26,7 @@ use strm_shared::{
     Trace, TraceEntries,
 };
 
-// A queue of these marks, with a service procedure.
+// The spec of a queue with these water marks and a service procedure.
 const fn queue(hiwat: u32, lowat: u32, next: Option<u8>) -> QueueSpec {
     QueueSpec {
         hiwat,
@@ -36,7 +36,7 @@ const fn queue(hiwat: u32, lowat: u32, next: Option<u8>) -> QueueSpec {
     }
 }
 
-// A pool of so many message blocks over data blocks of these sizes, with a queue before another one.
+// Opens a pool with this number of message blocks, data blocks of these sizes, and two queues; the second is next of the first.
 fn opened(rt: &impl Abort, alloc: Global, id: u32, mblks: u32, sizes: &[(u32, u32)]) -> Pool {
     let mut classes = ArrayVec::new();
     for (size, count) in sizes {
@@ -60,12 +60,12 @@ fn opened(rt: &impl Abort, alloc: Global, id: u32, mblks: u32, sizes: &[(u32, u3
     Pool::new(alloc, config).expect(rt, "a pool")
 }
 
-// A pool of eight message blocks over four data blocks of 16 bytes and two of 64.
+// Opens a pool of eight message blocks, with four data blocks of 16 bytes and two of 64.
 fn eight(rt: &impl Abort, alloc: Global, id: u32) -> Pool {
     opened(rt, alloc, id, 8, &[(16, 4), (64, 2)])
 }
 
-// So many desks, with this trace, from this stamp on.
+// A setup with this number of desks, this trace and this first stamp.
 const fn setup(desks: u8, trace: Trace, first_stamp: u64) -> Setup {
     Setup {
         desks,
@@ -74,7 +74,7 @@ const fn setup(desks: u8, trace: Trace, first_stamp: u64) -> Setup {
     }
 }
 
-// A pool that is to be shared so, or why it can't be, and the pool. Nothing is held of it.
+// Starts sharing a pool, of which no message is held, or returns the fault and the pool.
 fn started(
     rt: &impl Abort,
     alloc: Global,
@@ -85,7 +85,7 @@ fn started(
     Start::new(alloc, pool, setup)
 }
 
-// A pool that is to be shared so, and can be.
+// Starts sharing a pool, which must succeed.
 fn start_of(rt: &impl Abort, alloc: Global, pool: Pool, setup: Setup) -> Start {
     match started(rt, alloc, pool, setup) {
         Ok(start) => start,
@@ -93,14 +93,14 @@ fn start_of(rt: &impl Abort, alloc: Global, pool: Pool, setup: Setup) -> Start {
     }
 }
 
-// A pool of eight message blocks that is to be shared, with no trace kept.
+// Starts sharing a pool of eight message blocks, without a trace.
 fn start(rt: &impl Abort, alloc: Global, id: u32, desks: u8, first_stamp: u64) -> Start {
     let setup = setup(desks, Trace::Off, first_stamp);
     start_of(rt, alloc, eight(rt, alloc, id), setup)
 }
 
-// Such a pool that is to be shared by two desks, with a wish, a message of three bytes on queue 0, and both queues waiting,
-// queue 1 before the other, from the sixth last stamp on.
+// Starts sharing such a pool by two desks, six stamps before the last. It has a wish, and a message of three bytes on queue 0;
+// the run list has queue 1, then queue 0.
 fn loaded(rt: &impl Abort, alloc: Global) -> Start {
     let mut pool = eight(rt, alloc, 7);
     assert!(rt; pool.bufcall(16).is_ok() && pool.qenable(1).is_ok());
@@ -118,7 +118,7 @@ fn loaded(rt: &impl Abort, alloc: Global) -> Start {
     start_of(rt, alloc, pool, setup(2, Trace::Off, MOST_STAMP - 5))
 }
 
-// The register of a letter.
+// The register named by a letter.
 fn reg(rt: &impl Abort, letter: u8) -> Reg {
     match Reg::new(letter.saturating_sub(b'a')) {
         Some(reg) => reg,
@@ -126,32 +126,32 @@ fn reg(rt: &impl Abort, letter: u8) -> Reg {
     }
 }
 
-// The last desk.
+// Takes the last desk.
 fn take_last<N: Name>(rt: &impl Abort, desks: &mut Desks<N>) -> Desk<N> {
     assert!(rt; desks.len() > 0);
     desks.take_last()
 }
 
-// The last desk, which has this number.
+// Takes the last desk, which must have this number.
 fn last<N: Name>(rt: &impl Abort, desks: &mut Desks<N>, number: u8) -> Desk<N> {
     let desk = take_last(rt, desks);
     assert_eq!(rt; desk.number(), number);
     desk
 }
 
-// The only desk.
+// Takes the only desk.
 fn only<N: Name>(rt: &impl Abort, desks: &mut Desks<N>) -> Desk<N> {
     assert!(rt; desks.len() == 1);
     last(rt, desks, 0)
 }
 
-// Adds a desk behind the others.
+// Adds a desk at the end.
 fn push<N: Name>(rt: &impl Abort, desks: &mut Desks<N>, desk: Desk<N>) {
     assert!(rt; desks.len() < MOST_WORKERS);
     desks.push(desk);
 }
 
-// The registers of a desk, whose tokens carry the pool's id, as the law of a desk says.
+// Spends a desk and returns its registers, whose tokens have the pool's id by the law of a desk.
 fn regs_of<N: Name>(desk: Desk<N>) -> Regs
     ensures { CarryId N.opened.arena.id result }
 {
@@ -159,10 +159,10 @@ fn regs_of<N: Name>(desk: Desk<N>) -> Regs
     desk.into_regs()
 }
 
-// What `gather` answers.
+// What `gather` returns.
 type Gathering<N> = Result<Gathered<N>, (Refusal, Shared<N>, Desks<N>)>;
 
-// The pool, the trace and the desks, of which none is missing.
+// What was gathered; no desk may be missing.
 fn gathered<N: Name>(rt: &impl Abort, gathering: Gathering<N>) -> Gathered<N> {
     match gathering {
         Ok(gathered) => gathered,
@@ -173,7 +173,7 @@ fn gathered<N: Name>(rt: &impl Abort, gathering: Gathering<N>) -> Gathered<N> {
     }
 }
 
-// The pool and the trace once so many desks came back, in order, each of which has seen this stamp, and what they hold was freed.
+// Pool and trace after this number of desks came back, in order, each having seen this stamp; frees what the desks hold.
 fn drained<N: Name>(
     rt: &impl Abort,
     gathering: Gathering<N>,
@@ -196,7 +196,7 @@ fn drained<N: Name>(
     (pool, trace)
 }
 
-// The pool then, where no trace was kept.
+// The same pool, without a trace.
 fn emptied<N: Name>(rt: &impl Abort, gathering: Gathering<N>, count: usize, stamp: u64) -> Pool {
     let (pool, trace) = drained(rt, gathering, count, stamp);
     assert!(rt; trace.items().is_empty());
@@ -219,8 +219,8 @@ fn two_desks_by_turns(rt: HostRuntime) {
     turned::<Brand, _>(&rt, start(&rt, rt.alloc(), 7, 2, 0), &rows);
 }
 
-// A message goes from one desk to the other over the queue. Each has registers of its own. Handed in from the last to the
-// first, the desks come back in order.
+// A message goes from one desk to the other over the queue, into each desk's own registers. Gathered from last to first, the
+// desks come back in order.
 fn turned<N: Name, R: Wait + Abort>(rt: &R, start: Start, rows: &[(u8, Step)])
     requires { IsNameOf N.Name start }
 {
@@ -234,8 +234,7 @@ fn turned<N: Name, R: Wait + Abort>(rt: &R, start: Start, rows: &[(u8, Step)])
     assert_census(rt, &pool, (8, 0, 0));
 }
 
-// What one desk was served the other sees by a look, and not before. Who was served has seen it at once, and sees no less by a
-// look.
+// A desk sees by a look what the other was served, and not before. A desk that was served has seen it at once.
 #[test]
 fn two_desks_one_word(rt: HostRuntime) {
     let a = reg(&rt, b'a');
@@ -256,7 +255,7 @@ fn two_desks_one_word(rt: HostRuntime) {
     assert_ended(&rt, start(&rt, rt.alloc(), 7, 2, 0), &rows, 2, 3, (7, 1, 0));
 }
 
-// The word tells of each message block of the largest pool.
+// The word counts each message block of the largest pool.
 #[test]
 fn the_largest_pool(rt: HostRuntime) {
     let call = Call::Allocb(reg(&rt, b'a'), 1);
@@ -270,7 +269,7 @@ fn the_largest_pool(rt: HostRuntime) {
     assert_ended(&rt, start, &rows, 1, 1, (16_383, 0, 0));
 }
 
-// Why a pool can't be shared so, if it can't. It comes back as it was then.
+// The fault of this setup, if any; the pool comes back unchanged then.
 fn fault_of(rt: &impl Abort, alloc: Global, setup: Setup) -> Option<NewFault> {
     match started(rt, alloc, eight(rt, alloc, 7), setup) {
         Ok(_) => None,
@@ -304,8 +303,7 @@ fn setups_out_of_bounds(rt: HostRuntime) {
     }
 }
 
-// Each call before the last stamp is served and counts, and what it does to the pool shows in later ones; none is served at
-// the last, which a desk sees that is refused so.
+// Calls up to the last stamp are served and change the pool. At the last stamp calls are refused, and the desk sees that stamp.
 #[test]
 fn the_last_stamps(rt: HostRuntime) {
     let a = reg(&rt, b'a');
@@ -335,7 +333,7 @@ fn the_last_stamps(rt: HostRuntime) {
     assert_ended(&rt, start, &rows, 2, MOST_STAMP, (8, 0, 0));
 }
 
-// Gives up what was gathered.
+// Loses what was gathered.
 fn forget<N: Name>(gathered: Gathered<N>) {
     let Gathered {
         pool: _,
@@ -345,7 +343,7 @@ fn forget<N: Name>(gathered: Gathered<N>) {
     desks.forget();
 }
 
-// The pool can't be gathered with these desks, and they come back, so many.
+// `gather` with these desks is refused, and returns this number of desks.
 fn ungathered<N: Name>(
     rt: &impl Abort,
     shared: Shared<N>,
@@ -383,8 +381,7 @@ fn a_desk_is_missing(rt: HostRuntime) {
     assert!(rt; told.is_ok_and(|queue| queue.bytes == 3 && queue.enabled && !queue.noenable));
 }
 
-// Desk 1 is not there once the first steps were taken. Each time the others are gathered they come back, with the pool and the
-// stamp as they were, and have seen no more.
+// Desk 1 is missing after the first steps. Each `gather` returns the other desks unchanged, and the pool stays shared.
 fn missing<N: Name, R: Wait + Abort>(
     rt: &R,
     start: Start,
@@ -415,14 +412,13 @@ fn a_spent_desk(rt: HostRuntime) {
     spent::<Brand, _>(&rt, start(&rt, rt.alloc(), 7, 2, 0), other, &early, &late);
 }
 
-// Desk 1 is spent, and another pool drains its empty registers.
+// Spends desk 1, whose empty registers another pool drains.
 fn spend<N: Name>(rt: &impl Abort, desks: &mut Desks<N>, other: Pool) {
     let mut other = other;
     other.drain(last(rt, desks, 1).into_regs());
 }
 
-// Desk 1 is spent. So the shared pool is never gathered any more, and desk 0 is served as
-// before.
+// After desk 1 is spent, the pool can never be gathered, but desk 0 is still served.
 fn spent<N: Name, R: Wait + Abort>(
     rt: &R,
     start: Start,
@@ -448,7 +444,7 @@ fn what_waits_comes_back(rt: HostRuntime) {
     assert_census(&rt, &pool, (7, 1, 0));
 }
 
-// The wish, and the queues that wait to be served, in order, are those that the pool was shared with.
+// The wish and the run list are those that the pool was shared with.
 fn assert_waits(rt: &impl Abort, pool: &Pool) {
     assert!(rt; pool.wish_at(0) == Some((1, 16)) && pool.wish_at(1).is_none());
     assert!(rt; pool.run_at(0) == Some(1) && pool.run_at(1) == Some(0));
@@ -461,8 +457,8 @@ fn two_shared_pools(rt: HostRuntime) {
     side_by_side::<Brand, Brand, _>(&rt, one, other);
 }
 
-// What is served of one leaves the other as it was. With `desks` in the place of `others`, or `desk` in that of `other`, the calls of
-// `second` do not compile (tests/strangers).
+// Calls at one shared pool leave the other unchanged. With `desks` instead of `others`, or `desk` instead of `other`, the calls
+// at `second` do not compile (tests/strangers).
 fn side_by_side<N: Name, M: Name, R: Wait + Abort>(rt: &R, one: Start, other: Start)
     requires one { IsNameOf N.Name one }
     requires other { IsNameOf M.Name other }
@@ -480,7 +476,7 @@ fn side_by_side<N: Name, M: Name, R: Wait + Abort>(rt: &R, one: Start, other: St
     assert_census(rt, &pool, (7, 1, 0));
 }
 
-// Calls of the first pool are served, and one of the second between them.
+// Makes calls at the first pool, and one at the second between them.
 fn serve_both<N: Name, M: Name>(
     rt: &(impl Wait + Abort),
     first: &Shared<N>,

@@ -114,8 +114,7 @@ served_none : (k n : ℕ) (es : List Entry) → All (λ e. e.desk < n) es → se
 served_none k n [] below = refl
 served_none k n (e ∷ es) below =
     let here : e.desk < n = All-head (λ (x : Entry). x.desk < n) e es below in
-    ap (λ (b : Bool). if b then (k, e) ∷ served_from (k + 1) n es else served_from (k + 1) n es) (ne_eqb e.desk n (λ same. omega (arith, here, same)))
-    ∙ served_none (k + 1) n es (All-tail (λ (x : Entry). x.desk < n) e es below)
+    cc (ne_eqb e.desk n (λ same. omega (arith, here, same)), served_none (k + 1) n es (All-tail (λ (x : Entry). x.desk < n) e es below))
 
 -- the pairs of what a desk was served are there still, once it has seen one more
 carried_more : (ps : List Pair) (p : Pair) (ss : List (ℕ × Entry)) → All (λ (s : ℕ × Entry). HasStamp ps s.0) ss → All (λ (s : ℕ × Entry). HasStamp (ps ++ p ∷ []) s.0) ss
@@ -163,9 +162,7 @@ module _ (o : Pair) (h : History) (p : Pair) (e : Entry) (t : Entries) (lawful :
         All-push (Contains (h.pairs ++ p ∷ [])) d.pairs p
         (All-weaker (Contains h.pairs) (Contains (h.pairs ++ p ∷ [])) (λ q has. Contains-append_left h.pairs (p ∷ []) q has) d.pairs is.pairs) (Contains-push h.pairs p);
     served =
-        ap (λ l. l ++ (p.0, e) ∷ []) is.served
-        ∙ ap (λ l. served_from (o.0 + 1) d.number h.entries ++ l) (at_place p.0 (o.0 + 1 + length h.entries) e (omega (arith, next_after.0, lawful.entered)))
-        ∙ sym (served_same (o.0 + 1) d.number h.entries e same);
+        cc (is.served, at_place p.0 (o.0 + 1 + length h.entries) e (omega (arith, next_after.0, lawful.entered)), served_same (o.0 + 1) d.number h.entries e same);
     carried =
         All-push (λ (s : ℕ × Entry). HasStamp (d.pairs ++ p ∷ []) s.0) d.served (p.0, e)
         (carried_more d.pairs p d.served is.carried) (p, Contains-push d.pairs p, refl);

@@ -90,8 +90,7 @@ module _ (o : Pair) (slots id : ℕ) (me : Me (Unit {0}) View) where
   -- what a load finds is the last pair
   found : (s : State (Unit {0}) View) (k : IsRuled o s) → pair_of (count_in o.1) (get_or s.words 0 0) ≡ last_pair k.history.pairs
   found s k =
-      ap (λ ws. pair_of (count_in o.1) (get_or ws 0 0)) k.word
-      ∙ pair_of-word_of (count_in o.1) (last_pair k.history.pairs) (let few = k.lawful.few in omega (arith, few)) (last_after o k.history k.lawful).1
+      cc (k.word, pair_of-word_of (count_in o.1) (last_pair k.history.pairs) (let few = k.lawful.few in omega (arith, few)) (last_after o k.history k.lawful).1)
 
   -- what is shown of a view that is there
   shown : (s : State (Unit {0}) View) (k : IsRuled o s) (v : View) → get_elem? s.views id ≡ some v → Shows o (last_pair k.history.pairs) v

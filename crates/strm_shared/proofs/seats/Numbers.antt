@@ -1,4 +1,4 @@
--- Which numbers of desks stand in the views of all seats.
+-- Which numbers of desks are in the views of all seats.
 use Rattle.std.proofs.Common.{◌≡◌, ◌≢◌, ℕ, zero, suc, ◌+◌, ◌<◌, ◌≤◌, List, [], ◌∷◌, ◌++◌, map, length, set, get_or, refl, sym, ap, ◌∙◌, inl, inr, arith, if◌then◌else◌}
 use Rattle.std.specs.Prelude.{All, nat_lt, ◌==◌}
 use Rattle.std.specs.List.{flat_map}
@@ -17,7 +17,7 @@ use Rattle.strm_shared.specs.declared.views.View.TheVariants.{Spent}
 use Rattle.strm_shared.specs.Pairs.{Pair}
 use Rattle.strm_shared.specs.Seats.{numbers_in, with_pair}
 
--- how often a number stands in all views
+-- how often a number is in all views together
 abbrev pub standing : ℕ → List View → ℕ
 standing n views = times n (flat_map numbers_in views)
 
@@ -33,11 +33,7 @@ module _ (n : ℕ) (views : List View) where
   pub standing-set : (i : ℕ) (v w : View) → get_elem? views i ≡ some v → standing n (set views i w) + times n (numbers_in v) ≡ standing n views + times n (numbers_in w)
   standing-set i v w at =
       let here = within views i v Spent at in
-      omega (
-        arith,
-        flat_map-set_adds (count_adds (λ x. x == n)) numbers_in views i w Spent here.0,
-        ap (λ u. times n (numbers_in u)) here.1,
-      )
+      omega (arith, flat_map-set_adds (count_adds (λ x. x == n)) numbers_in views i w Spent here.0, ap (λ u. times n (numbers_in u)) here.1)
 
   -- a view comes behind the others
   pub standing-push : (v : View) → standing n (views ++ v ∷ []) ≡ standing n views + times n (numbers_in v)
@@ -46,11 +42,11 @@ module _ (n : ℕ) (views : List View) where
       ∙ times-append n (flat_map numbers_in views) (numbers_in v ++ [])
       ∙ ap (λ k. standing n views + k) (times-append n (numbers_in v) [] ∙ omega arith)
 
-  -- the numbers of one view stand in all
+  -- a number is in all views together at least as often as in one
   pub standing_one : (i : ℕ) (v : View) → get_elem? views i ≡ some v → times n (numbers_in v) ≤ standing n views
   standing_one i v at = omega (arith, standing-set i v Spent at)
 
--- those of two views too
+-- and as in two
 pub standing_two : (n : ℕ) (views : List View) (i j : ℕ) (v u : View) → j ≢ i → get_elem? views i ≡ some v → get_elem? views j ≡ some u
     → times n (numbers_in v) + times n (numbers_in u) ≤ standing n views
 standing_two n views i j v u apart at_i at_j =
@@ -78,7 +74,7 @@ below_more n m =
           ]
     ]
 
--- it stands once at most
+-- a number below the bound counts once
 pub once_at_most : (n m : ℕ) → (if nat_lt n m then 1 else 0) ≤ 1
 once_at_most n m =
     elim (cases_Bool (nat_lt n m)) [
@@ -86,7 +82,7 @@ once_at_most n m =
       | inr not ↦ omega (arith, cond-false {A = ℕ} (nat_lt n m) 1 0 not)
     ]
 
--- none of these desks has a number that does not stand there
+-- none of these desks has this number, if their numbers do not include it
 pub none_numbered : (n : ℕ) (ds : List Known) → times n (map (λ d. d.number) ds) ≡ 0 → All (λ d. d.number ≢ n) ds
 none_numbered n [] none = All-nil (λ (d : Known). d.number ≢ n)
 none_numbered n (d ∷ ds) none =

@@ -1,4 +1,4 @@
-//! Workers in a scope of threads.
+//! Workers on their way through a scope of threads.
 ghost use Rattle.std.specs.Prelude.{◌≡◌, ◌+◌, ◌≤◌, [], ℕ, length};
 ghost use Rattle.strm_shared.specs.Keeping.{AllWorkedKeeping};
 ghost use Rattle.strm_shared.specs.Limits.{most_workers};
@@ -17,8 +17,8 @@ use crate::outcome::Outcome;
 use std::sync::Wait;
 use std::thread::{Scope, Threads};
 
-// All workers: those that are to be started, and what the others left. A scope takes only what may be dropped, and so does
-// what it gives back; the desks may not.
+// All workers: those that are not started, and what the others returned. A scope takes and returns only values that may be
+// dropped, which desks may not.
 pub(super) struct Carried<N: Name> {
     crew: Crew<N>,
     done: Done<N>,
@@ -39,10 +39,11 @@ impl<N: Name> Drop for Carried<N> {
 }
 
 impl<N: Name> Carried<N> {
-    // Workers at these desks, none of whom has started.
+    // Workers at these desks, none of them started.
     pub(super) fn new(desks: Desks<N>, room: Room) -> Carried<N>
         ensures desks { result.crew.desks ≡ desks }
-        ensures carried { (keeps : _) (parts : _) → length parts ≡ length desks → IsRoomFor keeps parts room → IsCarried keeps parts result }
+        ensures carried { (keeps : _) (parts : _) → length parts ≡ length desks → IsRoomFor keeps parts room
+            → IsCarried keeps parts result }
     {
         let most = desks.len();
         prove!(most <= MOST_WORKERS);
@@ -61,7 +62,7 @@ impl<N: Name> Carried<N> {
         }
     }
 
-    // Has each part served on a thread of its own.
+    // Serves each part on its own thread.
     pub(super) fn serve<'s, E, R: Threads + Wait + Sync, G: Gate>(
         mut self,
         scope: &Scope<'s, E>,
@@ -71,14 +72,15 @@ impl<N: Name> Carried<N> {
     where
         N: Send + Sync,
         requires { IsCarried site.now.keeps parts.now self }
-        ensures worked { AllWorkedKeeping site.now.keeps N.Name parts.now self.crew.desks result.done.ends.items result.done.replies.items result.done.desks }
+        ensures worked { AllWorkedKeeping site.now.keeps N.Name parts.now self.crew.desks result.done.ends.items
+            result.done.replies.items result.done.desks }
         ensures spent { result.crew.desks ≡ [] }
     {
         serve_all(scope, site, parts, &mut self.crew, &mut self.done);
         self
     }
 
-    // What the workers left, once all have ended.
+    // What the workers returned, after all have ended.
     pub(super) fn outcome(self) -> Outcome<N>
         requires { self.crew.desks ≡ [] }
         ensures desks { result.desks ≡ self.done.desks }
@@ -114,7 +116,8 @@ fn serve_all<'s, E, N: Name + Send + Sync, R: Threads + Wait + Sync, G: Gate>(
     requires ready { AreReady site.now.keeps parts.now crew.old.rooms.items }
     requires room { HasRoom (length parts.now) done.old }
     requires empty { IsEmpty done.old }
-    ensures worked { AllWorkedKeeping site.now.keeps N.Name parts.now crew.old.desks done.new.ends.items done.new.replies.items done.new.desks }
+    ensures worked { AllWorkedKeeping site.now.keeps N.Name parts.now crew.old.desks done.new.ends.items
+        done.new.replies.items done.new.desks }
     ensures room { (n : ℕ) → HasRoom (length parts.now + n) done.old → HasRoom n done.new }
     ensures spent { crew.new.desks ≡ [] }
 {

@@ -1,4 +1,4 @@
-//! Workers before they start, and once they have ended.
+//! Workers before they start, and after they have ended.
 ghost use Rattle.std.specs.Prelude.{◌≡◌, ◌+◌, ◌<◌, ◌++◌, ◌∷◌, [], ℕ, length};
 ghost use Rattle.strm_shared.specs.declared.outcome.End.TheVariants.{NotStarted};
 ghost use Rattle.strm_shared.specs.RunsLayout.{HasRoom};
@@ -10,7 +10,7 @@ use crate::name::Name;
 use crate::outcome::End;
 use strm_pool::Reply;
 
-// Workers that are to be started: their desks, and room for the replies to each.
+// Workers that are not started: their desks, and room for the replies to each.
 pub(super) struct Crew<N: Name> {
     pub(super) desks: Desks<N>,
     pub(super) rooms: Vec<Vec<Reply>>,
@@ -32,7 +32,7 @@ impl<N: Name> Crew<N> {
     }
 }
 
-// What workers leave that have ended.
+// What workers returned that have ended.
 pub(super) struct Done<N: Name> {
     pub(super) desks: Desks<N>,
     pub(super) replies: Vec<Replies>,
@@ -40,7 +40,7 @@ pub(super) struct Done<N: Name> {
 }
 
 impl<N: Name> Done<N> {
-    // One more has ended, for which there is room.
+    // Adds a worker that has ended; there is room for it.
     pub(super) fn push(&mut self, worker: Worker<N>)
         requires { HasRoom 1 self.old }
         ensures desks { self.new.desks ≡ self.old.desks ++ worker.desk ∷ [] }

@@ -1,4 +1,4 @@
-//! The memory that serving takes.
+//! The memory for replies and results of workers, taken before the first one starts.
 ghost use Rattle.std.specs.Prelude.{◌≡◌, IfOk, length, true};
 ghost use Rattle.strm_shared.specs.RunsLayout.{AreReady, IsRoomFor};
 
@@ -7,7 +7,7 @@ use crate::outcome::End;
 use std::alloc::{AllocError, Global};
 use strm_pool::Reply;
 
-// All memory that serving some parts takes.
+// The memory that serving some parts takes.
 #[derive(Drop)]
 pub(super) struct Room {
     pub(super) rooms: Vec<Vec<Reply>>,
@@ -16,7 +16,7 @@ pub(super) struct Room {
 }
 
 impl Room {
-    // For these parts, with replies where they are kept.
+    // Takes the memory for these parts, with room for replies if they are kept.
     pub(super) fn new(alloc: Global, parts: &[Lines], keeps: bool) -> Result<Room, AllocError>
         ensures { IfOk result (λ room. IsRoomFor keeps parts.now room) }
     {
@@ -28,14 +28,14 @@ impl Room {
     }
 }
 
-// How many replies to these lines are kept.
+// The number of replies to these lines that are kept.
 fn replies_kept(lines: &Lines, keeps: bool) -> usize
     ensures { keeps ≡ true → result ≡ length lines.now }
 {
     if keeps { lines.items().len() } else { 0 }
 }
 
-// Room for the replies to each worker that are kept.
+// Room for the replies to each worker, if they are kept.
 fn rooms_for(alloc: Global, parts: &[Lines], keeps: bool) -> Result<Vec<Vec<Reply>>, AllocError>
     ensures { IfOk result (λ rooms. AreReady keeps parts.now rooms.items) }
 {

@@ -1,17 +1,18 @@
-//! What every worker is handed.
+//! The site: what all workers share while they work.
 ghost use Rattle.std.specs.Prelude.{◌≡◌};
 
 use crate::name::Name;
 use crate::shared::Shared;
 use std::sync::atomic::{AtomicU64, Ordering};
 
-// What every worker is handed: by what it waits, the pool, the gate, whether replies are kept, and which worker had no thread.
+// What each worker gets: the runtime by which it waits, the pool, the gate, and whether replies are kept. It also notes which
+// worker had no thread.
 pub(super) struct Site<'s, N: Name, R, G> {
     pub(super) rt: &'s R,
     pub(super) shared: &'s Shared<N>,
     pub(super) gate: &'s G,
     pub(super) keeps: bool,
-    // The number of the last one that had none, raised by 1, or 0.
+    // The number of the last worker without a thread, plus 1, or 0.
     refused: AtomicU64,
 }
 
@@ -28,7 +29,7 @@ impl<'s, N: Name, R, G> Drop for Site<'s, N, R, G> {
 }
 
 impl<'s, N: Name, R, G> Site<'s, N, R, G> {
-    // Where no worker was refused a thread.
+    // A site at which each worker had a thread so far.
     pub(super) fn new(
         rt: &'s R,
         shared: &'s Shared<N>,
@@ -51,7 +52,7 @@ impl<'s, N: Name, R, G> Site<'s, N, R, G> {
         self.refused.store(u64::from(number) + 1, Ordering::SeqCst);
     }
 
-    // Whether this worker was the last one that had no thread.
+    // Whether this worker was the last one without a thread.
     pub(super) fn has_refused(&self, number: u8) -> bool {
         self.refused.load(Ordering::SeqCst) == u64::from(number) + 1
     }

@@ -1,4 +1,4 @@
-//! A worker, with its desk and its replies.
+//! A worker, with its desk and its replies, and what it does on its thread.
 ghost use Rattle.std.specs.Prelude.{◌≡◌};
 ghost use Rattle.strm_shared.specs.Keeping.{WorkedKeeping};
 ghost use Rattle.strm_shared.specs.RunsLayout.{IsReady};
@@ -12,8 +12,8 @@ use crate::outcome::End;
 use std::sync::Wait;
 use strm_pool::Reply;
 
-// A worker: its desk, its replies, with room for all that are kept, and how it ended. A thread takes and gives back only what
-// may be dropped; dropped, a worker gives its desk up.
+// A worker: its desk, its replies, with room for all that are kept, and how it ended. Threads take and return only values that
+// may be dropped; a worker that is dropped loses its desk.
 pub(super) struct Worker<N: Name> {
     pub(super) desk: Desk<N>,
     pub(super) replies: Vec<Reply>,
@@ -32,7 +32,7 @@ impl<N: Name> Drop for Worker<N> {
 }
 
 impl<N: Name> Worker<N> {
-    // Its parts.
+    // The worker's parts.
     pub(super) fn apart(self) -> (Desk<N>, Vec<Reply>, End)
         ensures { (result.0 ≡ self.desk) × (result.1 ≡ self.replies) × (result.2 ≡ self.end) }
     {
@@ -40,7 +40,7 @@ impl<N: Name> Worker<N> {
         (desk, replies, end)
     }
 
-    // Has the lines served, up to the first that is refused, and keeps the replies where the site says so.
+    // Serves the lines, up to the first that is refused, and keeps the replies if the site says so.
     pub(super) fn work<R: Wait, G: Gate>(
         self,
         site: &Site<N, R, G>,

@@ -1,4 +1,4 @@
-//! A line of each kind of call, served on one desk.
+//! Each kind of call, served on one desk.
 ghost use Rattle.strm_shared.specs.Starts.{IsNameOf};
 
 use super::steps::{assert_census, serve_calls};
@@ -16,9 +16,8 @@ fn each_kind_of_call(rt: HostRuntime) {
     each_kind::<Brand, _>(&rt, rt.alloc(), kept(&rt, rt.alloc(), 1, 100, 0));
 }
 
-// The calls of a part find what the part before left: the registers a, c, d, e behind the first two, and queue 1 with a
-// message, a and b behind the third. At the end nothing is held or queued. Done again by a pool like this one, the calls in the
-// trace have the same replies.
+// Serves the parts in order. The first two leave messages in registers a, c, d and e; the third leaves one on queue 1, and two
+// in a and b. At the end no message is held or queued. A pool like this one gives the same replies to the calls of the trace.
 fn each_kind<N: Name, R: Wait + Abort>(rt: &R, alloc: Global, start: Start)
     requires { IsNameOf N.Name start }
 {
@@ -37,14 +36,14 @@ fn each_kind<N: Name, R: Wait + Abort>(rt: &R, alloc: Global, start: Start)
     assert_replayed(rt, eight(rt, alloc, 7), trace.items(), 8);
 }
 
-// These bytes, at most 64.
+// The bytes as a call carries them; at most 64.
 fn octets(rt: &impl Abort, bytes: &[u8]) -> Octets {
     let mut list = ArrayVec::new();
     assert!(rt; list.try_extend_from_slice(bytes).is_ok());
     Octets::of(list)
 }
 
-// What there is to tell of a block whose data block it alone names.
+// The reply to `block` for a block whose data has one reference.
 const fn block(kind: MsgType, len: u32, band: u8, room: u32) -> Reply {
     Reply::Block(BlockInfo {
         kind,
@@ -55,7 +54,7 @@ const fn block(kind: MsgType, len: u32, band: u8, room: u32) -> Reply {
     })
 }
 
-// Messages are made, joined, parted and freed.
+// Makes, joins, parts and frees messages.
 fn making(rt: &impl Abort) -> [(Call, Reply); 14] {
     let (a, b, c) = (reg(rt, b'a'), reg(rt, b'b'), reg(rt, b'c'));
     let (d, e, f) = (reg(rt, b'd'), reg(rt, b'e'), reg(rt, b'f'));
@@ -78,7 +77,7 @@ fn making(rt: &impl Abort) -> [(Call, Reply); 14] {
     ]
 }
 
-// Type, band and bytes of a message change. Data blocks of 16 bytes are all taken by then.
+// Changes type, band and bytes of a message, while all data blocks of 16 bytes are taken.
 fn altering(rt: &impl Abort) -> [(Call, Reply); 9] {
     let (a, c, d) = (reg(rt, b'a'), reg(rt, b'c'), reg(rt, b'd'));
     let (free, queued, held) = (4, 0, 4);
@@ -96,8 +95,8 @@ fn altering(rt: &impl Abort) -> [(Call, Reply); 9] {
     ]
 }
 
-// A message of high priority goes before one of band 2, with which the band is full, and that before one of band 0. Once it
-// is taken off, the queue behind is enabled.
+// A high priority message goes before one of band 2, which fills the band, and that before one of band 0. When it is taken off,
+// the queue behind is enabled.
 fn queueing(rt: &impl Abort) -> [(Call, Reply); 13] {
     let (a, b, c) = (reg(rt, b'a'), reg(rt, b'b'), reg(rt, b'c'));
     let (d, e) = (reg(rt, b'd'), reg(rt, b'e'));
@@ -118,7 +117,7 @@ fn queueing(rt: &impl Abort) -> [(Call, Reply); 13] {
     ]
 }
 
-// A queue that is not to be enabled is not, and then it is. Two flushes spare the message of high priority.
+// `noenable` keeps a queue from being enabled, until `enableok`. Two flushes leave the high priority message.
 fn enabling(rt: &impl Abort) -> [(Call, Reply); 17] {
     let (a, b) = (reg(rt, b'a'), reg(rt, b'b'));
     [
@@ -142,7 +141,7 @@ fn enabling(rt: &impl Abort) -> [(Call, Reply); 17] {
     ]
 }
 
-// Of two wishes one is taken back, and the other can be served.
+// Of two wishes, one is removed and the other is ready.
 fn wishing() -> [(Call, Reply); 5] {
     [
         (Call::Bufcall(64), Reply::Id(1)),

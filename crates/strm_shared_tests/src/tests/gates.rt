@@ -1,4 +1,4 @@
-//! What a gate is told.
+//! The gate is called before and after each line.
 ghost use Rattle.strm_shared.specs.Starts.{IsNameOf};
 
 use super::workers::{assert_count, line, ran, small};
@@ -13,7 +13,8 @@ use strm_shared::{
     Brand, End, Ends, Gate, Gathered, Lines, MOST_STAMP, Name, Outcome, Parts, Start, Trace,
 };
 
-// Which lines came, and which were answered or refused, each as a digit of four bits, and how many were told as another worker's.
+// A gate that notes which lines came, and which were served or refused, one digit of four bits for each. It counts lines of
+// another worker's number.
 #[derive(Drop)]
 struct Roll {
     came: AtomicU32,
@@ -50,7 +51,7 @@ impl Gate for Roll {
     }
 }
 
-// Two lines of each of so many workers: lines 0 and 1 of worker 0, lines 2 and 3 of worker 1, and so on.
+// Two lines for each worker: lines 0 and 1 for worker 0, lines 2 and 3 for worker 1, and so on.
 fn numbered(alloc: Global, reg: Reg, workers: u32) -> Result<Parts, AllocError> {
     let mut list = Vec::new(alloc);
     for worker in 0..workers {
@@ -63,7 +64,7 @@ fn numbered(alloc: Global, reg: Reg, workers: u32) -> Result<Parts, AllocError> 
     Ok(Parts::of(list))
 }
 
-// How so many workers of two lines each end, with the gate round each line. What they hold then is so many message blocks.
+// How each of these workers ends, with the gate around its two lines. They then hold `held` message blocks.
 fn told<N: Name + Send + Sync, R: Threads + Wait + Abort + Sync>(
     rt: &R,
     alloc: Global,
@@ -90,7 +91,7 @@ fn told<N: Name + Send + Sync, R: Threads + Wait + Abort + Sync>(
     ends
 }
 
-// The gate was told of each of these lines once before and once after it, and never by another worker's number.
+// The gate was called once before and once after each line, with the right worker's number.
 fn assert_told(rt: &impl Abort, gate: &Roll, lines: u32) {
     assert_count(rt, &gate.came, lines);
     assert_count(rt, &gate.answered, lines);
@@ -106,7 +107,7 @@ fn each_line_by_its_worker(rt: HostRuntime) {
     assert_told(&rt, &gate, 0x11_1111);
 }
 
-// The second line is refused at the last stamp, and the gate is told of it too.
+// The second line is refused at the last stamp, and the gate is called after it too.
 #[test]
 fn a_refused_line(rt: HostRuntime) {
     let gate = Roll::new();

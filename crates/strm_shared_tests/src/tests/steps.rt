@@ -1,4 +1,4 @@
-//! Steps at the desks of a shared pool.
+//! Steps at the desks of a shared pool, each with what is expected of it.
 ghost use Rattle.strm_shared.specs.Starts.{IsNameOf};
 
 use super::{Gathering, drained};
@@ -7,19 +7,19 @@ use std::sync::Wait;
 use strm_pool::{Call, Census, Pool, Refusal, Reply};
 use strm_shared::{Brand, Desk, Desks, Name, Shared, Start, TraceEntries};
 
-// How many message blocks are free, queued and held.
+// The numbers of free, queued and held message blocks.
 pub(super) type Counts = (u32, u32, u32);
 
-// What is done at a desk, and what comes of it.
+// A step at a desk, and what is expected.
 #[derive(Drop)]
 pub(super) enum Step {
     // The call is served, with this reply.
     Serve(Call, Reply),
     // The call is refused for this reason.
     Refuse(Call, Refusal),
-    // A look tells this stamp, which the desk has seen then, and so many message blocks.
+    // A look sees this stamp and these numbers of message blocks.
     Look(u64, Counts),
-    // The desk has seen this stamp, and was served so many calls.
+    // The desk has seen this stamp, and was served this number of calls.
     Stand(u64, u64),
 }
 
@@ -39,17 +39,17 @@ fn assert_refused(rt: &impl Abort, served: Result<Reply, Refusal>, why: Refusal)
     }
 }
 
-// So many message blocks are free, queued and held.
+// A census has these numbers of message blocks.
 pub(super) fn assert_counts(rt: &impl Abort, census: Census, counts: Counts) {
     assert_eq!(rt; (census.free, census.queued, census.held), counts);
 }
 
-// They are so of the pool.
+// The pool's census has these numbers.
 pub(super) fn assert_census(rt: &impl Abort, pool: &Pool, counts: Counts) {
     assert_counts(rt, pool.census(), counts);
 }
 
-// A look told this stamp, and so many message blocks.
+// A look saw this stamp and these numbers of message blocks.
 pub(super) fn assert_told(rt: &impl Abort, told: (u64, Census), stamp: u64, counts: Counts) {
     let (found, census) = told;
     assert_eq!(rt; found, stamp);
@@ -61,13 +61,13 @@ pub(super) fn assert_seen<N: Name>(rt: &impl Abort, desk: &Desk<N>, stamp: u64) 
     assert_eq!(rt; desk.seen(), stamp);
 }
 
-// The desk was served so many calls.
+// The desk was served this number of calls.
 pub(super) fn assert_calls<N: Name>(rt: &impl Abort, desk: &Desk<N>, calls: u64) {
     assert_eq!(rt; desk.calls(), calls);
 }
 
 impl Step {
-    // Is taken at a desk, as this line.
+    // Takes the step at a desk, as this line.
     fn take<N: Name>(
         &self,
         rt: &(impl Wait + Abort),
@@ -104,7 +104,7 @@ pub(super) fn serve_calls<N: Name>(
     }
 }
 
-// Takes steps as lines 1, 2 and so on, each at the desk of this number.
+// Takes steps as lines 1, 2 and so on, each at the desk with the number before it.
 pub(super) fn take_steps<N: Name>(
     rt: &(impl Wait + Abort),
     shared: &Shared<N>,
@@ -120,7 +120,7 @@ pub(super) fn take_steps<N: Name>(
     }
 }
 
-// What is gathered once a pool was shared and these steps were taken.
+// Shares a pool, takes these steps, and gathers.
 pub(super) fn played<N: Name, R: Wait + Abort>(
     rt: &R,
     start: Start,
@@ -133,7 +133,7 @@ pub(super) fn played<N: Name, R: Wait + Abort>(
     shared.gather(desks)
 }
 
-// The pool and the trace then, where each of so many desks has seen this stamp, and what they hold was freed.
+// Pool and trace after these steps; this number of desks has seen this stamp, and what they hold is freed.
 fn ended<N: Name, R: Wait + Abort>(
     rt: &R,
     start: Start,
@@ -146,7 +146,7 @@ fn ended<N: Name, R: Wait + Abort>(
     drained(rt, played::<N, R>(rt, start, rows), count, stamp)
 }
 
-// The pool and the trace then, under a name that is nobody else's.
+// Pool and trace after these steps, under a name of its own.
 pub(super) fn traced(
     rt: &(impl Wait + Abort),
     start: Start,
@@ -157,7 +157,7 @@ pub(super) fn traced(
     ended::<Brand, _>(rt, start, rows, count, stamp)
 }
 
-// The pool then, where no trace was kept.
+// The pool after these steps, without a trace.
 pub(super) fn untraced(
     rt: &(impl Wait + Abort),
     start: Start,
@@ -170,7 +170,7 @@ pub(super) fn untraced(
     pool
 }
 
-// So many message blocks are free, queued and held of the pool then, where no trace was kept.
+// The census after these steps, without a trace.
 pub(super) fn assert_ended(
     rt: &(impl Wait + Abort),
     start: Start,

@@ -1,4 +1,4 @@
-//! Traces that are kept.
+//! Traces: which calls they have, and that a replay of them gives the same replies.
 ghost use Rattle.strm_shared.specs.Starts.{IsNameOf};
 
 use super::steps::{Step, assert_calls, assert_census, assert_seen, played, traced};
@@ -9,7 +9,7 @@ use std::sync::Wait;
 use strm_pool::{Call, Pool, Refusal, Regs, Reply};
 use strm_shared::{Brand, Desk, Entry, Gathered, MOST_STAMP, Name, Start, Trace, TraceEntries};
 
-// A pool of eight message blocks that is to be shared by so many desks, with so many entries kept at most, from this stamp on.
+// Starts sharing a pool of eight message blocks, with this number of desks, greatest number of entries, and first stamp.
 pub(super) fn kept(
     rt: &impl Abort,
     alloc: Global,
@@ -21,15 +21,15 @@ pub(super) fn kept(
     start_of(rt, alloc, eight(rt, alloc, 7), setup)
 }
 
-// Does the call of an entry once more, which has the same reply.
+// Makes the call of an entry again, which must have the same reply.
 fn replay(rt: &impl Abort, pool: &mut Pool, regs: &mut Regs, entry: &Entry) {
     assert!(rt; pool.owns(regs));
     let reply = pool.apply(regs, &entry.call);
     assert!(rt; reply == entry.reply);
 }
 
-// The pool does the calls of these entries once more, one after another, on registers for each of three desks. Once what the
-// registers hold then was freed, so many message blocks are free, and no others are left.
+// Makes the calls of these entries again, each on the registers of its desk, of three. After the registers are drained, `free`
+// message blocks are free, and no others are left.
 pub(super) fn assert_replayed(rt: &impl Abort, mut pool: Pool, entries: &[Entry], free: u32) {
     let (mut zero, mut one, mut two) = (Regs::new(), Regs::new(), Regs::new());
     for entry in entries {
@@ -46,18 +46,18 @@ pub(super) fn assert_replayed(rt: &impl Abort, mut pool: Pool, entries: &[Entry]
     assert_census(rt, &pool, (free, 0, 0));
 }
 
-// The trace has so many entries.
+// The trace has this number of entries.
 pub(super) fn assert_len(rt: &impl Abort, trace: &TraceEntries, count: usize) {
     assert_eq!(rt; trace.items().len(), count);
 }
 
-// The entry reads so.
+// The entry has this text.
 fn expect_entry(rt: &(impl Abort + AllocGlobal), entry: &Entry, wanted: &str) {
     let found = format!(in rt.alloc(); "{entry:?}").expect(rt, "memory");
     assert_eq!(rt; found.as_str(), wanted);
 }
 
-// The entries read so, one after another.
+// The entries have these texts.
 pub(super) fn expect_entries(
     rt: &(impl Abort + AllocGlobal),
     trace: &TraceEntries,
@@ -69,8 +69,8 @@ pub(super) fn expect_entries(
     }
 }
 
-// The trace of a pool of eight message blocks once these steps were taken, where each of so many desks has seen this stamp. All
-// blocks are free once what the desks hold was freed.
+// The trace of a pool of eight message blocks after these steps. Each of these desks has seen this stamp. All blocks are free
+// once what the desks hold is freed.
 fn trace_of(
     rt: &(impl Wait + Abort),
     start: Start,
@@ -102,7 +102,7 @@ fn a_trace_by_turns(rt: HostRuntime) {
     expect_entries(&rt, &trace, &wanted);
 }
 
-// A message goes from one desk to the other over the queue, and is held at the end. Each desk was served two calls.
+// A message goes from one desk to the other over the queue, and is held at the end. Each desk is served two calls.
 fn by_turns<N: Name, R: Wait + Abort>(rt: &R, start: Start, rows: &[(u8, Step)]) -> TraceEntries
     requires { IsNameOf N.Name start }
 {
@@ -120,14 +120,14 @@ fn by_turns<N: Name, R: Wait + Abort>(rt: &R, start: Start, rows: &[(u8, Step)])
     trace
 }
 
-// The registers of a desk that has seen stamp 4, and was served two calls.
+// Returns the registers of a desk that has seen stamp 4 and was served two calls.
 fn spent<N: Name>(rt: &impl Abort, desk: Desk<N>) -> Regs {
     assert_seen(rt, &desk, 4);
     assert_calls(rt, &desk, 2);
     desk.into_regs()
 }
 
-// A call that is refused, one with an empty source, and one with a taken destination count as all others do.
+// A call that is refused, one with an empty source, and one with a taken destination are entries as all others are.
 #[test]
 fn refused_calls_in_a_trace(rt: HostRuntime) {
     let a = reg(&rt, b'a');
@@ -156,8 +156,8 @@ fn a_trace_of_one_entry(rt: HostRuntime) {
     }
 }
 
-// Behind this first stamp one call is served. The next ones, of either desk, are refused for this reason, which the desk sees by
-// the stamp, and nothing else changes.
+// After this first stamp one call is served. Later calls, on either desk, are refused for this reason, which the desk sees by
+// the stamp. Nothing else changes.
 fn one_entry(rt: &(impl Wait + Abort), alloc: Global, first: u64, why: Refusal) {
     let a = reg(rt, b'a');
     let stamp = first.wrapping_add(1);

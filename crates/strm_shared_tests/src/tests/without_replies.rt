@@ -1,4 +1,4 @@
-//! Workers whose replies nobody gets.
+//! Workers without replies: they do the same as workers with replies.
 ghost use Rattle.strm_shared.specs.Starts.{IsNameOf};
 
 use super::steps::assert_census;
@@ -17,7 +17,7 @@ use strm_shared::{
     Start, Trace, TraceEntries, run_workers_without_replies,
 };
 
-// The desks of workers that have these parts served, and how each ended. Nobody gets the replies.
+// Runs workers without replies; returns their desks and how each ended.
 fn ran_without<N: Name + Send + Sync, R: Threads + Wait + Abort + Sync, G: Gate>(
     rt: &R,
     alloc: Global,
@@ -39,7 +39,7 @@ fn ran_without<N: Name + Send + Sync, R: Threads + Wait + Abort + Sync, G: Gate>
     }
 }
 
-// The same, where the replies are kept or not.
+// Runs workers with or without replies; returns their desks and how each ended.
 fn left<N: Name + Send + Sync, R: Threads + Wait + Abort + Sync>(
     rt: &R,
     alloc: Global,
@@ -59,7 +59,7 @@ fn left<N: Name + Send + Sync, R: Threads + Wait + Abort + Sync>(
     (desks, ends)
 }
 
-// The trace once one worker had its four lines served, up to this stamp, and ended so.
+// The trace after one worker had its four lines served, up to this stamp, and ended so.
 fn one_trace<N: Name + Send + Sync, R: Threads + Wait + Abort + Sync>(
     rt: &R,
     alloc: Global,
@@ -79,7 +79,7 @@ fn one_trace<N: Name + Send + Sync, R: Threads + Wait + Abort + Sync>(
     trace
 }
 
-// What that one worker's trace has.
+// The entries of that trace.
 const WANTED: [&str; 4] = [
     "Entry { desk: 0, line: 1, call: Allocb(Reg { place: 0 }, 3), reply: Done }",
     "Entry { desk: 0, line: 1, call: Allocb(Reg { place: 0 }, 3), reply: Taken }",
@@ -87,7 +87,7 @@ const WANTED: [&str; 4] = [
     "Entry { desk: 0, line: 1, call: Qsize(9), reply: Refused(NoSuchQueue) }",
 ];
 
-// Whether the replies are kept or not, the trace, the desk and the end are the same.
+// With or without replies, the trace, the desk and the end are the same.
 #[test]
 fn the_same_trace(rt: HostRuntime) {
     for keeps in [true, false] {
@@ -97,7 +97,7 @@ fn the_same_trace(rt: HostRuntime) {
     }
 }
 
-// And so they are where the last stamp is reached before the last line.
+// This is so too if the last stamp comes before the last line.
 #[test]
 fn the_same_refusal(rt: HostRuntime) {
     let end = End::Refused(Refusal::Worn);
@@ -108,7 +108,7 @@ fn the_same_refusal(rt: HostRuntime) {
     }
 }
 
-// The trace once two workers had two lines each served at once.
+// The trace after two workers had two lines each served at the same time.
 fn met<N: Name + Send + Sync, R: Threads + Wait + Abort + Sync>(
     rt: &R,
     alloc: Global,

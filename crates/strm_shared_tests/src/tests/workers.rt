@@ -1,4 +1,4 @@
-//! Workers on threads of their own.
+//! Workers on their own threads, next to each other and to a monitor.
 ghost use Rattle.strm_shared.specs.Starts.{IsNameOf};
 
 use super::steps::{Step, assert_census, take_steps};
@@ -19,13 +19,13 @@ use strm_shared::{
     Outcome, Parts, Replies, Shared, Start, Trace, TraceEntries, run_workers,
 };
 
-// So many turns at most a worker waits, and a monitor looks.
+// The greatest number of turns that a worker waits and a monitor looks.
 const TURNS: u32 = 100_000_000;
 
-// So many times at least a monitor looks while workers are at work.
+// The least number of looks of a monitor while workers work.
 const LOOKS: u32 = 10_000;
 
-// Whether one of these bits comes in time.
+// Whether one of these bits is set in time.
 fn comes(flags: &AtomicU32, bits: u32) -> bool {
     for _ in 0..TURNS {
         if flags.load(Ordering::SeqCst) & bits != 0 {
@@ -35,13 +35,13 @@ fn comes(flags: &AtomicU32, bits: u32) -> bool {
     false
 }
 
-// The number has come to so much.
+// The number is this count.
 pub(super) fn assert_count(rt: &impl Abort, number: &AtomicU32, count: u32) {
     assert_eq!(rt; number.load(Ordering::SeqCst), count);
 }
 
-// Where two workers of two lines each wait for each other: which lines have come, and were answered, each as a digit of four
-// bits, how many waited in vain, and how many were answered that had not come.
+// A gate at which two workers of two lines each wait for each other. It notes which lines came and were served, one digit of
+// four bits for each, how many waited in vain, and how many were served that had not come.
 #[derive(Drop)]
 pub(super) struct Meeting {
     pub(super) came: AtomicU32,
@@ -50,7 +50,7 @@ pub(super) struct Meeting {
     pub(super) early: AtomicU32,
 }
 
-// All four lines, once each.
+// All four lines, each once.
 pub(super) const ALL: u32 = 0x1111;
 
 // The digit of a worker's line.
@@ -72,7 +72,7 @@ impl Meeting {
         }
     }
 
-    // Whether the other worker comes in time, which has other digits.
+    // Waits for the other worker, which has other digits, and says whether it came in time.
     fn meets(&self, worker: u8) -> bool {
         let others = if worker == 0 { 0xFF00 } else { 0x00FF };
         comes(&self.came, others)
@@ -96,8 +96,8 @@ impl Gate for Meeting {
     }
 }
 
-// Where two workers wait before their first lines until a monitor has looked, and before their last ones until it has seen
-// enough: what it has shown of both, how often a worker waited in vain, and how many have ended.
+// A gate at which two workers wait: before their first lines until a monitor has looked, and before their last until it has
+// seen enough. It notes what the monitor has shown, how often a worker waited in vain, and how many workers ended.
 #[derive(Drop)]
 struct Watch {
     last: u32,
@@ -106,13 +106,13 @@ struct Watch {
     ended: AtomicU32,
 }
 
-// What a monitor shows.
+// The monitor has looked, or has seen enough.
 const LOOKED: u32 = 1;
 
 const ENOUGH: u32 = 2;
 
 impl Watch {
-    // With this number of the last line of each worker.
+    // A gate for workers whose last lines have this number.
     fn new(last: u32) -> Watch {
         Watch {
             last,
@@ -122,7 +122,7 @@ impl Watch {
         }
     }
 
-    // The monitor has looked, and then it has seen enough.
+    // Notes that the monitor has looked, or has seen enough.
     fn show(&self, what: u32) {
         self.shown.fetch_or(what, Ordering::SeqCst);
     }
@@ -149,7 +149,7 @@ impl Gate for Watch {
     }
 }
 
-// A line of a worker: an `allocb` into a register where its number is even, and else a `freemsg` of it.
+// A worker's line: `allocb` into a register if its number is even, otherwise `freemsg` of it.
 pub(super) fn line(reg: Reg, number: u32) -> Line {
     let call = if number % 2 == 0 {
         Call::Allocb(reg, 16)
@@ -159,7 +159,7 @@ pub(super) fn line(reg: Reg, number: u32) -> Line {
     Line { number, call }
 }
 
-// So many rounds of a worker, each an `allocb` and then a `freemsg` of a register.
+// This number of rounds of a worker, each an `allocb` and then a `freemsg` of a register.
 fn lines(alloc: Global, reg: Reg, rounds: u32) -> Result<Lines, AllocError> {
     let mut list = Vec::new(alloc);
     for number in 0..rounds.wrapping_mul(2) {
@@ -168,7 +168,7 @@ fn lines(alloc: Global, reg: Reg, rounds: u32) -> Result<Lines, AllocError> {
     Ok(Lines::of(list))
 }
 
-// Such lines of so many workers.
+// Such rounds for each of these workers.
 fn parts(alloc: Global, reg: Reg, workers: usize, rounds: u32) -> Result<Parts, AllocError> {
     let mut list = Vec::new(alloc);
     for _ in 0..workers {
@@ -177,19 +177,19 @@ fn parts(alloc: Global, reg: Reg, workers: usize, rounds: u32) -> Result<Parts, 
     Ok(Parts::of(list))
 }
 
-// Such lines of register a.
+// Such rounds on register a.
 pub(super) fn parts_on_a(rt: &impl Abort, alloc: Global, workers: usize, rounds: u32) -> Parts {
     parts(alloc, reg(rt, b'a'), workers, rounds).expect(rt, "memory")
 }
 
-// All lines of a worker were answered as done.
+// All lines of a worker have the reply `Done`.
 fn assert_done(rt: &impl Abort, replies: &Replies, count: usize) {
     let replies = replies.items();
     assert_eq!(rt; replies.len(), count);
     assert!(rt; replies.iter().all(|reply| *reply == Reply::Done));
 }
 
-// The desks of workers, each of which has all its lines answered as done.
+// The desks of workers whose lines all have the reply `Done`.
 fn all_done<N: Name>(rt: &impl Abort, outcome: Outcome<N>, count: usize) -> Desks<N> {
     let Outcome {
         desks,
@@ -203,7 +203,7 @@ fn all_done<N: Name>(rt: &impl Abort, outcome: Outcome<N>, count: usize) -> Desk
     desks
 }
 
-// What workers leave that have these parts served, each on the desk of its place.
+// Runs workers, each on the desk at its place, and returns the outcome.
 pub(super) fn ran<N: Name + Send + Sync, R: Threads + Wait + Abort + Sync, G: Gate>(
     rt: &R,
     alloc: Global,
@@ -222,18 +222,18 @@ pub(super) fn ran<N: Name + Send + Sync, R: Threads + Wait + Abort + Sync, G: Ga
     }
 }
 
-// A pool of four message blocks over two data blocks of 16 bytes.
+// Opens a pool of four message blocks and two data blocks of 16 bytes.
 pub(super) fn four(rt: &impl Abort, alloc: Global) -> Pool {
     opened(rt, alloc, 1, 4, &[(16, 2)])
 }
 
-// Such a pool, which so many desks share, with this trace.
+// Starts sharing such a pool, with this number of desks and this trace.
 pub(super) fn small(rt: &impl Abort, alloc: Global, desks: u8, trace: Trace) -> Start {
     start_of(rt, alloc, four(rt, alloc), setup(desks, trace, 0))
 }
 
-// The trace once two workers at most have so many rounds served at the small pool. One desk more is a monitor's, who looks once
-// they have ended.
+// The trace after at most two workers had these rounds served at the small pool. One more desk is a monitor's, which looks
+// after they ended.
 fn work<N: Name + Send + Sync, R: Threads + Wait + Abort + Sync, G: Gate>(
     rt: &R,
     alloc: Global,
@@ -250,8 +250,7 @@ fn work<N: Name + Send + Sync, R: Threads + Wait + Abort + Sync, G: Gate>(
     after_work(rt, shared, monitor, outcome, rounds)
 }
 
-// The trace once all workers had so many rounds served. The monitor is the desk without which none are gathered, and then sees what
-// they left.
+// The trace after all workers ended. No desks can be gathered without the monitor's, which then sees what the workers left.
 fn after_work<N: Name, R: Wait + Abort>(
     rt: &R,
     shared: Shared<N>,
@@ -297,7 +296,7 @@ fn two_workers_and_a_monitor(rt: HostRuntime) {
     watched::<Brand, _>(&rt, rt.alloc(), three);
 }
 
-// The entries of a worker are those of so many lines, in order, each done.
+// The entries of a worker are those of this number of lines, in order, each with the reply `Done`.
 pub(super) fn assert_lines(rt: &impl Abort, entries: &[Entry], worker: u8, count: u32) {
     let mut next: u32 = 0;
     for entry in entries {
@@ -309,8 +308,7 @@ pub(super) fn assert_lines(rt: &impl Abort, entries: &[Entry], worker: u8, count
     assert_eq!(rt; next, count);
 }
 
-// The trace has so many lines of each of two workers and the monitor's one call, and done again by a pool like theirs its calls have
-// the same replies.
+// The trace has these lines of each of two workers and the monitor's one call. A pool like theirs gives the same replies to it.
 fn assert_small_trace(rt: &impl Abort, alloc: Global, entries: &[Entry], lines: u32) {
     assert_lines(rt, entries, 0, lines);
     assert_lines(rt, entries, 1, lines);
@@ -321,8 +319,8 @@ fn assert_small_trace(rt: &impl Abort, alloc: Global, entries: &[Entry], lines: 
     assert_replayed(rt, four(rt, alloc), entries, 4);
 }
 
-// Two workers of 500 rounds each, while a monitor on a thread of its own reads what they leave, until they have ended. A
-// closure owns only what may be dropped, so the workers' desks are lent to it.
+// Two workers of 500 rounds each, while a monitor on its own thread looks until they have ended. A closure owns only values
+// that may be dropped, so it borrows the workers' desks.
 fn watched<N: Name + Send + Sync, R: Threads + Wait + Abort + Sync>(
     rt: &R,
     alloc: Global,
@@ -349,13 +347,13 @@ fn watched<N: Name + Send + Sync, R: Threads + Wait + Abort + Sync>(
     assert_small_trace(rt, alloc, trace.items(), 1000);
 }
 
-// How many message blocks are counted.
+// The number of message blocks that a census counts.
 fn blocks(census: Census) -> u64 {
     u64::from(census.free) + u64::from(census.queued) + u64::from(census.held)
 }
 
-// Looks until the workers have ended, and tells whether they did in time. Each time four blocks are counted, at a stamp that is none
-// before the last. The workers don't end before so many looks, of which one finds another stamp than the first.
+// Looks until the workers have ended, and says whether they did so in time. Each look counts four blocks, at a stamp not below
+// the one before. The workers wait for enough looks, of which one must see another stamp than the first.
 fn monitored<N: Name>(
     rt: &impl Abort,
     shared: &Shared<N>,
@@ -392,13 +390,13 @@ fn a_full_trace(rt: HostRuntime) {
     assert_replayed(&rt, eight(&rt, rt.alloc(), 7), trace.items(), 8);
 }
 
-// One of the two is done. The other is refused for a full trace.
+// One of the two workers is done, and the other is refused as `TraceFull`.
 fn assert_one_refused(rt: &impl Abort, ends: &[End]) {
     let refused = End::Refused(Refusal::TraceFull);
     assert!(rt; ends == [End::Done, refused].as_slice() || ends == [refused, End::Done].as_slice());
 }
 
-// Of two workers of two lines each one is done. The other is refused at its second line, and holds a message then.
+// Of two workers of two lines each one is done. The other is refused at its second line, and then holds a message.
 fn full<N: Name + Send + Sync, R: Threads + Wait + Abort + Sync>(
     rt: &R,
     alloc: Global,
@@ -429,7 +427,8 @@ fn replies_in_order(rt: HostRuntime) {
     unlike::<Brand, _>(&rt, rt.alloc(), late, 3, MOST_STAMP, end);
 }
 
-// One worker has four lines with replies of four sorts, of which so many are served, up to this stamp, and ends so.
+// One worker has four lines with four kinds of replies. This number of them is served, up to this stamp, and the worker ends
+// so.
 fn unlike<N: Name + Send + Sync, R: Threads + Wait + Abort + Sync>(
     rt: &R,
     alloc: Global,
@@ -453,7 +452,7 @@ fn unlike<N: Name + Send + Sync, R: Threads + Wait + Abort + Sync>(
     assert_census(rt, &pool, (8, 0, 0));
 }
 
-// One worker's lines, with replies of four sorts.
+// The lines of one worker, with four kinds of replies.
 pub(super) fn one_part(alloc: Global, reg: Reg) -> Result<Parts, AllocError> {
     let calls = [
         Call::Allocb(reg, 3),
@@ -470,7 +469,7 @@ pub(super) fn one_part(alloc: Global, reg: Reg) -> Result<Parts, AllocError> {
     Ok(Parts::of(list))
 }
 
-// The one worker has the first so many of these replies.
+// The one worker has the first `count` of these replies.
 fn assert_unlike(rt: &impl Abort, replies: &[Replies], count: usize) {
     let wanted = [
         Reply::Done,

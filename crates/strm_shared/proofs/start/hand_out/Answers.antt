@@ -20,14 +20,14 @@ pub split_off-requires-clause-left_backed : goal.split_off-requires-clause-left_
 split_off-requires-clause-left_backed g c = λ _. sym c.loop-number.invariant.amount
 
 pub invariant_of-push : goal.invariant_of-push
-invariant_of-push g c = (
-  record {
+invariant_of-push g c = record {
+  desk = record {
     below = omega (arith, c.loop-number-test.true, c.requires.below);
     carry = subst (CarryId g.N.Name.opened.arena.id) (sym c.new.ensures) (carry_none g.N.Name.opened.arena.id most_registers);
-  },
-  record { one = c.split_off.ensures.parts; counted = c.split_off.ensures.amount ∙ sym (ap blocks_held c.new.ensures) },
-  new_seated _ (pair_at g.N.Name.first g.N.Name.opened) _ _ _ _ _ c.requires.blocks c.requires.few_blocks c.requires.first (ap entries_of c.new.ensures) (c.seat_desk.ensures _ c.loop-number.invariant.lock).1,
-)
+  };
+  share = record { one = c.split_off.ensures.parts; counted = c.split_off.ensures.amount ∙ sym (ap blocks_held c.new.ensures) };
+  seat = new_seated _ (pair_at g.N.Name.first g.N.Name.opened) _ _ _ _ _ c.requires.blocks c.requires.few_blocks c.requires.first (ap entries_of c.new.ensures) (c.seat_desk.ensures _ c.loop-number.invariant.lock).1;
+}
 
 pub loop-number-preserved : goal.loop-number-preserved
 loop-number-preserved g c =

@@ -17,7 +17,7 @@ use Rattle.strm_shared.proofs.book.Book.show.Goals.{After-show_desk-seat}
 -- both seats, once the desk has seen the pair
 looked : (g : given.Over) (c : After-show_desk-seat g)
     → IsShownBy g.N.Name.board (pair_at g.N.Name.first g.N.Name.opened) (history_at c.self.inside.seat) (known_in c.desk.inside.seat) c.show_desk-seat.result.0 c.show_desk-seat.new.lock c.show_desk-seat.result.1
-looked g c = c.show_desk-seat.ensures (history_at c.self.inside.seat) (known_in c.desk.inside.seat) c.self.invariant.2.here (seat_is (sym c.take.ensures.value ∙ c.in-Some.is) c.desk.invariant.2)
+looked g c = c.show_desk-seat.ensures (history_at c.self.inside.seat) (known_in c.desk.inside.seat) c.self.invariant.seat.here (seat_is (sym c.take.ensures.value ∙ c.in-Some.is) c.desk.invariant.seat)
 
 -- what contracts see of the book is as it was
 same_book : (g : given.Over) (c : After-show_desk-seat g)
@@ -31,26 +31,26 @@ desk_shown_it g c = ap (λ (k : Known). desk_value c.desk.inside.number c.desk.i
 
 pub invariant_of-self : goal.invariant_of-self
 invariant_of-self g c =
-    let was = c.self.invariant.2 in
+    let was = c.self.invariant.seat in
     let at = (goal.at.invariant_of-self g c).After-show_desk-seat in
-    let same = sym (same_book g at) in (
-      subst (IsBookOf g.N.Name.opened.arena.id g.N.Name.desks g.N.Name.first) same c.self.invariant.0,
-      c.self.invariant.1,
-      kept _ _ _ _ _ _ c.show_desk-seat.new.lock (looked g at).here was.lawful was.last was.desks,
-      subst (λ (b : BookValue). AreTold g.N.Name.opened g.N.Name.desks g.N.Name.first b.stamp b.entries b.pool b.tables b.pairs) same c.self.invariant.3,
-      subst (λ (b : BookValue). IsTraceOf g.N.Name.kept b.entries b.trace) same c.self.invariant.4,
-    )
+    let same = sym (same_book g at) in record {
+      book = subst (IsBookOf g.N.Name.opened.arena.id g.N.Name.desks g.N.Name.first) same c.self.invariant.book;
+      ledger = c.self.invariant.ledger;
+      seat = kept _ _ _ _ _ _ c.show_desk-seat.new.lock (looked g at).here was.lawful was.last was.desks;
+      told = subst (λ (b : BookValue). AreTold g.N.Name.opened g.N.Name.desks g.N.Name.first b.stamp b.entries b.pool b.tables b.pairs) same c.self.invariant.told;
+      trace = subst (λ (b : BookValue). IsTraceOf g.N.Name.kept b.entries b.trace) same c.self.invariant.trace;
+    }
 
 pub invariant_of-desk : goal.invariant_of-desk
 invariant_of-desk g c =
     let at = (goal.at.invariant_of-desk g c).After-show_desk-seat in
     let now = looked g at in
     let p = c.show_desk-seat.result.0 in
-    let d = with_pair p (known_in c.desk.inside.seat) in (
-      record { below = c.desk.invariant.0.below; carry = c.desk.invariant.0.carry },
-      c.desk.invariant.1,
-      seated_shown p c.show_desk-seat.result.1 c.desk.invariant.2 now.there (desk_shown (pair_at g.N.Name.first g.N.Name.opened) (history_at c.self.inside.seat) d p now.lawful now.last now.known),
-    )
+    let d = with_pair p (known_in c.desk.inside.seat) in record {
+      desk = record { below = c.desk.invariant.desk.below; carry = c.desk.invariant.desk.carry };
+      share = c.desk.invariant.share;
+      seat = seated_shown p c.show_desk-seat.result.1 c.desk.invariant.seat now.there (desk_shown (pair_at g.N.Name.first g.N.Name.opened) (history_at c.self.inside.seat) d p now.lawful now.last now.known);
+    }
 
 pub returns-clause-book : goal.returns-clause-book
 returns-clause-book g c = same_book g (goal.at.returns-clause-book g c).After-show_desk-seat ∙ c.self.view_is
@@ -58,5 +58,5 @@ returns-clause-book g c = same_book g (goal.at.returns-clause-book g c).After-sh
 pub returns-clause-desk : goal.returns-clause-desk
 returns-clause-desk g c =
     let at = (goal.at.returns-clause-desk g c).After-show_desk-seat in
-    let last : c.show_desk-seat.result.0 ≡ pair_in c.args.self.now = sym (looked g at).last ∙ c.self.invariant.2.last ∙ ap pair_in c.self.view_is in
+    let last : c.show_desk-seat.result.0 ≡ pair_in c.args.self.now = sym (looked g at).last ∙ c.self.invariant.seat.last ∙ ap pair_in c.self.view_is in
     desk_shown_it g at ∙ (λ i. shown (last i) (c.desk.view_is i))

@@ -22,17 +22,17 @@ use Rattle.strm_shared.proofs.book.Book.turn_into.Goals.{After-census-before, Af
 
 -- where the desk's seat is, which joins the lock's
 there : (g : given.Over) (c : After-census-before g) → IsAt g.N.Name.board (known_in c.desk.inside.seat) c.in-Some-take.seat
-there g c = seat_is (sym c.take.ensures.value ∙ c.in-Some-take.is) c.desk.invariant.2
+there g c = seat_is (sym c.take.ensures.value ∙ c.in-Some-take.is) c.desk.invariant.seat
 
 -- what the desk knows is of the lock's history, which its seat has joined
 joined : (g : given.Over) (c : After-census-before g) → IsOf g.N.Name.first (history_at c.self.inside.seat) (known_in c.desk.inside.seat)
-joined g c = (c.admit.ensures (history_at c.self.inside.seat) (known_in c.desk.inside.seat) c.self.invariant.2.here (there g c)).1
+joined g c = (c.admit.ensures (history_at c.self.inside.seat) (known_in c.desk.inside.seat) c.self.invariant.seat.here (there g c)).1
 
 -- so the book knows the desk
 is_known : (g : given.Over) (c : After-census-before g)
     → IsKnown g.N.Name.opened.arena.id g.N.Name.desks g.N.Name.first (book_with (history_at c.self.inside.seat) c.self.inside.pool c.self.inside.stamp c.self.inside.trace)
     (desk_value c.desk.inside.number c.desk.inside.regs (known_in c.desk.inside.seat).pairs (known_in c.desk.inside.seat).served)
-is_known g c = record { book = c.self.invariant.0; desk = c.desk.invariant.0; table = table_known c.self.invariant.2 c.desk.invariant.2 (joined g c) }
+is_known g c = record { book = c.self.invariant.book; desk = c.desk.invariant.desk; table = table_known c.self.invariant.seat c.desk.invariant.seat (joined g c) }
 
 -- calls are still served
 unended : (g : given.Over) (c : After-census-before g) → end_of (book_with (history_at c.self.inside.seat) c.self.inside.pool c.self.inside.stamp c.self.inside.trace) ≡ None
@@ -49,7 +49,7 @@ count_held-requires-clause-enough g c =
     let moved = held_moved (is_known g (goal.at.count_held-requires-clause-enough g c).After-census-before) c.apply_into.ensures in
     let before = ap (λ (census : Census). census.held) c.census-before.ensures in
     let after = ap (λ (census : Census). census.held) c.census-census.ensures in
-    omega (arith, moved, before, after, c.desk.invariant.1.counted)
+    omega (arith, moved, before, after, c.desk.invariant.share.counted)
 
 -- ---- what the call left
 
@@ -57,17 +57,17 @@ pub enter-seat-requires-clause-lock : goal.enter-seat-requires-clause-lock
 enter-seat-requires-clause-lock g c =
     let h = history_at c.self.inside.seat in
     let d = known_in c.desk.inside.seat in
-    let kept = c.self.invariant.2 in
+    let kept = c.self.invariant.seat in
     let joined = c.admit.ensures h d kept.here (there g (goal.at.enter-seat-requires-clause-lock g c).After-census-before) in
-    let whole = c.lawful.ensures.whole ∙ c.apply_into.ensures.size ∙ c.self.invariant.1.sized in
-    (h, d, joined.0, kept.lawful, next kept c.desk.invariant.2 joined.1 c.apply_into.new.self whole c.census-census.result c.census-census.ensures, sym c.desk.invariant.2.number)
+    let whole = c.lawful.ensures.whole ∙ c.apply_into.ensures.size ∙ c.self.invariant.ledger.sized in
+    (h, d, joined.0, kept.lawful, next kept c.desk.invariant.seat joined.1 c.apply_into.new.self whole c.census-census.result c.census-census.ensures, sym c.desk.invariant.seat.number)
 
 pub overflow_add-desk : goal.overflow_add-desk
 overflow_add-desk g c =
     let h = history_at c.self.inside.seat in
     let d = known_in c.desk.inside.seat in
-    let joined = c.admit.ensures h d c.self.invariant.2.here (there g (goal.at.overflow_add-desk g c).After-census-before) in
-    omega (arith, few_calls c.self.invariant.2 c.desk.invariant.2 joined.1, c.self.invariant.0.unspent)
+    let joined = c.admit.ensures h d c.self.invariant.seat.here (there g (goal.at.overflow_add-desk g c).After-census-before) in
+    omega (arith, few_calls c.self.invariant.seat c.desk.invariant.seat joined.1, c.self.invariant.book.unspent)
 
 -- book, desk and their seats, once the call is entered
 left : (g : given.Over) (c : After-enter-seat g)
@@ -84,14 +84,14 @@ left : (g : given.Over) (c : After-enter-seat g)
 left g c known at going =
     let h = history_at c.self.inside.seat in
     let d = known_in c.desk.inside.seat in
-    let kept = c.self.invariant.2 in
+    let kept = c.self.invariant.seat in
     let joined = c.admit.ensures h d kept.here at in
-    let whole = c.lawful.ensures.whole ∙ c.apply_into.ensures.size ∙ c.self.invariant.1.sized in
+    let whole = c.lawful.ensures.whole ∙ c.apply_into.ensures.size ∙ c.self.invariant.ledger.sized in
     let now =
-    entered kept c.desk.invariant.2 joined.1 c.apply_into.new.self whole c.census-census.result c.census-census.ensures (entry_of c.desk.inside.number c.args.line c.args.call.now c.apply_into.new.reply)
+    entered kept c.desk.invariant.seat joined.1 c.apply_into.new.self whole c.census-census.result c.census-census.ensures (entry_of c.desk.inside.number c.args.line c.args.call.now c.apply_into.new.reply)
     (entries_of c.apply_into.new.regs) c.enter-seat.new.lock c.enter-seat.result refl (c.enter-seat.ensures h d joined.0) in (
       turns known c.apply_into.ensures c.args.line (history_at c.enter-seat.new.lock).tables (history_at c.enter-seat.new.lock).pairs (known_at c.enter-seat.result).pairs (history_at c.enter-seat.new.lock).entries (known_at c.enter-seat.result).served c.keep.new.self now.tables
-          going now.listed now.saw joined.1.pairs (later kept c.desk.invariant.2 joined.1 c.apply_into.new.self whole) now.entered now.served c.keep.ensures.entries,
+          going now.listed now.saw joined.1.pairs (later kept c.desk.invariant.seat joined.1 c.apply_into.new.self whole) now.entered now.served c.keep.ensures.entries,
       now,
     )
 
@@ -100,26 +100,26 @@ invariant_of-self g c =
     let at = goal.at.invariant_of-self g c in
     let now = left g at.After-enter-seat (is_known g at.After-census-before) (there g at.After-census-before) (unended g at.After-census-before) in
     let before = ap (λ (census : Census). census.held) c.census-before.ensures in
-    let after = ap (λ (census : Census). census.held) c.census-census.ensures in (
-      now.0.book,
-      record { some = c.self.invariant.1.some; counted = omega (arith, c.count_held.ensures.total, c.self.invariant.1.counted, before, after); sized = now.0.sized ∙ c.self.invariant.1.sized },
-      now.1.kept,
-      told_next c.self.invariant.3 now.0.served c.desk.invariant.0.below,
-      subst (λ (es : List Entry). IsTraceOf g.N.Name.kept es c.keep.new.self) (sym now.1.entered)
+    let after = ap (λ (census : Census). census.held) c.census-census.ensures in record {
+      book = now.0.book;
+      ledger = record { some = c.self.invariant.ledger.some; counted = omega (arith, c.count_held.ensures.total, c.self.invariant.ledger.counted, before, after); sized = now.0.sized ∙ c.self.invariant.ledger.sized };
+      seat = now.1.kept;
+      told = told_next c.self.invariant.told now.0.served c.desk.invariant.desk.below;
+      trace = subst (λ (es : List Entry). IsTraceOf g.N.Name.kept es c.keep.new.self) (sym now.1.entered)
           (trace_next (history_at c.self.inside.seat).entries (entry_of c.desk.inside.number c.args.line c.args.call.now c.apply_into.new.reply) c.self.inside.trace c.keep.new.self g.N.Name.kept
-          c.self.invariant.4 (not_full g at.After-census-before) c.keep.ensures.most c.keep.ensures.entries),
-    )
+          c.self.invariant.trace (not_full g at.After-census-before) c.keep.ensures.most c.keep.ensures.entries);
+    }
 
 pub invariant_of-desk : goal.invariant_of-desk
 invariant_of-desk g c =
     let at = goal.at.invariant_of-desk g c in
     let now = left g at.After-enter-seat (is_known g at.After-census-before) (there g at.After-census-before) (unended g at.After-census-before) in
     let before = ap (λ (census : Census). census.held) c.census-before.ensures in
-    let after = ap (λ (census : Census). census.held) c.census-census.ensures in (
-      now.0.desk,
-      record { one = c.count_held.ensures.parts ∙ c.desk.invariant.1.one; counted = omega (arith, c.count_held.ensures.amount, c.desk.invariant.1.counted, now.0.moved, before, after) },
-      now.1.seated,
-    )
+    let after = ap (λ (census : Census). census.held) c.census-census.ensures in record {
+      desk = now.0.desk;
+      share = record { one = c.count_held.ensures.parts ∙ c.desk.invariant.share.one; counted = omega (arith, c.count_held.ensures.amount, c.desk.invariant.share.counted, now.0.moved, before, after) };
+      seat = now.1.seated;
+    }
 
 pub returns-clause-answer : goal.returns-clause-answer
 returns-clause-answer g c =

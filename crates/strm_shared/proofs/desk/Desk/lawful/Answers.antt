@@ -11,9 +11,9 @@ use Rattle.strm_shared.proofs.desk.Desk.lawful.Goals as goal
 
 pub returns-clause-seen : goal.returns-clause-seen
 returns-clause-seen g c =
-    subst (λ (d : DeskValue). AreSeen (length g.N.Name.opened.arena.held) d.pairs) c.self.view_is (seen_lawful _ _ _ _ _ _ _ _ _ c.self.invariant.2)
+    subst (λ (d : DeskValue). AreSeen (length g.N.Name.opened.arena.held) d.pairs) c.self.view_is (seen_lawful _ _ _ _ _ _ _ _ _ c.self.invariant.seat)
 
 pub returns-clause-carried : goal.returns-clause-carried
 returns-clause-carried g c =
-    let shows = c.self.invariant.2.shows in
+    let shows = c.self.invariant.seat.shows in
     subst (λ (d : DeskValue). All (λ (s : ℕ × Entry). HasStamp d.pairs s.0) d.served) c.self.view_is (All-head (IsOf g.N.Name.first shows.history) (known_in c.self.inside.seat) [] shows.view.desks).carried

@@ -1,11 +1,10 @@
-use Rattle.std.proofs.Common.{rules, ◌≡◌, ℕ, ◌+◌, ◌≤◌, List, [], ◌∷◌, ◌++◌, map, get_or, ap, sym, subst, ◌∙◌, append_assoc, arith}
+use Rattle.std.proofs.Common.{rules, ◌≡◌, ℕ, ◌≤◌, List, [], ◌∷◌, ◌++◌, map, get_or, ap, sym, subst, ◌∙◌, append_assoc, arith}
 use Rattle.std.specs.Prelude.{All, Contains}
 use Rattle.std.proofs.lemmas.List.{map_push}
 use Rattle.std.proofs.lemmas.List.Elements.{All-head, All-push, All-tail}
 use Rattle.strm_links.specs.Counting.{times}
 use Rattle.strm_links.proofs.lists.Counting.{times-cons}
 use Rattle.strm_shared.specs.declared.views.Known.{Known}
-use Rattle.strm_shared.specs.Chronicle.{served_from}
 use Rattle.strm_shared.specs.Desks.{DeskValue, desk_value, shown}
 use Rattle.strm_shared.specs.Pairs.{pair_at}
 use Rattle.strm_shared.specs.Seats.{IsOf, with_pair}
@@ -19,7 +18,7 @@ leave-seat-requires g t c =
     let d = known_in i.seat in
     let p = c.meet-pair.result in
     let l = c.requires.lock in
-    let here = seat_is c.in-Some.is c.number.invariant.2 in
+    let here = seat_is c.in-Some.is c.number.invariant.seat in
     (l.0, with_pair p d, map (with_pair p) l.1, (c.meet-pair.ensures.guests l.0 (d ∷ l.1) (c.join.ensures.joined l.0 l.1 d l.2 here)).here)
 
 pub invariant_of-push : goal.invariant_of-push
@@ -29,21 +28,21 @@ invariant_of-push g t c =
     let d = known_in i.seat in
     let p = c.meet-pair.result in
     let l = c.requires.lock in
-    let here = seat_is c.in-Some.is c.number.invariant.2 in
+    let here = seat_is c.in-Some.is c.number.invariant.seat in
     let m = c.meet-pair.ensures.guests l.0 (d ∷ l.1) (c.join.ensures.joined l.0 l.1 d l.2 here) in
     let of = All-head (IsOf o.0 l.0) (with_pair p d) (map (with_pair p) l.1) m.guests in
-    let away = (c.leave-seat.ensures l.0 (with_pair p d) (map (with_pair p) l.1) m.here).1 in (
-      record { below = c.number.invariant.0.below; carry = c.number.invariant.0.carry },
-      c.number.invariant.1,
-      seated_shown p c.leave-seat.result c.number.invariant.2 away (desk_shown o l.0 (with_pair p d) p m.lawful m.last of),
-    )
+    let away = (c.leave-seat.ensures l.0 (with_pair p d) (map (with_pair p) l.1) m.here).1 in record {
+      desk = record { below = c.number.invariant.desk.below; carry = c.number.invariant.desk.carry };
+      share = c.number.invariant.share;
+      seat = seated_shown p c.leave-seat.result c.number.invariant.seat away (desk_shown o l.0 (with_pair p d) p m.lawful m.last of);
+    }
 
 pub returns-clause-guests : goal.returns-clause-guests
 returns-clause-guests g t c h gs lock =
     let i = c.number.inside in
     let d = known_in i.seat in
     let p = c.meet-pair.result in
-    let here = seat_is c.in-Some.is c.number.invariant.2 in
+    let here = seat_is c.in-Some.is c.number.invariant.seat in
     let m = c.meet-pair.ensures.guests h (d ∷ gs) (c.join.ensures.joined h gs d lock here) in
     record {
       here = (c.leave-seat.ensures h (with_pair p d) (map (with_pair p) gs) m.here).0;
@@ -59,7 +58,7 @@ returns-clause-shown g t c =
     let d = known_in i.seat in
     let p = c.meet-pair.result in
     let l = c.requires.lock in
-    let here = seat_is c.in-Some.is c.number.invariant.2 in
+    let here = seat_is c.in-Some.is c.number.invariant.seat in
     let m = c.meet-pair.ensures.guests l.0 (d ∷ l.1) (c.join.ensures.joined l.0 l.1 d l.2 here) in
     let away = (c.leave-seat.ensures l.0 (with_pair p d) (map (with_pair p) l.1) m.here).1 in
     let desk : desk_value i.number i.regs (known_at c.leave-seat.result).pairs (known_at c.leave-seat.result).served ≡ shown p c.take_last.result =
@@ -75,7 +74,7 @@ returns-clause-met g t c h gs lock =
     let i = c.number.inside in
     let d = known_in i.seat in
     let p = c.meet-pair.result in
-    let here = seat_is c.in-Some.is c.number.invariant.2 in
+    let here = seat_is c.in-Some.is c.number.invariant.seat in
     let there = c.join.ensures.joined h gs d lock here in
     let m = c.meet-pair.ensures.guests h (d ∷ gs) there in
     let of = All-head (IsOf g.N.Name.first h) (with_pair p d) (map (with_pair p) gs) m.guests in
@@ -83,12 +82,10 @@ returns-clause-met g t c h gs lock =
     let e : DeskValue = desk_value i.number i.regs (known_at c.leave-seat.result).pairs (known_at c.leave-seat.result).served in
     let met : IsMet g.N.Name.opened.arena.id g.N.Name.desks g.N.Name.first h e =
     record {
-      desk = record { below = c.number.invariant.0.below; carry = c.number.invariant.0.carry };
+      desk = record { below = c.number.invariant.desk.below; carry = c.number.invariant.desk.carry };
       pairs = subst (λ (k : Known). All (Contains h.pairs) k.pairs) (sym (known_is g.N.Name.board (with_pair p d) c.leave-seat.result away)) of.pairs;
-      served =
-          ap (λ (k : Known). k.served) (known_is g.N.Name.board (with_pair p d) c.leave-seat.result away) ∙ of.served
-          ∙ ap (λ (n : ℕ). served_from (g.N.Name.first + 1) n h.entries) c.number.invariant.2.number;
-      table = ap (λ (n : ℕ). get_or h.tables n []) (sym c.number.invariant.2.number) ∙ of.table ∙ c.number.invariant.2.table;
+      served = cc (known_is g.N.Name.board (with_pair p d) c.leave-seat.result away, of.served, c.number.invariant.seat.number);
+      table = ap (λ (n : ℕ). get_or h.tables n []) (sym c.number.invariant.seat.number) ∙ of.table ∙ c.number.invariant.seat.table;
     } in
     subst (All (IsMet g.N.Name.opened.arena.id g.N.Name.desks g.N.Name.first h)) {x = c.meet-pair.new.self ++ e ∷ []} (sym c.push.ensures)
     (All-push (IsMet g.N.Name.opened.arena.id g.N.Name.desks g.N.Name.first h) c.meet-pair.new.self e (c.meet-pair.ensures.met h (d ∷ gs) there) met)
@@ -97,16 +94,13 @@ pub returns-clause-apart : goal.returns-clause-apart
 returns-clause-apart g t c h gs lock n =
     let i = c.number.inside in
     let d = known_in i.seat in
-    let here = seat_is c.in-Some.is c.number.invariant.2 in
+    let here = seat_is c.in-Some.is c.number.invariant.seat in
     let there = c.join.ensures.joined h gs d lock here in
     let e : DeskValue = desk_value i.number i.regs (known_at c.leave-seat.result).pairs (known_at c.leave-seat.result).served in
     let before : List ℕ = map (λ (x : DeskValue). x.number) c.meet-pair.new.self in
     let guests : List ℕ = map (λ (x : Known). x.number) gs in
     let is : map (λ (x : DeskValue). x.number) c.push.new.self ++ guests ≡ before ++ d.number ∷ guests =
-    ap (λ (ds : List DeskValue). map (λ (x : DeskValue). x.number) ds ++ guests) c.push.ensures
-    ∙ ap (λ (ns : List ℕ). ns ++ guests) (map_push (λ (x : DeskValue). x.number) c.meet-pair.new.self e)
-    ∙ append_assoc before (i.number ∷ []) guests
-    ∙ ap (λ (k : ℕ). before ++ k ∷ guests) (sym c.number.invariant.2.number) in
+    cc (c.push.ensures, map_push (λ (x : DeskValue). x.number) c.meet-pair.new.self e, append_assoc before (i.number ∷ []) guests, c.number.invariant.seat.number) in
     subst (λ (ns : List ℕ). times n ns ≤ 1) (sym is) (c.meet-pair.ensures.apart h (d ∷ gs) there n)
 
 pub returns-then-is_empty-clause-apart : goal.returns-then-is_empty-clause-apart

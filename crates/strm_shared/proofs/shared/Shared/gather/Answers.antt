@@ -1,4 +1,4 @@
-use Rattle.std.proofs.Common.{rules, ◌≡◌, ℕ, ◌+◌, ◌≤◌, List, [], ◌∷◌, ◌∙◌, map, refl, sym, ap, subst, length, append-nil, arith}
+use Rattle.std.proofs.Common.{rules, ◌≡◌, ℕ, ◌≤◌, List, [], ◌∷◌, ◌∙◌, map, refl, sym, ap, subst, length, append-nil, arith}
 use Rattle.std.specs.Prelude.{All, IsPermutation}
 use Rattle.std.specs.List.Sorted.{IsNonDecreasingBy}
 use Rattle.std.proofs.lemmas.List.{length-map}
@@ -20,26 +20,24 @@ use Rattle.strm_shared.proofs.shared.Shared.gather.Goals.{After-meet}
 blocks_at-shown : (p : Pair) (ds : List DeskValue) → blocks_at (map (shown p) ds) ≡ blocks_at ds
 blocks_at-shown p [] = refl
 blocks_at-shown p (d ∷ ds) =
-    sum_by-cons (λ (x : DeskValue). blocks_held x.regs) (shown p d) (map (shown p) ds)
-    ∙ ap (λ n. blocks_held d.regs + n) (blocks_at-shown p ds)
-    ∙ sym (sum_by-cons (λ (x : DeskValue). blocks_held x.regs) d ds)
+    cc (sum_by-cons (λ (x : DeskValue). blocks_held x.regs) (shown p d) (map (shown p) ds), blocks_at-shown p ds, sum_by-cons (λ (x : DeskValue). blocks_held x.regs) d ds)
 
 -- each desk has met the lock's history, whose pool is that of the name
 met : (g : given.Over) (c : After-meet g) → All (IsMet c.pool.inside.pool.arena.id g.N.Name.desks g.N.Name.first (history_at c.pool.inside.seat)) c.meet.new.self
 met g c =
-    subst (λ id. All (IsMet id g.N.Name.desks g.N.Name.first (history_at c.pool.inside.seat)) c.meet.new.self) (sym c.pool.invariant.0.same)
-    (c.meet.ensures.met (history_at c.pool.inside.seat) [] c.pool.invariant.2.here)
+    subst (λ id. All (IsMet id g.N.Name.desks g.N.Name.first (history_at c.pool.inside.seat)) c.meet.new.self) (sym c.pool.invariant.book.same)
+    (c.meet.ensures.met (history_at c.pool.inside.seat) [] c.pool.invariant.seat.here)
 
 pub meet-requires : goal.meet-requires
 meet-requires g c = (
   omega arith,
-  ((history_at c.pool.inside.seat, [], c.pool.invariant.2.here), omega (arith, length_permutation c.audit.new.self c.sort.new.self c.sort.ensures.same, ap length c.audit.ensures.same, c.len.ensures.few)),
+  ((history_at c.pool.inside.seat, [], c.pool.invariant.seat.here), omega (arith, length_permutation c.audit.new.self c.sort.new.self c.sort.ensures.same, ap length c.audit.ensures.same, c.len.ensures.few)),
 )
 
 pub returns-clause-shown : goal.returns-clause-shown
 returns-clause-shown g c =
     let b = c.pool.inside in
-    let kept = c.pool.invariant.2 in
+    let kept = c.pool.invariant.seat in
     let h = history_at b.seat in
     let there = c.meet.ensures.met h [] kept.here in
     let last : c.meet.result ≡ pair_at b.stamp b.pool = sym (c.meet.ensures.guests h [] kept.here).last ∙ kept.last in
@@ -48,8 +46,8 @@ returns-clause-shown g c =
       pairs = h.pairs;
       entries = h.entries;
       tables = h.tables;
-      told = c.pool.invariant.3;
-      counted = told_at c.pool.invariant.3;
+      told = c.pool.invariant.told;
+      counted = told_at c.pool.invariant.told;
       kept = search rules;
       lawful = pairs_lawful kept;
       same =
@@ -67,9 +65,9 @@ pub returns-clause-all : goal.returns-clause-all
 returns-clause-all g c =
     let enough : g.N.Name.desks ≤ length c.args.desks = search rules in
     record {
-      whole = c.lawful.ensures.whole ∙ c.pool.invariant.1.sized;
+      whole = c.lawful.ensures.whole ∙ c.pool.invariant.ledger.sized;
       held =
-          sym c.pool.invariant.1.counted
+          sym c.pool.invariant.ledger.counted
           ∙ c.audit.ensures.all enough
           ∙ ap blocks_at (sym c.audit.ensures.same)
           ∙ sym (sum_by-IsPermutation (λ (d : DeskValue). blocks_held d.regs) c.audit.new.self c.sort.new.self c.sort.ensures.same)
@@ -80,7 +78,7 @@ returns-clause-all g c =
 pub returns-clause-owned : goal.returns-clause-owned
 returns-clause-owned g c =
     let at = (goal.at.returns-clause-owned g c).After-meet in
-    all_owned g.N.Name.desks g.N.Name.first (history_at c.pool.inside.seat) c.pool.inside.pool c.meet.new.self (met g at) c.pool.invariant.0.accounted c.pool.invariant.0.tables
+    all_owned g.N.Name.desks g.N.Name.first (history_at c.pool.inside.seat) c.pool.inside.pool c.meet.new.self (met g at) c.pool.invariant.book.accounted c.pool.invariant.book.tables
 
 -- they are in the order of their numbers, of which none stands twice, and all came
 in_order : (g : given.Over) (c : After-meet g) → IsNonDecreasingBy (λ (d : DeskValue). d.number) c.meet.new.self
@@ -89,15 +87,11 @@ in_order g c = subst (IsNonDecreasingBy (λ (d : DeskValue). d.number)) (sym c.m
 once : (g : given.Over) (c : After-meet g) → (n : ℕ) → times n (map (λ (d : DeskValue). d.number) c.meet.new.self) ≤ 1
 once g c n =
     subst (λ (ns : List ℕ). times n ns ≤ 1) (append-nil (map (λ (d : DeskValue). d.number) c.meet.new.self))
-    (c.meet.ensures.apart (history_at c.pool.inside.seat) [] c.pool.invariant.2.here n)
+    (c.meet.ensures.apart (history_at c.pool.inside.seat) [] c.pool.invariant.seat.here n)
 
 all_came : (g : given.Over) (c : After-meet g) → length c.args.desks ≡ g.N.Name.desks → length c.meet.new.self ≡ g.N.Name.desks
 all_came g c enough =
-    ap length c.meet.ensures.shown
-    ∙ length-map c.sort.new.self (shown c.meet.result)
-    ∙ length_permutation c.audit.new.self c.sort.new.self c.sort.ensures.same
-    ∙ ap length c.audit.ensures.same
-    ∙ enough
+    cc (c.meet.ensures.shown, length-map c.sort.new.self (shown c.meet.result), length_permutation c.audit.new.self c.sort.new.self c.sort.ensures.same, c.audit.ensures.same, enough)
 
 pub returns-clause-numbered : goal.returns-clause-numbered
 returns-clause-numbered g c =
@@ -110,4 +104,4 @@ pub returns-clause-accounted : goal.returns-clause-accounted
 returns-clause-accounted g c =
     let at = (goal.at.returns-clause-accounted g c).After-meet in
     let enough : length c.args.desks ≡ g.N.Name.desks = search rules in
-    all_accounted g.N.Name.desks g.N.Name.first (history_at c.pool.inside.seat) c.pool.inside.pool c.meet.new.self (met g at) c.pool.invariant.0.accounted c.pool.invariant.0.tables (in_order g at) (once g at) (all_came g at enough)
+    all_accounted g.N.Name.desks g.N.Name.first (history_at c.pool.inside.seat) c.pool.inside.pool c.meet.new.self (met g at) c.pool.invariant.book.accounted c.pool.invariant.book.tables (in_order g at) (once g at) (all_came g at enough)

@@ -23,18 +23,18 @@ invariant_of-result c =
     let bounds = good_setup c.args.setup (sym c.is_bad_shared.ensures ∙ c.if-is_bad_shared.false) in
     let about : Pair = (c.args.setup.first_stamp, c.census.result) in
     let same : about ≡ pair_at c.args.setup.first_stamp c.args.pool = λ i. (c.args.setup.first_stamp, c.census.ensures i) in
-    let made = c.in-Ok-of_words.ensures in (
-      record {
+    let made = c.in-Ok-of_words.ensures in record {
+      ready = record {
         some = bounds.0;
         few = bounds.1;
         unspent = bounds.2;
         idle = c.requires;
         blank = search rules;
         shared = search rules;
-      },
-      record {
+      };
+      table = record {
         one_word = made.0;
         opened = made.5 ∙ same;
         here = (made.2, made.4 ∙ ap (λ (x : Pair). let m : Mine = (first_view x, []) in m) same);
-      },
-    )
+      };
+    }
