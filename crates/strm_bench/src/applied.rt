@@ -1,4 +1,4 @@
-//! Rounds of calls on registers.
+//! Rounds of calls as data, on registers.
 ghost use Rattle.std.specs.Prelude.{IsTrue};
 ghost use Rattle.strm_pool.specs.PoolValue.{owns};
 ghost use Rattle.strm_pool.specs.Registers.{AreDistinct, table_of};
@@ -7,7 +7,7 @@ use crate::calls::{calls_of, opening_calls};
 use crate::row::Row;
 use strm_pool::{Call, Pool, Regs, Reply};
 
-/// A pool, and registers whose tokens it has.
+/// A pool, and registers; the pool has their tokens.
 pub(crate) struct Applied {
     pool: Pool,
     regs: Regs,
@@ -15,13 +15,13 @@ pub(crate) struct Applied {
     ghost distinct: { AreDistinct (table_of regs) },
 }
 
-/// Whether a call was done, by its reply.
+/// Says by its reply whether a call was done.
 pub(crate) fn is_done(reply: &Reply) -> bool {
     !matches!(reply, Reply::Refused(_) | Reply::Empty | Reply::Taken)
 }
 
 impl Applied {
-    // With registers that hold nothing.
+    // A pool with empty registers.
     fn of(pool: Pool) -> Applied {
         Applied {
             pool,
@@ -29,7 +29,7 @@ impl Applied {
         }
     }
 
-    // Applies calls, so often, each reply into the place of the one before it, and tells how many were done.
+    // Applies the calls this number of times, all with one `Reply`, and returns how many were done.
     fn apply_all(&mut self, calls: &[Call], times: u64) -> u64 {
         let mut told = 0u64;
         let mut reply = Reply::Done;
@@ -42,14 +42,14 @@ impl Applied {
         told
     }
 
-    // Frees what the registers hold, and gives up the pool.
+    // Frees the messages of the registers, and drops the pool.
     fn end(self) {
         let Applied { mut pool, regs } = self;
         pool.drain(regs);
     }
 }
 
-/// Applies the calls of a row to a pool and registers, so often, and tells how many were done.
+/// Applies the calls of a row this number of times, and returns how many were done.
 pub(crate) fn applied_rounds(pool: Pool, row: Row, times: u64) -> u64 {
     let (Some(opening), Some(calls)) = (opening_calls(), calls_of(row)) else {
         return 0;

@@ -1,4 +1,4 @@
-//! The calls of a round, as data.
+//! The calls of each row's round, as data.
 ghost use Rattle.std.specs.Prelude.{◌≤◌};
 
 use crate::config::CHAIN;
@@ -7,10 +7,10 @@ use crate::row::Row;
 use arrayvec::ArrayVec;
 use strm_pool::{Call, MOST_OCTETS, MsgType, Octets, Reg};
 
-// The most calls of a round.
+// The greatest number of calls in a round.
 const MOST: usize = 4;
 
-/// The calls of a round: the first so many of these.
+/// The calls of a round: the first `count` of an array.
 #[derive(Drop)]
 pub(crate) struct Calls {
     list: [Call; MOST],
@@ -18,7 +18,7 @@ pub(crate) struct Calls {
     ghost few: { count ≤ 4 },
 }
 
-/// How many calls are made first.
+/// The number of calls before the rounds.
 pub(crate) const OPENING: usize = 14;
 
 // The bytes of a block.
@@ -27,7 +27,7 @@ fn bytes() -> Octets {
 }
 
 impl Calls {
-    /// The calls, in order.
+    /// Returns the calls, in order.
     pub(crate) fn items(&self) -> &[Call] {
         &self.list[..self.count]
     }
@@ -61,7 +61,7 @@ fn four(first: Call, second: Call, third: Call, fourth: Call) -> Calls {
     }
 }
 
-/// What is made first: a message of four blocks in register a, and a message on queue 0.
+/// Returns the calls before the rounds, which put a message of four blocks into register a, and one on queue 0.
 pub(crate) fn opening_calls() -> Option<[Call; OPENING]> {
     let a = Reg::new(0)?;
     let b = Reg::new(1)?;
@@ -83,7 +83,7 @@ pub(crate) fn opening_calls() -> Option<[Call; OPENING]> {
     ])
 }
 
-// The calls of a round on messages: that of register a, and others in registers b and c.
+// The calls of a round on messages: the one in register a, and others in registers b and c.
 fn on_messages(row: Row, a: Reg, b: Reg, c: Reg) -> Option<Calls> {
     match row {
         Row::Allocb => Some(two(Call::Allocb(b, SIZE), Call::Freemsg(b))),
@@ -116,7 +116,7 @@ fn on_messages(row: Row, a: Reg, b: Reg, c: Reg) -> Option<Calls> {
     }
 }
 
-// The calls of a round on queues and on none, with a message in register b.
+// The calls of a round on queues, or on neither queues nor messages; register b has a message.
 fn on_queues(row: Row, b: Reg) -> Option<Calls> {
     match row {
         Row::Putq => Some(two(Call::Getq(0, b), Call::Putq(0, b))),
@@ -134,7 +134,7 @@ fn on_queues(row: Row, b: Reg) -> Option<Calls> {
     }
 }
 
-/// The calls of a round, where the row has a form with registers.
+/// Returns the calls of a round, if the row has a form with registers.
 pub(crate) fn calls_of(row: Row) -> Option<Calls> {
     let a = Reg::new(0)?;
     let b = Reg::new(1)?;

@@ -1,13 +1,13 @@
-//! The pool that rounds are done over.
+//! The pool on which rounds run.
 use arrayvec::ArrayVec;
 use std::alloc::Global;
 use strm_pool::{ClassSpec, ClassSpecs, Config, Pool, QueueSpec, QueueSpecs};
 use strm_shared::{Setup, Start, Trace};
 
-// The queue whose band 0 is full and wanted, once messages stand there.
+// The queue whose band 0 is full once it has two messages of 64 bytes; it is wanted only after a `bcanput`.
 pub(crate) const NARROW: u8 = 1;
 
-// The first of eight queues without service procedures, of which each but the last has the one behind it as its next.
+// The first of eight queues without service procedures: each but the last has the following number as its next.
 pub(crate) const CHAIN: u8 = 2;
 
 // A queue with room for all messages, with a service procedure.
@@ -18,7 +18,7 @@ const WIDE: QueueSpec = QueueSpec {
     next: None,
 };
 
-// A queue that is full from two blocks of 64 bytes on.
+// A queue whose bands are full from two blocks of 64 bytes on.
 const FILLED: QueueSpec = QueueSpec {
     hiwat: 128,
     lowat: 64,
@@ -36,7 +36,7 @@ const fn link(next: Option<u8>) -> QueueSpec {
     }
 }
 
-// Queue 0 is wide, queue `NARROW` is soon full, and behind it stands the chain.
+// Queue 0 is wide, queue `NARROW` is soon full, the chain follows, and the others are wide.
 fn queues() -> QueueSpecs {
     QueueSpecs::of(ArrayVec::from([
         WIDE,
@@ -58,7 +58,8 @@ fn queues() -> QueueSpecs {
     ]))
 }
 
-/// So many message blocks over as many data blocks: 32 of 256 bytes, 8 of 4,096, and the others of 64.
+/// Returns a configuration with this number of message blocks, and as many data blocks: 32 of 256 bytes, 8 of 4,096, the others
+/// of 64.
 pub(crate) fn configured(blocks: u32) -> Config {
     let mut classes = ArrayVec::new();
     classes.push(ClassSpec {
@@ -83,12 +84,12 @@ pub(crate) fn configured(blocks: u32) -> Config {
     }
 }
 
-/// Such a pool, or none where it would have too few blocks or too many, or where memory is refused.
+/// Opens such a pool; returns none if it would have too few or too many blocks, or if memory is refused.
 pub(crate) fn opened(alloc: Global, blocks: u32) -> Option<Pool> {
     Pool::new(alloc, configured(blocks)).ok()
 }
 
-/// Such a pool, which is to be shared by one desk.
+/// Starts sharing such a pool, with one desk.
 pub(crate) fn start(alloc: Global, blocks: u32, trace: Trace) -> Option<Start> {
     let pool = Pool::new(alloc, configured(blocks)).ok()?;
     let setup = Setup {

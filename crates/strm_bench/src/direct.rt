@@ -1,4 +1,4 @@
-//! Rounds of calls on a pool, with tokens.
+//! Rounds of calls on a pool, with tokens, and on queues.
 use crate::config::{configured, opened};
 use crate::held::Held;
 use crate::looks::{see_message, see_pool};
@@ -8,7 +8,7 @@ use crate::{messages, queues};
 use std::alloc::Global;
 use strm_pool::Pool;
 
-// A pool is made, and given up.
+// Opens a pool, and drops it.
 fn open_rounds(alloc: Global, blocks: u32, times: u64) -> u64 {
     let mut told = 0u64;
     for _ in 0..times {
@@ -64,7 +64,7 @@ fn held_rounds(held: &mut Held, row: Row, times: u64) -> u64 {
     }
 }
 
-// Makes the message first, and frees it then.
+// Makes the message before the rounds, and frees it afterwards.
 fn on_message(pool: Pool, row: Row, times: u64) -> u64 {
     let Some(mut held) = Held::of(pool) else {
         return 0;
@@ -74,7 +74,7 @@ fn on_message(pool: Pool, row: Row, times: u64) -> u64 {
     told
 }
 
-/// Does the rounds over a new pool, and gives the sum.
+/// Runs the rounds on a new pool, and returns their sum.
 pub(crate) fn direct_rounds(alloc: Global, order: Order) -> u64 {
     if let Row::Open = order.row {
         return open_rounds(alloc, order.blocks, order.times);

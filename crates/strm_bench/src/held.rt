@@ -1,4 +1,4 @@
-//! Rounds of calls on a message that stays.
+//! Rounds of calls on one message, which stays held.
 ghost use Rattle.std.specs.Prelude.{IsTrue};
 ghost use Rattle.strm_mblk.specs.Arena.{has};
 
@@ -12,7 +12,7 @@ pub(crate) struct Held {
     pub ghost had: { IsTrue (has pool.arena token) },
 }
 
-// Calls of which the compiler would else do once for all rounds what stays from round to round.
+// This function and the next are not inlined: otherwise the compiler would move what is the same in each round out of the loop.
 #[inline(never)]
 fn alter_type(held: &mut Held, told: &mut u64) {
     let answer = held.pool.settype(&held.token, 0, MsgType::MData);
@@ -33,13 +33,13 @@ impl Held {
         Some(Held { pool, token })
     }
 
-    /// Frees the message, and gives up the pool.
+    /// Frees the message, and drops the pool.
     pub(crate) fn end(self) {
         let Held { mut pool, token } = self;
         pool.freemsg(token);
     }
 
-    /// `copymsg`, and the copy freed.
+    /// `copymsg`, then `freemsg` of the copy.
     pub(crate) fn copymsg(&mut self, times: u64) -> u64 {
         let mut told = 0u64;
         for _ in 0..times {
@@ -51,7 +51,7 @@ impl Held {
         told
     }
 
-    /// `dupmsg`, and the duplicate freed.
+    /// `dupmsg`, then `freemsg` of the duplicate.
     pub(crate) fn dupmsg(&mut self, times: u64) -> u64 {
         let mut told = 0u64;
         for _ in 0..times {

@@ -1,5 +1,5 @@
-//! Rounds of calls that change nothing. Each is made in a function that is not inlined and writes its sum, so that the compiler can't make
-//! it once for all rounds.
+//! Rounds of calls that change nothing. Each call is in a function that is not inlined and writes its sum, so that the compiler
+//! cannot make the call once for all rounds.
 use crate::held::Held;
 use crate::row::Row;
 use strm_pool::Pool;

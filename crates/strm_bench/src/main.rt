@@ -1,6 +1,7 @@
-//! Rounds of calls of the libraries, so that what each costs can be counted. Each line of standard input names a form, a row, a number of
-//! message blocks and a number of rounds, as `direct allocb 4095 1000`; README.md has the forms and the rows. The rounds are done over a
-//! new pool of so many message blocks, and a line is written that sums up what the calls answered. A line that names none ends the program.
+//! Rounds of calls of the libraries, to count what each costs. Each line of standard input has a form, a row, a number of
+//! message blocks and a number of rounds, such as `direct allocb 4095 1000`; README.md lists forms and rows. The program runs
+//! the rounds on a new pool with this number of blocks, and writes a line with the sum of the results. Any other line ends the
+//! program.
 #![tactic(auto)]
 
 mod applied;
@@ -25,14 +26,14 @@ use std::io;
 use std::sync::Wait;
 use strm_shared::{Brand, Trace};
 
-// What the next line of standard input asks for, if it asks for anything.
+// What the next line of standard input asks for, if anything.
 fn next_order(rt: &(impl AllocGlobal + Input)) -> io::Result<Option<Order>> {
     let mut line = String::new(rt.alloc());
     rt.read_line(&mut line)?;
     Ok(Order::of(line.as_str()))
 }
 
-// Shares a pool with one desk, and has the rounds served on it.
+// Shares a pool with one desk, and runs the rounds on it.
 fn share(rt: &(impl AllocGlobal + Wait), order: Order, trace: Trace) -> u64 {
     match start(rt.alloc(), order.blocks, trace) {
         Some(start) => served_rounds::<Brand>(rt, start, order.row, order.times),
@@ -40,7 +41,7 @@ fn share(rt: &(impl AllocGlobal + Wait), order: Order, trace: Trace) -> u64 {
     }
 }
 
-// Does the rounds, and gives the sum.
+// Runs the rounds, and returns their sum.
 fn done(rt: &(impl AllocGlobal + Wait), order: Order) -> u64 {
     match order.form {
         Form::Direct => direct_rounds(rt.alloc(), order),

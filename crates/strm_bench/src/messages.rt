@@ -1,4 +1,4 @@
-//! Rounds of calls on messages that the round makes.
+//! Rounds of calls on messages that each round makes and frees.
 ghost use Rattle.std.specs.Prelude.{IfSome, IsTrue};
 ghost use Rattle.strm_mblk.specs.Arena.{has};
 
@@ -10,7 +10,7 @@ pub(crate) const SIZE: u32 = 64;
 /// The bytes of each block.
 pub(crate) const BYTES: [u8; 64] = [90; 64];
 
-// Puts a new block with bytes behind a message, if there is one.
+// Appends a new block with bytes to a message, if a block is free.
 fn grow(pool: &mut Pool, token: &mut Token)
     requires { IsTrue (has pool.old.arena token.old) }
     ensures { IsTrue (has pool.new.arena token.new) }
@@ -22,7 +22,7 @@ fn grow(pool: &mut Pool, token: &mut Token)
     pool.linkb(token, other);
 }
 
-/// A message of four blocks with bytes.
+/// Makes a message of four blocks with bytes.
 pub(crate) fn four(pool: &mut Pool) -> Option<Token>
     ensures { IfSome result (λ token. IsTrue (has pool.new.arena token)) }
 {
@@ -36,7 +36,7 @@ pub(crate) fn four(pool: &mut Pool) -> Option<Token>
     Some(token)
 }
 
-// Frees a message, and the duplicate that was made of it. Tells whether one was.
+// Frees a message and its duplicate, if one was made, and says whether it was.
 fn free_both(pool: &mut Pool, token: Token, copy: Result<Token, Refusal>) -> bool {
     pool.freemsg(token);
     match copy {
@@ -60,7 +60,7 @@ pub(crate) fn allocb(pool: &mut Pool, times: u64) -> u64 {
     told
 }
 
-/// `allocb`, `dupb`, and both freed.
+/// `allocb`, `dupb`, then `freemsg` of both.
 pub(crate) fn dupb(pool: &mut Pool, times: u64) -> u64 {
     let mut told = 0u64;
     for _ in 0..times {
@@ -72,7 +72,7 @@ pub(crate) fn dupb(pool: &mut Pool, times: u64) -> u64 {
     told
 }
 
-/// `allocb`, `dupmsg`, and both freed.
+/// `allocb`, `dupmsg`, then `freemsg` of both.
 pub(crate) fn dupmsg(pool: &mut Pool, times: u64) -> u64 {
     let mut told = 0u64;
     for _ in 0..times {
@@ -97,7 +97,7 @@ pub(crate) fn write(pool: &mut Pool, times: u64) -> u64 {
     told
 }
 
-/// A message of four blocks is built and freed.
+/// Builds a message of four blocks, and frees it.
 pub(crate) fn build(pool: &mut Pool, times: u64) -> u64 {
     let mut told = 0u64;
     for _ in 0..times {
@@ -109,7 +109,7 @@ pub(crate) fn build(pool: &mut Pool, times: u64) -> u64 {
     told
 }
 
-// Pulls all of a message up. It is a call of its own in the program, so that its instructions can be told.
+// Pulls up all bytes of a message. It is not inlined, so that its instructions can be counted.
 #[inline(never)]
 fn pull_up(pool: &mut Pool, token: &mut Token) -> bool
     requires { IsTrue (has pool.old.arena token.old) }
@@ -117,7 +117,7 @@ fn pull_up(pool: &mut Pool, token: &mut Token) -> bool
     pool.pullupmsg(token, -1).is_ok()
 }
 
-/// A message of four blocks is built, pulled up into one, and freed.
+/// Builds a message of four blocks, pulls it up into one, and frees it.
 pub(crate) fn pullup(pool: &mut Pool, times: u64) -> u64 {
     let mut told = 0u64;
     for _ in 0..times {

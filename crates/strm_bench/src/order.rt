@@ -1,8 +1,8 @@
-//! What a line of standard input asks for.
+//! What a line of standard input asks for: a form, a row, and two numbers.
 use crate::row::{Form, Row};
 use strm_shared::{MOST_TRACE, Trace};
 
-/// A row in a form, how many message blocks the pool has, and how many rounds are done.
+/// A row in a form, the number of message blocks, and the number of rounds.
 #[derive(Clone, Copy)]
 pub(crate) struct Order {
     pub(crate) form: Form,
@@ -12,7 +12,7 @@ pub(crate) struct Order {
 }
 
 impl Order {
-    /// What a line asks for, or none where it asks for nothing.
+    /// Returns what a line asks for, if anything.
     pub(crate) fn of(line: &str) -> Option<Order> {
         let mut words = line.split_whitespace();
         let form = Form::named(words.next()?)?;
@@ -27,7 +27,7 @@ impl Order {
         })
     }
 
-    /// A trace with room for the calls of all rounds, as far as a trace may have it.
+    /// Returns a trace with room for the calls of all rounds, but no more than a trace may have.
     pub(crate) fn trace(self) -> Trace {
         let rounds = u32::try_from(self.times).unwrap_or(MOST_TRACE);
         Trace::Keep(rounds.saturating_mul(4).saturating_add(64).min(MOST_TRACE))

@@ -1,4 +1,4 @@
-//! Rounds of calls on queues.
+//! Rounds of calls on queues, whose messages are put there first.
 ghost use Rattle.std.specs.Prelude.{IfSome, IsTrue};
 ghost use Rattle.strm_mblk.specs.Arena.{has};
 
@@ -6,18 +6,18 @@ use crate::config::{CHAIN, NARROW};
 use crate::messages::{BYTES, SIZE};
 use strm_pool::{Flush, MsgType, Pool, Rejected, Token};
 
-// The ranks of drawn messages: bands 0 to 15, and high priority.
+// The number of ranks that messages get: bands 0 to 15, and high priority.
 const RANKS: u32 = 17;
 
-// How many messages stand on a queue of many, and how many beside those that are flushed, where there are as many blocks.
+// The number of messages on a queue with many; and the number of other messages during a flush, if there are enough blocks.
 const MANY: u32 = 1_000;
 
 const BESIDE: u32 = 3_900;
 
-// How many messages of a band are flushed at once.
+// The number of messages that one flush frees.
 const FLUSHED: u32 = 100;
 
-/// Puts a message on a queue, and tells whether it stands there. One that is refused is freed.
+/// Puts a message on a queue by `putq`, and says whether it is there. A refused message is freed.
 pub(crate) fn put(pool: &mut Pool, queue: u8, token: Token) -> bool
     requires { IsTrue (has pool.old.arena token) }
 {
@@ -30,7 +30,7 @@ pub(crate) fn put(pool: &mut Pool, queue: u8, token: Token) -> bool
     }
 }
 
-// Puts a message back on a queue, and tells whether it stands there. One that is refused is freed.
+// Puts a message on a queue by `putbq`, and says whether it is there. A refused message is freed.
 fn put_back(pool: &mut Pool, queue: u8, token: Token) -> bool
     requires { IsTrue (has pool.old.arena token) }
 {
@@ -43,7 +43,7 @@ fn put_back(pool: &mut Pool, queue: u8, token: Token) -> bool
     }
 }
 
-// Puts a message on a queue in front, and tells whether it stands there. One that is refused is freed.
+// Puts a message first on a queue by `insq`, and says whether it is there. A refused message is freed.
 fn put_first(pool: &mut Pool, queue: u8, token: Token) -> bool
     requires { IsTrue (has pool.old.arena token) }
 {
@@ -56,7 +56,7 @@ fn put_first(pool: &mut Pool, queue: u8, token: Token) -> bool
     }
 }
 
-// Gives a message a rank: a band up to 15, or else high priority.
+// Gives a message a rank: a band up to 15, or high priority.
 fn set_rank(pool: &mut Pool, token: &Token, rank: u8)
     requires { IsTrue (has pool.old.arena token.now) }
     ensures { IsTrue (has pool.new.arena token.now) }
@@ -68,7 +68,7 @@ fn set_rank(pool: &mut Pool, token: &Token, rank: u8)
     }
 }
 
-// Makes a message of one block and 64 bytes, of a rank, and puts it on a queue.
+// Makes a message of one block with 64 bytes and a rank, and puts it on a queue.
 fn post(pool: &mut Pool, queue: u8, rank: u8) -> bool {
     let Ok(token) = pool.allocb(SIZE) else {
         return false;
@@ -78,21 +78,21 @@ fn post(pool: &mut Pool, queue: u8, rank: u8) -> bool {
     put(pool, queue, token)
 }
 
-// Puts so many messages on queue 0, of all ranks in turn.
+// Puts this number of messages on queue 0, of all ranks in turn.
 fn fill(pool: &mut Pool, count: u32) {
     for number in 0..count {
         let _ = post(pool, 0, (number % RANKS) as u8);
     }
 }
 
-// Puts so many messages on queue 0, of band 0 and band 2 in turn.
+// Puts this number of messages on queue 0, of bands 0 and 2 in turn.
 fn fill_beside(pool: &mut Pool, count: u32) {
     for number in 0..count {
         let _ = post(pool, 0, (number % 2 * 2) as u8);
     }
 }
 
-// The first message of a queue, which is taken off.
+// Takes the first message of a queue.
 fn taken(pool: &mut Pool, queue: u8) -> Option<Token>
     ensures { IfSome result (λ token. IsTrue (has pool.new.arena token)) }
 {
@@ -137,19 +137,19 @@ pub(crate) fn queued(pool: &mut Pool, times: u64) -> u64 {
     told
 }
 
-/// `getq`, `putq`, of the only message.
+/// `getq`, `putq` of the only message.
 pub(crate) fn putq(pool: &mut Pool, times: u64) -> u64 {
     let _ = post(pool, 0, 0);
     put_rounds(pool, 0, times)
 }
 
-/// So too, of many messages of all ranks.
+/// `getq`, `putq` with many messages of all ranks.
 pub(crate) fn putq_ranked(pool: &mut Pool, blocks: u32, times: u64) -> u64 {
     fill(pool, MANY.min(blocks / 2));
     put_rounds(pool, 0, times)
 }
 
-/// So too, of ten messages in a band that is full and wanted, and stays so.
+/// `getq`, `putq` with ten messages in a band that is full and wanted, and stays so.
 pub(crate) fn putq_full(pool: &mut Pool, times: u64) -> u64 {
     for _ in 0..10 {
         let _ = post(pool, NARROW, 0);
@@ -158,19 +158,19 @@ pub(crate) fn putq_full(pool: &mut Pool, times: u64) -> u64 {
     put_rounds(pool, NARROW, times)
 }
 
-/// `getq`, `putbq`, of the only message.
+/// `getq`, `putbq` of the only message.
 pub(crate) fn putbq(pool: &mut Pool, times: u64) -> u64 {
     let _ = post(pool, 0, 0);
     put_back_rounds(pool, times)
 }
 
-/// So too, of many messages of all ranks.
+/// `getq`, `putbq` with many messages of all ranks.
 pub(crate) fn putbq_ranked(pool: &mut Pool, blocks: u32, times: u64) -> u64 {
     fill(pool, MANY.min(blocks / 2));
     put_back_rounds(pool, times)
 }
 
-/// `rmvq` in front, `putbq`.
+/// `rmvq` at place 0, `putbq`.
 pub(crate) fn rmvq(pool: &mut Pool, times: u64) -> u64 {
     let _ = post(pool, 0, 0);
     let mut told = 0u64;
@@ -182,7 +182,7 @@ pub(crate) fn rmvq(pool: &mut Pool, times: u64) -> u64 {
     told
 }
 
-/// `rmvq` in front, `insq` in front.
+/// `rmvq` at place 0, `insq` there.
 pub(crate) fn insq(pool: &mut Pool, times: u64) -> u64 {
     let _ = post(pool, 0, 0);
     let mut told = 0u64;
@@ -194,13 +194,13 @@ pub(crate) fn insq(pool: &mut Pool, times: u64) -> u64 {
     told
 }
 
-// Flushes band 1. It is a call of its own in the program, so that its instructions can be told.
+// Flushes band 1. It is not inlined, so that its instructions can be counted.
 #[inline(never)]
 fn flush_hundred(pool: &mut Pool) -> bool {
     pool.flushband(0, 1, Flush::All).is_ok()
 }
 
-/// A hundred messages of band 1 are put among others, and flushed.
+/// Puts a hundred messages of band 1 among others, and flushes them.
 pub(crate) fn flushband(pool: &mut Pool, blocks: u32, times: u64) -> u64 {
     fill_beside(pool, BESIDE.min(blocks.saturating_sub(FLUSHED + 10)));
     let mut told = 0u64;
@@ -231,7 +231,7 @@ pub(crate) fn strqset(pool: &mut Pool, times: u64) -> u64 {
     told
 }
 
-/// `qenable`, and the queue is taken off the run list.
+/// `qenable`, then `next_service`.
 pub(crate) fn qenable(pool: &mut Pool, times: u64) -> u64 {
     let mut told = 0u64;
     for _ in 0..times {
@@ -241,7 +241,7 @@ pub(crate) fn qenable(pool: &mut Pool, times: u64) -> u64 {
     told
 }
 
-/// `bufcall`, and the wish is taken.
+/// `bufcall`, then `take_ready`.
 pub(crate) fn bufcall(pool: &mut Pool, times: u64) -> u64 {
     let mut told = 0u64;
     for _ in 0..times {

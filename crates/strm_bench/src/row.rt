@@ -1,4 +1,4 @@
-//! The forms and the rows.
+//! The forms and the rows, by their names.
 
 /// How a row's calls are made.
 #[derive(Clone, Copy)]
@@ -9,11 +9,11 @@ pub(crate) enum Form {
     Apply,
     /// By `serve_into`, on one desk.
     Serve,
-    /// So too, with a trace kept.
+    /// By `serve_into`, on one desk, with a trace.
     Trace,
 }
 
-/// What a round does. README.md says it of each.
+/// What a round does; README.md describes each.
 #[derive(Clone, Copy)]
 pub(crate) enum Row {
     Open,
@@ -51,20 +51,20 @@ pub(crate) enum Row {
     Look,
 }
 
-/// What a row's calls are made on, in the form `Direct`.
+/// What the calls of a row are made on, in the form `Direct`.
 #[derive(Clone, Copy)]
 pub(crate) enum Group {
     /// Messages that the round makes.
     Messages,
-    /// The pool, which they leave as it is.
+    /// The pool, which does not change.
     Looks,
-    /// A message that stays.
+    /// A message that stays held.
     Held,
     /// Queues.
     Queues,
 }
 
-// Each row by its name.
+// Each row, with its name.
 const ROWS: [(&str, Row); 33] = [
     ("open", Row::Open),
     ("allocb", Row::Allocb),
@@ -102,7 +102,7 @@ const ROWS: [(&str, Row); 33] = [
 ];
 
 impl Form {
-    /// The form with this name.
+    /// Returns the form with this name, if any.
     pub(crate) fn named(name: &str) -> Option<Form> {
         match name {
             "direct" => Some(Form::Direct),
@@ -115,7 +115,7 @@ impl Form {
 }
 
 impl Row {
-    /// The row with this name.
+    /// Returns the row with this name, if any.
     pub(crate) fn named(name: &str) -> Option<Row> {
         for (known, row) in &ROWS {
             if *known == name {
@@ -125,7 +125,7 @@ impl Row {
         None
     }
 
-    /// What its calls are made on.
+    /// Returns what the row's calls are made on.
     pub(crate) fn group(self) -> Group {
         match self {
             Row::Allocb

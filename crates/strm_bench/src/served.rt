@@ -1,4 +1,4 @@
-//! Rounds of calls that are served on a desk of a shared pool, which nobody else is at.
+//! Rounds of calls that are served on the only desk of a shared pool.
 ghost use Rattle.strm_shared.specs.Starts.{IsNameOf};
 
 use crate::applied::is_done;
@@ -8,7 +8,7 @@ use std::sync::Wait;
 use strm_pool::{Call, Refusal, Reply};
 use strm_shared::{Desk, Name, Shared, Start};
 
-// Has a call served. It is a call of its own in the program, into which `serve_into` is put whole, so that its instructions can be told.
+// Serves a call. It is not inlined, but `serve_into` is inlined into it, so that its instructions can be counted.
 #[inline(never)]
 fn serve_call<N: Name>(
     rt: &impl Wait,
@@ -20,7 +20,7 @@ fn serve_call<N: Name>(
     shared.serve_into(rt, desk, 1, call, reply)
 }
 
-// Has calls served, so often, each reply into the place of the one before it, and tells how many were done.
+// Serves the calls this number of times, all with one `Reply`, and returns how many were done.
 fn serve_all<N: Name>(
     rt: &impl Wait,
     shared: &Shared<N>,
@@ -47,7 +47,7 @@ fn see_census<N: Name>(shared: &Shared<N>, desk: &mut Desk<N>) -> u64 {
     stamp ^ u64::from(census.free ^ census.queued ^ census.held)
 }
 
-// Looks so often, and gives a sum of what it was told.
+// Looks this number of times, and returns a sum of what was seen.
 fn look_often<N: Name>(shared: &Shared<N>, desk: &mut Desk<N>, times: u64) -> u64 {
     let mut told = 0u64;
     for _ in 0..times {
@@ -56,7 +56,7 @@ fn look_often<N: Name>(shared: &Shared<N>, desk: &mut Desk<N>, times: u64) -> u6
     told
 }
 
-// Does the rounds on a desk.
+// Runs the rounds on a desk.
 fn desk_rounds<N: Name>(
     rt: &impl Wait,
     shared: &Shared<N>,
@@ -74,7 +74,7 @@ fn desk_rounds<N: Name>(
     serve_all(rt, shared, desk, calls.items(), times)
 }
 
-/// Shares a pool with one desk, has the calls of a row served on it, so often, and tells how many were done.
+/// Shares a pool with one desk, serves the calls of a row on it this number of times, and returns how many were done.
 pub(crate) fn served_rounds<N: Name>(rt: &impl Wait, start: Start, row: Row, times: u64) -> u64
     requires { IsNameOf N.Name start }
 {

@@ -60,9 +60,7 @@ module _ (v : PoolValue) (t : TokenValue) (es : Entries) (others : List Entries)
         | inl same ↦
             let once : times_told t.head n (es ∷ others) ≡ 0 =
             omega (arith, told_more t.head n (Some (t.head, t.blocks)) es others, accounted t.head n, ap one_if (alike n)) in
-            ap (λ k. times_told k n (es ∷ others)) same
-            ∙ once
-            ∙ sym (ap (λ k. one_if (is_of_length n (held_at (spent v.arena t) k))) same ∙ ap (λ o. one_if (is_of_length n o)) (spent_gone v.arena t has_it))
+            cc (same, once, spent_gone v.arena t has_it)
         | inr other ↦
             let apart : tells h n (Some (t.head, t.blocks)) ≡ false = ap (λ b. b && t.blocks == n) (ne_eqb t.head h (λ same. other (sym same))) in
             let there : held_at (spent v.arena t) h ≡ held_at v.arena h = (leaves_spent v.arena t).others.held h (ap (λ b. b || false) (ne_eqb t.head h (λ same. other (sym same)))) in

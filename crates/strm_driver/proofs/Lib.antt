@@ -6,4 +6,3 @@ mod Totals
 mod Holding
 mod Working
 mod Serving
-mod Rows

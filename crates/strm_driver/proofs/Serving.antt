@@ -44,7 +44,7 @@ text_from-line : (v w : PoolValue) (tables : List RegisterTable) (u : RegisterTa
     → text_from v tables (served ∷ later) ≡ reply_line served.worker served.line.number reply ++ text_from w (slice_set tables served.worker u) later
 text_from-line v w tables u served later reply is = rw is (append_assoc (reply_line served.worker served.line.number reply) _ _)
 
--- a worker's registers stand behind those of the workers before it
+-- a worker's registers come after those of the workers before it
 table_at-here : (before behind : List RegisterTable) (t : RegisterTable) (worker : ℕ) → length before ≡ worker → table_at (before ++ t ∷ behind) worker ≡ t
 table_at-here before behind t worker place = ap (λ n. table_at (before ++ t ∷ behind) n) (sym place) ∙ get_or-append_seam before t behind []
 
@@ -98,12 +98,7 @@ parts_text-next start so_far all worker v w t u [] lines empty some at first res
 parts_text-next start so_far all worker v w t u (lines_of_first ∷ others) lines empty some at first rest before place =
     let behind : List RegisterTable = empty_tables (length others) in
     let later : List Served = serial_from (worker + 1) others in
-    rest (before ++ u ∷ []) (omega (arith, place, length_push before u))
-    ∙ ap (λ parts. so_far ++ parts_text (before ++ u ∷ []) (worker + 1) w parts) (take_rest (lines_of_first ∷ others) 1)
-    ∙ ap (λ tables. so_far ++ text_from w tables later) (append_assoc before (u ∷ []) behind)
-    ∙ first before behind later place
-    ∙ ap (λ (s : RegisterTable). start ++ part_text before behind later worker v s lines) empty
-    ∙ ap (λ (ls : List Line). start ++ part_text before behind later worker v (replicate most_registers None) ls) at
+    cc (rest (before ++ u ∷ []) (omega (arith, place, length_push before u)), take_rest (lines_of_first ∷ others) 1, append_assoc before (u ∷ []) behind, first before behind later place, empty, at)
 
 -- the serial text of a script
 pub serial_text-parts : (script : Script) (v : PoolValue) (text start : List ℕ) → v ≡ opening script.config → start ≡ [] → text ≡ start ++ parts_text [] 0 v script.parts → IsSerialText script text

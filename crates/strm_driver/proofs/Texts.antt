@@ -31,9 +31,7 @@ pub text_from-merge_of : (v w : PoolValue) (tables : List RegisterTable) (es : L
     → w ≡ (replay_from v tables (calls_of es)).pool → map (λ e. e.reply) es ≡ (replay_from v tables (calls_of es)).replies
     → flat_map entry_text es ++ report_text w ≡ text_from v tables (merge_of es)
 text_from-merge_of v w tables es pool replies =
-    ap (λ (bs : List ℕ). bs ++ report_text w) (sym (transcript-merge_of es))
-    ∙ (λ i. transcript (merge_of es) (replies i) ++ report_text (pool i))
-    ∙ ap (λ (cs : List DeskCall). text_after (merge_of es) (replay_from v tables cs)) (sym (desk_calls-merge_of es))
+    cc (transcript-merge_of es, replies, pool, desk_calls-merge_of es)
 
 -- ---- one section
 
@@ -53,9 +51,7 @@ all_of_one w (s ∷ ss) none = elim (cases_eq s.worker w) [
 one_merge : (parts : List (List Line)) (served : List Served) → length parts ≡ 1 → IsMerge parts served → served ≡ serial_merge parts
 one_merge [] served one merges = absurd (omega (arith, one))
 one_merge (lines ∷ []) served one merges =
-    all_of_one 0 served (λ v other. merges v ∙ get_or_past (lines ∷ []) v [] (omega (arith, other)))
-    ∙ ap (by_worker 0) (merges 0)
-    ∙ sym (append-nil (by_worker 0 lines))
+    cc (all_of_one 0 served (λ v other. merges v ∙ get_or_past (lines ∷ []) v [] (omega (arith, other))), merges 0, append-nil (by_worker 0 lines))
 one_merge (lines ∷ more ∷ others) served one merges = absurd (omega (arith, one))
 
 -- so a text under some order is the serial one

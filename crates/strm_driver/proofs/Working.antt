@@ -70,10 +70,7 @@ served_more n (line ∷ lines) d (reply ∷ replies) e all =
 -- on a desk that was served nothing before, as many as there are replies
 length-more : (lines : List Line) (replies : List Reply) (d e : DeskValue) → d.served ≡ [] → length replies < length lines + 1 → IsMore lines replies d e → length e.served ≡ length replies
 length-more lines replies d e none few more =
-    ap length (more.served ∙ ap (λ (xs : List (ℕ × Entry)). xs ++ more.new) none)
-    ∙ sym (length-map more.new (λ s. s.1))
-    ∙ ap length more.entries
-    ∙ length-entries_for d.number lines replies few
+    cc (more.served, none, length-map more.new (λ s. s.1), more.entries, length-entries_for d.number lines replies few)
 
 module _ {N : Type 0} (n : Ghosts N) (lines : List Line) (d : DeskValue) (none : d.served ≡ []) where
   -- however it ends, the desk keeps its number, and was served no more calls than there are lines
@@ -194,7 +191,7 @@ module _ {N : Type 0} (n : Ghosts N) (parts : List (List Line)) (ps : List Pair)
         let was = subst (λ (end : End). Worked n lines (empty_desk k ps) end replies e) (done k within) (each k within) in
         let more = served_more n lines (empty_desk k ps) replies e was.1 in
         let entries : map (λ s. s.1) (served_from (n.first + 1) k left.entries) ≡ entries_for k lines replies =
-        ap (λ (ss : List (ℕ × Entry)). map (λ s. s.1) ss) (served_at k within ∙ more.served) ∙ more.entries in
+        cc (served_at k within, more.served, more.entries) in
         ap (map line_of) (sym (served_from-entries (n.first + 1) k left.entries) ∙ entries) ∙ lines_of-entries_for k lines replies was.0
 
     -- and the text of the trace is that of the script, in the order of serving

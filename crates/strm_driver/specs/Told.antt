@@ -1,4 +1,4 @@
--- What a fault tells.
+-- What the fault of a run says of the input, of the reader and of the writer; and the exit status.
 use Rattle.std.specs.Prelude.{◌≡◌, ℕ, Bool, true, false, Option, None, Some, Result, Ok, Err}
 use Rattle.strm_data.specs.declared.refusal.Refusal.TheVariants.{BadShared}
 use Rattle.strm_pool.specs.declared.config.NewFault.{NewFault}
@@ -15,10 +15,10 @@ use Rattle.strm_driver.specs.declared.fault.TextFault.TheVariants as text_faults
 use Rattle.strm_driver.specs.declared.input.ReadFault.{ReadFault}
 use Rattle.strm_driver.specs.declared.input.ReadFault.TheVariants as read_faults
 
--- ---- what a fault tells of the first fault of its input
+-- ---- what a fault says of the first fault of its input
 
--- a read fault and want of memory come whatever the input is, a write fault only where it has no fault, and each other one where
--- it is the first; no worker is ever refused
+-- `Read` and `Memory` can come with any input, and `Write` only if the input has no fault. Each other fault is the input's
+-- first. No worker is ever refused.
 abbrev pub TellsFault : RunFault → Option RunFault → Type 0
 TellsFault Read first = Unit {0}
 TellsFault TooLong first = first ≡ Some TooLong
@@ -28,18 +28,18 @@ TellsFault (Config which) first = first ≡ Some (Config which)
 TellsFault Memory first = Unit {0}
 TellsFault (Refused why) first = ⊥
 
--- the same of a configuration, whose fault comes before any want of memory; nothing else is wrong with a pool, nor with how it is shared
+-- The configuration's first fault is found before memory is refused. A pool, and its sharing, has no other fault.
 abbrev pub TellsNewFault : NewFault → Option Which → Type 0
 TellsNewFault (new_faults.BadConfig which) first = first ≡ Some which
 TellsNewFault new_faults.BadShared first = ⊥
 TellsNewFault new_faults.Memory first = first ≡ None
 
--- the faults that are ever met: no worker is refused
+-- the faults that a run can have: no worker is refused
 abbrev pub IsMet : RunFault → Type 0
 IsMet (Refused why) = ⊥
 IsMet other = Unit {0}
 
--- ---- what a fault tells of the reader and of the writer
+-- ---- what a fault says of the reader and of the writer
 
 abbrev pub is_read : RunFault → Bool
 is_read Read = true
@@ -59,12 +59,12 @@ is_write (Config which) = false
 is_write Memory = false
 is_write (Refused why) = false
 
--- there is an error of this sort
+-- the result is an error of this sort
 abbrev pub errs : {X E : Type 0} → (E → Bool) → Result X E → Bool
 errs sort (Ok x) = false
 errs sort (Err e) = sort e
 
--- ---- what the fault of a part is to the whole
+-- ---- the fault of a run, by that of its part
 
 abbrev pub text_fault_of_parse : ParseFault → TextFault
 text_fault_of_parse (parse_faults.Script found) = text_faults.Script found
@@ -93,7 +93,7 @@ is_not_started ends.Done = false
 is_not_started (ends.Refused why) = false
 is_not_started ends.NotStarted = true
 
--- the exit status of the program: 0 where it is Ok, and else that of the fault
+-- the exit status of the program after a fault; without one it is 0
 abbrev pub status_of : RunFault → ℕ
 status_of Read = 1
 status_of TooLong = 1

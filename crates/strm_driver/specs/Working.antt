@@ -1,4 +1,4 @@
--- A shared pool that serves the sections of a script. No public clause cites this module.
+-- A shared pool that serves the sections of a script, and the text in the order of serving. No public clause cites this module.
 use Rattle.std.specs.Prelude.{◌≡◌, ℕ, ◌+◌, ◌<◌, ◌≤◌, List, Some, length, max, slice_index_or, sum_by}
 use Rattle.strm_shared.specs.declared.entry.Entry.{Entry}
 use Rattle.strm_shared.specs.declared.line.Line.{Line}
@@ -10,17 +10,17 @@ use Rattle.strm_script.specs.Limits.{most_command_lines}
 use Rattle.strm_script.specs.Merge.{merge_of}
 use Rattle.strm_driver.specs.Outcome.{IsTextUnder}
 
--- The pool of this name serves these parts and nothing else. Its first stamp is 0. It has a desk for each part. Its trace has room
--- for each line, for one where there are none, and for no more.
+-- The pool of this name serves these parts and nothing else. Its first stamp is 0, and it has a desk for each part. Its trace
+-- has room for exactly the number of lines, or for one if there are none.
 pub record IsServedUnder {N : Type 0} (n : Ghosts N) (parts : List (List Line)) : Type 0 where
   pub begun : n.first ≡ 0
   pub desks : n.desks ≡ length parts
   pub kept : n.kept ≡ Some (max (sum_by length parts) 1)
   pub few : sum_by length parts ≤ most_command_lines
 
--- A text in the order of serving. It is that of the script under the merge of some entries, in their order. Each worker's desk was
--- served the entries of its number, with the stamps that they have where the first entry comes at the stamp after `first`. No two calls
--- have the same stamp, so the desks alone tell which entries these are, and in which order.
+-- A text in the order of serving: that of the script under the merge of some entries. The first entry has stamp `first` + 1,
+-- and each next one has 1 more. Each worker's desk was served the entries of its number, with their stamps. So the desks alone
+-- show which entries these are, and in which order.
 pub record IsTextAsServed (script : ScriptValue) (first : ℕ) (desks : List DeskValue) (text : List ℕ) : Type 0 where
   pub entries : List Entry
   pub under : IsTextUnder script (merge_of entries) text

@@ -1,4 +1,4 @@
-//! The text of a script whose sections are served by workers.
+//! The text of a script whose sections are executed by workers, each on its own thread.
 ghost use Rattle.std.specs.Prelude.{◌≡◌, ◌≤◌, ◌++◌, ◌∷◌, [], false, IfErr, IfOk, List, None, OnOk, length, map, sum_by};
 ghost use Rattle.std.specs.List.{flat_map, list_any};
 ghost use Rattle.strm_pool.specs.Config.{fault_of};
@@ -47,7 +47,7 @@ fn trace_text(text: &mut Vec<u8>, trace: &[Entry]) -> Result<(), AllocError>
     Ok(())
 }
 
-// A line for each entry of a trace, and the report of the pool.
+// A line for each entry of a trace, and then the report of the pool.
 fn whole_text(alloc: Global, pool: &Pool, trace: &[Entry]) -> Result<Vec<u8>, AllocError>
     ensures { IfOk result (λ text. text.items ≡ flat_map entry_text trace.now ++ report_text pool.now) }
 {
@@ -57,14 +57,15 @@ fn whole_text(alloc: Global, pool: &Pool, trace: &[Entry]) -> Result<Vec<u8>, Al
     Ok(text)
 }
 
-// The same, where each worker had a thread. Want of one is want of memory.
+// Such a text, if each worker had a thread; otherwise the fault is out of memory.
 fn text_of_trace(
     alloc: Global,
     ends: &[End],
     pool: &Pool,
     trace: &[Entry],
 ) -> Result<Vec<u8>, AllocError>
-    ensures { IfOk result (λ text. (list_any is_not_started ends.now ≡ false) × (text.items ≡ flat_map entry_text trace.now ++ report_text pool.now)) }
+    ensures { IfOk result (λ text. (list_any is_not_started ends.now ≡ false)
+        × (text.items ≡ flat_map entry_text trace.now ++ report_text pool.now)) }
 {
     if lacks_thread(ends) {
         return Err(AllocError);
@@ -72,7 +73,7 @@ fn text_of_trace(
     whole_text(alloc, pool, trace)
 }
 
-// Frees what desks hold.
+// Frees the messages of the desks' registers.
 fn drain<N: Name>(pool: &mut Pool, desks: Desks<N>)
     requires { pool.old.arena.id ≡ N.opened.arena.id }
     ensures { AreHeldAlike pool.old (map (λ (d : DeskValue). entries_of d.regs) desks) pool.new [] }
@@ -86,8 +87,8 @@ fn drain<N: Name>(pool: &mut Pool, desks: Desks<N>)
     desks.end();
 }
 
-// The text of the script whose sections these workers have served, in the order in which they were served; and the pool,
-// in which no message is held.
+// The text of a script whose sections these workers had served, in the order in which the lines were served; and the pool, in
+// which no message is held then.
 fn text_of_outcome<N: Name>(
     alloc: Global,
     shared: Shared<N>,
@@ -95,9 +96,12 @@ fn text_of_outcome<N: Name>(
     outcome: BareOutcome<N>,
 ) -> (Result<Vec<u8>, AllocError>, Pool)
     requires under { IsServedUnder N.Name parts.now }
-    requires worked { (all : List (List Reply)) × AllWorked N.Name parts.now (fresh N.desks (pair_at N.first N.opened ∷ [])) outcome.ends all outcome.desks }
-    ensures text { IfOk result.0 (λ text. (script : ScriptValue) → script.parts ≡ parts.now → N.opened ≡ opening script.config → IsTextOf Workers script text.items) }
-    ensures ordered { IfOk result.0 (λ text. (script : ScriptValue) → script.parts ≡ parts.now → N.opened ≡ opening script.config → IsTextAsServed script N.first outcome.desks text.items) }
+    requires worked { (all : List (List Reply))
+        × AllWorked N.Name parts.now (fresh N.desks (pair_at N.first N.opened ∷ [])) outcome.ends all outcome.desks }
+    ensures text { IfOk result.0 (λ text. (script : ScriptValue) → script.parts ≡ parts.now
+        → N.opened ≡ opening script.config → IsTextOf Workers script text.items) }
+    ensures ordered { IfOk result.0 (λ text. (script : ScriptValue) → script.parts ≡ parts.now
+        → N.opened ≡ opening script.config → IsTextAsServed script N.first outcome.desks text.items) }
     ensures freed { IsIdle result.1 }
 {
     let _ = parts;
@@ -118,7 +122,7 @@ fn text_of_outcome<N: Name>(
     }
 }
 
-// The text of the script that has these sections, where its pool is shared under this name.
+// Shares the pool under this name, runs the workers on these sections, and returns the text.
 fn shared_text<N: Name + Send + Sync, R: Threads + Wait + Sync, G: Gate>(
     rt: &R,
     alloc: Global,
@@ -128,7 +132,8 @@ fn shared_text<N: Name + Send + Sync, R: Threads + Wait + Sync, G: Gate>(
 ) -> Result<Vec<u8>, AllocError>
     requires name { IsNameOf N.Name start }
     requires under { IsServedUnder N.Name parts.now }
-    ensures { IfOk result (λ text. (script : ScriptValue) → script.parts ≡ parts.now → N.opened ≡ opening script.config → IsTextOf Workers script text.items) }
+    ensures { IfOk result (λ text. (script : ScriptValue) → script.parts ≡ parts.now → N.opened ≡ opening script.config
+        → IsTextOf Workers script text.items) }
 {
     let (shared, desks) = start.open::<N>();
     match run_workers_without_replies(rt, alloc, &shared, desks, parts, gate) {
@@ -143,8 +148,9 @@ fn shared_text<N: Name + Send + Sync, R: Threads + Wait + Sync, G: Gate>(
     }
 }
 
-/// The text of a script each of whose sections a worker serves on a thread of its own, in the order in which the lines were
-/// served, or its configuration's first fault. Want of a thread is told as `Memory`.
+/// Returns the text of a script, each of whose sections is executed by a worker on its own thread. The lines of the text are in
+/// the order in which they were served. Fails with the first fault of the configuration, or as `Memory`, also if a worker has
+/// no thread.
 pub fn workers_text<R: Threads + Wait + Sync, G: Gate>(
     rt: &R,
     alloc: Global,

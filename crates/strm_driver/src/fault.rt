@@ -1,4 +1,4 @@
-//! Why a run fails.
+//! Why a run fails, and how the faults of its parts become its own.
 ghost use Rattle.std.specs.Prelude.{◌≡◌};
 
 use crate::input::ReadFault;
@@ -7,7 +7,7 @@ use strm_pool::{NewFault, Refusal, Which};
 use strm_script::{Fault, ParseFault};
 use thiserror::Error;
 
-/// Why there is no text of a script.
+/// Why a script has no text.
 #[derive(Clone, Copy, Debug, PartialEq, Eq, Error)]
 pub enum TextFault {
     /// The script has a fault.
@@ -16,15 +16,15 @@ pub enum TextFault {
     /// The script's configuration has a fault.
     #[error("bad config: {which}", which = .0.name())]
     Config(Which),
-    /// There is not enough memory, or no thread for a worker.
+    /// Memory was refused, or a worker had no thread.
     #[error("memory")]
     Memory,
-    /// Never told: a worker's call was refused.
+    /// Never returned: a worker's call was refused.
     #[error("refused {number} {name}", number = .0.number(), name = .0.name())]
     Refused(Refusal),
 }
 
-/// Why a run failed. After `Write` a prefix of the text was written, after any other fault nothing.
+/// Why a run failed. After `Write`, a prefix of the text was written; after any other fault, nothing.
 #[derive(Clone, Copy, Debug, PartialEq, Eq, Error)]
 pub enum RunFault {
     /// The reader failed.
@@ -33,7 +33,7 @@ pub enum RunFault {
     /// The input is longer than it may be.
     #[error("input too long")]
     TooLong,
-    /// The writer failed, or took nothing.
+    /// The writer failed, or took no bytes.
     #[error("write fault")]
     Write,
     /// The script has a fault.
@@ -42,10 +42,10 @@ pub enum RunFault {
     /// The script's configuration has a fault.
     #[error("bad config: {which}", which = .0.name())]
     Config(Which),
-    /// There is not enough memory, or no thread for a worker.
+    /// Memory was refused, or a worker had no thread.
     #[error("memory")]
     Memory,
-    /// Never told: a worker's call was refused.
+    /// Never returned: a worker's call was refused.
     #[error("refused {number} {name}", number = .0.number(), name = .0.name())]
     Refused(Refusal),
 }

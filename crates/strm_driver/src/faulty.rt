@@ -1,9 +1,9 @@
-//! A reader and a writer for tests, which go in small pieces and fail on the way.
+//! A reader and a writer for tests, which take small steps and fail at a chosen byte.
 use std::alloc::Global;
 use std::io;
 use std::io::{Read, Write};
 
-/// Gives its text one byte a read, and fails where it has given `cut` bytes.
+/// A reader that gives its text one byte at a time, and fails after `cut` bytes.
 #[derive(Drop)]
 pub struct Slow<'a> {
     text: &'a [u8],
@@ -27,6 +27,7 @@ impl Read for Slow<'_> {
     }
 }
 
+/// Makes a reader of this text.
 pub fn slow_reader(text: &[u8], cut: Option<usize>) -> Slow<'_> {
     Slow {
         text,
@@ -35,7 +36,8 @@ pub fn slow_reader(text: &[u8], cut: Option<usize>) -> Slow<'_> {
     }
 }
 
-/// Takes at most `most` bytes a write, and fails where it holds `cut` bytes, in a flush too. It counts how often it has failed.
+/// A writer that takes at most `most` bytes at a time, and fails once it has `cut` bytes, in a flush too. It counts its
+/// failures.
 #[derive(Drop)]
 pub struct Choppy {
     pub got: Vec<u8>,
@@ -45,7 +47,7 @@ pub struct Choppy {
 }
 
 impl Choppy {
-    // Fails where it is to fail.
+    // Fails if it must.
     fn check(&mut self) -> io::Result<()> {
         if self.cut == Some(self.got.len()) {
             self.faults = self.faults.saturating_add(1);
@@ -68,6 +70,7 @@ impl Write for Choppy {
     }
 }
 
+/// Makes a writer that has no bytes yet.
 pub fn choppy_writer(alloc: Global, most: usize, cut: Option<usize>) -> Choppy {
     Choppy {
         got: Vec::new(alloc),

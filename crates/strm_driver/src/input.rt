@@ -1,4 +1,4 @@
-//! The input of a run.
+//! Reading the whole input of a run, up to a limit.
 ghost use Rattle.std.specs.Prelude.{◌≡◌, ◌||◌, ◌≤◌, ◌<◌, ◌+◌, ℕ, List, length, IfOk, IfSome, Err};
 ghost use Rattle.std.specs.Io.KnownBytes.{Consumes};
 ghost use Rattle.strm_script.specs.Limits.{most_script_bytes};
@@ -10,7 +10,7 @@ use std::alloc::{AllocError, Global};
 use std::io::Read;
 use thiserror::Error;
 
-// How many bytes one read asks for at most.
+// The greatest number of bytes that one read asks for.
 const CHUNK: usize = 4096;
 
 /// Why an input was not read.
@@ -22,7 +22,7 @@ pub enum ReadFault {
     /// The input is longer than it may be.
     #[error("input too long")]
     TooLong,
-    /// There is not enough memory.
+    /// Memory was refused.
     #[error("memory")]
     Memory,
 }
@@ -37,9 +37,9 @@ impl From<AllocError> for ReadFault {
     }
 }
 
-/// Reads the whole input, which may have at most `max` bytes. It is `Read` where the reader fails, `TooLong`
-/// where the input has more bytes, and `Memory` where there is no room for them. At most one byte more than
-/// `max` is taken from the reader, and no more than `max` before a read that fails. A read that fails, or finds the end, is the last.
+/// Reads the whole input, of at most `max` bytes. Fails as `Read` if the reader fails, `TooLong` if there are more bytes, and
+/// `Memory` if memory is refused. It takes at most `max` + 1 bytes from the reader, and at most `max` before a read that fails.
+/// After a read that fails or finds the end, it makes no other.
 pub fn read_input<R: Read>(
     alloc: Global,
     max: u32,
@@ -47,11 +47,15 @@ pub fn read_input<R: Read>(
 ) -> Result<Vec<u8>, ReadFault>
     requires least { 1 ≤ max }
     requires most { max ≤ most_script_bytes }
-    ensures ok { IfOk result (λ v. (length v.items ≤ max) × IfSome (R.remaining reader.old.inner) (λ input. v.items ≡ input)) }
-    ensures too_long { result ≡ Err ReadFault.TooLong → IfSome (R.remaining reader.old.inner) (λ input. max < length input) }
-    ensures reader { reader.new.failed ≡ (reader.old.failed || errs (λ fault. is_read (run_fault_of_read fault)) result) }
+    ensures ok { IfOk result (λ v. (length v.items ≤ max)
+        × IfSome (R.remaining reader.old.inner) (λ input. v.items ≡ input)) }
+    ensures too_long { result ≡ Err ReadFault.TooLong
+        → IfSome (R.remaining reader.old.inner) (λ input. max < length input) }
+    ensures reader { reader.new.failed ≡ (reader.old.failed || errs (λ fault. is_read (run_fault_of_read fault))
+        result) }
     ensures stops { Stops reader.old reader.new }
-    ensures taken { (bytes : List ℕ) × Consumes (R.remaining reader.old.inner) (R.remaining reader.new.inner) bytes × (length bytes ≤ max + 1) × (result ≡ Err ReadFault.Read → length bytes ≤ max) }
+    ensures taken { (bytes : List ℕ) × Consumes (R.remaining reader.old.inner) (R.remaining reader.new.inner) bytes
+        × (length bytes ≤ max + 1) × (result ≡ Err ReadFault.Read → length bytes ≤ max) }
 {
     let most = max as usize;
     let mut chunk = [0; CHUNK];

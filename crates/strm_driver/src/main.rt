@@ -1,4 +1,4 @@
-//! The program `strm`: a script on standard input, its transcript and report on standard output.
+//! The program `strm`: reads a script from standard input, and writes its transcript and report to standard output.
 #![tactic(auto)]
 
 ghost use Rattle.std.specs.Prelude.{◌≡◌, ◌≤◌};
@@ -33,7 +33,7 @@ use strm_shared::OpenGate;
 use watched::Watched;
 use words::{Options, options_of};
 
-// The exit status where the words are refused.
+// The exit status after a bad command line.
 const USAGE: u8 = 64;
 
 // The exit status after a fault.
@@ -48,7 +48,7 @@ fn status_of(fault: RunFault) -> u8
     }
 }
 
-// Says what went wrong. There is nobody to tell where that fails.
+// Writes the fault to standard error. If that fails, nothing more can be reported.
 fn failed(rt: &impl Eprint, fault: RunFault) -> ExitCode
     ensures { exit_status result ≡ status_of fault }
 {
@@ -56,7 +56,7 @@ fn failed(rt: &impl Eprint, fault: RunFault) -> ExitCode
     ExitCode::from(status_of(fault))
 }
 
-// Shows the help, or what is wrong with the words.
+// Shows the help, or what is wrong with the command line.
 fn answered(rt: &(impl Print + Eprint), error: &clap::Error) -> ExitCode {
     if error.kind() == ErrorKind::OutOfMemory {
         return failed(rt, RunFault::Memory);
@@ -71,7 +71,7 @@ fn answered(rt: &(impl Print + Eprint), error: &clap::Error) -> ExitCode {
     }
 }
 
-// Runs the script on standard input. The status is 0 to 3: no run ends with that of a refusal.
+// Runs the script on standard input. The status is 0 to 3: no run ends as `Refused`.
 fn served(
     rt: &(impl AllocGlobal + Input + Print + Eprint + Threads + Wait + Sync),
     options: Options,
@@ -95,12 +95,12 @@ fn served(
     }
 }
 
-// The words that the program was started with.
+// The words of the command line.
 fn arguments(rt: &(impl AllocGlobal + Env)) -> io::Result<Vec<String>> {
     Ok(env::args(rt)?.collect(rt.alloc())?)
 }
 
-// Why the words were not read: want of memory, or one that is not UTF-8.
+// Reports why the words could not be read: out of memory, or a word is not UTF-8.
 fn unread(rt: &impl Eprint, error: &io::Error) -> ExitCode {
     if error.kind() == io::ErrorKind::OutOfMemory {
         return failed(rt, RunFault::Memory);

@@ -1,5 +1,5 @@
-//! Each call of the libraries that asks for memory, and `run`, made once more where it is refused. tests/faults/calls has each
-//! growth and each thread refused in turn; where none is, these tests pass too.
+//! Makes each call of the libraries that allocates, and `run`, and makes it again if memory or a thread is refused.
+//! tests/faults/calls refuses each growth and each thread in turn; without refusals these tests pass too.
 ghost use Rattle.std.specs.Prelude.{◌≡◌, length};
 ghost use Rattle.strm_mblk.specs.Arena.{census_of};
 ghost use Rattle.strm_shared.specs.Starts.{IsNameOf};
@@ -20,8 +20,8 @@ use strm_shared::{
     Shared, Start, Trace, run_workers, run_workers_without_replies,
 };
 
-// Two sections. The second has no lines, so that the text is the same in whatever order they are served. The text grows within the
-// reply to the first line.
+// Two sections, of which the second has no lines: so the text is the same in every order. The text grows within the reply to
+// the first line.
 const SCRIPT: &[u8] =
     b"pool 1 8\nclass 16 4\nqueue 10 4 s -\nbufcalls 2 1\nworker\ncensus\nallocb a 3\nfreemsg a\nworker\n";
 
@@ -29,15 +29,15 @@ const TEXT: &[u8] =
     b"0:6 census 8 0 0\n0:7 ok\n0:8 ok\nblocks free=8 queued=0 held=0 total=8\ndata size=16 free=4 total=4\n\
       queue 0 msgs=0 bytes=0 read=1 noenable=0 enabled=0\nrun -\nwishes -\n";
 
-// Where the report begins in it.
+// The place of the report in the text.
 const REPORT: usize = 31;
 
-// Tells what was refused, on a line that tests/faults/calls reads.
+// Reports what was refused, on a line that tests/faults/calls reads.
 fn tell(rt: &impl Print, what: &str) {
     let _ = println!(rt; "refused {what}");
 }
 
-// What a call makes. It is called once more where memory is refused, of which it has no answer but this fault.
+// The result of a call, which is made again if memory is refused. It must fail with no other fault.
 macro_rules! made {
     ($rt:expr, $memory:expr, $call:path, $($argument:expr),*) => {
         match $call($($argument),*) {
@@ -65,7 +65,7 @@ fn stacks(rt: &(impl Abort + Print), alloc: Global) {
     assert!(rt; stacks.front(0).is_none() && stacks.front(1) == Some(3));
 }
 
-// The one node begins a strand, and then none is left.
+// The one node begins a strand, and then no node is free.
 fn strands(rt: &(impl Abort + Print), alloc: Global) {
     let mut strands = made!(rt, AllocError, Strands::new, alloc, 1);
     assert!(rt; strands.begin() == Some(0) && strands.begin().is_none());
@@ -117,32 +117,32 @@ fn parts_of_a_pool(rt: HostRuntime) {
     queues(&rt, rt.alloc());
 }
 
-// What the script says.
+// The script as it is read.
 fn script(rt: &(impl Abort + Print), alloc: Global) -> Script {
     made!(rt, ParseFault::Memory, parse, alloc, SCRIPT)
 }
 
-// What its pool is made with.
+// The configuration of the script.
 fn config(rt: &(impl Abort + Print), alloc: Global) -> Config {
     let Script { config, parts: _ } = script(rt, alloc);
     config
 }
 
-// How its pool is shared.
+// How the script's pool is shared.
 const SETUP: Setup = Setup {
     desks: 2,
     trace: Trace::Keep(3),
     first_stamp: 0,
 };
 
-// Its pool, in which nothing is held.
+// The script's pool, in which no message is held.
 fn pool(rt: &(impl Abort + Print), alloc: Global) -> Pool
     ensures { (census_of result.arena).held ≡ 0 }
 {
     made!(rt, NewFault::Memory, Pool::new, alloc, config(rt, alloc))
 }
 
-// Its pool, which is to be shared so. Where memory is refused the pool comes back.
+// Starts sharing the script's pool. If memory is refused, the pool comes back.
 fn start(rt: &(impl Abort + Print), alloc: Global) -> Start {
     match Start::new(alloc, pool(rt, alloc), SETUP) {
         Ok(start) => start,
@@ -157,7 +157,7 @@ fn start(rt: &(impl Abort + Print), alloc: Global) -> Start {
     }
 }
 
-// What workers leave, by this call. Where memory is refused their desks come back, and it is called once more.
+// The outcome of workers, run by this call. If memory is refused, their desks come back, and the call is made again.
 macro_rules! worked {
     ($rt:expr, $call:path, $alloc:expr, $shared:expr, $desks:expr, $parts:expr) => {
         match $call($rt, $alloc, $shared, $desks, $parts, &OpenGate) {
@@ -176,7 +176,7 @@ macro_rules! worked {
     };
 }
 
-// The desks of its workers, and how each ended, where their replies are kept.
+// The desks of workers, and how each ended, with replies kept.
 fn worked<N: Name + Send + Sync, R: Abort + Print + Threads + Wait + Sync>(
     rt: &R,
     alloc: Global,
@@ -194,7 +194,7 @@ fn worked<N: Name + Send + Sync, R: Abort + Print + Threads + Wait + Sync>(
     (desks, ends)
 }
 
-// The same, where nobody gets the replies.
+// The desks of workers, and how each ended, without replies.
 fn worked_without_replies<N: Name + Send + Sync, R: Abort + Print + Threads + Wait + Sync>(
     rt: &R,
     alloc: Global,
@@ -215,7 +215,7 @@ fn worked_without_replies<N: Name + Send + Sync, R: Abort + Print + Threads + Wa
     (desks, ends)
 }
 
-// The text that there is once two workers ended so. Where one has no thread the other runs on.
+// The text after two workers ended so. If one had no thread, the other ran on.
 fn text_behind(rt: &(impl Abort + Print), ends: &[End]) -> &'static [u8] {
     match ends {
         [End::Done, End::Done] => TEXT,
@@ -231,7 +231,7 @@ fn text_behind(rt: &(impl Abort + Print), ends: &[End]) -> &'static [u8] {
     }
 }
 
-// Has a call append to a text, once more where memory is refused, which leaves the text as it was.
+// Appends to a text by a call, which is made again if memory is refused; then the text must be unchanged.
 macro_rules! append {
     ($rt:expr, $text:ident, $call:path, $($argument:expr),*) => {
         let before = $text.len();
@@ -243,7 +243,7 @@ macro_rules! append {
     };
 }
 
-// Appends a line for an entry.
+// Appends the line of an entry.
 fn append_reply(rt: &(impl Abort + Print), text: &mut Vec<u8>, entry: &Entry) {
     append!(rt, text, reply_text, entry.desk, entry.line, &entry.reply);
 }
@@ -253,7 +253,7 @@ fn append_report(rt: &(impl Abort + Print), text: &mut Vec<u8>, pool: &Pool) {
     append!(rt, text, report_text, pool);
 }
 
-// A line for each entry, and the report.
+// A line for each entry, and then the report.
 fn text_of(rt: &(impl Abort + Print), alloc: Global, pool: &Pool, entries: &[Entry]) -> Vec<u8> {
     let mut text = Vec::new(alloc);
     for entry in entries {
@@ -263,7 +263,7 @@ fn text_of(rt: &(impl Abort + Print), alloc: Global, pool: &Pool, entries: &[Ent
     text
 }
 
-// Has workers serve the sections, whose replies are kept or not, and compares the text of their trace.
+// Runs workers on the sections, with or without replies, and compares the text of their trace.
 fn serve<N: Name + Send + Sync, R: Abort + Print + Threads + Wait + Sync>(
     rt: &R,
     alloc: Global,
@@ -316,7 +316,7 @@ fn run_once<R: AllocGlobal + Threads + Wait + Sync>(
     run(rt, mode, 1000, &OpenGate, &mut Watched::new(SCRIPT), writer)
 }
 
-// Runs the script, once more where memory is refused. Nothing was written then, so that the next run writes the whole.
+// Runs the script, and again if memory is refused: then nothing was written, so that the next run writes the whole text.
 fn run_whole<R: Abort + AllocGlobal + Print + Threads + Wait + Sync>(
     rt: &R,
     mode: Mode,

@@ -1,4 +1,4 @@
-//! A run, from the bytes of a script to the bytes of its text.
+//! A run: from the bytes of a script to the bytes of its text.
 ghost use Rattle.std.specs.Prelude.{◌≡◌, ◌≢◌, ◌≤◌, ◌+◌, ◌||◌, ℕ, List, length, take, OnOk, IfOk, IfErr, IfSome, IsOkAnd, None, Err};
 ghost use Rattle.std.specs.Io.KnownBytes.{Appends, Consumes, Keeps};
 ghost use Rattle.strm_script.specs.Limits.{most_script_bytes};
@@ -20,17 +20,17 @@ use std::thread::Threads;
 use strm_script::parse;
 use strm_shared::Gate;
 
-/// How the lines of a script are served.
+/// How the lines of a script are executed.
 #[derive(Clone, Copy, Debug, PartialEq, Eq)]
 pub enum Mode {
     /// On one thread, worker 0's lines first, then worker 1's, and so on.
     Serial,
-    /// By workers, each on a thread of its own.
+    /// By workers, each on its own thread.
     Workers,
 }
 
-// The text of the script that bytes are, or the script's or its configuration's first fault. The bytes are let go
-// once they are read.
+// The text of the script that these bytes are, or the first fault of the script or its configuration. The bytes are freed after
+// they are read.
 fn text_of_script<E: Threads + Wait + Sync, G: Gate>(
     rt: &E,
     alloc: Global,
@@ -41,7 +41,8 @@ fn text_of_script<E: Threads + Wait + Sync, G: Gate>(
     requires { length bytes.items ≤ most_script_bytes }
     ensures text { IfOk result (λ text. IsOkAnd (script_of bytes.items) (λ script. IsTextOf mode script text.items)) }
     ensures lawful { OnOk result (fault_of_script (script_of bytes.items) ≡ None) }
-    ensures refused { IfErr result (λ fault. TellsFault (run_fault_of_text fault) (fault_of_script (script_of bytes.items))) }
+    ensures refused { IfErr result (λ fault. TellsFault (run_fault_of_text fault)
+        (fault_of_script (script_of bytes.items))) }
     ensures met { IfErr result (λ fault. IsMet (run_fault_of_text fault)) }
 {
     let script = parse(alloc, &bytes)?;
@@ -53,8 +54,8 @@ fn text_of_script<E: Threads + Wait + Sync, G: Gate>(
     Ok(text)
 }
 
-/// Reads a script of at most `max` bytes, serves its lines, and writes the transcript and the report. Workers call the gate
-/// round each line that they serve.
+/// Reads a script of at most `max` bytes, executes its lines, and writes the transcript and the report. Workers call the gate
+/// around each line that they execute.
 pub fn run<E: AllocGlobal + Threads + Wait + Sync, G: Gate, R: Read, W: Write>(
     rt: &E,
     mode: Mode,
@@ -65,27 +66,28 @@ pub fn run<E: AllocGlobal + Threads + Wait + Sync, G: Gate, R: Read, W: Write>(
 ) -> Result<(), RunFault>
     requires least { 1 ≤ max }
     requires most { max ≤ most_script_bytes }
-    // Where it is Ok, the bytes read have no fault, and the text of their script was written, and nothing else.
+    // If the run succeeds, the bytes that were read have no fault, and exactly the text of their script was written.
     ensures text { OnOk result (IfSome (R.remaining reader.old.inner) (λ input.
-        (text : List ℕ) × IsTextOfInput mode max input text × Appends (W.contents writer.old.inner) (W.contents writer.new.inner) text)) }
-    // An input too long, a script or a configuration is refused where it is at fault, and for its first fault.
+        (text : List ℕ) × IsTextOfInput mode max input text
+        × Appends (W.contents writer.old.inner) (W.contents writer.new.inner) text)) }
+    // If it fails as `TooLong`, `Script` or `Config`, that is the first fault of the input.
     ensures refused { IfErr result (λ fault. IfSome (R.remaining reader.old.inner) (λ input.
         TellsFault fault (fault_of_input max input))) }
-    // No worker is ever told as refused.
+    // No run fails as `Refused`.
     ensures met { IfErr result IsMet }
     // After a write fault a prefix of the text was written.
     ensures cut { result ≡ Err RunFault.Write → IfSome (R.remaining reader.old.inner) (λ input.
         (text : List ℕ) × IsTextOfInput mode max input text
         × ((n : ℕ) × Appends (W.contents writer.old.inner) (W.contents writer.new.inner) (take n text))) }
-    // After any other fault nothing was written.
+    // After any other fault, nothing was written.
     ensures unwritten { IfErr result (λ fault. fault ≢ RunFault.Write
         → Keeps (W.contents writer.old.inner) (W.contents writer.new.inner)) }
-    // A read fault comes where the reader failed, and nowhere else, and a write fault where the writer did.
+    // A run fails as `Read` exactly if the reader failed, and as `Write` exactly if the writer did.
     ensures reader { reader.new.failed ≡ (reader.old.failed || errs is_read result) }
     ensures writer { writer.new.failed ≡ (writer.old.failed || errs is_write result) }
-    // A read that fails or finds the end is the last one, and so is a write that fails.
+    // After a read that fails or finds the end, no read follows. After a write or flush that fails, neither follows.
     ensures stops { Stops reader.old reader.new × Stops writer.old writer.new }
-    // At most one byte more than `max` is taken from the reader; where more than `max` were, no read fault is told.
+    // At most `max` + 1 bytes are taken from the reader; if more than `max` were, the run does not fail as `Read`.
     ensures taken { (bytes : List ℕ) × Consumes (R.remaining reader.old.inner) (R.remaining reader.new.inner) bytes
         × (length bytes ≤ max + 1) × (result ≡ Err RunFault.Read → length bytes ≤ max) }
 {

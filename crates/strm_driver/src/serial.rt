@@ -1,4 +1,4 @@
-//! The text of a script whose sections are served one after another on one thread.
+//! The text of a script whose sections are executed one after another on one thread.
 ghost use Rattle.std.specs.Prelude.{◌≡◌, ◌≤◌, ◌+◌, ◌++◌, ◌∷◌, [], List, length, sum_by, OnOk, IfOk, IfErr, IsTrue, None};
 ghost use Rattle.strm_pool.specs.Config.{fault_of};
 ghost use Rattle.strm_pool.specs.PoolValue.{owns};
@@ -18,7 +18,7 @@ use strm_pool::{NewFault, Pool, Regs, Reply};
 use strm_script::{Script, reply_text, report_text};
 use strm_shared::{Line, Lines};
 
-// Serves a worker's lines, and appends the transcript. Its registers are its own.
+// Executes a worker's lines on its own registers, and appends the transcript.
 fn serve(
     pool: &mut Pool,
     regs: &mut Regs,
@@ -30,7 +30,8 @@ fn serve(
     requires distinct { AreDistinct (table_of regs.old) }
     ensures text { OnOk result ((before behind : List RegisterTable) (later : List Served) → length before ≡ worker
         → text.new.items ++ text_from pool.new (before ++ table_of regs.new ∷ behind) later
-        ≡ text.old.items ++ text_from pool.old (before ++ table_of regs.old ∷ behind) (by_worker worker lines.now ++ later)) }
+        ≡ text.old.items ++ text_from pool.old (before ++ table_of regs.old ∷ behind)
+        (by_worker worker lines.now ++ later)) }
     ensures owned { IsTrue (owns pool.new regs.new) }
     ensures held { AreHeldAlike pool.old (entries_of regs.old ∷ []) pool.new (entries_of regs.new ∷ []) }
 {
@@ -42,8 +43,8 @@ fn serve(
     Ok(())
 }
 
-// Serves the sections of a worker and of those behind it, one after another, and appends the transcript and the report.
-// What they hold then is freed.
+// Executes the sections of a worker and of all later ones, in order, and appends the transcript and the report. Then the
+// registers' messages are freed.
 fn serve_parts(
     pool: &mut Pool,
     worker: u8,
@@ -52,7 +53,8 @@ fn serve_parts(
 ) -> Result<(), AllocError>
     requires { worker + length parts.now ≤ most_workers }
     ensures text { OnOk result ((before : List RegisterTable) → length before ≡ worker
-        → text.new.items ≡ text.old.items ++ text_from pool.old (before ++ empty_tables (length parts.now)) (serial_from worker parts.now)) }
+        → text.new.items ≡ text.old.items
+        ++ text_from pool.old (before ++ empty_tables (length parts.now)) (serial_from worker parts.now)) }
     ensures freed { AreHeldAlike pool.old [] pool.new [] }
 {
     let [lines, others @ ..] = parts else {
@@ -67,7 +69,8 @@ fn serve_parts(
     served
 }
 
-/// The text of a script, all of whose lines are served on one thread, worker 0's first, or its configuration's first fault.
+/// Returns the text of a script, all of whose lines are executed on one thread, worker 0's first. Fails with the first fault of
+/// the configuration, or as `Memory`.
 pub fn serial_text(alloc: Global, script: Script) -> Result<Vec<u8>, NewFault>
     requires few { length script.parts ≤ most_workers }
     requires within { sum_by length script.parts ≤ most_command_lines }

@@ -1,4 +1,4 @@
-//! A reader or a writer that is watched for failures, and for calls that come too late.
+//! A reader or writer with a record of failures, and of calls that came too late.
 ghost use Rattle.std.specs.Prelude.{◌≡◌, ◌||◌, ◌<◌, false, is_err, length};
 ghost use Rattle.std.specs.Io.{ReadsAtMost, WritesAtMost};
 ghost use Rattle.std.specs.Io.KnownBytes.{Keeps, ReadConsumes, WriteAppends};
@@ -8,8 +8,8 @@ use std::io;
 use std::io::{Read, Write};
 use std::marker::Model;
 
-/// A reader or a writer, and whether a call on it has failed, whether a read found the end, and whether a call came after
-/// either. Only its own calls can say so.
+/// A reader or a writer. It records whether a call failed, whether a read found the end, and whether a call came after either.
+/// Only its own calls change this record.
 #[derive(Drop)]
 pub struct Watched<T> {
     inner: T,
@@ -27,7 +27,7 @@ impl<T> Model for Watched<T> {
 }
 
 impl<T> Watched<T> {
-    /// A reader or a writer on which no call was made.
+    /// Makes one on which no call was made.
     pub fn new(inner: T) -> Watched<T>
         ensures inner { result.inner ≡ inner }
         ensures failed { result.failed ≡ false }
@@ -42,7 +42,7 @@ impl<T> Watched<T> {
         }
     }
 
-    // Notes a call, which comes too late where one has failed, or a read has found the end.
+    // Notes a call: it is too late if one has failed, or if a read has found the end.
     fn note(&mut self)
         ensures inner { self.new.inner ≡ self.old.inner }
         ensures failed { self.new.failed ≡ self.old.failed }
@@ -54,7 +54,7 @@ impl<T> Watched<T> {
 }
 
 impl<R: Read> Watched<R> {
-    /// Reads once. A read into some room that gives nothing has found the end.
+    /// Reads once. A read with room that gives no bytes has found the end.
     pub fn read(&mut self, buf: &mut [u8]) -> io::Result<usize>
         ensures bound { ReadsAtMost result buf.new }
         ensures bytes { ReadConsumes (R.remaining self.old.inner) (R.remaining self.new.inner) result buf.new }
@@ -71,7 +71,7 @@ impl<R: Read> Watched<R> {
 }
 
 impl<W: Write> Watched<W> {
-    /// Writes once, some bytes. A write that takes none of them has failed too.
+    /// Writes once. A write of some bytes that takes none has failed.
     pub fn write(&mut self, buf: &[u8]) -> io::Result<usize>
         requires { 0 < length buf.now }
         ensures bound { WritesAtMost result buf.now }

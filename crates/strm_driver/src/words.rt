@@ -1,4 +1,4 @@
-//! The program's words.
+//! The words of the command line, as options.
 ghost use Rattle.std.specs.Prelude.{◌≤◌, IfOk};
 ghost use Rattle.strm_script.specs.Limits.{most_script_bytes};
 
@@ -7,20 +7,20 @@ use clap::{Arg, ArgAction, Command, Error, value_parser};
 use std::alloc::Global;
 use strm_script::MOST_SCRIPT_BYTES;
 
-// How many bytes the input may have where no word says so.
+// The greatest number of bytes of the input, if no word says otherwise.
 const DEFAULT_MAX: u32 = 1_048_576;
 
-/// What the words ask for.
+/// What the command line asks for.
 #[derive(Clone, Copy, Debug, PartialEq, Eq)]
 pub struct Options {
-    /// How the lines of a script are served.
+    /// How the lines of a script are executed.
     pub mode: Mode,
-    /// How many bytes the input may have.
+    /// The greatest number of bytes of the input.
     pub max: u32,
 }
 
-/// What words ask for, the first of which is the program's name. The error is a mistake in the words, a request
-/// for help, or want of memory.
+/// Returns the options of a command line, whose first word is the program's name. The error is a mistake in the words, a
+/// request for help, or out of memory.
 pub fn options_of(alloc: Global, words: &[String]) -> Result<Options, Error>
     ensures { IfOk result (λ options. (1 ≤ options.max) × (options.max ≤ most_script_bytes)) }
 {
@@ -47,7 +47,7 @@ pub fn options_of(alloc: Global, words: &[String]) -> Result<Options, Error>
     let max = matches.get_one("max").unwrap_or(DEFAULT_MAX);
     Ok(Options {
         mode,
-        // The parser of `--max` has refused every other number.
+        // This changes nothing: the parser of `--max` has refused every other number.
         max: max.clamp(1, MOST_SCRIPT_BYTES),
     })
 }

@@ -7,7 +7,7 @@ use Rattle.strm_pool.specs.PoolValue.{PoolValue}
 use Rattle.strm_forward.specs.Forwarding.{Forwards, Goes, KeepsRest, Stays, first_moved, may_go, moved}
 use borrow.Author.Count.{below_more}
 
--- so many messages have gone, each with leave, and the others are left
+-- this number of messages has gone, each allowed by flow control, and the others are left
 pub record IsOn (from to count : ℕ) (old now : PoolValue) : Type 0 where
   pub messages : now.arena ≡ moved from to count old.arena
   pub within : count ≤ length (shelf_at old.arena from)

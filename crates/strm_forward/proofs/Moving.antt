@@ -118,7 +118,7 @@ ahead_first rank m (x ∷ xs) ordered =
     let below : Message → Bool = λ y. nat_le (rank y) (rank m) in
     cond-true (below x) (m ∷ x ∷ xs) (x ∷ put_ahead rank m xs) (and_parts (below x) (list_all below xs) (and_parts (list_all below (x ∷ xs)) (is_ordered rank (x ∷ xs)) ordered).0).0
 
--- a message that isn't of high priority stands on a queue as it is
+-- a queue has a message without high priority as it is
 queued_same : (s : DataStore) (m : Message) → (rank_of s m == high_rank) ≡ false → as_queued s m ≡ m
 queued_same s [] low = refl
 queued_same s (b ∷ bs) low = by_kind (is_high_priority (kind_of s b)) low

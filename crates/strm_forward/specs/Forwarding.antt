@@ -1,4 +1,4 @@
--- What a service procedure does that hands the messages of one queue on to another.
+-- What a service procedure does that forwards the messages of one queue to another.
 use Rattle.std.specs.Prelude.{◌≡◌, ℕ, zero, suc, ◌<◌, ◌≤◌, Bool, true, false, not, ◌||◌, ◌==◌, IsTrue, [], drop, length, slice_index_or}
 use Rattle.strm_mblk.specs.Arena.{Arena, census_of, message_at, shelf_at, with_shelf, without_held}
 use Rattle.strm_mblk.specs.Block.{Message}
@@ -7,63 +7,62 @@ use Rattle.strm_queue.specs.Flow.{QueueState, band_count, fills, flags_at, hiwat
 use Rattle.strm_queue.specs.Limits.{high_rank}
 use Rattle.strm_queue.specs.Rank.{as_queued, put_ahead, put_behind, rank_of}
 
--- the first message of a queue, and the message blocks without it
+-- the first message of a queue; and the message blocks without it
 abbrev pub first_on : ℕ → Arena → Message
 first_on q a = slice_index_or (shelf_at a q) 0 []
 
 abbrev pub without_first : ℕ → Arena → Arena
 without_first q a = with_shelf q (drop 1 (shelf_at a q)) a
 
--- the message blocks with this message on a queue, behind its equals, and with it put back there, before its equals
+-- the message blocks with this message on queue q, after its equals; and with it put back there, before its equals
 abbrev pub with_put : ℕ → Message → Arena → Arena
 with_put q m a = with_shelf q (put_behind (rank_of a.store) (as_queued a.store m) (shelf_at a q)) a
 
 abbrev pub with_put_back : ℕ → Message → Arena → Arena
 with_put_back q m a = with_shelf q (put_ahead (rank_of a.store) (as_queued a.store m) (shelf_at a q)) a
 
--- the first message of one queue has gone on another
+-- the first message of queue `from` was put on queue `to`
 abbrev pub first_moved : ℕ → ℕ → Arena → Arena
 first_moved from to a = with_put to (first_on from a) (without_first from a)
 
--- so many have, one after another
+-- this number of messages were forwarded, one after another
 abbrev pub moved : ℕ → ℕ → ℕ → Arena → Arena
 moved from to zero a = a
 moved from to (suc n) a = first_moved from to (moved from to n a)
 
--- whether a message has leave to be put on a queue: one of high priority always; any other where its band isn't full at the
--- first queue with a service procedure from there on
+-- A message may be put on a queue if it is high priority, or if its band is not full at the queue's target.
 abbrev pub has_leave : ℕ → QueueState → Arena → Message → Bool
 has_leave to s a m =
     rank_of a.store m == high_rank
     || not (fills (hiwat_of s (target s.specs to) (rank_of a.store m)) (band_count a.store (rank_of a.store m) (shelf_at a (target s.specs to))))
 
--- whether the first message of a queue has, once it is off the queue
+-- whether the first message of queue `from`, once taken off, may be put on queue `to`
 abbrev pub may_go : ℕ → ℕ → QueueState → Arena → Bool
 may_go from to s a = has_leave to s (without_first from a) (first_on from a)
 
--- nothing but flags and the run list has changed besides the messages
+-- besides message blocks, only flags and the run list have changed
 pub record KeepsRest (old new : PoolValue) : Type 0 where
   pub specs : new.queues.specs ≡ old.queues.specs
   pub marks : new.queues.marks ≡ old.queues.marks
   pub wishes : new.wishes ≡ old.wishes
 
--- So many messages were forwarded.
+-- `count` messages were forwarded.
 pub record Forwards (from to count : ℕ) (old new : PoolValue) : Type 0 where
-  -- These are the first ones, in order; all other message blocks, free or in messages, are as they were.
+  -- They are the first ones, in order; all other message blocks, free or in messages, are unchanged.
   pub messages : new.arena ≡ moved from to count old.arena
   pub within : count ≤ length (shelf_at old.arena from)
   pub left : shelf_at new.arena from ≡ drop count (shelf_at old.arena from)
   pub census : census_of new.arena ≡ census_of old.arena
-  -- Each had leave when its turn came, and the first that stays, if any does, has none.
+  -- Each was allowed to go when its turn came; the first message that stays, if any, is not.
   pub leave : (k : ℕ) → k < count → IsTrue (may_go from to old.queues (moved from to k old.arena))
   pub stops : count < length (shelf_at old.arena from) → may_go from to old.queues new.arena ≡ false
-  -- Where none stays, somebody wants to read, so that the next message enables the queue.
+  -- If none stays, the want-to-read mark is set, so that the next message enables the queue.
   pub reads : count ≡ length (shelf_at old.arena from) → IsTrue (flags_at new.queues from).read
   pub rest : KeepsRest old new
 
 -- ---- one message at a time
 
--- the first message went on
+-- the first message went
 pub record Goes (from to : ℕ) (old new : PoolValue) : Type 0 where
   pub some : 0 < length (shelf_at old.arena from)
   pub leave : may_go from to old.queues old.arena ≡ true
@@ -71,7 +70,7 @@ pub record Goes (from to : ℕ) (old new : PoolValue) : Type 0 where
   pub left : shelf_at new.arena from ≡ drop 1 (shelf_at old.arena from)
   pub rest : KeepsRest old new
 
--- it stays, if there is one
+-- the first message, if any, stayed
 pub record Stays (from to : ℕ) (old new : PoolValue) : Type 0 where
   pub leave : 0 < length (shelf_at old.arena from) → may_go from to old.queues old.arena ≡ false
   pub reads : length (shelf_at old.arena from) ≡ 0 → (flags_at new.queues from).read ≡ true
@@ -82,7 +81,7 @@ abbrev pub HandsOn : ℕ → ℕ → PoolValue → Bool → PoolValue → Type 0
 HandsOn from to old true new = Goes from to old new
 HandsOn from to old false new = Stays from to old new
 
--- the message held at h is on the queue in front, or back on the one behind
+-- the message held at h is put on queue `to`, or back on queue `from`
 abbrev pub placed : ℕ → ℕ → ℕ → Bool → Arena → Arena
 placed from to h true a = with_put to (message_at a h) (without_held h a)
 placed from to h false a = with_put_back from (message_at a h) (without_held h a)

@@ -1,4 +1,4 @@
-//! A service procedure over a pool: it hands messages on from queue to queue under flow control.
+//! A service procedure over a pool: it forwards messages from one queue to another under flow control.
 #![tactic(auto)]
 
 mod service;

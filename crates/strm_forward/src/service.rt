@@ -1,4 +1,4 @@
-//! A service procedure.
+//! The service procedure, as one of a STREAMS module that changes nothing.
 ghost use Rattle.std.specs.Prelude.{◌≡◌, ◌≢◌, IfErr, IfOk, IsTrue, ◌&&◌, false, true};
 ghost use Rattle.strm_data.specs.declared.refusal.Refusal.TheVariants.{NoSuchQueue};
 ghost use Rattle.strm_forward.specs.Forwarding.{Forwards, HandsOn, KeepsRest, has_leave, placed};
@@ -7,16 +7,18 @@ ghost use Rattle.strm_pool.specs.PoolValue.{has_queue};
 
 use strm_pool::{Pool, Refusal, Token};
 
-/// Forwards the messages of one queue to another, as the service procedure of a STREAMS module does: one after another, until none
-/// is left, or the first is not of high priority and its band is full in front. That one is put back where it was, and its band is
-/// noted as wanted, so that the queue is enabled once there is room again. Answers how many went.
+/// Forwards the messages of queue `from` to queue `to`, one after another, as the service procedure of a STREAMS module does.
+/// Returns how many went. The two numbers must differ.
 ///
-/// Refused as `NoSuchQueue` where one of the queues is not there; nothing changes then.
+/// It stops when `from` is empty, or when the first message is not high priority and `bcanput` says that its band is full at
+/// the target of `to`. That message is put back first on `from`. Its band is then wanted at that target: once it has drained
+/// there, the target's waker is enabled. Refused as `NoSuchQueue` if one of the queues does not exist; then nothing changes.
 pub fn forward(pool: &mut Pool, from: u8, to: u8) -> Result<u32, Refusal>
     requires apart { from ≢ to }
     ensures forwards { IfOk result (λ count. Forwards from to count pool.old pool.new) }
     ensures found { IfOk result (λ count. (has_queue pool.old from && has_queue pool.old to) ≡ true) }
-    ensures refused { IfErr result (λ why. (why ≡ NoSuchQueue) × ((has_queue pool.old from && has_queue pool.old to) ≡ false) × (pool.new ≡ pool.old)) }
+    ensures refused { IfErr result (λ why. (why ≡ NoSuchQueue)
+        × ((has_queue pool.old from && has_queue pool.old to) ≡ false) × (pool.new ≡ pool.old)) }
 {
     pool.lawful();
     let waiting = pool.qsize(from)?;
@@ -30,7 +32,7 @@ pub fn forward(pool: &mut Pool, from: u8, to: u8) -> Result<u32, Refusal>
     Ok(count)
 }
 
-// Takes the first message off a queue, if there is one, and puts it on the other where it may go there, else back. Tells whether it
+// Takes the first message of queue `from`, if any. Puts it on `to` if it may go there, otherwise back, and says whether it
 // went.
 fn hand_on(pool: &mut Pool, from: u8, to: u8) -> bool
     requires apart { from ≢ to }
@@ -46,7 +48,7 @@ fn hand_on(pool: &mut Pool, from: u8, to: u8) -> bool
     }
 }
 
-// Puts a message on the queue in front, where it may go there, or back. Tells whether it went.
+// Puts a message on queue `to` if it may go there, otherwise back on `from`, and says whether it went.
 fn place(pool: &mut Pool, from: u8, to: u8, token: Token) -> bool
     requires has { IsTrue (has pool.old.arena token) }
     requires behind { IsTrue (has_queue pool.old from) }
@@ -67,8 +69,8 @@ fn place(pool: &mut Pool, from: u8, to: u8, token: Token) -> bool
     }
 }
 
-// Whether a message may be put on a queue now: one of high priority always, any other where its band has room. Where it has
-// none, its wanted mark is set.
+// Whether a message may be put on a queue now: if it is high priority, or if its band has room at the target. If the band has
+// no room, it gets its wanted mark.
 fn may_go(pool: &mut Pool, to: u8, token: &Token) -> bool
     requires has { IsTrue (has pool.old.arena token.now) }
     requires ahead { IsTrue (has_queue pool.old to) }

@@ -10,7 +10,7 @@ use strm_pool::{
     Rejected, Token,
 };
 
-// A pool with two queues, of which the first feeds the second.
+// Opens a pool with two queues; queue 1 is next of queue 0.
 fn opened(alloc: Global) -> Result<Pool, NewFault> {
     let mut classes = ArrayVec::new();
     classes.push(ClassSpec { size: 16, count: 8 });
@@ -28,7 +28,7 @@ fn opened(alloc: Global) -> Result<Pool, NewFault> {
     Pool::new(alloc, config)
 }
 
-// A queue of these water marks, with a service procedure.
+// The spec of a queue with these water marks and a service procedure.
 const fn queue(hiwat: u32, lowat: u32, next: Option<u8>) -> QueueSpec {
     QueueSpec {
         hiwat,
@@ -47,7 +47,7 @@ fn fill(pool: &mut Pool, token: &Token, kind: MsgType, bytes: &[u8]) -> Result<(
     pool.settype(token, 0, kind)
 }
 
-// Puts a message of these bytes on a queue. Where that is refused, the message is freed.
+// Puts a message of these bytes on a queue. If that is refused, the message is freed.
 fn post(pool: &mut Pool, queue: u8, kind: MsgType, bytes: &[u8]) -> Result<(), Refusal> {
     let token = pool.allocb(16)?;
     if let Err(why) = fill(pool, &token, kind, bytes) {
@@ -63,7 +63,7 @@ fn post(pool: &mut Pool, queue: u8, kind: MsgType, bytes: &[u8]) -> Result<(), R
     }
 }
 
-// The first byte of the first message of a queue, which is taken off and freed.
+// Takes the first message of a queue, frees it, and returns its first byte.
 fn taken(rt: &impl Abort, pool: &mut Pool, queue: u8) -> u8 {
     let Ok(Some(token)) = pool.getq(queue) else {
         panic!(rt; "no message")
@@ -74,12 +74,12 @@ fn taken(rt: &impl Abort, pool: &mut Pool, queue: u8) -> u8 {
     bytes[0]
 }
 
-// This message goes on the queue.
+// This message can be put on the queue.
 fn assert_posted(rt: &impl Abort, pool: &mut Pool, queue: u8, kind: MsgType, bytes: &[u8]) {
     assert!(rt; post(pool, queue, kind, bytes) == Ok(()));
 }
 
-// So much is answered where the messages of one queue are forwarded to another.
+// `forward` from one queue to another returns this.
 fn assert_forwarded(
     rt: &impl Abort,
     pool: &mut Pool,
@@ -90,19 +90,19 @@ fn assert_forwarded(
     assert!(rt; forward(pool, queues.0, queues.1) == wanted);
 }
 
-// This queue is to be served next, if any is.
+// `next_service` takes this queue, or none.
 fn assert_next(rt: &impl Abort, pool: &mut Pool, wanted: Option<u8>) {
     assert!(rt; pool.next_service() == wanted);
 }
 
-// So many message blocks are free, in messages on queues and held.
+// The census is this: free, queued and held message blocks.
 fn assert_census(rt: &impl Abort, pool: &Pool, wanted: (u32, u32, u32)) {
     let census = pool.census();
     assert!(rt; (census.free, census.queued, census.held) == wanted);
 }
 
-// Three of four messages go, since then queue 1 has 12 bytes of at most 10. One of high priority goes before the fourth all the same.
-// Queue 0 is enabled again once queue 1 has 4 bytes at most, and then the fourth goes too.
+// Three of four messages go; then queue 1 has 12 bytes, above its high water mark of 10. A high priority message goes before
+// the fourth all the same. Once queue 1 has at most 4 bytes, queue 0 is enabled again, and the fourth goes too.
 #[test]
 fn forwards_while_there_is_room(rt: HostRuntime) {
     let mut pool = opened(rt.alloc()).expect(&rt, "a pool");

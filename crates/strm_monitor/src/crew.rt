@@ -1,4 +1,4 @@
-//! Workers, and a monitor beside them.
+//! Two workers at a shared pool, while a monitor looks at the census.
 ghost use Rattle.std.specs.Prelude.{◌≡◌, length};
 ghost use Rattle.strm_shared.specs.Pairs.{count_in};
 ghost use Rattle.strm_shared.specs.Starts.{IsNameOf};
@@ -9,24 +9,24 @@ use std::thread::{Threads, join};
 use strm_pool::{Call, Census, Reg, Reply};
 use strm_shared::{Desk, Gathered, Name, Shared, Start};
 
-// How many rounds each worker has, of two calls each.
+// The number of rounds of each worker, of two calls each.
 const ROUNDS: u32 = 100;
 
-// The stamp when all calls of both workers have been served.
+// The stamp after all calls of both workers were served.
 const LAST: u64 = 2 * 2 * ROUNDS as u64;
 
-// How often the monitor looks at most.
+// The greatest number of looks of the monitor.
 const LOOKS: u32 = 10_000_000;
 
-/// What the monitor saw, how many calls were done, and the census once all desks came back.
+/// What the monitor saw, how many calls were done, and the census after all desks came back.
 pub struct Run {
     pub seen: Seen,
     pub done: u32,
     pub census: Census,
 }
 
-/// Has two workers serve their calls, and looks at the census meanwhile, each on a thread of its own. Waits for all, and ends the
-/// sharing.
+/// Shares a pool, runs two workers and a monitor, waits for all, and ends the sharing. The monitor and one worker each get a
+/// new thread; the other worker runs on the caller's. If a thread cannot be made, its part runs afterwards.
 pub fn serve_watched<N: Name + Send + Sync, R: Threads + Wait + Sync>(rt: &R, start: Start) -> Run
     requires name { IsNameOf N.Name start }
     requires desks { start.desks ≡ 3 }
@@ -69,7 +69,7 @@ pub fn serve_watched<N: Name + Send + Sync, R: Threads + Wait + Sync>(rt: &R, st
     }
 }
 
-// Has a message made and freed, again and again, in the first register of a desk. Tells how many calls were done.
+// Serves `allocb` and `freemsg` again and again, in the first register of a desk, and returns how many calls were done.
 fn work<N: Name>(rt: &impl Wait, shared: &Shared<N>, desk: &mut Desk<N>) -> u32 {
     let Some(reg) = Reg::new(0) else {
         unreachable!()

@@ -1,4 +1,4 @@
-//! Two workers at a shared pool, each on a thread of its own, and a monitor beside them that looks at the census without the lock.
+//! An example: two workers at a shared pool, and a monitor that looks at the census without the lock, on up to three threads.
 #![tactic(auto)]
 
 mod crew;
@@ -13,7 +13,7 @@ use std::thread::Threads;
 use strm_pool::{ClassSpec, ClassSpecs, Config, Pool, QueueSpec, QueueSpecs};
 use strm_shared::{Brand, Setup, Start, Trace};
 
-// A pool of four message blocks, and one queue.
+// A configuration of four message blocks and one queue.
 fn config() -> Config {
     let mut classes = ArrayVec::new();
     classes.push(ClassSpec { size: 16, count: 4 });
@@ -34,7 +34,7 @@ fn config() -> Config {
     }
 }
 
-// Opens a pool, and shares it among two workers and a monitor.
+// Opens a pool, and runs two workers and a monitor at it.
 fn shared_out<R: Threads + Wait + Sync>(rt: &R, alloc: Global) -> Option<Run> {
     let Ok(pool) = Pool::new(alloc, config()) else {
         return None;
@@ -50,7 +50,7 @@ fn shared_out<R: Threads + Wait + Sync>(rt: &R, alloc: Global) -> Option<Run> {
     }
 }
 
-// Tells what a run left.
+// Prints what a run gave.
 fn tell(rt: &impl Print, run: Run) -> io::Result<()> {
     let Run { seen, done, census } = run;
     println!(rt;

@@ -1,4 +1,4 @@
-//! A monitor.
+//! The monitor: it looks at the census again and again, without the lock.
 ghost use Rattle.std.specs.Prelude.{length};
 ghost use Rattle.strm_monitor.specs.Watching.{Watched};
 
@@ -7,13 +7,14 @@ use strm_shared::{Desk, Name, Shared};
 /// What a monitor saw.
 #[derive(Clone, Copy)]
 pub struct Seen {
-    /// How often it looked.
+    /// The number of looks.
     pub looks: u32,
-    /// The fewest free message blocks at any look.
+    /// The smallest number of free message blocks in any look; 2^32 - 1 without a look.
     pub fewest: u32,
 }
 
-/// Looks at the census until its stamp is `last` or a later one, `most` times at most. No look waits for the lock.
+/// Looks at the census until the stamp is at least `last`, at most `most` times, and returns what it saw. No look waits for the
+/// lock.
 pub fn watch<N: Name>(shared: &Shared<N>, desk: &mut Desk<N>, last: u64, most: u32) -> Seen
     ensures { Watched (length N.opened.arena.held) last most desk.old result desk.new }
 {

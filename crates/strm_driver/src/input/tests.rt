@@ -9,7 +9,7 @@ use std::process::Abort;
 
 const TEXT: &[u8] = b"pool 1 8\n";
 
-// The input from this reader is read whole, and is this text.
+// The input is read whole, and is this text.
 fn expect_text(rt: &(impl Abort + AllocGlobal), max: u32, reader: &mut impl Read, text: &[u8])
     requires least { 1 ≤ max }
     requires most { max ≤ most_script_bytes }
@@ -18,7 +18,7 @@ fn expect_text(rt: &(impl Abort + AllocGlobal), max: u32, reader: &mut impl Read
     assert!(rt; input.as_slice() == text);
 }
 
-// The input from this reader is not read, for this fault.
+// Reading the input fails with this fault.
 fn expect_fault(
     rt: &(impl Abort + AllocGlobal),
     max: u32,
@@ -32,7 +32,7 @@ fn expect_fault(
     assert!(rt; found == Some(wanted), "{found:?}");
 }
 
-// The text is not read byte by byte from a reader that may fail, for this fault, behind which so many bytes were taken.
+// Reading the text byte by byte fails with this fault, after this number of bytes was taken.
 fn expect_taken(
     rt: &(impl Abort + AllocGlobal),
     max: u32,
@@ -72,6 +72,6 @@ fn a_failing_reader_is_a_read_fault(rt: HostRuntime) {
     for cut in [0, 5, 9] {
         expect_taken(&rt, 20, Some(cut), ReadFault::Read, cut);
     }
-    // what is too long already is not read on
+    // An input that is too long already is not read on.
     expect_taken(&rt, 4, Some(5), ReadFault::TooLong, 5);
 }

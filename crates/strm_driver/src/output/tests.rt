@@ -5,7 +5,8 @@ use std::process::Abort;
 
 const TEXT: &[u8] = b"0:7 ok\n0:8 ok\n";
 
-// A text is written to a writer that takes so many bytes at a time and may fail, with this result, and so the writer has these bytes.
+// Writing the text, to a writer that takes this number of bytes at a time and may fail, has this result; the writer has these
+// bytes then.
 fn expect(
     rt: &(impl Abort + AllocGlobal),
     text: &[u8],

@@ -27,17 +27,17 @@ const TEXT: &[u8] =
 
 const MAX: u32 = 1_048_576;
 
-// Two sections, of which the second takes from the queue what the first one put there.
+// Two sections; the second takes from the queue what the first put there.
 const SECTIONS: &[u8] =
     b"pool 1 8\nclass 16 4\nqueue 10 4 s -\nbufcalls 2 1\nworker\nallocb a 3\nputq 0 a\nallocb a 1\n\
       worker\nfreemsg a\ngetq 0 a\ncensus\n";
 
-// Each has a register a of its own, and what they hold at the end counts as held.
+// Each section has its own register a, and messages in registers at the end count as held.
 const SECTIONS_TEXT: &[u8] =
     b"0:6 ok\n0:7 ok\n0:8 ok\n1:10 empty\n1:11 ok\n1:12 census 6 0 2\nblocks free=6 queued=0 held=2 total=8\n\
       data size=16 free=2 total=4\nqueue 0 msgs=0 bytes=0 read=0 noenable=0 enabled=1\nrun 0\nwishes -\n";
 
-// The fault of a run from this reader to this writer, if any.
+// The fault, if any, of a run from this reader to this writer.
 fn fault_of(
     rt: &(impl AllocGlobal + Threads + Wait + Sync),
     mode: Mode,
@@ -60,7 +60,7 @@ fn fault_of(
     .err()
 }
 
-// What is written for a script to a writer that takes one byte at a time.
+// The text that a run writes to a writer that takes one byte at a time.
 fn written(
     rt: &(impl Abort + AllocGlobal + Threads + Wait + Sync),
     mode: Mode,
@@ -73,7 +73,7 @@ fn written(
     writer.got
 }
 
-// A text is the one that is wanted.
+// Both texts are equal.
 fn expect_text(rt: &impl Abort, text: &[u8], wanted: &[u8]) {
     assert_eq!(rt; text, wanted);
 }
@@ -99,10 +99,10 @@ const MEETING_TEXT: &[u8] =
     b"0:6 ok\n0:7 ok\n1:9 ok\n1:10 ok\nblocks free=8 queued=0 held=0 total=8\n\
       data size=16 free=4 total=4\nqueue 0 msgs=0 bytes=0 read=1 noenable=0 enabled=0\nrun -\nwishes -\n";
 
-// How often a worker looks for the other at most.
+// The greatest number of times that a worker looks for the other.
 const LOOKS: u32 = 100_000_000;
 
-// The four lines, once each, as the gate counts them: each in a digit of four bits, and any other line in a fifth one.
+// The four lines, each once, as the gate counts them: a digit of four bits for each, and a fifth for any other line.
 const EACH_LINE: u32 = 0x1111;
 
 // The digit of a worker's line.
@@ -116,8 +116,8 @@ fn digit(worker: u8, line: u32) -> u32 {
     }
 }
 
-// A gate in which two workers meet, each before its lines: which lines have come, which were answered, and how many waited
-// in vain for the other worker.
+// A gate at which two workers wait for each other, before each line. It notes which lines came and were executed, and how many
+// waited in vain.
 #[derive(Drop)]
 struct Meeting {
     came: AtomicU32,
@@ -134,7 +134,7 @@ impl Meeting {
         }
     }
 
-    // Whether the other worker comes in time, which has other digits.
+    // Waits for the other worker, which has other digits, and says whether it came in time.
     fn meets(&self, worker: u8) -> bool {
         let others = if worker == 0 { 0xFF00 } else { 0x00FF };
         for _ in 0..LOOKS {
@@ -160,12 +160,12 @@ impl Gate for Meeting {
     }
 }
 
-// A count of a gate is the one that is wanted.
+// A count of a gate is this one.
 fn expect_count(rt: &impl Abort, count: &AtomicU32, wanted: u32) {
     assert_eq!(rt; count.load(Ordering::SeqCst), wanted);
 }
 
-// What is written for the script of the meeting, where the gate was told these lines before and after, and nobody waited in vain.
+// The text for the script of the meeting, at whose gate these lines came and were executed, and no worker waited in vain.
 fn written_at_a_meeting(
     rt: &(impl Abort + AllocGlobal + Threads + Wait + Sync),
     mode: Mode,
@@ -179,14 +179,14 @@ fn written_at_a_meeting(
     text
 }
 
-// The bytes of a text, in the order of their values.
+// The bytes of a text, sorted.
 fn sorted(rt: &(impl Abort + AllocGlobal), text: &[u8]) -> Vec<u8> {
     let mut bytes = Vec::from_slice(rt.alloc(), text).expect(rt, "memory");
     bytes.sort_unstable();
     bytes
 }
 
-// In which order they are served is not said.
+// The order of the lines is open.
 #[test]
 fn workers_run_at_once(rt: HostRuntime) {
     let text = written_at_a_meeting(&rt, Mode::Workers, EACH_LINE);
@@ -199,7 +199,7 @@ fn a_line_that_no_worker_serves_passes_no_gate(rt: HostRuntime) {
     expect_text(&rt, &text, MEETING_TEXT);
 }
 
-// A gate that counts the lines of worker 0 that come, those that were answered, and those of any other worker.
+// A gate that counts the lines of worker 0 that came, those that were executed, and those of any other worker.
 #[derive(Drop)]
 struct Count {
     came: AtomicU32,
@@ -241,27 +241,27 @@ fn a_worker_serves_one_section(rt: HostRuntime) {
     expect_count(&rt, &gate.strange, 0);
 }
 
-// Two sections at one queue, each with a register a of its own.
+// Two sections at one queue, each with its own register a.
 const TURNS: &[u8] =
     b"pool 1 8\nclass 16 4\nqueue 10 4 s -\nbufcalls 2 1\nworker\ncensus\nallocb a 3\nputq 0 a\n\
       worker\ncensus\ngetq 0 a\nqsize 0\ngetq 0 a\n";
 
-// Both look at the pool before they do anything, and worker 1 looks for the message twice before it is put, and once after.
+// Both workers look at the pool first. Worker 1 looks for the message twice before it is put, and once after.
 const TURNS_TEXT: &[u8] =
     b"1:10 census 8 0 0\n0:6 census 8 0 0\n1:11 none\n0:7 ok\n1:12 size 0\n0:8 ok\n1:13 ok\n\
       blocks free=7 queued=0 held=1 total=8\ndata size=16 free=3 total=4\n\
       queue 0 msgs=0 bytes=0 read=0 noenable=0 enabled=1\nrun 0\nwishes -\n";
 
-// In which order lines are served: the worker and the number of each.
+// The order of the lines: the worker and the number of each.
 const TURNS_ORDER: &[(u8, u32)] = &[(1, 10), (0, 6), (1, 11), (0, 7), (1, 12), (0, 8), (1, 13)];
 
-// Three sections at one queue, each with registers of its own.
+// Three sections at one queue, each with its own registers.
 const THREE: &[u8] =
     b"pool 1 8\nclass 16 4\nqueue 10 4 s -\nbufcalls 2 1\nworker\ncensus\nallocb a 3\nputq 0 a\n\
       worker\ncensus\ngetq 0 a\nfreemsg a\nworker\ncensus\nqsize 0\ngetq 0 b\n";
 
-// All three look at the pool before they do anything, worker 2 first. It looks at the queue before the message is put, and takes it
-// after that, so that worker 1 finds nothing.
+// All workers look at the pool first, worker 2 before the others. It looks at the queue before the message is put, and takes
+// the message afterwards, so that worker 1 finds nothing.
 const THREE_ORDER: &[(u8, u32)] = &[
     (2, 14),
     (0, 6),
@@ -279,7 +279,7 @@ const THREE_TEXT: &[u8] =
       blocks free=7 queued=0 held=1 total=8\ndata size=16 free=3 total=4\n\
       queue 0 msgs=0 bytes=0 read=1 noenable=0 enabled=1\nrun 0\nwishes -\n";
 
-// Which turn a worker's line has in an order, the number of its lines if it isn't one of them.
+// The turn of a worker's line in an order, or the order's length if the line is not in it.
 fn turn_of(order: &[(u8, u32)], worker: u8, line: u32) -> u32 {
     let mut turn = 0u32;
     for place in order {
@@ -291,7 +291,7 @@ fn turn_of(order: &[(u8, u32)], worker: u8, line: u32) -> u32 {
     turn
 }
 
-// A gate that lets lines pass by turns, in an order: whose turn it is, and how many waited for theirs in vain.
+// A gate that lets lines pass in an order. It notes whose turn it is, and how many waited in vain.
 #[derive(Drop)]
 struct Turns {
     order: &'static [(u8, u32)],
@@ -308,7 +308,7 @@ impl Turns {
         }
     }
 
-    // Whether a turn comes in time.
+    // Waits for a turn, and says whether it came in time.
     fn comes(&self, turn: u32) -> bool {
         for _ in 0..LOOKS {
             if self.turn.load(Ordering::SeqCst) == turn {
@@ -331,7 +331,7 @@ impl Gate for Turns {
     }
 }
 
-// The text of a script whose lines are served in this order is the one that is wanted, and the gate was told of each line.
+// The text of a script whose lines are executed in this order is the expected one, and the gate was called for each line.
 fn expect_order(
     rt: &(impl Abort + AllocGlobal + Threads + Wait + Sync),
     script: &[u8],
@@ -371,7 +371,7 @@ fn expect_fault(
     assert!(rt; writer.got.is_empty());
 }
 
-// Each of its reads, of a byte each, fails in turn.
+// Each read, of one byte, fails in turn.
 #[test]
 fn a_failing_reader_leaves_nothing_written(rt: HostRuntime) {
     for mode in [Mode::Serial, Mode::Workers] {
@@ -382,8 +382,8 @@ fn a_failing_reader_leaves_nothing_written(rt: HostRuntime) {
     }
 }
 
-// A run to a writer that takes so many bytes at a time, and fails behind this beginning of the text, has a write fault. No other
-// call comes behind it.
+// A run to a writer that takes this number of bytes at a time, and fails after this beginning of the text, has a write fault.
+// No other call follows.
 fn expect_beginning(
     rt: &(impl Abort + AllocGlobal + Threads + Wait + Sync),
     mode: Mode,
@@ -399,7 +399,7 @@ fn expect_beginning(
     assert!(rt; writer.faults == 1);
 }
 
-// Each of its writes, of a byte each, fails in turn, and then the flush.
+// Each write, of one byte, fails in turn, and then the flush.
 #[test]
 fn a_failing_writer_has_the_beginning(rt: HostRuntime) {
     for mode in [Mode::Serial, Mode::Workers] {

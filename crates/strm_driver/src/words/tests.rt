@@ -2,7 +2,7 @@ use super::{Options, options_of};
 use crate::run::Mode;
 use std::process::Abort;
 
-// The words behind the program's name.
+// The words after the program's name.
 fn words_of(rt: &(impl Abort + AllocGlobal), words: &[&str]) -> Vec<String> {
     let mut all = Vec::new(rt.alloc());
     for word in ["strm"].iter().chain(words) {
@@ -12,7 +12,7 @@ fn words_of(rt: &(impl Abort + AllocGlobal), words: &[&str]) -> Vec<String> {
     all
 }
 
-// These words ask for these options, or are refused where there are none.
+// These words give these options, or are refused if there are none.
 fn expect(rt: &(impl Abort + AllocGlobal), words: &[&str], wanted: Option<Options>) {
     let found = options_of(rt.alloc(), &words_of(rt, words)).ok();
     assert!(rt; found == wanted, "{words:?}");

@@ -1,4 +1,4 @@
-//! Each number of sections, and long scripts.
+//! Scripts with each number of sections, and long scripts.
 use super::{LOOKS, Mode, expect_count, expect_text, written};
 use crate::fault::RunFault;
 use crate::faulty::{Choppy, choppy_writer};
@@ -19,7 +19,7 @@ const HEADER: &[u8] = b"pool 1 8\nclass 16 4\nqueue 10 4 s -\nbufcalls 2 1\n";
 const REPORT: &[u8] = b"blocks free=8 queued=0 held=0 total=8\ndata size=16 free=4 total=4\n\
       queue 0 msgs=0 bytes=0 read=1 noenable=0 enabled=0\nrun -\nwishes -\n";
 
-// A script of so many sections, each with one line: line 6 of worker 0, line 8 of worker 1, and so on.
+// A script with this number of sections, each with one line: line 6 for worker 0, line 8 for worker 1, and so on.
 fn sections(alloc: Global, workers: u8) -> Result<Vec<u8>, AllocError> {
     let mut script = Vec::from_slice(alloc, HEADER)?;
     for _ in 0..workers {
@@ -28,7 +28,7 @@ fn sections(alloc: Global, workers: u8) -> Result<Vec<u8>, AllocError> {
     Ok(script)
 }
 
-// Its text, where the last worker is served first.
+// The text of that script if the last worker is first.
 fn text_backwards(alloc: Global, workers: u8) -> Result<Vec<u8>, AllocError> {
     let mut text = Vec::new(alloc);
     for ahead in 1..=workers {
@@ -41,7 +41,7 @@ fn text_backwards(alloc: Global, workers: u8) -> Result<Vec<u8>, AllocError> {
     Ok(text)
 }
 
-// A gate that lets the last of so many workers pass first: how many have been served, and how many waited for their turn in vain.
+// A gate that lets the last worker pass first. It counts the lines that were executed, and those that waited in vain.
 #[derive(Drop)]
 struct Backwards {
     workers: u8,
@@ -58,7 +58,7 @@ impl Backwards {
         }
     }
 
-    // Whether as many have been served as there are workers after this one.
+    // Waits until all workers after this one are done, and says whether that came in time.
     fn comes(&self, worker: u8) -> bool {
         let turn = u32::from(self.workers).wrapping_sub(u32::from(worker).wrapping_add(1));
         for _ in 0..LOOKS {
@@ -83,7 +83,7 @@ impl Gate for Backwards {
     }
 }
 
-// Whatever the number of sections is, each has a thread of its own, and the text has the order in which they were served.
+// Whatever the number of sections is, each has its own thread, and the text has the order in which lines were executed.
 #[test]
 fn each_number_of_workers(rt: HostRuntime) {
     for workers in 2..=MOST_WORKERS as u8 {
@@ -97,7 +97,7 @@ fn each_number_of_workers(rt: HostRuntime) {
     }
 }
 
-// What a run of a script of any size comes to, and what was written.
+// The result of a run of a script of any size, and what it wrote.
 fn ran(
     rt: &(impl AllocGlobal + Threads + Wait + Sync),
     mode: Mode,
@@ -115,10 +115,10 @@ fn ran(
     (ran, writer)
 }
 
-// How many lines the long script has.
+// The number of lines of the long script.
 const LINES: usize = 65_536;
 
-// A script of one section with so many lines.
+// A script of one section with that number of lines.
 fn long_script(alloc: Global) -> Result<Vec<u8>, AllocError> {
     let mut script = Vec::from_slice(alloc, HEADER)?;
     script.extend_from_slice(b"worker\n")?;
@@ -128,17 +128,17 @@ fn long_script(alloc: Global) -> Result<Vec<u8>, AllocError> {
     Ok(script)
 }
 
-// How many lines a text has.
+// The number of lines of a text.
 fn lines_of(text: &[u8]) -> usize {
     text.iter().filter(|byte| **byte == b'\n').count()
 }
 
-// The text of that script has more than a million bytes.
+// The end of that script's text, which has more than a million bytes.
 const TAIL: &[u8] =
     b"\n0:65541 census 8 0 0\nblocks free=8 queued=0 held=0 total=8\ndata size=16 free=4 total=4\n\
       queue 0 msgs=0 bytes=0 read=1 noenable=0 enabled=0\nrun -\nwishes -\n";
 
-// No text is too long, and no section.
+// Texts and sections have no limit of their own.
 #[test]
 fn a_long_text(rt: HostRuntime) {
     let script = long_script(rt.alloc()).expect(&rt, "memory");
@@ -153,7 +153,7 @@ fn a_long_text(rt: HostRuntime) {
     }
 }
 
-// A script may have more lines than command lines.
+// A script may have more lines than it may have command lines.
 #[test]
 fn a_long_script(rt: HostRuntime) {
     let script = vec![in rt.alloc(); b'\n'; 2_097_152].expect(&rt, "memory");
