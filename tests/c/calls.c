@@ -2,15 +2,8 @@
 
 #include <string.h>
 
-const struct form forms[VERBS] = {
-	{ "allocb", "yn" }, { "testb", "n" }, { "dupb", "xy" }, { "dupmsg", "xy" }, { "copyb", "xy" }, { "copymsg", "xy" },
-	{ "write", "xko" }, { "settype", "xkt" }, { "setband", "xb" }, { "linkb", "xz" }, { "unlinkb", "xy" }, { "rmvb", "xky" },
-	{ "adjmsg", "xs" }, { "pullupmsg", "xs" }, { "msgdsize", "x" }, { "size", "x" }, { "read", "xk" }, { "block", "xk" },
-	{ "freeb", "x" }, { "freemsg", "x" }, { "putq", "qx" }, { "putbq", "qx" }, { "insq", "qkx" }, { "getq", "qy" },
-	{ "rmvq", "qky" }, { "flushq", "qf" }, { "flushband", "qbf" }, { "bcanput", "qb" }, { "strqset", "qbhl" }, { "strqget", "qb" },
-	{ "qsize", "q" }, { "qenable", "q" }, { "noenable", "q" }, { "enableok", "q" }, { "service", "" }, { "bufcall", "n" },
-	{ "unbufcall", "n" }, { "ready", "" }, { "census", "" }
-};
+#define FORM(verb, word, names, weight, answers) { word, names },
+const struct form forms[VERBS] = { CALLS(FORM) };
 
 static const char *const types[STRM_TYPES] = {
 	"M_DATA", "M_PROTO", "M_BREAK", "M_PASSFP", "M_SIG", "M_DELAY", "M_CTL", "M_IOCTL", "M_SETOPTS", "M_IOCACK", "M_IOCNAK",

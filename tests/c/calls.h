@@ -9,14 +9,59 @@
 #define REGISTERS 26
 #define MOST_OCTETS 64
 
-enum verb {
-	ALLOCB, TESTB, DUPB, DUPMSG, COPYB, COPYMSG, WRITE, SETTYPE, SETBAND, LINKB, UNLINKB, RMVB, ADJMSG, PULLUPMSG, MSGDSIZE, SIZE,
-	READ, BLOCK, FREEB, FREEMSG, PUTQ, PUTBQ, INSQ, GETQ, RMVQ, FLUSHQ, FLUSHBAND, BCANPUT, STRQSET, STRQGET, QSIZE, QENABLE,
-	NOENABLE, ENABLEOK, SERVICE, BUFCALL, UNBUFCALL, READY, CENSUS, VERBS
-};
+/* An answer as one of 64 bits: a kind of reply, or a refusal by its code. */
+#define IS(kind) ((uint64_t)1 << (kind))
+#define NOT(code) ((uint64_t)1 << (REFUSED + (code)))
 
-/* What a verb names, as letters in the order of its line. x and z are registers that it takes from, y is one that it puts into. q is a
- * queue, k a place, b a band, n a number, s a signed number, t a type, f a flush, o octets. h and l are water marks. */
+/* A row for each call. It has the call's verb and word, and letters for what the call names, in the order of its line. Then it has the
+ * call's weight when calls are drawn, and the answers that must come within CALLS_TO_EACH_ANSWER calls: all but RefMax and `taken`.
+ *
+ * x and z are registers that it takes from, y is one that it puts into. q is a queue, k a place, b a band, n a number, s a signed
+ * number, t a type, f a flush, o octets. h and l are water marks. */
+#define CALLS(ROW) \
+	ROW(ALLOCB, "allocb", "yn", 14, IS(DONE) | NOT(STRM_TOO_LARGE) | NOT(STRM_NO_MBLK) | NOT(STRM_NO_DATA)) \
+	ROW(TESTB, "testb", "n", 1, IS(YES) | IS(NO)) \
+	ROW(DUPB, "dupb", "xy", 2, IS(DONE) | IS(EMPTY) | NOT(STRM_NO_MBLK)) \
+	ROW(DUPMSG, "dupmsg", "xy", 3, IS(DONE) | IS(EMPTY) | NOT(STRM_NO_MBLK)) \
+	ROW(COPYB, "copyb", "xy", 1, IS(DONE) | IS(EMPTY) | NOT(STRM_NO_MBLK) | NOT(STRM_NO_DATA)) \
+	ROW(COPYMSG, "copymsg", "xy", 2, IS(DONE) | IS(EMPTY) | NOT(STRM_NO_MBLK) | NOT(STRM_NO_DATA)) \
+	ROW(WRITE, "write", "xko", 16, IS(DONE) | IS(EMPTY) | NOT(STRM_NO_SUCH_BLOCK) | NOT(STRM_SHARED) | NOT(STRM_NO_ROOM)) \
+	ROW(SETTYPE, "settype", "xkt", 4, IS(DONE) | IS(EMPTY) | NOT(STRM_NO_SUCH_BLOCK) | NOT(STRM_SHARED)) \
+	ROW(SETBAND, "setband", "xb", 3, IS(DONE) | IS(EMPTY)) \
+	ROW(LINKB, "linkb", "xz", 5, IS(DONE) | IS(EMPTY)) \
+	ROW(UNLINKB, "unlinkb", "xy", 2, IS(DONE) | IS(NOTHING) | IS(EMPTY)) \
+	ROW(RMVB, "rmvb", "xky", 2, IS(DONE) | IS(EMPTY) | NOT(STRM_NO_SUCH_BLOCK)) \
+	ROW(ADJMSG, "adjmsg", "xs", 4, IS(DONE) | IS(EMPTY) | NOT(STRM_SHORT)) \
+	ROW(PULLUPMSG, "pullupmsg", "xs", 5, IS(DONE) | IS(EMPTY) | NOT(STRM_SHORT) | NOT(STRM_TOO_LARGE) | NOT(STRM_NO_DATA)) \
+	ROW(MSGDSIZE, "msgdsize", "x", 1, IS(TOLD_SIZE) | IS(EMPTY)) \
+	ROW(SIZE, "size", "x", 1, IS(TOLD_SIZE) | IS(EMPTY)) \
+	ROW(READ, "read", "xk", 2, IS(TOLD_BYTES) | IS(EMPTY)) \
+	ROW(BLOCK, "block", "xk", 2, IS(TOLD_BLOCK) | IS(EMPTY) | NOT(STRM_NO_SUCH_BLOCK)) \
+	ROW(FREEB, "freeb", "x", 2, IS(DONE) | IS(EMPTY)) \
+	ROW(FREEMSG, "freemsg", "x", 3, IS(DONE) | IS(EMPTY)) \
+	ROW(PUTQ, "putq", "qx", 7, IS(DONE) | IS(EMPTY) | NOT(STRM_NO_SUCH_QUEUE)) \
+	ROW(PUTBQ, "putbq", "qx", 2, IS(DONE) | IS(EMPTY) | NOT(STRM_NO_SUCH_QUEUE)) \
+	ROW(INSQ, "insq", "qkx", 3, IS(DONE) | IS(EMPTY) | NOT(STRM_NO_SUCH_QUEUE) | NOT(STRM_NO_SUCH_PLACE) | NOT(STRM_BAD_ORDER)) \
+	ROW(GETQ, "getq", "qy", 6, IS(DONE) | IS(NOTHING) | NOT(STRM_NO_SUCH_QUEUE)) \
+	ROW(RMVQ, "rmvq", "qky", 3, IS(DONE) | NOT(STRM_NO_SUCH_QUEUE) | NOT(STRM_NO_SUCH_PLACE)) \
+	ROW(FLUSHQ, "flushq", "qf", 1, IS(DONE) | NOT(STRM_NO_SUCH_QUEUE)) \
+	ROW(FLUSHBAND, "flushband", "qbf", 1, IS(DONE) | NOT(STRM_NO_SUCH_QUEUE)) \
+	ROW(BCANPUT, "bcanput", "qb", 8, IS(YES) | IS(NO) | NOT(STRM_NO_SUCH_QUEUE)) \
+	ROW(STRQSET, "strqset", "qbhl", 3, IS(DONE) | NOT(STRM_NO_SUCH_QUEUE) | NOT(STRM_BAD_MARKS)) \
+	ROW(STRQGET, "strqget", "qb", 1, IS(TOLD_MARKS) | NOT(STRM_NO_SUCH_QUEUE)) \
+	ROW(QSIZE, "qsize", "q", 1, IS(TOLD_SIZE) | NOT(STRM_NO_SUCH_QUEUE)) \
+	ROW(QENABLE, "qenable", "q", 1, IS(DONE) | NOT(STRM_NO_SUCH_QUEUE)) \
+	ROW(NOENABLE, "noenable", "q", 1, IS(DONE) | NOT(STRM_NO_SUCH_QUEUE)) \
+	ROW(ENABLEOK, "enableok", "q", 2, IS(DONE) | NOT(STRM_NO_SUCH_QUEUE)) \
+	ROW(SERVICE, "service", "", 3, IS(TOLD_QUEUE) | IS(NOTHING)) \
+	ROW(BUFCALL, "bufcall", "n", 3, IS(TOLD_ID) | NOT(STRM_TOO_LARGE) | NOT(STRM_FULL) | NOT(STRM_IDS_SPENT)) \
+	ROW(UNBUFCALL, "unbufcall", "n", 1, IS(DONE) | NOT(STRM_NOT_PENDING)) \
+	ROW(READY, "ready", "", 2, IS(TOLD_READY) | IS(NOTHING)) \
+	ROW(CENSUS, "census", "", 1, IS(TOLD_CENSUS))
+
+#define VERB(verb, word, names, weight, answers) verb,
+enum verb { CALLS(VERB) VERBS };
+
 struct form {
 	const char *word, *names;
 };

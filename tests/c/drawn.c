@@ -17,57 +17,14 @@
 #define CALLS_TO_ALL_BANDS 16
 #define CALLS_TO_ALL_MESSAGES 1000
 
-/* An answer as one of 64 bits: a kind of reply, or a refusal by its code. */
-#define IS(kind) ((uint64_t)1 << (kind))
-#define NOT(code) ((uint64_t)1 << (REFUSED + (code)))
-
-/* How often each verb is drawn, compared with the others, and the answers that must come in CALLS_TO_EACH_ANSWER calls. These are all
- * but RefMax and `taken`. */
+/* Each answer of a row of CALLS must come within this number of calls. */
 #define CALLS_TO_EACH_ANSWER 1000000
+
+#define DRAWN(verb, word, names, weight, answers) { weight, answers },
 static const struct {
 	unsigned weight;
 	uint64_t answers;
-} drawn[VERBS] = {
-	{ 14, IS(DONE) | NOT(STRM_TOO_LARGE) | NOT(STRM_NO_MBLK) | NOT(STRM_NO_DATA) }, /* allocb */
-	{ 1, IS(YES) | IS(NO) }, /* testb */
-	{ 2, IS(DONE) | IS(EMPTY) | NOT(STRM_NO_MBLK) }, /* dupb */
-	{ 3, IS(DONE) | IS(EMPTY) | NOT(STRM_NO_MBLK) }, /* dupmsg */
-	{ 1, IS(DONE) | IS(EMPTY) | NOT(STRM_NO_MBLK) | NOT(STRM_NO_DATA) }, /* copyb */
-	{ 2, IS(DONE) | IS(EMPTY) | NOT(STRM_NO_MBLK) | NOT(STRM_NO_DATA) }, /* copymsg */
-	{ 16, IS(DONE) | IS(EMPTY) | NOT(STRM_NO_SUCH_BLOCK) | NOT(STRM_SHARED) | NOT(STRM_NO_ROOM) }, /* write */
-	{ 4, IS(DONE) | IS(EMPTY) | NOT(STRM_NO_SUCH_BLOCK) | NOT(STRM_SHARED) }, /* settype */
-	{ 3, IS(DONE) | IS(EMPTY) }, /* setband */
-	{ 5, IS(DONE) | IS(EMPTY) }, /* linkb */
-	{ 2, IS(DONE) | IS(NOTHING) | IS(EMPTY) }, /* unlinkb */
-	{ 2, IS(DONE) | IS(EMPTY) | NOT(STRM_NO_SUCH_BLOCK) }, /* rmvb */
-	{ 4, IS(DONE) | IS(EMPTY) | NOT(STRM_SHORT) }, /* adjmsg */
-	{ 5, IS(DONE) | IS(EMPTY) | NOT(STRM_SHORT) | NOT(STRM_TOO_LARGE) | NOT(STRM_NO_DATA) }, /* pullupmsg */
-	{ 1, IS(TOLD_SIZE) | IS(EMPTY) }, /* msgdsize */
-	{ 1, IS(TOLD_SIZE) | IS(EMPTY) }, /* size */
-	{ 2, IS(TOLD_BYTES) | IS(EMPTY) }, /* read */
-	{ 2, IS(TOLD_BLOCK) | IS(EMPTY) | NOT(STRM_NO_SUCH_BLOCK) }, /* block */
-	{ 2, IS(DONE) | IS(EMPTY) }, /* freeb */
-	{ 3, IS(DONE) | IS(EMPTY) }, /* freemsg */
-	{ 7, IS(DONE) | IS(EMPTY) | NOT(STRM_NO_SUCH_QUEUE) }, /* putq */
-	{ 2, IS(DONE) | IS(EMPTY) | NOT(STRM_NO_SUCH_QUEUE) }, /* putbq */
-	{ 3, IS(DONE) | IS(EMPTY) | NOT(STRM_NO_SUCH_QUEUE) | NOT(STRM_NO_SUCH_PLACE) | NOT(STRM_BAD_ORDER) }, /* insq */
-	{ 6, IS(DONE) | IS(NOTHING) | NOT(STRM_NO_SUCH_QUEUE) }, /* getq */
-	{ 3, IS(DONE) | NOT(STRM_NO_SUCH_QUEUE) | NOT(STRM_NO_SUCH_PLACE) }, /* rmvq */
-	{ 1, IS(DONE) | NOT(STRM_NO_SUCH_QUEUE) }, /* flushq */
-	{ 1, IS(DONE) | NOT(STRM_NO_SUCH_QUEUE) }, /* flushband */
-	{ 8, IS(YES) | IS(NO) | NOT(STRM_NO_SUCH_QUEUE) }, /* bcanput */
-	{ 3, IS(DONE) | NOT(STRM_NO_SUCH_QUEUE) | NOT(STRM_BAD_MARKS) }, /* strqset */
-	{ 1, IS(TOLD_MARKS) | NOT(STRM_NO_SUCH_QUEUE) }, /* strqget */
-	{ 1, IS(TOLD_SIZE) | NOT(STRM_NO_SUCH_QUEUE) }, /* qsize */
-	{ 1, IS(DONE) | NOT(STRM_NO_SUCH_QUEUE) }, /* qenable */
-	{ 1, IS(DONE) | NOT(STRM_NO_SUCH_QUEUE) }, /* noenable */
-	{ 2, IS(DONE) | NOT(STRM_NO_SUCH_QUEUE) }, /* enableok */
-	{ 3, IS(TOLD_QUEUE) | IS(NOTHING) }, /* service */
-	{ 3, IS(TOLD_ID) | NOT(STRM_TOO_LARGE) | NOT(STRM_FULL) | NOT(STRM_IDS_SPENT) }, /* bufcall */
-	{ 1, IS(DONE) | NOT(STRM_NOT_PENDING) }, /* unbufcall */
-	{ 2, IS(TOLD_READY) | IS(NOTHING) }, /* ready */
-	{ 1, IS(TOLD_CENSUS) } /* census */
-};
+} drawn[VERBS] = { CALLS(DRAWN) };
 
 static const uint32_t drawn_bands[] = { 0, 0, 0, 1, 2, 7, 255 };
 #define DRAWN_BANDS (sizeof drawn_bands / sizeof drawn_bands[0])

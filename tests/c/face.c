@@ -196,7 +196,7 @@ static struct reply apply_giving(struct face *face, const struct call *call, str
 	return given(face, code, call->y, &name);
 }
 
-/* Does a call that gives a number. */
+/* Does a call that gives a number, which is any that face_apply does not name. */
 static struct reply apply_counting(struct face *face, const struct call *call, struct strm_msg x)
 {
 	struct strm_pool *pool = &face->pool;
@@ -219,11 +219,9 @@ struct reply face_apply(struct face *face, const struct call *call)
 	struct strm_pool *pool = &face->pool;
 	struct strm_msg x = face->registers[call->x];
 
-	switch (call->verb) {
-	case ALLOCB: case DUPB: case DUPMSG: case COPYB: case COPYMSG: case UNLINKB: case GETQ: case RMVQ:
+	if (strchr(forms[call->verb].names, 'y') != NULL && call->verb != RMVB)
 		return apply_giving(face, call, x);
-	case TESTB: case BCANPUT: case MSGDSIZE: case SIZE: case QSIZE: case SERVICE: case BUFCALL:
-		return apply_counting(face, call, x);
+	switch (call->verb) {
 	case WRITE: return coded(face, strm_write(pool, x, call->place, call->octets, call->length));
 	case SETTYPE: return coded(face, strm_settype(pool, x, call->place, call->type));
 	case SETBAND: return coded(face, strm_setband(pool, x, call->band));
@@ -247,6 +245,7 @@ struct reply face_apply(struct face *face, const struct call *call)
 	case ENABLEOK: return coded(face, strm_enableok(pool, call->queue));
 	case UNBUFCALL: return coded(face, strm_unbufcall(pool, call->number));
 	case READY: return ready_told(face);
-	default: return census_told(face);
+	case CENSUS: return census_told(face);
+	default: return apply_counting(face, call, x);
 	}
 }

@@ -5,8 +5,7 @@ import functools
 import itertools
 import re
 
-from mixed import WORDS
-from model import Model, Pool
+from model import WORDS, Model, Pool
 
 REPLY = re.compile(r"(0|[1-9][0-9]?):[1-9][0-9]* ")
 

@@ -2,8 +2,8 @@
 import subprocess
 
 from judge import Wrong, judge
-from mixed import WORDS, drawn
-from model import Model, Pool
+from mixed import drawn
+from model import WORDS, Model, Pool
 from served import numbered
 
 # How many bytes a script may have, and how many seconds a run, whose status is 124 where it takes longer.

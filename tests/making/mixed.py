@@ -1,5 +1,5 @@
 """Draws lines of all words, and answers them by the model."""
-from model import HIGH_PRIORITY, ORDINARY, Model, rank
+from model import HIGH_PRIORITY, ORDINARY, WORDS, Model, rank
 from served import write_served
 
 REGISTERS = "abcdefghijklmz"
@@ -19,48 +19,6 @@ class Dice:
         return items[self.below(len(items))]
 
 
-# The words with what stands behind each, and how often each comes for one `census`.
-WORDS = {
-    "allocb": ("to size", 10),
-    "testb": ("size", 1),
-    "dupb": ("from to", 2),
-    "dupmsg": ("from to", 2),
-    "copyb": ("from to", 1),
-    "copymsg": ("from to", 2),
-    "write": ("from block octets", 16),
-    "settype": ("from block kind", 4),
-    "setband": ("from band", 3),
-    "linkb": ("from from", 5),
-    "unlinkb": ("from to", 2),
-    "rmvb": ("from block to", 2),
-    "adjmsg": ("from count", 4),
-    "pullupmsg": ("from count", 5),
-    "msgdsize": ("from", 1),
-    "size": ("from", 1),
-    "read": ("from at", 3),
-    "block": ("from block", 4),
-    "freeb": ("from", 2),
-    "freemsg": ("from", 3),
-    "putq": ("queue from", 6),
-    "putbq": ("queue from", 2),
-    "insq": ("queue place from", 3),
-    "getq": ("queue to", 6),
-    "rmvq": ("queue place to", 3),
-    "flushq": ("queue flag", 2),
-    "flushband": ("queue band flag", 2),
-    "bcanput": ("queue band", 10),
-    "strqset": ("queue marked high low", 8),
-    "strqget": ("queue marked", 2),
-    "qsize": ("queue", 1),
-    "qenable": ("queue", 1),
-    "noenable": ("queue", 1),
-    "enableok": ("queue", 2),
-    "service": ("", 2),
-    "bufcall": ("size", 4),
-    "unbufcall": ("id", 2),
-    "ready": ("", 3),
-    "census": ("", 1),
-}
 BAG = [word for word, (_, often) in WORDS.items() for _ in range(often)]
 
 

@@ -6,6 +6,18 @@ HIGH_PRIORITY = (
     "M_IOCACK M_IOCNAK M_PCPROTO M_PCSIG M_READ M_FLUSH M_STOP M_START M_HANGUP M_ERROR M_COPYIN M_COPYOUT M_IOCDATA"
 ).split()
 CARRY_DATA = "M_DATA M_PROTO M_PCPROTO M_DELAY".split()
+# Each word: the items after it, and how often mixed.py draws it for one `census`. The methods of `Model` fill this in.
+WORDS = {}
+
+
+def word(items, often):
+    """Adds the method below to `WORDS`."""
+
+    def added(method):
+        WORDS[method.__name__] = items, often
+        return method
+
+    return added
 
 
 class Refused(Exception):
@@ -125,8 +137,8 @@ class Queue:
 class Model:
     """A pool and the registers of workers, of which one is served at a time. A message is a list of blocks.
 
-    Each word has a method, which is called where its queue is there, its sources hold messages and its
-    destination holds none. It gives the reply, or none for `ok`."""
+    Each word has a method, which `answer` calls if its queue exists, its sources hold messages and its
+    destination holds none. The method returns the reply, or None for `ok`."""
 
     def __init__(self, pool):
         self.pool = pool
@@ -146,8 +158,8 @@ class Model:
         """This worker is served on."""
         self.held = self.workers[worker]
 
-    def answer(self, word, items, values):
-        """The reply to a line: what refuses it first, or what the word gives. Items say what the values are."""
+    def answer(self, command, items, values):
+        """The reply to a line: what refuses it first, or what its word returns. Items say what the values are."""
         sources = [value for item, value in zip(items, values) if item == "from"]
         if "queue" in items and values[items.index("queue")] >= len(self.queues):
             return "refused 11 NoSuchQueue"
@@ -156,7 +168,7 @@ class Model:
         if "to" in items and values[items.index("to")] in self.held:
             return "taken"
         try:
-            return getattr(self, word)(*values) or "ok"
+            return getattr(self, command)(*values) or "ok"
         except Refused as refusal:
             return f"refused {refusal}"
 
@@ -201,6 +213,7 @@ class Model:
         else:
             del self.held[register]
 
+    @word("to size", 10)
     def allocb(self, to, size):
         if size > self.pool.greatest():
             raise Refused("1 TooLarge")
@@ -211,6 +224,7 @@ class Model:
         classes = zip(self.pool.classes, self.data)
         return self.counts()[0] > 0 and any(size <= most and free > 0 for (most, _), free in classes)
 
+    @word("size", 1)
     def testb(self, size):
         return "yes" if self.fits(size) else "no"
 
@@ -221,9 +235,11 @@ class Model:
                 raise Refused("4 RefMax")
         return [block.duplicate() for block in blocks]
 
+    @word("from to", 2)
     def dupb(self, source, to):
         self.held[to] = self.duplicates(self.held[source][:1])
 
+    @word("from to", 2)
     def dupmsg(self, source, to):
         self.held[to] = self.duplicates(self.held[source])
 
@@ -234,12 +250,15 @@ class Model:
         self.data = free
         return [block.copy(data) for block, data in zip(blocks, taken)]
 
+    @word("from to", 1)
     def copyb(self, source, to):
         self.held[to] = self.copies(self.held[source][:1])
 
+    @word("from to", 2)
     def copymsg(self, source, to):
         self.held[to] = self.copies(self.held[source])
 
+    @word("from block octets", 16)
     def write(self, source, k, octets):
         block = self.own_block_at(source, k)
         if len(octets) > block.room():
@@ -247,15 +266,19 @@ class Model:
         block.data.octets[block.write : block.write + len(octets)] = octets
         block.write += len(octets)
 
+    @word("from block kind", 4)
     def settype(self, source, k, kind):
         self.own_block_at(source, k).data.kind = kind
 
+    @word("from band", 3)
     def setband(self, source, band):
         self.held[source][0].band = band
 
+    @word("from from", 5)
     def linkb(self, source, tail):
         self.held[source] += self.held.pop(tail)
 
+    @word("from to", 2)
     def unlinkb(self, source, to):
         first, *rest = self.held[source]
         if not rest:
@@ -263,11 +286,13 @@ class Model:
         self.held[source] = [first]
         self.held[to] = rest
 
+    @word("from block to", 2)
     def rmvb(self, source, k, to):
         block = self.block_at(source, k)
         self.leave(source, self.held[source][:k] + self.held[source][k + 1 :])
         self.held[to] = [block]
 
+    @word("from count", 4)
     def adjmsg(self, source, count):
         run = run_of(self.held[source] if count > 0 else self.held[source][::-1])
         left = abs(count)
@@ -281,6 +306,7 @@ class Model:
             else:
                 block.write -= cut
 
+    @word("from count", 5)
     def pullupmsg(self, source, count):
         message = self.held[source]
         run = run_of(message)
@@ -304,15 +330,19 @@ class Model:
             if message[1].length() == 0:
                 self.release(message.pop(1).data)
 
+    @word("from", 1)
     def msgdsize(self, source):
         return f"size {total(block for block in self.held[source] if block.data.kind == 'M_DATA')}"
 
+    @word("from", 1)
     def size(self, source):
         return f"size {total(self.held[source])}"
 
+    @word("from at", 3)
     def read(self, source, at):
         return f"bytes {octets_of(self.held[source])[at : at + 64].hex() or '-'}"
 
+    @word("from block", 4)
     def block(self, source, k):
         block = self.block_at(source, k)
         return (
@@ -320,11 +350,13 @@ class Model:
             f" names={block.data.names}"
         )
 
+    @word("from", 2)
     def freeb(self, source):
         first, *rest = self.held[source]
         self.release(first.data)
         self.leave(source, rest)
 
+    @word("from", 3)
     def freemsg(self, source):
         for block in self.held.pop(source):
             self.release(block.data)
@@ -355,6 +387,7 @@ class Model:
         if settled:
             self.enable_behind(number)
 
+    @word("queue from", 6)
     def putq(self, number, source):
         queue = self.queues[number]
         own = rank(self.held[source])
@@ -362,6 +395,7 @@ class Model:
         if own == 256 or not queue.enabling_is_off and (queue.wants_to_read or own > 0):
             self.enable(number)
 
+    @word("queue from", 2)
     def putbq(self, number, source):
         queue = self.queues[number]
         own = rank(self.held[source])
@@ -369,6 +403,7 @@ class Model:
         if own == 256 or not queue.enabling_is_off and queue.wants_to_read:
             self.enable(number)
 
+    @word("queue place from", 3)
     def insq(self, number, k, source):
         queue = self.queues[number]
         messages = queue.messages
@@ -382,6 +417,7 @@ class Model:
         if not queue.enabling_is_off and queue.wants_to_read:
             self.enable(number)
 
+    @word("queue to", 6)
     def getq(self, number, to):
         queue = self.queues[number]
         queue.wants_to_read = not queue.messages
@@ -390,6 +426,7 @@ class Model:
         self.held[to] = queue.messages.pop(0)
         self.settle(number)
 
+    @word("queue place to", 3)
     def rmvq(self, number, k, to):
         messages = self.queues[number].messages
         if k >= len(messages):
@@ -409,12 +446,15 @@ class Model:
         queue.messages = kept
         self.settle(number)
 
+    @word("queue flag", 2)
     def flushq(self, number, flag):
         self.flush(number, range(257), flag)
 
+    @word("queue band flag", 2)
     def flushband(self, number, band, flag):
         self.flush(number, ranks_of(band), flag)
 
+    @word("queue band", 10)
     def bcanput(self, number, band):
         queue = self.queues[number]
         while not queue.has_service and queue.next != "-":
@@ -424,30 +464,38 @@ class Model:
         queue.wanted.add(band)
         return "no"
 
+    @word("queue marked high low", 8)
     def strqset(self, number, band, high, low):
         if low >= high:
             raise Refused("20 BadMarks")
         self.queues[number].marks[band] = high, low
         self.settle(number)
 
+    @word("queue marked", 2)
     def strqget(self, number, band):
         return "marks {} {}".format(*self.queues[number].marks_of(band))
 
+    @word("queue", 1)
     def qsize(self, number):
         return f"size {len(self.queues[number].messages)}"
 
+    @word("queue", 1)
     def qenable(self, number):
         self.enable(number)
 
+    @word("queue", 1)
     def noenable(self, number):
         self.queues[number].enabling_is_off = True
 
+    @word("queue", 2)
     def enableok(self, number):
         self.queues[number].enabling_is_off = False
 
+    @word("", 2)
     def service(self):
         return f"queue {self.run.pop(0)}" if self.run else "none"
 
+    @word("size", 4)
     def bufcall(self, size):
         if size > self.pool.greatest():
             raise Refused("1 TooLarge")
@@ -459,12 +507,14 @@ class Model:
         self.next_id += 1
         return f"id {self.wishes[-1][0]}"
 
+    @word("id", 2)
     def unbufcall(self, own):
         kept = [wish for wish in self.wishes if wish[0] != own]
         if kept == self.wishes:
             raise Refused("14 NotPending")
         self.wishes = kept
 
+    @word("", 3)
     def ready(self):
         for wish in self.wishes:
             if self.fits(wish[1]):
@@ -472,6 +522,7 @@ class Model:
                 return "ready {} {}".format(*wish)
         return "none"
 
+    @word("", 1)
     def census(self):
         return "census {} {} {}".format(*self.counts())
 

@@ -1,4 +1,4 @@
-"""Sections of rounds: the same 64 commands of all words again and again.
+"""Sections of rounds: the same 64 commands again and again.
 
 A round begins with empty registers and a pool that nobody has used, and leaves them so, but that two ids are given and one
 band has water marks of its own. As many commands as there may be are whole rounds in each of one or sixteen sections."""

@@ -3,8 +3,7 @@ import re
 from collections import Counter
 
 from limits import CLASSES, COMMAND_LINES, DATA_BLOCK_BYTES, DATA_BLOCKS, MESSAGE_BLOCKS, QUEUES, WISHES, WORKERS
-from mixed import WORDS
-from model import HIGH_PRIORITY, ORDINARY
+from model import HIGH_PRIORITY, ORDINARY, WORDS
 
 
 def number(most):
