@@ -15,7 +15,8 @@
  * Terms
  *
  *   - next: the queue to which a queue leads, if any.
- *   - service procedure: your code that takes messages off a queue. Call strm_next_service in a
+ *   - service procedure: your code for an enabled queue. Mostly it takes messages off the queue
+ *     until strm_getq returns STRM_NONE, or until it puts one back. Call strm_next_service in a
  *     loop, and run the service procedure of the queue that this returns (examples/c/service.c).
  *   - read place, write place: where the bytes of a message block begin and end in its data block.
  *     Each message block has its own.
@@ -506,14 +507,14 @@ int strm_flushband(struct strm_pool *pool, uint32_t queue, uint32_t band, uint32
 /* ---- flow control and service: strm_bcanput(3) */
 
 /*
- * Asks whether a message of a band, 0 to 255, may be sent to `queue`: *yes is 1 or 0. Along next,
- * from `queue` on, the first queue with a service procedure decides, or the last one if none has
- * any. If the band is full there, *yes is 0 and the band is marked wanted. High priority is sent
- * without asking. The service procedure of a queue Q asks about the next queue of Q. If it asked
- * about Q, the answer would be about Q, because Q has a service procedure. A source without a queue,
- * such as an interrupt, asks about the queue on which it puts. If *yes is 0, it asks again later, or
- * drops the message: nothing wakes it. To be woken, it needs a queue of its own that stays empty, has
- * a service procedure, and has the queue on which it puts as its next.
+ * Asks whether a message of a band, 0 to 255, may be sent to `queue`: *yes is 1 or 0. The first
+ * queue with a service procedure decides, from `queue` on along next; if none has one, the last
+ * queue does. If the band is full there, *yes is 0 and the band is marked wanted. High priority is
+ * sent without asking. A service procedure asks about the next queue of its own queue, since its
+ * own queue would decide for itself. A source without a queue, such as an interrupt, asks about the
+ * queue on which it puts. If *yes is 0, it asks again later, or drops the message: nothing wakes
+ * it. If it must be woken, give it a queue that stays empty and has a service procedure, and whose
+ * next queue is the one on which it puts (SENDER in examples/c/locked.c).
  * As in STREAMS; canput asks for band 0.
  */
 int strm_bcanput(struct strm_pool *pool, uint32_t queue, uint32_t band, uint32_t *yes);
@@ -576,7 +577,8 @@ int strm_unbufcall(struct strm_pool *pool, uint32_t id);
  * none, returns STRM_NONE. It reserves no block and enables no queue. Keep a table from wishes to
  * what waits for them: a queue, or a function of your own. Before strm_next_service, repeat: call
  * strm_take_ready, then at once strm_qenable on the queue of that wish, or its function. Stop when
- * strm_take_ready returns STRM_NONE.
+ * strm_take_ready returns STRM_NONE. A call such as strm_copymsg may need more than its wish. If it
+ * is refused then, retry it from a timer: a new wish would be ready at once, again and again.
  * Not in STREAMS.
  */
 int strm_take_ready(struct strm_pool *pool, struct strm_wish *wish);

@@ -1,7 +1,7 @@
 /*
  * Two threads share a pool; each holds a mutex during its calls. The sender puts numbers on queue 1 (WAY) until that is full, and then
  * waits for room. The taker takes the numbers off. Queue 0 (SENDER) never has a message. It leads to queue 1 and has a service procedure,
- * so the pool enables it once queue 1 has room again. Then the taker signals the sender.
+ * so the pool enables it once queue 1 has drained. Then the taker signals the sender.
  *
  *     cc -pthread locked.c $(pkg-config --cflags --libs strm) -o locked
  */

@@ -83,24 +83,21 @@ static void serve_inner(struct strm_pool *pool)
 	}
 }
 
-/* The service procedure of the outer queue takes one message, and enables its queue again if there are more. */
+/* The service procedure of the outer queue takes messages until there are none. If it stopped earlier, it would have to call
+ * strm_qenable: after a strm_getq that took a message, strm_putq of an ordinary message of band 0 does not enable the queue. */
 static void serve_outer(struct strm_pool *pool)
 {
 	char bytes[16];
 	struct strm_msg msg;
 	size_t count;
-	uint32_t left;
-	int code = strm_getq(pool, OUTER, &msg);
+	int code;
 
-	if (code == STRM_NONE)
-		return;
-	must(code);
-	must(strm_read(pool, msg, 0, bytes, sizeof bytes, &count));
-	printf("  out: %.*s\n", (int)count, bytes);
-	must(strm_freemsg(pool, msg));
-	must(strm_qsize(pool, OUTER, &left));
-	if (left > 0)
-		must(strm_qenable(pool, OUTER));
+	while ((code = strm_getq(pool, OUTER, &msg)) != STRM_NONE) {
+		must(code);
+		must(strm_read(pool, msg, 0, bytes, sizeof bytes, &count));
+		printf("  out: %.*s\n", (int)count, bytes);
+		must(strm_freemsg(pool, msg));
+	}
 }
 
 int main(void)
