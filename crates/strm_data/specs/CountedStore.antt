@@ -3,7 +3,7 @@ use Rattle.std.specs.Prelude.{◌≡◌, ℕ, ◌+◌, ◌-◌, ◌<◌, ◌≤�
 use Rattle.strm_data.specs.Classes.{are_lawful}
 use Rattle.strm_data.specs.declared.class_spec.ClassSpec.{ClassSpec}
 use Rattle.strm_data.specs.declared.refusal.Refusal.{Refusal}
-use Rattle.strm_data.specs.Limits.{most_data_block_names}
+use Rattle.strm_data.specs.Limits.{most_references}
 use Rattle.strm_data.specs.DataStore.{DataStore, times, blocks_in, capacity_of, class_of, class_spec_at, free_of, with_data_taken, with_data_freed, opening_store}
 
 -- the store, and for each data block by number its references: how many message blocks use it
@@ -38,8 +38,9 @@ pub record IsKept (s : CountedStore) : Type 0 where
   pub lists : length s.store.free ≡ length s.store.classes
   pub counted : length s.counts ≡ length s.store.blocks
   pub classed : (d : ℕ) → d < length s.store.blocks → class_of s.store d < length s.store.classes
-  pub sized : (d : ℕ) → d < length s.store.blocks → capacity_of s.store d ≡ (class_spec_at s.store (class_of s.store d)).size
-  pub few_names : (d : ℕ) → count_of s d ≤ most_data_block_names
+  pub sized : (d : ℕ) → d < length s.store.blocks → capacity_of s.store d
+      ≡ (class_spec_at s.store (class_of s.store d)).size
+  pub few_references : (d : ℕ) → count_of s d ≤ most_references
   pub listed : (c d : ℕ) → times d (free_of s.store c) ≡ (if is_unused s c d then 1 else 0)
 
 -- a new store: no data block has references
@@ -52,12 +53,12 @@ after_take s (Ok d) = record { store = with_data_taken d s.store; counts = slice
 after_take s (Err why) = s
 
 -- the store after d got a reference
-abbrev pub with_name : ℕ → CountedStore → CountedStore
-with_name d s = record s { counts = slice_set s.counts d (count_of s d + 1) }
+abbrev pub with_reference : ℕ → CountedStore → CountedStore
+with_reference d s = record s { counts = slice_set s.counts d (count_of s d + 1) }
 
 -- the store after d lost a reference; if that was the last one, d is free
-abbrev pub without_name : ℕ → CountedStore → CountedStore
-without_name d s = record {
+abbrev pub without_reference : ℕ → CountedStore → CountedStore
+without_reference d s = record {
   store = if count_of s d == 1 then with_data_freed d s.store else s.store;
   counts = slice_set s.counts d (count_of s d - 1);
 }

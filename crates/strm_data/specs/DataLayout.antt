@@ -14,7 +14,7 @@ abbrev pub no_class : Class
 no_class = record { spec = record { size = 0; count = 0 }; first = 0 }
 
 abbrev pub no_block : DataBlock
-no_block = record { class = 0; kind = MData; names = 0 }
+no_block = record { class = 0; kind = MData; references = 0 }
 
 abbrev pub class_at : List Class → ℕ → Class
 class_at classes c = slice_index_or classes c no_class
@@ -39,34 +39,35 @@ abbrev pub bytes_in : Class → List ℕ → ℕ → List ℕ
 bytes_in c region d = take c.spec.size (drop (start_in c d) region)
 
 -- data block d as contracts see it
-abbrev pub seen_block : List Class → List (List ℕ) → List DataBlock → ℕ → store.DataBlock
-seen_block classes regions blocks d =
+abbrev pub data_block_of : List Class → List (List ℕ) → List DataBlock → ℕ → store.DataBlock
+data_block_of classes regions blocks d =
     let b = block_at blocks d in
     record { class = b.class; kind = b.kind; bytes = bytes_in (class_at classes b.class) (region_at regions b.class) d }
 
 -- the values of f at the numbers below n
-abbrev pub tabulated : {X : Type 0} → (ℕ → X) → ℕ → List X
-tabulated f n = map f (range_with_len 0 n)
+abbrev pub values_below : {X : Type 0} → (ℕ → X) → ℕ → List X
+values_below f n = map f (range_with_len 0 n)
 
 -- the store and counts that classes, regions, data blocks and free lists mean, which contracts see
-abbrev pub counted : List Class → List (List ℕ) → List DataBlock → List (List ℕ) → CountedStore
-counted classes regions blocks free = record {
-  store = record { classes = map (λ c. c.spec) classes; blocks = tabulated (seen_block classes regions blocks) (length blocks); free = free };
-  counts = map (λ b. b.names) blocks;
+abbrev pub store_of_parts : List Class → List (List ℕ) → List DataBlock → List (List ℕ) → CountedStore
+store_of_parts classes regions blocks free = record {
+  store = record { classes = map (λ c. c.spec) classes; blocks = values_below (data_block_of classes regions blocks) (length blocks); free = free };
+  counts = map (λ b. b.references) blocks;
 }
 
-abbrev pub counted_store : Inside → CountedStore
-counted_store a = counted a.classes.items (bytes_of a.regions.items) a.blocks.items a.free.lists
+abbrev pub store_of : Inside → CountedStore
+store_of a = store_of_parts a.classes.items (bytes_of a.regions.items) a.blocks.items a.free.lists
 
 -- each class has a region with room for its data blocks, whose numbers count up from its first one
 pub record IsPlaced (classes : List Class) (regions : List (List ℕ)) (blocks : List DataBlock) : Type 0 where
   pub regioned : length regions ≡ length classes
   pub filled : (c : ℕ) → length (region_at regions c) ≡ (class_at classes c).spec.size * (class_at classes c).spec.count
   pub from : (d : ℕ) → d < length blocks → (class_at classes (block_at blocks d).class).first ≤ d
-  pub below : (d : ℕ) → d < length blocks → d < (class_at classes (block_at blocks d).class).first + (class_at classes (block_at blocks d).class).spec.count
+  pub below : (d : ℕ) → d < length blocks → d < (class_at classes (block_at blocks d).class).first
+      + (class_at classes (block_at blocks d).class).spec.count
 
 -- each data block is accounted for and has its place in a region, and the free lists have a node for each
 pub record IsSound (a : Inside) : Type 0 where
-  pub kept : IsKept (counted_store a)
+  pub kept : IsKept (store_of a)
   pub placed : IsPlaced a.classes.items (bytes_of a.regions.items) a.blocks.items
   pub nodes : a.free.nodes ≡ length a.blocks.items

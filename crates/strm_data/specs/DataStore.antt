@@ -56,12 +56,12 @@ abbrev pub free_of : DataStore → ℕ → List ℕ
 free_of s c = slice_index_or s.free c []
 
 -- the free data blocks of the classes that fit the size, in order of class
-abbrev pub fitting : ℕ → DataStore → List ℕ
-fitting size s = flat_map (λ p. if nat_le size p.0.size then p.1 else []) (zip s.classes s.free)
+abbrev pub fitting_blocks : ℕ → DataStore → List ℕ
+fitting_blocks size s = flat_map (λ p. if nat_le size p.0.size then p.1 else []) (zip s.classes s.free)
 
 -- the data block that is taken for a size: the first free one of the smallest class that fits and has one
 abbrev pub take_data : ℕ → DataStore → Result ℕ Refusal
-take_data size s = if fits_a_class size s.classes then ok_or (slice_get (fitting size s) 0) NoData else Err TooLarge
+take_data size s = if fits_a_class size s.classes then ok_or (slice_get (fitting_blocks size s) 0) NoData else Err TooLarge
 
 -- whether a data block can be taken for this size now
 abbrev pub fits : ℕ → DataStore → Bool
@@ -89,13 +89,13 @@ abbrev pub with_kind : ℕ → MsgType → DataStore → DataStore
 with_kind d kind s = record s { blocks = slice_set s.blocks d (record (data_block_at s d) { kind = kind }) }
 
 -- bytes, overwritten with new ones from a place on
-abbrev pub overwritten : ℕ → List ℕ → List ℕ → List ℕ
-overwritten at new old = take at old ++ (new ++ drop (at + length new) old)
+abbrev pub bytes_overwritten : ℕ → List ℕ → List ℕ → List ℕ
+bytes_overwritten at new old = take at old ++ (new ++ drop (at + length new) old)
 
 -- the store after these bytes were written into d from a place on
 abbrev pub with_bytes_written : ℕ → ℕ → List ℕ → DataStore → DataStore
 with_bytes_written d at bytes s = record s {
-  blocks = slice_set s.blocks d (record (data_block_at s d) { bytes = overwritten at bytes (data_block_at s d).bytes });
+  blocks = slice_set s.blocks d (record (data_block_at s d) { bytes = bytes_overwritten at bytes (data_block_at s d).bytes });
 }
 
 -- the store after `len` bytes of one data block, from a place on, were copied into another, from a place on

@@ -14,5 +14,5 @@ abbrev pub most_data_blocks : ℕ
 most_data_blocks = 16383
 
 -- the most references to one data block
-abbrev pub most_data_block_names : ℕ
-most_data_block_names = 255
+abbrev pub most_references : ℕ
+most_references = 255

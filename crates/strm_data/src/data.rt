@@ -2,12 +2,12 @@
 ghost use Rattle.std.specs.Prelude.{◌≡◌, ℕ, ◌+◌, ◌-◌, ◌^◌, ◌<◌, ◌≤◌, ◌++◌, IfOk, IfErr, IfSome, IsTrue, OnOk, Err, None, [], length, nat_le, take, drop, replicate, slice_get, slice_set};
 ghost use Rattle.std.specs.List.{list_any, range_with_len};
 ghost use Rattle.strm_links.specs.Rows.{holder, list_at};
-ghost use Rattle.strm_data.specs.Limits.{most_classes, most_data_block_bytes, most_data_blocks, most_data_block_names};
+ghost use Rattle.strm_data.specs.Limits.{most_classes, most_data_block_bytes, most_data_blocks, most_references};
 ghost use Rattle.strm_data.specs.declared.msg_type.MsgType.TheVariants.{MData};
 ghost use Rattle.strm_data.specs.Classes.{are_lawful, fits_a_class, total_of};
-ghost use Rattle.strm_data.specs.CountedStore.{count_of, IsInUse, IsKept, IsUnused, opening_counted, after_take, with_name, without_name};
+ghost use Rattle.strm_data.specs.CountedStore.{count_of, IsInUse, IsKept, IsUnused, opening_counted, after_take, with_reference, without_reference};
 ghost use Rattle.strm_data.specs.DataLayout.{block_at, bytes_of, class_at, region_at, start_in};
-ghost use Rattle.strm_data.specs.DataStore.{capacity_of, data_block_at, class_infos, fits, take_data, with_kind, with_bytes_copied, with_bytes_written, free_of, numbers_from, overwritten, IsTakenFrom};
+ghost use Rattle.strm_data.specs.DataStore.{capacity_of, data_block_at, class_infos, fits, take_data, with_kind, with_bytes_copied, with_bytes_written, free_of, numbers_from, bytes_overwritten, IsTakenFrom};
 
 use crate::class_info::ClassInfo;
 use crate::class_spec::ClassSpec;
@@ -52,7 +52,7 @@ struct DataBlock {
     class: u8,
     kind: MsgType,
     // The number of references.
-    names: u8,
+    references: u8,
 }
 
 const _: () = prove!(size_of::<Class>() == 12 && size_of::<DataBlock>() == 3);
@@ -82,9 +82,9 @@ impl Model for Data {
 
     ghost Value = { CountedStore };
 
-    ghost use Rattle.strm_data.specs.DataLayout.{counted_store, IsSound};
+    ghost use Rattle.strm_data.specs.DataLayout.{store_of, IsSound};
 
-    ghost view = { counted_store };
+    ghost view = { store_of };
 
     ghost invariant = { IsSound };
 }
@@ -107,7 +107,7 @@ fn fits_a_class(size: u32, classes: &[Class]) -> bool
 // Overwrites bytes with others, from place `at` on.
 fn overwrite(old: &mut [u8], at: usize, new: &[u8])
     requires { at + length new.now ≤ length old.old }
-    ensures { old.new ≡ overwritten at new.now old.old }
+    ensures { old.new ≡ bytes_overwritten at new.now old.old }
 {
     old[at..at + new.len()].copy_from_slice(new);
 }
@@ -134,7 +134,7 @@ fn place_of(classes: &[Class], blocks: &[DataBlock], number: DataNo, at: u32) ->
 fn copy_inside(region: &mut [u8], from: usize, into: usize, len: usize)
     requires there { from + len ≤ length region.old }
     requires room { into + len ≤ length region.old }
-    ensures { region.new ≡ overwritten into (take len (drop from region.old)) region.old }
+    ensures { region.new ≡ bytes_overwritten into (take len (drop from region.old)) region.old }
 {
     if from + len <= into {
         let (low, high) = region.split_at_mut(into);
@@ -156,7 +156,7 @@ fn copy_bytes(regions: &mut [Vec<u8>], from: RegionPlace, into: RegionPlace, len
     requires there { from.start + len ≤ length (region_at (bytes_of regions.old) from.class) }
     requires room { into.start + len ≤ length (region_at (bytes_of regions.old) into.class) }
     ensures { bytes_of regions.new ≡ slice_set (bytes_of regions.old) into.class
-        (overwritten into.start (take len (drop from.start (region_at (bytes_of regions.old) from.class)))
+        (bytes_overwritten into.start (take len (drop from.start (region_at (bytes_of regions.old) from.class)))
         (region_at (bytes_of regions.old) into.class)) }
 {
     let bytes = from.start..from.start + len;
@@ -215,12 +215,12 @@ fn free_lists(alloc: Global, specs: &[ClassSpec]) -> Result<Stacks, AllocError>
 // Adds `count` data blocks of a class, without references.
 fn add_blocks(blocks: &mut Vec<DataBlock>, class: u8, count: u32) -> Result<(), AllocError>
     ensures { OnOk result (blocks.new.items ≡ blocks.old.items ++ replicate count
-        (record { class = class; kind = MData; names = 0 })) }
+        (record { class = class; kind = MData; references = 0 })) }
 {
     let block = DataBlock {
         class,
         kind: MsgType::MData,
-        names: 0,
+        references: 0,
     };
     blocks.resize(blocks.len() + count as usize, block)
 }
@@ -290,7 +290,7 @@ impl Data {
         let number = self.free.pop_front(class).unwrap();
         let block = &mut self.blocks[number as usize];
         block.kind = MsgType::MData;
-        block.names = 1;
+        block.references = 1;
         Ok(number)
     }
 
@@ -309,15 +309,15 @@ impl Data {
         fits_a_class(size, &self.classes)
     }
 
-    /// Adds a reference to a data block that is in use and has fewer than `MOST_DATA_BLOCK_NAMES`. All else stays unchanged.
+    /// Adds a reference to a data block that is in use and has fewer than `MOST_REFERENCES`. All else stays unchanged.
     pub fn name(&mut self, number: DataNo)
         requires there { number < length self.old.store.blocks }
         requires used { IsInUse self.old number }
-        requires few { count_of self.old number < most_data_block_names }
-        ensures after { self.new ≡ with_name number self.old }
+        requires few { count_of self.old number < most_references }
+        ensures after { self.new ≡ with_reference number self.old }
         ensures kept { IsKept self.new }
     {
-        self.blocks[number as usize].names += 1;
+        self.blocks[number as usize].references += 1;
     }
 
     /// Removes a reference from a data block that is in use. If that was the last one, the data block becomes free, at
@@ -325,12 +325,12 @@ impl Data {
     pub fn drop_name(&mut self, number: DataNo)
         requires there { number < length self.old.store.blocks }
         requires used { IsInUse self.old number }
-        ensures after { self.new ≡ without_name number self.old }
+        ensures after { self.new ≡ without_reference number self.old }
         ensures kept { IsKept self.new }
     {
         let block = &mut self.blocks[number as usize];
-        block.names -= 1;
-        if block.names == 0 {
+        block.references -= 1;
+        if block.references == 0 {
             let class = u32::from(block.class);
             self.free.push_front(class, number);
         }
@@ -343,12 +343,12 @@ impl Data {
         self.blocks.len()
     }
 
-    /// Returns the number of references to a data block, 0 to `MOST_DATA_BLOCK_NAMES`. Changes nothing.
+    /// Returns the number of references to a data block, 0 to `MOST_REFERENCES`. Changes nothing.
     pub fn count(&self, number: DataNo) -> u8
         requires { number < length self.now.store.blocks }
         ensures { result ≡ count_of self.now number }
     {
-        self.blocks[number as usize].names
+        self.blocks[number as usize].references
     }
 
     /// Returns the capacity of a data block in bytes, 1 to `MOST_DATA_BLOCK_BYTES`. Changes nothing.
@@ -441,7 +441,7 @@ impl Data {
     }
 
     /// Law: every data block is accounted for. There are 1 to `MOST_CLASSES` size classes, and each has its number of data blocks.
-    /// Each data block is in one class, and has that class's size. It has at most `MOST_DATA_BLOCK_NAMES` references. It is in its
+    /// Each data block is in one class, and has that class's size. It has at most `MOST_REFERENCES` references. It is in its
     /// class's free list, once, if it has none, and otherwise in no free list. Does nothing.
     pub fn accounts_for_blocks(&self)
         ensures kept { IsKept self.now }

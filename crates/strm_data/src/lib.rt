@@ -11,6 +11,6 @@ mod refusal;
 pub use class_info::ClassInfo;
 pub use class_spec::ClassSpec;
 pub use data::{Data, DataNo};
-pub use limits::{MOST_CLASSES, MOST_DATA_BLOCK_BYTES, MOST_DATA_BLOCK_NAMES, MOST_DATA_BLOCKS};
+pub use limits::{MOST_CLASSES, MOST_DATA_BLOCK_BYTES, MOST_DATA_BLOCKS, MOST_REFERENCES};
 pub use msg_type::MsgType;
 pub use refusal::Refusal;

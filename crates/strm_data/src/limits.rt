@@ -10,4 +10,4 @@ pub const MOST_DATA_BLOCK_BYTES: u32 = 4096;
 pub const MOST_DATA_BLOCKS: u32 = 16_383;
 
 /// The most references to one data block.
-pub const MOST_DATA_BLOCK_NAMES: u8 = 255;
+pub const MOST_REFERENCES: u8 = 255;

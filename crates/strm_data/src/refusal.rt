@@ -20,7 +20,7 @@ pub enum Refusal {
     /// `allocb`, `copyb`, `copymsg` or `pullupmsg` finds no free data block that is large enough.
     #[error("no data block is free of a class that fits")]
     NoData = 3,
-    /// `dupb` or `dupmsg` would give a data block more than `MOST_DATA_BLOCK_NAMES` references.
+    /// `dupb` or `dupmsg` would give a data block more than `MOST_REFERENCES` references.
     #[error("too many message blocks would refer to one data block")]
     RefMax = 4,
     /// `write`, `settype`, `block` or `rmvb` names a block that the message does not have. Blocks count from 0.

@@ -72,4 +72,5 @@ pub record IsSound (nodes : List Node) (ends : List Ends) (rows : Rows) : Type 0
   pub known : (k l : ℕ) → owner_at nodes k ≡ Some l → l < length rows.lists
   pub free_next : (k : ℕ) → owner_at nodes k ≡ None → next_at nodes k ≡ None
   pub free_previous : (k : ℕ) → owner_at nodes k ≡ None → previous_at nodes k ≡ None
-  pub linked : (l : ℕ) → l < length rows.lists → IsLinked (owner_at nodes) (previous_at nodes) (next_at nodes) (ends_at ends l) l (list_at l rows)
+  pub linked : (l : ℕ) → l < length rows.lists → IsLinked (owner_at nodes) (previous_at nodes) (next_at nodes)
+      (ends_at ends l) l (list_at l rows)

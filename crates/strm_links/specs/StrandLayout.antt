@@ -32,10 +32,10 @@ abbrev pub span_at : List Node → ℕ → Span
 span_at nodes k = (node_at nodes k).span
 
 -- the node that `steps` links from `at` lead to; none if they end before
-abbrev pub onward : (ℕ → Option ℕ) → ℕ → Option ℕ → Option ℕ
-onward next zero at = at
-onward next (suc steps) None = None
-onward next (suc steps) (Some k) = onward next steps (next k)
+abbrev pub node_onward : (ℕ → Option ℕ) → ℕ → Option ℕ → Option ℕ
+node_onward next zero at = at
+node_onward next (suc steps) None = None
+node_onward next (suc steps) (Some k) = node_onward next steps (next k)
 
 -- a number of nodes, as the links lead, from the given one on
 unfoldable pub path : List Node → ℕ → Option ℕ → List ℕ

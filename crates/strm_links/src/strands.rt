@@ -7,9 +7,9 @@ ghost use Rattle.std.specs.Prelude.{◌≡◌, ◌≢◌, ℕ, ◌+◌, ◌-◌,
 ghost use Rattle.std.specs.List.{range_with_len};
 ghost use Rattle.strm_links.specs.Rows.{IsApart, first, first_or, has, last};
 ghost use Rattle.strm_links.specs.Layout.{LeadsOn};
-ghost use Rattle.strm_links.specs.Chains.{divided, chain_in, joined, taken_out};
+ghost use Rattle.strm_links.specs.Chains.{chain_divided, chain_in, chains_joined, item_taken_out};
 ghost use Rattle.strm_links.specs.StrandLists.{IsParted, opening_strands, strand_at, with_behind_freed, with_first_begun};
-ghost use Rattle.strm_links.specs.StrandLayout.{free_node, next_at, no_span, onward, path, span_at};
+ghost use Rattle.strm_links.specs.StrandLayout.{free_node, next_at, no_span, node_onward, path, span_at};
 
 use crate::slot::Slot;
 use std::alloc::{AllocError, Global};
@@ -141,8 +141,8 @@ fn chain_up(nodes: &mut Vec<Node>, head: u32, last: u32, len: u32)
 fn node_behind(nodes: &[Node], from: u32, steps: u32) -> u32
     requires from { from < length nodes.now }
     requires within { (k j : ℕ) → next_at nodes.now k ≡ Some j → j < length nodes.now }
-    requires there { IsSome (onward (next_at nodes.now) steps (Some from)) }
-    ensures value { onward (next_at nodes.now) steps (Some from) ≡ Some result }
+    requires there { IsSome (node_onward (next_at nodes.now) steps (Some from)) }
+    ensures value { node_onward (next_at nodes.now) steps (Some from) ≡ Some result }
     ensures in_range { result < length nodes.now }
 {
     let mut at = from;
@@ -163,7 +163,7 @@ fn reverse_links(nodes: &mut Vec<Node>, head: u32, len: u32, beyond: Slot) -> Re
     requires within { (k : ℕ) → IsTrue (has k (path nodes.old.items len (Some head)))
         → k < vec_len nodes.old }
     ensures last { result.last ≡ first_or beyond (reverse (path nodes.old.items len (Some head))) }
-    ensures next { result.next ≡ onward (next_at nodes.old.items) len (Some head) }
+    ensures next { result.next ≡ node_onward (next_at nodes.old.items) len (Some head) }
     ensures reversed { LeadsOn (next_at nodes.new.items)
         (reverse (path nodes.old.items len (Some head))) beyond }
     ensures others { (k : ℕ) → has k (path nodes.old.items len (Some head)) ≡ false
@@ -318,7 +318,7 @@ impl Strands {
         requires head { IsSome (chain_in self.old.chains head) }
         requires tail { IsSome (chain_in self.old.chains tail) }
         requires other { head ≢ tail }
-        ensures after { self.new ≡ record self.old { chains = joined head tail self.old.chains } }
+        ensures after { self.new ≡ record self.old { chains = chains_joined head tail self.old.chains } }
         ensures parted { IsParted self.new }
     {
         let span = self.nodes[head as usize].span;
@@ -342,7 +342,7 @@ impl Strands {
         requires { IsSome (chain_in self.old.chains head) }
         ensures answer { result ≡ slice_get (strand_at self.old head) 1 }
         ensures after { self.new ≡ record self.old {
-          chains = divided (λ n. n) head (strand_at self.old head) self.old.chains;
+          chains = chain_divided (λ n. n) head (strand_at self.old head) self.old.chains;
         } }
         ensures in_range { IfSome result (λ node. node < length self.old.chains) }
         ensures parted { IsParted self.new }
@@ -369,7 +369,7 @@ impl Strands {
         requires place { 0 < place }
         ensures answer { result ≡ slice_get (strand_at self.old head) place }
         ensures after { self.new ≡ record self.old {
-          chains = taken_out (λ n. n) head place (strand_at self.old head) self.old.chains;
+          chains = item_taken_out (λ n. n) head place (strand_at self.old head) self.old.chains;
         } }
         ensures in_range { IfSome result (λ node. node < length self.old.chains) }
         ensures parted { IsParted self.new }

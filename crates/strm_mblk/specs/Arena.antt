@@ -4,10 +4,10 @@ use Rattle.std.specs.List.{All, range_with_len}
 use Rattle.strm_data.specs.declared.class_spec.ClassSpec.{ClassSpec}
 use Rattle.strm_data.specs.CountedStore.{CountedStore}
 use Rattle.strm_data.specs.DataStore.{DataStore, times, capacity_of, class_of, free_of, opening_store}
-use Rattle.strm_data.specs.Limits.{most_data_block_names}
+use Rattle.strm_data.specs.Limits.{most_references}
 use Rattle.strm_mblk.specs.declared.census.Census.{Census}
 use Rattle.strm_mblk.specs.declared.token.TokenValue.{TokenValue}
-use Rattle.strm_mblk.specs.Block.{Block, Message, head_of, is_naming, numbers_of}
+use Rattle.strm_mblk.specs.Block.{Block, Message, head_of, uses_data, numbers_of}
 use Rattle.strm_mblk.specs.Messages.{blocks_of, held_in, shelf_in, blocks_on, blocks_held}
 
 -- the pool's id and data blocks, and the free message blocks, the next to be taken first. For each block number the held message that
@@ -56,8 +56,8 @@ abbrev pub blocks_in : Arena → List Block
 blocks_in a = shelved_blocks a ++ held_blocks a
 
 -- the number of references to data block d: the blocks of all messages that use it
-abbrev pub names_of : Arena → ℕ → ℕ
-names_of a d = count_by (is_naming d) (blocks_in a)
+abbrev pub references_to : Arena → ℕ → ℕ
+references_to a d = count_by (uses_data d) (blocks_in a)
 
 -- the numbers of message blocks that are free, on shelves and held
 abbrev pub census_of : Arena → Census
@@ -98,7 +98,7 @@ token_of a h = record { pool = a.id; head = h; blocks = length (message_at a h) 
 
 -- whether d is a data block of class c without references
 abbrev pub is_free_in : Arena → ℕ → ℕ → Bool
-is_free_in a c d = nat_lt d (length a.store.blocks) && (class_of a.store d == c && names_of a d == 0)
+is_free_in a c d = nat_lt d (length a.store.blocks) && (class_of a.store d == c && references_to a d == 0)
 
 -- Each message block is in exactly one place: free, in one message on one shelf, or in one held message, which is at its head. Each
 -- data block either has no references, and is once in its class's free list, or has 1 to most_data_block_names references, and is
@@ -108,14 +108,14 @@ pub record IsParted (a : Arena) : Type 0 where
   pub heads : (h : ℕ) → IfSome (held_at a h) (λ m. (0 < length m) × (head_of m ≡ h))
   pub shelved : (s : ℕ) → All (λ m. 0 < length m) (shelf_at a s)
   pub free_data : (c d : ℕ) → times d (free_of a.store c) ≡ (if is_free_in a c d then 1 else 0)
-  pub named : (d : ℕ) → 0 < names_of a d → d < length a.store.blocks
-  pub few_names : (d : ℕ) → names_of a d ≤ most_data_block_names
+  pub named : (d : ℕ) → 0 < references_to a d → d < length a.store.blocks
+  pub few_references : (d : ℕ) → references_to a d ≤ most_references
 
 -- ---- data blocks and the blocks of messages
 
 -- the data blocks, each with its number of references
 abbrev pub counted_in : Arena → CountedStore
-counted_in a = record { store = a.store; counts = map (names_of a) (range_with_len 0 (length a.store.blocks)) }
+counted_in a = record { store = a.store; counts = map (references_to a) (range_with_len 0 (length a.store.blocks)) }
 
 -- the places of the block are inside its data block
 abbrev pub IsWithin : DataStore → Block → Type 0

@@ -27,8 +27,8 @@ abbrev pub numbers_of : List Block → List ℕ
 numbers_of bs = map (λ b. b.number) bs
 
 -- whether the block uses data block d
-abbrev pub is_naming : ℕ → Block → Bool
-is_naming d b = b.data_number == d
+abbrev pub uses_data : ℕ → Block → Bool
+uses_data d b = b.data_number == d
 
 -- the type of the block's data block
 abbrev pub kind_of : DataStore → Block → MsgType

@@ -7,13 +7,13 @@ use Rattle.strm_data.specs.declared.refusal.Refusal.{Refusal}
 use Rattle.strm_data.specs.declared.refusal.Refusal.TheVariants.{TooLarge, NoMblk, RefMax, NoSuchBlock, Shared, NoRoom}
 use Rattle.strm_data.specs.Classes.{fits_a_class}
 use Rattle.strm_data.specs.DataStore.{DataStore, capacity_of, take_data, with_data_taken, with_kind, with_bytes_written}
-use Rattle.strm_data.specs.Limits.{most_data_block_names}
+use Rattle.strm_data.specs.Limits.{most_references}
 use Rattle.strm_mblk.specs.declared.block_info.BlockInfo.{BlockInfo}
-use Rattle.strm_mblk.specs.Arena.{Arena, message_at, names_of, with_held, with_message, without_held}
-use Rattle.strm_mblk.specs.Block.{Block, Message, bytes_of_block, head_of, is_naming, kind_of, new_block}
+use Rattle.strm_mblk.specs.Arena.{Arena, message_at, references_to, with_held, with_message, without_held}
+use Rattle.strm_mblk.specs.Block.{Block, Message, bytes_of_block, head_of, uses_data, kind_of, new_block}
 use Rattle.strm_mblk.specs.Freeing.{with_block_freed}
 use Rattle.strm_mblk.specs.Given.{Given, and_then, answer_map}
-use Rattle.strm_mblk.specs.Messages.{divided, joined, without_place}
+use Rattle.strm_mblk.specs.Messages.{chain_divided, chains_joined, without_place}
 
 -- ---- new messages
 
@@ -35,57 +35,57 @@ abbrev pub testb : ℕ → Arena → Bool
 testb size a = is_ok (allocb size a)
 
 -- these blocks with other numbers
-abbrev pub renumbered : List ℕ → List Block → List Block
-renumbered ns bs = map (λ p. record p.1 { number = p.0 }) (zip ns bs)
+abbrev pub blocks_renumbered : List ℕ → List Block → List Block
+blocks_renumbered ns bs = map (λ p. record p.1 { number = p.0 }) (zip ns bs)
 
 -- whether some data block would have more than most_data_block_names references after each of these blocks got a duplicate
-abbrev pub exceeds_names : List Block → Arena → Bool
-exceeds_names bs a = list_any (λ b. nat_lt most_data_block_names (names_of a b.data_number + count_by (is_naming b.data_number) bs)) bs
+abbrev pub exceeds_references : List Block → Arena → Bool
+exceeds_references bs a = list_any (λ b. nat_lt most_references (references_to a b.data_number + count_by (uses_data b.data_number) bs)) bs
 
 -- the head of a held message of these blocks with the first free numbers, and the arena with that message and this store
 abbrev pub held_under : List Block → DataStore → Arena → ℕ × Arena
 held_under bs s a =
-    let m = renumbered (take (length bs) a.free) bs in
+    let m = blocks_renumbered (take (length bs) a.free) bs in
     (head_of m, with_held m (record a { free = drop (length bs) a.free; store = s }))
 
 -- makes a message of new blocks, one for each of these, with its data block, places and band
-abbrev pub duplicated : List Block → Arena → Given Arena ℕ
-duplicated bs a =
+abbrev pub message_duplicated : List Block → Arena → Given Arena ℕ
+message_duplicated bs a =
     if nat_lt (length a.free) (length bs) then Err NoMblk
-    else (if exceeds_names bs a then Err RefMax
+    else (if exceeds_references bs a then Err RefMax
     else Ok (held_under bs a.store a))
 
 -- duplicates the first block of the message held at h
 abbrev pub dupb : ℕ → Arena → Given Arena ℕ
-dupb h a = duplicated (take 1 (message_at a h)) a
+dupb h a = message_duplicated (take 1 (message_at a h)) a
 
 -- duplicates all blocks of the message held at h
 abbrev pub dupmsg : ℕ → Arena → Given Arena ℕ
-dupmsg h a = duplicated (message_at a h) a
+dupmsg h a = message_duplicated (message_at a h) a
 
 -- the store after d was taken for a copy of b: it has b's type, and b's bytes at the same places
-abbrev pub copied_into : Block → DataStore → ℕ → DataStore
-copied_into b s d = with_bytes_written d b.offset (bytes_of_block s b) (with_kind d (kind_of s b) (with_data_taken d s))
+abbrev pub store_with_copy : Block → DataStore → ℕ → DataStore
+store_with_copy b s d = with_bytes_written d b.offset (bytes_of_block s b) (with_kind d (kind_of s b) (with_data_taken d s))
 
 -- these blocks over copies of their data blocks, each of which is taken for the old one's capacity, in order
-abbrev pub copies : List Block → DataStore → Given DataStore (List Block)
-copies [] s = Ok ([], s)
-copies (b ∷ bs) s =
-    and_then (λ d. answer_map (λ g. (record b { data_number = d } ∷ g.0, g.1)) (copies bs (copied_into b s d))) (take_data (capacity_of s b.data_number) s)
+abbrev pub blocks_copied : List Block → DataStore → Given DataStore (List Block)
+blocks_copied [] s = Ok ([], s)
+blocks_copied (b ∷ bs) s =
+    and_then (λ d. answer_map (λ g. (record b { data_number = d } ∷ g.0, g.1)) (blocks_copied bs (store_with_copy b s d))) (take_data (capacity_of s b.data_number) s)
 
 -- makes a message of new blocks, one for each of these, over a copy of its data block, with its places and band
-abbrev pub copied : List Block → Arena → Given Arena ℕ
-copied bs a =
+abbrev pub message_copied : List Block → Arena → Given Arena ℕ
+message_copied bs a =
     if nat_lt (length a.free) (length bs) then Err NoMblk
-    else answer_map (λ g. held_under g.0 g.1 a) (copies bs a.store)
+    else answer_map (λ g. held_under g.0 g.1 a) (blocks_copied bs a.store)
 
 -- copies the first block of the message held at h
 abbrev pub copyb : ℕ → Arena → Given Arena ℕ
-copyb h a = copied (take 1 (message_at a h)) a
+copyb h a = message_copied (take 1 (message_at a h)) a
 
 -- copies all blocks of the message held at h
 abbrev pub copymsg : ℕ → Arena → Given Arena ℕ
-copymsg h a = copied (message_at a h) a
+copymsg h a = message_copied (message_at a h) a
 
 -- ---- one block
 
@@ -93,7 +93,7 @@ copymsg h a = copied (message_at a h) a
 abbrev pub write_block : ℕ → ℕ → List ℕ → Arena → Message → Option Block → Given Arena (Unit {0})
 write_block h k bytes a m None = Err NoSuchBlock
 write_block h k bytes a m (Some b) =
-    if nat_lt 1 (names_of a b.data_number) then Err Shared
+    if nat_lt 1 (references_to a b.data_number) then Err Shared
     else (if nat_lt (capacity_of a.store b.data_number) (b.offset + b.len + length bytes) then Err NoRoom
     else Ok (
       tt,
@@ -111,7 +111,7 @@ write h k bytes a = write_block h k bytes a (message_at a h) (slice_get (message
 abbrev pub settype_of : MsgType → Arena → Option Block → Given Arena (Unit {0})
 settype_of kind a None = Err NoSuchBlock
 settype_of kind a (Some b) =
-    if nat_lt 1 (names_of a b.data_number) then Err Shared
+    if nat_lt 1 (references_to a b.data_number) then Err Shared
     else Ok (tt, record a { store = with_kind b.data_number kind a.store })
 
 -- gives the data block of block k of the message held at h a type
@@ -119,13 +119,13 @@ abbrev pub settype : ℕ → ℕ → MsgType → Arena → Given Arena (Unit {0}
 settype h k kind a = settype_of kind a (slice_get (message_at a h) k)
 
 -- the message after its first block got this band
-abbrev pub banded : ℕ → Message → Message
-banded band [] = []
-banded band (b ∷ bs) = record b { band = band } ∷ bs
+abbrev pub with_band : ℕ → Message → Message
+with_band band [] = []
+with_band band (b ∷ bs) = record b { band = band } ∷ bs
 
 -- gives the first block of the message held at h a band
 abbrev pub setband : ℕ → ℕ → Arena → Arena
-setband h band a = with_message h (banded band (message_at a h)) a
+setband h band a = with_message h (with_band band (message_at a h)) a
 
 -- type, length, band, room and references of a block of a message, if any
 abbrev pub info_of : Arena → Option Block → Given Arena BlockInfo
@@ -136,7 +136,7 @@ info_of a (Some b) = Ok (
     len = b.len;
     band = b.band;
     room = capacity_of a.store b.data_number - (b.offset + b.len);
-    names = names_of a b.data_number;
+    names = references_to a b.data_number;
   },
   a,
 )
@@ -159,11 +159,11 @@ with_rest (b ∷ bs) a = with_held (b ∷ bs) a
 
 -- appends the message at g to the one at h; if both are one message, nothing changes
 abbrev pub linkb : ℕ → ℕ → Arena → Arena
-linkb h g a = if h == g then a else record a { held = joined h g a.held }
+linkb h g a = if h == g then a else record a { held = chains_joined h g a.held }
 
 -- makes the blocks after the first, if any, a message of their own, and returns its head
 abbrev pub unlinkb : ℕ → Arena → Option ℕ × Arena
-unlinkb h a = (head_in (drop 1 (message_at a h)), record a { held = divided (λ b. b.number) h (message_at a h) a.held })
+unlinkb h a = (head_in (drop 1 (message_at a h)), record a { held = chain_divided (λ b. b.number) h (message_at a h) a.held })
 
 -- makes this block of the message held at h a message, and also the rest, if any; returns their heads
 abbrev pub rmvb_of : ℕ → Arena → Message → Option Block → Given Arena (ℕ × Option ℕ)

@@ -1,13 +1,13 @@
 -- How `Blocks` lays out message blocks. No public clause cites this module.
 use Rattle.std.specs.Prelude.{◌≡◌, ℕ, ◌+◌, ◌^◌, ◌<◌, ◌≤◌, Bool, List, [], ◌∷◌, length, map, Some, option_map, slice_get, slice_index_or, slice_set, nat_lt}
-use Rattle.strm_data.specs.CountedStore.{CountedStore, IsKept, count_of, without_name, with_name}
+use Rattle.strm_data.specs.CountedStore.{CountedStore, IsKept, count_of, without_reference, with_reference}
 use Rattle.strm_data.specs.DataStore.{DataStore, capacity_of, times}
 use Rattle.std.specs.List.{list_any}
 use Rattle.strm_links.specs.StrandLists.{StrandLists, strand_at}
-use Rattle.strm_data.specs.Limits.{most_data_block_names}
+use Rattle.strm_data.specs.Limits.{most_references}
 use Rattle.strm_mblk.specs.declared.blocks.Blocks.TheInside.{Inside}
 use Rattle.strm_mblk.specs.declared.blocks.Fields.{Fields}
-use Rattle.strm_mblk.specs.Arena.{Arena, names_of, shelved_blocks}
+use Rattle.strm_mblk.specs.Arena.{Arena, references_to, shelved_blocks}
 use Rattle.strm_mblk.specs.Block as model
 use Rattle.strm_mblk.specs.NodeLists.{NodeLists, IsNodesParted}
 use Rattle.strm_mblk.specs.Limits.{most_message_blocks}
@@ -36,8 +36,8 @@ abbrev pub message_of : List Fields → List ℕ → model.Message
 message_of fields ns = map (block_at fields) ns
 
 -- the data blocks of these message blocks
-abbrev pub named_by : List Fields → List ℕ → List ℕ
-named_by fields ns = map (λ n. (fields_at fields n).data_number) ns
+abbrev pub data_used_by : List Fields → List ℕ → List ℕ
+data_used_by fields ns = map (λ n. (fields_at fields n).data_number) ns
 
 -- the fields after each of these message blocks got new ones
 abbrev pub with_fields : List ℕ → List Fields → List Fields → List Fields
@@ -46,18 +46,18 @@ with_fields (n ∷ ns) [] fields = fields
 with_fields (n ∷ ns) (x ∷ xs) fields = with_fields ns xs (slice_set fields n x)
 
 -- the store after each of these data blocks, first to last, got a reference
-abbrev pub with_names_given : List ℕ → CountedStore → CountedStore
-with_names_given [] s = s
-with_names_given (d ∷ ds) s = with_names_given ds (with_name d s)
+abbrev pub with_references_given : List ℕ → CountedStore → CountedStore
+with_references_given [] s = s
+with_references_given (d ∷ ds) s = with_references_given ds (with_reference d s)
 
 -- whether some data block would have more than most_data_block_names references after each of these got one
 abbrev pub exceeds_counts : List ℕ → CountedStore → Bool
-exceeds_counts ds s = list_any (λ d. nat_lt most_data_block_names (count_of s d + times d ds)) ds
+exceeds_counts ds s = list_any (λ d. nat_lt most_references (count_of s d + times d ds)) ds
 
 -- the store after each of these data blocks, first to last, lost a reference
-abbrev pub with_names_dropped : List ℕ → CountedStore → CountedStore
-with_names_dropped [] s = s
-with_names_dropped (d ∷ ds) s = with_names_dropped ds (without_name d s)
+abbrev pub with_references_dropped : List ℕ → CountedStore → CountedStore
+with_references_dropped [] s = s
+with_references_dropped (d ∷ ds) s = with_references_dropped ds (without_reference d s)
 
 abbrev pub arena_of : ℕ → DataStore → List Fields → NodeLists → Arena
 arena_of id store fields lists = record {
@@ -91,7 +91,7 @@ pub record IsFilled (s : CountedStore) (fields : List Fields) (lists : NodeLists
   pub few : length lists.held ≤ most_message_blocks
   pub listed : length fields ≡ length lists.held
   pub placed : (n : ℕ) → n < length fields → IsPlaced s.store (fields_at fields n)
-  pub counts : (d : ℕ) → count_of s d ≡ names_of arena d
+  pub counts : (d : ℕ) → count_of s d ≡ references_to arena d
 
 pub record IsSound (a : Inside) : Type 0 where
   pub filled : IsFilled a.data a.blocks.items a.chains (arena_in a)

@@ -76,7 +76,8 @@ pub record Frees {V : Type 0} (arena : V → Arena) (t : TokenValue) (call : Giv
 -- tokens, or t if it is refused.
 pub record Parts {V : Type 0} (arena : V → Arena) (t : TokenValue) (call : Given V (ℕ × Option ℕ)) (old new : V) (result : Result (TokenValue × Option TokenValue) Rejected) : Type 0 where
   pub after : new ≡ value_after old call
-  pub answer : result ≡ or_rejected t (answer_map (λ heads. (token_of (arena new) heads.0, option_map (token_of (arena new)) heads.1)) (answer_of call))
+  pub answer : result ≡ or_rejected t (answer_map
+      (λ heads. (token_of (arena new) heads.0, option_map (token_of (arena new)) heads.1)) (answer_of call))
   -- both messages are held; one has the old head, and no message was held at the other's head before
   pub kept : IfOk result (λ tokens. (tokens.0.head ≡ t.head) ⊎ (option_map (λ r. r.head) tokens.1 ≡ Some t.head))
   pub had : IfOk result (λ tokens. IsTrue (has (arena new) tokens.0))

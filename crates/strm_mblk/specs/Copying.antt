@@ -4,10 +4,10 @@ use Rattle.std.specs.List.{All}
 use Rattle.strm_data.specs.declared.class_spec.ClassSpec.{ClassSpec}
 use Rattle.strm_data.specs.CountedStore.{CountedStore, count_of}
 use Rattle.strm_data.specs.DataStore.{DataStore, capacity_of, free_of, no_class_spec}
-use Rattle.strm_mblk.specs.Block.{Block, is_naming}
+use Rattle.strm_mblk.specs.Block.{Block, uses_data}
 use Rattle.strm_mblk.specs.declared.blocks.Fields.{Fields}
 use Rattle.strm_mblk.specs.BlocksLayout.{IsPlaced, fields_of, with_fields}
-use Rattle.strm_mblk.specs.BlockCalls.{copied_into, copies}
+use Rattle.strm_mblk.specs.BlockCalls.{store_with_copy, blocks_copied}
 
 -- for each class, `left` has the number of its free data blocks in this store
 abbrev pub AreLeft : List ℕ → DataStore → Type 0
@@ -21,15 +21,15 @@ pub record IsLeft (size : ℕ) (classes : List ClassSpec) (left : List ℕ) (c :
 
 -- the store after d was taken for a copy of b, with its type and bytes; d has one reference
 abbrev pub with_copy : Block → CountedStore → ℕ → CountedStore
-with_copy b s d = record { store = copied_into b s.store d; counts = slice_set s.counts d 1 }
+with_copy b s d = record { store = store_with_copy b s.store d; counts = slice_set s.counts d 1 }
 
 -- message blocks ns have become copies of these blocks, over data blocks with one reference each
 pub record AreCopied (bs : List Block) (ns : List ℕ) (old new : List Fields) (s t : CountedStore) : Type 0 where
   pub made : List Block
-  pub answer : copies bs s.store ≡ Ok (made, t.store)
+  pub answer : blocks_copied bs s.store ≡ Ok (made, t.store)
   pub fields : new ≡ with_fields ns (map fields_of made) old
   pub many : length made ≡ length bs
-  pub named : (d : ℕ) → count_of t d ≡ count_of s d + count_by (is_naming d) made
+  pub named : (d : ℕ) → count_of t d ≡ count_of s d + count_by (uses_data d) made
   pub placed : All (λ b. IsPlaced t.store (fields_of b)) made
   pub blocks : length t.store.blocks ≡ length s.store.blocks
   pub rooms : (d : ℕ) → capacity_of t.store d ≡ capacity_of s.store d

@@ -8,7 +8,7 @@ use Rattle.strm_mblk.specs.declared.blocks.trimming.Run.{Run}
 use Rattle.strm_mblk.specs.Block.{size_of}
 use Rattle.strm_mblk.specs.BlocksLayout.{fields_at, message_of}
 use Rattle.strm_mblk.specs.NodeLists.{NodeLists, nodes_at}
-use Rattle.strm_mblk.specs.Trimming.{along, run_of}
+use Rattle.strm_mblk.specs.Trimming.{from_end, run_of}
 
 -- the run with one more block, the first of the message's last `blocks` ones; a block of another type begins a new run
 abbrev pub run_with : ℕ → ℕ → MsgType → ℕ → Run → Run
@@ -17,11 +17,12 @@ run_with node blocks kind len r = if same_kind kind r.kind then record r { size 
 -- r is a run of the message with these block numbers: the leading blocks with the first block's type, or the trailing ones with the last
 -- block's type. It has their number of bytes and their first block
 pub record IsRun (from_tail : Bool) (s : DataStore) (fields : List Fields) (ns : List ℕ) (r : Run) : Type 0 where
-  pub size : r.size ≡ size_of (run_of s (along from_tail (message_of fields ns)))
+  pub size : r.size ≡ size_of (run_of s (from_end from_tail (message_of fields ns)))
   pub few : r.blocks ≤ length ns
   pub begins : slice_get ns (length ns - r.blocks) ≡ Some r.first
   pub leading : from_tail ≡ false → r.blocks ≡ length ns
-  pub trailing : from_tail ≡ true → size_of (message_of fields (take (length ns - r.blocks) ns)) + r.size ≡ size_of (message_of fields ns)
+  pub trailing : from_tail ≡ true → size_of (message_of fields (take (length ns - r.blocks) ns)) + r.size
+      ≡ size_of (message_of fields ns)
 
 -- some message has block `first`, and `count` blocks from it on
 pub record IsTail (v : NodeLists) (first count : ℕ) : Type 0 where

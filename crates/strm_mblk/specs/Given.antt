@@ -9,8 +9,8 @@ abbrev pub Given : Type 0 → Type 0 → Type 0
 Given V X = Result (X × V) Refusal
 
 -- the result of a call that returns nothing and is never refused
-abbrev pub done : {V : Type 0} → V → Given V (Unit {0})
-done v = Ok (tt, v)
+abbrev pub given_nothing : {V : Type 0} → V → Given V (Unit {0})
+given_nothing v = Ok (tt, v)
 
 -- what the call returns
 abbrev pub answer_of : {V X : Type 0} → Given V X → Result X Refusal

@@ -3,7 +3,7 @@ use Rattle.std.specs.Prelude.{ℕ, ◌==◌, not, List, [], ◌∷◌, ◌++◌,
 use Rattle.std.specs.List.{flat_map}
 -- Held messages are chains of blocks, each at the number of its first block. So these words for chains are theirs: the blocks of a
 -- message, the message at a number, all blocks, joining and dividing, and a list without a place.
-pub use Rattle.strm_links.specs.Chains.{items_of as blocks_of, chain_in as held_in, items_in as blocks_held, joined, divided, without_place}
+pub use Rattle.strm_links.specs.Chains.{items_of as blocks_of, chain_in as held_in, items_in as blocks_held, chains_joined, chain_divided, without_place}
 
 -- the messages on a shelf, front to back
 abbrev pub shelf_in : {X : Type 0} → List (List (List X)) → ℕ → List (List X)

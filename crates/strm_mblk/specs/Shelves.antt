@@ -11,8 +11,8 @@ abbrev pub heads_at : Arena → ℕ → List ℕ
 heads_at a s = map head_of (shelf_at a s)
 
 -- whether a message with this head is on shelf s
-abbrev pub stands_on : Arena → ℕ → ℕ → Bool
-stands_on a s h = rows.has h (heads_at a s)
+abbrev pub is_on : Arena → ℕ → ℕ → Bool
+is_on a s h = rows.has h (heads_at a s)
 
 -- the shelf that has a message with this head, if any
 abbrev pub shelf_of : Arena → ℕ → Option ℕ

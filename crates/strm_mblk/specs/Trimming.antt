@@ -7,7 +7,7 @@ use Rattle.strm_data.specs.DataStore.{DataStore, take_data, with_data_taken, wit
 use Rattle.strm_data.specs.MsgType.{same_kind}
 use Rattle.strm_mblk.specs.Arena.{Arena, message_at, with_message}
 use Rattle.strm_mblk.specs.Block.{Block, Message, bytes_of, kind_of, size_of}
-use Rattle.strm_mblk.specs.Freeing.{with_name_dropped, with_blocks_freed}
+use Rattle.strm_mblk.specs.Freeing.{with_reference_dropped, with_blocks_freed}
 use Rattle.strm_mblk.specs.Given.{Given, answer_map}
 
 -- the leading blocks that have the type of the first
@@ -16,31 +16,31 @@ run_of s [] = []
 run_of s (b ∷ bs) = b ∷ take_while (λ c. same_kind (kind_of s c) (kind_of s b)) bs
 
 -- a list, from its last item to its first if `from_tail`
-abbrev pub along : {X : Type 0} → Bool → List X → List X
-along from_tail xs = if from_tail then reverse xs else xs
+abbrev pub from_end : {X : Type 0} → Bool → List X → List X
+from_end from_tail xs = if from_tail then reverse xs else xs
 
 -- ---- adjmsg
 
 -- the blocks without their first n bytes: each loses those that it has, and emptied blocks stay
-abbrev pub cut_front : ℕ → List Block → List Block
-cut_front n [] = []
-cut_front n (b ∷ bs) = record b { offset = b.offset + min n b.len; len = b.len - n } ∷ cut_front (n - b.len) bs
+abbrev pub blocks_cut_front : ℕ → List Block → List Block
+blocks_cut_front n [] = []
+blocks_cut_front n (b ∷ bs) = record b { offset = b.offset + min n b.len; len = b.len - n } ∷ blocks_cut_front (n - b.len) bs
 
 -- the blocks, listed last to first, without their last n bytes: each loses those that it has, and emptied blocks stay
-abbrev pub cut_back : ℕ → List Block → List Block
-cut_back n [] = []
-cut_back n (b ∷ bs) = record b { len = b.len - n } ∷ cut_back (n - b.len) bs
+abbrev pub blocks_cut_back : ℕ → List Block → List Block
+blocks_cut_back n [] = []
+blocks_cut_back n (b ∷ bs) = record b { len = b.len - n } ∷ blocks_cut_back (n - b.len) bs
 
 -- The message without its first n bytes or, if n is below 0, without its last -n bytes. Refused as `Short` if the blocks of one
 -- type at that end have fewer.
-abbrev pub cut : ℤ → DataStore → Message → Result Message Refusal
-cut (pos n) s m = if nat_lt (size_of (run_of s m)) n then Err Short else Ok (cut_front n m)
-cut (negsuc n) s m =
-    if nat_lt (size_of (run_of s (reverse m))) (suc n) then Err Short else Ok (reverse (cut_back (suc n) (reverse m)))
+abbrev pub message_cut : ℤ → DataStore → Message → Result Message Refusal
+message_cut (pos n) s m = if nat_lt (size_of (run_of s m)) n then Err Short else Ok (blocks_cut_front n m)
+message_cut (negsuc n) s m =
+    if nat_lt (size_of (run_of s (reverse m))) (suc n) then Err Short else Ok (reverse (blocks_cut_back (suc n) (reverse m)))
 
 -- removes n bytes at the head of the message held at h or, if n is below 0, -n bytes at its tail
 abbrev pub adjmsg : ℕ → ℤ → Arena → Given Arena (Unit {0})
-adjmsg h n a = answer_map (λ m. (tt, with_message h m a)) (cut n a.store (message_at a h))
+adjmsg h n a = answer_map (λ m. (tt, with_message h m a)) (message_cut n a.store (message_at a h))
 
 -- ---- pullupmsg
 
@@ -55,28 +55,28 @@ abbrev pub is_used_up : ℕ → Block → Bool
 is_used_up n b = nat_lt 0 n && nat_le b.len n
 
 -- of the blocks after the first, those that the next n bytes use up
-abbrev pub used_up : ℕ → List Block → List Block
-used_up n [] = []
-used_up n (b ∷ bs) = if is_used_up n b then b ∷ used_up (n - b.len) bs else []
+abbrev pub blocks_used_up : ℕ → List Block → List Block
+blocks_used_up n [] = []
+blocks_used_up n (b ∷ bs) = if is_used_up n b then b ∷ blocks_used_up (n - b.len) bs else []
 
 -- of the blocks after the first, those that stay; the first of them loses the bytes that are left to remove
-abbrev pub left_over : ℕ → List Block → List Block
-left_over n [] = []
-left_over n (b ∷ bs) = if is_used_up n b then left_over (n - b.len) bs else record b { offset = b.offset + n; len = b.len - n } ∷ bs
+abbrev pub blocks_left_over : ℕ → List Block → List Block
+blocks_left_over n [] = []
+blocks_left_over n (b ∷ bs) = if is_used_up n b then blocks_left_over (n - b.len) bs else record b { offset = b.offset + n; len = b.len - n } ∷ bs
 
 -- the store after d was taken for the first n bytes of the message, with the type of its first block
-abbrev pub pulled_into : ℕ → Message → DataStore → ℕ → DataStore
-pulled_into n [] s d = s
-pulled_into n (b ∷ bs) s d = with_bytes_written d 0 (take n (bytes_of s (b ∷ bs))) (with_kind d (kind_of s b) (with_data_taken d s))
+abbrev pub store_with_front : ℕ → Message → DataStore → ℕ → DataStore
+store_with_front n [] s d = s
+store_with_front n (b ∷ bs) s d = with_bytes_written d 0 (take n (bytes_of s (b ∷ bs))) (with_kind d (kind_of s b) (with_data_taken d s))
 
 -- the first block has data block d, with the first n bytes; the old data block loses its reference, and then the used-up blocks are freed
-abbrev pub pulled : ℕ → ℕ → Message → Arena → ℕ → Arena
-pulled h n [] a d = a
-pulled h n (b ∷ bs) a d =
-    let out = used_up (n - b.len) bs in
-    with_blocks_freed out (with_name_dropped b.data_number out (record a {
-      store = pulled_into n (b ∷ bs) a.store d;
-      held = slice_set a.held h (Some (record b { data_number = d; offset = 0; len = n } ∷ left_over (n - b.len) bs));
+abbrev pub with_front_pulled : ℕ → ℕ → Message → Arena → ℕ → Arena
+with_front_pulled h n [] a d = a
+with_front_pulled h n (b ∷ bs) a d =
+    let out = blocks_used_up (n - b.len) bs in
+    with_blocks_freed out (with_reference_dropped b.data_number out (record a {
+      store = store_with_front n (b ∷ bs) a.store d;
+      held = slice_set a.held h (Some (record b { data_number = d; offset = 0; len = n } ∷ blocks_left_over (n - b.len) bs));
     }))
 
 -- brings n bytes of the message m held at h into its first block, which has them already or takes a data block for them
@@ -85,7 +85,7 @@ pull h n [] a = Err Short
 pull h n (b ∷ bs) a =
     if nat_lt (size_of (run_of a.store (b ∷ bs))) n then Err Short
     else (if nat_le n b.len then Ok (tt, a)
-    else answer_map (λ d. (tt, pulled h n (b ∷ bs) a d)) (take_data n a.store))
+    else answer_map (λ d. (tt, with_front_pulled h n (b ∷ bs) a d)) (take_data n a.store))
 
 -- brings the given number of bytes of the message m held at h into its first block; refused as `Short` if no number is given
 abbrev pub pull_asked : ℕ → Option ℕ → Message → Arena → Given Arena (Unit {0})

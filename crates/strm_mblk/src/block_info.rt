@@ -13,6 +13,6 @@ pub struct BlockInfo {
     pub band: u8,
     /// The number of bytes that fit into its data block after the write place.
     pub room: u32,
-    /// The number of references to its data block, 1 to [`MOST_DATA_BLOCK_NAMES`](strm_data::MOST_DATA_BLOCK_NAMES).
+    /// The number of references to its data block, 1 to [`MOST_REFERENCES`](strm_data::MOST_REFERENCES).
     pub names: u8,
 }

@@ -135,7 +135,7 @@ impl Blocks {
     /// Law: every message block and every data block is accounted for, whatever calls were made. Does nothing.
     pub fn lawful(&self)
         // Each message block is free or in one message, which is held or on one shelf. Each data block is free, or has 1
-        // to `MOST_DATA_BLOCK_NAMES` references.
+        // to `MOST_REFERENCES` references.
         ensures parted { IsParted self.now }
         // Data blocks are accounted for, as `Data::accounts_for_blocks` says. The counts are those of these message
         // blocks.

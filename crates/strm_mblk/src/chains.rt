@@ -4,7 +4,7 @@ ghost use Rattle.std.specs.Prelude.{◌≡◌, ◌≢◌, ℕ, ◌+◌, ◌<◌,
 ghost use Rattle.std.specs.Option.{ForSome};
 ghost use Rattle.strm_links.specs.Rows.{IsParting, after, before, first, has, holder, last, list_at, put_in};
 ghost use Rattle.strm_links.specs.StrandLists.{strand_at};
-ghost use Rattle.strm_mblk.specs.Messages.{divided, held_in, joined, put_before_head, shelf_in, with_head, without_head, without_place};
+ghost use Rattle.strm_mblk.specs.Messages.{chain_divided, held_in, chains_joined, put_before_head, shelf_in, with_head, without_head, without_place};
 ghost use Rattle.strm_mblk.specs.NodeLists.{IsNodesParted, IsReached, after_begin, after_behind_freed, head_node, heads_on, nodes_at, opening_nodes, shelved_nodes};
 
 #[cfg(test)]
@@ -123,7 +123,7 @@ impl Chains {
         requires head { IsSome (held_in self.old.held head) }
         requires tail { IsSome (held_in self.old.held tail) }
         requires others { head ≢ tail }
-        ensures after { self.new ≡ record self.old { held = joined head tail self.old.held } }
+        ensures after { self.new ≡ record self.old { held = chains_joined head tail self.old.held } }
         ensures parted { IsNodesParted self.new }
     {
         self.strands.join(head, tail);
@@ -149,7 +149,7 @@ impl Chains {
         requires { IsSome (held_in self.old.held head) }
         ensures answer { result ≡ slice_get (nodes_at self.old head) 1 }
         ensures after { self.new ≡ record self.old {
-          held = divided (λ n. n) head (nodes_at self.old head)
+          held = chain_divided (λ n. n) head (nodes_at self.old head)
               self.old.held;
         } }
         ensures parted { IsNodesParted self.new }

@@ -5,8 +5,8 @@ use Rattle.strm_data.specs.declared.data.Class.{Class}
 use Rattle.strm_data.specs.declared.data.Data.TheInside.{Inside}
 use Rattle.strm_data.specs.declared.data.RegionPlace.{RegionPlace}
 use Rattle.strm_data.specs.CountedStore.{CountedStore}
-use Rattle.strm_data.specs.DataLayout.{block_at, bytes_in, bytes_of, class_at, counted, counted_store, region_at, start_in, IsSound, IsPlaced}
-use Rattle.strm_data.specs.DataStore.{capacity_of, data_block_at, overwritten, with_bytes_written}
+use Rattle.strm_data.specs.DataLayout.{block_at, bytes_in, bytes_of, class_at, store_of_parts, store_of, region_at, start_in, IsSound, IsPlaced}
+use Rattle.strm_data.specs.DataStore.{capacity_of, data_block_at, bytes_overwritten, with_bytes_written}
 use Rattle.strm_data.proofs.layout.Laid.{block_within, in_regions, seen_at, seen_capacity, whole, written_blocks, IsPlaced-written}
 use Rattle.strm_data.proofs.lists.Tables.{part_of}
 
@@ -15,7 +15,7 @@ pub record IsPlaceOf (a : Inside) (d at : ℕ) (p : RegionPlace) : Type 0 where
   pub class : p.class ≡ (block_at a.blocks.items d).class
   pub start : p.start ≡ start_in (class_at a.classes.items (block_at a.blocks.items d).class) d + at
 
-module _ (a : Inside) (v : CountedStore) (view : counted_store a ≡ v) (laid : IsSound a) (d : ℕ) (there : d < length v.store.blocks) (at : ℕ) (p : RegionPlace) (is : IsPlaceOf a d at p) where
+module _ (a : Inside) (v : CountedStore) (view : store_of a ≡ v) (laid : IsSound a) (d : ℕ) (there : d < length v.store.blocks) (at : ℕ) (p : RegionPlace) (is : IsPlaceOf a d at p) where
   abbrev regions : List (List ℕ)
   regions = bytes_of a.regions.items
 
@@ -51,12 +51,12 @@ module _ (a : Inside) (v : CountedStore) (view : counted_store a ≡ v) (laid : 
   -- once these bytes are written over them
   module _ (bytes : List ℕ) (room : at + length bytes ≤ capacity_of v.store d) where
     abbrev after : List (List ℕ)
-    after = set regions p.class (overwritten p.start bytes (region_at regions p.class))
+    after = set regions p.class (bytes_overwritten p.start bytes (region_at regions p.class))
 
     fits : at + length bytes ≤ k.spec.size
     fits = omega (arith, room, capacity)
 
-    pub overwrites : counted a.classes.items after a.blocks.items a.free.lists ≡ record v { store = with_bytes_written d at bytes v.store }
+    pub overwrites : store_of_parts a.classes.items after a.blocks.items a.free.lists ≡ record v { store = with_bytes_written d at bytes v.store }
     overwrites =
         rw (is.class, is.start)
         (cc (written_blocks a.classes.items regions a.blocks.items a.free.lists d within laid.placed at bytes fits, view))

@@ -12,9 +12,9 @@ use Rattle.strm_data.specs.declared.data.Class.{Class}
 use Rattle.strm_data.specs.declared.data.Data.TheInside.{Inside}
 use Rattle.strm_data.specs.declared.data.DataBlock.{DataBlock}
 use Rattle.strm_data.specs.CountedStore.{CountedStore, IsKept, count_of}
-use Rattle.strm_data.specs.DataLayout.{no_class, no_block, class_at, block_at, region_at, start_in, bytes_in, seen_block, tabulated, counted, counted_store, IsPlaced}
+use Rattle.strm_data.specs.DataLayout.{no_class, no_block, class_at, block_at, region_at, start_in, bytes_in, data_block_of, values_below, store_of_parts, store_of, IsPlaced}
 use Rattle.strm_data.specs.DataStore as store
-use Rattle.strm_data.specs.DataStore.{class_infos, no_data_block, data_block_at, class_of, capacity_of, overwritten, class_spec_at, no_class_spec}
+use Rattle.strm_data.specs.DataStore.{class_infos, no_data_block, data_block_at, class_of, capacity_of, bytes_overwritten, class_spec_at, no_class_spec}
 use Rattle.strm_data.proofs.lists.Tables.{length-tabulated, get_or-tabulated, tabulated-set, length-part, length-overwritten, part_before, part_behind, part_over}
 use Rattle.strm_data.proofs.store.Kept.{free_within}
 
@@ -34,17 +34,17 @@ start_within k d from below =
 
 module _ (classes : List Class) (regions : List (List ℕ)) (blocks : List DataBlock) (free : List (List ℕ)) where
   abbrev s : CountedStore
-  s = counted classes regions blocks free
+  s = store_of_parts classes regions blocks free
 
   pub length_seen : length s.store.blocks ≡ length blocks
-  length_seen = length-tabulated (seen_block classes regions blocks) (length blocks)
+  length_seen = length-tabulated (data_block_of classes regions blocks) (length blocks)
 
   module _ (d : ℕ) (within : d < length blocks) where
-    pub seen_at : data_block_at s.store d ≡ seen_block classes regions blocks d
-    seen_at = get_or-tabulated (seen_block classes regions blocks) (length blocks) d no_data_block within
+    pub seen_at : data_block_at s.store d ≡ data_block_of classes regions blocks d
+    seen_at = get_or-tabulated (data_block_of classes regions blocks) (length blocks) d no_data_block within
 
-    pub seen_count : count_of s d ≡ (block_at blocks d).names
-    seen_count = get_or-map (λ (b : DataBlock). b.names) blocks d no_block 0 within
+    pub seen_count : count_of s d ≡ (block_at blocks d).references
+    seen_count = get_or-map (λ (b : DataBlock). b.references) blocks d no_block 0 within
 
     pub seen_class : class_of s.store d ≡ (block_at blocks d).class
     seen_class = ap (λ (b : store.DataBlock). b.class) seen_at
@@ -66,20 +66,20 @@ module _ (classes : List Class) (regions : List (List ℕ)) (blocks : List DataB
         | inr other ↦ ap (λ (x : DataBlock). x.class) (elsewhere e other)
       ]
 
-      altered_here : seen_block classes regions new d ≡ record (data_block_at s.store d) { kind = b.kind }
+      altered_here : data_block_of classes regions new d ≡ record (data_block_at s.store d) { kind = b.kind }
       altered_here = cc (here, class, seen_at)
 
-      altered_blocks : tabulated (seen_block classes regions new) (length new) ≡ set s.store.blocks d (record (data_block_at s.store d) { kind = b.kind })
+      altered_blocks : values_below (data_block_of classes regions new) (length new) ≡ set s.store.blocks d (record (data_block_at s.store d) { kind = b.kind })
       altered_blocks =
-          ap (tabulated (seen_block classes regions new)) (length-set blocks d b)
-          ∙ tabulated-set (seen_block classes regions new) (seen_block classes regions blocks) (length blocks) d _ within altered_here
+          ap (values_below (data_block_of classes regions new)) (length-set blocks d b)
+          ∙ tabulated-set (data_block_of classes regions new) (data_block_of classes regions blocks) (length blocks) d _ within altered_here
           (λ e _ other. ap (λ (x : DataBlock). record { class = x.class; kind = x.kind; bytes = bytes_in (class_at classes x.class) (region_at regions x.class) e }) (elsewhere e other))
 
-      altered_counts : map (λ (x : DataBlock). x.names) new ≡ set s.counts d b.names
-      altered_counts = map-set (λ (x : DataBlock). x.names) blocks d b
+      altered_counts : map (λ (x : DataBlock). x.references) new ≡ set s.counts d b.references
+      altered_counts = map-set (λ (x : DataBlock). x.references) blocks d b
 
-      pub seen_altered : (lists : List (List ℕ)) → counted classes regions new lists
-          ≡ record { store = record { classes = s.store.classes; blocks = set s.store.blocks d (record (data_block_at s.store d) { kind = b.kind }); free = lists }; counts = set s.counts d b.names }
+      pub seen_altered : (lists : List (List ℕ)) → store_of_parts classes regions new lists
+          ≡ record { store = record { classes = s.store.classes; blocks = set s.store.blocks d (record (data_block_at s.store d) { kind = b.kind }); free = lists }; counts = set s.counts d b.references }
       seen_altered lists = λ i. record { store = record { classes = s.store.classes; blocks = altered_blocks i; free = lists }; counts = altered_counts i }
 
       pub IsPlaced-altered : IsPlaced classes regions blocks → IsPlaced classes regions new
@@ -91,12 +91,12 @@ module _ (classes : List Class) (regions : List (List ℕ)) (blocks : List DataB
       }
 
       -- of the same type too
-      renamed_blocks : b.kind ≡ (block_at blocks d).kind → tabulated (seen_block classes regions new) (length new) ≡ s.store.blocks
+      renamed_blocks : b.kind ≡ (block_at blocks d).kind → values_below (data_block_of classes regions new) (length new) ≡ s.store.blocks
       renamed_blocks kind = cc (altered_blocks, kind, seen_at, set-get_or s.store.blocks d no_data_block)
 
-      -- and of as many names
-      pub seen_recounted : (lists : List (List ℕ)) → b.kind ≡ (block_at blocks d).kind → counted classes regions new lists
-          ≡ record { store = record s.store { free = lists }; counts = set s.counts d b.names }
+      -- and of as many references
+      pub seen_recounted : (lists : List (List ℕ)) → b.kind ≡ (block_at blocks d).kind → store_of_parts classes regions new lists
+          ≡ record { store = record s.store { free = lists }; counts = set s.counts d b.references }
       seen_recounted lists kind = λ i. record { store = record { classes = s.store.classes; blocks = renamed_blocks kind i; free = lists }; counts = altered_counts i }
 
     -- ---- bytes
@@ -130,7 +130,7 @@ module _ (classes : List Class) (regions : List (List ℕ)) (blocks : List DataB
       -- bytes written over those of the data block
       module _ (at : ℕ) (bytes : List ℕ) (room : at + length bytes ≤ k.spec.size) where
         abbrev written : List ℕ
-        written = overwritten (start_in k d + at) bytes region
+        written = bytes_overwritten (start_in k d + at) bytes region
 
         abbrev after : List (List ℕ)
         after = set regions c written
@@ -138,7 +138,7 @@ module _ (classes : List Class) (regions : List (List ℕ)) (blocks : List DataB
         pub length_written : length written ≡ length region
         length_written = length-overwritten (start_in k d + at) bytes region (omega (arith, whole))
 
-        written_here : bytes_in k written d ≡ overwritten at bytes (bytes_in k region d)
+        written_here : bytes_in k written d ≡ bytes_overwritten at bytes (bytes_in k region d)
         written_here = part_over k.spec.size (start_in k d) at bytes region room whole
 
         -- another block of the class
@@ -155,10 +155,10 @@ module _ (classes : List Class) (regions : List (List ℕ)) (blocks : List DataB
         abbrev entry_with : List ℕ → ℕ → store.DataBlock
         entry_with bytes e = record { class = (block_at blocks e).class; kind = (block_at blocks e).kind; bytes = bytes }
 
-        seen_here : seen_block classes after blocks d ≡ record (data_block_at s.store d) { bytes = overwritten at bytes (data_block_at s.store d).bytes }
+        seen_here : data_block_of classes after blocks d ≡ record (data_block_at s.store d) { bytes = bytes_overwritten at bytes (data_block_at s.store d).bytes }
         seen_here = cc (get_or-set_same regions c written [] in_regions, written_here, seen_at)
 
-        seen_there : (e : ℕ) → e < length blocks → e ≢ d → seen_block classes after blocks e ≡ seen_block classes regions blocks e
+        seen_there : (e : ℕ) → e < length blocks → e ≢ d → data_block_of classes after blocks e ≡ data_block_of classes regions blocks e
         seen_there e there other =
             let m = (block_at blocks e).class in
             elim (cases_eq m c) [
@@ -166,8 +166,8 @@ module _ (classes : List Class) (regions : List (List ℕ)) (blocks : List DataB
               | inr differs ↦ ap (λ r. entry_with (bytes_in (class_at classes m) r e) e) (get_or-set_other regions c m written [] differs)
             ]
 
-        pub written_blocks : tabulated (seen_block classes after blocks) (length blocks) ≡ set s.store.blocks d (record (data_block_at s.store d) { bytes = overwritten at bytes (data_block_at s.store d).bytes })
-        written_blocks = tabulated-set (seen_block classes after blocks) (seen_block classes regions blocks) (length blocks) d _ within seen_here seen_there
+        pub written_blocks : values_below (data_block_of classes after blocks) (length blocks) ≡ set s.store.blocks d (record (data_block_at s.store d) { bytes = bytes_overwritten at bytes (data_block_at s.store d).bytes })
+        written_blocks = tabulated-set (data_block_of classes after blocks) (data_block_of classes regions blocks) (length blocks) d _ within seen_here seen_there
 
         pub IsPlaced-written : IsPlaced classes after blocks
         IsPlaced-written = record {
@@ -182,7 +182,7 @@ module _ (classes : List Class) (regions : List (List ℕ)) (blocks : List DataB
 
 -- ---- from what a contract sees
 
-module _ (a : Inside) (v : CountedStore) (view : counted_store a ≡ v) (d : ℕ) (there : d < length v.store.blocks) where
+module _ (a : Inside) (v : CountedStore) (view : store_of a ≡ v) (d : ℕ) (there : d < length v.store.blocks) where
   abbrev regions_of : List (List ℕ)
   regions_of = map (λ r. r.items) a.regions.items
 
@@ -194,7 +194,7 @@ module _ (a : Inside) (v : CountedStore) (view : counted_store a ≡ v) (d : ℕ
     pub block_is : b ≡ block_at a.blocks.items d
     block_is = read ∙ get_or_default a.blocks.items d b no_block block_within
 
-    pub count_is : b.names ≡ count_of v d
+    pub count_is : b.references ≡ count_of v d
     count_is = cc (block_is, seen_count a.classes.items regions_of a.blocks.items a.free.lists d block_within, view)
 
     pub kind_is : b.kind ≡ (data_block_at v.store d).kind
@@ -211,7 +211,7 @@ module _ (a : Inside) (v : CountedStore) (view : counted_store a ≡ v) (d : ℕ
       pub class_within : i < length a.classes.items
       class_within = omega (arith, same_class, in_classes a.classes.items regions_of a.blocks.items a.free.lists d block_within placed)
 
-      pub list_within : IsKept (counted_store a) → i < length a.free.lists
+      pub list_within : IsKept (store_of a) → i < length a.free.lists
       list_within kept = omega (arith, class_within, kept.lists, length-map a.classes.items (λ k. k.spec))
 
       module _ (k : Class) (read_class : k ≡ get_or a.classes.items i k) where
@@ -234,7 +234,7 @@ infos-get (k ∷ classes) [] c long = absurd (omega (arith, long))
 infos-get (k ∷ classes) (xs ∷ lists) zero long = refl
 infos-get (k ∷ classes) (xs ∷ lists) (suc c) long = infos-get classes lists c (omega (arith, long))
 
-module _ (a : Inside) (v : CountedStore) (view : counted_store a ≡ v) (kept : IsKept (counted_store a)) (c : ℕ) where
+module _ (a : Inside) (v : CountedStore) (view : store_of a ≡ v) (kept : IsKept (store_of a)) (c : ℕ) where
   info_is : slice_get (class_infos v.store) c ≡ option_map (λ k. info_of (k.spec, get_or a.free.lists c [])) (slice_get a.classes.items c)
   info_is = cc (view, infos-get a.classes.items a.free.lists c (kept.lists ∙ length-map a.classes.items (λ k. k.spec)))
 
@@ -245,8 +245,8 @@ module _ (a : Inside) (v : CountedStore) (view : counted_store a ≡ v) (kept : 
   -- no more of it are free than there are
   pub free_there : (k : Class) → c < length a.classes.items → k ≡ get_or a.classes.items c k → length (get_or a.free.lists c []) ≤ k.spec.count
   free_there k within read =
-      let spec : class_spec_at (counted_store a).store c ≡ k.spec = get_or-map (λ (x : Class). x.spec) a.classes.items c k no_class_spec within ∙ ap (λ (x : Class). x.spec) (sym read) in
-      omega (arith, free_within (counted_store a) kept c, ap (λ (x : ClassSpec). x.count) spec)
+      let spec : class_spec_at (store_of a).store c ≡ k.spec = get_or-map (λ (x : Class). x.spec) a.classes.items c k no_class_spec within ∙ ap (λ (x : Class). x.spec) (sym read) in
+      omega (arith, free_within (store_of a) kept c, ap (λ (x : ClassSpec). x.count) spec)
 
   -- and of one that isn't
   pub info_past : length a.classes.items ≤ c → None ≡ slice_get (class_infos v.store) c

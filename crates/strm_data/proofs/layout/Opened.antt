@@ -9,7 +9,7 @@ use Rattle.strm_data.specs.declared.data.DataBlock.{DataBlock}
 use Rattle.strm_data.specs.declared.msg_type.MsgType.TheVariants.{MData}
 use Rattle.strm_data.specs.CountedStore.{opening_counted}
 use Rattle.strm_data.specs.Classes.{total_of}
-use Rattle.strm_data.specs.DataLayout.{no_class, no_block, class_at, block_at, region_at, start_in, bytes_in, seen_block, tabulated, counted, IsPlaced}
+use Rattle.strm_data.specs.DataLayout.{no_class, no_block, class_at, block_at, region_at, start_in, bytes_in, data_block_of, values_below, store_of_parts, IsPlaced}
 use Rattle.strm_data.specs.DataStore.{fresh_data_block, numbers_from}
 use Rattle.strm_data.proofs.store.Opening.{blocks_from, blocks_from-push, length-blocks_from}
 use Rattle.strm_data.proofs.lists.Tables.{length-tabulated, tabulated-more}
@@ -20,8 +20,8 @@ pub record AreOpened (specs : List ClassSpec) (classes : List Class) (regions : 
   pub specs_are : map (λ k. k.spec) classes ≡ specs
   pub placed : IsPlaced classes regions blocks
   pub classed : (d : ℕ) → d < length blocks → (block_at blocks d).class < length classes
-  pub fresh : tabulated (seen_block classes regions blocks) (length blocks) ≡ blocks_from 0 specs
-  pub unnamed : map (λ b. b.names) blocks ≡ replicate (length blocks) 0
+  pub fresh : values_below (data_block_of classes regions blocks) (length blocks) ≡ blocks_from 0 specs
+  pub unnamed : map (λ b. b.references) blocks ≡ replicate (length blocks) 0
 
 pub AreOpened-nil : AreOpened [] [] [] []
 AreOpened-nil = record {
@@ -52,7 +52,7 @@ module _ (specs : List ClassSpec) (classes : List Class) (regions : List (List �
   class = record { spec = spec; first = n }
 
   abbrev block : DataBlock
-  block = record { class = c; kind = MData; names = 0 }
+  block = record { class = c; kind = MData; references = 0 }
 
   abbrev classes' : List Class
   classes' = classes ++ class ∷ []
@@ -92,12 +92,12 @@ module _ (specs : List ClassSpec) (classes : List Class) (regions : List (List �
   class_of_new d past within = ap (λ (x : DataBlock). class_at classes' x.class) (new_block d past within) ∙ new_class
 
   -- a data block of an earlier class is seen as before
-  seen_old : (d : ℕ) → d < n → seen_block classes' regions' blocks' d ≡ seen_block classes regions blocks d
+  seen_old : (d : ℕ) → d < n → data_block_of classes' regions' blocks' d ≡ data_block_of classes regions blocks d
   seen_old d within =
       let b = block_at blocks d in
       cc (old_block d within, old_class b.class (opened.classed d within), old_region b.class (opened.classed d within))
 
-  seen_new : (d : ℕ) → n ≤ d → d < n + spec.count → seen_block classes' regions' blocks' d ≡ fresh_data_block c spec
+  seen_new : (d : ℕ) → n ≤ d → d < n + spec.count → data_block_of classes' regions' blocks' d ≡ fresh_data_block c spec
   seen_new d past within = cc (new_block d past within, new_class, new_region, zeros class d past within)
 
   pub AreOpened-push : AreOpened (specs ++ spec ∷ []) classes' regions' blocks'
@@ -131,24 +131,24 @@ module _ (specs : List ClassSpec) (classes : List Class) (regions : List (List �
       | inr past ↦ omega (arith, ap (λ (x : DataBlock). x.class) (new_block d past (omega (arith, length_blocks))), length-append classes (class ∷ []))
     ];
     fresh =
-        ap (tabulated (seen_block classes' regions' blocks')) length_blocks
-        ∙ tabulated-more (seen_block classes' regions' blocks') (seen_block classes regions blocks) n spec.count (fresh_data_block c spec) seen_old seen_new
+        ap (values_below (data_block_of classes' regions' blocks')) length_blocks
+        ∙ tabulated-more (data_block_of classes' regions' blocks') (data_block_of classes regions blocks) n spec.count (fresh_data_block c spec) seen_old seen_new
         ∙ ap (λ bs. bs ++ replicate spec.count (fresh_data_block c spec)) opened.fresh
         ∙ ap (λ m. blocks_from 0 specs ++ replicate spec.count (fresh_data_block m spec)) (let e : c ≡ 0 + length specs = omega (arith, ap length opened.specs_are, length-map classes (λ (k : Class). k.spec)) in e)
         ∙ sym (blocks_from-push 0 specs spec);
     unnamed =
-        map-append (λ (b : DataBlock). b.names) blocks (replicate spec.count block)
-        ∙ (λ i. opened.unnamed i ++ map-replicate (λ (b : DataBlock). b.names) spec.count block i)
+        map-append (λ (b : DataBlock). b.references) blocks (replicate spec.count block)
+        ∙ (λ i. opened.unnamed i ++ map-replicate (λ (b : DataBlock). b.references) spec.count block i)
         ∙ replicate-append-replicate n spec.count 0 ∙ ap (λ m. replicate m 0) (sym length_blocks);
   }
 
 -- all classes
 module _ (specs : List ClassSpec) (classes : List Class) (regions : List (List ℕ)) (blocks : List DataBlock) (opened : AreOpened specs classes regions blocks) where
   pub length_opened : length blocks ≡ total_of specs
-  length_opened = sym (length-tabulated (seen_block classes regions blocks) (length blocks)) ∙ ap length opened.fresh ∙ length-blocks_from 0 specs
+  length_opened = sym (length-tabulated (data_block_of classes regions blocks) (length blocks)) ∙ ap length opened.fresh ∙ length-blocks_from 0 specs
 
   pub classes_opened : length classes ≡ length specs
   classes_opened = omega (arith, ap length opened.specs_are, length-map classes (λ (k : Class). k.spec))
 
-  pub opened_is : counted classes regions blocks (numbers_from 0 specs) ≡ opening_counted specs
+  pub opened_is : store_of_parts classes regions blocks (numbers_from 0 specs) ≡ opening_counted specs
   opened_is = cc (opened.unnamed, opened.specs_are, opened.fresh, length_opened, length-blocks_from 0 specs)

@@ -3,7 +3,7 @@ use Rattle.std.proofs.Common.{◌≡◌, ℕ, ◌+◌, ◌-◌, ◌<◌, ◌≤�
 use Rattle.std.specs.Vec.{with_items}
 use Rattle.std.proofs.lemmas.List.{get_or-append_right, get_or-map, get_or_append_left, map-set, set-append_left, set-append_right, with_items_is}
 use Rattle.strm_data.specs.DataLayout.{bytes_of, region_at}
-use Rattle.strm_data.specs.DataStore.{overwritten}
+use Rattle.strm_data.specs.DataStore.{bytes_overwritten}
 use Rattle.strm_data.proofs.lists.Tables.{length-overwritten, length-part}
 
 -- the bytes that are copied
@@ -16,9 +16,9 @@ region_of regions c r d there read = get_or-map (λ (x : Vec ℕ Global). x.item
 
 -- the bytes of a vector, once some of them are written over
 pub over_region : (v : Vec ℕ Global) (from into len : ℕ) (bytes old new : List ℕ) → from + len ≤ length bytes → into + len ≤ length old → length old ≡ v.len
-    → new ≡ overwritten into (take (from + len - from) (drop from bytes)) old → (with_items v new).items ≡ overwritten into (part from len bytes) old
+    → new ≡ bytes_overwritten into (take (from + len - from) (drop from bytes)) old → (with_items v new).items ≡ bytes_overwritten into (part from len bytes) old
 over_region v from into len bytes old new there room long is =
-    let now = is ∙ ap (λ n. overwritten into (take n (drop from bytes)) old) (let e : from + len - from ≡ len = omega arith in e) in
+    let now = is ∙ ap (λ n. bytes_overwritten into (take n (drop from bytes)) old) (let e : from + len - from ≡ len = omega arith in e) in
     with_items_is v new (ap length now ∙ length-overwritten into (part from len bytes) old (omega (arith, room, length-part len from bytes there)) ∙ long) ∙ now
 
 -- regions, cut in two

@@ -7,7 +7,7 @@ use Rattle.std.proofs.lemmas.List.{drop_more}
 use Rattle.std.proofs.lemmas.List.Folds.{list_any_at}
 use Rattle.strm_data.specs.declared.refusal.Refusal.TheVariants.{NoData, TooLarge}
 use Rattle.strm_data.specs.declared.class_spec.ClassSpec.{ClassSpec}
-use Rattle.strm_data.specs.DataStore.{DataStore, free_of, fitting, IsTakenFrom, class_spec_at, no_class_spec}
+use Rattle.strm_data.specs.DataStore.{DataStore, free_of, fitting_blocks, IsTakenFrom, class_spec_at, no_class_spec}
 
 -- the free blocks of a class, if it fits
 abbrev pub if_fits : ℕ → ClassSpec × List ℕ → List ℕ
@@ -36,7 +36,7 @@ if_fits-empty size c (x ∷ xs) none = absurd (omega arith)
 
 -- the search goes on behind a class that gives nothing
 pub fitting_from_next : (size : ℕ) (s : DataStore) (i : ℕ) (d : ClassSpec) → i < length s.classes → i < length s.free
-    → if_fits size (get_or s.classes i d, free_of s i) ≡ [] → fitting size s ≡ fitting_from size s i → fitting size s ≡ fitting_from size s (i + 1)
+    → if_fits size (get_or s.classes i d, free_of s i) ≡ [] → fitting_blocks size s ≡ fitting_from size s i → fitting_blocks size s ≡ fitting_from size s (i + 1)
 fitting_from_next size s i d in_classes in_free none left =
     left ∙ fitting_from-here size s i d in_classes in_free ∙ ap (λ xs. xs ++ fitting_from size s (i + 1)) none
 
@@ -47,16 +47,16 @@ first_of_both (x ∷ xs) ys some = refl
 
 -- the search ends at a class that fits and has a free data block
 pub IsTakenFrom-found : (size : ℕ) (s : DataStore) (i : ℕ) → i < length s.classes → i < length s.free
-    → size ≤ (class_spec_at s i).size → 0 < length (free_of s i) → fitting size s ≡ fitting_from size s i → IsTakenFrom size s i
+    → size ≤ (class_spec_at s i).size → 0 < length (free_of s i) → fitting_blocks size s ≡ fitting_from size s i → IsTakenFrom size s i
 IsTakenFrom-found size s i in_classes in_free wide some left =
     let fits : nat_le size (class_spec_at s i).size ≡ true = le-leb size _ wide in
-    let found : fitting size s ≡ free_of s i ++ fitting_from size s (i + 1) =
+    let found : fitting_blocks size s ≡ free_of s i ++ fitting_from size s (i + 1) =
     cc (left, fitting_from-here size s i no_class_spec in_classes in_free, cond-true _ (free_of s i) [] fits) in
     record {
       wide = wide;
       some = some;
       front =
-          cond-true _ (ok_or (slice_get (fitting size s) 0) NoData) (Err TooLarge) (list_any_at (λ c. nat_le size c.size) s.classes i no_class_spec in_classes fits)
+          cond-true _ (ok_or (slice_get (fitting_blocks size s) 0) NoData) (Err TooLarge) (list_any_at (λ c. nat_le size c.size) s.classes i no_class_spec in_classes fits)
           ∙ ap (λ xs. ok_or (slice_get xs 0) NoData) found ∙ ap (λ o. ok_or o NoData) (first_of_both (free_of s i) (fitting_from size s (i + 1)) some);
     }
 

@@ -6,10 +6,10 @@ use Rattle.std.proofs.lemmas.Bool.{cases_eq, cases_lt, cond-true, cond-false, co
 use Rattle.std.proofs.lemmas.List.{length-map, set_past, set-get_or}
 use Rattle.std.proofs.lemmas.Slice.Zip.{length-zip}
 use Rattle.std.proofs.lemmas.List.Sums.{sum_by-cons}
-use Rattle.strm_data.specs.CountedStore.{CountedStore, count_of, is_unused, IsUnused, IsKept, after_take, with_name, without_name}
+use Rattle.strm_data.specs.CountedStore.{CountedStore, count_of, is_unused, IsUnused, IsKept, after_take, with_reference, without_reference}
 use Rattle.strm_data.specs.DataStore.{class_infos, times, DataBlock, no_data_block, class_of, free_of, IsTakenFrom, take_data, blocks_in, class_spec_at, capacity_of, no_class_spec}
 use Rattle.strm_data.specs.Classes.{are_lawful}
-use Rattle.strm_data.specs.Limits.{most_data_block_bytes, most_data_block_names}
+use Rattle.strm_data.specs.Limits.{most_data_block_bytes, most_references}
 use Rattle.strm_links.proofs.lists.Counting.{times_here, times_other, times_rest_same, times_rest_other, times_some, few_of}
 use Rattle.strm_data.proofs.lists.Tables.{tabulated-get_or}
 use Rattle.strm_data.proofs.store.Lawful.{lawful_size}
@@ -92,7 +92,7 @@ module _ (s : CountedStore) (kept : IsKept s) where
       → length new.store.blocks ≡ length s.store.blocks → length new.counts ≡ length s.counts
       → ((k : ℕ) → class_of new.store k ≡ class_of s.store k) → ((k : ℕ) → capacity_of new.store k ≡ capacity_of s.store k) → ((k : ℕ) → k ≢ d → count_of new k ≡ count_of s k)
       → ((c k : ℕ) → k ≢ d → times k (free_of new.store c) ≡ times k (free_of s.store c))
-      → count_of new d ≤ most_data_block_names → ((c : ℕ) → times d (free_of new.store c) ≡ (if is_unused new c d then 1 else 0)) → IsKept new
+      → count_of new d ≤ most_references → ((c : ℕ) → times d (free_of new.store c) ≡ (if is_unused new c d then 1 else 0)) → IsKept new
   kept_but new d classes lists blocks counts class capacity count others few_here here =
       record {
         lawful = ap are_lawful classes ∙ kept.lawful;
@@ -101,9 +101,9 @@ module _ (s : CountedStore) (kept : IsKept s) where
         counted = omega (arith, kept.counted);
         classed = λ k within. omega (arith, class k, ap length classes, kept.classed k (omega arith));
         sized = λ k within. capacity k ∙ kept.sized k (omega arith) ∙ sym (λ i. (get_or (classes i) (class k i) no_class_spec).size);
-        few_names = λ k. elim (cases_eq k d) [
+        few_references = λ k. elim (cases_eq k d) [
           | inl same ↦ rw same few_here
-          | inr other ↦ omega (arith, count k other, kept.few_names k)
+          | inr other ↦ omega (arith, count k other, kept.few_references k)
         ];
         listed = λ c k. elim (cases_eq k d) [
           | inl same ↦ rw same (here c)
@@ -111,7 +111,7 @@ module _ (s : CountedStore) (kept : IsKept s) where
         ];
       }
 
--- ---- a data block of the same class and as long in its place, and another number of names
+-- ---- a data block of the same class and as long in its place, and another number of references
 
 -- what the data block in its place has alike
 part-set : {X : Type 0} (part : DataBlock → X) (bs : List DataBlock) (d k : ℕ) (b : DataBlock) → part b ≡ part (get_or bs d no_data_block)
@@ -139,11 +139,11 @@ capacity-set = part-set (λ (x : DataBlock). length x.bytes)
 unused_by_count : (s : CountedStore) (c d : ℕ) → d < length s.store.blocks → class_of s.store d ≡ c → is_unused s c d ≡ (count_of s d == 0)
 unused_by_count s c d there class = rw (lt-ltb d _ there, eq-eqb _ c class) refl
 
--- a store with other data blocks of the same classes and as long, with another number of names for d, and with another free list for
+-- a store with other data blocks of the same classes and as long, with another number of references for d, and with another free list for
 -- the class of d, which differs in d alone
 replaced : (s : CountedStore) (d c v : ℕ) (bs : List DataBlock) (ys : List ℕ) → IsKept s → d < length s.store.blocks → class_of s.store d ≡ c → length bs ≡ length s.store.blocks
     → ((k : ℕ) → (get_or bs k no_data_block).class ≡ class_of s.store k) → ((k : ℕ) → length (get_or bs k no_data_block).bytes ≡ capacity_of s.store k)
-    → ((k : ℕ) → k ≢ d → times k ys ≡ times k (free_of s.store c)) → times d ys ≡ (if v == 0 then 1 else 0) → v ≤ most_data_block_names
+    → ((k : ℕ) → k ≢ d → times k ys ≡ times k (free_of s.store c)) → times d ys ≡ (if v == 0 then 1 else 0) → v ≤ most_references
     → IsKept (record { store = record { classes = s.store.classes; blocks = bs; free = set s.store.free c ys }; counts = set s.counts d v })
 replaced s d c v bs ys kept there class long classes capacities others here most =
     let new : CountedStore = record { store = record { classes = s.store.classes; blocks = bs; free = set s.store.free c ys }; counts = set s.counts d v } in
@@ -183,8 +183,8 @@ IsKept-taken s c kept some =
 pub IsKept-take : (size : ℕ) (s : CountedStore) (c : ℕ) → IsTakenFrom size s.store c → IsKept s → IsKept (after_take s (take_data size s.store))
 IsKept-take size s c from kept = subst (λ r. IsKept (after_take s r)) (sym from.front) (IsKept-taken s c kept from.some)
 
--- another number of names, above 0 as before
-recounted : (s : CountedStore) (d v : ℕ) → IsKept s → 0 < count_of s d → d < length s.store.blocks → 0 < v → v ≤ most_data_block_names → IsKept (record s { counts = set s.counts d v })
+-- another number of references, above 0 as before
+recounted : (s : CountedStore) (d v : ℕ) → IsKept s → 0 < count_of s d → d < length s.store.blocks → 0 < v → v ≤ most_references → IsKept (record s { counts = set s.counts d v })
 recounted s d v kept used there some most =
     let c = class_of s.store d in
     let xs = free_of s.store c in
@@ -192,15 +192,15 @@ recounted s d v kept used there some most =
     subst (λ fs. IsKept (record { store = record s.store { free = fs }; counts = set s.counts d v })) (set-get_or s.store.free c [])
     (replaced s d c v s.store.blocks xs kept there refl refl (λ k. refl) (λ k. refl) (λ k other. refl) (absent ∙ sym (cond-false _ 1 0 (ne_eqb _ 0 (λ none. omega arith)))) most)
 
-pub IsKept-with_name : (s : CountedStore) (d : ℕ) → IsKept s → 0 < count_of s d → d < length s.store.blocks → count_of s d < most_data_block_names → IsKept (with_name d s)
+pub IsKept-with_name : (s : CountedStore) (d : ℕ) → IsKept s → 0 < count_of s d → d < length s.store.blocks → count_of s d < most_references → IsKept (with_reference d s)
 IsKept-with_name s d kept used there few = recounted s d (count_of s d + 1) kept used there (omega arith) (omega arith)
 
-pub IsKept-without_name : (s : CountedStore) (d : ℕ) → IsKept s → 0 < count_of s d → d < length s.store.blocks → IsKept (without_name d s)
+pub IsKept-without_name : (s : CountedStore) (d : ℕ) → IsKept s → 0 < count_of s d → d < length s.store.blocks → IsKept (without_reference d s)
 IsKept-without_name s d kept used there =
     let c = class_of s.store d in
     let xs = free_of s.store c in
     let absent : times d xs ≡ 0 = unlisted s kept c d (named_is s c d (λ none. omega arith)) in
-    let fewer : count_of s d - 1 ≤ most_data_block_names = omega (arith, kept.few_names d) in
+    let fewer : count_of s d - 1 ≤ most_references = omega (arith, kept.few_references d) in
     elim (cases_eq (count_of s d) 1) [
       | inl last ↦
           let gone : count_of s d - 1 ≡ 0 = omega arith in
@@ -223,7 +223,7 @@ IsKept-altered s d b class capacity kept =
       counted = omega (arith, kept.counted, long);
       classed = λ k within. omega (arith, classes k, kept.classed k (omega (arith, long)));
       sized = λ k within. capacity-set s.store.blocks d k b capacity ∙ kept.sized k (omega (arith, long)) ∙ ap (λ c. (class_spec_at s.store c).size) (sym (classes k));
-      few_names = kept.few_names;
+      few_references = kept.few_references;
       listed = λ c k. kept.listed c k ∙ ap (λ b. if b then 1 else 0) (sym (same_is s new c k long (classes k) refl));
     }
 

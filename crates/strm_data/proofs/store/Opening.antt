@@ -205,7 +205,7 @@ IsKept-opening cs lawful =
       sized = λ d within.
           bytes_within 0 cs d within
           ∙ ap (λ m. (get_or cs m no_class_spec).size) (let e : (get_or bs d no_data_block).class - 0 ≡ (get_or bs d no_data_block).class = omega arith in e);
-      few_names = λ d. omega (arith, no_names (length bs) d);
+      few_references = λ d. omega (arith, no_names (length bs) d);
       listed = λ c d.
           ap (λ k. times k (get_or (numbers_from 0 cs) c [])) (sym (zero-add d)) ∙ numbers_listed 0 0 cs c d
           ∙ ap (λ b. if b then 1 else 0) (ap (λ m. is_of bs m d) (zero-add c) ∙ ap (λ b. nat_lt d (length bs) && b) (sym (and_true ((get_or bs d no_data_block).class == c) _ (eq-eqb _ 0 (no_names (length bs) d)))));

@@ -6,7 +6,7 @@ ghost use Rattle.strm_data.specs.DataStore.{capacity_of};
 
 use std::alloc::Global;
 use std::process::Abort;
-use strm_data::{ClassInfo, ClassSpec, Data, MOST_DATA_BLOCK_NAMES, MsgType, Refusal};
+use strm_data::{ClassInfo, ClassSpec, Data, MOST_REFERENCES, MsgType, Refusal};
 
 #[derive(Drop)]
 pub(super) struct Bench {
@@ -57,7 +57,7 @@ impl Bench {
     // Adds a reference to a data block.
     pub(super) fn name(&mut self, rt: &impl Abort, number: u32) {
         self.assert_used(rt, number);
-        assert!(rt; self.blocks.count(number) < MOST_DATA_BLOCK_NAMES);
+        assert!(rt; self.blocks.count(number) < MOST_REFERENCES);
         self.blocks.name(number);
     }
 

@@ -5,7 +5,7 @@ use super::bench::Bench;
 use super::info;
 use std::alloc::Global;
 use std::process::Abort;
-use strm_data::{ClassSpec, MOST_DATA_BLOCK_NAMES, MsgType, Refusal};
+use strm_data::{ClassSpec, MOST_REFERENCES, MsgType, Refusal};
 
 // The number of bytes of the largest data blocks.
 const LARGEST: u32 = 40;
@@ -152,7 +152,7 @@ impl Twin {
     // Adds a reference to a data block that is in use and can have one more.
     fn name(&mut self, rt: &impl Abort, number: u32) {
         let plain = self.plain_mut(rt, number);
-        if plain.count > 0 && plain.count < MOST_DATA_BLOCK_NAMES {
+        if plain.count > 0 && plain.count < MOST_REFERENCES {
             plain.count = plain.count.saturating_add(1);
             self.data.name(rt, number);
         }
@@ -297,11 +297,11 @@ fn long_run_beside_vectors(rt: HostRuntime) {
 fn names_a_block_as_often_as_can_be(rt: HostRuntime) {
     let mut twin = Twin::new(&rt, rt.alloc());
     twin.take(&rt, 5);
-    for _ in 1..MOST_DATA_BLOCK_NAMES {
+    for _ in 1..MOST_REFERENCES {
         twin.name(&rt, 3);
     }
-    twin.assert_names(&rt, 3, MOST_DATA_BLOCK_NAMES);
-    for _ in 1..MOST_DATA_BLOCK_NAMES {
+    twin.assert_names(&rt, 3, MOST_REFERENCES);
+    for _ in 1..MOST_REFERENCES {
         twin.drop_name(&rt, 3);
     }
     twin.assert_names(&rt, 3, 1);

@@ -1,6 +1,6 @@
 use std::process::Abort;
 use strm_data::{
-    MOST_CLASSES, MOST_DATA_BLOCK_BYTES, MOST_DATA_BLOCK_NAMES, MOST_DATA_BLOCKS, MsgType, Refusal,
+    MOST_CLASSES, MOST_DATA_BLOCK_BYTES, MOST_DATA_BLOCKS, MOST_REFERENCES, MsgType, Refusal,
 };
 
 // Asserts a refusal's number and name.
@@ -18,7 +18,7 @@ fn assert_type(rt: &impl Abort, kind: MsgType, name: &str, high: bool) {
 #[test]
 fn limits_have_their_numbers(rt: HostRuntime) {
     assert!(rt; MOST_CLASSES == 8 && MOST_DATA_BLOCK_BYTES == 4096);
-    assert!(rt; MOST_DATA_BLOCKS == 16_383 && MOST_DATA_BLOCK_NAMES == 255);
+    assert!(rt; MOST_DATA_BLOCKS == 16_383 && MOST_REFERENCES == 255);
 }
 
 #[test]

@@ -6,7 +6,7 @@ use Rattle.strm_links.specs.Layout.{LeadsOn}
 use Rattle.strm_links.specs.Counting.{times}
 use Rattle.strm_links.specs.Chains.{items_of}
 use Rattle.strm_links.specs.StrandLists.{StrandLists, with_first_begun}
-use Rattle.strm_links.specs.StrandLayout.{IsSound, IsStrand, next_at, onward, span_at}
+use Rattle.strm_links.specs.StrandLayout.{IsSound, IsStrand, next_at, node_onward, span_at}
 use Rattle.strm_links.specs.declared.strands.Node.{Node}
 use Rattle.strm_links.proofs.lists.ListLinks.{LeadsOn-kept, LeadsOn-parts, first-take, has_first, has_last, last-take, link_last, onward-at, LeadsOn-end}
 use Rattle.strm_links.proofs.lists.Counting.{times-append}
@@ -82,10 +82,10 @@ module _ (nodes : List Node) (first_free : Option ℕ) (free_len : ℕ) (v : Str
 
   module _ (h c m : ℕ) (at : first_free ≡ Some h) (is : c ≡ suc m) (enough : m < length v.free) where
     -- one step less leads to the last of them
-    pub several_there : onward (next_at nodes) m (Some h) ≡ Some (get_or v.free m 0)
-    several_there = ap (onward (next_at nodes) m) (sym at ∙ laid.free_front) ∙ onward-at (next_at nodes) v.free None m laid.free_leads enough
+    pub several_there : node_onward (next_at nodes) m (Some h) ≡ Some (get_or v.free m 0)
+    several_there = ap (node_onward (next_at nodes) m) (sym at ∙ laid.free_front) ∙ onward-at (next_at nodes) v.free None m laid.free_leads enough
 
-    module _ (t : ℕ) (walked : onward (next_at nodes) m (Some h) ≡ Some t) where
+    module _ (t : ℕ) (walked : node_onward (next_at nodes) m (Some h) ≡ Some t) where
       begins : first (take c v.free) ≡ Some h
       begins = ap (λ j. first (take j v.free)) is ∙ first-take v.free m ∙ sym laid.free_front ∙ at
 

@@ -8,7 +8,7 @@ use Rattle.strm_links.specs.Layout.{LeadsOn}
 use Rattle.strm_links.specs.Counting.{times}
 use Rattle.strm_links.specs.Chains.{chain_in}
 use Rattle.strm_links.specs.StrandLists.{StrandLists, strand_at, with_behind_freed}
-use Rattle.strm_links.specs.StrandLayout.{IsSound, IsStrand, next_at, onward, path, span_at}
+use Rattle.strm_links.specs.StrandLayout.{IsSound, IsStrand, next_at, node_onward, path, span_at}
 use Rattle.strm_links.specs.declared.strands.Node.{Node}
 use Rattle.strm_links.proofs.lists.ListLinks.{LeadsOn-kept, LeadsOn-parts, walk_is, last_without, onward-end}
 use Rattle.strm_links.proofs.lists.Counting.{split_behind, times-append}
@@ -59,8 +59,8 @@ module _ (nodes : List Node) (first_free : Option ℕ) (free_len : ℕ) (v : Str
     unfolding path
     path_out = ap (path nodes (length out)) head_next ∙ walk_is (next_at nodes) out (first post) leads.0
 
-    onward_out : onward (next_at nodes) (length out) (next_at nodes h) ≡ first post
-    onward_out = ap (onward (next_at nodes) (length out)) head_next ∙ onward-end (next_at nodes) out (first post) leads.0
+    onward_out : node_onward (next_at nodes) (length out) (next_at nodes h) ≡ first post
+    onward_out = ap (node_onward (next_at nodes) (length out)) head_next ∙ onward-end (next_at nodes) out (first post) leads.0
 
     module _ (new : List Node) (long : length new ≡ length nodes) (reversed : LeadsOn (next_at new) (reverse out) first_free) (now : next_at new h ≡ first post)
         (links : (k : ℕ) → k ≢ h → has k out ≡ false → next_at new k ≡ next_at nodes k)
@@ -135,8 +135,8 @@ module _ (nodes : List Node) (first_free : Option ℕ) (free_len : ℕ) (v : Str
       pub behind_path : path nodes count (Some n) ≡ out_of
       behind_path = (λ i. path nodes (sym behind_count i) (sym on i)) ∙ path_out out_of rest_of split
 
-      pub behind_onward : onward (next_at nodes) count (Some n) ≡ first rest_of
-      behind_onward = (λ i. onward (next_at nodes) (sym behind_count i) (sym on i)) ∙ onward_out out_of rest_of split
+      pub behind_onward : node_onward (next_at nodes) count (Some n) ≡ first rest_of
+      behind_onward = (λ i. node_onward (next_at nodes) (sym behind_count i) (sym on i)) ∙ onward_out out_of rest_of split
 
       pub behind_first : first out_of ≡ Some n
       behind_first = sym (front_left out_of rest_of any) ∙ sym (was out_of rest_of split).leads.0 ∙ on

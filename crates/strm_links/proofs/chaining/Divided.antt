@@ -4,7 +4,7 @@ use Rattle.std.specs.Prelude.{slice_get}
 use Rattle.strm_links.specs.Rows.{has, IsApart, first}
 use Rattle.strm_links.specs.Layout.{LeadsOn}
 use Rattle.strm_links.specs.Counting.{times}
-use Rattle.strm_links.specs.Chains.{divided, chain_in, items_of}
+use Rattle.strm_links.specs.Chains.{chain_divided, chain_in, items_of}
 use Rattle.strm_links.specs.StrandLists.{StrandLists, strand_at}
 use Rattle.strm_links.specs.StrandLayout.{IsSound, IsStrand, next_at, span_at}
 use Rattle.strm_links.specs.declared.strands.Node.{Node}
@@ -73,9 +73,9 @@ module _ (nodes : List Node) (first_free : Option ℕ) (free_len : ℕ) (v : Str
         leads = LeadsOn-kept (next_at nodes) (next_at new) (c ∷ two.0) None (λ k there. nexts k ∙ write_elsewhere h k _ _ (λ same. differ h k (c ∷ two.0) apart.0 there (sym same))) was.leads.1;
       }
 
-      pub IsSound-divided : IsSound new first_free free_len (record v { chains = divided (λ n. n) h (strand_at v h) v.chains })
+      pub IsSound-divided : IsSound new first_free free_len (record v { chains = chain_divided (λ n. n) h (strand_at v h) v.chains })
       IsSound-divided =
-          subst (λ xs. IsSound new first_free free_len (record v { chains = divided (λ n. n) h xs v.chains })) (sym two.1)
+          subst (λ xs. IsSound new first_free free_len (record v { chains = chain_divided (λ n. n) h xs v.chains })) (sym two.1)
           (IsSound-two nodes first_free free_len v laid h new long links h c (Some (h ∷ [])) (Some (c ∷ two.0)) other (head_low nodes first_free free_len v laid h some_h) divided_low
           (λ g off_h off_c. (off_h, spans g ∙ write_elsewhere c g _ _ off_c ∙ write_elsewhere h g _ _ off_h))
           (subst (λ s. IsStrand (next_at new) s h (h ∷ [])) (sym (spans h ∙ write_elsewhere c h _ _ other ∙ write_here h _ _)) here)

@@ -2,7 +2,7 @@
 use Rattle.std.proofs.Common.{◌≡◌, ◌≢◌, ℕ, ◌+◌, ◌≤◌, false, ◌==◌, List, ◌++◌, length, Option, Some, None, IsSome, if◌then◌else◌, sym, ap, ◌∙◌, subst, arith, length-append}
 use Rattle.strm_links.specs.Rows.{has}
 use Rattle.strm_links.specs.Layout.{LeadsOn}
-use Rattle.strm_links.specs.Chains.{chain_in, joined}
+use Rattle.strm_links.specs.Chains.{chain_in, chains_joined}
 use Rattle.strm_links.specs.StrandLists.{StrandLists, strand_at}
 use Rattle.strm_links.specs.StrandLayout.{IsSound, IsStrand, next_at, no_span, span_at}
 use Rattle.strm_links.specs.declared.strands.Node.{Node}
@@ -52,7 +52,7 @@ module _ (nodes : List Node) (first_free : Option ℕ) (free_len : ℕ) (v : Str
       leads = leads;
     }
 
-    pub IsSound-joined : IsSound new first_free free_len (record v { chains = joined h g v.chains })
+    pub IsSound-joined : IsSound new first_free free_len (record v { chains = chains_joined h g v.chains })
     unfolding both span
     IsSound-joined =
         let away : g ≢ h = λ same. other (sym same) in

@@ -6,9 +6,9 @@ use Rattle.std.proofs.lemmas.Option.{same_Some, slice_get-get_or, slice_get_past
 use Rattle.strm_links.specs.Rows.{has, IsApart, first, last}
 use Rattle.strm_links.specs.Layout.{LeadsOn}
 use Rattle.strm_links.specs.Counting.{times}
-use Rattle.strm_links.specs.Chains.{chain_in, items_of, set_apart, taken_out}
+use Rattle.strm_links.specs.Chains.{chain_in, items_of, set_apart, item_taken_out}
 use Rattle.strm_links.specs.StrandLists.{StrandLists, strand_at}
-use Rattle.strm_links.specs.StrandLayout.{IsSound, IsStrand, next_at, onward, span_at}
+use Rattle.strm_links.specs.StrandLayout.{IsSound, IsStrand, next_at, node_onward, span_at}
 use Rattle.strm_links.specs.declared.strands.Node.{Node}
 use Rattle.strm_links.proofs.lists.ListLinks.{LeadsOn-kept, LeadsOn-parts, first-take, first_front, has_first, has_last, last-take, last_without, link_at, onward-at, LeadsOn-append, LeadsOn-end}
 use Rattle.strm_links.proofs.lists.Counting.{times-append}
@@ -98,7 +98,7 @@ module _ (nodes : List Node) (first_free : Option ℕ) (free_len : ℕ) (v : Str
   -- ---- the node at a place
 
   -- a place past the end: nothing changes
-  pub no_place : (place : ℕ) → (span_at nodes h).len ≤ place → (slice_get (strand_at v h) place ≡ None) × (taken_out (λ n. n) h place (strand_at v h) v.chains ≡ v.chains)
+  pub no_place : (place : ℕ) → (span_at nodes h).len ≤ place → (slice_get (strand_at v h) place ≡ None) × (item_taken_out (λ n. n) h place (strand_at v h) v.chains ≡ v.chains)
   no_place place past =
       let none : slice_get (strand_at v h) place ≡ None = slice_get_past (strand_at v h) place (omega (arith, past, was.len)) in
       (none, ap (λ o. set_apart (λ n. n) h (take place (strand_at v h) ++ drop (place + 1) (strand_at v h)) o v.chains) none)
@@ -111,10 +111,10 @@ module _ (nodes : List Node) (first_free : Option ℕ) (free_len : ℕ) (v : Str
     pub place_at : slice_get (strand_at v h) place ≡ Some (get_or (strand_at v h) place 0)
     place_at = slice_get-get_or (strand_at v h) place 0 inside
 
-    pub place_there : onward (next_at nodes) before (Some h) ≡ Some (get_or (strand_at v h) before 0)
-    place_there = ap (onward (next_at nodes) before) (sym was.head) ∙ onward-at (next_at nodes) (strand_at v h) None before was.leads (omega (arith, is, inside))
+    pub place_there : node_onward (next_at nodes) before (Some h) ≡ Some (get_or (strand_at v h) before 0)
+    place_there = ap (node_onward (next_at nodes) before) (sym was.head) ∙ onward-at (next_at nodes) (strand_at v h) None before was.leads (omega (arith, is, inside))
 
-    module _ (t : ℕ) (walked : onward (next_at nodes) before (Some h) ≡ Some t) where
+    module _ (t : ℕ) (walked : node_onward (next_at nodes) before (Some h) ≡ Some t) where
       t_is : Some t ≡ Some (get_or (strand_at v h) before 0)
       t_is = sym walked ∙ place_there
 
@@ -123,7 +123,7 @@ module _ (nodes : List Node) (first_free : Option ℕ) (free_len : ℕ) (v : Str
           ap (next_at nodes) (same_Some _ _ t_is) ∙ link_at (next_at nodes) (strand_at v h) None before was.leads (omega (arith, is, inside))
           ∙ ap (λ j. first (drop j (strand_at v h))) (sym is) ∙ ap first (drop-cons (strand_at v h) place 0 inside)
 
-    module _ (t n : ℕ) (walked : onward (next_at nodes) before (Some h) ≡ Some t) (next : next_at nodes t ≡ Some n) where
+    module _ (t n : ℕ) (walked : node_onward (next_at nodes) before (Some h) ≡ Some t) (next : next_at nodes t ≡ Some n) where
       n_is : Some n ≡ Some (get_or (strand_at v h) place 0)
       n_is = sym next ∙ place_next t walked
 
@@ -156,7 +156,7 @@ module _ (nodes : List Node) (first_free : Option ℕ) (free_len : ℕ) (v : Str
       pub IsSound-taken_out : (new : List Node) → length new ≡ length nodes → ((k : ℕ) → next_at new k ≡ (if n == k then None else (if t == k then next_at nodes n else next_at nodes k)))
           → ((k : ℕ) → span_at new k
           ≡ (if h == k then record { last = (if is_none (next_at nodes n) then t else (span_at nodes h).last); len = (span_at nodes h).len - 1 } else (if n == k then record { last = n; len = 1 } else span_at nodes k)))
-          → IsSound new first_free free_len (record v { chains = taken_out (λ n. n) h place (strand_at v h) v.chains })
+          → IsSound new first_free free_len (record v { chains = item_taken_out (λ n. n) h place (strand_at v h) v.chains })
       IsSound-taken_out new long nexts spans =
           let pre = take place (strand_at v h) in
           let post = drop (place + 1) (strand_at v h) in

@@ -7,7 +7,7 @@ use Rattle.strm_mblk.specs.declared.blocks.Fields.{Fields}
 use Rattle.strm_mblk.specs.declared.token.TokenValue.{TokenValue}
 use Rattle.strm_mblk.specs.Arena.{Arena, has, held_at, shelved_blocks}
 use Rattle.strm_mblk.specs.Block.{Message}
-use Rattle.strm_mblk.specs.BlockCalls.{banded, setband}
+use Rattle.strm_mblk.specs.BlockCalls.{with_band, setband}
 use Rattle.strm_mblk.specs.BlocksLayout.{IsFilled, IsPlaced, arena_of, block_at, fields_at, message_of}
 use Rattle.strm_mblk.specs.Messages.{blocks_of}
 use Rattle.strm_mblk.specs.NodeLists.{NodeLists}
@@ -49,7 +49,7 @@ module _ (id : ℕ) (s : CountedStore) (fields : List Fields) (v : NodeLists) (f
     block_is : block_at now t.head ≡ record (block_at fields t.head) { band = band }
     block_is = grind (arith, common_steps, get_or-set_same, head_there)
 
-    banded_is : (ns : List ℕ) → first ns ≡ Some t.head → set (message_of fields ns) 0 (block_at now t.head) ≡ banded band (message_of fields ns)
+    banded_is : (ns : List ℕ) → first ns ≡ Some t.head → set (message_of fields ns) 0 (block_at now t.head) ≡ with_band band (message_of fields ns)
     banded_is [] is = absurd (none-some t.head is)
     banded_is (n ∷ ns) is = grind (arith, common_steps, block_is, same_Some)
 
@@ -69,7 +69,7 @@ module _ (id : ℕ) (s : CountedStore) (fields : List Fields) (v : NodeLists) (f
       after =
           shows
           ∙ ap (λ m. record old { held = set old.held t.head (Some m) })
-          (banded_is nodes.0 begins ∙ ap (banded band) (sym (ap blocks_of had.1.held ∙ nodes.1.message)));
+          (banded_is nodes.0 begins ∙ ap (with_band band) (sym (ap blocks_of had.1.held ∙ nodes.1.message)));
       shelved = ap shelved_blocks shows;
       had =
           had_again old (arena_of id s.store now v) t had.0 (set (message_of fields nodes.0) 0 (block_at now t.head)) had.1

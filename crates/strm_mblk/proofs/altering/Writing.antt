@@ -5,7 +5,7 @@ use Rattle.strm_data.specs.DataStore.{DataStore, capacity_of, with_bytes_written
 use Rattle.strm_data.proofs.lists.Tables.{length-overwritten}
 use Rattle.strm_mblk.specs.declared.blocks.Fields.{Fields}
 use Rattle.strm_mblk.specs.declared.token.TokenValue.{TokenValue}
-use Rattle.strm_mblk.specs.Arena.{Arena, has, held_at, names_of, shelved_blocks}
+use Rattle.strm_mblk.specs.Arena.{Arena, has, held_at, references_to, shelved_blocks}
 use Rattle.strm_mblk.specs.BlockCalls.{write}
 use Rattle.strm_mblk.specs.BlocksLayout.{IsFilled, IsPlaced, arena_of, block_at, fields_at, message_of}
 use Rattle.strm_mblk.specs.NodeLists.{NodeLists, nodes_at}
@@ -36,7 +36,7 @@ module _ (id : ℕ) (s : CountedStore) (fields : List Fields) (v : NodeLists) (f
   was = fields_at fields n
 
   module _ (new_is : new ≡ record s { store = with_bytes_written was.data_number (was.offset + was.len) bytes s.store }) (x_is : x ≡ record was { len = was.len + length bytes })
-      (one : names_of old was.data_number ≤ 1) (room : was.offset + was.len + length bytes ≤ capacity_of s.store was.data_number) where
+      (one : references_to old was.data_number ≤ 1) (room : was.offset + was.len + length bytes ≤ capacity_of s.store was.data_number) where
     abbrev now : List Fields
     now = set fields n x
 

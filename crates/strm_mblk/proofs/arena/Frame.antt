@@ -11,20 +11,20 @@ use Rattle.strm_data.specs.declared.msg_type.MsgType.{MsgType}
 use Rattle.strm_data.specs.declared.refusal.Refusal.{Refusal}
 use Rattle.strm_data.specs.declared.refusal.Refusal.TheVariants.{NoData, NoMblk, NoRoom, Shared, TooLarge}
 use Rattle.strm_data.specs.Classes.{fits_a_class}
-use Rattle.strm_data.specs.DataStore.{DataStore, capacity_of, class_of, data_block_at, fitting, free_of, no_data_block, take_data, times, with_bytes_written, with_data_taken, with_kind}
+use Rattle.strm_data.specs.DataStore.{DataStore, capacity_of, class_of, data_block_at, fitting_blocks, free_of, no_data_block, take_data, times, with_bytes_written, with_data_taken, with_kind}
 use Rattle.strm_data.proofs.store.Fitting.{if_fits}
 use Rattle.strm_links.proofs.lists.Counting.{one_if, times-append, times-cons, times_here}
 use Rattle.strm_links.specs.Rows.{has}
 use Rattle.strm_links.proofs.lists.OneList.{has_head}
 use Rattle.strm_mblk.specs.declared.token.TokenValue.{TokenValue}
-use Rattle.strm_mblk.specs.Arena.{has as has_token, Arena, IsParted, held_at, message_at, names_of, shelved_blocks, token_of, with_held, without_held}
-use Rattle.strm_mblk.specs.Block.{Block, Message, bytes_of, bytes_of_block, is_naming, kind_of, new_block}
-use Rattle.strm_mblk.specs.BlockCalls.{allocb, allocb_from, banded, copied, copied_into, copies, duplicated, freeb, freeb_from, head_in, held_new, held_under, linkb, rmvb, rmvb_of, setband, settype, settype_of, unlinkb, with_rest, write, write_block}
+use Rattle.strm_mblk.specs.Arena.{has as has_token, Arena, IsParted, held_at, message_at, references_to, shelved_blocks, token_of, with_held, without_held}
+use Rattle.strm_mblk.specs.Block.{Block, Message, bytes_of, bytes_of_block, uses_data, kind_of, new_block}
+use Rattle.strm_mblk.specs.BlockCalls.{allocb, allocb_from, with_band, message_copied, store_with_copy, blocks_copied, message_duplicated, freeb, freeb_from, head_in, held_new, held_under, linkb, rmvb, rmvb_of, setband, settype, settype_of, unlinkb, with_rest, write, write_block}
 use Rattle.strm_mblk.specs.Frame.{IsSameData, LeavesOthers, LeavesShelves, head_given, heads_parted}
-use Rattle.strm_mblk.specs.Freeing.{freemsg, spent, with_block_freed, with_blocks_freed, with_name_dropped}
+use Rattle.strm_mblk.specs.Freeing.{freemsg, with_token_spent, with_block_freed, with_blocks_freed, with_reference_dropped}
 use Rattle.strm_mblk.specs.Given.{Given, value_after, and_then, answer_map, answer_of, or_rejected}
-use Rattle.strm_mblk.specs.Messages.{blocks_of, divided, held_in, joined}
-use Rattle.strm_mblk.specs.Trimming.{adjmsg, bytes_asked, left_over, pull, pull_asked, pulled, pulled_into, pullupmsg, run_of, used_up}
+use Rattle.strm_mblk.specs.Messages.{blocks_of, chain_divided, held_in, chains_joined}
+use Rattle.strm_mblk.specs.Trimming.{adjmsg, bytes_asked, blocks_left_over, pull, pull_asked, with_front_pulled, store_with_front, pullupmsg, run_of, blocks_used_up}
 use Rattle.strm_mblk.proofs.lists.Additive.{count_adds}
 use Rattle.strm_mblk.proofs.arena.Counts.{blocks_in_adds}
 use Rattle.strm_mblk.proofs.arena.Moves.{held_among, out_of_held}
@@ -67,16 +67,16 @@ without_second k h g gs = grind (arith, common_steps)
 -- ---- data blocks that stay
 
 -- the data blocks that these blocks name are the same, where each that is named so is
-same_data : (s t : DataStore) (bs : List Block) → ((d : ℕ) → 0 < count_by (is_naming d) bs → data_block_at t d ≡ data_block_at s d) → All (IsSameData s t) bs
+same_data : (s t : DataStore) (bs : List Block) → ((d : ℕ) → 0 < count_by (uses_data d) bs → data_block_at t d ≡ data_block_at s d) → All (IsSameData s t) bs
 same_data s t [] same k e within = absurd (omega arith)
 same_data s t (b ∷ bs) same zero e within = grind (arith, common_steps, count_adds, one_if, eq-eqb)
 same_data s t (b ∷ bs) same (suc k) e within = grind (arith, common_steps, (same_data s t bs), count_adds)
 
 -- the blocks on shelves, and those of a held message, are among those that name a data block
-shelved_named : (a : Arena) (d : ℕ) → count_by (is_naming d) (shelved_blocks a) ≤ names_of a d
-shelved_named a d = omega (arith, blocks_in_adds (count_adds (is_naming d)) a)
+shelved_named : (a : Arena) (d : ℕ) → count_by (uses_data d) (shelved_blocks a) ≤ references_to a d
+shelved_named a d = omega (arith, blocks_in_adds (count_adds (uses_data d)) a)
 
-held_named : (a : Arena) (h d : ℕ) → count_by (is_naming d) (message_at a h) ≤ names_of a d
+held_named : (a : Arena) (h d : ℕ) → count_by (uses_data d) (message_at a h) ≤ references_to a d
 held_named a h d = grind (arith, common_steps, held_among, blocks_in_adds, count_adds, get_or_past)
 
 -- ---- what stays
@@ -100,32 +100,32 @@ others_one a b h o = others_set a a b (h ∷ []) (leaves_same a (h ∷ [])).othe
 
 module _ (a b : Arena) (heads : List ℕ) (others : LeavesOthers heads a b) (shelves : b.shelves ≡ a.shelves) where
   -- each data block stays that is named on a shelf, or in a message held at another head
-  leaves_data : ((d : ℕ) → 0 < count_by (is_naming d) (shelved_blocks a) → data_block_at b.store d ≡ data_block_at a.store d)
-      → ((h d : ℕ) → has h heads ≡ false → 0 < count_by (is_naming d) (message_at a h) → data_block_at b.store d ≡ data_block_at a.store d) → Leaves heads a b
+  leaves_data : ((d : ℕ) → 0 < count_by (uses_data d) (shelved_blocks a) → data_block_at b.store d ≡ data_block_at a.store d)
+      → ((h d : ℕ) → has h heads ≡ false → 0 < count_by (uses_data d) (message_at a h) → data_block_at b.store d ≡ data_block_at a.store d) → Leaves heads a b
   leaves_data shelved held = grind (arith, common_steps, same_data)
 
-  -- each stays that some message names
-  pub leaves_named : ((d : ℕ) → 0 < names_of a d → data_block_at b.store d ≡ data_block_at a.store d) → Leaves heads a b
+  -- each stays that some message uses
+  pub leaves_named : ((d : ℕ) → 0 < references_to a d → data_block_at b.store d ≡ data_block_at a.store d) → Leaves heads a b
   leaves_named same = leaves_data (λ d some. same d (omega (arith, some, shelved_named a d))) (λ h d other some. same d (omega (arith, some, held_named a h d)))
 
-  -- each but one stays, which a message alone names that is held at one of the heads
-  module _ (g d : ℕ) (is_head : (h : ℕ) → has h heads ≡ false → h ≢ g) (m : Message) (is : held_at a g ≡ Some m) (once : names_of a d ≤ 1) (some : 0 < count_by (is_naming d) m) where
-    -- no other message names it
-    beside : (h : ℕ) → h ≢ g → count_by (is_naming d) (message_at a h) ≡ 0
+  -- each but one stays, which a message alone uses that is held at one of the heads
+  module _ (g d : ℕ) (is_head : (h : ℕ) → has h heads ≡ false → h ≢ g) (m : Message) (is : held_at a g ≡ Some m) (once : references_to a d ≤ 1) (some : 0 < count_by (uses_data d) m) where
+    -- no other message uses it
+    beside : (h : ℕ) → h ≢ g → count_by (uses_data d) (message_at a h) ≡ 0
     beside h other =
         omega (
           arith,
-          out_of_held a g m (is_naming d) is,
+          out_of_held a g m (uses_data d) is,
           held_named (without_held g a) h d,
-          ap (λ o. count_by (is_naming d) (blocks_of o)) (get_or-set_other a.held g h None None other),
+          ap (λ o. count_by (uses_data d) (blocks_of o)) (get_or-set_other a.held g h None None other),
         )
 
     pub leaves_own : ((e : ℕ) → e ≢ d → data_block_at b.store e ≡ data_block_at a.store e) → Leaves heads a b
     leaves_own same =
         leaves_data
         (λ e named. same e (λ one.
-        absurd (omega (arith, named, ap (λ i. count_by (is_naming i) (shelved_blocks a)) one, out_of_held a g m (is_naming d) is, shelved_named (without_held g a) d))))
-        (λ h e other named. same e (λ one. absurd (omega (arith, named, ap (λ i. count_by (is_naming i) (message_at a h)) one, beside h (is_head h other)))))
+        absurd (omega (arith, named, ap (λ i. count_by (uses_data i) (shelved_blocks a)) one, out_of_held a g m (uses_data d) is, shelved_named (without_held g a) d))))
+        (λ h e other named. same e (λ one. absurd (omega (arith, named, ap (λ i. count_by (uses_data i) (message_at a h)) one, beside h (is_head h other)))))
 
 -- ---- data blocks that are taken, and altered
 
@@ -151,7 +151,7 @@ first_other d e (x ∷ xs) none is same = grind (arith, common_steps, times_here
 -- another is taken
 take_other : (size d e : ℕ) (s : DataStore) → IsTaken e s → take_data size s ≡ Ok d → e ≢ d
 take_other size d e s taken =
-    chosen (λ r. r ≡ Ok d → e ≢ d) (fits_a_class size s.classes) (ok_or (slice_get (fitting size s) 0) NoData) (Err TooLarge) (first_other d e (fitting size s) (none_fitting e size s.classes s.free taken))
+    chosen (λ r. r ≡ Ok d → e ≢ d) (fits_a_class size s.classes) (ok_or (slice_get (fitting_blocks size s) 0) NoData) (Err TooLarge) (first_other d e (fitting_blocks size s) (none_fitting e size s.classes s.free taken))
     (λ large is. absurd (cc is))
 
 -- and it stays in none
@@ -178,12 +178,12 @@ filled_other : (d e at : ℕ) (kind : MsgType) (bytes : List ℕ) (s : DataStore
 filled_other d e at kind bytes s other = grind (arith, common_steps, get_or-set_other)
 
 -- copies leave every data block that was in use
-copies_leave : (bs : List Block) (s : DataStore) (e : ℕ) → IsTaken e s → IfOk (copies bs s) (λ g. data_block_at g.1 e ≡ data_block_at s e)
+copies_leave : (bs : List Block) (s : DataStore) (e : ℕ) → IsTaken e s → IfOk (blocks_copied bs s) (λ g. data_block_at g.1 e ≡ data_block_at s e)
 copies_leave [] s e taken = refl
 copies_leave (b ∷ bs) s e taken =
     gone_on (λ (g : List Block × DataStore). data_block_at g.1 e ≡ data_block_at s e) _ (take_data (capacity_of s b.data_number) s) (λ d is.
-    answered (λ (g : List Block × DataStore). data_block_at g.1 e ≡ data_block_at s e) (λ g. (record b { data_number = d } ∷ g.0, g.1)) (copies bs (copied_into b s d)) (λ g made.
-    subst (λ r. IfOk r (λ (g : List Block × DataStore). data_block_at g.1 e ≡ data_block_at (copied_into b s d) e)) made (copies_leave bs (copied_into b s d) e (taken_stays d e s taken))
+    answered (λ (g : List Block × DataStore). data_block_at g.1 e ≡ data_block_at s e) (λ g. (record b { data_number = d } ∷ g.0, g.1)) (blocks_copied bs (store_with_copy b s d)) (λ g made.
+    subst (λ r. IfOk r (λ (g : List Block × DataStore). data_block_at g.1 e ≡ data_block_at (store_with_copy b s d) e)) made (copies_leave bs (store_with_copy b s d) e (taken_stays d e s taken))
     ∙ filled_other d e b.offset (kind_of s b) (bytes_of_block s b) s (take_other (capacity_of s b.data_number) d e s taken is)))
 
 -- ---- blocks that are freed
@@ -195,7 +195,7 @@ record AreFreed (old new : Arena) : Type 0 where
   held : new.held ≡ old.held
   blocks : new.store.blocks ≡ old.store.blocks
 
-name_drops : (d : ℕ) (loose : List Block) (a : Arena) → AreFreed a (with_name_dropped d loose a)
+name_drops : (d : ℕ) (loose : List Block) (a : Arena) → AreFreed a (with_reference_dropped d loose a)
 name_drops d loose a = grind (arith, common_steps, chosen)
 
 block_frees : (b : Block) (loose : List Block) (a : Arena) → AreFreed a (with_block_freed b loose a)
@@ -237,7 +237,7 @@ module _ (a : Arena) where
   others_two b h g o p heads first second = grind (arith, common_steps, others_set, leaves_same)
 
   pub leaves_setband : (h band : ℕ) → Leaves (h ∷ []) a (setband h band a)
-  leaves_setband h band = leaves_one h (Some (banded band (message_at a h)))
+  leaves_setband h band = leaves_one h (Some (with_band band (message_at a h)))
 
   pub leaves_adjmsg : (h : ℕ) (n : ℤ) → Leaves (h ∷ []) a (value_after a (adjmsg h n a))
   leaves_adjmsg h n = grind (arith, common_steps, leaves_after, answered, leaves_one)
@@ -246,7 +246,7 @@ module _ (a : Arena) where
   leaves_linkb h g = grind (arith, common_steps, chosen, leaves_same, leaves_held, others_two, other_head, other_heads)
 
   -- the blocks after the first become a message
-  parts : (x : Arena) (h : ℕ) (m : Message) → Leaves (h ∷ head_given (option_map (token_of x) (head_in (drop 1 m)))) a (record a { held = divided (λ (b : Block). b.number) h m a.held })
+  parts : (x : Arena) (h : ℕ) (m : Message) → Leaves (h ∷ head_given (option_map (token_of x) (head_in (drop 1 m)))) a (record a { held = chain_divided (λ (b : Block). b.number) h m a.held })
   parts x h [] = leaves_same a (h ∷ [])
   parts x h (b ∷ []) = leaves_same a (h ∷ [])
   parts x h (b ∷ c ∷ bs) = grind (arith, common_steps, leaves_held, others_two, other_head, other_heads)
@@ -308,7 +308,7 @@ module _ (a : Arena) where
       of_blocks [] = leaves_same a (h ∷ [])
       of_blocks (b ∷ rest) = grind (arith, common_steps, leaves_freed, block_frees, rest_others, rest_shelves, rest_store)
 
-  pub leaves_spent : (t : TokenValue) → Leaves (t.head ∷ []) a (spent a t)
+  pub leaves_spent : (t : TokenValue) → Leaves (t.head ∷ []) a (with_token_spent a t)
   leaves_spent t =
       chosen (Leaves (t.head ∷ []) a) (has_token a t) (freemsg t.head a) a
       (leaves_freed (t.head ∷ []) (without_held t.head a) (freemsg t.head a) (blocks_free (message_at a t.head) (without_held t.head a)) (leaves_one t.head None))
@@ -321,7 +321,7 @@ none_at (x ∷ xs) zero = refl
 none_at (x ∷ xs) (suc i) = none_at xs i
 
 -- the message of a token that is spent
-pub spent_gone : (a : Arena) (t : TokenValue) → has_token a t ≡ true → held_at (spent a t) t.head ≡ None
+pub spent_gone : (a : Arena) (t : TokenValue) → has_token a t ≡ true → held_at (with_token_spent a t) t.head ≡ None
 spent_gone a t had =
     ap (λ x. held_at x t.head) (cond-true (has_token a t) (freemsg t.head a) a had)
     ∙ ap (λ (held : List (Option Message)). get_or held t.head None) (blocks_free (message_at a t.head) (without_held t.head a)).held ∙ none_at a.held t.head
@@ -329,17 +329,17 @@ spent_gone a t had =
 -- of two messages that are joined, the second is gone
 pub linkb_gone : (a : Arena) (h g : ℕ) → h ≢ g → held_at (linkb h g a) g ≡ None
 linkb_gone a h g other =
-    ap (λ (x : Arena). held_at x g) (cond-false (h == g) a (record a { held = joined h g a.held }) (ne_eqb h g other))
+    ap (λ (x : Arena). held_at x g) (cond-false (h == g) a (record a { held = chains_joined h g a.held }) (ne_eqb h g other))
     ∙ get_or-set_other (set a.held g None) h g _ None (λ same. other (sym same)) ∙ none_at a.held g
 
 -- ---- calls that take data blocks, or alter one
 
 module _ (a : Arena) (parted : IsParted a) where
-  -- what something names is in use
-  named_taken : (d : ℕ) → 0 < names_of a d → IsTaken d a.store
+  -- what something uses is in use
+  named_taken : (d : ℕ) → 0 < references_to a d → IsTaken d a.store
   named_taken d some c =
       parted.free_data c d
-      ∙ ap (λ b. one_if (nat_lt d (length a.store.blocks) && (class_of a.store d == c && b))) (ne_eqb (names_of a d) 0 (λ none. absurd (omega (arith, none, some))))
+      ∙ ap (λ b. one_if (nat_lt d (length a.store.blocks) && (class_of a.store d == c && b))) (ne_eqb (references_to a d) 0 (λ none. absurd (omega (arith, none, some))))
       ∙ neither (nat_lt d (length a.store.blocks)) (class_of a.store d == c)
     where
       neither : (b c : Bool) → one_if (b && (c && false)) ≡ 0
@@ -361,31 +361,31 @@ module _ (a : Arena) (parted : IsParted a) where
           ] refl
 
   -- a message of new blocks over a store in which all data blocks in use are the same
-  under_leaves : (bs : List Block) (s : DataStore) → ((d : ℕ) → 0 < names_of a d → data_block_at s d ≡ data_block_at a.store d) → Leaves ((held_under bs s a).0 ∷ []) a (held_under bs s a).1
+  under_leaves : (bs : List Block) (s : DataStore) → ((d : ℕ) → 0 < references_to a d → data_block_at s d ≡ data_block_at a.store d) → Leaves ((held_under bs s a).0 ∷ []) a (held_under bs s a).1
   under_leaves bs s same =
       leaves_named a (held_under bs s a).1 ((held_under bs s a).0 ∷ []) (others_one a (held_under bs s a).1 (held_under bs s a).0 _ refl refl) refl same
 
-  pub leaves_duplicated : (bs : List Block) → Making a (duplicated bs a)
+  pub leaves_duplicated : (bs : List Block) → Making a (message_duplicated bs a)
   leaves_duplicated bs = grind (arith, common_steps, chosen, under_leaves)
 
-  pub leaves_copied : (bs : List Block) → Making a (copied bs a)
+  pub leaves_copied : (bs : List Block) → Making a (message_copied bs a)
   leaves_copied bs =
-      chosen (Making a) (nat_lt (length a.free) (length bs)) (Err NoMblk) (answer_map (λ g. held_under g.0 g.1 a) (copies bs a.store)) tt (λ enough.
-      answered (λ (g : ℕ × Arena). Leaves (g.0 ∷ []) a g.1) (λ g. held_under g.0 g.1 a) (copies bs a.store) (λ g made. under_leaves g.0 g.1 (λ d some.
+      chosen (Making a) (nat_lt (length a.free) (length bs)) (Err NoMblk) (answer_map (λ g. held_under g.0 g.1 a) (blocks_copied bs a.store)) tt (λ enough.
+      answered (λ (g : ℕ × Arena). Leaves (g.0 ∷ []) a g.1) (λ g. held_under g.0 g.1 a) (blocks_copied bs a.store) (λ g made. under_leaves g.0 g.1 (λ d some.
       subst (λ r. IfOk r (λ (g : List Block × DataStore). data_block_at g.1 d ≡ data_block_at a.store d)) made (copies_leave bs a.store d (named_taken d some)))))
 
   pub leaves_pullupmsg : (h : ℕ) (n : ℤ) → Leaves (h ∷ []) a (value_after a (pullupmsg h n a))
   leaves_pullupmsg h n = leaves_after a (h ∷ []) (pullupmsg h n a) (asked (bytes_asked n (run_of a.store (message_at a h))) (message_at a h))
     where
-      taken : (n : ℕ) (b : Block) (bs : Message) (d : ℕ) → take_data n a.store ≡ Ok d → Leaves (h ∷ []) a (pulled h n (b ∷ bs) a d)
+      taken : (n : ℕ) (b : Block) (bs : Message) (d : ℕ) → take_data n a.store ≡ Ok d → Leaves (h ∷ []) a (with_front_pulled h n (b ∷ bs) a d)
       taken n b bs d is =
-          let out = used_up (n - b.len) bs in
+          let out = blocks_used_up (n - b.len) bs in
           let new : Arena = record a {
-            store = pulled_into n (b ∷ bs) a.store d;
-            held = set a.held h (Some (record b { data_number = d; offset = 0; len = n } ∷ left_over (n - b.len) bs));
+            store = store_with_front n (b ∷ bs) a.store d;
+            held = set a.held h (Some (record b { data_number = d; offset = 0; len = n } ∷ blocks_left_over (n - b.len) bs));
           } in
-          leaves_freed a (h ∷ []) (with_name_dropped b.data_number out new) (pulled h n (b ∷ bs) a d) (blocks_free out (with_name_dropped b.data_number out new))
-          (leaves_freed a (h ∷ []) new (with_name_dropped b.data_number out new) (name_drops b.data_number out new)
+          leaves_freed a (h ∷ []) (with_reference_dropped b.data_number out new) (with_front_pulled h n (b ∷ bs) a d) (blocks_free out (with_reference_dropped b.data_number out new))
+          (leaves_freed a (h ∷ []) new (with_reference_dropped b.data_number out new) (name_drops b.data_number out new)
           (leaves_named a new (h ∷ []) (others_one a new h _ refl refl) refl
           (λ e some. filled_other d e 0 (kind_of a.store b) (take n (bytes_of a.store (b ∷ bs))) a.store (take_other n d e a.store (named_taken e some) is))))
 
@@ -398,18 +398,18 @@ module _ (a : Arena) (parted : IsParted a) where
       asked (Some n) m = pulls n m
 
 -- a block is one of those that name its data block
-naming_at : (m : Message) (k : ℕ) (b : Block) → slice_get m k ≡ Some b → 0 < count_by (is_naming b.data_number) m
+naming_at : (m : Message) (k : ℕ) (b : Block) → slice_get m k ≡ Some b → 0 < count_by (uses_data b.data_number) m
 naming_at [] k b is = absurd (none-some b is)
 naming_at (c ∷ m) zero b is = grind (arith, common_steps, count_adds, one_if, eq-eqb, same_Some)
-naming_at (c ∷ m) (suc k) b is = omega (arith, naming_at m k b is, (count_adds (is_naming b.data_number)).both (c ∷ []) m)
+naming_at (c ∷ m) (suc k) b is = omega (arith, naming_at m k b is, (count_adds (uses_data b.data_number)).both (c ∷ []) m)
 
 module _ (a : Arena) (h : ℕ) (m : Message) (is : held_at a h ≡ Some m) where
-  -- a data block that no other block names is altered
-  altered : (k : ℕ) (b : Block) (new : Arena) → slice_get (message_at a h) k ≡ Some b → nat_lt 1 (names_of a b.data_number) ≡ false → LeavesOthers (h ∷ []) a new → new.shelves ≡ a.shelves
+  -- a data block that no other block uses is altered
+  altered : (k : ℕ) (b : Block) (new : Arena) → slice_get (message_at a h) k ≡ Some b → nat_lt 1 (references_to a b.data_number) ≡ false → LeavesOthers (h ∷ []) a new → new.shelves ≡ a.shelves
       → ((d : ℕ) → d ≢ b.data_number → data_block_at new.store d ≡ data_block_at a.store d) → Leaves (h ∷ []) a new
   altered k b new at lone others shelves same =
-      leaves_own a new (h ∷ []) others shelves h b.data_number (λ g other. other_head g h [] other) m is (most (names_of a b.data_number) lone)
-      (subst (λ x. 0 < count_by (is_naming b.data_number) x) (ap blocks_of is) (naming_at (message_at a h) k b at)) same
+      leaves_own a new (h ∷ []) others shelves h b.data_number (λ g other. other_head g h [] other) m is (most (references_to a b.data_number) lone)
+      (subst (λ x. 0 < count_by (uses_data b.data_number) x) (ap blocks_of is) (naming_at (message_at a h) k b at)) same
     where
       most : (n : ℕ) → nat_lt 1 n ≡ false → n ≤ 1
       most n lone = grind (arith, nat_tests)
@@ -428,7 +428,7 @@ module _ (a : Arena) (h : ℕ) (m : Message) (is : held_at a h ≡ Some m) where
       at None there = tt
       at (Some b) there =
           let full = nat_lt (capacity_of a.store b.data_number) (b.offset + b.len + length bytes) in
-          chosen (Leaving {X = Unit {0}} (h ∷ []) a) (nat_lt 1 (names_of a b.data_number)) (Err Shared) (if full then Err NoRoom else Ok (tt, written k bytes b)) tt (λ lone.
+          chosen (Leaving {X = Unit {0}} (h ∷ []) a) (nat_lt 1 (references_to a b.data_number)) (Err Shared) (if full then Err NoRoom else Ok (tt, written k bytes b)) tt (λ lone.
           chosen (Leaving {X = Unit {0}} (h ∷ []) a) full (Err NoRoom) (Ok (tt, written k bytes b)) tt (λ fits.
           altered k b (written k bytes b) there lone (others_one a (written k bytes b) h _ refl refl) refl
           (λ d other. get_or-set_other a.store.blocks b.data_number d _ no_data_block other)))
@@ -439,7 +439,7 @@ module _ (a : Arena) (h : ℕ) (m : Message) (is : held_at a h ≡ Some m) where
       at : (o : Option Block) → slice_get (message_at a h) k ≡ o → Leaving {X = Unit {0}} (h ∷ []) a (settype_of kind a o)
       at None there = tt
       at (Some b) there =
-          chosen (Leaving {X = Unit {0}} (h ∷ []) a) (nat_lt 1 (names_of a b.data_number)) (Err Shared) (Ok (tt, record a { store = with_kind b.data_number kind a.store })) tt (λ lone.
+          chosen (Leaving {X = Unit {0}} (h ∷ []) a) (nat_lt 1 (references_to a b.data_number)) (Err Shared) (Ok (tt, record a { store = with_kind b.data_number kind a.store })) tt (λ lone.
           altered k b (record a { store = with_kind b.data_number kind a.store }) there lone
           (record { id = refl; size = refl; held = λ g other. refl }) refl
           (λ d other. get_or-set_other a.store.blocks b.data_number d _ no_data_block other))

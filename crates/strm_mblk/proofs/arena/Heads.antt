@@ -8,9 +8,9 @@ use Rattle.strm_mblk.specs.declared.token.TokenValue.{TokenValue}
 use Rattle.strm_mblk.specs.Arena.{Arena, IsParted, has, held_at, message_at, token_of, without_held}
 use Rattle.strm_mblk.specs.Block.{Block, Message, head_of}
 use Rattle.strm_mblk.specs.BlockCalls.{freeb_from, head_in, rmvb, rmvb_of, unlinkb, with_rest}
-use Rattle.strm_mblk.specs.Freeing.{spent, with_block_freed, with_blocks_freed}
+use Rattle.strm_mblk.specs.Freeing.{with_token_spent, with_block_freed, with_blocks_freed}
 use Rattle.strm_mblk.specs.Given.{Given}
-use Rattle.strm_mblk.specs.Messages.{blocks_of, divided}
+use Rattle.strm_mblk.specs.Messages.{blocks_of, chain_divided}
 use Rattle.strm_mblk.proofs.lists.Additive.{count_adds, count_one}
 use Rattle.strm_mblk.proofs.arena.Counts.{blocks_in_adds, times-all}
 use Rattle.strm_mblk.proofs.arena.Tokens.{had_message, spent_had, token_had}
@@ -30,7 +30,7 @@ set_apart (z ∷ xs) (suc i) (suc j) x y other = ap (λ ys. z ∷ ys) (set_apart
 module _ (a : Arena) (parted : IsParted a) (h : ℕ) where
   -- what unlinkb makes of the message at h, and gives
   abbrev apart : Message → Option ℕ × Arena
-  apart m = (head_in (drop 1 m), record a { held = divided (λ (b : Block). b.number) h m a.held })
+  apart m = (head_in (drop 1 m), record a { held = chain_divided (λ (b : Block). b.number) h m a.held })
 
   -- a held message has a first block, which has its head
   pub has_head : (m : Message) → held_at a h ≡ Some m → (0 < length m) × (head_of m ≡ h)
@@ -92,11 +92,11 @@ module _ (a : Arena) (parted : IsParted a) (h : ℕ) where
 
   -- what is left once the first block, which was taken apart and has token t, is free
   pub record IsOneFreed (t : TokenValue) (m : Message) : Type 0 where
-    pub after : spent (apart m).1 t ≡ (freeb_from h a m).1
+    pub after : with_token_spent (apart m).1 t ≡ (freeb_from h a m).1
     pub rest : option_map (token_of (apart m).1) (apart m).0 ≡ option_map (token_of (freeb_from h a m).1) (freeb_from h a m).0
     pub had : IfSome (option_map (token_of (freeb_from h a m).1) (freeb_from h a m).0) (λ r. has (freeb_from h a m).1 r ≡ true)
 
-  spends : (x : Arena) (t : TokenValue) (m : Message) → t.head ≡ h → has x t ≡ true → held_at x h ≡ Some m → spent x t ≡ with_blocks_freed m (without_held h x)
+  spends : (x : Arena) (t : TokenValue) (m : Message) → t.head ≡ h → has x t ≡ true → held_at x h ≡ Some m → with_token_spent x t ≡ with_blocks_freed m (without_held h x)
   spends x t m head had is = grind (arith, common_steps, spent_had)
 
   one_freed : (m : Message) → held_at a h ≡ Some m → (t : TokenValue) → t.head ≡ h → has (apart m).1 t ≡ true → IsOneFreed t m
@@ -125,7 +125,7 @@ module _ (a : Arena) (parted : IsParted a) (h : ℕ) where
   out_first m = rmvb_of h a (take 0 m ++ drop (0 + 1) m) (slice_get m 0)
 
   abbrev OutIsApart : Message → Type 0
-  OutIsApart m = out_first m ≡ Ok ((h, head_in (drop 1 m)), record a { held = divided (λ (b : Block). b.number) h m a.held })
+  OutIsApart m = out_first m ≡ Ok ((h, head_in (drop 1 m)), record a { held = chain_divided (λ (b : Block). b.number) h m a.held })
 
   out_apart : (m : Message) → held_at a h ≡ Some m → OutIsApart m
   out_apart [] is = absurd (omega (arith, (has_head a parted h [] is).0))

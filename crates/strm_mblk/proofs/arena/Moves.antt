@@ -4,7 +4,7 @@ use Rattle.std.specs.Prelude.{count_by}
 use Rattle.std.specs.Option.{IfSome}
 use Rattle.std.proofs.lemmas.Bool.{eq-eqb}
 use Rattle.std.proofs.lemmas.List.{get_or_past, length-map}
-use Rattle.strm_mblk.specs.Arena.{Arena, held_at, shelved_blocks, held_blocks, blocks_in, names_of, without_held}
+use Rattle.strm_mblk.specs.Arena.{Arena, held_at, shelved_blocks, held_blocks, blocks_in, references_to, without_held}
 use Rattle.strm_mblk.specs.Block.{Block, Message, head_of, numbers_of}
 use Rattle.strm_mblk.specs.Messages.{blocks_of}
 use Rattle.strm_data.specs.DataStore.{times}
@@ -23,11 +23,11 @@ number_is n b = eqb b.number n
 abbrev pub blocks_numbered : Arena → ℕ → ℕ
 blocks_numbered a n = count_by (number_is n) (blocks_in a)
 
--- each number is in one place, each held message is at its head, and counts are names
+-- each number is in one place, each held message is at its head, and counts are references
 pub record IsCounted (a : Arena) (s : CountedStore) : Type 0 where
   pub numbers : (n : ℕ) → times n (a.free ++ numbers_of (blocks_in a)) ≡ (if ltb n (length a.held) then 1 else 0)
   pub heads : (h : ℕ) → IfSome (held_at a h) (λ m. (0 < length m) × (head_of m ≡ h))
-  pub counts : (d : ℕ) → count_of s d ≡ names_of a d
+  pub counts : (d : ℕ) → count_of s d ≡ references_to a d
 
 module _ (a : Arena) (s : CountedStore) (counted : IsCounted a s) where
   pub numbers_sum : (n : ℕ) → times n a.free + blocks_numbered a n ≡ (if ltb n (length a.held) then 1 else 0)

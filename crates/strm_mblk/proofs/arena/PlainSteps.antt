@@ -3,7 +3,7 @@ use Rattle.std.proofs.Common.{◌≡◌, ℕ, ◌-◌, ◌≤◌, List, [], ◌�
 use Rattle.std.proofs.lemmas.List.{take_all}
 use Rattle.strm_mblk.specs.Arena.{Arena}
 use Rattle.strm_mblk.specs.Block.{Block}
-use Rattle.strm_mblk.specs.Freeing.{with_block_freed, with_name_dropped}
+use Rattle.strm_mblk.specs.Freeing.{with_block_freed, with_reference_dropped}
 use Rattle.std.proofs.lemmas.Grind.{common_steps}
 
 -- a list is its first item and the others
@@ -13,5 +13,5 @@ first_and_rest (y ∷ xs) x some is = ap (λ z. z ∷ take (length (y ∷ xs) - 
 
 -- the name of a block is dropped once its number is free
 pub freed_by : (b : Block) (loose : List Block) (a next : Arena) (n d : ℕ) (old free : List ℕ) → n ≡ b.number → d ≡ b.data_number → old ≡ a.free → free ≡ n ∷ old → next ≡ record a { free = free }
-    → with_name_dropped d loose next ≡ with_block_freed b loose a
+    → with_reference_dropped d loose next ≡ with_block_freed b loose a
 freed_by b loose a next n d old free number data_number was first new = grind (arith, common_steps)

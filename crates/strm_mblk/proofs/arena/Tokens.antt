@@ -8,7 +8,7 @@ use Rattle.strm_mblk.specs.declared.token.TokenValue.{TokenValue}
 use Rattle.strm_mblk.specs.Arena.{Arena, has, held_at, message_at, token_of}
 use Rattle.strm_mblk.specs.Block.{Message}
 use Rattle.strm_mblk.specs.Messages.{blocks_of}
-use Rattle.strm_mblk.specs.Freeing.{freemsg, spent}
+use Rattle.strm_mblk.specs.Freeing.{freemsg, with_token_spent}
 use Rattle.std.proofs.lemmas.Grind.{common_steps}
 
 -- the token of a held message is had
@@ -34,7 +34,7 @@ pub had_again : (a b : Arena) (t : TokenValue) (m n : Message) → IsHad a t m �
 had_again a b t m n had held same id = grind (arith, common_steps, and_from, eq-eqb)
 
 -- a token that is had is spent on its message
-pub spent_had : (a : Arena) (t u : TokenValue) → u ≡ t → has a t ≡ true → freemsg u.head a ≡ spent a t
+pub spent_had : (a : Arena) (t u : TokenValue) → u ≡ t → has a t ≡ true → freemsg u.head a ≡ with_token_spent a t
 spent_had a t u same had = ap (λ (x : TokenValue). freemsg x.head a) same ∙ ap (λ (b : Bool). if b then freemsg t.head a else a) (sym had)
 
 -- as many blocks as it says are all of its message

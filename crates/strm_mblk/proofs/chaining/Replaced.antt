@@ -5,7 +5,7 @@ use Rattle.std.specs.List.{concat}
 use Rattle.std.proofs.lemmas.Bool.{false≢true}
 use Rattle.std.proofs.lemmas.List.{set-set}
 use Rattle.strm_links.specs.Rows.{Rows, first, has, holder, linked_nodes}
-use Rattle.strm_links.specs.Chains.{items_of, chain_in as held_in, joined, divided, taken_out}
+use Rattle.strm_links.specs.Chains.{items_of, chain_in as held_in, chains_joined, chain_divided, item_taken_out}
 use Rattle.strm_links.specs.StrandLists.{IsParted, StrandLists, strand_at, with_behind_freed, with_first_begun}
 use Rattle.strm_links.proofs.lists.OneList.{absent_both}
 use Rattle.strm_data.specs.DataStore.{times}
@@ -108,7 +108,7 @@ module _ (v : StrandLists) (heads : Rows) (laid : IsChained v heads) (w : NodeLi
         )
 
     -- a message is joined by another
-    pub joins : (h g : ℕ) → holder h heads ≡ None → holder g heads ≡ None → new ≡ record v { chains = joined h g v.chains } → IsNow (record w { held = joined h g w.held })
+    pub joins : (h g : ℕ) → holder h heads ≡ None → holder g heads ≡ None → new ≡ record v { chains = chains_joined h g v.chains } → IsNow (record w { held = chains_joined h g w.held })
     joins h g off off_g now =
         let both = strand_at v h ++ strand_at v g in (
           two_is new v.free g None off_g h (Some both) off now
@@ -150,17 +150,17 @@ module _ (v : StrandLists) (heads : Rows) (laid : IsChained v heads) (w : NodeLi
     unchanged same = (ap (λ u. nodes_of u heads) same ∙ is, subst (λ u. IsChained u heads) (sym same) laid)
 
     -- the others are a message
-    pub divides : (h : ℕ) → IsSome (held_in v.chains h) → holder h heads ≡ None → new ≡ record v { chains = divided (λ n. n) h (strand_at v h) v.chains }
-        → IsNow (record w { held = divided (λ n. n) h (nodes_at w h) w.held })
-    divides h some off now = subst (λ ns. IsNow (record w { held = divided (λ n. n) h ns w.held })) (sym (nodes_are h off)) (by_case (strand_at v h) (there (held_in v.chains h) some) now)
+    pub divides : (h : ℕ) → IsSome (held_in v.chains h) → holder h heads ≡ None → new ≡ record v { chains = chain_divided (λ n. n) h (strand_at v h) v.chains }
+        → IsNow (record w { held = chain_divided (λ n. n) h (nodes_at w h) w.held })
+    divides h some off now = subst (λ ns. IsNow (record w { held = chain_divided (λ n. n) h ns w.held })) (sym (nodes_are h off)) (by_case (strand_at v h) (there (held_in v.chains h) some) now)
       where
-        by_case : (ns : List ℕ) → held_in v.chains h ≡ Some ns → new ≡ record v { chains = divided (λ n. n) h ns v.chains } → IsNow (record w { held = divided (λ n. n) h ns w.held })
+        by_case : (ns : List ℕ) → held_in v.chains h ≡ Some ns → new ≡ record v { chains = chain_divided (λ n. n) h ns v.chains } → IsNow (record w { held = chain_divided (λ n. n) h ns w.held })
         by_case [] held same = unchanged same
         by_case (x ∷ []) held same = unchanged same
         by_case (x ∷ y ∷ rest) held same = set_off h (x ∷ y ∷ rest) held off 1 y refl (omega arith) (x ∷ []) (y ∷ rest) same
 
     -- a block after the first becomes a message
     pub takes_out : (h k n : ℕ) → held_in v.chains h ≡ Some (strand_at v h) → holder h heads ≡ None → slice_get (strand_at v h) k ≡ Some n → 0 < k
-        → new ≡ record v { chains = taken_out (λ n. n) h k (strand_at v h) v.chains }
+        → new ≡ record v { chains = item_taken_out (λ n. n) h k (strand_at v h) v.chains }
         → IsNow (record w { held = set (set w.held h (Some (take k (nodes_at w h) ++ drop (k + 1) (nodes_at w h)))) n (Some (n ∷ [])) })
     takes_out h k n held off at behind now = grind (arith, common_steps, nodes_are, set_off)

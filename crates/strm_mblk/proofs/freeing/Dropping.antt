@@ -5,13 +5,13 @@ use Rattle.std.specs.Prelude.{count_by, drop, reverse, slice_get, option_map}
 use Rattle.std.proofs.lemmas.Bool.{cases_lt, eq-eqb, ne_eqb}
 use Rattle.std.proofs.lemmas.Bool.Decides.{eqb_tells}
 use Rattle.std.proofs.lemmas.List.{append_assoc, get_or_past, reverse-append}
-use Rattle.strm_data.specs.CountedStore.{CountedStore, count_of, without_name}
+use Rattle.strm_data.specs.CountedStore.{CountedStore, count_of, without_reference}
 use Rattle.strm_data.specs.DataStore.{DataStore, times, with_data_freed}
 use Rattle.strm_links.proofs.lists.Counting.{one_if, times-cons}
 use Rattle.strm_mblk.specs.declared.blocks.Fields.{Fields}
 use Rattle.strm_mblk.specs.Arena.{Arena}
-use Rattle.strm_mblk.specs.Block.{Message, is_naming}
-use Rattle.strm_mblk.specs.BlocksLayout.{block_at, fields_at, message_of, named_by, with_names_dropped}
+use Rattle.strm_mblk.specs.Block.{Message, uses_data}
+use Rattle.strm_mblk.specs.BlocksLayout.{block_at, fields_at, message_of, data_used_by, with_references_dropped}
 use Rattle.strm_mblk.specs.Freeing.{with_block_freed, with_blocks_freed}
 use Rattle.strm_mblk.specs.Messages.{blocks_held, blocks_on}
 use Rattle.strm_mblk.proofs.lists.Additive.{count_by-map}
@@ -19,8 +19,8 @@ use Rattle.strm_mblk.proofs.lists.ListParts.{drop_from}
 use Rattle.strm_mblk.proofs.layout.Rooms.{HasRooms, count_of-set, rooms-both}
 use Rattle.std.proofs.lemmas.Grind.{common_steps}
 
--- the data block that a block of a list names
-pub named-get : (fields : List Fields) (ns : List ℕ) (i n : ℕ) → slice_get ns i ≡ Some n → slice_get (named_by fields ns) i ≡ Some (fields_at fields n).data_number
+-- the data block that a block of a list uses
+pub named-get : (fields : List Fields) (ns : List ℕ) (i n : ℕ) → slice_get ns i ≡ Some n → slice_get (data_used_by fields ns) i ≡ Some (fields_at fields n).data_number
 named-get fields ns i n is = slice_get-map (λ k. (fields_at fields k).data_number) ns i ∙ ap (option_map (λ k. (fields_at fields k).data_number)) is
 
 -- a data block that has a name has a count
@@ -28,7 +28,7 @@ pub counted_there : (s : CountedStore) (d : ℕ) → 0 < count_of s d → d < le
 counted_there s d used = elim (cases_lt d (length s.counts)) [ inl there ↦ there | inr past ↦ absurd (omega (arith, used, get_or_past s.counts d 0 past)) ]
 
 -- the counts once d has a name less
-pub named_less : (s : CountedStore) (d : ℕ) → 0 < count_of s d → (k : ℕ) → count_of (without_name d s) k + one_if (eqb d k) ≡ count_of s k
+pub named_less : (s : CountedStore) (d : ℕ) → 0 < count_of s d → (k : ℕ) → count_of (without_reference d s) k + one_if (eqb d k) ≡ count_of s k
 named_less s d used k = grind (arith, common_steps, one_if, count_of-set, counted_there, eqb_tells)
 
 rooms-if : (s : DataStore) (d : ℕ) (last : Bool) → HasRooms s (if last then with_data_freed d s else s)
@@ -36,19 +36,19 @@ rooms-if s d true = record { many = refl; room = λ k. refl }
 rooms-if s d false = record { many = refl; room = λ k. refl }
 
 -- data blocks keep their capacity when one loses a name
-pub rooms-less : (s : CountedStore) (d : ℕ) → HasRooms s.store (without_name d s).store
+pub rooms-less : (s : CountedStore) (d : ℕ) → HasRooms s.store (without_reference d s).store
 rooms-less s d = rooms-if s.store d (count_of s d == 1)
 
 -- and when several do
-pub rooms-dropped : (ds : List ℕ) (s : CountedStore) → HasRooms s.store (with_names_dropped ds s).store
+pub rooms-dropped : (ds : List ℕ) (s : CountedStore) → HasRooms s.store (with_references_dropped ds s).store
 rooms-dropped [] s = record { many = refl; room = λ k. refl }
-rooms-dropped (d ∷ ds) s = rooms-both (rooms-less s d) (rooms-dropped ds (without_name d s))
+rooms-dropped (d ∷ ds) s = rooms-both (rooms-less s d) (rooms-dropped ds (without_reference d s))
 
 -- ---- one step of the loop
 
--- what the loop keeps while it drops the names of `ds`, from place i on
+-- what the loop keeps while it drops the references of `ds`, from place i on
 pub record IsDropping (ds : List ℕ) (i : ℕ) (old s : CountedStore) : Type 0 where
-  pub after : with_names_dropped (drop i ds) s ≡ with_names_dropped ds old
+  pub after : with_references_dropped (drop i ds) s ≡ with_references_dropped ds old
   pub named : (d : ℕ) → times d (drop i ds) ≤ count_of s d
   pub many : length s.store.blocks ≡ length old.store.blocks
 
@@ -61,9 +61,9 @@ module _ (ds : List ℕ) (i : ℕ) (old s : CountedStore) (dropping : IsDropping
   pub next_used : 0 < count_of s d
   next_used = omega (arith, dropping.named d, ap (times d) (drop_from ds i d is), times-cons d d (drop (i + 1) ds), ap one_if (eq-eqb d d refl))
 
-  pub next_dropping : IsDropping ds (i + 1) old (without_name d s)
+  pub next_dropping : IsDropping ds (i + 1) old (without_reference d s)
   next_dropping = record {
-    after = ap (λ xs. with_names_dropped xs s) (sym (drop_from ds i d is)) ∙ dropping.after;
+    after = ap (λ xs. with_references_dropped xs s) (sym (drop_from ds i d is)) ∙ dropping.after;
     named = λ k. omega (arith, dropping.named k, ap (times k) (drop_from ds i d is), times-cons k d (drop (i + 1) ds), named_less s d next_used k);
     many = (rooms-less s d).many ∙ dropping.many;
   }
@@ -71,7 +71,7 @@ module _ (ds : List ℕ) (i : ℕ) (old s : CountedStore) (dropping : IsDropping
 -- ---- all blocks of a message
 
 -- how many blocks name a data block
-pub naming-named : (fields : List Fields) (d : ℕ) (ns : List ℕ) → count_by (is_naming d) (message_of fields ns) ≡ times d (named_by fields ns)
+pub naming-named : (fields : List Fields) (d : ℕ) (ns : List ℕ) → count_by (uses_data d) (message_of fields ns) ≡ times d (data_used_by fields ns)
 naming-named fields d ns = grind (arith, common_steps, count_by-map)
 
 -- none is left after one of two where one was all
@@ -88,33 +88,33 @@ module _ (id : ℕ) (fields : List Fields) (held : List (Option Message)) (shelv
 
   -- how many blocks of messages name a data block
   abbrev names : ℕ → ℕ
-  names d = count_by (is_naming d) (blocks_on shelves ++ blocks_held held)
+  names d = count_by (uses_data d) (blocks_on shelves ++ blocks_held held)
 
-  -- counts are the names that messages have, and those of blocks that are loose
+  -- counts are the references that messages have, and those of blocks that are loose
   abbrev AreCounted : CountedStore → List ℕ → Type 0
-  AreCounted s ns = (d : ℕ) → count_of s d ≡ names d + times d (named_by fields ns)
+  AreCounted s ns = (d : ℕ) → count_of s d ≡ names d + times d (data_used_by fields ns)
 
   first_used : (s : CountedStore) (n : ℕ) (ns : List ℕ) → AreCounted s (n ∷ ns) → 0 < count_of s (fields_at fields n).data_number
   first_used s n ns counts = grind (arith, common_steps, times-cons, one_if, eq-eqb)
 
-  counted_less : (s : CountedStore) (n : ℕ) (ns : List ℕ) → AreCounted s (n ∷ ns) → AreCounted (without_name (fields_at fields n).data_number s) ns
+  counted_less : (s : CountedStore) (n : ℕ) (ns : List ℕ) → AreCounted s (n ∷ ns) → AreCounted (without_reference (fields_at fields n).data_number s) ns
   counted_less s n ns counts k = grind (arith, common_steps, times-cons, named_less, first_used)
 
-  -- counts are names again
-  pub counts_left : (ns : List ℕ) (s : CountedStore) → AreCounted s ns → (d : ℕ) → count_of (with_names_dropped (named_by fields ns) s) d ≡ names d
+  -- counts are references again
+  pub counts_left : (ns : List ℕ) (s : CountedStore) → AreCounted s ns → (d : ℕ) → count_of (with_references_dropped (data_used_by fields ns) s) d ≡ names d
   counts_left [] s counts d = omega (arith, counts d)
-  counts_left (n ∷ ns) s counts d = counts_left ns (without_name (fields_at fields n).data_number s) (counted_less s n ns counts) d
+  counts_left (n ∷ ns) s counts d = counts_left ns (without_reference (fields_at fields n).data_number s) (counted_less s n ns counts) d
 
   one_freed : (n : ℕ) (ns : List ℕ) (s : CountedStore) (free : List ℕ) → AreCounted s (n ∷ ns)
-      → with_block_freed (block_at fields n) (message_of fields ns) (over s free) ≡ over (without_name (fields_at fields n).data_number s) (n ∷ free)
+      → with_block_freed (block_at fields n) (message_of fields ns) (over s free) ≡ over (without_reference (fields_at fields n).data_number s) (n ∷ free)
   one_freed n ns s free counts = grind (arith, common_steps, times-cons, one_if, eq-eqb, naming-named, last_one)
 
-  -- blocks that are freed first to last leave what is left once their names are dropped
+  -- blocks that are freed first to last leave what is left once their references are dropped
   pub all_freed : (ns : List ℕ) (s : CountedStore) (free : List ℕ) → AreCounted s ns
-      → with_blocks_freed (message_of fields ns) (over s free) ≡ over (with_names_dropped (named_by fields ns) s) (reverse ns ++ free)
+      → with_blocks_freed (message_of fields ns) (over s free) ≡ over (with_references_dropped (data_used_by fields ns) s) (reverse ns ++ free)
   all_freed [] s free counts = refl
   all_freed (n ∷ ns) s free counts =
       let d = (fields_at fields n).data_number in
       ap (with_blocks_freed (message_of fields ns)) (one_freed n ns s free counts)
-      ∙ all_freed ns (without_name d s) (n ∷ free) (counted_less s n ns counts)
-      ∙ ap (over (with_names_dropped (named_by fields (n ∷ ns)) s)) (reverse_onto n ns free)
+      ∙ all_freed ns (without_reference d s) (n ∷ free) (counted_less s n ns counts)
+      ∙ ap (over (with_references_dropped (data_used_by fields (n ∷ ns)) s)) (reverse_onto n ns free)

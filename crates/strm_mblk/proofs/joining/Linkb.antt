@@ -8,7 +8,7 @@ use Rattle.strm_mblk.specs.declared.blocks.Fields.{Fields}
 use Rattle.strm_mblk.specs.Arena.{Arena, shelved_blocks}
 use Rattle.strm_mblk.specs.BlockCalls.{linkb}
 use Rattle.strm_mblk.specs.BlocksLayout.{IsFilled, arena_of, message_of}
-use Rattle.strm_mblk.specs.Messages.{joined}
+use Rattle.strm_mblk.specs.Messages.{chains_joined}
 use Rattle.strm_mblk.specs.NodeLists.{IsNodesParted, NodeLists}
 use Rattle.strm_mblk.proofs.joining.Regrouped.{moved_filled}
 use Rattle.strm_mblk.proofs.layout.Shown.{message_at-seen}
@@ -21,14 +21,14 @@ pub record IsJoined (a : Arena) (s : CountedStore) (fields : List Fields) (w : N
   pub after : arena_of id s.store fields w ≡ linkb h g a
 
 module _ (id : ℕ) (s : CountedStore) (fields : List Fields) (v w : NodeLists) (filled : IsFilled s fields v (arena_of id s.store fields v)) (h g : ℕ) (other : h ≢ g)
-    (w_is : w ≡ record v { held = joined h g v.held }) (parted : IsNodesParted w) where
+    (w_is : w ≡ record v { held = chains_joined h g v.held }) (parted : IsNodesParted w) where
   abbrev old : Arena
   old = arena_of id s.store fields v
 
-  joined-seen : map (option_map (message_of fields)) (joined h g v.held) ≡ joined h g old.held
+  joined-seen : map (option_map (message_of fields)) (chains_joined h g v.held) ≡ chains_joined h g old.held
   joined-seen = grind (arith, common_steps, map-set, map-append, message_at-seen)
 
-  shows : arena_of id s.store fields w ≡ record old { held = joined h g old.held }
+  shows : arena_of id s.store fields w ≡ record old { held = chains_joined h g old.held }
   shows = grind (arith, common_steps, joined-seen)
 
   many : length w.held ≡ length v.held
@@ -38,5 +38,5 @@ module _ (id : ℕ) (s : CountedStore) (fields : List Fields) (v w : NodeLists) 
   joins = record {
     filled = moved_filled id s fields v w filled (ap (λ (l : NodeLists). l.free) w_is) many parted;
     shelved = ap shelved_blocks shows;
-    after = shows ∙ ap (λ (b : Bool). if b then old else record old { held = joined h g old.held }) (sym (ne_eqb h g other));
+    after = shows ∙ ap (λ (b : Bool). if b then old else record old { held = chains_joined h g old.held }) (sym (ne_eqb h g other));
   }

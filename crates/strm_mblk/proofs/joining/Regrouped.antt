@@ -5,8 +5,8 @@ use Rattle.strm_data.specs.CountedStore.{CountedStore}
 use Rattle.strm_data.specs.DataStore.{times}
 use Rattle.strm_links.proofs.lists.Counting.{times-append}
 use Rattle.strm_mblk.specs.declared.blocks.Fields.{Fields}
-use Rattle.strm_mblk.specs.Arena.{names_of}
-use Rattle.strm_mblk.specs.Block.{is_naming}
+use Rattle.strm_mblk.specs.Arena.{references_to}
+use Rattle.strm_mblk.specs.Block.{uses_data}
 use Rattle.strm_mblk.specs.BlocksLayout.{IsFilled, arena_of, block_at}
 use Rattle.strm_mblk.specs.NodeLists.{IsNodesParted, NodeLists}
 use Rattle.strm_mblk.proofs.lists.Additive.{count_by-map}
@@ -30,11 +30,11 @@ module _ (id : ℕ) (s : CountedStore) (fields : List Fields) (v w : NodeLists) 
         ap (times n) free,
       )
 
-  same_names : (d : ℕ) → names_of (arena_of id s.store fields w) d ≡ names_of (arena_of id s.store fields v) d
+  same_names : (d : ℕ) → references_to (arena_of id s.store fields w) d ≡ references_to (arena_of id s.store fields v) d
   same_names d =
-      ap (count_by (is_naming d)) (blocks_in-seen id s.store fields w) ∙ count_by-map (is_naming d) (block_at fields) (nodes_in w)
-      ∙ count_same (λ n. is_naming d (block_at fields n)) (nodes_in w) (nodes_in v) same_nodes
-      ∙ sym (count_by-map (is_naming d) (block_at fields) (nodes_in v)) ∙ ap (count_by (is_naming d)) (sym (blocks_in-seen id s.store fields v))
+      ap (count_by (uses_data d)) (blocks_in-seen id s.store fields w) ∙ count_by-map (uses_data d) (block_at fields) (nodes_in w)
+      ∙ count_same (λ n. uses_data d (block_at fields n)) (nodes_in w) (nodes_in v) same_nodes
+      ∙ sym (count_by-map (uses_data d) (block_at fields) (nodes_in v)) ∙ ap (count_by (uses_data d)) (sym (blocks_in-seen id s.store fields v))
 
   -- so nothing else does
   pub moved_filled : IsFilled s fields w (arena_of id s.store fields w)

@@ -11,7 +11,7 @@ use Rattle.strm_mblk.specs.Arena.{Arena, held_at, message_at, shelved_blocks, to
 use Rattle.strm_mblk.specs.Block.{Block}
 use Rattle.strm_mblk.specs.BlockCalls.{head_in, unlinkb}
 use Rattle.strm_mblk.specs.BlocksLayout.{IsFilled, arena_of, block_at, message_of}
-use Rattle.strm_mblk.specs.Messages.{blocks_of, divided, held_in}
+use Rattle.strm_mblk.specs.Messages.{blocks_of, chain_divided, held_in}
 use Rattle.strm_mblk.specs.NodeLists.{IsNodesParted, NodeLists, nodes_at}
 use Rattle.strm_mblk.proofs.chaining.Standing.{begins_with, block_room, held_room, not_begun, not_head}
 use Rattle.strm_mblk.proofs.joining.Regrouped.{moved_filled}
@@ -28,7 +28,7 @@ two_rest (x ∷ y ∷ ns) h g begins at = λ i. same_Some x h begins i ∷ same_
 pub record IsDivided (a : Arena) (s : CountedStore) (fields : List Fields) (w : NodeLists) (id h g : ℕ) : Type 0 where
   pub filled : IsFilled s fields w (arena_of id s.store fields w)
   pub shelved : shelved_blocks (arena_of id s.store fields w) ≡ shelved_blocks a
-  pub after : arena_of id s.store fields w ≡ record a { held = divided (λ (b : Block). b.number) h (message_at a h) a.held }
+  pub after : arena_of id s.store fields w ≡ record a { held = chain_divided (λ (b : Block). b.number) h (message_at a h) a.held }
   pub head : held_at (arena_of id s.store fields w) h ≡ Some (block_at fields h ∷ [])
   pub rest : held_at (arena_of id s.store fields w) g ≡ Some (message_at (arena_of id s.store fields w) g)
   pub absent : held_at a g ≡ None
@@ -36,7 +36,7 @@ pub record IsDivided (a : Arena) (s : CountedStore) (fields : List Fields) (w : 
 
 module _ (id : ℕ) (s : CountedStore) (fields : List Fields) (v w : NodeLists) (filled : IsFilled s fields v (arena_of id s.store fields v)) (h g : ℕ)
     (held : held_in v.held h ≡ Some (nodes_at v h)) (at : slice_get (nodes_at v h) 1 ≡ Some g)
-    (w_is : w ≡ record v { held = divided (λ n. n) h (nodes_at v h) v.held }) (parted : IsNodesParted w) where
+    (w_is : w ≡ record v { held = chain_divided (λ n. n) h (nodes_at v h) v.held }) (parted : IsNodesParted w) where
   abbrev old : Arena
   old = arena_of id s.store fields v
 
@@ -50,7 +50,7 @@ module _ (id : ℕ) (s : CountedStore) (fields : List Fields) (v w : NodeLists) 
   other = not_head v filled.parted h 1 g (nodes_at v h) held at 0 refl
 
   lists_are : w ≡ record v { held = set (set v.held h (Some (h ∷ []))) g (Some (g ∷ others)) }
-  lists_are = w_is ∙ ap (λ ns. record v { held = divided (λ n. n) h ns v.held }) nodes_are
+  lists_are = w_is ∙ ap (λ ns. record v { held = chain_divided (λ n. n) h ns v.held }) nodes_are
 
   held_seen : map (option_map (message_of fields)) (set (set v.held h (Some (h ∷ []))) g (Some (g ∷ others)))
       ≡ set (set old.held h (Some (block_at fields h ∷ []))) g (Some (block_at fields g ∷ message_of fields others))
@@ -77,7 +77,7 @@ module _ (id : ℕ) (s : CountedStore) (fields : List Fields) (v w : NodeLists) 
     shelved = ap shelved_blocks shows;
     after =
         shows
-        ∙ ap (λ m. record old { held = divided (λ (b : Block). b.number) h m old.held })
+        ∙ ap (λ m. record old { held = chain_divided (λ (b : Block). b.number) h m old.held })
         (sym (message_at-seen id s.store fields v h ∙ ap (message_of fields) nodes_are));
     head =
         ap (λ a. held_at a h) shows

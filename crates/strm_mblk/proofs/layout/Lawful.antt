@@ -12,7 +12,7 @@ use Rattle.strm_data.specs.CountedStore.{CountedStore, IsKept, count_of}
 use Rattle.strm_data.specs.DataStore.{class_of, times}
 use Rattle.strm_mblk.specs.declared.blocks.Blocks.TheInside.{Inside}
 use Rattle.strm_mblk.specs.declared.blocks.Fields.{Fields}
-use Rattle.strm_mblk.specs.Arena.{Arena, IsParted, IsWithin, blocks_in, counted_in, held_blocks, names_of, shelved_blocks}
+use Rattle.strm_mblk.specs.Arena.{Arena, IsParted, IsWithin, blocks_in, counted_in, held_blocks, references_to, shelved_blocks}
 use Rattle.strm_mblk.specs.Block.{Block, head_of, size_of}
 use Rattle.strm_mblk.specs.BlocksLayout.{IsFilled, IsSound, arena_in, arena_of, block_at, block_of, message_of, no_fields, fields_at}
 use Rattle.strm_mblk.specs.Messages.{held_in, shelf_in}
@@ -33,7 +33,7 @@ head-seen fields (Some []) h is = grind (arith, common_steps)
 head-seen fields (Some (n ∷ ns)) h is = (omega arith, same_Some n h is)
 
 module _ (id : ℕ) (s : CountedStore) (fields : List Fields) (v : NodeLists) (filled : IsFilled s fields v (arena_of id s.store fields v)) where
-  -- each number is in one place, each held message is at its head, and counts are names
+  -- each number is in one place, each held message is at its head, and counts are references
   pub counted : IsCounted (arena_of id s.store fields v) s
   counted = record {
     numbers = λ n.
@@ -43,7 +43,7 @@ module _ (id : ℕ) (s : CountedStore) (fields : List Fields) (v : NodeLists) (f
     counts = filled.counts;
   }
 
-  -- a data block that something names is there
+  -- a data block that something uses is there
   named_there : (d : ℕ) → 0 < count_of s d → d < length s.store.blocks
   named_there d some = grind (arith, common_steps, get_or_past, counted)
 
@@ -56,7 +56,7 @@ module _ (id : ℕ) (s : CountedStore) (fields : List Fields) (v : NodeLists) (f
         (All-map (λ m. 0 < length m) (message_of fields) (shelf_in v.shelves q) (λ k d within. omega (arith, filled.parted.shelved q k d within, length-map (get_or (shelf_in v.shelves q) k d) (block_at fields))));
     free_data = λ c d. filled.kept.listed c d ∙ ap (λ n. if nat_lt d (length s.store.blocks) && (class_of s.store d == c && n == 0) then 1 else 0) (filled.counts d);
     named = λ d some. named_there d (omega (arith, some, filled.counts d));
-    few_names = λ d. omega (arith, filled.counts d, filled.kept.few_names d);
+    few_references = λ d. omega (arith, filled.counts d, filled.kept.few_references d);
   }
 
   pub law_whole : length (arena_of id s.store fields v).free + length (shelved_blocks (arena_of id s.store fields v)) + length (held_blocks (arena_of id s.store fields v)) ≡ length (arena_of id s.store fields v).held
@@ -66,16 +66,16 @@ module _ (id : ℕ) (s : CountedStore) (fields : List Fields) (v : NodeLists) (f
   pub all_there : length v.free + length (shelved_blocks (arena_of id s.store fields v)) + length (held_blocks (arena_of id s.store fields v)) ≡ length fields
   all_there = omega (arith, law_whole, length-map v.held (option_map (message_of fields)), filled.listed)
 
-  -- the stored counts are the names
+  -- the stored counts are the references
   pub counted_is : counted_in (arena_of id s.store fields v) ≡ s
   counted_is =
       let a = arena_of id s.store fields v in
-      let many = length-map-range_with_len (names_of a) 0 (length s.store.blocks) in
+      let many = length-map-range_with_len (references_to a) 0 (length s.store.blocks) in
       λ i. record {
         store = s.store;
         counts =
-            ext_get_or 0 (map (names_of a) (range_with_len 0 (length s.store.blocks))) s.counts (many ∙ sym filled.kept.counted)
-            (λ d within. get_or-map-range_with_len (names_of a) 0 (length s.store.blocks) d d 0 (omega (arith, within, many)) (omega arith) ∙ sym (filled.counts d)) i;
+            ext_get_or 0 (map (references_to a) (range_with_len 0 (length s.store.blocks))) s.counts (many ∙ sym filled.kept.counted)
+            (λ d within. get_or-map-range_with_len (references_to a) 0 (length s.store.blocks) d d 0 (omega (arith, within, many)) (omega arith) ∙ sym (filled.counts d)) i;
       }
 
   pub law_kept : IsKept (counted_in (arena_of id s.store fields v))

@@ -7,8 +7,8 @@ use Rattle.std.proofs.lemmas.Option.{none-some, slice_get-map}
 use Rattle.strm_data.specs.CountedStore.{CountedStore, count_of}
 use Rattle.strm_mblk.specs.declared.blocks.Fields.{Fields}
 use Rattle.strm_mblk.specs.declared.token.TokenValue.{TokenValue}
-use Rattle.strm_mblk.specs.Arena.{Arena, has, held_at, message_at, names_of}
-use Rattle.strm_mblk.specs.BlocksLayout.{IsFilled, IsPlaced, arena_of, block_at, fields_at, message_of, named_by}
+use Rattle.strm_mblk.specs.Arena.{Arena, has, held_at, message_at, references_to}
+use Rattle.strm_mblk.specs.BlocksLayout.{IsFilled, IsPlaced, arena_of, block_at, fields_at, message_of, data_used_by}
 use Rattle.strm_mblk.specs.Messages.{blocks_of, held_in}
 use Rattle.strm_mblk.specs.NodeLists.{IsReached, NodeLists, nodes_at}
 use Rattle.strm_mblk.proofs.layout.Rewriting.{held_nodes, node_room}
@@ -29,9 +29,9 @@ pub token_held : (id : ℕ) (s : CountedStore) (fields : List Fields) (v : NodeL
     → held_in v.held u.head ≡ Some (nodes_at v u.head)
 token_held id s fields v a is t u same had = grind (arith, common_steps, token_nodes)
 
--- and its names are those of the number of blocks that the token tells
+-- and the data blocks that it uses are those of as many blocks as the token says
 pub token_named : (id : ℕ) (s : CountedStore) (fields : List Fields) (v : NodeLists) (a : Arena) → arena_of id s.store fields v ≡ a → (t u : TokenValue) → u ≡ t → has a t ≡ true
-    → take u.blocks (named_by fields (nodes_at v u.head)) ≡ named_by fields (nodes_at v u.head)
+    → take u.blocks (data_used_by fields (nodes_at v u.head)) ≡ data_used_by fields (nodes_at v u.head)
 token_named id s fields v a is t u same had = grind (arith, common_steps, token_nodes, length-map, take-length)
 
 -- a held message has a place in range
@@ -46,7 +46,7 @@ pub record IsAt (s : CountedStore) (fields : List Fields) (v : NodeLists) (a : A
   pub block : slice_get (message_at a h) k ≡ Some (block_at fields n)
   pub there : n < length fields
   pub placed : IsPlaced s.store (fields_at fields n)
-  pub named : count_of s (fields_at fields n).data_number ≡ names_of a (fields_at fields n).data_number
+  pub named : count_of s (fields_at fields n).data_number ≡ references_to a (fields_at fields n).data_number
 
 module _ (id : ℕ) (s : CountedStore) (fields : List Fields) (v : NodeLists) (filled : IsFilled s fields v (arena_of id s.store fields v)) (a : Arena) (is : arena_of id s.store fields v ≡ a) (h k : ℕ) where
   -- the block at place k, if the message has more than k
@@ -71,7 +71,7 @@ module _ (id : ℕ) (s : CountedStore) (fields : List Fields) (v : NodeLists) (f
         block = block-get ∙ ap (option_map (block_at fields)) found;
         there = there;
         placed = filled.placed n there;
-        named = filled.counts (fields_at fields n).data_number ∙ ap (λ x. names_of x (fields_at fields n).data_number) is;
+        named = filled.counts (fields_at fields n).data_number ∙ ap (λ x. references_to x (fields_at fields n).data_number) is;
       }
 
   -- a walk that has come to a block of it

@@ -8,8 +8,8 @@ use Rattle.strm_data.specs.DataStore.{DataStore, times}
 use Rattle.strm_links.proofs.lists.Counting.{times_here, times_other}
 use Rattle.strm_mblk.specs.declared.blocks.Fields.{Fields}
 use Rattle.strm_mblk.specs.Arena.{held_at}
-use Rattle.strm_mblk.specs.Block.{Message, is_naming}
-use Rattle.strm_mblk.specs.BlocksLayout.{IsFilled, IsPlaced, arena_of, block_at, fields_at, message_of, named_by, no_fields}
+use Rattle.strm_mblk.specs.Block.{Message, uses_data}
+use Rattle.strm_mblk.specs.BlocksLayout.{IsFilled, IsPlaced, arena_of, block_at, fields_at, message_of, data_used_by, no_fields}
 use Rattle.strm_mblk.specs.Messages.{blocks_held, blocks_on, held_in}
 use Rattle.strm_mblk.specs.NodeLists.{NodeLists}
 use Rattle.strm_mblk.proofs.layout.Shown.{AreAlike, alike_each, alike_off, alike_parts, blocks_in-seen, held-alike, held_at-seen, message-alike, nodes_in, option-alike, shelves-alike}
@@ -38,7 +38,7 @@ message-one fields n x (y ∷ ns) (suc k) is once = grind (arith, common_steps, 
 
 -- ---- all blocks of a message
 
--- of all message blocks only those of a list say something else, and each names the data block that it named
+-- of all message blocks only those of a list say something else, and each uses the data block that it used
 pub record AreRewritten (old new : List Fields) (ns : List ℕ) : Type 0 where
   pub many : length new ≡ length old
   pub named : (n : ℕ) → (fields_at new n).data_number ≡ (fields_at old n).data_number
@@ -49,7 +49,7 @@ pub alike_apart : (old new : List Fields) (ns : List ℕ) → ((n : ℕ) → tim
 alike_apart old new ns apart ms once = alike_each old new ms (λ n some. apart n (omega (arith, some, once n)))
 
 -- blocks that name what they named
-pub named-same : (old new : List Fields) → ((n : ℕ) → (fields_at new n).data_number ≡ (fields_at old n).data_number) → (ns : List ℕ) → named_by new ns ≡ named_by old ns
+pub named-same : (old new : List Fields) → ((n : ℕ) → (fields_at new n).data_number ≡ (fields_at old n).data_number) → (ns : List ℕ) → data_used_by new ns ≡ data_used_by old ns
 named-same old new same [] = refl
 named-same old new same (n ∷ ns) = λ i. same n i ∷ named-same old new same ns i
 
@@ -82,8 +82,8 @@ module _ (id : ℕ) (s : CountedStore) (fields : List Fields) (v : NodeLists) (f
       listed = change.many ∙ filled.listed;
       placed = placed;
       counts = λ d.
-          ap (λ cs. get_or cs d 0) counts ∙ filled.counts d ∙ ap (count_by (is_naming d)) (blocks_in-seen id s.store fields v) ∙ naming-named fields d (nodes_in v)
-          ∙ sym (ap (count_by (is_naming d)) (blocks_in-seen id t.store now v) ∙ naming-named now d (nodes_in v) ∙ ap (times d) (named-same fields now change.named (nodes_in v)));
+          ap (λ cs. get_or cs d 0) counts ∙ filled.counts d ∙ ap (count_by (uses_data d)) (blocks_in-seen id s.store fields v) ∙ naming-named fields d (nodes_in v)
+          ∙ sym (ap (count_by (uses_data d)) (blocks_in-seen id t.store now v) ∙ naming-named now d (nodes_in v) ∙ ap (times d) (named-same fields now change.named (nodes_in v)));
     }
 
 -- ---- one of them

@@ -9,7 +9,7 @@ use Rattle.strm_data.specs.CountedStore.{CountedStore, IsKept, IsUnused, count_o
 use Rattle.strm_data.specs.DataStore.{DataStore, take_data, with_data_taken}
 use Rattle.strm_mblk.specs.declared.blocks.Fields.{Fields}
 use Rattle.strm_mblk.specs.Arena.{Arena, with_held}
-use Rattle.strm_mblk.specs.Block.{is_naming, new_block}
+use Rattle.strm_mblk.specs.Block.{uses_data, new_block}
 use Rattle.strm_mblk.specs.BlockCalls.{allocb}
 use Rattle.strm_mblk.specs.BlocksLayout.{IsFilled, IsPlaced, arena_of, fields_of, with_fields}
 use Rattle.strm_mblk.specs.NodeLists.{IsNodesParted, NodeLists, after_begin}
@@ -40,7 +40,7 @@ module _ (id : ℕ) (s : CountedStore) (fields : List Fields) (v : NodeLists) (f
   rooms : HasRooms s.store t.store
   rooms = subst (HasRooms s.store) (sym (ap (λ (c : CountedStore). c.store) t_is)) (rooms-taken s.store d)
 
-  named : (k : ℕ) → count_of t k ≡ count_of s k + count_by (is_naming k) (new_block n d ∷ [])
+  named : (k : ℕ) → count_of t k ≡ count_of s k + count_by (uses_data k) (new_block n d ∷ [])
   named k = grind (arith, common_steps, count_of-set, eqb_tells, count_one)
 
   placed : All (λ b. IsPlaced t.store (fields_of b)) (new_block n d ∷ [])

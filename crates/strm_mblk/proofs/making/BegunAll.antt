@@ -9,9 +9,9 @@ use Rattle.strm_data.specs.CountedStore.{CountedStore, IsKept, count_of}
 use Rattle.strm_data.specs.DataStore.{DataStore, times}
 use Rattle.strm_links.proofs.lists.Counting.{times-append, times-cons, times_here, times_other}
 use Rattle.strm_mblk.specs.declared.blocks.Fields.{Fields}
-use Rattle.strm_mblk.specs.Arena.{Arena, held_at, names_of, shelved_blocks, with_held}
-use Rattle.strm_mblk.specs.Block.{Block, Message, head_of, is_naming}
-use Rattle.strm_mblk.specs.BlockCalls.{held_under, renumbered}
+use Rattle.strm_mblk.specs.Arena.{Arena, held_at, references_to, shelved_blocks, with_held}
+use Rattle.strm_mblk.specs.Block.{Block, Message, head_of, uses_data}
+use Rattle.strm_mblk.specs.BlockCalls.{held_under, blocks_renumbered}
 use Rattle.strm_mblk.specs.BlocksLayout.{IsFilled, IsPlaced, arena_of, block_of, fields_at, fields_of, message_of, no_fields, with_fields}
 use Rattle.strm_mblk.specs.Messages.{blocks_held, blocks_on, blocks_of}
 use Rattle.strm_mblk.specs.NodeLists.{IsNodesParted, NodeLists}
@@ -52,7 +52,7 @@ placed-fields s (n ∷ ns) (b ∷ bs) fields new old k within =
 
 -- they are these blocks under their own numbers
 message-fields : (ns : List ℕ) (bs : List Block) (fields : List Fields) → length ns ≡ length bs → ((k : ℕ) → times k ns ≤ 1) → ((k : ℕ) → 0 < times k ns → k < length fields)
-    → message_of (with_fields ns (map fields_of bs) fields) ns ≡ renumbered ns bs
+    → message_of (with_fields ns (map fields_of bs) fields) ns ≡ blocks_renumbered ns bs
 message-fields [] bs fields many once within = refl
 message-fields (n ∷ ns) [] fields many once within = absurd (omega (arith, many))
 message-fields (n ∷ ns) (b ∷ bs) fields many once within =
@@ -66,14 +66,14 @@ message-fields (n ∷ ns) (b ∷ bs) fields many once within =
     λ i. block_of n (said i) ∷ rest i
 
 -- as many of them name a data block
-renumbered_names : (d : ℕ) (ns : List ℕ) (bs : List Block) → length ns ≡ length bs → count_by (is_naming d) (renumbered ns bs) ≡ count_by (is_naming d) bs
+renumbered_names : (d : ℕ) (ns : List ℕ) (bs : List Block) → length ns ≡ length bs → count_by (uses_data d) (blocks_renumbered ns bs) ≡ count_by (uses_data d) bs
 renumbered_names d [] [] many = refl
 renumbered_names d [] (b ∷ bs) many = absurd (omega (arith, many))
 renumbered_names d (n ∷ ns) [] many = absurd (omega (arith, many))
 renumbered_names d (n ∷ ns) (b ∷ bs) many = grind (arith, common_steps, (renumbered_names d ns bs), count_adds, count_one)
 
 -- the first has the first number
-renumbered_head : (ns : List ℕ) (bs : List Block) (h : ℕ) → first ns ≡ Some h → 0 < length bs → head_of (renumbered (take (length bs) ns) bs) ≡ h
+renumbered_head : (ns : List ℕ) (bs : List Block) (h : ℕ) → first ns ≡ Some h → 0 < length bs → head_of (blocks_renumbered (take (length bs) ns) bs) ≡ h
 renumbered_head [] bs h begun some = absurd (none-some h begun)
 renumbered_head (n ∷ ns) [] h begun some = absurd (omega (arith, some))
 renumbered_head (n ∷ ns) (b ∷ bs) h begun some = same_Some n h begun
@@ -83,7 +83,7 @@ renumbered_head (n ∷ ns) (b ∷ bs) h begun some = same_Some n h begun
 pub record IsBegunAll (a : Arena) (t : CountedStore) (fields : List Fields) (w : NodeLists) (id h : ℕ) (bs : List Block) : Type 0 where
   pub filled : IsFilled t fields w (arena_of id t.store fields w)
   pub shows : (h, arena_of id t.store fields w) ≡ held_under bs t.store a
-  pub held : held_at (arena_of id t.store fields w) h ≡ Some (renumbered (take (length bs) a.free) bs)
+  pub held : held_at (arena_of id t.store fields w) h ≡ Some (blocks_renumbered (take (length bs) a.free) bs)
   pub shelved : shelved_blocks (arena_of id t.store fields w) ≡ shelved_blocks a
   pub others : (k : ℕ) → k ≢ h → held_at (arena_of id t.store fields w) k ≡ held_at a k
   pub absent : held_at a h ≡ None
@@ -123,7 +123,7 @@ module _ (id : ℕ) (s : CountedStore) (fields : List Fields) (v : NodeLists) (f
     now = with_fields ns (map fields_of bs) fields
 
     abbrev m : Message
-    m = renumbered ns bs
+    m = blocks_renumbered ns bs
 
     message_is : message_of now ns ≡ m
     message_is = message-fields ns bs fields many (λ k. omega (arith, parts k, one_of_all v filled.parted k)) within
@@ -132,7 +132,7 @@ module _ (id : ℕ) (s : CountedStore) (fields : List Fields) (v : NodeLists) (f
     head_is = renumbered_head v.free bs h begun some
 
     module _ (t : CountedStore) (w : NodeLists) (kept : IsKept t) (w_is : w ≡ after_begin_all v h (length bs)) (parted : IsNodesParted w)
-        (rooms : HasRooms s.store t.store) (placed : All (λ b. IsPlaced t.store (fields_of b)) bs) (named : (k : ℕ) → count_of t k ≡ count_of s k + count_by (is_naming k) bs) where
+        (rooms : HasRooms s.store t.store) (placed : All (λ b. IsPlaced t.store (fields_of b)) bs) (named : (k : ℕ) → count_of t k ≡ count_of s k + count_by (uses_data k) bs) where
       held_is : map (option_map (message_of now)) w.held ≡ set old.held h (Some m)
       held_is =
           ap (λ (l : NodeLists). map (option_map (message_of now)) l.held) w_is
@@ -153,14 +153,14 @@ module _ (id : ℕ) (s : CountedStore) (fields : List Fields) (v : NodeLists) (f
       held_many : length w.held ≡ length v.held
       held_many = ap (λ (l : NodeLists). length l.held) w_is ∙ length-set v.held h (Some ns)
 
-      names_are : (k : ℕ) → names_of (with_held m rest) k ≡ names_of old k + count_by (is_naming k) bs
+      names_are : (k : ℕ) → references_to (with_held m rest) k ≡ references_to old k + count_by (uses_data k) bs
       names_are k =
           omega (
             arith,
-            held_moves (count_adds (is_naming k)) rest (head_of m) (Some m) (omega (arith, head_is, room, length-map v.held (option_map (message_of fields)))),
-            ap (λ j. count_by (is_naming k) (blocks_of (held_at old j))) head_is,
-            ap (λ o. count_by (is_naming k) (blocks_of o)) unheld,
-            (count_adds (is_naming k)).none,
+            held_moves (count_adds (uses_data k)) rest (head_of m) (Some m) (omega (arith, head_is, room, length-map v.held (option_map (message_of fields)))),
+            ap (λ j. count_by (uses_data k) (blocks_of (held_at old j))) head_is,
+            ap (λ o. count_by (uses_data k) (blocks_of o)) unheld,
+            (count_adds (uses_data k)).none,
             renumbered_names k ns bs many,
           )
 
@@ -174,7 +174,7 @@ module _ (id : ℕ) (s : CountedStore) (fields : List Fields) (v : NodeLists) (f
           placed = λ k inside.
               placed-fields t.store ns bs fields placed (λ j there. placed-over s.store t.store (fields_at fields j) rooms (filled.placed j there)) k
               (omega (arith, inside, length-with_fields ns (map fields_of bs) fields));
-          counts = λ k. named k ∙ omega (arith, filled.counts k, names_are k, ap (λ a. names_of a k) arena_is);
+          counts = λ k. named k ∙ omega (arith, filled.counts k, names_are k, ap (λ a. references_to a k) arena_is);
         };
         shows = λ i. (sym head_is i, arena_is i);
         held =

@@ -11,7 +11,7 @@ use Rattle.strm_data.specs.declared.class_info.ClassInfo.{ClassInfo}
 use Rattle.strm_data.specs.declared.refusal.Refusal.TheVariants.{NoData, TooLarge}
 use Rattle.strm_data.specs.Classes.{fits_a_class}
 use Rattle.strm_data.specs.CountedStore.{CountedStore, IsKept}
-use Rattle.strm_data.specs.DataStore.{DataStore, IsTakenFrom, class_infos, class_spec_at, fitting, free_of, no_class_spec, take_data}
+use Rattle.strm_data.specs.DataStore.{DataStore, IsTakenFrom, class_infos, class_spec_at, fitting_blocks, free_of, no_class_spec, take_data}
 use Rattle.strm_data.proofs.store.Fitting.{IsTakenFrom-found, fitting_from, fitting_from_next, if_fits, if_fits-empty, if_fits-small}
 use Rattle.strm_data.proofs.store.Kept.{length-class_infos}
 use Rattle.strm_mblk.specs.Copying.{AreLeft, IsLeft}
@@ -56,7 +56,7 @@ module _ (size : ℕ) (s : DataStore) (lists : length s.free ≡ length s.classe
   gives_none : (k : ℕ) → k < length s.classes → (IsLeft size s.classes left k → ⊥) → if_fits size (class_spec_at s k, free_of s k) ≡ []
   gives_none k there none = grind (arith, common_steps, if_fits-small, if_fits-empty)
 
-  searched : (c : ℕ) → c ≤ length s.classes → ((k : ℕ) → k < c → IsLeft size s.classes left k → ⊥) → fitting size s ≡ fitting_from size s c
+  searched : (c : ℕ) → c ≤ length s.classes → ((k : ℕ) → k < c → IsLeft size s.classes left k → ⊥) → fitting_blocks size s ≡ fitting_from size s c
   searched zero within none = refl
   searched (suc c) within none =
       let next : c + 1 ≡ suc c = omega arith in
@@ -71,7 +71,7 @@ module _ (size : ℕ) (s : DataStore) (lists : length s.free ≡ length s.classe
   -- if no class serves, nothing is taken
   pub takes_none : fits_a_class size s.classes ≡ true → ((k : ℕ) → IsLeft size s.classes left k → ⊥) → take_data size s ≡ Err NoData
   takes_none wide none =
-      let found : fitting size s ≡ [] =
+      let found : fitting_blocks size s ≡ [] =
       searched (length s.classes) (omega arith) (λ k _. none k)
       ∙ ap (λ (cs : List ClassSpec). flat_map (if_fits size) (zip cs (drop (length s.classes) s.free))) (drop_all (length s.classes) s.classes (omega arith)) in
-      cond-true _ (ok_or (slice_get (fitting size s) 0) NoData) (Err TooLarge) wide ∙ ap (λ (xs : List ℕ). ok_or (slice_get xs 0) NoData) found
+      cond-true _ (ok_or (slice_get (fitting_blocks size s) 0) NoData) (Err TooLarge) wide ∙ ap (λ (xs : List ℕ). ok_or (slice_get xs 0) NoData) found

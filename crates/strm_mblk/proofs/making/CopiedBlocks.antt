@@ -11,8 +11,8 @@ use Rattle.strm_data.specs.CountedStore.{CountedStore, IsUnused, count_of}
 use Rattle.strm_data.specs.DataStore.{capacity_of, take_data, times}
 use Rattle.strm_links.proofs.lists.Counting.{one_if}
 use Rattle.strm_mblk.specs.declared.blocks.Fields.{Fields}
-use Rattle.strm_mblk.specs.Block.{Block, is_naming}
-use Rattle.strm_mblk.specs.BlockCalls.{copied_into, copies}
+use Rattle.strm_mblk.specs.Block.{Block, uses_data}
+use Rattle.strm_mblk.specs.BlockCalls.{store_with_copy, blocks_copied}
 use Rattle.strm_mblk.specs.BlocksLayout.{IsPlaced, fields_at, fields_of, with_fields}
 use Rattle.strm_mblk.specs.Copying.{with_copy}
 use Rattle.strm_mblk.specs.Given.{answer_map}
@@ -37,10 +37,10 @@ with_fields_more (m ∷ ns) (y ∷ xs) fields n x same = with_fields_more ns xs 
 -- what the loop keeps while it copies: `made` are the copies of the blocks before i
 pub record IsCopying (bs : List Block) (ns : List ℕ) (i : ℕ) (old new : List Fields) (s t : CountedStore) : Type 0 where
   pub made : List Block
-  pub answer : copies bs s.store ≡ answer_map (in_front made) (copies (drop i bs) t.store)
+  pub answer : blocks_copied bs s.store ≡ answer_map (in_front made) (blocks_copied (drop i bs) t.store)
   pub fields : new ≡ with_fields (take i ns) (map fields_of made) old
   pub many : length made ≡ i
-  pub named : (d : ℕ) → count_of t d ≡ count_of s d + count_by (is_naming d) made
+  pub named : (d : ℕ) → count_of t d ≡ count_of s d + count_by (uses_data d) made
   pub placed : All (λ b. IsPlaced t.store (fields_of b)) made
   pub rooms : HasRooms s.store t.store
 
@@ -55,7 +55,7 @@ module _ (bs : List Block) (ns : List ℕ) (i : ℕ) (old new : List Fields) (s 
 
   module _ (b : Block) (next : drop i bs ≡ b ∷ drop (i + 1) bs) where
     -- the next data block can be taken
-    pub next_fits : is_ok (copies bs s.store) ≡ true → is_ok (take_data (capacity_of t.store b.data_number) t.store) ≡ true
+    pub next_fits : is_ok (blocks_copied bs s.store) ≡ true → is_ok (take_data (capacity_of t.store b.data_number) t.store) ≡ true
     next_fits = can_take bs i s.store t.store copying.made copying.answer b next
 
     -- the next block is copied
@@ -64,7 +64,7 @@ module _ (bs : List Block) (ns : List ℕ) (i : ℕ) (old new : List Fields) (s 
       abbrev copy : Block
       copy = record b { data_number = d }
 
-      rooms_more : HasRooms t.store (copied_into b t.store d)
+      rooms_more : HasRooms t.store (store_with_copy b t.store d)
       rooms_more = rooms-copied b t.store d (omega (arith, room, was.within))
 
       many_before : length (take i ns) ≡ length (map fields_of copying.made)
@@ -73,7 +73,7 @@ module _ (bs : List Block) (ns : List ℕ) (i : ℕ) (old new : List Fields) (s 
       named_more : (k : ℕ) → count_of (with_copy b t d) k ≡ count_of t k + one_if (eqb d k)
       named_more k = grind (arith, common_steps, count_of-set, eqb_tells)
 
-      placed_copy : IsPlaced (copied_into b t.store d) (fields_of copy)
+      placed_copy : IsPlaced (store_with_copy b t.store d) (fields_of copy)
       placed_copy = record { there = omega (arith, unused.there, rooms_more.many); within = omega (arith, was.within, room, rooms_more.room d); banded = was.banded }
 
       pub next_copied : IsCopying bs ns (i + 1) old (set new n (fields_of copy)) s (with_copy b t d)
@@ -85,9 +85,9 @@ module _ (bs : List Block) (ns : List ℕ) (i : ℕ) (old new : List Fields) (s 
             ∙ sym (with_fields_more (take i ns) (map fields_of copying.made) old n (fields_of copy) many_before)
             ∙ (λ j. with_fields (sym (take_next ns i n at) j) (sym (map-append fields_of copying.made (copy ∷ [])) j) old);
         many = omega (arith, length-append copying.made (copy ∷ []), copying.many);
-        named = λ k. omega (arith, named_more k, copying.named k, (count_adds (is_naming k)).both copying.made (copy ∷ []), count_one (is_naming k) copy);
+        named = λ k. omega (arith, named_more k, copying.named k, (count_adds (uses_data k)).both copying.made (copy ∷ []), count_one (uses_data k) copy);
         placed =
-            All-push (λ x. IsPlaced (copied_into b t.store d) (fields_of x)) copying.made copy
-            (λ k e below. placed-over t.store (copied_into b t.store d) (fields_of (get_or copying.made k e)) rooms_more (copying.placed k e below)) placed_copy;
+            All-push (λ x. IsPlaced (store_with_copy b t.store d) (fields_of x)) copying.made copy
+            (λ k e below. placed-over t.store (store_with_copy b t.store d) (fields_of (get_or copying.made k e)) rooms_more (copying.placed k e below)) placed_copy;
         rooms = rooms-both copying.rooms rooms_more;
       }

@@ -10,7 +10,7 @@ use Rattle.strm_mblk.specs.declared.blocks.Fields.{Fields}
 use Rattle.strm_mblk.specs.declared.token.TokenValue.{TokenValue}
 use Rattle.strm_mblk.specs.Arena.{Arena, has, message_at}
 use Rattle.strm_mblk.specs.Block.{Block}
-use Rattle.strm_mblk.specs.BlockCalls.{copied, copies, held_under}
+use Rattle.strm_mblk.specs.BlockCalls.{message_copied, blocks_copied, held_under}
 use Rattle.strm_mblk.specs.BlocksLayout.{IsFilled, arena_of, block_at, fields_of, message_of, with_fields}
 use Rattle.strm_mblk.specs.Copying.{AreCopied}
 use Rattle.strm_mblk.specs.Given.{answer_map}
@@ -25,7 +25,7 @@ use Rattle.strm_mblk.proofs.arena.Tokens.{had_again, had_message}
 pub record IsCopied (a : Arena) (t : CountedStore) (fields : List Fields) (w : NodeLists) (id h count : ℕ) (token : TokenValue) : Type 0 where
   pub made : List Block
   pub begun : IsBegunAll a t fields w id h made
-  pub done : copied (take count (message_at a token.head)) a ≡ Ok (h, arena_of id t.store fields w)
+  pub done : message_copied (take count (message_at a token.head)) a ≡ Ok (h, arena_of id t.store fields w)
   pub source : has (arena_of id t.store fields w) token ≡ true
 
 module _ (id : ℕ) (s : CountedStore) (fields : List Fields) (v : NodeLists) (filled : IsFilled s fields v (arena_of id s.store fields v)) (token : TokenValue) (had : has (arena_of id s.store fields v) token ≡ true)
@@ -63,8 +63,8 @@ module _ (id : ℕ) (s : CountedStore) (fields : List Fields) (v : NodeLists) (f
     made = are.made;
     begun = all_begun;
     done =
-        ap (λ m. copied (take count m) old) (message_at-seen id s.store fields v token.head)
-        ∙ cond-false _ (Err NoMblk) (answer_map (λ g. held_under g.0 g.1 old) (copies bs s.store)) (le-ltb (length v.free) (length bs) (omega (arith, free, blocks_many)))
+        ap (λ m. message_copied (take count m) old) (message_at-seen id s.store fields v token.head)
+        ∙ cond-false _ (Err NoMblk) (answer_map (λ g. held_under g.0 g.1 old) (blocks_copied bs s.store)) (le-ltb (length v.free) (length bs) (omega (arith, free, blocks_many)))
         ∙ ap (answer_map (λ g. held_under g.0 g.1 old)) are.answer
         ∙ ap (λ (p : ℕ × Arena). Ok p) (sym all_begun.shows);
     source =

@@ -10,12 +10,12 @@ use Rattle.strm_data.specs.declared.refusal.Refusal.TheVariants.{NoData}
 use Rattle.strm_data.specs.Classes.{fits_a_class}
 use Rattle.std.proofs.lemmas.List.Folds.{list_any_at}
 use Rattle.strm_data.specs.CountedStore.{CountedStore, IsKept, IsUnused, after_take}
-use Rattle.strm_data.specs.DataStore.{DataStore, IsTakenFrom, capacity_of, class_of, class_spec_at, data_block_at, free_of, overwritten, take_data, with_data_taken, with_kind}
+use Rattle.strm_data.specs.DataStore.{DataStore, IsTakenFrom, capacity_of, class_of, class_spec_at, data_block_at, free_of, bytes_overwritten, take_data, with_data_taken, with_kind}
 use Rattle.strm_data.proofs.store.Kept.{IsKept-altered, IsKept-take, first_unused}
 use Rattle.strm_data.proofs.store.Lawful.{lawful_rise, lawful_some}
 use Rattle.strm_data.proofs.lists.Tables.{length-overwritten}
 use Rattle.strm_mblk.specs.Block.{Block, bytes_of_block, kind_of}
-use Rattle.strm_mblk.specs.BlockCalls.{copied_into, copies}
+use Rattle.strm_mblk.specs.BlockCalls.{store_with_copy, blocks_copied}
 use Rattle.strm_mblk.specs.declared.blocks.Fields.{Fields}
 use Rattle.strm_mblk.specs.BlocksLayout.{block_at, message_of}
 use Rattle.strm_mblk.proofs.lists.Numbers.{slice_get-take}
@@ -64,23 +64,23 @@ next_block fields ns count i n below is =
     (slice_get-take count i (message_of fields ns) below ∙ slice_get-map (block_at fields) ns i ∙ ap (option_map (block_at fields)) is)
 
 -- the copies so far are `made`, in store t, and b is to be copied next
-module _ (bs : List Block) (i : ℕ) (s t : DataStore) (made : List Block) (answer : copies bs s ≡ answer_map (in_front made) (copies (drop i bs) t)) (b : Block) (next : drop i bs ≡ b ∷ drop (i + 1) bs) where
+module _ (bs : List Block) (i : ℕ) (s t : DataStore) (made : List Block) (answer : blocks_copied bs s ≡ answer_map (in_front made) (blocks_copied (drop i bs) t)) (b : Block) (next : drop i bs ≡ b ∷ drop (i + 1) bs) where
   -- the copies from its data block on
   abbrev goes_on : ℕ → Result Made Refusal
-  goes_on d = answer_map (in_front (record b { data_number = d } ∷ [])) (copies (drop (i + 1) bs) (copied_into b t d))
+  goes_on d = answer_map (in_front (record b { data_number = d } ∷ [])) (blocks_copied (drop (i + 1) bs) (store_with_copy b t d))
 
-  next_answer : copies bs s ≡ answer_map (in_front made) (and_then goes_on (take_data (capacity_of t b.data_number) t))
-  next_answer = answer ∙ ap (λ xs. answer_map (in_front made) (copies xs t)) next
+  next_answer : blocks_copied bs s ≡ answer_map (in_front made) (and_then goes_on (take_data (capacity_of t b.data_number) t))
+  next_answer = answer ∙ ap (λ xs. answer_map (in_front made) (blocks_copied xs t)) next
 
-  pub answer_refused : {why : Refusal} → take_data (capacity_of t b.data_number) t ≡ Err why → copies bs s ≡ Err why
+  pub answer_refused : {why : Refusal} → take_data (capacity_of t b.data_number) t ≡ Err why → blocks_copied bs s ≡ Err why
   answer_refused none = next_answer ∙ ap (λ r. answer_map (in_front made) (and_then goes_on r)) none
 
   pub answer_more : (d : ℕ) → take_data (capacity_of t b.data_number) t ≡ Ok d
-      → copies bs s ≡ answer_map (in_front (made ++ record b { data_number = d } ∷ [])) (copies (drop (i + 1) bs) (copied_into b t d))
+      → blocks_copied bs s ≡ answer_map (in_front (made ++ record b { data_number = d } ∷ [])) (blocks_copied (drop (i + 1) bs) (store_with_copy b t d))
   answer_more d taken = grind (arith, common_steps, next_answer, in_front_more)
 
   -- a data block can be taken where all can
-  pub can_take : is_ok (copies bs s) ≡ true → is_ok (take_data (capacity_of t b.data_number) t) ≡ true
+  pub can_take : is_ok (blocks_copied bs s) ≡ true → is_ok (take_data (capacity_of t b.data_number) t) ≡ true
   can_take all = grind (arith, common_steps, is_ok-refused, is_ok-map, next_answer)
 
 -- ---- one copy
@@ -100,19 +100,19 @@ module _ (b : Block) (s : DataStore) (d : ℕ) (room : b.offset + b.len ≤ capa
   rooms_typed : HasRooms s typed
   rooms_typed = rooms-both (rooms-taken s d) (rooms-kind (with_data_taken d s) d (kind_of s b))
 
-  as_long : length (overwritten b.offset (bytes_of_block s b) (data_block_at typed d).bytes) ≡ capacity_of typed d
+  as_long : length (bytes_overwritten b.offset (bytes_of_block s b) (data_block_at typed d).bytes) ≡ capacity_of typed d
   as_long = length-overwritten b.offset (bytes_of_block s b) (data_block_at typed d).bytes (omega (arith, bytes_few s b, room, rooms_typed.room d))
 
   -- data blocks keep their capacity when a copy is made
-  pub rooms-copied : HasRooms s (copied_into b s d)
-  rooms-copied = rooms-both rooms_typed (rooms-set typed d (record (data_block_at typed d) { bytes = overwritten b.offset (bytes_of_block s b) (data_block_at typed d).bytes }) as_long)
+  pub rooms-copied : HasRooms s (store_with_copy b s d)
+  rooms-copied = rooms-both rooms_typed (rooms-set typed d (record (data_block_at typed d) { bytes = bytes_overwritten b.offset (bytes_of_block s b) (data_block_at typed d).bytes }) as_long)
 
 -- what a copy leaves of which the data block is the first free one of class c
 pub record HasCopy (b : Block) (s : CountedStore) (d c : ℕ) : Type 0 where
   pub taken : take_data (capacity_of s.store b.data_number) s.store ≡ Ok d
   pub class : class_of s.store d ≡ c
   pub unused : IsUnused s d
-  pub rooms : HasRooms s.store (copied_into b s.store d)
+  pub rooms : HasRooms s.store (store_with_copy b s.store d)
   pub kept : IsKept (with_copy b s d)
 
 pub has_copy : (b : Block) (s : CountedStore) (c : ℕ) → IsKept s → b.offset + b.len ≤ capacity_of s.store b.data_number → IsTakenFrom (capacity_of s.store b.data_number) s.store c
@@ -132,7 +132,7 @@ has_copy b s c kept within from =
       rooms = rooms-copied b s.store d room;
       kept =
           IsKept-altered (record taken { store = typed b s.store d room }) d
-          (record (data_block_at (typed b s.store d room) d) { bytes = overwritten b.offset (bytes_of_block s.store b) (data_block_at (typed b s.store d room) d).bytes })
+          (record (data_block_at (typed b s.store d room) d) { bytes = bytes_overwritten b.offset (bytes_of_block s.store b) (data_block_at (typed b s.store d room) d).bytes })
           refl (as_long b s.store d room) kept_typed;
     }
 
@@ -149,14 +149,14 @@ pub record IsAhead (bs : List Block) (i : ℕ) (s t : CountedStore) (left : List
   pub classes : t.store.classes ≡ s.store.classes
   pub are : AreLeft left t.store
   pub made : List Block
-  pub answer : copies bs s.store ≡ answer_map (in_front made) (copies (drop i bs) t.store)
+  pub answer : blocks_copied bs s.store ≡ answer_map (in_front made) (blocks_copied (drop i bs) t.store)
 
 -- one of a class was taken
-left_less : (b : Block) (s : CountedStore) (d c : ℕ) (left : List ℕ) → IsKept s → HasCopy b s d c → AreLeft left s.store → 0 < get_or left c 0 → AreLeft (set left c (get_or left c 0 - 1)) (copied_into b s.store d)
+left_less : (b : Block) (s : CountedStore) (d c : ℕ) (left : List ℕ) → IsKept s → HasCopy b s d c → AreLeft left s.store → 0 < get_or left c 0 → AreLeft (set left c (get_or left c 0 - 1)) (store_with_copy b s.store d)
 left_less b s d c left kept copy are some k =
     let counted : c < length left = elim (cases_lt c (length left)) [ inl inside ↦ inside | inr past ↦ absurd (omega (arith, some, get_or_past left c 0 past)) ] in
     let listed : c < length s.store.free = omega (arith, copy.unused.classed, copy.class, kept.lists) in
-    let lists : (copied_into b s.store d).free ≡ set s.store.free c (drop 1 (free_of s.store c)) = ap (λ j. set s.store.free j (drop 1 (free_of s.store j))) copy.class in
+    let lists : (store_with_copy b s.store d).free ≡ set s.store.free c (drop 1 (free_of s.store c)) = ap (λ j. set s.store.free j (drop 1 (free_of s.store j))) copy.class in
     elim (cases_eq k c) [
       | inl same ↦
           rw same (get_or-set_same left c (get_or left c 0 - 1) 0 counted ∙ ap (λ n. n - 1) (are c) ∙ sym (length-drop 1 (free_of s.store c))
@@ -175,7 +175,7 @@ module _ (bs : List Block) (i : ℕ) (s t : CountedStore) (left : List ℕ) (ahe
   served k = subst (λ (p : ℕ × List ClassSpec). IsLeft p.0 p.1 left k) as_wide
 
   -- none is left for the next block
-  pub none_ahead : ((k : ℕ) → IsLeft (capacity_of s.store b.data_number) s.store.classes left k → ⊥) → copies bs s.store ≡ Err NoData
+  pub none_ahead : ((k : ℕ) → IsLeft (capacity_of s.store b.data_number) s.store.classes left k → ⊥) → blocks_copied bs s.store ≡ Err NoData
   none_ahead none =
       answer_refused bs i s.store t.store ahead.made ahead.answer b next
       (takes_none (capacity_of t.store b.data_number) t.store ahead.kept.lists left ahead.are (fits_own t ahead.kept b.data_number (omega (arith, inside.0, ahead.rooms.many))) (λ k is. none k (served k is)))
@@ -228,7 +228,7 @@ still_left left last c n many = grind (arith, common_steps, get_or_past, get_or-
 
 -- all can be made where the largest class has as many data blocks left
 pub enough_left : (bs : List Block) (s : CountedStore) (left : List ℕ) → IsKept s → AreLeft left s.store → ((k : ℕ) (b : Block) → slice_get bs k ≡ Some b → IsInside s.store b)
-    → length bs ≤ get_or left (length s.store.classes - 1) 0 → is_ok (copies bs s.store) ≡ true
+    → length bs ≤ get_or left (length s.store.classes - 1) 0 → is_ok (blocks_copied bs s.store) ≡ true
 enough_left [] s left kept are inside many = refl
 enough_left (b ∷ bs) s left kept are inside many =
     let classes = s.store.classes in
@@ -249,8 +249,8 @@ enough_left (b ∷ bs) s left kept are inside many =
     let c = found.0 in
     let d = get_or (free_of s.store c) 0 0 in
     let copy = has_copy b s c kept here.1 (takes_left size s.store kept.lists left are c found.1.is found.1.first) in
-    ap (λ r. is_ok (and_then (λ e. answer_map (in_front (record b { data_number = e } ∷ [])) (copies bs (copied_into b s.store e))) r)) copy.taken
-    ∙ is_ok-map (in_front (record b { data_number = d } ∷ [])) (copies bs (copied_into b s.store d))
+    ap (λ r. is_ok (and_then (λ e. answer_map (in_front (record b { data_number = e } ∷ [])) (blocks_copied bs (store_with_copy b s.store e))) r)) copy.taken
+    ∙ is_ok-map (in_front (record b { data_number = d } ∷ [])) (blocks_copied bs (store_with_copy b s.store d))
     ∙ enough_left bs (with_copy b s d) (set left c (get_or left c 0 - 1)) copy.kept (left_less b s d c left kept copy are found.1.is.some)
     (λ k x at. let was = inside (suc k) x at in (omega (arith, was.0, copy.rooms.many), omega (arith, was.1, copy.rooms.room x.data_number)))
     (still_left left last c (length bs) (omega (arith, many)))

@@ -1,16 +1,16 @@
--- Bytes are taken from the blocks after the first of a message: what they say then, and the names that are dropped.
+-- Bytes are taken from the blocks after the first of a message: what they say then, and the references that are dropped.
 use Rattle.std.proofs.Common.{◌≡◌, ℕ, suc, ◌+◌, ◌-◌, ◌<◌, ◌≤◌, false, List, [], ◌∷◌, length, set, Some, refl, ap, ◌∙◌, arith}
 use Rattle.std.proofs.lemmas.Option.{slice_get-map}
 use Rattle.std.specs.Prelude.{drop, option_map, slice_get, take}
 use Rattle.std.proofs.lemmas.List.{drop-map, drop_all, length-drop, length-map, length-take}
-use Rattle.strm_data.specs.CountedStore.{CountedStore, count_of, without_name}
+use Rattle.strm_data.specs.CountedStore.{CountedStore, count_of, without_reference}
 use Rattle.strm_data.specs.DataStore.{times}
 use Rattle.strm_links.proofs.lists.Counting.{times-drop, times-take}
 use Rattle.strm_mblk.specs.declared.blocks.Fields.{Fields}
 use Rattle.strm_mblk.specs.Block.{Block, size_of}
-use Rattle.strm_mblk.specs.BlocksLayout.{block_at, fields_at, message_of, named_by, with_names_dropped}
+use Rattle.strm_mblk.specs.BlocksLayout.{block_at, fields_at, message_of, data_used_by, with_references_dropped}
 use Rattle.strm_mblk.specs.Cutting.{fields_cut, with_bytes_cut}
-use Rattle.strm_mblk.specs.Trimming.{used_up}
+use Rattle.strm_mblk.specs.Trimming.{blocks_used_up}
 use Rattle.strm_mblk.proofs.freeing.Dropping.{IsDropping, named-get, next_dropping, next_used, start_dropping}
 use Rattle.strm_mblk.proofs.lists.ListParts.{drop_from}
 use Rattle.strm_mblk.proofs.lists.Numbers.{slice_get-take}
@@ -30,15 +30,15 @@ module _ (fields : List Fields) (ns : List ℕ) (count : ℕ) (old : CountedStor
 
   -- how many are used up, and the data blocks that these name
   abbrev pub all : ℕ
-  all = length (used_up count behind)
+  all = length (blocks_used_up count behind)
 
   abbrev pub names : List ℕ
-  names = take all (named_by fields (drop 1 ns))
+  names = take all (data_used_by fields (drop 1 ns))
 
   -- i of them are used up, and no more: `now` is what the message blocks say then, and `s` the data blocks
   pub record AreTaken (i : ℕ) (now : List Fields) (s : CountedStore) : Type 0 where
     pub used : i ≡ all
-    pub dropped : s ≡ with_names_dropped (take i (named_by fields (drop 1 ns))) old
+    pub dropped : s ≡ with_references_dropped (take i (data_used_by fields (drop 1 ns))) old
     pub cut : now ≡ with_bytes_cut false (count - size_of (take i behind)) (drop (i + 1) ns) fields
 
   -- i of them are so far, and `left` bytes are left to take
@@ -46,11 +46,11 @@ module _ (fields : List Fields) (ns : List ℕ) (count : ℕ) (old : CountedStor
     pub taking : IsTaking count behind i left
     pub dropping : IsDropping names i old s
 
-  pub first_takes : ((d : ℕ) → times d (named_by fields ns) ≤ count_of old d) → AreTaking 0 count old
+  pub first_takes : ((d : ℕ) → times d (data_used_by fields ns) ≤ count_of old d) → AreTaking 0 count old
   first_takes named = grind (arith, common_steps, start_taking, start_dropping, times-take, drop-map, times-drop)
 
   module _ (i left : ℕ) (s : CountedStore) (takes : AreTaking i left s) where
-    dropped_all : i ≡ all → s ≡ with_names_dropped (take i (named_by fields (drop 1 ns))) old
+    dropped_all : i ≡ all → s ≡ with_references_dropped (take i (data_used_by fields (drop 1 ns))) old
     dropped_all used = grind (arith, common_steps, drop_all, length-take)
 
     left_now : (ks : List ℕ) → with_bytes_cut false left ks fields ≡ with_bytes_cut false (count - size_of (take i behind)) ks fields
@@ -79,13 +79,13 @@ module _ (fields : List Fields) (ns : List ℕ) (count : ℕ) (old : CountedStor
       module _ (some : 0 < left) (few : (fields_at fields n).len ≤ left) where
         named_here : slice_get names i ≡ Some (fields_at fields n).data_number
         named_here =
-            slice_get-take all i (named_by fields (drop 1 ns)) (more_used count behind i left takes.taking (block_at fields n) block_here some few)
+            slice_get-take all i (data_used_by fields (drop 1 ns)) (more_used count behind i left takes.taking (block_at fields n) block_here some few)
             ∙ named-get fields (drop 1 ns) i n here
 
         pub name_there : 0 < count_of s (fields_at fields n).data_number
         name_there = next_used names i old s takes.dropping (fields_at fields n).data_number named_here
 
-        pub next_takes : AreTaking (i + 1) (left - (fields_at fields n).len) (without_name (fields_at fields n).data_number s)
+        pub next_takes : AreTaking (i + 1) (left - (fields_at fields n).len) (without_reference (fields_at fields n).data_number s)
         next_takes = record {
           taking = next_taking count behind i left takes.taking (block_at fields n) block_here some few;
           dropping = next_dropping names i old s takes.dropping (fields_at fields n).data_number named_here;

@@ -6,15 +6,15 @@ use Rattle.strm_data.specs.CountedStore.{CountedStore, IsKept}
 use Rattle.strm_data.specs.DataStore.{times}
 use Rattle.strm_links.proofs.lists.Counting.{split_behind, times-append, times-drop, times_here}
 use Rattle.strm_mblk.specs.declared.blocks.Fields.{Fields}
-use Rattle.strm_mblk.specs.Arena.{Arena, message_at, names_of, shelved_blocks, with_message}
-use Rattle.strm_mblk.specs.Block.{Block, is_naming, size_of}
-use Rattle.strm_mblk.specs.BlocksLayout.{IsFilled, arena_of, block_at, block_of, fields_at, message_of, named_by, with_names_dropped}
+use Rattle.strm_mblk.specs.Arena.{Arena, message_at, references_to, shelved_blocks, with_message}
+use Rattle.strm_mblk.specs.Block.{Block, uses_data, size_of}
+use Rattle.strm_mblk.specs.BlocksLayout.{IsFilled, arena_of, block_at, block_of, fields_at, message_of, data_used_by, with_references_dropped}
 use Rattle.strm_mblk.specs.Cutting.{with_bytes_cut}
-use Rattle.strm_mblk.specs.Freeing.{with_block_freed, with_blocks_freed, with_name_dropped}
+use Rattle.strm_mblk.specs.Freeing.{with_block_freed, with_blocks_freed, with_reference_dropped}
 use Rattle.strm_mblk.specs.Messages.{held_in}
 use Rattle.strm_mblk.specs.NodeLists.{IsNodesParted, NodeLists, after_behind_freed, nodes_at}
-use Rattle.strm_mblk.specs.Pulling.{drained}
-use Rattle.strm_mblk.specs.Trimming.{cut_front, left_over, used_up}
+use Rattle.strm_mblk.specs.Pulling.{with_bytes_drained}
+use Rattle.strm_mblk.specs.Trimming.{blocks_cut_front, blocks_left_over, blocks_used_up}
 use Rattle.strm_mblk.proofs.lists.Additive.{count_adds}
 use Rattle.strm_mblk.proofs.lists.Numbers.{first_rest}
 use Rattle.strm_mblk.proofs.arena.Counts.{held_moves}
@@ -24,31 +24,31 @@ use Rattle.strm_mblk.proofs.layout.Rewriting.{AreRewritten, alike_apart, message
 use Rattle.strm_mblk.proofs.layout.Shown.{message-alike, message_at-seen}
 use Rattle.strm_mblk.proofs.pulling.BytesTaken.{AreTaken}
 use Rattle.strm_mblk.proofs.pulling.Taken.{left_others, used_first}
-use Rattle.strm_mblk.proofs.trimming.Cutting.{cut_apart, cut_named, cut_placed, length-cut, message_cut}
+use Rattle.strm_mblk.proofs.trimming.Cutting.{cut_apart, cut_named, cut_placed, length-cut, nodes_cut}
 use Rattle.std.proofs.lemmas.Grind.{common_steps}
 
--- ---- names
+-- ---- references
 
 -- blocks that are used up, and those that stay, name what all did
-kept_names : (d n : ℕ) (bs : List Block) → count_by (is_naming d) (left_over n bs) + count_by (is_naming d) (used_up n bs) ≡ count_by (is_naming d) bs
+kept_names : (d n : ℕ) (bs : List Block) → count_by (uses_data d) (blocks_left_over n bs) + count_by (uses_data d) (blocks_used_up n bs) ≡ count_by (uses_data d) bs
 kept_names d n [] = omega arith
 kept_names d n (b ∷ bs) = grind (arith, common_steps, (kept_names d (n - b.len) bs), count_adds)
 
 module _ (h n d : ℕ) (b : Block) (bs : List Block) (a : Arena) (inside : h < length a.held) where
   -- so do the messages and the blocks that were used up
-  names_later : names_of (with_message h (b ∷ left_over n bs) a) d + count_by (is_naming d) (used_up n bs) ≡ names_of (with_message h (b ∷ bs) a) d + 0
+  names_later : references_to (with_message h (b ∷ blocks_left_over n bs) a) d + count_by (uses_data d) (blocks_used_up n bs) ≡ references_to (with_message h (b ∷ bs) a) d + 0
   names_later =
       omega (
         arith,
-        held_moves (count_adds (is_naming d)) a h (Some (b ∷ left_over n bs)) inside,
-        held_moves (count_adds (is_naming d)) a h (Some (b ∷ bs)) inside,
-        (count_adds (is_naming d)).both (b ∷ []) (left_over n bs),
-        (count_adds (is_naming d)).both (b ∷ []) bs,
+        held_moves (count_adds (uses_data d)) a h (Some (b ∷ blocks_left_over n bs)) inside,
+        held_moves (count_adds (uses_data d)) a h (Some (b ∷ bs)) inside,
+        (count_adds (uses_data d)).both (b ∷ []) (blocks_left_over n bs),
+        (count_adds (uses_data d)).both (b ∷ []) bs,
         kept_names d n bs,
       )
 
   -- a name may be dropped before the blocks are taken out, or then
-  pub dropped_later : with_message h (b ∷ left_over n bs) (with_name_dropped d [] (with_message h (b ∷ bs) a)) ≡ with_name_dropped d (used_up n bs) (with_message h (b ∷ left_over n bs) a)
+  pub dropped_later : with_message h (b ∷ blocks_left_over n bs) (with_reference_dropped d [] (with_message h (b ∷ bs) a)) ≡ with_reference_dropped d (blocks_used_up n bs) (with_message h (b ∷ blocks_left_over n bs) a)
   dropped_later = grind (arith, common_steps, set-set, names_later)
 
 -- blocks that are freed leave the held messages
@@ -117,16 +117,16 @@ module _ (id : ℕ) (s : CountedStore) (fields : List Fields) (v : NodeLists) (f
 
   -- ---- of what the message has then
 
-  module _ (used : i ≡ length (used_up count bs)) where
+  module _ (used : i ≡ length (blocks_used_up count bs)) where
     first_now : block_at now h ≡ block_at fields h
     first_now =
         ap (block_of h)
         (apart h (omega (arith, once h, sums h, ap (λ xs. times h (take 1 xs)) nodes_are, times_here h h [] refl)))
 
-    bytes_used : take i bs ≡ used_up count bs
+    bytes_used : take i bs ≡ blocks_used_up count bs
     bytes_used = ap (λ k. take k bs) used ∙ sym (used_first count bs)
 
-    out_now : message_of now out ≡ used_up count bs
+    out_now : message_of now out ≡ blocks_used_up count bs
     out_now =
         message-alike fields now out (alike_apart fields now rest apart out (λ n. omega (arith, once n, sums n)))
         ∙ sym (take-map (block_at fields) i (drop 1 ns)) ∙ bytes_used
@@ -134,41 +134,41 @@ module _ (id : ℕ) (s : CountedStore) (fields : List Fields) (v : NodeLists) (f
     rest_is : message_of fields rest ≡ drop i bs
     rest_is = grind (arith, common_steps, drop-drop, drop-map)
 
-    rest_now : message_of now rest ≡ left_over count bs
+    rest_now : message_of now rest ≡ blocks_left_over count bs
     rest_now =
-        message_cut false rest left fields (λ n. omega (arith, once n, sums n)) (λ n some. within_room id s fields v filled h ns held n (omega (arith, some, sums n)))
-        ∙ ap (cut_front left) rest_is
-        ∙ (λ k. cut_front (count - size_of (bytes_used k)) (drop (used k) bs))
+        nodes_cut false rest left fields (λ n. omega (arith, once n, sums n)) (λ n some. within_room id s fields v filled h ns held n (omega (arith, some, sums n)))
+        ∙ ap (blocks_cut_front left) rest_is
+        ∙ (λ k. blocks_cut_front (count - size_of (bytes_used k)) (drop (used k) bs))
         ∙ sym (left_others count bs)
 
-    message_now : message_of now (take 1 ns ++ rest) ≡ block_at fields h ∷ left_over count bs
+    message_now : message_of now (take 1 ns ++ rest) ≡ block_at fields h ∷ blocks_left_over count bs
     message_now = ap (λ xs. message_of now (take 1 xs ++ rest)) nodes_are ∙ (λ k. first_now k ∷ rest_now k)
 
     -- ---- and some of its blocks are freed
 
-    parts : (d : ℕ) → times d (named_by now ns) ≡ times d (named_by now (take 1 ns ++ rest)) + times d (named_by now out)
+    parts : (d : ℕ) → times d (data_used_by now ns) ≡ times d (data_used_by now (take 1 ns ++ rest)) + times d (data_used_by now out)
     parts d =
         let data_of : ℕ → ℕ = λ n. (fields_at now n).data_number in
         omega (
           arith,
-          ap (λ xs. times d (named_by now xs)) (split_behind ns i),
+          ap (λ xs. times d (data_used_by now xs)) (split_behind ns i),
           ap (times d) (map-append data_of (take 1 ns) (out ++ rest)),
           ap (times d) (map-append data_of out rest),
           ap (times d) (map-append data_of (take 1 ns) rest),
-          times-append d (named_by now (take 1 ns)) (named_by now (out ++ rest)),
-          times-append d (named_by now out) (named_by now rest),
-          times-append d (named_by now (take 1 ns)) (named_by now rest),
+          times-append d (data_used_by now (take 1 ns)) (data_used_by now (out ++ rest)),
+          times-append d (data_used_by now out) (data_used_by now rest),
+          times-append d (data_used_by now (take 1 ns)) (data_used_by now rest),
         )
 
-    drained_is : with_blocks_freed (message_of now out) (with_message h (message_of now (take 1 ns ++ rest)) (arena_of id s.store now v)) ≡ drained h count (message_at old h) old
+    drained_is : with_blocks_freed (message_of now out) (with_message h (message_of now (take 1 ns ++ rest)) (arena_of id s.store now v)) ≡ with_bytes_drained h count (message_at old h) old
     drained_is = grind (arith, common_steps, shows_now, set-set, out_now, message_now, message_at-seen, nodes_are)
 
-    frees_now : (t : CountedStore) (w : NodeLists) → t ≡ with_names_dropped (take i (named_by fields (drop 1 ns))) s → IsKept t → w ≡ after_behind_freed h i ns v → IsNodesParted w
-        → IsFreed old (drained h count (message_at old h) old) t now w id
+    frees_now : (t : CountedStore) (w : NodeLists) → t ≡ with_references_dropped (take i (data_used_by fields (drop 1 ns))) s → IsKept t → w ≡ after_behind_freed h i ns v → IsNodesParted w
+        → IsFreed old (with_bytes_drained h count (message_at old h) old) t now w id
     frees_now t w t_is kept w_is parted =
-        let names : take i (named_by fields (drop 1 ns)) ≡ named_by now out =
+        let names : take i (data_used_by fields (drop 1 ns)) ≡ data_used_by now out =
         take-map (λ n. (fields_at fields n).data_number) i (drop 1 ns) ∙ sym (named-same fields now change.named out) in
-        let freed = frees_some id s now v filled_now h held (Some (take 1 ns ++ rest)) out parts t w (t_is ∙ ap (λ ds. with_names_dropped ds s) names) kept w_is parted in
+        let freed = frees_some id s now v filled_now h held (Some (take 1 ns ++ rest)) out parts t w (t_is ∙ ap (λ ds. with_references_dropped ds s) names) kept w_is parted in
         record {
           filled = freed.filled;
           shelved = freed.shelved ∙ ap shelved_blocks shows_now;
@@ -176,5 +176,5 @@ module _ (id : ℕ) (s : CountedStore) (fields : List Fields) (v : NodeLists) (f
         }
 
   pub drains : (fields' : List Fields) (t : CountedStore) (w : NodeLists) → AreTaken fields ns count s i fields' t → IsKept t → w ≡ after_behind_freed h i ns v → IsNodesParted w
-      → IsFreed old (drained h count (message_at old h) old) t fields' w id
+      → IsFreed old (with_bytes_drained h count (message_at old h) old) t fields' w id
   drains fields' t w taken kept w_is parted = grind (arith, common_steps, frees_now)

@@ -5,7 +5,7 @@ use Rattle.std.proofs.Math.Seq.{drop-append-add, drop-append_seam, take-add, tak
 use Rattle.std.proofs.lemmas.Bool.{cases_lt}
 use Rattle.std.proofs.lemmas.List.{drop-drop, drop-take, length-take-le, set-set, take-append-le, take-take}
 use Rattle.strm_data.specs.CountedStore.{CountedStore}
-use Rattle.strm_data.specs.DataStore.{DataStore, data_block_at, overwritten, with_bytes_copied, with_bytes_written}
+use Rattle.strm_data.specs.DataStore.{DataStore, data_block_at, bytes_overwritten, with_bytes_copied, with_bytes_written}
 use Rattle.strm_mblk.specs.declared.blocks.Fields.{Fields}
 use Rattle.strm_mblk.specs.Block.{Block, bytes_of, bytes_of_block}
 use Rattle.strm_mblk.specs.BlocksLayout.{IsPlaced, block_of}
@@ -15,7 +15,7 @@ use Rattle.strm_mblk.proofs.lists.ListParts.{drop_from}
 use Rattle.std.proofs.lemmas.Grind.{common_steps}
 
 -- bytes at the front, and more after them
-overwritten_more : (front more old : List ℕ) → overwritten (length front) more (overwritten 0 front old) ≡ overwritten 0 (front ++ more) old
+overwritten_more : (front more old : List ℕ) → bytes_overwritten (length front) more (bytes_overwritten 0 front old) ≡ bytes_overwritten 0 (front ++ more) old
 overwritten_more front more old = grind (arith, common_steps, take-append_seam, drop-append-add, drop-drop, length-append)
 
 module _ (s : DataStore) (d : ℕ) (there : d < length s.blocks) where

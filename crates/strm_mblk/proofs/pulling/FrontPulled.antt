@@ -5,18 +5,18 @@ use Rattle.std.proofs.lemmas.Bool.{eq-eqb}
 use Rattle.std.proofs.lemmas.List.{length-take}
 use Rattle.std.proofs.lemmas.Bool.Decides.{eqb_tells}
 use Rattle.strm_data.specs.declared.msg_type.MsgType.{MsgType}
-use Rattle.strm_data.specs.CountedStore.{CountedStore, IsKept, IsUnused, count_of, without_name}
+use Rattle.strm_data.specs.CountedStore.{CountedStore, IsKept, IsUnused, count_of, without_reference}
 use Rattle.strm_data.specs.DataStore.{DataStore, capacity_of, times, with_data_taken, with_kind}
 use Rattle.strm_links.proofs.lists.Counting.{one_if, times_here}
 use Rattle.strm_mblk.specs.declared.blocks.Fields.{Fields}
-use Rattle.strm_mblk.specs.Arena.{Arena, held_at, message_at, names_of, shelved_blocks, with_message}
-use Rattle.strm_mblk.specs.Block.{Block, bytes_of, is_naming, kind_of}
-use Rattle.strm_mblk.specs.BlocksLayout.{IsFilled, IsPlaced, arena_of, block_at, block_of, fields_at, message_of, named_by, no_fields}
-use Rattle.strm_mblk.specs.Freeing.{with_name_dropped}
+use Rattle.strm_mblk.specs.Arena.{Arena, held_at, message_at, references_to, shelved_blocks, with_message}
+use Rattle.strm_mblk.specs.Block.{Block, bytes_of, uses_data, kind_of}
+use Rattle.strm_mblk.specs.BlocksLayout.{IsFilled, IsPlaced, arena_of, block_at, block_of, fields_at, message_of, data_used_by, no_fields}
+use Rattle.strm_mblk.specs.Freeing.{with_reference_dropped}
 use Rattle.strm_mblk.specs.Messages.{blocks_of}
 use Rattle.strm_mblk.specs.NodeLists.{NodeLists, nodes_at}
 use Rattle.strm_mblk.specs.Pulling.{front_pulled, over_data, with_front_copied}
-use Rattle.strm_mblk.specs.Trimming.{pulled_into}
+use Rattle.strm_mblk.specs.Trimming.{store_with_front}
 use Rattle.strm_mblk.proofs.lists.Numbers.{first_rest}
 use Rattle.strm_mblk.proofs.lists.Additive.{count_adds}
 use Rattle.strm_mblk.proofs.arena.Counts.{held_moves}
@@ -33,12 +33,12 @@ use Rattle.strm_mblk.proofs.altering.Writing.{rooms-written}
 use Rattle.std.proofs.lemmas.Grind.{common_steps}
 
 -- a data block that is taken, gets a type, and then the first bytes of some blocks, keeps its capacity
-rooms-pulled : (s : DataStore) (n : ℕ) (b : Block) (bs : List Block) (d : ℕ) → n ≤ capacity_of s d → HasRooms s (pulled_into n (b ∷ bs) s d)
+rooms-pulled : (s : DataStore) (n : ℕ) (b : Block) (bs : List Block) (d : ℕ) → n ≤ capacity_of s d → HasRooms s (store_with_front n (b ∷ bs) s d)
 rooms-pulled s n b bs d room =
     let typed = rooms-both (rooms-taken s d) (rooms-kind (with_data_taken d s) d (kind_of s b)) in
     rooms-both typed (rooms-written (with_kind d (kind_of s b) (with_data_taken d s)) d 0 (take n (bytes_of s (b ∷ bs))) (omega (arith, room, typed.room d, length-take n (bytes_of s (b ∷ bs)))))
 
--- what the first block names is another data block: `a` is what was there
+-- what the first block uses is another data block: `a` is what was there
 pub record IsFrontPulled (a : Arena) (t : CountedStore) (fields : List Fields) (v : NodeLists) (id h d n : ℕ) : Type 0 where
   pub filled : IsFilled t fields v (arena_of id t.store fields v)
   pub after : arena_of id t.store fields v ≡ front_pulled h n (message_at a h) a d
@@ -70,22 +70,22 @@ module _ (id : ℕ) (s : CountedStore) (fields : List Fields) (v : NodeLists) (f
       omega (
         arith,
         enough id s fields v filled h is.held was.data_number,
-        ap (λ ns. times was.data_number (named_by fields ns)) nodes_are,
-        times_here was.data_number was.data_number (named_by fields (drop 1 (nodes_at v h))) refl,
+        ap (λ ns. times was.data_number (data_used_by fields ns)) nodes_are,
+        times_here was.data_number was.data_number (data_used_by fields (drop 1 (nodes_at v h))) refl,
       )
 
   -- d is taken, gets the type of the first block's, and then the first n bytes
   pub pulled_is : (n d : ℕ) (kind : MsgType) → kind ≡ kind_of s.store (block_at fields h) → (w u : CountedStore)
       → w ≡ record { store = with_kind d kind (with_data_taken d s.store); counts = set s.counts d 1 } → u ≡ with_front_copied d n (message_of fields (nodes_at v h)) w
-      → u ≡ record { store = pulled_into n (block_at fields h ∷ rest) s.store d; counts = set s.counts d 1 }
+      → u ≡ record { store = store_with_front n (block_at fields h ∷ rest) s.store d; counts = set s.counts d 1 }
   pulled_is n d kind kind_is w u w_is u_is = grind (arith, common_steps, nodes_are, bytes-message, bytes-typed)
 
   -- the bytes that are in it then
-  module _ (n d : ℕ) (fresh : IsUnused s d) (room : n ≤ capacity_of s.store d) (u : CountedStore) (u_is : u ≡ record { store = pulled_into n (block_at fields h ∷ rest) s.store d; counts = set s.counts d 1 }) where
+  module _ (n d : ℕ) (fresh : IsUnused s d) (room : n ≤ capacity_of s.store d) (u : CountedStore) (u_is : u ≡ record { store = store_with_front n (block_at fields h ∷ rest) s.store d; counts = set s.counts d 1 }) where
     abbrev stored : DataStore
-    stored = pulled_into n (block_at fields h ∷ rest) s.store d
+    stored = store_with_front n (block_at fields h ∷ rest) s.store d
 
-    -- one more block names the data block that was taken
+    -- one more block uses the data block that was taken
     named_more : (k : ℕ) → count_of u k ≡ count_of s k + one_if (eqb d k)
     named_more k = grind (arith, common_steps, count_of-set, eqb_tells)
 
@@ -98,7 +98,7 @@ module _ (id : ℕ) (s : CountedStore) (fields : List Fields) (v : NodeLists) (f
     pub still_there : was.data_number < length u.store.blocks
     still_there = omega (arith, rooms_u.many, (filled.placed h is.there).there)
 
-    module _ (t : CountedStore) (x : Fields) (kept : IsKept t) (t_is : t ≡ without_name was.data_number u) (x_is : x ≡ record { data_number = d; offset = 0; len = n; band = was.band }) where
+    module _ (t : CountedStore) (x : Fields) (kept : IsKept t) (t_is : t ≡ without_reference was.data_number u) (x_is : x ≡ record { data_number = d; offset = 0; len = n; band = was.band }) where
       abbrev now : List Fields
       now = set fields h x
 
@@ -110,24 +110,24 @@ module _ (id : ℕ) (s : CountedStore) (fields : List Fields) (v : NodeLists) (f
       abbrev named : Arena
       named = with_message h (first ∷ rest) (record old { store = stored })
 
-      names_moved : (k : ℕ) → names_of named k + one_if (eqb was.data_number k) ≡ names_of old k + one_if (eqb d k)
+      names_moved : (k : ℕ) → references_to named k + one_if (eqb was.data_number k) ≡ references_to old k + one_if (eqb d k)
       names_moved k =
           omega (
             arith,
-            held_moves (count_adds (is_naming k)) old h (Some (first ∷ rest)) (held_within old h (block_at fields h ∷ rest) head_held),
-            ap (λ o. count_by (is_naming k) (blocks_of o)) head_held,
-            (count_adds (is_naming k)).both (first ∷ []) rest,
-            (count_adds (is_naming k)).both (block_at fields h ∷ []) rest,
+            held_moves (count_adds (uses_data k)) old h (Some (first ∷ rest)) (held_within old h (block_at fields h ∷ rest) head_held),
+            ap (λ o. count_by (uses_data k) (blocks_of o)) head_held,
+            (count_adds (uses_data k)).both (first ∷ []) rest,
+            (count_adds (uses_data k)).both (block_at fields h ∷ []) rest,
           )
 
       less : (k : ℕ) → count_of t k + one_if (eqb was.data_number k) ≡ count_of u k
       less k = ap (λ (c : CountedStore). count_of c k + one_if (eqb was.data_number k)) t_is ∙ named_less u was.data_number still_used k
 
-      counted_now : (k : ℕ) → count_of t k ≡ names_of named k
+      counted_now : (k : ℕ) → count_of t k ≡ references_to named k
       counted_now k = omega (arith, less k, named_more k, names_moved k, filled.counts k)
 
       -- the former data block is free where that was its last name
-      one_less : count_of u was.data_number ≡ suc (names_of named was.data_number + 0)
+      one_less : count_of u was.data_number ≡ suc (references_to named was.data_number + 0)
       one_less = omega (arith, named_more was.data_number, names_moved was.data_number, filled.counts was.data_number, ap one_if (eq-eqb was.data_number was.data_number refl))
 
       block_is : block_at now h ≡ first
@@ -139,7 +139,7 @@ module _ (id : ℕ) (s : CountedStore) (fields : List Fields) (v : NodeLists) (f
           ∙ ap (λ (ns : List ℕ). record old { store = t.store; held = set old.held h (Some (set (message_of fields ns) 0 (block_at now h))) }) nodes_are
           ∙ ap (λ b. record old { store = t.store; held = set old.held h (Some (b ∷ rest)) }) block_is
 
-      store_is : t.store ≡ (with_name_dropped was.data_number [] named).store
+      store_is : t.store ≡ (with_reference_dropped was.data_number [] named).store
       store_is = grind (arith, common_steps, last_one, one_less)
 
       rooms : HasRooms s.store t.store
@@ -156,7 +156,7 @@ module _ (id : ℕ) (s : CountedStore) (fields : List Fields) (v : NodeLists) (f
           few = filled.few;
           listed = omega (arith, filled.listed, length-set fields h x);
           placed = placed-set s.store t.store fields h x rooms placed filled.placed;
-          counts = λ k. counted_now k ∙ ap (λ a. names_of a k) (sym shows);
+          counts = λ k. counted_now k ∙ ap (λ a. references_to a k) (sym shows);
         };
         after = shows ∙ ap (λ w. record named { store = w }) store_is ∙ ap (λ m. front_pulled h n m old d) (sym message_is);
         shelved = ap shelved_blocks shows;

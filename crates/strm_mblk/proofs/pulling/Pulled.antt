@@ -10,8 +10,8 @@ use Rattle.strm_mblk.specs.Block.{Block, Message, size_of}
 use Rattle.strm_mblk.specs.Freeing.{with_blocks_freed}
 use Rattle.strm_mblk.specs.Given.{Given, value_after, answer_map, answer_of}
 use Rattle.strm_mblk.specs.Messages.{blocks_of, held_in}
-use Rattle.strm_mblk.specs.Pulling.{drained, pull_front, front_pulled, over_data}
-use Rattle.strm_mblk.specs.Trimming.{bytes_asked, left_over, pulled, pulled_into, pullupmsg, run_of, used_up}
+use Rattle.strm_mblk.specs.Pulling.{with_bytes_drained, pull_front, front_pulled, over_data}
+use Rattle.strm_mblk.specs.Trimming.{bytes_asked, blocks_left_over, with_front_pulled, store_with_front, pullupmsg, run_of, blocks_used_up}
 use Rattle.strm_mblk.proofs.pulling.Drained.{dropped_later, freed_held, freed_id}
 use Rattle.strm_mblk.proofs.arena.Moves.{held_within}
 use Rattle.std.proofs.lemmas.Grind.{common_steps}
@@ -34,7 +34,7 @@ run_most s (b ∷ bs) = grind (arith, common_steps, first_size, sum_by-append)
 module _ (h n : ℕ) (b : Block) (bs : List Block) (a : Arena) (held : held_at a h ≡ Some (b ∷ bs)) where
   -- the message and its run, if n bytes are asked for
   module _ (count : ℤ) (asked : bytes_asked count (run_of a.store (message_at a h)) ≡ Some n) (enough : n ≤ size_of (run_of a.store (message_at a h))) where
-    pull_is : pullupmsg h count a ≡ (if nat_le n b.len then Ok (tt, a) else answer_map (λ d. (tt, pulled h n (b ∷ bs) a d)) (take_data n a.store))
+    pull_is : pullupmsg h count a ≡ (if nat_le n b.len then Ok (tt, a) else answer_map (λ d. (tt, with_front_pulled h n (b ∷ bs) a d)) (take_data n a.store))
     pull_is = grind (arith, common_steps, cond-false, le-ltb)
 
     -- the first block has them
@@ -42,7 +42,7 @@ module _ (h n : ℕ) (b : Block) (bs : List Block) (a : Arena) (held : held_at a
     pull_had few = pull_is ∙ cond-true _ _ _ (le-leb n b.len few)
 
     -- or it takes a data block for them
-    pub pull_takes : b.len < n → pullupmsg h count a ≡ answer_map (λ d. (tt, pulled h n (b ∷ bs) a d)) (take_data n a.store)
+    pub pull_takes : b.len < n → pullupmsg h count a ≡ answer_map (λ d. (tt, with_front_pulled h n (b ∷ bs) a d)) (take_data n a.store)
     pull_takes many = pull_is ∙ cond-false _ _ _ (lt-leb n b.len many)
 
   module _ (d : ℕ) where
@@ -54,20 +54,20 @@ module _ (h n : ℕ) (b : Block) (bs : List Block) (a : Arena) (held : held_at a
     first_held = get_or-set_same a.held h (Some (over_data d n b ∷ bs)) None (held_within a h (b ∷ bs) held)
 
     -- then the others lose them
-    pub pulled_is : drained h (n - b.len) (message_at first h) first ≡ pulled h n (b ∷ bs) a d
+    pub pulled_is : with_bytes_drained h (n - b.len) (message_at first h) first ≡ with_front_pulled h n (b ∷ bs) a d
     pulled_is =
-        ap (λ m. drained h (n - b.len) m first) (ap blocks_of first_held)
-        ∙ ap (with_blocks_freed (used_up (n - b.len) bs))
-        (dropped_later h (n - b.len) b.data_number (over_data d n b) bs (record a { store = pulled_into n (b ∷ bs) a.store d }) (held_within a h (b ∷ bs) held))
+        ap (λ m. with_bytes_drained h (n - b.len) m first) (ap blocks_of first_held)
+        ∙ ap (with_blocks_freed (blocks_used_up (n - b.len) bs))
+        (dropped_later h (n - b.len) b.data_number (over_data d n b) bs (record a { store = store_with_front n (b ∷ bs) a.store d }) (held_within a h (b ∷ bs) held))
 
     -- the message that is held then
-    pub pulled_held : held_at (pulled h n (b ∷ bs) a d) h ≡ Some (over_data d n b ∷ left_over (n - b.len) bs)
+    pub pulled_held : held_at (with_front_pulled h n (b ∷ bs) a d) h ≡ Some (over_data d n b ∷ blocks_left_over (n - b.len) bs)
     pulled_held =
-        ap (λ held. held_in held h) (freed_held (used_up (n - b.len) bs) _)
-        ∙ get_or-set_same a.held h (Some (over_data d n b ∷ left_over (n - b.len) bs)) None (held_within a h (b ∷ bs) held)
+        ap (λ held. held_in held h) (freed_held (blocks_used_up (n - b.len) bs) _)
+        ∙ get_or-set_same a.held h (Some (over_data d n b ∷ blocks_left_over (n - b.len) bs)) None (held_within a h (b ∷ bs) held)
 
-    pub pulled_id : (pulled h n (b ∷ bs) a d).id ≡ a.id
-    pulled_id = freed_id (used_up (n - b.len) bs) _
+    pub pulled_id : (with_front_pulled h n (b ∷ bs) a d).id ≡ a.id
+    pulled_id = freed_id (blocks_used_up (n - b.len) bs) _
 
 -- ---- answers
 
@@ -106,13 +106,13 @@ module _ (h n : ℕ) (b : Block) (bs : List Block) (a : Arena) (held : held_at a
     pub front_pulled_held : held_at first h ≡ Some (over_data taken.0 n b ∷ bs)
     front_pulled_held = ap (λ x. held_at x h) front_pulled_now ∙ first_held h n b bs a held taken.0
 
-    pub pulls : (new : Arena) → new ≡ drained h (n - b.len) (message_at first h) first → IsPulled h n a (pullupmsg h count a) new
+    pub pulls : (new : Arena) → new ≡ with_bytes_drained h (n - b.len) (message_at first h) first → IsPulled h n a (pullupmsg h count a) new
     pulls new new_is =
-        let is : new ≡ pulled h n (b ∷ bs) a taken.0 = new_is ∙ ap (λ x. drained h (n - b.len) (message_at x h) x) front_pulled_now ∙ pulled_is h n b bs a held taken.0 in
-        let now : held_at new h ≡ Some (over_data taken.0 n b ∷ left_over (n - b.len) bs) = ap (λ x. held_at x h) is ∙ pulled_held h n b bs a held taken.0 in
+        let is : new ≡ with_front_pulled h n (b ∷ bs) a taken.0 = new_is ∙ ap (λ x. with_bytes_drained h (n - b.len) (message_at x h) x) front_pulled_now ∙ pulled_is h n b bs a held taken.0 in
+        let now : held_at new h ≡ Some (over_data taken.0 n b ∷ blocks_left_over (n - b.len) bs) = ap (λ x. held_at x h) is ∙ pulled_held h n b bs a held taken.0 in
         record {
           done =
-              pull_takes h n b bs a held count asked enough many ∙ ap (answer_map (λ d. (tt, pulled h n (b ∷ bs) a d))) taken.1
+              pull_takes h n b bs a held count asked enough many ∙ ap (answer_map (λ d. (tt, with_front_pulled h n (b ∷ bs) a d))) taken.1
               ∙ ap (λ x. Ok (tt, x)) (sym is);
           held = now ∙ ap Some (sym (ap blocks_of now));
           id = ap (λ (x : Arena). x.id) is ∙ pulled_id h n b bs a held taken.0;

@@ -5,7 +5,7 @@ use Rattle.std.proofs.lemmas.Bool.{and_from, and_right, cond-true, cond-false, l
 use Rattle.std.proofs.lemmas.List.{drop-drop, length-drop, length-take}
 use Rattle.std.proofs.lemmas.Option.{none-some, same_Some}
 use Rattle.strm_mblk.specs.Block.{Block, size_of}
-use Rattle.strm_mblk.specs.Trimming.{cut_front, is_used_up, left_over, used_up}
+use Rattle.strm_mblk.specs.Trimming.{blocks_cut_front, is_used_up, blocks_left_over, blocks_used_up}
 use Rattle.strm_mblk.proofs.lists.ListParts.{drop_from}
 use Rattle.strm_mblk.proofs.trimming.Runs.{size_front}
 use Rattle.std.proofs.lemmas.Grind.{common_steps}
@@ -26,20 +26,20 @@ none_more n b part = grind (arith, common_steps, used_whole)
 -- ---- all of them
 
 -- nothing is left to take
-cut_zero : (bs : List Block) → cut_front 0 bs ≡ bs
+cut_zero : (bs : List Block) → blocks_cut_front 0 bs ≡ bs
 cut_zero [] = refl
 cut_zero (b ∷ bs) = grind (arith, common_steps, (cut_zero bs))
 
 -- the blocks that are used up are the first
-pub used_first : (n : ℕ) (bs : List Block) → used_up n bs ≡ take (length (used_up n bs)) bs
+pub used_first : (n : ℕ) (bs : List Block) → blocks_used_up n bs ≡ take (length (blocks_used_up n bs)) bs
 used_first n [] = refl
 used_first n (b ∷ bs) = grind (arith, common_steps, (used_first (n - b.len) bs))
 
-pub used_few : (n : ℕ) (bs : List Block) → length (used_up n bs) ≤ length bs
-used_few n bs = omega (arith, ap length (used_first n bs), length-take (length (used_up n bs)) bs)
+pub used_few : (n : ℕ) (bs : List Block) → length (blocks_used_up n bs) ≤ length bs
+used_few n bs = omega (arith, ap length (used_first n bs), length-take (length (blocks_used_up n bs)) bs)
 
 -- and the others stay, without what is left to take
-pub left_others : (n : ℕ) (bs : List Block) → left_over n bs ≡ cut_front (n - size_of (used_up n bs)) (drop (length (used_up n bs)) bs)
+pub left_others : (n : ℕ) (bs : List Block) → blocks_left_over n bs ≡ blocks_cut_front (n - size_of (blocks_used_up n bs)) (drop (length (blocks_used_up n bs)) bs)
 left_others n [] = refl
 left_others n (b ∷ bs) = grind (arith, common_steps, (left_others (n - b.len) bs), size_front, none_more, cut_zero)
 
@@ -55,44 +55,44 @@ size_next (x ∷ cs) (suc k) c at =
 
 -- of `count` bytes that are taken from bs those of the first i blocks are, all that these have, and `left` are left
 pub record IsTaking (count : ℕ) (bs : List Block) (i left : ℕ) : Type 0 where
-  pub rest : used_up left (drop i bs) ≡ drop i (used_up count bs)
-  pub few : i ≤ length (used_up count bs)
+  pub rest : blocks_used_up left (drop i bs) ≡ drop i (blocks_used_up count bs)
+  pub few : i ≤ length (blocks_used_up count bs)
   pub left_is : left ≡ count - size_of (take i bs)
 
 pub start_taking : (count : ℕ) (bs : List Block) → IsTaking count bs 0 count
 start_taking count bs = record { rest = refl; few = omega arith; left_is = omega arith }
 
 module _ (count : ℕ) (bs : List Block) (i left : ℕ) (taking : IsTaking count bs i left) where
-  all_used : used_up left (drop i bs) ≡ [] → i ≡ length (used_up count bs)
-  all_used none = omega (arith, taking.few, ap length (sym taking.rest ∙ none), length-drop i (used_up count bs))
+  all_used : blocks_used_up left (drop i bs) ≡ [] → i ≡ length (blocks_used_up count bs)
+  all_used none = omega (arith, taking.few, ap length (sym taking.rest ∙ none), length-drop i (blocks_used_up count bs))
 
   -- nothing is left to take, or no block to take it from
-  pub done_taking : left ≡ 0 → i ≡ length (used_up count bs)
-  done_taking none = all_used (ap (λ n. used_up n (drop i bs)) none ∙ nothing (drop i bs))
+  pub done_taking : left ≡ 0 → i ≡ length (blocks_used_up count bs)
+  done_taking none = all_used (ap (λ n. blocks_used_up n (drop i bs)) none ∙ nothing (drop i bs))
     where
-      nothing : (cs : List Block) → used_up 0 cs ≡ []
+      nothing : (cs : List Block) → blocks_used_up 0 cs ≡ []
       nothing [] = refl
       nothing (c ∷ cs) = refl
 
-  pub end_taking : drop i bs ≡ [] → i ≡ length (used_up count bs)
-  end_taking none = all_used (ap (used_up left) none)
+  pub end_taking : drop i bs ≡ [] → i ≡ length (blocks_used_up count bs)
+  end_taking none = all_used (ap (blocks_used_up left) none)
 
   module _ (b : Block) (at : slice_get bs i ≡ Some b) where
     -- the next block has more
-    pub part_taking : left < b.len → i ≡ length (used_up count bs)
-    part_taking many = all_used (ap (used_up left) (drop_from bs i b at) ∙ cond-false _ _ _ (used_part left b many))
+    pub part_taking : left < b.len → i ≡ length (blocks_used_up count bs)
+    part_taking many = all_used (ap (blocks_used_up left) (drop_from bs i b at) ∙ cond-false _ _ _ (used_part left b many))
 
     -- or it is used up
     module _ (some : 0 < left) (few : b.len ≤ left) where
-      used_next : drop i (used_up count bs) ≡ b ∷ used_up (left - b.len) (drop (i + 1) bs)
-      used_next = sym taking.rest ∙ ap (used_up left) (drop_from bs i b at) ∙ cond-true _ _ _ (used_whole left b some few)
+      used_next : drop i (blocks_used_up count bs) ≡ b ∷ blocks_used_up (left - b.len) (drop (i + 1) bs)
+      used_next = sym taking.rest ∙ ap (blocks_used_up left) (drop_from bs i b at) ∙ cond-true _ _ _ (used_whole left b some few)
 
-      pub more_used : i < length (used_up count bs)
-      more_used = omega (arith, ap length used_next, length-drop i (used_up count bs))
+      pub more_used : i < length (blocks_used_up count bs)
+      more_used = omega (arith, ap length used_next, length-drop i (blocks_used_up count bs))
 
       pub next_taking : IsTaking count bs (i + 1) (left - b.len)
       next_taking = record {
-        rest = sym (ap (drop 1) used_next) ∙ drop-drop 1 i (used_up count bs);
+        rest = sym (ap (drop 1) used_next) ∙ drop-drop 1 i (blocks_used_up count bs);
         few = omega (arith, more_used);
         left_is = omega (arith, taking.left_is, size_next bs i b at);
       }

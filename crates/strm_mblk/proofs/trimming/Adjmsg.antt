@@ -18,8 +18,8 @@ use Rattle.strm_mblk.specs.Cutting.{IsRun, with_bytes_cut}
 use Rattle.strm_mblk.specs.Given.{answer_map}
 use Rattle.strm_mblk.specs.Messages.{blocks_of, held_in}
 use Rattle.strm_mblk.specs.NodeLists.{NodeLists, nodes_at}
-use Rattle.strm_mblk.specs.Trimming.{adjmsg, along, cut, run_of}
-use Rattle.strm_mblk.proofs.trimming.Cutting.{cut_ahead, cut_along, cut_apart, cut_back-keeps, cut_named, cut_placed, length-cut, message_cut}
+use Rattle.strm_mblk.specs.Trimming.{adjmsg, from_end, message_cut, run_of}
+use Rattle.strm_mblk.proofs.trimming.Cutting.{cut_ahead, cut_along, cut_apart, cut_back-keeps, cut_named, cut_placed, length-cut, nodes_cut}
 use Rattle.strm_mblk.proofs.arena.Moves.{held_within}
 use Rattle.strm_mblk.proofs.layout.Rewriting.{AreHeld, AreRewritten, held_nodes, message_filled, message_shows, once_within, within_room}
 use Rattle.strm_mblk.proofs.layout.Shown.{message_at-seen}
@@ -32,9 +32,9 @@ ahead from_tail n size = if from_tail then size - n else n
 
 -- a count's sign gives the end, and its size the number of bytes to cut
 cut_is : (z : ℤ) (s : DataStore) (m : Message)
-    → cut z s m ≡ (if nat_lt (size_of (run_of s (along (is_negative z) m))) (unsigned_abs z) then Err Short else Ok (cut_along (is_negative z) (ahead (is_negative z) (unsigned_abs z) (size_of m)) m))
+    → message_cut z s m ≡ (if nat_lt (size_of (run_of s (from_end (is_negative z) m))) (unsigned_abs z) then Err Short else Ok (cut_along (is_negative z) (ahead (is_negative z) (unsigned_abs z) (size_of m)) m))
 cut_is (pos n) s m = grind (arith, common_steps, cut_along, le-ltb)
-cut_is (negsuc n) s m = ap (λ bs. if nat_lt (size_of (run_of s (along true m))) (unsigned_abs (negsuc n)) then Err Short else Ok bs) (cut_back-keeps (unsigned_abs (negsuc n)) m)
+cut_is (negsuc n) s m = ap (λ bs. if nat_lt (size_of (run_of s (from_end true m))) (unsigned_abs (negsuc n)) then Err Short else Ok bs) (cut_back-keeps (unsigned_abs (negsuc n)) m)
 
 -- cut from the run on, a message is cut where it is from its first block on
 cut_run : (from_tail : Bool) (s : DataStore) (fields : List Fields) (ns : List ℕ) (r : Run) → IsRun from_tail s fields ns r → (n : ℕ) → n ≤ r.size
@@ -81,15 +81,15 @@ module _ (id : ℕ) (s : CountedStore) (fields : List Fields) (v : NodeLists) (f
     shows : arena_of id s.store now v ≡ record old { held = set old.held t.head (Some (message_of now nodes)) }
     shows = message_shows id s fields v filled t.head nodes held s.store now change.apart
 
-    done : unsigned_abs z ≤ size_of (run_of s.store (along (is_negative z) (message_of fields nodes))) → adjmsg t.head z old ≡ Ok (tt, arena_of id s.store now v)
+    done : unsigned_abs z ≤ size_of (run_of s.store (from_end (is_negative z) (message_of fields nodes))) → adjmsg t.head z old ≡ Ok (tt, arena_of id s.store now v)
     done enough =
         let with_message : Message → Arena = λ m. record old { held = set old.held t.head (Some m) } in
-        ap (λ m. answer_map (λ x. (tt, with_message x)) (cut z s.store m)) (message_at-seen id s.store fields v t.head)
+        ap (λ m. answer_map (λ x. (tt, with_message x)) (message_cut z s.store m)) (message_at-seen id s.store fields v t.head)
         ∙ ap (answer_map (λ x. (tt, with_message x))) (cut_is z s.store (message_of fields nodes) ∙ cond-false _ _ _ (le-ltb _ (unsigned_abs z) enough))
-        ∙ ap (λ m. Ok (tt, with_message m)) (sym (message_cut (is_negative z) nodes _ fields (once_within id s fields v filled t.head nodes held) (within_room id s fields v filled t.head nodes held)))
+        ∙ ap (λ m. Ok (tt, with_message m)) (sym (nodes_cut (is_negative z) nodes _ fields (once_within id s fields v filled t.head nodes held) (within_room id s fields v filled t.head nodes held)))
         ∙ ap (λ (a : Arena). Ok (tt, a)) (sym shows)
 
-    adjusts : unsigned_abs z ≤ size_of (run_of s.store (along (is_negative z) (message_of fields nodes))) → IsAdjusted old s now v id z t
+    adjusts : unsigned_abs z ≤ size_of (run_of s.store (from_end (is_negative z) (message_of fields nodes))) → IsAdjusted old s now v id z t
     adjusts enough = record {
       filled = message_filled id s fields v filled t.head nodes held s now change filled.kept refl (cut_placed (is_negative z) s.store nodes (ahead (is_negative z) (unsigned_abs z) (size_of (message_of fields nodes))) fields filled.placed);
       done = done enough;

@@ -10,7 +10,7 @@ use Rattle.strm_mblk.specs.declared.blocks.Fields.{Fields}
 use Rattle.strm_mblk.specs.Block.{Block, size_of}
 use Rattle.strm_mblk.specs.BlocksLayout.{IsPlaced, block_at, block_of, fields_at, message_of, no_fields}
 use Rattle.strm_mblk.specs.Cutting.{fields_cut, with_bytes_cut}
-use Rattle.strm_mblk.specs.Trimming.{cut_back, cut_front}
+use Rattle.strm_mblk.specs.Trimming.{blocks_cut_back, blocks_cut_front}
 use Rattle.strm_mblk.proofs.layout.Shown.{alike_off, message-alike}
 use Rattle.strm_mblk.proofs.lists.ListParts.{drop_from}
 use Rattle.strm_mblk.proofs.trimming.Runs.{size_front}
@@ -67,20 +67,20 @@ keep_front n [] = []
 keep_front n (b ∷ bs) = record b { len = min n b.len } ∷ keep_front (n - b.len) bs
 
 -- what is cut from the last to the first, if one more block comes after
-cut_back-push : (n : ℕ) (bs : List Block) (b : Block) → cut_back n (bs ++ b ∷ []) ≡ cut_back n bs ++ record b { len = b.len - (n - size_of bs) } ∷ []
+cut_back-push : (n : ℕ) (bs : List Block) (b : Block) → blocks_cut_back n (bs ++ b ∷ []) ≡ blocks_cut_back n bs ++ record b { len = b.len - (n - size_of bs) } ∷ []
 cut_back-push n [] b = ap (λ m. record b { len = b.len - m } ∷ []) (let e : n ≡ n - 0 = omega arith in e)
 cut_back-push n (x ∷ bs) b = grind (arith, common_steps, (cut_back-push (n - x.len) bs b), size_front)
 
 -- without the last n bytes there are all but n from the front on
-pub cut_back-keeps : (n : ℕ) (m : List Block) → reverse (cut_back n (reverse m)) ≡ keep_front (size_of m - n) m
+pub cut_back-keeps : (n : ℕ) (m : List Block) → reverse (blocks_cut_back n (reverse m)) ≡ keep_front (size_of m - n) m
 cut_back-keeps n [] = refl
 cut_back-keeps n (b ∷ m) =
     let S = size_of (reverse m) in
     let same : S ≡ size_of m = reverse_size m in
     let here : b.len - (n - S) ≡ min (size_of (b ∷ m) - n) b.len = omega (arith, same, size_front b m) in
     let rest : size_of m - n ≡ size_of (b ∷ m) - n - b.len = omega (arith, size_front b m) in
-    ap (λ xs. reverse (cut_back n xs)) (reverse-append (b ∷ []) m) ∙ ap reverse (cut_back-push n (reverse m) b)
-    ∙ reverse-append (cut_back n (reverse m)) (record b { len = b.len - (n - S) } ∷ [])
+    ap (λ xs. reverse (blocks_cut_back n xs)) (reverse-append (b ∷ []) m) ∙ ap reverse (cut_back-push n (reverse m) b)
+    ∙ reverse-append (blocks_cut_back n (reverse m)) (record b { len = b.len - (n - S) } ∷ [])
     ∙ (λ i. record b { len = here i } ∷ (cut_back-keeps n m ∙ ap (λ k. keep_front k m) rest) i)
   where
     reverse_size : (xs : List Block) → size_of (reverse xs) ≡ size_of xs
@@ -94,7 +94,7 @@ module _ (from_tail : Bool) where
       let x = fields_cut from_tail n (fields_at fields k) in
       length-cut ks (n - (fields_at fields k).len) (set fields k x) ∙ length-set fields k x
 
-  -- each block names the data block that it named
+  -- each block uses the data block that it used
   pub cut_named : (ks : List ℕ) (n : ℕ) (fields : List Fields) (j : ℕ) → (fields_at (with_bytes_cut from_tail n ks fields) j).data_number ≡ (fields_at fields j).data_number
   cut_named ks n fields = cut_all (λ j f. f.data_number ≡ (fields_at fields j).data_number) from_tail (λ m j f named. named) ks n fields (λ j. refl)
 
@@ -118,24 +118,24 @@ module _ (from_tail : Bool) where
 
   -- the blocks of a message without its first n bytes, or with only those
   abbrev pub cut_along : ℕ → List Block → List Block
-  cut_along n bs = if from_tail then keep_front n bs else cut_front n bs
+  cut_along n bs = if from_tail then keep_front n bs else blocks_cut_front n bs
 
-  pub message_cut : (ks : List ℕ) (n : ℕ) (fields : List Fields) → ((j : ℕ) → times j ks ≤ 1) → ((j : ℕ) → 0 < times j ks → j < length fields)
+  pub nodes_cut : (ks : List ℕ) (n : ℕ) (fields : List Fields) → ((j : ℕ) → times j ks ≤ 1) → ((j : ℕ) → 0 < times j ks → j < length fields)
       → message_of (with_bytes_cut from_tail n ks fields) ks ≡ cut_along n (message_of fields ks)
-  message_cut [] n fields once there = grind (arith, common_steps)
-  message_cut (k ∷ ks) n fields once there =
+  nodes_cut [] n fields once there = grind (arith, common_steps)
+  nodes_cut (k ∷ ks) n fields once there =
       let x = fields_cut from_tail n (fields_at fields k) in
       let more = n - (fields_at fields k).len in
       let alone : times k ks ≡ 0 = omega (arith, once k, times_here k k ks refl) in
       let inside : k < length fields = there k (omega (arith, times_here k k ks refl)) in
       let here : fields_at (with_bytes_cut from_tail more ks (set fields k x)) k ≡ x = cut_apart ks more (set fields k x) k alone ∙ get_or-set_same fields k x no_fields inside in
       let rest : message_of (with_bytes_cut from_tail more ks (set fields k x)) ks ≡ cut_along more (message_of fields ks) =
-      message_cut ks more (set fields k x) (λ j. omega (arith, once j, times-cons j k ks)) (λ j some. omega (arith, length-set fields k x, there j (omega (arith, some, times-cons j k ks))))
+      nodes_cut ks more (set fields k x) (λ j. omega (arith, once j, times-cons j k ks)) (λ j some. omega (arith, length-set fields k x, there j (omega (arith, some, times-cons j k ks))))
       ∙ ap (cut_along more) (message-alike fields (set fields k x) ks (alike_off fields k x ks alone)) in
       (λ i. block_of k (here i) ∷ rest i) ∙ along_one from_tail (message_of fields ks)
     where
       along_one : (t : Bool) (bs : List Block)
-          → block_of k (fields_cut t n (fields_at fields k)) ∷ (if t then keep_front (n - (fields_at fields k).len) bs else cut_front (n - (fields_at fields k).len) bs)
-          ≡ (if t then keep_front n (block_at fields k ∷ bs) else cut_front n (block_at fields k ∷ bs))
+          → block_of k (fields_cut t n (fields_at fields k)) ∷ (if t then keep_front (n - (fields_at fields k).len) bs else blocks_cut_front (n - (fields_at fields k).len) bs)
+          ≡ (if t then keep_front n (block_at fields k ∷ bs) else blocks_cut_front n (block_at fields k ∷ bs))
       along_one true bs = refl
       along_one false bs = refl

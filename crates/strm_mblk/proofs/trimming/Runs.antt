@@ -16,7 +16,7 @@ use Rattle.strm_mblk.specs.declared.blocks.trimming.Run.{Run}
 use Rattle.strm_mblk.specs.Block.{Block, kind_of, size_of}
 use Rattle.strm_mblk.specs.BlocksLayout.{block_at, message_of}
 use Rattle.strm_mblk.specs.Cutting.{IsRun, run_with}
-use Rattle.strm_mblk.specs.Trimming.{along, run_of}
+use Rattle.strm_mblk.specs.Trimming.{from_end, run_of}
 use Rattle.strm_mblk.proofs.lists.ListParts.{drop_from}
 use Rattle.strm_mblk.proofs.freeing.Dropping.{reverse_onto}
 use Rattle.std.proofs.lemmas.Grind.{common_steps}
@@ -92,7 +92,7 @@ measured_trailing s c cs (b ∷ bs) =
     ]
 
 -- all of a message
-measured_all : (from_tail : Bool) (s : DataStore) (b : Block) (m : List Block) → measured from_tail s (kind_of s b) 0 (b ∷ m) ≡ size_of (run_of s (along from_tail (b ∷ m)))
+measured_all : (from_tail : Bool) (s : DataStore) (b : Block) (m : List Block) → measured from_tail s (kind_of s b) 0 (b ∷ m) ≡ size_of (run_of s (from_end from_tail (b ∷ m)))
 measured_all false s b m =
     let p : Block → Bool = λ c. same_kind (kind_of s c) (kind_of s b) in
     omega (arith, measured_leading s (kind_of s b) 0 (b ∷ m), run_more p b m (same_kind-refl (kind_of s b)), size_front b (take_while p m))
@@ -105,14 +105,14 @@ measured_all true s b m =
 
 -- what the loop keeps: the run at hand, where the block at place i comes next
 pub record IsMeasured (from_tail : Bool) (s : DataStore) (fields : List Fields) (ns : List ℕ) (i : ℕ) (r : Run) : Type 0 where
-  pub size : measured from_tail s r.kind r.size (message_of fields (drop i ns)) ≡ size_of (run_of s (along from_tail (message_of fields ns)))
+  pub size : measured from_tail s r.kind r.size (message_of fields (drop i ns)) ≡ size_of (run_of s (from_end from_tail (message_of fields ns)))
   pub few : r.blocks ≤ length ns
   pub begins : slice_get ns (length ns - r.blocks) ≡ Some r.first
   pub leading : from_tail ≡ false → r.blocks ≡ length ns
   pub sums : size_of (message_of fields (take (length ns - r.blocks) ns)) + r.size + size_of (message_of fields (drop i ns)) ≡ size_of (message_of fields ns)
 
 module _ (from_tail : Bool) (s : DataStore) (fields : List Fields) where
-  first_size : (ns : List ℕ) (h : ℕ) → slice_get ns 0 ≡ Some h → measured from_tail s (kind_of s (block_at fields h)) 0 (message_of fields ns) ≡ size_of (run_of s (along from_tail (message_of fields ns)))
+  first_size : (ns : List ℕ) (h : ℕ) → slice_get ns 0 ≡ Some h → measured from_tail s (kind_of s (block_at fields h)) 0 (message_of fields ns) ≡ size_of (run_of s (from_end from_tail (message_of fields ns)))
   first_size [] h begun = absurd (none-some h begun)
   first_size (n ∷ ns) h begun =
       ap (λ k. measured from_tail s (kind_of s (block_at fields k)) 0 (message_of fields (n ∷ ns))) (sym (same_Some n h begun)) ∙ measured_all from_tail s (block_at fields n) (message_of fields ns)

@@ -3,7 +3,7 @@ ghost use Rattle.std.specs.Prelude.{Ok, IsTrue};
 ghost use Rattle.strm_mblk.specs.Arena.{has};
 ghost use Rattle.strm_mblk.specs.BlockCalls as model;
 ghost use Rattle.strm_mblk.specs.Calls.{Alters, itself};
-ghost use Rattle.strm_mblk.specs.Given.{done};
+ghost use Rattle.strm_mblk.specs.Given.{given_nothing};
 
 use super::{Blocks, node_at};
 use crate::token::Token;
@@ -63,7 +63,7 @@ impl Blocks {
     /// constant time. In STREAMS modules do this by hand (`b_band`).
     pub fn setband(&mut self, token: &Token, band: u8)
         requires { IsTrue (has self.old token.now) }
-        ensures { Alters itself token.now token.now (done (model.setband token.now.head band self.old))
+        ensures { Alters itself token.now token.now (given_nothing (model.setband token.now.head band self.old))
             self.old self.new (Ok tt) }
     {
         self.blocks[token.head() as usize].band = band;

@@ -2,13 +2,14 @@
 ghost use Rattle.std.specs.Prelude.{◌≡◌, ◌<◌, ℕ, IsSome, IsTrue, length};
 ghost use Rattle.strm_data.specs.CountedStore.{IsKept};
 ghost use Rattle.strm_data.specs.DataStore.{capacity_of};
-ghost use Rattle.strm_mblk.specs.Shelves.{shelf_of, stands_on};
+ghost use Rattle.strm_mblk.specs.Shelves.{shelf_of, is_on};
 
 use super::{BlockNo, Blocks};
-use crate::chains::beside::{assert_free, is_on};
+use crate::chains::beside;
+use crate::chains::beside::assert_free;
 use crate::limits::MOST_MESSAGE_BLOCKS;
 use crate::plain::arena::Arena;
-use crate::plain::block::{Block, Message, count_naming, head_in};
+use crate::plain::block::{Block, Message, count_using, head_in};
 use crate::plain::list::List;
 use crate::plain::store::DataBlock;
 use crate::tests::assert_is;
@@ -19,15 +20,15 @@ use strm_data::{Data, MOST_DATA_BLOCKS};
 const MOST: usize = 64;
 
 // Whether there is such a shelf, and a message with this head is on it.
-pub(crate) fn stands_on(among: &Blocks, shelf: u8, head: BlockNo) -> bool
+pub(crate) fn is_on(among: &Blocks, shelf: u8, head: BlockNo) -> bool
     ensures shelf { IsTrue result → shelf < length among.now.shelves }
     ensures head { IsTrue result → head < length among.now.held }
-    ensures there { IsTrue result → IsTrue (stands_on among.now shelf head) }
+    ensures there { IsTrue result → IsTrue (is_on among.now shelf head) }
     ensures some { IsTrue result → IsSome (shelf_of among.now head) }
 {
     u32::from(shelf) < among.chains.shelf_count()
         && (head as usize) < among.blocks.len()
-        && is_on(&among.chains, u32::from(shelf), head)
+        && beside::is_on(&among.chains, u32::from(shelf), head)
 }
 
 // Asserts that calls take these data blocks for this size, in this order. Each is taken, and returned as it was.
@@ -159,7 +160,7 @@ impl Blocks {
         message: &[Block],
     ) -> Option<u32> {
         let head = head_in(message).expect(rt, "a block");
-        assert!(rt; at == Some(head) && stands_on(self, shelf, head));
+        assert!(rt; at == Some(head) && is_on(self, shelf, head));
         self.assert_message(rt, head, message);
         self.after(head)
     }
@@ -191,7 +192,7 @@ impl Blocks {
         let data = self.data();
         assert!(rt; (number as usize) < data.len());
         let names = usize::from(data.count(number));
-        assert_is(rt, &names, &count_naming(number, blocks));
+        assert_is(rt, &names, &count_using(number, blocks));
     }
 
     // Asserts the data blocks, and that each has a reference for each of these message blocks that uses it.

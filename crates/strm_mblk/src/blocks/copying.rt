@@ -60,9 +60,10 @@ fn copies_fit(chains: &Chains, blocks: &[Fields], stored: &Data, head: u32, coun
     requires listed { length blocks.now ≡ length chains.now.held }
     requires placed { (n : ℕ) → n < length blocks.now → IsPlaced stored.now.store (fields_at blocks.now n) }
     requires kept { IsKept stored.now }
-    ensures fit { result ≡ is_ok (model.copies (take count (message_of blocks.now (nodes_at chains.now head)))
+    ensures fit { result ≡ is_ok (model.blocks_copied (take count (message_of blocks.now (nodes_at chains.now head)))
         stored.now.store) }
-    ensures refused { result ≡ false → model.copies (take count (message_of blocks.now (nodes_at chains.now head)))
+    ensures refused { result ≡ false → model.blocks_copied
+        (take count (message_of blocks.now (nodes_at chains.now head)))
         stored.now.store ≡ Err NoData }
 {
     if stored.free_in_largest() >= count {
@@ -125,7 +126,7 @@ fn copy_blocks(
     requires listed { length blocks.old ≡ length chains.now.held }
     requires placed { (n : ℕ) → n < length blocks.old → IsPlaced stored.old.store (fields_at blocks.old n) }
     requires kept { IsKept stored.old }
-    requires fit { IsTrue (is_ok (model.copies (take count (message_of blocks.old (nodes_at chains.now from)))
+    requires fit { IsTrue (is_ok (model.blocks_copied (take count (message_of blocks.old (nodes_at chains.now from)))
         stored.old.store)) }
     ensures after { AreCopied (take count (message_of blocks.old (nodes_at chains.now from))) (nodes_at chains.now into)
         blocks.old blocks.new stored.old stored.new }
@@ -145,7 +146,7 @@ impl Blocks {
     fn copy(&mut self, token: &Token, count: u32) -> Result<Token, Refusal>
         requires had { IsTrue (has self.old token.now) }
         requires count { (count ≡ 1) ⊎ (count ≡ token.now.blocks) }
-        ensures { Gives itself (Some token.now) (model.copied (take count (message_at self.old token.now.head))
+        ensures { Gives itself (Some token.now) (model.message_copied (take count (message_at self.old token.now.head))
             self.old) self.old self.new result }
     {
         if self.chains.free_len() < count {

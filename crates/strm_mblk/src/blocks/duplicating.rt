@@ -4,38 +4,45 @@ ghost use Rattle.strm_data.specs.CountedStore.{IsKept, count_of};
 ghost use Rattle.strm_data.specs.DataStore.{times};
 ghost use Rattle.strm_mblk.specs.Arena.{has, message_at};
 ghost use Rattle.strm_mblk.specs.BlockCalls as model;
-ghost use Rattle.strm_mblk.specs.BlocksLayout.{exceeds_counts, fields_at, named_by, with_fields, with_names_given};
+ghost use Rattle.strm_mblk.specs.BlocksLayout.{exceeds_counts, fields_at, data_used_by, with_fields, with_references_given};
 ghost use Rattle.strm_mblk.specs.Calls.{Gives, itself};
 ghost use Rattle.strm_mblk.specs.NodeLists.{nodes_at};
 
-use super::freeing::drop_names;
+use super::freeing::drop_references;
 use super::{Blocks, Fields};
 use crate::chains::Chains;
 use crate::token::Token;
-use strm_data::{Data, MOST_DATA_BLOCK_NAMES, Refusal};
+use strm_data::{Data, MOST_REFERENCES, Refusal};
 
 // Adds a reference to the data block of each of the first `count` blocks of a held message, first to last. Returns false,
-// and leaves all data blocks unchanged, if one would have more than `MOST_DATA_BLOCK_NAMES` references.
+// and leaves all data blocks unchanged, if one would have more than `MOST_REFERENCES` references.
 #[inline(always)]
-fn give_names(chains: &Chains, blocks: &[Fields], stored: &mut Data, head: u32, count: u32) -> bool
+fn give_references(
+    chains: &Chains,
+    blocks: &[Fields],
+    stored: &mut Data,
+    head: u32,
+    count: u32,
+) -> bool
     requires begun { slice_get (nodes_at chains.now head) 0 ≡ Some head }
     requires count { count ≤ length (nodes_at chains.now head) }
     requires blocks { length blocks.now ≡ length chains.now.held }
     requires there { (n : ℕ) → n < length blocks.now → (fields_at blocks.now n).data_number
         < length stored.old.store.blocks }
-    requires used { (d : ℕ) → 0 < times d (named_by blocks.now (nodes_at chains.now head)) → 0 < count_of stored.old d }
+    requires used { (d : ℕ) → 0 < times d (data_used_by blocks.now (nodes_at chains.now head))
+        → 0 < count_of stored.old d }
     requires kept { IsKept stored.old }
-    ensures answer { result ≡ not (exceeds_counts (take count (named_by blocks.now (nodes_at chains.now head)))
+    ensures answer { result ≡ not (exceeds_counts (take count (data_used_by blocks.now (nodes_at chains.now head)))
         stored.old) }
-    ensures after { stored.new ≡ (if result then with_names_given
-        (take count (named_by blocks.now (nodes_at chains.now head))) stored.old else stored.old) }
+    ensures after { stored.new ≡ (if result then with_references_given
+        (take count (data_used_by blocks.now (nodes_at chains.now head))) stored.old else stored.old) }
     ensures kept { IsKept stored.new }
 {
     let mut node = head;
     for given in 0..count {
         let data_number = blocks[node as usize].data_number;
-        if stored.count(data_number) == MOST_DATA_BLOCK_NAMES {
-            drop_names(chains, blocks, stored, head, given);
+        if stored.count(data_number) == MOST_REFERENCES {
+            drop_references(chains, blocks, stored, head, given);
             return false;
         }
         stored.name(data_number);
@@ -72,14 +79,15 @@ impl Blocks {
     fn duplicate(&mut self, token: &Token, count: u32) -> Result<Token, Refusal>
         requires had { IsTrue (has self.old token.now) }
         requires count { (count ≡ 1) ⊎ (count ≡ token.now.blocks) }
-        ensures { Gives itself (Some token.now) (model.duplicated (take count (message_at self.old token.now.head))
+        ensures { Gives itself (Some token.now) (model.message_duplicated
+            (take count (message_at self.old token.now.head))
             self.old) self.old self.new result }
     {
         if self.chains.free_len() < count {
             return Err(Refusal::NoMblk);
         }
         let from = token.head();
-        if !give_names(&self.chains, &self.blocks, &mut self.data, from, count) {
+        if !give_references(&self.chains, &self.blocks, &mut self.data, from, count) {
             return Err(Refusal::RefMax);
         }
         let head = self.chains.begin_all(count);
@@ -90,7 +98,7 @@ impl Blocks {
     /// Makes a message of one new block, the first free one, and returns its token. The new block has the data block,
     /// places and band of this message's first block.
     ///
-    /// Refused as `NoMblk` if no message block is free, then as `RefMax` if the data block has `MOST_DATA_BLOCK_NAMES`
+    /// Refused as `NoMblk` if no message block is free, then as `RefMax` if the data block has `MOST_REFERENCES`
     /// references. On an error nothing changes. Takes constant time.
     pub fn dupb(&mut self, token: &Token) -> Result<Token, Refusal>
         requires { IsTrue (has self.old token.now) }
@@ -103,7 +111,7 @@ impl Blocks {
     /// token. Each has the data block, places and band of its old block. All blocks are duplicated or none.
     ///
     /// Refused as `NoMblk` if fewer message blocks are free than the message has, then as `RefMax` if a data block would
-    /// have more than `MOST_DATA_BLOCK_NAMES` references. On an error nothing changes. Takes at most three steps for
+    /// have more than `MOST_REFERENCES` references. On an error nothing changes. Takes at most three steps for
     /// each block.
     pub fn dupmsg(&mut self, token: &Token) -> Result<Token, Refusal>
         requires { IsTrue (has self.old token.now) }

@@ -4,9 +4,9 @@ ghost use Rattle.strm_data.specs.CountedStore.{IsKept, count_of};
 ghost use Rattle.strm_data.specs.DataStore.{times};
 ghost use Rattle.strm_mblk.specs.Arena.{has};
 ghost use Rattle.strm_mblk.specs.BlockCalls as model;
-ghost use Rattle.strm_mblk.specs.BlocksLayout.{fields_at, named_by, with_names_dropped};
+ghost use Rattle.strm_mblk.specs.BlocksLayout.{fields_at, data_used_by, with_references_dropped};
 ghost use Rattle.strm_mblk.specs.Calls.{Frees, Spends, itself};
-ghost use Rattle.strm_mblk.specs.Freeing.{spent};
+ghost use Rattle.strm_mblk.specs.Freeing.{with_token_spent};
 ghost use Rattle.strm_mblk.specs.NodeLists.{nodes_at};
 
 use super::{Blocks, Fields};
@@ -17,7 +17,7 @@ use strm_data::Data;
 // Removes the references of the first `count` blocks of a held message, first to last. Most messages have one block, for
 // which no loop runs.
 #[inline(always)]
-pub(super) fn drop_names(
+pub(super) fn drop_references(
     chains: &Chains,
     blocks: &[Fields],
     stored: &mut Data,
@@ -29,10 +29,11 @@ pub(super) fn drop_names(
     requires blocks { length blocks.now ≡ length chains.now.held }
     requires there { (n : ℕ) → n < length blocks.now → (fields_at blocks.now n).data_number
         < length stored.old.store.blocks }
-    requires named { (d : ℕ) → times d (take count (named_by blocks.now (nodes_at chains.now head)))
+    requires named { (d : ℕ) → times d (take count (data_used_by blocks.now (nodes_at chains.now head)))
         ≤ count_of stored.old d }
     requires kept { IsKept stored.old }
-    ensures after { stored.new ≡ with_names_dropped (take count (named_by blocks.now (nodes_at chains.now head)))
+    ensures after { stored.new ≡ with_references_dropped
+        (take count (data_used_by blocks.now (nodes_at chains.now head)))
         stored.old }
     ensures kept { IsKept stored.new }
 {
@@ -52,12 +53,12 @@ impl Blocks {
     /// block that loses its last reference is freed, to the front of its class's list. A token that these blocks do not
     /// have is spent, and nothing else changes. Takes two steps for each block.
     pub fn freemsg(&mut self, token: Token)
-        ensures { Spends itself token (spent self.old token) self.old self.new }
+        ensures { Spends itself token (with_token_spent self.old token) self.old self.new }
     {
         let has = self.has(&token);
         let token = token.spend();
         if has {
-            drop_names(
+            drop_references(
                 &self.chains,
                 &self.blocks,
                 &mut self.data,

@@ -4,7 +4,7 @@ ghost use Rattle.strm_data.specs.CountedStore.{IsKept, count_of};
 ghost use Rattle.strm_data.specs.DataStore.{capacity_of, times};
 ghost use Rattle.strm_mblk.specs.Arena.{has, held_at, message_at};
 ghost use Rattle.strm_mblk.specs.Block.{Block, bytes_of, size_of};
-ghost use Rattle.strm_mblk.specs.BlocksLayout.{IsPlaced, fields_at, message_of, named_by, with_names_dropped};
+ghost use Rattle.strm_mblk.specs.BlocksLayout.{IsPlaced, fields_at, message_of, data_used_by, with_references_dropped};
 ghost use Rattle.strm_mblk.specs.Cutting.{with_bytes_cut};
 ghost use Rattle.strm_mblk.specs.Calls.{Alters, itself};
 ghost use Rattle.strm_mblk.specs.Given.{value_after, answer_of};
@@ -48,7 +48,7 @@ fn copy_front(
     requires placed { (n : ℕ) → n < length blocks.now → IsPlaced stored.old.store (fields_at blocks.now n) }
     requires there { into < length stored.old.store.blocks }
     requires room { count ≤ capacity_of stored.old.store into }
-    requires unnamed { times into (named_by blocks.now (nodes_at chains.now head)) ≡ 0 }
+    requires unnamed { times into (data_used_by blocks.now (nodes_at chains.now head)) ≡ 0 }
     requires enough { count ≤ length (bytes_of stored.old.store (message_of blocks.now (nodes_at chains.now head))) }
     requires kept { IsKept stored.old }
     ensures after { stored.new ≡ pulling.with_front_copied into count (message_of blocks.now (nodes_at chains.now head))
@@ -87,11 +87,12 @@ fn take_bytes(
         < length stored.old.store.blocks }
     requires small { (n : ℕ) → n < length blocks.old → (fields_at blocks.old n).offset + (fields_at blocks.old n).len
         < 2 ^ 32 }
-    requires named { (d : ℕ) → times d (named_by blocks.old (nodes_at chains.now head)) ≤ count_of stored.old d }
+    requires named { (d : ℕ) → times d (data_used_by blocks.old (nodes_at chains.now head)) ≤ count_of stored.old d }
     requires kept { IsKept stored.old }
-    ensures used { result ≡ length (model.used_up count (message_of blocks.old (drop 1 (nodes_at chains.now head)))) }
-    ensures dropped { stored.new ≡ with_names_dropped (take result
-        (named_by blocks.old (drop 1 (nodes_at chains.now head)))) stored.old }
+    ensures used { result ≡ length (model.blocks_used_up count
+        (message_of blocks.old (drop 1 (nodes_at chains.now head)))) }
+    ensures dropped { stored.new ≡ with_references_dropped (take result
+        (data_used_by blocks.old (drop 1 (nodes_at chains.now head)))) stored.old }
     ensures cut { blocks.new ≡ with_bytes_cut false (count - size_of
         (take result (message_of blocks.old (drop 1 (nodes_at chains.now head)))))
         (drop (result + 1) (nodes_at chains.now head)) blocks.old }
@@ -153,7 +154,7 @@ impl Blocks {
     // Removes `count` bytes from the blocks after the first of a held message, and frees the blocks that are used up.
     fn drain(&mut self, head: u32, count: u32)
         requires { IsSome (held_at self.old head) }
-        ensures { self.new ≡ pulling.drained head count (message_at self.old head) self.old }
+        ensures { self.new ≡ pulling.with_bytes_drained head count (message_at self.old head) self.old }
     {
         let used = take_bytes(&self.chains, &mut self.blocks, &mut self.data, head, count);
         self.chains.free_behind(head, used);

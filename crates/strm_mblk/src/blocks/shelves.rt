@@ -5,9 +5,9 @@ ghost use Rattle.strm_links.specs.Rows as rows;
 ghost use Rattle.strm_mblk.specs.Arena.{has};
 ghost use Rattle.strm_mblk.specs.Block.{kind_of, size_of};
 ghost use Rattle.strm_mblk.specs.Calls.{Puts, Takes, itself};
-ghost use Rattle.strm_mblk.specs.Given.{done};
+ghost use Rattle.strm_mblk.specs.Given.{given_nothing};
 ghost use Rattle.strm_mblk.specs.Shelves as model;
-ghost use Rattle.strm_mblk.specs.Shelves.{head_block, heads_at, shelf_of, shelved_message, stands_on};
+ghost use Rattle.strm_mblk.specs.Shelves.{head_block, heads_at, shelf_of, shelved_message, is_on};
 
 use super::reading::sum_of_lengths;
 use super::{BlockNo, Blocks};
@@ -34,7 +34,7 @@ impl Blocks {
     /// Returns the head of the message after this one on its shelf, or none if this is the last. Changes nothing.
     pub fn after(&self, head: BlockNo) -> Option<BlockNo>
         requires { IsSome (shelf_of self.now head) }
-        ensures { (shelf : ℕ) → IsTrue (stands_on self.now shelf head)
+        ensures { (shelf : ℕ) → IsTrue (is_on self.now shelf head)
             → result ≡ rows.after head (heads_at self.now shelf) }
     {
         self.chains.after(head)
@@ -43,7 +43,7 @@ impl Blocks {
     /// Returns the head of the message before this one on its shelf, or none if this is the first. Changes nothing.
     pub fn before(&self, head: BlockNo) -> Option<BlockNo>
         requires { IsSome (shelf_of self.now head) }
-        ensures { (shelf : ℕ) → IsTrue (stands_on self.now shelf head)
+        ensures { (shelf : ℕ) → IsTrue (is_on self.now shelf head)
             → result ≡ rows.before head (heads_at self.now shelf) }
     {
         self.chains.before(head)
@@ -66,8 +66,9 @@ impl Blocks {
     pub fn shelve(&mut self, shelf: u8, before: Option<BlockNo>, token: Token)
         requires shelf { shelf < length self.old.shelves }
         requires had { IsTrue (has self.old token) }
-        requires before { ForSome before (λ at. IsTrue (stands_on self.old shelf at)) }
-        ensures { Puts itself token (done (model.shelve shelf before token.head self.old)) self.old self.new (Ok tt) }
+        requires before { ForSome before (λ at. IsTrue (is_on self.old shelf at)) }
+        ensures { Puts itself token (given_nothing (model.shelve shelf before token.head self.old)) self.old self.new
+            (Ok tt) }
     {
         let head = token.spend().head;
         self.queued += self.chains.len(head);
@@ -78,7 +79,7 @@ impl Blocks {
     /// order, and all blocks keep what they store. Takes constant time.
     pub fn unshelve(&mut self, shelf: u8, head: BlockNo) -> Token
         requires shelf { shelf < length self.old.shelves }
-        requires there { IsTrue (stands_on self.old shelf head) }
+        requires there { IsTrue (is_on self.old shelf head) }
         ensures { Takes itself (Ok (head, model.unshelve shelf head self.old)) self.old self.new (Ok result) }
     {
         self.chains.unshelve(u32::from(shelf), head);

@@ -14,7 +14,7 @@ use std::process::Abort;
 use strm_data::{MsgType, Refusal};
 
 fn banded(rt: &impl Abort, alloc: Global, band: u8, message: &[Block]) -> Message
-    ensures { result ≡ model.banded band message.now }
+    ensures { result ≡ model.with_band band message.now }
 {
     match message {
         [] => List::empty(alloc),
@@ -63,7 +63,7 @@ impl Arena {
     ) -> Given<()>
         ensures { result ≡ model.write_block head place bytes.now self.now (message_at self.now head) (Some block) }
     {
-        if self.names_of(rt, block.data_number) > 1 {
+        if self.references_to(rt, block.data_number) > 1 {
             return Err(Refusal::Shared);
         }
         let count = u32::try_from(bytes.len()).expect(rt, "few bytes");
@@ -91,7 +91,7 @@ impl Arena {
     fn settype_of(&self, rt: &impl Abort, kind: MsgType, block: Block) -> Given<()>
         ensures { result ≡ model.settype_of kind self.now (Some block) }
     {
-        if self.names_of(rt, block.data_number) > 1 {
+        if self.references_to(rt, block.data_number) > 1 {
             return Err(Refusal::Shared);
         }
         let store = self.store().twin(rt, self.alloc);
@@ -120,13 +120,13 @@ impl Arena {
     {
         let end = sum(rt, block.offset, block.len);
         let capacity = self.store().capacity_of(rt, block.data_number);
-        let names = self.names_of(rt, block.data_number);
+        let names = self.references_to(rt, block.data_number);
         BlockInfo {
             kind: kind_of(self.store(), block),
             len: block.len,
             band: block.band,
             room: capacity.saturating_sub(end),
-            names: u8::try_from(names).expect(rt, "few names"),
+            names: u8::try_from(names).expect(rt, "few references"),
         }
     }
 

@@ -5,7 +5,7 @@ ghost use Rattle.strm_mblk.specs.Arena as model;
 ghost use Rattle.strm_mblk.specs.Given.{value_after, answer_of};
 
 use super::block::{
-    Block, Message, blocks_held, blocks_of, blocks_on, count_naming, head_of, small,
+    Block, Message, blocks_held, blocks_of, blocks_on, count_using, head_of, small,
 };
 use super::list::{List, Twin};
 use super::store::{DataStore, numbers};
@@ -133,10 +133,10 @@ impl Arena {
             .with_more(rt, self.alloc, held.items())
     }
 
-    pub(super) fn names_of(&self, rt: &impl Abort, number: u32) -> usize
-        ensures { result ≡ model.names_of self.now number }
+    pub(super) fn references_to(&self, rt: &impl Abort, number: u32) -> usize
+        ensures { result ≡ model.references_to self.now number }
     {
-        count_naming(number, self.blocks_in(rt).items())
+        count_using(number, self.blocks_in(rt).items())
     }
 
     pub(crate) fn census_of(&self, rt: &impl Abort) -> Census

@@ -73,8 +73,8 @@ pub(crate) fn new_block(number: u32, data_number: u32) -> Block
 }
 
 // The number of these blocks that use data block `number`.
-pub(crate) fn count_naming(number: u32, blocks: &[Block]) -> usize
-    ensures { result ≡ count_by (model.is_naming number) blocks.now }
+pub(crate) fn count_using(number: u32, blocks: &[Block]) -> usize
+    ensures { result ≡ count_by (model.uses_data number) blocks.now }
 {
     blocks
         .iter()

@@ -4,16 +4,16 @@ ghost use Rattle.strm_mblk.specs.BlockCalls as calls;
 ghost use Rattle.strm_mblk.specs.Freeing as model;
 
 use super::arena::Arena;
-use super::block::{Block, count_naming, head_in};
+use super::block::{Block, count_using, head_in};
 use super::list::{List, Twin};
 use crate::TokenValue;
 use std::process::Abort;
 
 impl Arena {
     pub(super) fn with_name_dropped(self, rt: &impl Abort, number: u32, loose: &[Block]) -> Arena
-        ensures { result ≡ model.with_name_dropped number loose.now self }
+        ensures { result ≡ model.with_reference_dropped number loose.now self }
     {
-        if self.names_of(rt, number) == 0 && count_naming(number, loose) == 0 {
+        if self.references_to(rt, number) == 0 && count_using(number, loose) == 0 {
             self.with_data_freed(rt, number)
         } else {
             self
@@ -68,7 +68,7 @@ impl Arena {
     }
 
     pub(crate) fn spent(&self, rt: &impl Abort, token: &TokenValue) -> Arena
-        ensures { result ≡ model.spent self.now token.now }
+        ensures { result ≡ model.with_token_spent self.now token.now }
     {
         if self.has(token) {
             self.freemsg(rt, token.head)

@@ -1,18 +1,18 @@
 //! New messages: over data blocks just taken, duplicates, and copies.
 ghost use Rattle.std.specs.Prelude.{◌≡◌, ◌+◌, count_by, nat_lt, take, Ok};
 ghost use Rattle.std.specs.List.{list_any};
-ghost use Rattle.strm_data.specs.Limits.{most_data_block_names};
-ghost use Rattle.strm_mblk.specs.Arena.{names_of};
+ghost use Rattle.strm_data.specs.Limits.{most_references};
+ghost use Rattle.strm_mblk.specs.Arena.{references_to};
 ghost use Rattle.strm_mblk.specs.Block as block_model;
 ghost use Rattle.strm_mblk.specs.BlockCalls as model;
 
 use super::arena::{Arena, Given};
-use super::block::{Block, Message, bytes_of_block, count_naming, head_of, kind_of, new_block};
+use super::block::{Block, Message, bytes_of_block, count_using, head_of, kind_of, new_block};
 use super::list::{List, Twin};
 use super::store::DataStore;
 use std::alloc::Global;
 use std::process::Abort;
-use strm_data::{MOST_DATA_BLOCK_NAMES, Refusal};
+use strm_data::{MOST_REFERENCES, Refusal};
 
 // The first block only, if any.
 fn first_of(message: &[Block]) -> &[Block]
@@ -25,7 +25,7 @@ fn first_of(message: &[Block]) -> &[Block]
 }
 
 fn renumbered(rt: &impl Abort, alloc: Global, numbers: &[u32], blocks: &[Block]) -> Message
-    ensures { result ≡ model.renumbered numbers.now blocks.now }
+    ensures { result ≡ model.blocks_renumbered numbers.now blocks.now }
 {
     let [number, numbers @ ..] = numbers else {
         return List::empty(alloc);
@@ -48,7 +48,7 @@ fn copied_into(
     store: DataStore,
     number: u32,
 ) -> DataStore
-    ensures { result ≡ model.copied_into block.now store number }
+    ensures { result ≡ model.store_with_copy block.now store number }
 {
     let bytes = bytes_of_block(rt, alloc, &store, block);
     let kind = kind_of(&store, block);
@@ -64,7 +64,7 @@ fn copies(
     blocks: &[Block],
     store: DataStore,
 ) -> Result<(Message, DataStore), Refusal>
-    ensures { result ≡ model.copies blocks.now store }
+    ensures { result ≡ model.blocks_copied blocks.now store }
 {
     let [block, blocks @ ..] = blocks else {
         return Ok((List::empty(alloc), store));
@@ -119,21 +119,21 @@ impl Arena {
         self.allocb(rt, size).is_ok()
     }
 
-    // Whether this block's data block would have more than `MOST_DATA_BLOCK_NAMES` references after each block of `all`
+    // Whether this block's data block would have more than `MOST_REFERENCES` references after each block of `all`
     // got a duplicate.
     fn exceeds(&self, rt: &impl Abort, all: &[Block], block: &Block) -> bool
-        ensures { result ≡ nat_lt most_data_block_names (names_of self.now block.now.data_number
-            + count_by (block_model.is_naming block.now.data_number) all.now) }
+        ensures { result ≡ nat_lt most_references (references_to self.now block.now.data_number
+            + count_by (block_model.uses_data block.now.data_number) all.now) }
     {
-        let names = self.names_of(rt, block.data_number);
-        let more = count_naming(block.data_number, all);
-        names.checked_add(more).expect(rt, "few names") > usize::from(MOST_DATA_BLOCK_NAMES)
+        let names = self.references_to(rt, block.data_number);
+        let more = count_using(block.data_number, all);
+        names.checked_add(more).expect(rt, "few references") > usize::from(MOST_REFERENCES)
     }
 
     // Whether this is so for one of these blocks.
     fn any_exceeds(&self, rt: &impl Abort, all: &[Block], blocks: &[Block]) -> bool
-        ensures { result ≡ list_any (λ b. nat_lt most_data_block_names
-            (names_of self.now b.data_number + count_by (block_model.is_naming b.data_number) all.now)) blocks.now }
+        ensures { result ≡ list_any (λ b. nat_lt most_references
+            (references_to self.now b.data_number + count_by (block_model.uses_data b.data_number) all.now)) blocks.now }
     {
         match blocks {
             [] => false,
@@ -145,7 +145,7 @@ impl Arena {
     }
 
     fn exceeds_names(&self, rt: &impl Abort, blocks: &[Block]) -> bool
-        ensures { result ≡ model.exceeds_names blocks.now self.now }
+        ensures { result ≡ model.exceeds_references blocks.now self.now }
     {
         self.any_exceeds(rt, blocks, blocks)
     }
@@ -163,7 +163,7 @@ impl Arena {
     }
 
     fn duplicated(&self, rt: &impl Abort, blocks: &[Block]) -> Given<u32>
-        ensures { result ≡ model.duplicated blocks.now self.now }
+        ensures { result ≡ model.message_duplicated blocks.now self.now }
     {
         if self.free().len() < blocks.len() {
             Err(Refusal::NoMblk)
@@ -187,7 +187,7 @@ impl Arena {
     }
 
     fn copied(&self, rt: &impl Abort, blocks: &[Block]) -> Given<u32>
-        ensures { result ≡ model.copied blocks.now self.now }
+        ensures { result ≡ model.message_copied blocks.now self.now }
     {
         if self.free().len() < blocks.len() {
             return Err(Refusal::NoMblk);

@@ -30,7 +30,7 @@ fn is_used_up(count: u32, block: &Block) -> bool
 }
 
 fn used_up(rt: &impl Abort, alloc: Global, count: u32, blocks: &[Block]) -> Message
-    ensures { result ≡ model.used_up count blocks.now }
+    ensures { result ≡ model.blocks_used_up count blocks.now }
 {
     match blocks {
         [] => List::empty(alloc),
@@ -46,7 +46,7 @@ fn used_up(rt: &impl Abort, alloc: Global, count: u32, blocks: &[Block]) -> Mess
 }
 
 fn left_over(rt: &impl Abort, alloc: Global, count: u32, blocks: &[Block]) -> Message
-    ensures { result ≡ model.left_over count blocks.now }
+    ensures { result ≡ model.blocks_left_over count blocks.now }
 {
     match blocks {
         [] => List::empty(alloc),
@@ -75,7 +75,7 @@ fn pulled_into(
     store: DataStore,
     number: u32,
 ) -> DataStore
-    ensures { result ≡ model.pulled_into count message.now store number }
+    ensures { result ≡ model.store_with_front count message.now store number }
 {
     let [first, ..] = message else {
         return store;
@@ -102,7 +102,7 @@ impl Arena {
         held: Message,
     ) -> Arena
         ensures { result ≡ record self.now {
-          store = model.pulled_into count message.now self.now.store number;
+          store = model.store_with_front count message.now self.now.store number;
           held = slice_set self.now.held head (Some held);
         } }
     {
@@ -121,7 +121,7 @@ impl Arena {
         message: &[Block],
         number: u32,
     ) -> Arena
-        ensures { result ≡ model.pulled head count message.now self.now number }
+        ensures { result ≡ model.with_front_pulled head count message.now self.now number }
     {
         let [first, rest @ ..] = message else {
             return self.twin(rt, self.alloc);

@@ -94,7 +94,7 @@ fn fitting(
 
 // Bytes, overwritten with new ones from place `at` on.
 fn overwritten(rt: &impl Abort, alloc: Global, at: usize, new: &[u8], old: &[u8]) -> List<u8>
-    ensures { result ≡ model.overwritten at new.now old.now }
+    ensures { result ≡ model.bytes_overwritten at new.now old.now }
 {
     let end = at.checked_add(new.len()).expect(rt, "a small sum");
     assert!(rt; end <= old.len());

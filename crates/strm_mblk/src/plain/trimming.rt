@@ -50,7 +50,7 @@ pub(super) fn run_of(rt: &impl Abort, alloc: Global, store: &DataStore, blocks: 
 }
 
 fn cut_front(rt: &impl Abort, alloc: Global, count: u32, blocks: &[Block]) -> Message
-    ensures { result ≡ model.cut_front count blocks.now }
+    ensures { result ≡ model.blocks_cut_front count blocks.now }
 {
     match blocks {
         [] => List::empty(alloc),
@@ -69,7 +69,7 @@ fn cut_front(rt: &impl Abort, alloc: Global, count: u32, blocks: &[Block]) -> Me
 }
 
 fn cut_back(rt: &impl Abort, alloc: Global, count: u32, blocks: &[Block]) -> Message
-    ensures { result ≡ model.cut_back count blocks.now }
+    ensures { result ≡ model.blocks_cut_back count blocks.now }
 {
     match blocks {
         [] => List::empty(alloc),
@@ -89,7 +89,7 @@ fn cut_at_head(
     store: &DataStore,
     message: &[Block],
 ) -> Result<Message, Refusal>
-    ensures { result ≡ model.cut (pos count) store.now message.now }
+    ensures { result ≡ model.message_cut (pos count) store.now message.now }
 {
     if size_of(rt, run_of(rt, alloc, store, message).items()) < count {
         Err(Refusal::Short)
@@ -107,7 +107,7 @@ fn cut_at_tail(
     message: &[Block],
 ) -> Result<Message, Refusal>
     ensures { result ≡ (if nat_lt (block_model.size_of (model.run_of store.now (reverse message.now))) count
-        then Err Short else Ok (reverse (model.cut_back count (reverse message.now)))) }
+        then Err Short else Ok (reverse (model.blocks_cut_back count (reverse message.now)))) }
 {
     let from_tail = List::of(rt, alloc, message).reversed();
     if size_of(rt, run_of(rt, alloc, store, from_tail.items()).items()) < count {
@@ -124,7 +124,7 @@ fn cut(
     store: &DataStore,
     message: &[Block],
 ) -> Result<Message, Refusal>
-    ensures { result ≡ model.cut count store.now message.now }
+    ensures { result ≡ model.message_cut count store.now message.now }
 {
     if count < 0 {
         cut_at_tail(rt, alloc, count.unsigned_abs(), store, message)

@@ -4,7 +4,7 @@ use super::rows::Row::{
     Allocb, Census, Freemsg, Head, Heads, OfBytes, Says, Setband, Settype, Shelve, Sizes, Unshelve,
 };
 use super::rows::{A, B, DONE, Row, serve};
-use crate::blocks::beside::stands_on;
+use crate::blocks::beside::is_on;
 use crate::{Blocks, TokenValue};
 use std::process::Abort;
 use strm_data::{ClassSpec, MsgType};
@@ -18,7 +18,7 @@ fn next_head(
     ahead: Option<u32>,
     head: u32,
 ) -> Option<u32> {
-    assert!(rt; at == Some(head) && stands_on(blocks, shelf, head));
+    assert!(rt; at == Some(head) && is_on(blocks, shelf, head));
     assert!(rt; blocks.before(head) == ahead);
     blocks.after(head)
 }
@@ -47,7 +47,7 @@ impl Bench {
         assert!(rt; u32::from(shelf) < self.blocks.shelf_count());
         match before {
             Some(at) => {
-                assert!(rt; stands_on(&self.blocks, shelf, at));
+                assert!(rt; is_on(&self.blocks, shelf, at));
                 let token = self.token(rt, message);
                 self.blocks.shelve(shelf, Some(at), token);
             }
@@ -60,7 +60,7 @@ impl Bench {
 
     // Takes the message with this head off a shelf.
     pub(super) fn unshelve(&mut self, rt: &impl Abort, shelf: u8, head: u32) -> TokenValue {
-        assert!(rt; stands_on(&self.blocks, shelf, head));
+        assert!(rt; is_on(&self.blocks, shelf, head));
         said(self.blocks.unshelve(shelf, head))
     }
 
@@ -82,13 +82,13 @@ impl Bench {
         shelf: u8,
         head: u32,
     ) -> (Option<u32>, Option<u32>) {
-        assert!(rt; stands_on(&self.blocks, shelf, head));
+        assert!(rt; is_on(&self.blocks, shelf, head));
         (self.blocks.after(head), self.blocks.before(head))
     }
 
     // Type, band and size of the message with this head, which is on the shelf.
     pub(super) fn head_told(&self, rt: &impl Abort, shelf: u8, head: u32) -> (MsgType, u8, u32) {
-        assert!(rt; stands_on(&self.blocks, shelf, head));
+        assert!(rt; is_on(&self.blocks, shelf, head));
         (
             self.blocks.head_kind(head),
             self.blocks.head_band(head),
@@ -156,6 +156,44 @@ const TOLD: &[Row] = &[
     Freemsg(A),
     Census(8, 0, 0),
 ];
+
+// Messages on the first, the middle and the last of 255 shelves.
+const ON_255: &[Row] = &[
+    Allocb(1, Ok(A)),
+    Shelve(0, None, A),
+    Allocb(1, Ok(A)),
+    Shelve(127, None, A),
+    Allocb(1, Ok(A)),
+    Shelve(254, None, A),
+    Allocb(1, Ok(A)),
+    Shelve(254, Some(2), A),
+    Heads(0, &[0]),
+    Heads(1, &[]),
+    Heads(126, &[]),
+    Heads(127, &[1]),
+    Heads(128, &[]),
+    Heads(253, &[]),
+    Heads(254, &[3, 2]),
+    Census(4, 4, 0),
+    Unshelve(254, 2, A),
+    Says(A, 7, 2, 1),
+    Freemsg(A),
+    Unshelve(254, 3, A),
+    Freemsg(A),
+    Unshelve(127, 1, A),
+    Freemsg(A),
+    Unshelve(0, 0, A),
+    Freemsg(A),
+    Heads(254, &[]),
+    Census(8, 0, 0),
+];
+
+#[test]
+fn opens_255_shelves(rt: HostRuntime) {
+    let classes = [ClassSpec { size: 16, count: 8 }];
+    let bench = Bench::over(&rt, rt.alloc(), (7, 8), &classes, 255);
+    serve(&rt, bench, ON_255);
+}
 
 #[test]
 fn shelves_in_order(rt: HostRuntime) {

@@ -1,6 +1,7 @@
+use super::CLASSES;
 use super::bench::Bench;
 use super::rows::Row::{
-    Allocb, Census, Class, Dupb, Fits, FreeData, Freemsg, References, Says, Told,
+    Allocb, Census, Class, Dupb, Fits, FreeData, Freemsg, Has, Heads, References, Says, Told,
 };
 use super::rows::{A, B, C, D, Row, serve};
 use crate::{Token, TokenValue};
@@ -125,6 +126,33 @@ const ALLOCATED: &[Row] = &[
     Freemsg(C),
     Census(8, 0, 0),
 ];
+
+// Without message blocks no message can be made, and no token is valid. All data blocks stay free.
+const WITHOUT_MESSAGE_BLOCKS: &[Row] = &[
+    Census(0, 0, 0),
+    FreeData(Some(4), Some(2)),
+    Heads(0, &[]),
+    Fits(0, false),
+    Fits(64, false),
+    Allocb(0, Err(Refusal::NoMblk)),
+    Allocb(64, Err(Refusal::NoMblk)),
+    Allocb(65, Err(Refusal::TooLarge)),
+    Has(7, 0, 1, false),
+    Has(7, 0, 0, false),
+    References(&[0, 0, 0, 0, 0, 0]),
+    Class(2, None),
+    FreeData(Some(4), Some(2)),
+    Census(0, 0, 0),
+];
+
+#[test]
+fn opens_without_message_blocks(rt: HostRuntime) {
+    serve(
+        &rt,
+        Bench::over(&rt, rt.alloc(), (7, 0), &CLASSES, 1),
+        WITHOUT_MESSAGE_BLOCKS,
+    );
+}
 
 #[test]
 fn takes_the_smallest_class_that_has_a_free_block(rt: HostRuntime) {

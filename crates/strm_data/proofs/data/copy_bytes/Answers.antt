@@ -2,7 +2,7 @@ use Rattle.std.proofs.Common.{◌<◌, ◌+◌, ℕ, ◌-◌, ◌≡◌, Vec, Gl
 use Rattle.std.specs.Vec.{with_items}
 use Rattle.std.proofs.lemmas.List.{map-set}
 use Rattle.strm_data.specs.DataLayout.{bytes_of, region_at}
-use Rattle.strm_data.specs.DataStore.{overwritten}
+use Rattle.strm_data.specs.DataStore.{bytes_overwritten}
 use Rattle.strm_data.proofs.layout.Regions.{high_region, high_set, low_region, low_set, over_region, part, region_of}
 use Rattle.strm_data.proofs.data.copy_bytes.Goals as goal
 
@@ -19,7 +19,7 @@ returns-then-from-into c =
     let same = ap (λ k. region_at (bytes_of c.args.regions.now) k) c.if-from-into.true in
     cc (
       map-set (λ (x : Vec ℕ Global). x.items) c.args.regions.now c.args.into.class v,
-      over_region (get_or c.args.regions.now c.args.into.class target) from into c.args.len now now c.copy_inside.new.region (omega (arith, c.requires.there, ap length old, ap length same)) (omega (arith, c.requires.room, ap length old)) c.deref_mut.ensures.len (c.copy_inside.ensures ∙ ap (λ n. overwritten into (take n (drop from now)) now) many),
+      over_region (get_or c.args.regions.now c.args.into.class target) from into c.args.len now now c.copy_inside.new.region (omega (arith, c.requires.there, ap length old, ap length same)) (omega (arith, c.requires.room, ap length old)) c.deref_mut.ensures.len (c.copy_inside.ensures ∙ ap (λ n. bytes_overwritten into (take n (drop from now)) now) many),
       old,
       same,
     )
@@ -41,7 +41,7 @@ returns-then-from-into-2 c =
     ∙ ap (set (bytes_of c.args.regions.now) c.args.into.class)
     (over_region (get_or high 0 target) c.args.from.start c.args.into.start c.args.len c.deref.result.now c.deref_mut-then-from-into-2.result.now c.overwrite.new.old
     (omega (arith, c.requires.there, ap length bytes)) (omega (arith, c.requires.room, ap length old)) c.deref_mut-then-from-into-2.ensures.len c.overwrite.ensures
-    ∙ (λ i. overwritten c.args.into.start (part c.args.from.start c.args.len (bytes i)) (old i)))
+    ∙ (λ i. bytes_overwritten c.args.into.start (part c.args.from.start c.args.len (bytes i)) (old i)))
 
 pub returns-else-from-into-2 : goal.returns-else-from-into-2
 returns-else-from-into-2 c =
@@ -61,4 +61,4 @@ returns-else-from-into-2 c =
     ∙ ap (set (bytes_of c.args.regions.now) c.args.into.class)
     (over_region (get_or low c.args.into.class target) c.args.from.start c.args.into.start c.args.len c.deref-else-from-into-2.result.now c.deref_mut-else-from-into-2.result.now c.overwrite-else-from-into-2.new.old
     (omega (arith, c.requires.there, ap length bytes)) (omega (arith, c.requires.room, ap length old)) c.deref_mut-else-from-into-2.ensures.len c.overwrite-else-from-into-2.ensures
-    ∙ (λ i. overwritten c.args.into.start (part c.args.from.start c.args.len (bytes i)) (old i)))
+    ∙ (λ i. bytes_overwritten c.args.into.start (part c.args.from.start c.args.len (bytes i)) (old i)))

@@ -2,7 +2,7 @@ use Rattle.std.proofs.Common.{◌≡◌, ◌<◌, ℕ, List, [], ◌∷◌, leng
 use Rattle.std.proofs.lemmas.Option.{same_Some}
 use Rattle.strm_links.specs.declared.strands.Node.{Node}
 use Rattle.strm_links.specs.Layout.{LeadsOn}
-use Rattle.strm_links.specs.StrandLayout.{next_at, onward, path}
+use Rattle.strm_links.specs.StrandLayout.{next_at, node_onward, path}
 use Rattle.strm_links.specs.Rows.{first, first_or}
 use Rattle.strm_links.proofs.lists.OneList.{has_at}
 use Rattle.strm_links.proofs.lists.ListLinks.{has_first, LeadsOn-walk, walk_from}
@@ -13,11 +13,11 @@ use Rattle.strm_links.proofs.strands.reverse_links.Goals.{After-loop-reversed, A
 -- ---- the first node
 
 -- the nodes of the path lead to where `len` steps do
-leads : (nodes : List Node) (h len : ℕ) → LeadsOn (next_at nodes) (path nodes len (Some h)) (onward (next_at nodes) len (Some h))
+leads : (nodes : List Node) (h len : ℕ) → LeadsOn (next_at nodes) (path nodes len (Some h)) (node_onward (next_at nodes) len (Some h))
 unfolding path
 leads nodes h len = LeadsOn-walk (next_at nodes) len (Some h)
 
-begins : (nodes : List Node) (h len : ℕ) → Some h ≡ first_or (onward (next_at nodes) len (Some h)) (path nodes len (Some h))
+begins : (nodes : List Node) (h len : ℕ) → Some h ≡ first_or (node_onward (next_at nodes) len (Some h)) (path nodes len (Some h))
 unfolding path
 begins nodes h len = walk_from (next_at nodes) len (Some h)
 
@@ -69,7 +69,7 @@ loop-reversed-preserved c =
 
 pub returns : goal.returns
 returns c =
-    let all : AreReversed c.args.nodes.now.items c.loop-reversed.nodes.items c.args.beyond (onward (next_at c.args.nodes.now.items) c.args.len (Some c.args.head)) (path c.args.nodes.now.items c.args.len (Some c.args.head)) c.loop-reversed.at c.loop-reversed.onto =
+    let all : AreReversed c.args.nodes.now.items c.loop-reversed.nodes.items c.args.beyond (node_onward (next_at c.args.nodes.now.items) c.args.len (Some c.args.head)) (path c.args.nodes.now.items c.args.len (Some c.args.head)) c.loop-reversed.at c.loop-reversed.onto =
     reversed_all _ _ _ _ _ _ _ _ c.loop-reversed.invariant (omega (arith, c.requires.len, c.loop-reversed-test.false)) in
     record {
       last = all.onto_is;

@@ -1,7 +1,7 @@
 use Rattle.std.proofs.Common.{◌≡◌, ◌<◌, length, get_or, subst, arith}
 use Rattle.std.proofs.lemmas.List.{length-map, get_or-map}
 use Rattle.strm_data.specs.declared.data.Class.{Class}
-use Rattle.strm_data.specs.DataLayout.{counted_store, no_class}
+use Rattle.strm_data.specs.DataLayout.{store_of, no_class}
 use Rattle.strm_data.specs.DataStore.{IsTakenFrom, free_of, no_class_spec}
 use Rattle.strm_data.proofs.store.Fitting.{if_fits-small, if_fits-empty, fitting_from_next, IsTakenFrom-found}
 use Rattle.strm_data.proofs.data.Data.class_for.Goals as goal
@@ -11,13 +11,13 @@ use Rattle.strm_data.proofs.data.Data.class_for.Goals.{In-loop-number, else-clas
 there : (c : In-loop-number) → c.loop-number.number < length c.self.inside.classes.items
 there c = omega (arith, c.loop-number-test.true, c.deref-class-items.ensures.len, c.self.inside.classes.ok.0)
 
-in_classes : (c : In-loop-number) → c.loop-number.number < length (counted_store c.self.inside).store.classes
+in_classes : (c : In-loop-number) → c.loop-number.number < length (store_of c.self.inside).store.classes
 in_classes c = omega (arith, there c, length-map c.self.inside.classes.items (λ (k : Class). k.spec))
 
-in_free : (c : In-loop-number) → c.loop-number.number < length (counted_store c.self.inside).store.free
+in_free : (c : In-loop-number) → c.loop-number.number < length (store_of c.self.inside).store.free
 in_free c = omega (arith, in_classes c, c.self.invariant.kept.lists)
 
-spec_is : (c : In-loop-number) → get_or (counted_store c.self.inside).store.classes c.loop-number.number no_class_spec ≡ (get_or c.deref-class-items.result.now c.loop-number.number no_class).spec
+spec_is : (c : In-loop-number) → get_or (store_of c.self.inside).store.classes c.loop-number.number no_class_spec ≡ (get_or c.deref-class-items.result.now c.loop-number.number no_class).spec
 spec_is c =
     cc (get_or-map (λ (k : Class). k.spec) c.self.inside.classes.items c.loop-number.number no_class no_class_spec (there c), c.deref-class-items.ensures.value)
 
@@ -25,13 +25,13 @@ pub returns-then-len-gt0-clause-found : goal.returns-then-len-gt0-clause-found
 returns-then-len-gt0-clause-found c =
     let at = (goal.at.returns-then-len-gt0-clause-found c).In-loop-number in
     subst (λ s. IsTakenFrom c.args.size s.store c.loop-number.number) c.self.view_is
-    (IsTakenFrom-found c.args.size (counted_store c.self.inside).store c.loop-number.number (in_classes at) (in_free at)
+    (IsTakenFrom-found c.args.size (store_of c.self.inside).store c.loop-number.number (in_classes at) (in_free at)
     (rw (spec_is at) c.if-class-size.true) (omega (arith, c.if-len-gt0.true, c.len.ensures)) c.loop-number.invariant)
 
 pub loop-number-preserved : goal.loop-number-preserved
 loop-number-preserved c =
     let at = (goal.at.loop-number-preserved c).In-loop-number in
-    let s = (counted_store c.self.inside).store in
+    let s = (store_of c.self.inside).store in
     let i = c.loop-number.number in
     elim c.else-class-size.branch [
       | else-class-size-via-then-class-size+else-len-gt0 w ↦

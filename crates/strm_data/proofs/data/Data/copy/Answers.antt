@@ -2,8 +2,8 @@ use Rattle.std.proofs.Common.{◌≡◌, ℕ, ◌+◌, ◌≤◌, List, Vec, Glo
 use Rattle.std.specs.Vec.{with_items}
 use Rattle.std.proofs.lemmas.List.{with_items_is}
 use Rattle.strm_data.specs.CountedStore.{IsKept}
-use Rattle.strm_data.specs.DataLayout.{bytes_of, counted, region_at, IsPlaced}
-use Rattle.strm_data.specs.DataStore.{capacity_of, data_block_at, overwritten, with_bytes_written}
+use Rattle.strm_data.specs.DataLayout.{bytes_of, store_of_parts, region_at, IsPlaced}
+use Rattle.strm_data.specs.DataStore.{capacity_of, data_block_at, bytes_overwritten, with_bytes_written}
 use Rattle.strm_data.proofs.layout.Copying.{IsPlaceOf, in_region, overwrites, part_is, IsPlaced-overwrites}
 use Rattle.strm_data.proofs.store.Kept.{IsKept-altered, capacity_range}
 use Rattle.strm_data.proofs.lists.Tables.{length-overwritten, length-part}
@@ -56,19 +56,19 @@ module _ (c : After-deref_mut) where
   -- the regions then
   module _ (new : List (Vec ℕ Global)) (many : length new ≡ length c.deref_mut.result.now)
       (is : bytes_of new ≡ set (bytes_of c.deref_mut.result.now) c.place_of-target.result.class
-      (overwritten c.place_of-target.result.start (take c.args.len (drop c.place_of-source.result.start (region_at (bytes_of c.deref_mut.result.now) c.place_of-source.result.class)))
+      (bytes_overwritten c.place_of-target.result.start (take c.args.len (drop c.place_of-source.result.start (region_at (bytes_of c.deref_mut.result.now) c.place_of-source.result.class)))
       (region_at (bytes_of c.deref_mut.result.now) c.place_of-target.result.class))) where
     regions_are : bytes_of (with_items c.self.inside.regions new).items
-        ≡ set regions c.place_of-target.result.class (overwritten c.place_of-target.result.start (bytes c) (region_at regions c.place_of-target.result.class))
+        ≡ set regions c.place_of-target.result.class (bytes_overwritten c.place_of-target.result.start (bytes c) (region_at regions c.place_of-target.result.class))
     regions_are =
         ap bytes_of (with_items_is c.self.inside.regions new (many ∙ c.deref_mut.ensures.len)) ∙ is
         ∙ ap (λ rs. set (bytes_of rs) c.place_of-target.result.class
-        (overwritten c.place_of-target.result.start (take c.args.len (drop c.place_of-source.result.start (region_at (bytes_of rs) c.place_of-source.result.class))) (region_at (bytes_of rs) c.place_of-target.result.class)))
+        (bytes_overwritten c.place_of-target.result.start (take c.args.len (drop c.place_of-source.result.start (region_at (bytes_of rs) c.place_of-source.result.class))) (region_at (bytes_of rs) c.place_of-target.result.class)))
         c.deref_mut.ensures.value
-        ∙ ap (λ bs. set regions c.place_of-target.result.class (overwritten c.place_of-target.result.start bs (region_at regions c.place_of-target.result.class)))
+        ∙ ap (λ bs. set regions c.place_of-target.result.class (bytes_overwritten c.place_of-target.result.start bs (region_at regions c.place_of-target.result.class)))
         (part_is c.self.inside c.args.self.now c.self.view_is c.self.invariant c.args.from c.requires.from c.args.at _ (source c) c.args.len c.requires.there)
 
-    copied : counted c.self.inside.classes.items (bytes_of (with_items c.self.inside.regions new).items) c.self.inside.blocks.items c.self.inside.free.lists
+    copied : store_of_parts c.self.inside.classes.items (bytes_of (with_items c.self.inside.regions new).items) c.self.inside.blocks.items c.self.inside.free.lists
         ≡ record c.args.self.now { store = with_bytes_written c.args.into c.args.to (bytes c) c.args.self.now.store }
     copied =
         cc (regions_are, overwrites c.self.inside c.args.self.now c.self.view_is c.self.invariant c.args.into c.requires.into c.args.to _ (target c) (bytes c) room)

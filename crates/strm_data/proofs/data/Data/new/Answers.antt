@@ -6,7 +6,7 @@ use Rattle.strm_data.specs.declared.data.Class.{Class}
 use Rattle.strm_data.specs.declared.data.DataBlock.{DataBlock}
 use Rattle.strm_data.specs.declared.msg_type.MsgType.TheVariants.{MData}
 use Rattle.strm_data.specs.CountedStore.{IsKept}
-use Rattle.strm_data.specs.DataLayout.{counted}
+use Rattle.strm_data.specs.DataLayout.{store_of_parts}
 use Rattle.strm_data.specs.DataStore.{no_class_spec}
 use Rattle.strm_data.proofs.layout.Filling.{total_of_more}
 use Rattle.strm_data.proofs.layout.Opened.{AreOpened, AreOpened-push, length_opened, classes_opened, opened_is}
@@ -45,7 +45,7 @@ loop-spec-preserved c =
     let regions_are =
     ap (map bytes_of) c.in_ok-push.ensures.items ∙ map_push bytes_of c.loop-spec.regions.items region
     ∙ ap (λ bs. map bytes_of c.loop-spec.regions.items ++ bs ∷ []) (c.in_ok-vec.ensures.items_if_clones_equal (λ y same. same)) in
-    let blocks_are = c.in_ok-add_blocks.ensures ∙ ap (λ n. c.loop-spec.blocks.items ++ replicate spec.count (record { class = n; kind = MData; names = 0 })) (sym number) in
+    let blocks_are = c.in_ok-add_blocks.ensures ∙ ap (λ n. c.loop-spec.blocks.items ++ replicate spec.count (record { class = n; kind = MData; references = 0 })) (sym number) in
     let all : (take (i + 1) specs, (c.push-in-loop-spec.new.self.items, (map bytes_of c.push.new.self.items, c.add_blocks.new.blocks.items))) ≡ _ =
     λ j. (take_more specs i no_class_spec c.loop-spec-test.true j, (classes_are j, (regions_are j, blocks_are j))) in
     subst (λ (t : List ClassSpec × (List Class × (List (List ℕ) × List DataBlock))). AreOpened t.0 t.1.0 t.1.1.0 t.1.1.1)
@@ -57,7 +57,7 @@ all_opened c past = subst (λ cs. AreOpened cs c.loop-spec.classes.items (map by
 
 pub returns-clause-opened : goal.returns-clause-opened
 returns-clause-opened c =
-    ap (λ (r : Rows). counted c.loop-spec.classes.items (map bytes_of c.loop-spec.regions.items) c.loop-spec.blocks.items r.lists) c.in_ok-free.ensures
+    ap (λ (r : Rows). store_of_parts c.loop-spec.classes.items (map bytes_of c.loop-spec.regions.items) c.loop-spec.blocks.items r.lists) c.in_ok-free.ensures
     ∙ opened_is c.args.specs.now c.loop-spec.classes.items (map bytes_of c.loop-spec.regions.items) c.loop-spec.blocks.items (all_opened c c.loop-spec-test.false)
 
 pub returns-clause-kept : goal.returns-clause-kept

@@ -2,8 +2,8 @@ use Rattle.std.proofs.Common.{◌≡◌, ◌+◌, ◌≤◌, List, ℕ, length, 
 use Rattle.std.specs.Vec.{with_items}
 use Rattle.std.proofs.lemmas.List.{map-set, with_items_is}
 use Rattle.strm_data.specs.CountedStore.{IsKept}
-use Rattle.strm_data.specs.DataLayout.{bytes_of, region_at, counted, IsPlaced}
-use Rattle.strm_data.specs.DataStore.{overwritten}
+use Rattle.strm_data.specs.DataLayout.{bytes_of, region_at, store_of_parts, IsPlaced}
+use Rattle.strm_data.specs.DataStore.{bytes_overwritten}
 use Rattle.strm_data.proofs.layout.Copying.{IsPlaceOf, in_region, overwrites, region_within, IsPlaced-overwrites}
 use Rattle.strm_data.proofs.layout.Regions.{region_of}
 use Rattle.strm_data.proofs.store.Kept.{IsKept-altered}
@@ -31,10 +31,10 @@ module _ (c : After-deref_mut) where
       omega (arith, ap length region, in_region c.self.inside _ c.self.view_is c.self.invariant c.args.number c.requires.there c.args.at _ place (length c.args.bytes.now) c.requires.room)
 
   -- the regions then
-  regions_are : (new : List ℕ) → new ≡ overwritten c.place_of-place.result.start c.args.bytes.now c.deref_mut.result.now
+  regions_are : (new : List ℕ) → new ≡ bytes_overwritten c.place_of-place.result.start c.args.bytes.now c.deref_mut.result.now
       → bytes_of (set c.self.inside.regions.items c.place_of-place.result.class (with_items c.index_mut.result.now new))
       ≡ set (bytes_of c.self.inside.regions.items) c.place_of-place.result.class
-      (overwritten c.place_of-place.result.start c.args.bytes.now (region_at (bytes_of c.self.inside.regions.items) c.place_of-place.result.class))
+      (bytes_overwritten c.place_of-place.result.start c.args.bytes.now (region_at (bytes_of c.self.inside.regions.items) c.place_of-place.result.class))
   regions_are new is =
       let long = ap length is ∙ length-overwritten c.place_of-place.result.start c.args.bytes.now c.deref_mut.result.now fits ∙ c.deref_mut.ensures.len in
       cc (map-set (λ r. r.items) c.self.inside.regions.items c.place_of-place.result.class (with_items c.index_mut.result.now new), with_items_is c.index_mut.result.now new long, is, region)
@@ -45,7 +45,7 @@ overwrite-requires c = fits (goal.at.overwrite-requires c).After-deref_mut
 pub returns-clause-after : goal.returns-clause-after
 returns-clause-after c =
     let at = (goal.at.returns-clause-after c).After-deref_mut in
-    ap (λ rs. counted c.self.inside.classes.items rs c.self.inside.blocks.items c.self.inside.free.lists) (regions_are at c.overwrite.new.old c.overwrite.ensures)
+    ap (λ rs. store_of_parts c.self.inside.classes.items rs c.self.inside.blocks.items c.self.inside.free.lists) (regions_are at c.overwrite.new.old c.overwrite.ensures)
     ∙ overwrites c.self.inside _ c.self.view_is c.self.invariant c.args.number c.requires.there c.args.at _ (place at) c.args.bytes.now c.requires.room
 
 pub returns-clause-kept : goal.returns-clause-kept

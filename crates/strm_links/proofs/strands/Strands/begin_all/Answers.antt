@@ -1,7 +1,7 @@
 use Rattle.std.proofs.Common.{rules, ◌≡◌, ◌<◌, ◌-◌, suc, drop, length, set, take, ap, arith, sym, ◌∙◌, subst, refl, Some, IsSome}
 use Rattle.strm_links.specs.declared.strands.Node.{Node}
 use Rattle.strm_links.specs.StrandLists.{StrandLists}
-use Rattle.strm_links.specs.StrandLayout.{IsSound, next_at, onward}
+use Rattle.strm_links.specs.StrandLayout.{IsSound, next_at, node_onward}
 use Rattle.strm_links.proofs.chaining.Begun.{IsSound-begun_several, one_low, several_low, several_there}
 use Rattle.strm_links.proofs.chaining.Laid.{IsSound-stored, next_within, node_read, IsParted-laid, IsSound-lists, strands_of_is}
 use Rattle.strm_links.proofs.strands.Strands.begin_all.Goals as goal
@@ -23,7 +23,7 @@ node_behind-last-requires c =
     record {
       from = omega (arith, laid.node_count, c.deref.ensures.len, low at);
       within = λ k j is. omega (arith, laid.node_count, c.deref.ensures.len, next_within _ _ _ _ laid k j (ap (λ nodes. next_at nodes k) (sym c.deref.ensures.value) ∙ is));
-      there = subst IsSome (sym (ap (λ nodes. onward (next_at nodes) (c.args.count - 1) (Some c.number-head.result)) c.deref.ensures.value ∙ last)) refl;
+      there = subst IsSome (sym (ap (λ nodes. node_onward (next_at nodes) (c.args.count - 1) (Some c.number-head.result)) c.deref.ensures.value ∙ last)) refl;
     }
 
 pub chain_up-requires-clause-head : goal.chain_up-requires-clause-head
@@ -40,7 +40,7 @@ laid c is =
     let t = c.node_behind-last.result in
     let v' : StrandLists = record { free = drop c.args.count c.args.self.now.free; chains = set c.args.self.now.chains h (Some (take c.args.count c.args.self.now.free)) } in
     let enough : c.args.count - 1 < length c.args.self.now.free = omega (arith, c.requires.some, c.requires.enough) in
-    let walked = ap (λ nodes. onward (next_at nodes) (c.args.count - 1) (Some h)) (sym c.deref.ensures.value) ∙ c.node_behind-last.ensures.value in
+    let walked = ap (λ nodes. node_onward (next_at nodes) (c.args.count - 1) (Some h)) (sym c.deref.ensures.value) ∙ c.node_behind-last.ensures.value in
     let low : t < length c.args.self.now.chains = (several_low _ _ _ _ was h c.args.count (c.args.count - 1) c.number-head.ensures is enough t walked).1 in
     subst (λ o. IsSound c.chain_up.new.nodes.items o (c.self.inside.free_len - c.args.count) v') (sym (ap (λ (x : Node). x.next) (node_read _ _ _ _ was t _ low c.index.ensures)))
     (IsSound-begun_several _ _ _ _ was h c.args.count (c.args.count - 1) c.number-head.ensures is enough t walked c.chain_up.new.nodes.items

@@ -1,7 +1,7 @@
 use Rattle.std.specs.Prelude.{slice_get}
 use Rattle.std.proofs.Common.{rules, ◌≡◌, ℕ, List, ◌==◌, ◌-◌, ◌<◌, length, ap, arith, sym, ◌∙◌, if◌then◌else◌}
 use Rattle.strm_links.specs.declared.strands.Node.{Node}
-use Rattle.strm_links.specs.Chains.{divided}
+use Rattle.strm_links.specs.Chains.{chain_divided}
 use Rattle.strm_links.specs.StrandLists.{strand_at}
 use Rattle.strm_links.specs.StrandLayout.{IsSound, next_at, node_at}
 use Rattle.strm_links.proofs.chaining.Divided.{IsSound-divided, alone, divided_len, divided_low, divided_second}
@@ -24,7 +24,7 @@ returns-in_err-rest c =
     let same = alone _ _ _ _ laid c.args.head c.requires (sym (link (goal.at.returns-in_err-rest c).After-get) ∙ c.in_err-rest.was) in
     record {
       answer = c.from_residual.ensures ∙ sym (ap (λ (xs : List ℕ). slice_get xs 1) same);
-      after = λ i. record c.args.self.now { chains = divided (λ n. n) c.args.head (sym same i) c.args.self.now.chains };
+      after = λ i. record c.args.self.now { chains = chain_divided (λ n. n) c.args.head (sym same i) c.args.self.now.chains };
       in_range = search rules;
       parted = IsParted-laid _ _ _ _ laid;
     }
@@ -49,7 +49,7 @@ keep-requires c =
     omega (arith, laid.node_count, c.chain_up.ensures.len, low at.In_ok-rest (link at.After-get))
 
 laid : (c : After-keep) → c.get.result ≡ next_at c.self.inside.nodes.items c.args.head → c.index.result.now ≡ node_at c.self.inside.nodes.items c.args.head
-    → IsSound c.keep.new.nodes.items c.self.inside.first_free c.self.inside.free_len (record c.args.self.now { chains = divided (λ n. n) c.args.head (strand_at c.args.self.now c.args.head) c.args.self.now.chains })
+    → IsSound c.keep.new.nodes.items c.self.inside.first_free c.self.inside.free_len (record c.args.self.now { chains = chain_divided (λ n. n) c.args.head (strand_at c.args.self.now c.args.head) c.args.self.now.chains })
 laid c link is =
     let nodes = c.self.inside.nodes.items in
     let h = c.args.head in

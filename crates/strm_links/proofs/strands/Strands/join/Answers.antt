@@ -1,7 +1,7 @@
 use Rattle.std.proofs.Common.{◌≡◌, ◌==◌, ◌+◌, ap, arith, ◌∙◌, if◌then◌else◌}
 use Rattle.strm_links.specs.declared.strands.Node.{Node}
 use Rattle.strm_links.specs.declared.strands.Span.{Span}
-use Rattle.strm_links.specs.Chains.{joined}
+use Rattle.strm_links.specs.Chains.{chains_joined}
 use Rattle.strm_links.specs.StrandLayout.{IsSound, next_at, span_at}
 use Rattle.strm_links.proofs.chaining.Joined.{IsSound-joined, joined_few}
 use Rattle.strm_links.proofs.chaining.Laid.{IsSound-stored, head_low, last_low, node_read, IsParted-laid, IsSound-lists, strands_of_is}
@@ -37,7 +37,7 @@ overflow_add-span c =
     )
 
 laid : (c : After-keep-2) → c.index.result.now.span ≡ span_at c.self.inside.nodes.items c.args.head → c.index-2.result.now.span ≡ span_at c.self.inside.nodes.items c.args.tail
-    → IsSound c.keep-2.new.nodes.items c.self.inside.first_free c.self.inside.free_len (record c.args.self.now { chains = joined c.args.head c.args.tail c.args.self.now.chains })
+    → IsSound c.keep-2.new.nodes.items c.self.inside.first_free c.self.inside.free_len (record c.args.self.now { chains = chains_joined c.args.head c.args.tail c.args.self.now.chains })
 laid c first second =
     let nodes = c.self.inside.nodes.items in
     let h = c.args.head in

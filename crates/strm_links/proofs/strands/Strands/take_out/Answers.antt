@@ -2,9 +2,9 @@ use Rattle.std.proofs.Common.{rules, ◌≡◌, ◌==◌, ◌<◌, ◌-◌, suc,
 use Rattle.std.specs.Prelude.{is_none, slice_get}
 use Rattle.strm_links.specs.declared.strands.Node.{Node}
 use Rattle.strm_links.specs.declared.strands.Span.{Span}
-use Rattle.strm_links.specs.Chains.{taken_out}
+use Rattle.strm_links.specs.Chains.{item_taken_out}
 use Rattle.strm_links.specs.StrandLists.{strand_at}
-use Rattle.strm_links.specs.StrandLayout.{IsSound, next_at, onward, span_at}
+use Rattle.strm_links.specs.StrandLayout.{IsSound, next_at, node_onward, span_at}
 use Rattle.strm_links.proofs.chaining.TakenOut.{IsSound-taken_out, no_place, place_is, place_low, place_next, place_there}
 use Rattle.strm_links.proofs.chaining.Laid.{IsSound-stored, head_low, next_within, node_read, IsParted-laid, IsSound-lists, strands_of_is}
 use Rattle.strm_links.proofs.strands.Strands.take_out.Goals as goal
@@ -45,12 +45,12 @@ node_behind-ahead-requires c =
     record {
       from = omega (arith, laid.node_count, c.deref.ensures.len, head_low _ _ _ _ laid c.args.head c.requires.head);
       within = λ k j is. omega (arith, laid.node_count, c.deref.ensures.len, next_within _ _ _ _ laid k j (ap (λ nodes. next_at nodes k) (sym c.deref.ensures.value) ∙ is));
-      there = subst IsSome (sym (ap (λ nodes. onward (next_at nodes) (c.args.place - 1) (Some c.args.head)) c.deref.ensures.value ∙ ahead)) refl;
+      there = subst IsSome (sym (ap (λ nodes. node_onward (next_at nodes) (c.args.place - 1) (Some c.args.head)) c.deref.ensures.value ∙ ahead)) refl;
     }
 
 -- the node before the place, and its link
-walked : (c : After-index-2) → onward (next_at c.self.inside.nodes.items) (c.args.place - 1) (Some c.args.head) ≡ Some c.node_behind-ahead.result
-walked c = ap (λ nodes. onward (next_at nodes) (c.args.place - 1) (Some c.args.head)) (sym c.deref.ensures.value) ∙ c.node_behind-ahead.ensures.value
+walked : (c : After-index-2) → node_onward (next_at c.self.inside.nodes.items) (c.args.place - 1) (Some c.args.head) ≡ Some c.node_behind-ahead.result
+walked c = ap (λ nodes. node_onward (next_at nodes) (c.args.place - 1) (Some c.args.head)) (sym c.deref.ensures.value) ∙ c.node_behind-ahead.ensures.value
 
 link : (c : After-index-2) → c.index-2.result.now.next ≡ next_at c.self.inside.nodes.items c.node_behind-ahead.result
 link c =
@@ -74,7 +74,7 @@ there c read link =
     let was = IsSound-lists _ _ _ _ c.self.view_is c.self.invariant in
     let is : c.args.place ≡ suc (c.args.place - 1) = omega (arith, c.requires.place) in
     let fits : c.args.place < (span_at c.self.inside.nodes.items c.args.head).len = omega (arith, ap (λ (s : Span). s.len) read, c.if-span-place.false) in
-    let walked = ap (λ nodes. onward (next_at nodes) (c.args.place - 1) (Some c.args.head)) (sym c.deref.ensures.value) ∙ c.node_behind-ahead.ensures.value in (
+    let walked = ap (λ nodes. node_onward (next_at nodes) (c.args.place - 1) (Some c.args.head)) (sym c.deref.ensures.value) ∙ c.node_behind-ahead.ensures.value in (
       place_is _ _ _ _ was c.args.head c.requires.head c.args.place (c.args.place - 1) is fits _ c.number-node.result walked (sym link ∙ c.number-node.ensures),
       (place_low _ _ _ _ was c.args.head c.requires.head c.args.place (c.args.place - 1) is fits _ c.number-node.result walked (sym link ∙ c.number-node.ensures)).1,
     )
@@ -96,7 +96,7 @@ chain_up-requires c =
 
 laid : (c : After-keep) → c.index.result.now.span ≡ span_at c.self.inside.nodes.items c.args.head → c.index-2.result.now.next ≡ next_at c.self.inside.nodes.items c.node_behind-ahead.result
     → c.number-node.result < length c.args.self.now.chains
-    → IsSound c.keep.new.nodes.items c.self.inside.first_free c.self.inside.free_len (record c.args.self.now { chains = taken_out (λ n. n) c.args.head c.args.place (strand_at c.args.self.now c.args.head) c.args.self.now.chains })
+    → IsSound c.keep.new.nodes.items c.self.inside.first_free c.self.inside.free_len (record c.args.self.now { chains = item_taken_out (λ n. n) c.args.head c.args.place (strand_at c.args.self.now c.args.head) c.args.self.now.chains })
 laid c read link low =
     let was = IsSound-lists _ _ _ _ c.self.view_is c.self.invariant in
     let nodes = c.self.inside.nodes.items in
@@ -105,7 +105,7 @@ laid c read link low =
     let n = c.number-node.result in
     let is : c.args.place ≡ suc (c.args.place - 1) = omega (arith, c.requires.place) in
     let fits : c.args.place < (span_at c.self.inside.nodes.items c.args.head).len = omega (arith, ap (λ (s : Span). s.len) read, c.if-span-place.false) in
-    let walked = ap (λ nodes. onward (next_at nodes) (c.args.place - 1) (Some c.args.head)) (sym c.deref.ensures.value) ∙ c.node_behind-ahead.ensures.value in
+    let walked = ap (λ nodes. node_onward (next_at nodes) (c.args.place - 1) (Some c.args.head)) (sym c.deref.ensures.value) ∙ c.node_behind-ahead.ensures.value in
     let behind : c.index-3.result.now.next ≡ next_at nodes n = ap (λ (x : Node). x.next) (node_read _ _ _ _ was n _ low c.index-3.ensures) in
     let less : c.without.result ≡ record { last = (if is_none (next_at nodes n) then t else (span_at nodes h).last); len = (span_at nodes h).len - 1 } =
     c.without.ensures ∙ (λ i. record { last = (if is_none (behind i) then t else (read i).last); len = (read i).len - 1 }) in

@@ -8,7 +8,7 @@ use Rattle.strm_data.specs.declared.refusal.Refusal.TheVariants.{NoMblk}
 use Rattle.std.proofs.lemmas.Bool.{cond-true, lt-ltb}
 use Rattle.strm_mblk.specs.declared.blocks.Fields.{Fields}
 use Rattle.strm_mblk.specs.Arena.{Arena, has, message_at}
-use Rattle.strm_mblk.specs.BlockCalls.{copies, copied}
+use Rattle.strm_mblk.specs.BlockCalls.{blocks_copied, message_copied}
 use Rattle.strm_mblk.specs.BlocksLayout.{arena_in, arena_of, message_of}
 use Rattle.strm_mblk.specs.Copying.{AreCopied}
 use Rattle.strm_mblk.specs.NodeLists.{nodes_at}
@@ -47,7 +47,7 @@ copy_blocks-requires-clause-fit c =
     let nodes : nodes_at c.begin_all-head.new.self c.head-from.result ≡ nodes_at c.self.inside.chains c.head-from.result =
     ap (nodes_at c.begin_all-head.new.self) c.head-from.ensures ∙ (is_beside (goal.at.copy_blocks-requires-clause-fit c).After-begin_all-head).from_is
     ∙ ap (nodes_at c.self.inside.chains) (sym c.head-from.ensures) in
-    (λ i. is_ok (copies (take c.args.count (message_of ((c.deref_mut.ensures.value ∙ sym c.deref.ensures.value) i) (nodes i))) c.self.inside.data.store))
+    (λ i. is_ok (blocks_copied (take c.args.count (message_of ((c.deref_mut.ensures.value ∙ sym c.deref.ensures.value) i) (nodes i))) c.self.inside.data.store))
     ∙ sym c.copies_fit.ensures.fit ∙ c.if-not-copies_fit.false
 
 module _ (c : After-copy_blocks) where
@@ -88,7 +88,7 @@ returns c =
 
 -- ---- too few message blocks are free
 
-few_free : (c : After-free_len) → c.free_len.result < c.args.count → copied (take c.args.count (message_at c.args.self.now c.args.token.now.head)) c.args.self.now ≡ Err NoMblk
+few_free : (c : After-free_len) → c.free_len.result < c.args.count → message_copied (take c.args.count (message_at c.args.self.now c.args.token.now.head)) c.args.self.now ≡ Err NoMblk
 few_free c few = grind (arith, common_steps, parted_inside, cond-true, lt-ltb, taken_many)
 
 pub returns-then-free_len-count : goal.returns-then-free_len-count

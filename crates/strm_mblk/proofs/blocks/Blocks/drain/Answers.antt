@@ -4,9 +4,9 @@ use Rattle.std.proofs.lemmas.List.{length-drop, length-map, with_items_is}
 use Rattle.strm_data.specs.CountedStore.{count_of}
 use Rattle.strm_data.specs.DataStore.{times}
 use Rattle.strm_mblk.specs.Arena.{message_at}
-use Rattle.strm_mblk.specs.BlocksLayout.{fields_at, named_by}
+use Rattle.strm_mblk.specs.BlocksLayout.{fields_at, data_used_by}
 use Rattle.strm_mblk.specs.NodeLists.{nodes_at}
-use Rattle.strm_mblk.specs.Pulling.{drained}
+use Rattle.strm_mblk.specs.Pulling.{with_bytes_drained}
 use Rattle.strm_mblk.proofs.freeing.Freemsg.{IsFreed, enough}
 use Rattle.strm_mblk.proofs.layout.Places.{IsHeldHead, seen_head}
 use Rattle.strm_mblk.proofs.layout.Rewriting.{node_room}
@@ -40,7 +40,7 @@ take_bytes-used-requires-clause-small c =
 
 pub take_bytes-used-requires-clause-named : goal.take_bytes-used-requires-clause-named
 take_bytes-used-requires-clause-named c =
-    subst (λ fs. (d : ℕ) → times d (named_by fs (nodes_at c.self.inside.chains c.args.head)) ≤ count_of c.self.inside.data d) (sym c.deref_mut.ensures.value)
+    subst (λ fs. (d : ℕ) → times d (data_used_by fs (nodes_at c.self.inside.chains c.args.head)) ≤ count_of c.self.inside.data d) (sym c.deref_mut.ensures.value)
     (enough c.self.inside.id c.self.inside.data c.self.inside.blocks.items c.self.inside.chains c.self.invariant.filled c.args.head (head (goal.at.take_bytes-used-requires-clause-named c).After-deref_mut).held)
 
 -- fewer blocks are used up than the message has
@@ -52,10 +52,10 @@ taken c = grind (arith, common_steps, head, with_items_is)
 
 is_freed : (c : After-free_behind) → IsHeldHead c.self.inside.blocks.items c.self.inside.chains c.args.head
     → AreTaken c.self.inside.blocks.items (nodes_at c.self.inside.chains c.args.head) c.args.count c.self.inside.data c.take_bytes-used.result (with_items c.self.inside.blocks c.take_bytes-used.new.blocks).items c.take_bytes-used.new.stored
-    → IsFreed c.args.self.now (drained c.args.head c.args.count (message_at c.args.self.now c.args.head) c.args.self.now) c.take_bytes-used.new.stored (with_items c.self.inside.blocks c.take_bytes-used.new.blocks).items c.free_behind.new.self c.self.inside.id
+    → IsFreed c.args.self.now (with_bytes_drained c.args.head c.args.count (message_at c.args.self.now c.args.head) c.args.self.now) c.take_bytes-used.new.stored (with_items c.self.inside.blocks c.take_bytes-used.new.blocks).items c.free_behind.new.self c.self.inside.id
 is_freed c is taken =
     let i = c.self.inside in
-    subst (λ a. IsFreed a (drained c.args.head c.args.count (message_at a c.args.head) a) c.take_bytes-used.new.stored (with_items i.blocks c.take_bytes-used.new.blocks).items c.free_behind.new.self i.id) c.self.view_is
+    subst (λ a. IsFreed a (with_bytes_drained c.args.head c.args.count (message_at a c.args.head) a) c.take_bytes-used.new.stored (with_items i.blocks c.take_bytes-used.new.blocks).items c.free_behind.new.self i.id) c.self.view_is
     (drains i.id i.data i.blocks.items i.chains c.self.invariant.filled c.args.head is.held c.args.count c.take_bytes-used.result
     (with_items i.blocks c.take_bytes-used.new.blocks).items c.take_bytes-used.new.stored c.free_behind.new.self taken c.take_bytes-used.ensures.kept c.free_behind.ensures.after c.free_behind.ensures.parted)
 

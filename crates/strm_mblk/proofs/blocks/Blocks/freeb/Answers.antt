@@ -3,7 +3,7 @@ use Rattle.strm_mblk.specs.declared.token.TokenValue.{TokenValue}
 use Rattle.strm_mblk.specs.Arena.{has, message_at, token_of}
 use Rattle.std.specs.Prelude.{option_map}
 use Rattle.strm_mblk.specs.BlockCalls.{freeb, unlinkb}
-use Rattle.strm_mblk.specs.Freeing.{spent}
+use Rattle.strm_mblk.specs.Freeing.{with_token_spent}
 use Rattle.strm_mblk.proofs.arena.Heads.{IsOneFreed, frees_one}
 use Rattle.strm_mblk.proofs.arena.Tokens.{had_message}
 use Rattle.strm_mblk.proofs.arena.Frame.{Leaves, leaves_freeb}
@@ -20,7 +20,7 @@ is_freed c =
     (subst (λ a. has a c.unlinkb-rest.new.token ≡ true) c.unlinkb-rest.ensures.after c.unlinkb-rest.ensures.had)
 
 after_is : (c : After-freemsg) → c.freemsg.new.self ≡ (freeb c.args.token.head c.args.self.now).1
-after_is c = c.freemsg.ensures.after ∙ ap (λ a. spent a c.unlinkb-rest.new.token) c.unlinkb-rest.ensures.after ∙ (is_freed c).after
+after_is c = c.freemsg.ensures.after ∙ ap (λ a. with_token_spent a c.unlinkb-rest.new.token) c.unlinkb-rest.ensures.after ∙ (is_freed c).after
 
 unlinked : (c : After-freemsg) → c.unlinkb-rest.result ≡ option_map (token_of c.unlinkb-rest.new.self) (unlinkb c.args.token.head c.args.self.now).0
 unlinked c = let answered = c.unlinkb-rest.ensures.rest in cc

@@ -2,7 +2,7 @@ use Rattle.std.proofs.Common.{arith, ◌≡◌, ◌≢◌, ℕ, ap, subst, sym, 
 use Rattle.std.proofs.lemmas.Grind.{common_steps}
 use Rattle.strm_mblk.specs.declared.token.TokenValue.{TokenValue}
 use Rattle.strm_mblk.specs.Arena.{held_at}
-use Rattle.strm_mblk.specs.Messages.{joined}
+use Rattle.strm_mblk.specs.Messages.{chains_joined}
 use Rattle.strm_mblk.specs.NodeLists.{NodeLists}
 use Rattle.strm_mblk.proofs.joining.Linkb.{IsJoined, joins}
 use Rattle.strm_mblk.proofs.arena.Frame.{Leaves, leaves_linkb, linkb_gone}
@@ -14,7 +14,7 @@ is_joined : (c : After-set_blocks) → IsJoined c.args.self.now c.self.inside.da
 is_joined c =
     let tail : c.spend-tail.result.head ≡ c.args.tail.head = ap (λ (t : TokenValue). t.head) c.spend-tail.ensures in
     let other : c.args.token.now.head ≢ c.args.tail.head = λ same. c.if-head-tail.true (c.head.ensures ∙ same ∙ sym tail) in
-    let lists : ℕ → ℕ → NodeLists = λ h g. record c.self.inside.chains { held = joined h g c.self.inside.chains.held } in
+    let lists : ℕ → ℕ → NodeLists = λ h g. record c.self.inside.chains { held = chains_joined h g c.self.inside.chains.held } in
     let after : c.join.new.self ≡ lists c.args.token.now.head c.args.tail.head =
     c.join.ensures.after ∙ ap (λ h. lists h c.spend-tail.result.head) c.head-then-head-tail.ensures ∙ ap (lists c.args.token.now.head) tail in
     subst (λ a. IsJoined a c.self.inside.data c.self.inside.blocks.items c.join.new.self c.self.inside.id c.args.token.now.head c.args.tail.head) c.self.view_is

@@ -1,15 +1,15 @@
 use Rattle.std.proofs.Common.{◌≡◌, ◌<◌, ◌∷◌, length, set, Ok, ap, subst, sym, ◌∙◌, arith, refl}
 use Rattle.std.specs.Prelude.{drop}
 use Rattle.std.proofs.lemmas.List.{get_or_read}
-use Rattle.strm_data.specs.CountedStore.{CountedStore, count_of, without_name}
+use Rattle.strm_data.specs.CountedStore.{CountedStore, count_of, without_reference}
 use Rattle.strm_data.specs.DataStore.{data_block_at, times, with_data_taken, with_kind}
 use Rattle.strm_mblk.specs.declared.blocks.Fields.{Fields}
 use Rattle.strm_mblk.specs.Arena.{Arena, message_at}
 use Rattle.strm_mblk.specs.Block.{bytes_of, kind_of}
-use Rattle.strm_mblk.specs.BlocksLayout.{arena_in, block_at, fields_at, message_of, named_by}
+use Rattle.strm_mblk.specs.BlocksLayout.{arena_in, block_at, fields_at, message_of, data_used_by}
 use Rattle.strm_mblk.specs.NodeLists.{nodes_at}
 use Rattle.strm_mblk.specs.Pulling.{pull_front, front_pulled, with_front_copied}
-use Rattle.strm_mblk.specs.Trimming.{pulled_into}
+use Rattle.strm_mblk.specs.Trimming.{store_with_front}
 use Rattle.strm_mblk.proofs.reading.Bytes.{length-message}
 use Rattle.strm_mblk.proofs.freeing.Freemsg.{enough}
 use Rattle.strm_mblk.proofs.pulling.FrontPulled.{IsFrontPulled, pulls_front, pulled_is, still_there, still_used}
@@ -47,8 +47,8 @@ pub copy_front-requires-clause-unnamed : goal.copy_front-requires-clause-unnamed
 copy_front-requires-clause-unnamed c =
     let before = (goal.at.copy_front-requires-clause-unnamed c).After-index-fields in
     let d = c.in_ok-data_number.data_number in
-    let same : times d (named_by c.deref.result.now (nodes_at c.self.inside.chains c.head-head.result)) ≡ times d (named_by c.self.inside.blocks.items (nodes_at c.self.inside.chains c.args.token.now.head)) =
-    λ i. times d (named_by (c.deref.ensures.value i) (nodes_at c.self.inside.chains (c.head-head.ensures i))) in
+    let same : times d (data_used_by c.deref.result.now (nodes_at c.self.inside.chains c.head-head.result)) ≡ times d (data_used_by c.self.inside.blocks.items (nodes_at c.self.inside.chains c.args.token.now.head)) =
+    λ i. times d (data_used_by (c.deref.ensures.value i) (nodes_at c.self.inside.chains (c.head-head.ensures i))) in
     omega (
       arith,
       same,
@@ -86,7 +86,7 @@ copied : (c : After-copy_front) → IsHeldHead c.self.inside.blocks.items c.self
     → c.set_kind.new.self
     ≡ record { store = with_kind c.in_ok-data_number.data_number c.kind-kind.result (with_data_taken c.in_ok-data_number.data_number c.self.inside.data.store); counts = set c.self.inside.data.counts c.in_ok-data_number.data_number 1 }
     → c.copy_front.new.stored ≡ record {
-      store = pulled_into c.args.count (block_at c.self.inside.blocks.items c.args.token.now.head ∷ message_of c.self.inside.blocks.items (drop 1 (nodes_at c.self.inside.chains c.args.token.now.head))) c.self.inside.data.store c.in_ok-data_number.data_number;
+      store = store_with_front c.args.count (block_at c.self.inside.blocks.items c.args.token.now.head ∷ message_of c.self.inside.blocks.items (drop 1 (nodes_at c.self.inside.chains c.args.token.now.head))) c.self.inside.data.store c.in_ok-data_number.data_number;
       counts = set c.self.inside.data.counts c.in_ok-data_number.data_number 1;
     }
 copied c is kind typed =
@@ -130,7 +130,7 @@ is_front_pulled c =
     c.args.count d c.in_ok-data_number.ensures.unused c.in_ok-data_number.ensures.room c.copy_front.new.stored
     (copied (goal.at.invariant_of-self-2 c).After-copy_front (head before) (kind_is typed_now (read before)) (typed typed_now))
     c.drop_name.new.self (new_fields c) c.drop_name.ensures.kept
-    (c.drop_name.ensures.after ∙ ap (λ (f : Fields). without_name f.data_number c.copy_front.new.stored) (read before))
+    (c.drop_name.ensures.after ∙ ap (λ (f : Fields). without_reference f.data_number c.copy_front.new.stored) (read before))
     (ap (λ (f : Fields). let x : Fields = record { data_number = d; offset = 0; len = c.args.count; band = f.band } in x) (read before))))
 
 pub invariant_of-self-2 : goal.invariant_of-self-2

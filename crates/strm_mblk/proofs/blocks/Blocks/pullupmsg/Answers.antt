@@ -10,7 +10,7 @@ use Rattle.strm_mblk.specs.Calls.{Alters, itself}
 use Rattle.strm_mblk.specs.Given.{value_after, answer_of}
 use Rattle.strm_mblk.specs.Messages.{held_in}
 use Rattle.strm_mblk.specs.NodeLists.{nodes_at}
-use Rattle.strm_mblk.specs.Pulling.{drained, pull_front}
+use Rattle.strm_mblk.specs.Pulling.{with_bytes_drained, pull_front}
 use Rattle.strm_mblk.specs.Trimming.{bytes_asked, pullupmsg, run_of}
 use Rattle.strm_mblk.proofs.pulling.Pulled.{IsPulled, pull_front_answer, front_pulled_held, pull_had, pulls, run_most}
 use Rattle.strm_mblk.proofs.pulling.FrontPulled.{head_held}
@@ -101,11 +101,11 @@ module _ (c : After-index) (many : c.index.result.now.len < c.in-Some.wanted) (f
       ap (λ k. is_some (held_at first k)) c.head-head.ensures
       ∙ ap is_some (front_pulled_held (h c) c.in-Some.wanted (b c) (bs c) c.args.self.now (held c) c.args.count (asked c) (enough c) (more c many) first first_is u given)
 
-  is_pulled : (new : Arena) → new ≡ drained c.head-head.result (c.in-Some.wanted - c.index.result.now.len) (message_at first c.head-head.result) first
+  is_pulled : (new : Arena) → new ≡ with_bytes_drained c.head-head.result (c.in-Some.wanted - c.index.result.now.len) (message_at first c.head-head.result) first
       → IsPulled (h c) c.in-Some.wanted c.args.self.now (pullupmsg (h c) c.args.count c.args.self.now) new
   is_pulled new is =
       pulls (h c) c.in-Some.wanted (b c) (bs c) c.args.self.now (held c) c.args.count (asked c) (enough c) (more c many) first first_is u given new
-      (is ∙ (λ i. drained (c.head-head.ensures i) (c.in-Some.wanted - len_is c i) (message_at first (c.head-head.ensures i)) first))
+      (is ∙ (λ i. with_bytes_drained (c.head-head.ensures i) (c.in-Some.wanted - len_is c i) (message_at first (c.head-head.ensures i)) first))
 
 pub drain-requires : goal.drain-requires
 drain-requires c =

@@ -4,7 +4,7 @@ use Rattle.std.specs.Prelude.{slice_get}
 use Rattle.strm_data.specs.CountedStore.{count_of}
 use Rattle.strm_data.specs.declared.refusal.Refusal.TheVariants.{NoSuchBlock, Shared}
 use Rattle.strm_mblk.specs.declared.blocks.Fields.{Fields}
-use Rattle.strm_mblk.specs.Arena.{names_of, message_at}
+use Rattle.strm_mblk.specs.Arena.{references_to, message_at}
 use Rattle.strm_mblk.specs.BlockCalls.{settype}
 use Rattle.strm_mblk.specs.BlocksLayout.{arena_of, fields_at, no_fields}
 use Rattle.strm_mblk.specs.NodeLists.{nodes_at}
@@ -36,8 +36,8 @@ is_at c =
 read : (c : After-count) → c.index.result.now ≡ fields_at c.self.inside.blocks.items c.in-Some.node
 read c = get_or_read c.self.inside.blocks.items c.in-Some.node c.index.result.now (is_at c).there c.index.ensures no_fields
 
--- the count is that of the names
-counted : (c : After-count) → c.count.result ≡ names_of c.args.self.now (fields_at c.self.inside.blocks.items c.in-Some.node).data_number
+-- the count is that of the references
+counted : (c : After-count) → c.count.result ≡ references_to c.args.self.now (fields_at c.self.inside.blocks.items c.in-Some.node).data_number
 counted c = c.count.ensures ∙ ap (λ (f : Fields). count_of c.self.inside.data f.data_number) (read c) ∙ (is_at c).named
 
 shared : (c : After-count) → 1 < c.count.result → settype c.args.token.now.head c.args.place c.args.kind c.args.self.now ≡ Err Shared

@@ -5,7 +5,7 @@ use Rattle.strm_mblk.specs.declared.token.TokenValue.{TokenValue}
 use Rattle.strm_mblk.specs.Arena.{Arena, token_of}
 use Rattle.strm_mblk.specs.BlockCalls.{unlinkb}
 use Rattle.strm_mblk.specs.BlocksLayout.{arena_of}
-use Rattle.strm_mblk.specs.Messages.{divided}
+use Rattle.strm_mblk.specs.Messages.{chain_divided}
 use Rattle.strm_mblk.specs.NodeLists.{NodeLists, nodes_at}
 use Rattle.strm_mblk.proofs.layout.Places.{token_held}
 use Rattle.strm_mblk.proofs.arena.Tokens.{had_message, token_had}
@@ -21,7 +21,7 @@ is_divided c =
     let held = token_held c.self.inside.id c.self.inside.data c.self.inside.blocks.items c.self.inside.chains c.args.self.now c.self.view_is c.args.token.now c.args.token.now refl c.requires in
     let at : slice_get (nodes_at c.self.inside.chains c.args.token.now.head) 1 ≡ Some c.in_ok-rest.rest =
     ap (λ h. slice_get (nodes_at c.self.inside.chains h) 1) (sym c.head.ensures) ∙ sym c.divide.ensures.answer ∙ c.in_ok-rest.was in
-    let lists : ℕ → NodeLists = λ h. record c.self.inside.chains { held = divided (λ n. n) h (nodes_at c.self.inside.chains h) c.self.inside.chains.held } in
+    let lists : ℕ → NodeLists = λ h. record c.self.inside.chains { held = chain_divided (λ n. n) h (nodes_at c.self.inside.chains h) c.self.inside.chains.held } in
     subst (λ a. IsDivided a c.self.inside.data c.self.inside.blocks.items c.divide.new.self c.self.inside.id c.args.token.now.head c.in_ok-rest.rest) c.self.view_is
     (divides c.self.inside.id c.self.inside.data c.self.inside.blocks.items c.self.inside.chains c.divide.new.self c.self.invariant.filled c.args.token.now.head c.in_ok-rest.rest held at
     (c.divide.ensures.after ∙ ap lists c.head.ensures) c.divide.ensures.parted)

@@ -5,7 +5,7 @@ use Rattle.strm_data.specs.CountedStore.{count_of}
 use Rattle.strm_data.specs.DataStore.{capacity_of, with_bytes_written}
 use Rattle.strm_data.specs.declared.refusal.Refusal.TheVariants.{NoRoom, NoSuchBlock, Shared}
 use Rattle.strm_mblk.specs.declared.blocks.Fields.{Fields}
-use Rattle.strm_mblk.specs.Arena.{has, names_of, message_at}
+use Rattle.strm_mblk.specs.Arena.{has, references_to, message_at}
 use Rattle.strm_mblk.specs.BlockCalls.{write}
 use Rattle.strm_mblk.specs.BlocksLayout.{arena_in, fields_at, no_fields}
 use Rattle.strm_mblk.specs.NodeLists.{nodes_at}
@@ -48,8 +48,8 @@ module _ (c : After-count) where
   within : c.index-fields.result.now.offset + c.index-fields.result.now.len ≤ capacity_of c.self.inside.data.store c.index-fields.result.now.data_number
   within = subst (λ f. f.offset + f.len ≤ capacity_of c.self.inside.data.store f.data_number) (sym read) is_at.placed.within
 
-  -- the count is that of the names
-  counted : c.count.result ≡ names_of c.args.self.now (fields_at c.self.inside.blocks.items c.in-Some.node).data_number
+  -- the count is that of the references
+  counted : c.count.result ≡ references_to c.args.self.now (fields_at c.self.inside.blocks.items c.in-Some.node).data_number
   counted = c.count.ensures ∙ ap (λ (f : Fields). count_of c.self.inside.data f.data_number) read ∙ is_at.named
 
   shared : 1 < c.count.result → write c.args.token.now.head c.args.place c.args.bytes.now c.args.self.now ≡ Err Shared
@@ -92,7 +92,7 @@ is_written c =
     subst (λ a. IsWritten a c.write.new.self (set c.self.inside.blocks.items c.in-Some.node (record c.index_mut.result.now { len = c.index-fields.result.now.len + length c.args.bytes.now })) c.self.inside.chains c.self.inside.id c.args.place c.args.bytes.now c.args.token.now) c.self.view_is
     (writes c.self.inside.id c.self.inside.data c.self.inside.blocks.items c.self.inside.chains c.self.invariant.filled c.args.token.now (subst (λ a. has a c.args.token.now ≡ true) (sym c.self.view_is) c.requires)
     c.args.place c.in-Some.node at c.args.bytes.now c.write.new.self _ c.write.ensures.kept new_is x_is
-    (omega (arith, c.if-count-gt1.false, counted before, ap (λ a. names_of a n.data_number) c.self.view_is))
+    (omega (arith, c.if-count-gt1.false, counted before, ap (λ a. references_to a n.data_number) c.self.view_is))
     (omega (arith, c.if-bytes-capacity.false, c.cap-capacity.ensures.answer, within before, ap (λ (f : Fields). f.offset + f.len) (read before), ap (λ (f : Fields). capacity_of c.self.inside.data.store f.data_number) (read before))))
 
 pub invariant_of-self : goal.invariant_of-self

@@ -5,7 +5,7 @@ use Rattle.std.proofs.lemmas.Option.{none-some, same_Some, slice_get-get_or, sli
 use Rattle.strm_data.specs.CountedStore.{CountedStore}
 use Rattle.strm_data.specs.DataStore.{DataStore, capacity_of}
 use Rattle.strm_data.specs.declared.refusal.Refusal.TheVariants.{NoData}
-use Rattle.strm_mblk.specs.BlockCalls.{copies}
+use Rattle.strm_mblk.specs.BlockCalls.{blocks_copied}
 use Rattle.strm_mblk.specs.Block.{Block}
 use Rattle.strm_mblk.specs.declared.blocks.Fields.{Fields}
 use Rattle.strm_mblk.specs.BlocksLayout.{IsPlaced, block_at, fields_at, message_of}
@@ -77,7 +77,7 @@ module _ (c : After-class_left) where
   size_is = c.cap-size.ensures.answer
 
   -- no class serves
-  refused : ((k : ℕ) → IsLeft c.cap-size.result c.args.stored.now.store.classes c.loop-block.left k → ⊥) → copies bs c.args.stored.now.store ≡ Err NoData
+  refused : ((k : ℕ) → IsLeft c.cap-size.result c.args.stored.now.store.classes c.loop-block.left k → ⊥) → blocks_copied bs c.args.stored.now.store ≡ Err NoData
   refused none =
       none_ahead bs c.loop-block._block c.args.stored.now c.loop-block.invariant.ahead.0 c.loop-block.left c.loop-block.invariant.ahead.1 b next inside
       (λ k is. none k (subst (λ n. IsLeft n c.args.stored.now.store.classes c.loop-block.left k) (sym size_is) is))

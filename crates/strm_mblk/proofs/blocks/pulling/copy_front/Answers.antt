@@ -3,17 +3,17 @@ use Rattle.std.proofs.lemmas.Option.{slice_get-map}
 use Rattle.std.specs.Prelude.{option_map, slice_get}
 use Rattle.strm_data.specs.DataStore.{times}
 use Rattle.strm_mblk.specs.declared.blocks.Fields.{Fields}
-use Rattle.strm_mblk.specs.BlocksLayout.{block_at, fields_at, message_of, named_by}
+use Rattle.strm_mblk.specs.BlocksLayout.{block_at, fields_at, message_of, data_used_by}
 use Rattle.strm_mblk.specs.NodeLists.{nodes_at}
 use Rattle.strm_mblk.proofs.pulling.FrontCopied.{next_copied}
 use Rattle.strm_mblk.proofs.lists.Numbers.{times_at}
 use Rattle.strm_mblk.proofs.blocks.pulling.copy_front.Goals as goal
 
 -- a block of the message does not name the data block
-apart : (d : ℕ) (fields : List Fields) (ns : List ℕ) (k n : ℕ) → times d (named_by fields ns) ≡ 0 → slice_get ns k ≡ Some n → (fields_at fields n).data_number ≢ d
+apart : (d : ℕ) (fields : List Fields) (ns : List ℕ) (k n : ℕ) → times d (data_used_by fields ns) ≡ 0 → slice_get ns k ≡ Some n → (fields_at fields n).data_number ≢ d
 apart d fields ns k n none at same =
     let named = slice_get-map (λ j. (fields_at fields j).data_number) ns k ∙ ap (option_map (λ j. (fields_at fields j).data_number)) at in
-    absurd (omega (arith, none, ap (λ e. times e (named_by fields ns)) same, times_at (fields_at fields n).data_number (named_by fields ns) k named))
+    absurd (omega (arith, none, ap (λ e. times e (data_used_by fields ns)) same, times_at (fields_at fields n).data_number (data_used_by fields ns) k named))
 
 pub loop-block-preserved : goal.loop-block-preserved
 loop-block-preserved c =

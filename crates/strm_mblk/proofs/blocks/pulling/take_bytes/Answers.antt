@@ -1,6 +1,6 @@
 use Rattle.std.proofs.Common.{◌≡◌, ◌+◌, ◌-◌, ◌<◌, List, false, length, Some, ap, arith, set, subst, sym, ◌∙◌}
 use Rattle.std.specs.Prelude.{slice_get}
-use Rattle.strm_data.specs.CountedStore.{without_name}
+use Rattle.strm_data.specs.CountedStore.{without_reference}
 use Rattle.strm_mblk.specs.declared.blocks.Fields.{Fields}
 use Rattle.strm_mblk.specs.BlocksLayout.{fields_at}
 use Rattle.strm_mblk.specs.Cutting.{fields_cut}
@@ -88,13 +88,13 @@ loop-used-preserved c =
     let d = (goal.at.loop-used-preserved c).After-onward-node in
     let n = c.onward-node.result in
     let next = next_takes _ _ _ _ _ _ _ c.loop-used.invariant.takes n (next_here d) (omega (arith, c.if-left-eq0.false)) (omega (arith, c.if-left-fields.false, ap (λ (f : Fields). f.len) (read d))) in
-    let dropped : c.drop_name.new.self ≡ without_name (fields_at c.args.blocks.now n).data_number c.loop-used.stored =
-    c.drop_name.ensures.after ∙ ap (λ (f : Fields). without_name f.data_number c.loop-used.stored) (read d) in
+    let dropped : c.drop_name.new.self ≡ without_reference (fields_at c.args.blocks.now n).data_number c.loop-used.stored =
+    c.drop_name.ensures.after ∙ ap (λ (f : Fields). without_reference f.data_number c.loop-used.stored) (read d) in
     record {
       at = c.onward-node.ensures c.args.head c.loop-used.used c.loop-used.invariant.at;
       takes =
           subst (λ s. AreTaking c.args.blocks.now (nodes_at c.args.chains.now c.args.head) c.args.count c.args.stored.now (c.loop-used.used + 1) (c.loop-used.left - (fields_at c.loop-used.blocks n).len) s) (sym dropped)
-          (subst (λ (f : Fields). AreTaking c.args.blocks.now (nodes_at c.args.chains.now c.args.head) c.args.count c.args.stored.now (c.loop-used.used + 1) (c.loop-used.left - f.len) (without_name (fields_at c.args.blocks.now n).data_number c.loop-used.stored)) (sym (read d))
+          (subst (λ (f : Fields). AreTaking c.args.blocks.now (nodes_at c.args.chains.now c.args.head) c.args.count c.args.stored.now (c.loop-used.used + 1) (c.loop-used.left - f.len) (without_reference (fields_at c.args.blocks.now n).data_number c.loop-used.stored)) (sym (read d))
           next);
       same = c.loop-used.invariant.same;
       kept = c.drop_name.ensures.kept;

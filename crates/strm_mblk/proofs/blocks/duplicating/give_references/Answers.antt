@@ -1,23 +1,23 @@
 use Rattle.std.proofs.Common.{◌≡◌, ◌<◌, ℕ, Some, length, not, arith, ap, sym, ◌∙◌, subst}
 use Rattle.std.specs.Prelude.{slice_get, take}
 use Rattle.strm_data.specs.DataStore.{DataStore}
-use Rattle.strm_mblk.specs.BlocksLayout.{fields_at, named_by, with_names_given}
+use Rattle.strm_mblk.specs.BlocksLayout.{fields_at, data_used_by, with_references_given}
 use Rattle.strm_mblk.specs.NodeLists.{nodes_at}
 use Rattle.strm_mblk.proofs.freeing.Dropping.{named-get}
 use Rattle.strm_mblk.proofs.making.Giving.{back_now, few_now, named_now, next_full, next_given, next_used, store_now}
-use Rattle.strm_mblk.proofs.blocks.duplicating.give_names.Goals.{After-loop-given, In-loop-given}
-use Rattle.strm_mblk.proofs.blocks.duplicating.give_names.Goals as goal
+use Rattle.strm_mblk.proofs.blocks.duplicating.give_references.Goals.{After-loop-given, In-loop-given}
+use Rattle.strm_mblk.proofs.blocks.duplicating.give_references.Goals as goal
 use Rattle.std.proofs.lemmas.Grind.{common_steps}
 
 module _ (c : In-loop-given) where
   abbrev d : ℕ
   d = (fields_at c.args.blocks.now c.loop-given.node).data_number
 
-  named_at : slice_get (named_by c.args.blocks.now (nodes_at c.args.chains.now c.args.head)) c.loop-given.given ≡ Some d
+  named_at : slice_get (data_used_by c.args.blocks.now (nodes_at c.args.chains.now c.args.head)) c.loop-given.given ≡ Some d
   named_at = named-get c.args.blocks.now (nodes_at c.args.chains.now c.args.head) c.loop-given.given c.loop-given.node (c.loop-given.invariant.at.here (omega (arith, c.loop-given-test.true, c.requires.count)))
 
   same_store : c.loop-given.stored.store ≡ c.args.stored.now.store
-  same_store = store_now (named_by c.args.blocks.now (nodes_at c.args.chains.now c.args.head)) c.loop-given.given c.args.stored.now c.loop-given.stored c.requires.used c.loop-given.invariant.after
+  same_store = store_now (data_used_by c.args.blocks.now (nodes_at c.args.chains.now c.args.head)) c.loop-given.given c.args.stored.now c.loop-given.stored c.requires.used c.loop-given.invariant.after
 
   there : (n : ℕ) → n < length c.args.blocks.now → (fields_at c.args.blocks.now n).data_number < length c.loop-given.stored.store.blocks
   there n within = subst (λ (s : DataStore). (fields_at c.args.blocks.now n).data_number < length s.blocks) (sym same_store) (c.requires.there n within)
@@ -28,19 +28,19 @@ module _ (c : In-loop-given) where
 pub count-requires : goal.count-requires
 count-requires c = there c c.loop-given.node (node_in c)
 
-pub drop_names-requires-clause-there : goal.drop_names-requires-clause-there
-drop_names-requires-clause-there c = there (goal.at.drop_names-requires-clause-there c).In-loop-given
+pub drop_references-requires-clause-there : goal.drop_references-requires-clause-there
+drop_references-requires-clause-there c = there (goal.at.drop_references-requires-clause-there c).In-loop-given
 
-pub drop_names-requires-clause-named : goal.drop_names-requires-clause-named
-drop_names-requires-clause-named c = grind (arith, common_steps, named_now)
+pub drop_references-requires-clause-named : goal.drop_references-requires-clause-named
+drop_references-requires-clause-named c = grind (arith, common_steps, named_now)
 
-pub drop_names-requires-clause-kept : goal.drop_names-requires-clause-kept
-drop_names-requires-clause-kept c = c.loop-given.invariant.kept
+pub drop_references-requires-clause-kept : goal.drop_references-requires-clause-kept
+drop_references-requires-clause-kept c = c.loop-given.invariant.kept
 
 pub returns-then-count-clause-answer : goal.returns-then-count-clause-answer
 returns-then-count-clause-answer c =
     let at = (goal.at.returns-then-count-clause-answer c).In-loop-given in
-    sym (ap not (next_full (named_by c.args.blocks.now (nodes_at c.args.chains.now c.args.head)) c.loop-given.given c.args.stored.now c.loop-given.stored c.requires.used c.loop-given.invariant.after
+    sym (ap not (next_full (data_used_by c.args.blocks.now (nodes_at c.args.chains.now c.args.head)) c.loop-given.given c.args.stored.now c.loop-given.stored c.requires.used c.loop-given.invariant.after
     (d at) (named_at at) c.args.count c.loop-given-test.true (sym c.count.ensures ∙ c.if-count.true)))
 
 pub returns-then-count-clause-after : goal.returns-then-count-clause-after
@@ -52,7 +52,7 @@ name-requires-clause-there c = let at = (goal.at.name-requires-clause-there c).I
 pub name-requires-clause-used : goal.name-requires-clause-used
 name-requires-clause-used c =
     let at = (goal.at.name-requires-clause-used c).In-loop-given in
-    next_used (named_by c.args.blocks.now (nodes_at c.args.chains.now c.args.head)) c.loop-given.given c.args.stored.now c.loop-given.stored c.requires.used c.loop-given.invariant.after (d at) (named_at at)
+    next_used (data_used_by c.args.blocks.now (nodes_at c.args.chains.now c.args.head)) c.loop-given.given c.args.stored.now c.loop-given.stored c.requires.used c.loop-given.invariant.after (d at) (named_at at)
 
 pub loop-given-preserved : goal.loop-given-preserved
 loop-given-preserved c =
@@ -61,13 +61,13 @@ loop-given-preserved c =
       at = c.onward-node.ensures c.args.head c.loop-given.given c.loop-given.invariant.at;
       after =
           c.name.ensures.after
-          ∙ next_given (named_by c.args.blocks.now (nodes_at c.args.chains.now c.args.head)) c.loop-given.given c.args.stored.now c.loop-given.stored c.requires.used c.loop-given.invariant.after (d at) (named_at at);
+          ∙ next_given (data_used_by c.args.blocks.now (nodes_at c.args.chains.now c.args.head)) c.loop-given.given c.args.stored.now c.loop-given.stored c.requires.used c.loop-given.invariant.after (d at) (named_at at);
       kept = c.name.ensures.kept;
     }
 
 -- all have a name more
 module _ (c : After-loop-given) where
-  all_given : c.loop-given.stored ≡ with_names_given (take c.args.count (named_by c.args.blocks.now (nodes_at c.args.chains.now c.args.head))) c.args.stored.now
+  all_given : c.loop-given.stored ≡ with_references_given (take c.args.count (data_used_by c.args.blocks.now (nodes_at c.args.chains.now c.args.head))) c.args.stored.now
   all_given = grind (arith, common_steps)
 
 pub returns-clause-answer : goal.returns-clause-answer

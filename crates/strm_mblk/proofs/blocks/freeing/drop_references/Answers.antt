@@ -2,18 +2,18 @@ use Rattle.std.proofs.Common.{◌≡◌, ◌<◌, ℕ, ◌+◌, List, Some, arit
 use Rattle.std.proofs.lemmas.Grind.{common_steps}
 use Rattle.std.specs.Prelude.{slice_get, take}
 use Rattle.strm_mblk.specs.declared.blocks.Fields.{Fields}
-use Rattle.strm_mblk.specs.BlocksLayout.{fields_at, named_by}
+use Rattle.strm_mblk.specs.BlocksLayout.{fields_at, data_used_by}
 use Rattle.strm_mblk.specs.NodeLists.{nodes_at}
 use Rattle.strm_mblk.proofs.lists.Numbers.{slice_get-take}
 use Rattle.strm_mblk.proofs.freeing.Dropping.{IsDropping, named-get, next_dropping, next_used, start_dropping}
-use Rattle.strm_mblk.proofs.blocks.freeing.drop_names.Goals.{In-loop-block}
-use Rattle.strm_mblk.proofs.blocks.freeing.drop_names.Goals as goal
+use Rattle.strm_mblk.proofs.blocks.freeing.drop_references.Goals.{In-loop-block}
+use Rattle.strm_mblk.proofs.blocks.freeing.drop_references.Goals as goal
 
--- the data blocks whose names are dropped
+-- the data blocks whose references are dropped
 abbrev names : (fields : List Fields) (ns : List ℕ) (count : ℕ) → List ℕ
-names fields ns count = take count (named_by fields ns)
+names fields ns count = take count (data_used_by fields ns)
 
--- a block of the message names one of them
+-- a block of the message uses one of them
 at_block : (fields : List Fields) (ns : List ℕ) (count i n : ℕ) → i < count → slice_get ns i ≡ Some n → slice_get (names fields ns count) i ≡ Some (fields_at fields n).data_number
 at_block fields ns count i n within is = slice_get-take count i _ within ∙ named-get fields ns i n is
 
