@@ -15,7 +15,7 @@ use Rattle.strm_mblk.specs.Arena.{Arena, IsParted, census_of, has, held_at, is_o
 use Rattle.strm_mblk.proofs.arena.Counts.{count_adds, flat_map-set_adds, length_adds}
 use Rattle.strm_pool.specs.Limits.{most_registers}
 use Rattle.strm_pool.specs.PoolValue.{PoolValue, owns}
-use Rattle.strm_pool.specs.Registers.{Entries, entry_of, entries_of, tells, times_told, AreAccounted, AreDistinct, CarryId, TellOfHeld, table_of, register}
+use Rattle.strm_pool.specs.Registers.{Entries, entry_of, entries_of, is_entry_of, times_listed, AreAccounted, AreDistinct, CarryId, AreOfHeld, table_of, register}
 
 -- 1 where a message of n blocks is held at h, else 0
 abbrev pub stands : Arena → ℕ → ℕ → ℕ
@@ -23,7 +23,7 @@ stands a h n = if is_of_length n (held_at a h) then 1 else 0
 
 -- from one arena to another, held messages and the entries of registers change alike
 abbrev pub Balanced : Arena → Arena → Entries → Entries → Type 0
-Balanced a b es fs = (h n : ℕ) → stands b h n + count_by (tells h n) es ≡ stands a h n + count_by (tells h n) fs
+Balanced a b es fs = (h n : ℕ) → stands b h n + count_by (is_entry_of h n) es ≡ stands a h n + count_by (is_entry_of h n) fs
 
 -- ---- how many elements of a list pass a test
 
@@ -93,24 +93,24 @@ record Holds (rs : List (Option TokenValue)) (x h n : ℕ) : Type 0 where
   blocks : token.blocks ≡ n
 
 -- the entry of a message is that of a token
-holds_told : (rs : List (Option TokenValue)) (x h n : ℕ) → tells h n (register (entries_of rs) x) ≡ true → Holds rs x h n
-holds_told rs x h n told = at (register rs x) refl (sym (ap (tells h n) (entries-at rs x)) ∙ told)
+holds_told : (rs : List (Option TokenValue)) (x h n : ℕ) → is_entry_of h n (register (entries_of rs) x) ≡ true → Holds rs x h n
+holds_told rs x h n told = at (register rs x) refl (sym (ap (is_entry_of h n) (entries-at rs x)) ∙ told)
   where
-    at : (o : Option TokenValue) → register rs x ≡ o → tells h n (option_map entry_of o) ≡ true → Holds rs x h n
+    at : (o : Option TokenValue) → register rs x ≡ o → is_entry_of h n (option_map entry_of o) ≡ true → Holds rs x h n
     at None is telling = absurd (false≢true telling)
     at (Some t) is telling =
         let both = and_parts _ _ telling in
         record { token = t; there = is; head = eqb-true t.head h both.0; blocks = eqb-true t.blocks n both.1 }
 
 -- a head in the table has an entry, with a number of blocks
-told_head : (rs : List (Option TokenValue)) (x h : ℕ) → register (table_of rs) x ≡ Some h → (n : ℕ) × (tells h n (register (entries_of rs) x) ≡ true)
+told_head : (rs : List (Option TokenValue)) (x h : ℕ) → register (table_of rs) x ≡ Some h → (n : ℕ) × (is_entry_of h n (register (entries_of rs) x) ≡ true)
 told_head rs x h shown = at (register rs x) refl (sym (table-at rs x) ∙ shown)
   where
-    at : (o : Option TokenValue) → register rs x ≡ o → option_map (λ t. t.head) o ≡ Some h → (n : ℕ) × (tells h n (register (entries_of rs) x) ≡ true)
+    at : (o : Option TokenValue) → register rs x ≡ o → option_map (λ t. t.head) o ≡ Some h → (n : ℕ) × (is_entry_of h n (register (entries_of rs) x) ≡ true)
     at None is one = absurd cc
     at (Some t) is one =
         let same : t.head ≡ h = cc in
-        (t.blocks, ap (tells h t.blocks) (entries-at rs x ∙ ap (option_map entry_of) is) ∙ and_from _ _ (eq-eqb t.head h same) (eq-eqb t.blocks t.blocks refl))
+        (t.blocks, ap (is_entry_of h t.blocks) (entries-at rs x ∙ ap (option_map entry_of) is) ∙ and_from _ _ (eq-eqb t.head h same) (eq-eqb t.blocks t.blocks refl))
 
 -- a message has one number of blocks
 one_length : (o : Option Message) (m n : ℕ) → is_of_length m o ≡ true → is_of_length n o ≡ true → m ≡ n
@@ -154,7 +154,7 @@ owns_from w (r ∷ rs) each = and_from _ _ (here r (λ t is. each 0 t is)) (owns
     here (Some t) each = each t refl
 
 -- if each token carries the pool's id and each entry is of a held message, the pool owns the registers
-pub owned_told : (v : PoolValue) (rs : List (Option TokenValue)) → CarryId v.arena.id rs → TellOfHeld v.arena (entries_of rs) → owns v rs ≡ true
+pub owned_told : (v : PoolValue) (rs : List (Option TokenValue)) → CarryId v.arena.id rs → AreOfHeld v.arena (entries_of rs) → owns v rs ≡ true
 owned_told v rs carry told = owns_from v rs (λ x t there. and_from _ _ (eq-eqb t.pool v.arena.id (carried x t there)) (held x t there))
   where
     carried : (x : ℕ) (t : TokenValue) → register rs x ≡ Some t → t.pool ≡ v.arena.id
@@ -165,7 +165,7 @@ owned_told v rs carry told = owns_from v rs (λ x t there. and_from _ _ (eq-eqb 
 
 -- each entry of these registers is of a held message, and no two are of the same
 abbrev AreHeld : Arena → List (Option TokenValue) → Type 0
-AreHeld a rs = (h n : ℕ) → count_by (tells h n) (entries_of rs) ≤ stands a h n
+AreHeld a rs = (h n : ℕ) → count_by (is_entry_of h n) (entries_of rs) ≤ stands a h n
 
 -- then their heads are distinct
 distinct_held : (a : Arena) (rs : List (Option TokenValue)) → AreHeld a rs → AreDistinct (table_of rs)
@@ -177,28 +177,28 @@ distinct_held a rs held x y h first second =
           let two = told_head rs y h second in
           let n = one.0 in
           let same : n ≡ two.0 = one_length (held_at a h) n two.0 (held_told x n one.1) (held_told y two.0 two.1) in
-          let also : tells h n (register (entries_of rs) y) ≡ true = ap (λ k. tells h k (register (entries_of rs) y)) same ∙ two.1 in
-          absurd (omega (arith, stands_once a h n, held h n, two_pass (tells h n) None refl (entries_of rs) x y other one.1 also))
+          let also : is_entry_of h n (register (entries_of rs) y) ≡ true = ap (λ k. is_entry_of h k (register (entries_of rs) y)) same ∙ two.1 in
+          absurd (omega (arith, stands_once a h n, held h n, two_pass (is_entry_of h n) None refl (entries_of rs) x y other one.1 also))
     ]
   where
-    held_told : (z n : ℕ) → tells h n (register (entries_of rs) z) ≡ true → is_of_length n (held_at a h) ≡ true
-    held_told z n told = held_length a h n (omega (arith, held h n, one_passes (tells h n) None refl (entries_of rs) z told))
+    held_told : (z n : ℕ) → is_entry_of h n (register (entries_of rs) z) ≡ true → is_of_length n (held_at a h) ≡ true
+    held_told z n told = held_length a h n (omega (arith, held h n, one_passes (is_entry_of h n) None refl (entries_of rs) z told))
 
 -- so it is with registers that a pool owns, where their heads are distinct
 held_owned : (v : PoolValue) (rs : List (Option TokenValue)) → owns v rs ≡ true → AreDistinct (table_of rs) → AreHeld v.arena rs
 held_owned v rs owned distinct h n =
     elim (cases_Bool (is_of_length n (held_at v.arena h))) [
-      | inl is ↦ omega (arith, ap one_if is, few_pass (tells h n) (entries_of rs) None once)
-      | inr not ↦ omega (arith, none_passes (tells h n) (entries_of rs) None (λ x told. false≢true (sym not ∙ held_there x told)))
+      | inl is ↦ omega (arith, ap one_if is, few_pass (is_entry_of h n) (entries_of rs) None once)
+      | inr not ↦ omega (arith, none_passes (is_entry_of h n) (entries_of rs) None (λ x told. false≢true (sym not ∙ held_there x told)))
     ]
   where
-    once : (x y : ℕ) → tells h n (register (entries_of rs) x) ≡ true → tells h n (register (entries_of rs) y) ≡ true → x ≡ y
+    once : (x y : ℕ) → is_entry_of h n (register (entries_of rs) x) ≡ true → is_entry_of h n (register (entries_of rs) y) ≡ true → x ≡ y
     once x y one other = distinct x y h (shown x (holds_told rs x h n one)) (shown y (holds_told rs y h n other))
       where
         shown : (z : ℕ) → Holds rs z h n → register (table_of rs) z ≡ Some h
         shown z holds = table-at rs z ∙ ap (option_map (λ t. t.head)) holds.there ∙ ap (λ k. Some k) holds.head
 
-    held_there : (x : ℕ) → tells h n (register (entries_of rs) x) ≡ true → is_of_length n (held_at v.arena h) ≡ true
+    held_there : (x : ℕ) → is_entry_of h n (register (entries_of rs) x) ≡ true → is_of_length n (held_at v.arena h) ≡ true
     held_there x told =
         let holds = holds_told rs x h n told in
         let both = and_parts (holds.token.pool == v.arena.id) _ (owned_token v rs x holds.token owned holds.there) in
@@ -214,8 +214,8 @@ accounted_balanced a b es fs balanced desks desk within is accounted h n =
       arith,
       balanced h n,
       accounted h n,
-      flat_map-set_adds (count_adds (tells h n)) (λ es. es) desks desk fs [] within,
-      ap (count_by (tells h n)) is,
+      flat_map-set_adds (count_adds (is_entry_of h n)) (λ es. es) desks desk fs [] within,
+      ap (count_by (is_entry_of h n)) is,
     )
 
 -- if each held message is in one register of one desk, each entry of a desk is of a held message, and no two are of the same
@@ -225,8 +225,8 @@ held_accounted a rs desks desk within is accounted h n =
     omega (
       arith,
       accounted h n,
-      flat_map-set_adds (count_adds (tells h n)) (λ es. es) desks desk [] [] within,
-      ap (count_by (tells h n)) is,
+      flat_map-set_adds (count_adds (is_entry_of h n)) (λ es. es) desks desk [] [] within,
+      ap (count_by (is_entry_of h n)) is,
     )
 
 module _ (v : PoolValue) (rs : List (Option TokenValue)) (desks : List Entries) (desk : ℕ)
@@ -236,7 +236,7 @@ module _ (v : PoolValue) (rs : List (Option TokenValue)) (desks : List Entries) 
   accounted_distinct = distinct_held v.arena rs (held_accounted v.arena rs desks desk within is accounted)
 
   -- and each that holds a token has an entry of a held message
-  told_held : TellOfHeld v.arena (entries_of rs)
+  told_held : AreOfHeld v.arena (entries_of rs)
   told_held x = each (register (entries_of rs) x) refl
     where
       each : (o : Option (ℕ × ℕ)) → register (entries_of rs) x ≡ o → IfSome o (λ e. is_of_length e.1 (held_at v.arena e.0) ≡ true)
@@ -245,7 +245,7 @@ module _ (v : PoolValue) (rs : List (Option TokenValue)) (desks : List Entries) 
           held_length v.arena e.0 e.1 (omega (
             arith,
             held_accounted v.arena rs desks desk within is accounted e.0 e.1,
-            one_passes (tells e.0 e.1) None refl (entries_of rs) x (ap (tells e.0 e.1) there ∙ and_from _ _ (eq-eqb e.0 e.0 refl) (eq-eqb e.1 e.1 refl)),
+            one_passes (is_entry_of e.0 e.1) None refl (entries_of rs) x (ap (is_entry_of e.0 e.1) there ∙ and_from _ _ (eq-eqb e.0 e.0 refl) (eq-eqb e.1 e.1 refl)),
           ))
 
   -- so the pool owns the desk's registers, where each token in them carries its id
@@ -263,10 +263,10 @@ owned_carry v rs owned x = at (register rs x) refl
 -- ---- desks with empty registers
 
 -- empty registers have no entries
-none_told : (h n desks : ℕ) → times_told h n (replicate desks (replicate most_registers None)) ≡ 0
+none_told : (h n desks : ℕ) → times_listed h n (replicate desks (replicate most_registers None)) ≡ 0
 none_told h n zero = refl
 none_told h n (suc desks) =
-    omega (arith, (count_adds (tells h n)).both (replicate most_registers None) (flat_map (λ es. es) (replicate desks (replicate most_registers None))), none_told h n desks)
+    omega (arith, (count_adds (is_entry_of h n)).both (replicate most_registers None) (flat_map (λ es. es) (replicate desks (replicate most_registers None))), none_told h n desks)
 
 -- where no block is in a held message, no message is held
 none_held : (a : Arena) → IsParted a → (census_of a).held ≡ 0 → (h : ℕ) → held_at a h ≡ None

@@ -13,7 +13,7 @@ use Rattle.strm_mblk.specs.Arena.{Arena, has, held_at, is_of_length}
 use Rattle.strm_mblk.specs.Block.{Message}
 use Rattle.strm_mblk.proofs.arena.Tokens.{had_again, had_message}
 use Rattle.strm_pool.specs.PoolValue.{PoolValue}
-use Rattle.strm_pool.specs.Registers.{AreDistinct, entries_of, entry_of, register, table_of, tells}
+use Rattle.strm_pool.specs.Registers.{AreDistinct, entries_of, entry_of, register, table_of, is_entry_of}
 use Rattle.strm_pool.proofs.Accounts.{Balanced, stands, table-at}
 use Rattle.strm_pool.proofs.Tokens.{Each, Moves, heads_of, held_has, tokens_in}
 
@@ -22,14 +22,14 @@ use Rattle.strm_pool.proofs.Tokens.{Each, Moves, heads_of, held_has, tokens_in}
 -- how many of these tokens are of a message of n blocks with head h
 abbrev weigh : ℕ → ℕ → List TokenValue → ℕ
 weigh h n [] = 0
-weigh h n (t ∷ ts) = one_if (tells h n (Some (entry_of t))) + weigh h n ts
+weigh h n (t ∷ ts) = one_if (is_entry_of h n (Some (entry_of t))) + weigh h n ts
 
 weigh-append : (h n : ℕ) (ts us : List TokenValue) → weigh h n (ts ++ us) ≡ weigh h n ts + weigh h n us
 weigh-append h n [] us = omega arith
 weigh-append h n (t ∷ ts) us = omega (arith, weigh-append h n ts us)
 
 -- none with another head
-tells_other : (h n : ℕ) (t : TokenValue) → eqb t.head h ≡ false → one_if (tells h n (Some (entry_of t))) ≡ 0
+tells_other : (h n : ℕ) (t : TokenValue) → eqb t.head h ≡ false → one_if (is_entry_of h n (Some (entry_of t))) ≡ 0
 tells_other h n t other = ap (λ b. one_if (b && eqb t.blocks n)) other
 
 weigh_other : (h n : ℕ) (ts : List TokenValue) → rows.has h (heads_of ts) ≡ false → weigh h n ts ≡ 0
@@ -39,7 +39,7 @@ weigh_other h n (t ∷ ts) none =
     omega (arith, tells_other h n t parts.0, weigh_other h n ts parts.1)
 
 -- a token that the pool has tells what is held there
-stands_had : (a : Arena) (t : TokenValue) (n : ℕ) → has a t ≡ true → stands a t.head n ≡ one_if (tells t.head n (Some (entry_of t)))
+stands_had : (a : Arena) (t : TokenValue) (n : ℕ) → has a t ≡ true → stands a t.head n ≡ one_if (is_entry_of t.head n (Some (entry_of t)))
 stands_had a t n had =
     held (held_at a t.head) (and_parts (eqb t.pool a.id) (is_of_length t.blocks (held_at a t.head)) had).1
     ∙ ap (λ b. one_if (b && eqb t.blocks n)) (sym (eq-eqb t.head t.head refl))
@@ -57,7 +57,7 @@ weigh_stands a [] had apart h n is = absurd (false≢true is)
 weigh_stands a (t ∷ ts) had apart h n is =
     elim (cases_eq t.head h) [
       | inl same ↦
-          subst (λ k. one_if (tells k n (Some (entry_of t))) + weigh k n ts ≡ stands a k n) same
+          subst (λ k. one_if (is_entry_of k n (Some (entry_of t))) + weigh k n ts ≡ stands a k n) same
           (omega (arith, stands_had a t n had.0, weigh_other t.head n ts apart.0))
       | inr other ↦
           let rest : rows.has h (heads_of ts) ≡ true = ap (λ b. b || rows.has h (heads_of ts)) (sym (ne_eqb t.head h other)) ∙ is in
@@ -166,19 +166,19 @@ olds_apart (u ∷ us) rs distinct apart = at (register rs u.0) refl (olds_apart 
 
 -- ---- what registers tell
 
-told_one : (h n : ℕ) (o : Option TokenValue) → one_if (tells h n (option_map entry_of o)) ≡ weigh h n (tokens_in o)
+told_one : (h n : ℕ) (o : Option TokenValue) → one_if (is_entry_of h n (option_map entry_of o)) ≡ weigh h n (tokens_in o)
 told_one h n None = refl
 told_one h n (Some t) = omega arith
 
 count_one : (rs : List (Option TokenValue)) (x : ℕ) (o : Option TokenValue) (h n : ℕ) → x < length rs
-    → count_by (tells h n) (entries_of (set rs x o)) + weigh h n (tokens_in (register rs x)) ≡ count_by (tells h n) (entries_of rs) + weigh h n (tokens_in o)
+    → count_by (is_entry_of h n) (entries_of (set rs x o)) + weigh h n (tokens_in (register rs x)) ≡ count_by (is_entry_of h n) (entries_of rs) + weigh h n (tokens_in o)
 count_one rs x o h n within =
     let made = option_map entry_of in
     omega (
       arith,
-      ap (count_by (tells h n)) (map-set made rs x o),
-      sum_by-set (λ e. one_if (tells h n e)) (entries_of rs) x (made o) None (omega (arith, within, length-entries rs)),
-      ap (λ e. one_if (tells h n e)) (get_or-map made rs x None),
+      ap (count_by (is_entry_of h n)) (map-set made rs x o),
+      sum_by-set (λ e. one_if (is_entry_of h n e)) (entries_of rs) x (made o) None (omega (arith, within, length-entries rs)),
+      ap (λ e. one_if (is_entry_of h n e)) (get_or-map made rs x None),
       told_one h n (register rs x),
       told_one h n o,
     )
@@ -188,7 +188,7 @@ count_one rs x o h n within =
     length-entries (q ∷ qs) = omega (arith, length-entries qs)
 
 count_with : (us : Changes) (rs : List (Option TokenValue)) (h n : ℕ) → IsApart (registers_of us) → Each (λ y. y < length rs) (registers_of us)
-    → count_by (tells h n) (entries_of (with_tokens us rs)) + weigh h n (olds us rs) ≡ count_by (tells h n) (entries_of rs) + weigh h n (news us)
+    → count_by (is_entry_of h n) (entries_of (with_tokens us rs)) + weigh h n (olds us rs) ≡ count_by (is_entry_of h n) (entries_of rs) + weigh h n (news us)
 count_with [] rs h n apart within = refl
 count_with (u ∷ us) rs h n apart within =
     omega (

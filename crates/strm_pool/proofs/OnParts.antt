@@ -12,7 +12,7 @@ use Rattle.strm_mblk.specs.Given.{Given, answer_map, answer_of, or_rejected, val
 use Rattle.strm_queue.specs.QueuedBlocks as on
 use Rattle.strm_queue.specs.QueuedBlocks.{Agrees, QueuedBlocks, QueuesValue}
 use Rattle.strm_queue.proofs.agreeing.Agreeing.{agrees_left}
-use Rattle.strm_pool.specs.PoolValue.{PoolValue, arena, on_arena, on_queues, queued, spent, with_arena, with_queued}
+use Rattle.strm_pool.specs.PoolValue.{PoolValue, arena, on_arena, on_queues, queued_blocks_of, with_token_spent, with_arena, with_queued}
 
 -- ---- on message blocks
 
@@ -104,12 +104,12 @@ module _ {u v : PoolValue} {b : Arena} (view : u ≡ v) where
         shelves = g.shelves;
       })
 
-  pub spends_on : (t : TokenValue) → Spends itself t (freeing.spent u.arena t) u.arena b → Spends arena t (spent v t) v (with_arena u b)
-  spends_on t g = subst (λ w. Spends arena t (spent w t) w (with_arena u b)) view (record { after = ap (with_arena u) g.after; gone = g.gone; others = g.others; shelves = g.shelves })
+  pub spends_on : (t : TokenValue) → Spends itself t (freeing.with_token_spent u.arena t) u.arena b → Spends arena t (with_token_spent v t) v (with_arena u b)
+  spends_on t g = subst (λ w. Spends arena t (with_token_spent w t) w (with_arena u b)) view (record { after = ap (with_arena u) g.after; gone = g.gone; others = g.others; shelves = g.shelves })
 
 -- ---- on queues
 
-queues_after : {X : Type 0} (v : PoolValue) (g : Given QueuedBlocks X) (w : QueuedBlocks) → w ≡ value_after (queued v) g → with_queued v w ≡ value_after v (on_queues v g)
+queues_after : {X : Type 0} (v : PoolValue) (g : Given QueuedBlocks X) (w : QueuedBlocks) → w ≡ value_after (queued_blocks_of v) g → with_queued v w ≡ value_after v (on_queues v g)
 queues_after v (Ok given) w is = ap (with_queued v) is
 queues_after v (Err why) w is = ap (with_queued v) is
 
@@ -118,46 +118,46 @@ queues_answer v (Ok given) = refl
 queues_answer v (Err why) = refl
 
 module _ {u v : PoolValue} {q : QueuedBlocks} (view : u ≡ v) where
-  pub puts_on : {t : TokenValue} {result : Result (Unit {0}) Rejected} (call : QueuedBlocks → Given QueuedBlocks (Unit {0})) → Puts on.arena t (call (queued u)) (queued u) q result
-      → Puts arena t (on_queues v (call (queued v))) v (with_queued u q) result
+  pub puts_on : {t : TokenValue} {result : Result (Unit {0}) Rejected} (call : QueuedBlocks → Given QueuedBlocks (Unit {0})) → Puts on.arena t (call (queued_blocks_of u)) (queued_blocks_of u) q result
+      → Puts arena t (on_queues v (call (queued_blocks_of v))) v (with_queued u q) result
   puts_on {t} {result} call g =
-      subst (λ w. Puts arena t (on_queues w (call (queued w))) w (with_queued u q) result) view
+      subst (λ w. Puts arena t (on_queues w (call (queued_blocks_of w))) w (with_queued u q) result) view
       (record {
-        after = queues_after u (call (queued u)) q g.after;
-        answer = g.answer ∙ ap (or_rejected t) (sym (queues_answer u (call (queued u))));
+        after = queues_after u (call (queued_blocks_of u)) q g.after;
+        answer = g.answer ∙ ap (or_rejected t) (sym (queues_answer u (call (queued_blocks_of u))));
         gone = g.gone;
         others = g.others;
       })
 
-  pub takes_on : {result : Result TokenValue Refusal} (call : QueuedBlocks → Given QueuedBlocks ℕ) → Takes on.arena (call (queued u)) (queued u) q result → Takes arena (on_queues v (call (queued v))) v (with_queued u q) result
+  pub takes_on : {result : Result TokenValue Refusal} (call : QueuedBlocks → Given QueuedBlocks ℕ) → Takes on.arena (call (queued_blocks_of u)) (queued_blocks_of u) q result → Takes arena (on_queues v (call (queued_blocks_of v))) v (with_queued u q) result
   takes_on {result} call g =
-      subst (λ w. Takes arena (on_queues w (call (queued w))) w (with_queued u q) result) view
+      subst (λ w. Takes arena (on_queues w (call (queued_blocks_of w))) w (with_queued u q) result) view
       (record {
-        after = queues_after u (call (queued u)) q g.after;
-        token = g.token ∙ ap (answer_map (token_of q.arena)) (sym (queues_answer u (call (queued u))));
+        after = queues_after u (call (queued_blocks_of u)) q g.after;
+        token = g.token ∙ ap (answer_map (token_of q.arena)) (sym (queues_answer u (call (queued_blocks_of u))));
         had = g.had;
         unheld = g.unheld;
         others = g.others;
       })
 
-  pub takes_any_on : {result : Result (Option TokenValue) Refusal} (call : QueuedBlocks → Given QueuedBlocks (Option ℕ)) → TakesAny on.arena (call (queued u)) (queued u) q result
-      → TakesAny arena (on_queues v (call (queued v))) v (with_queued u q) result
+  pub takes_any_on : {result : Result (Option TokenValue) Refusal} (call : QueuedBlocks → Given QueuedBlocks (Option ℕ)) → TakesAny on.arena (call (queued_blocks_of u)) (queued_blocks_of u) q result
+      → TakesAny arena (on_queues v (call (queued_blocks_of v))) v (with_queued u q) result
   takes_any_on {result} call g =
-      subst (λ w. TakesAny arena (on_queues w (call (queued w))) w (with_queued u q) result) view
+      subst (λ w. TakesAny arena (on_queues w (call (queued_blocks_of w))) w (with_queued u q) result) view
       (record {
-        after = queues_after u (call (queued u)) q g.after;
-        token = g.token ∙ ap (answer_map (option_map (token_of q.arena))) (sym (queues_answer u (call (queued u))));
+        after = queues_after u (call (queued_blocks_of u)) q g.after;
+        token = g.token ∙ ap (answer_map (option_map (token_of q.arena))) (sym (queues_answer u (call (queued_blocks_of u))));
         had = g.had;
         unheld = g.unheld;
         others = g.others;
       })
 
-  pub flushes_on : {result : Result (Unit {0}) Refusal} (call : QueuedBlocks → Given QueuedBlocks (Unit {0})) → Flushes on.arena (call (queued u)) (queued u) q result → Flushes arena (on_queues v (call (queued v))) v (with_queued u q) result
+  pub flushes_on : {result : Result (Unit {0}) Refusal} (call : QueuedBlocks → Given QueuedBlocks (Unit {0})) → Flushes on.arena (call (queued_blocks_of u)) (queued_blocks_of u) q result → Flushes arena (on_queues v (call (queued_blocks_of v))) v (with_queued u q) result
   flushes_on {result} call g =
-      subst (λ w. Flushes arena (on_queues w (call (queued w))) w (with_queued u q) result) view
-      (record { after = queues_after u (call (queued u)) q g.after; answer = g.answer ∙ sym (queues_answer u (call (queued u))); others = g.others })
+      subst (λ w. Flushes arena (on_queues w (call (queued_blocks_of w))) w (with_queued u q) result) view
+      (record { after = queues_after u (call (queued_blocks_of u)) q g.after; answer = g.answer ∙ sym (queues_answer u (call (queued_blocks_of u))); others = g.others })
 
-  pub leaves_on : {X : Type 0} {result : Result X Refusal} (call : QueuedBlocks → Given QueuedBlocks X) → LeavesBlocks on.arena (call (queued u)) (queued u) q result → LeavesBlocks arena (on_queues v (call (queued v))) v (with_queued u q) result
+  pub leaves_on : {X : Type 0} {result : Result X Refusal} (call : QueuedBlocks → Given QueuedBlocks X) → LeavesBlocks on.arena (call (queued_blocks_of u)) (queued_blocks_of u) q result → LeavesBlocks arena (on_queues v (call (queued_blocks_of v))) v (with_queued u q) result
   leaves_on {X} {result} call g =
-      subst (λ w. LeavesBlocks arena (on_queues w (call (queued w))) w (with_queued u q) result) view
-      (record { after = queues_after u (call (queued u)) q g.after; answer = g.answer ∙ sym (queues_answer u (call (queued u))); arena_stays = g.arena_stays })
+      subst (λ w. LeavesBlocks arena (on_queues w (call (queued_blocks_of w))) w (with_queued u q) result) view
+      (record { after = queues_after u (call (queued_blocks_of u)) q g.after; answer = g.answer ∙ sym (queues_answer u (call (queued_blocks_of u))); arena_stays = g.arena_stays })

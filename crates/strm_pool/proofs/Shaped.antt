@@ -16,11 +16,11 @@ use Rattle.strm_mblk.specs.Given.{Given, answer_of, value_after}
 use Rattle.strm_pool.specs.declared.call.Call.{Call}
 use Rattle.strm_pool.specs.declared.reply.Reply.{Reply}
 use Rattle.strm_pool.specs.declared.reply.Reply.TheVariants.{Done, Nothing, Refused}
-use Rattle.strm_pool.specs.Names.{names_of, naming, registers_in}
+use Rattle.strm_pool.specs.Names.{names_of, names_from, registers_in}
 use Rattle.strm_pool.specs.PoolValue.{PoolValue, arena, on_arena}
 use Rattle.strm_pool.specs.Registers.{AreDistinct, register, table_of}
-use Rattle.strm_pool.specs.Shapes.{IsReady, Settled, any_given_to, given_to, parted_to, rejected_to, reply_done, reply_made}
-use Rattle.strm_pool.specs.Step.{Applies, act, answers, doing, gives, head_held, keeps, leaves, may_give, misses_token, parts, replying, spends}
+use Rattle.strm_pool.specs.Shapes.{IsReady, RegistersAndReply, any_given_to, given_to, parted_to, rejected_to, reply_done, reply_made}
+use Rattle.strm_pool.specs.Step.{Applies, act, answers, step_of, gives, head_held, keeps, leaves, may_give, misses_token, parts, replying, spends}
 use Rattle.strm_pool.proofs.Accounts.{owned_token, table-at}
 use Rattle.strm_pool.proofs.Applied.{applies_by, applies_nothing, step_act}
 use Rattle.strm_pool.proofs.Moved.{news, table-set}
@@ -32,7 +32,7 @@ head_is rs x t is = ap (λ (o : Option ℕ). unwrap_or o 0) (table-at rs x ∙ a
 
 -- a call names these registers, and no other
 abbrev pub IsNaming : Call → Option ℕ → Option ℕ → Option ℕ → Type 0
-IsNaming call source second destination = names_of call ≡ naming (names_of call).queue source second destination
+IsNaming call source second destination = names_of call ≡ names_from (names_of call).queue source second destination
 
 -- a register that shows nothing holds nothing
 pub is_free : (rs : List (Option TokenValue)) (x : ℕ) → is_some (register (table_of rs) x) ≡ false → register rs x ≡ None
@@ -68,18 +68,18 @@ module _ {v : PoolValue} {rs : List (Option TokenValue)} {call other : Call} (ca
       (is_free rs y (ap (λ (o : Option ℕ). option_map_or (λ x. is_some (register (table_of rs) x)) o false) (sym named) ∙ ready.free), ready.there y named)
 
   -- a call that asks
-  pub asks : {X : Type 0} (made : X → Reply) (g : Given PoolValue X) {answer : Result X Refusal} {reply : Reply} → act v (table_of rs) other ≡ doing v (table_of rs) (answers made) g → v ≡ value_after v g → answer ≡ answer_of g
+  pub asks : {X : Type 0} (made : X → Reply) (g : Given PoolValue X) {answer : Result X Refusal} {reply : Reply} → act v (table_of rs) other ≡ step_of v (table_of rs) (answers made) g → v ≡ value_after v g → answer ≡ answer_of g
       → reply ≡ reply_made made answer → Applies v rs call v rs reply
   asks {X} made g does after answered told =
       applies_nothing v rs call _ ready.owned (step_act called ready ∙ does ∙ telling g after ∙ ap (replying v (table_of rs)) (ap (reply_made made) (sym answered) ∙ sym told))
     where
-      telling : (g : Given PoolValue X) → v ≡ value_after v g → doing v (table_of rs) (answers made) g ≡ replying v (table_of rs) (reply_made made (answer_of g))
+      telling : (g : Given PoolValue X) → v ≡ value_after v g → step_of v (table_of rs) (answers made) g ≡ replying v (table_of rs) (reply_made made (answer_of g))
       telling (Ok given) after = ap (λ u. replying u (table_of rs) (made given.0)) (sym after)
       telling (Err why) after = refl
 
 module _ {v w : PoolValue} {rs : List (Option TokenValue)} {call other : Call} (called : call ≡ other) (ready : IsReady v rs call) where
   -- a call that was refused
-  refused : {X : Type 0} (told : X → List (ℕ × Option ℕ) × Reply) (why : Refusal) → act v (table_of rs) other ≡ doing v (table_of rs) told (Err why) → w ≡ v → Applies v rs call w rs (Refused why)
+  refused : {X : Type 0} (told : X → List (ℕ × Option ℕ) × Reply) (why : Refusal) → act v (table_of rs) other ≡ step_of v (table_of rs) told (Err why) → w ≡ v → Applies v rs call w rs (Refused why)
   refused told why does same =
       subst (λ u. Applies v rs call u rs (Refused why)) (sym same) (applies_nothing v rs call (Refused why) ready.owned (step_act called ready ∙ does))
 
@@ -92,14 +92,14 @@ module _ {v w : PoolValue} {rs : List (Option TokenValue)} {call other : Call} (
 
   -- the reply is made of the answer
   tells : {X : Type 0} (made : X → Reply) (g : Given PoolValue X) {answer : Result X Refusal} {reply : Reply} → [] ≡ registers_in (names_of other) → LeavesOthers [] v.arena w.arena
-      → act v (table_of rs) other ≡ doing v (table_of rs) (answers made) g → w ≡ value_after v g → answer ≡ answer_of g → reply ≡ reply_made made answer → Applies v rs call w rs reply
+      → act v (table_of rs) other ≡ step_of v (table_of rs) (answers made) g → w ≡ value_after v g → answer ≡ answer_of g → reply ≡ reply_made made answer → Applies v rs call w rs reply
   tells {X} made g named left does after answered told = leaves_held named left (does ∙ telling g after ∙ ap (replying w (table_of rs)) (ap (reply_made made) (sym answered) ∙ sym told))
     where
-      telling : (g : Given PoolValue X) → w ≡ value_after v g → doing v (table_of rs) (answers made) g ≡ replying w (table_of rs) (reply_made made (answer_of g))
+      telling : (g : Given PoolValue X) → w ≡ value_after v g → step_of v (table_of rs) (answers made) g ≡ replying w (table_of rs) (reply_made made (answer_of g))
       telling (Ok given) after = ap (λ u. replying u (table_of rs) (made given.0)) (sym after)
       telling (Err why) after = ap (λ u. replying u (table_of rs) (Refused why)) (sym after)
 
-  pub flushes : (g : Given PoolValue (Unit {0})) {answer : Result (Unit {0}) Refusal} {reply : Reply} → [] ≡ registers_in (names_of other) → act v (table_of rs) other ≡ doing v (table_of rs) (answers (λ done. Done)) g
+  pub flushes : (g : Given PoolValue (Unit {0})) {answer : Result (Unit {0}) Refusal} {reply : Reply} → [] ≡ registers_in (names_of other) → act v (table_of rs) other ≡ step_of v (table_of rs) (answers (λ done. Done)) g
       → Flushes arena g v w answer → reply ≡ reply_done answer → Applies v rs call w rs reply
   flushes g named does is told = tells (λ done. Done) g named is.others does is.after is.answer told
 
@@ -107,19 +107,19 @@ module _ {v w : PoolValue} {rs : List (Option TokenValue)} {call other : Call} (
 
   -- the register's message is altered, and its token may have another number of blocks
   pub alters : (f : ℕ → Given Arena (Unit {0})) (x : ℕ) {t s : TokenValue} {done : Result (Unit {0}) Refusal} {ss : List (Option TokenValue)} {reply : Reply} → x ∷ [] ≡ registers_in (names_of other) → register rs x ≡ Some t
-      → act v (table_of rs) other ≡ doing v (table_of rs) keeps (on_arena v (f (head_held (table_of rs) x))) → Alters arena t s (on_arena v (f t.head)) v w done
+      → act v (table_of rs) other ≡ step_of v (table_of rs) keeps (on_arena v (f (head_held (table_of rs) x))) → Alters arena t s (on_arena v (f t.head)) v w done
       → ss ≡ set rs x (Some s) → reply ≡ reply_done done → Applies v rs call w ss reply
   alters f x {t} {s} {done} {ss} {reply} named was does is now told =
-      subst (λ (p : Settled). Applies v rs call w p.0 p.1) (λ i. (sym now i, sym told i))
+      subst (λ (p : RegistersAndReply). Applies v rs call w p.0 p.1) (λ i. (sym now i, sym told i))
       (applies_by ((x, Some s) ∷ []) called ready named (refl, tt) (within_list rs x t was, tt) (is.had, tt) is.others
       (λ distinct. subst (λ o. Moves v.arena w.arena (tokens_in o ++ []) (s ∷ [])) (sym was) (moves_stay head (owned_token v rs x t ready.owned was) is.had is.others))
-      (does ∙ ap (λ h. doing v (table_of rs) keeps (on_arena v (f h))) (head_is rs x t was) ∙ kept (on_arena v (f t.head)) is.after
+      (does ∙ ap (λ h. step_of v (table_of rs) keeps (on_arena v (f h))) (head_is rs x t was) ∙ kept (on_arena v (f t.head)) is.after
       ∙ ap (λ a. replying w (table_of rs) (reply_done a)) (sym is.answer) ∙ ap (λ table. replying w table (reply_done done)) same))
     where
       head : s.head ≡ t.head
       head = ap (λ (y : TokenValue). y.head) is.token
 
-      kept : (g : Given PoolValue (Unit {0})) → w ≡ value_after v g → doing v (table_of rs) keeps g ≡ replying w (table_of rs) (reply_done (answer_of g))
+      kept : (g : Given PoolValue (Unit {0})) → w ≡ value_after v g → step_of v (table_of rs) keeps g ≡ replying w (table_of rs) (reply_done (answer_of g))
       kept (Ok given) after = ap (λ u. replying u (table_of rs) Done) (sym after)
       kept (Err why) after = ap (λ u. replying u (table_of rs) (Refused why)) (sym after)
 
@@ -128,7 +128,7 @@ module _ {v w : PoolValue} {rs : List (Option TokenValue)} {call other : Call} (
 
   -- the register's message is altered, and its token has as many blocks as before
   pub alters_kept : (f : ℕ → Given Arena (Unit {0})) (x : ℕ) {t : TokenValue} {done : Result (Unit {0}) Refusal} {reply : Reply} → x ∷ [] ≡ registers_in (names_of other) → register rs x ≡ Some t
-      → act v (table_of rs) other ≡ doing v (table_of rs) keeps (on_arena v (f (head_held (table_of rs) x))) → Alters arena t t (on_arena v (f t.head)) v w done → reply ≡ reply_done done → Applies v rs call w rs reply
+      → act v (table_of rs) other ≡ step_of v (table_of rs) keeps (on_arena v (f (head_held (table_of rs) x))) → Alters arena t t (on_arena v (f t.head)) v w done → reply ≡ reply_done done → Applies v rs call w rs reply
   alters_kept f x {t} named was does is told = alters f x named was does is (sym (put_back rs x t was)) told
 
   -- its message goes, and none is held at its head
@@ -140,29 +140,29 @@ module _ {v w : PoolValue} {rs : List (Option TokenValue)} {call other : Call} (
       (does ∙ ap (λ table. replying w table Done) (sym (table-set rs x None)))
 
   -- a call that spends a token, or gives it back
-  pub spends_one : (f : ℕ → Given PoolValue (Unit {0})) (x : ℕ) {t : TokenValue} {done : Result (Unit {0}) Rejected} {settled : Settled} {ss : List (Option TokenValue)} → x ∷ [] ≡ registers_in (names_of other) → register rs x ≡ Some t
-      → ss ≡ set rs x None → act v (table_of rs) other ≡ doing v (table_of rs) (spends x) (f (head_held (table_of rs) x)) → Puts arena t (f t.head) v w done → settled ≡ rejected_to x done ss → Applies v rs call w settled.0 settled.1
+  pub spends_one : (f : ℕ → Given PoolValue (Unit {0})) (x : ℕ) {t : TokenValue} {done : Result (Unit {0}) Rejected} {settled : RegistersAndReply} {ss : List (Option TokenValue)} → x ∷ [] ≡ registers_in (names_of other) → register rs x ≡ Some t
+      → ss ≡ set rs x None → act v (table_of rs) other ≡ step_of v (table_of rs) (spends x) (f (head_held (table_of rs) x)) → Puts arena t (f t.head) v w done → settled ≡ rejected_to x done ss → Applies v rs call w settled.0 settled.1
   spends_one f x {t} {done} named was empty does is settled =
-      subst (λ (p : Settled). Applies v rs call w p.0 p.1) (sym (settled ∙ ap (rejected_to x done) empty))
-      (each (f t.head) done (does ∙ ap (λ h. doing v (table_of rs) (spends x) (f h)) (head_is rs x t was)) is)
+      subst (λ (p : RegistersAndReply). Applies v rs call w p.0 p.1) (sym (settled ∙ ap (rejected_to x done) empty))
+      (each (f t.head) done (does ∙ ap (λ h. step_of v (table_of rs) (spends x) (f h)) (head_is rs x t was)) is)
     where
-      each : (g : Given PoolValue (Unit {0})) (done : Result (Unit {0}) Rejected) → act v (table_of rs) other ≡ doing v (table_of rs) (spends x) g → Puts arena t g v w done
+      each : (g : Given PoolValue (Unit {0})) (done : Result (Unit {0}) Rejected) → act v (table_of rs) other ≡ step_of v (table_of rs) (spends x) g → Puts arena t g v w done
           → let settled = rejected_to x done (set rs x None) in Applies v rs call w settled.0 settled.1
       each (Ok given) (Ok u) does is = spent_one x named was is.others is.gone (does ∙ ap (λ p. replying p (set (table_of rs) x None) Done) (sym is.after))
       each (Ok given) (Err rejected) does is = absurd (err_not_ok is.answer)
       each (Err why) (Ok u) does is = absurd (err_not_ok (sym is.answer))
       each (Err why) (Err rejected) does is =
           subst (λ ss. Applies v rs call w ss (Refused rejected.why)) (sym (set-set rs x None (Some rejected.token) ∙ ap (λ (r : Rejected). set rs x (Some r.token)) (same_err is.answer) ∙ put_back rs x t was))
-          (refused (spends x) rejected.why (does ∙ ap (λ (r : Rejected). doing v (table_of rs) (spends x) (Err r.why)) (sym (same_err is.answer))) is.after)
+          (refused (spends x) rejected.why (does ∙ ap (λ (r : Rejected). step_of v (table_of rs) (spends x) (Err r.why)) (sym (same_err is.answer))) is.after)
 
   -- its first block is freed, and the rest is its message, if there is one
   pub leaves_one : (made : ℕ → Arena → Option ℕ × Arena) (x : ℕ) {t : TokenValue} {rest : Option TokenValue} {ss : List (Option TokenValue)} → x ∷ [] ≡ registers_in (names_of other) → register rs x ≡ Some t
-      → act v (table_of rs) other ≡ doing v (table_of rs) (leaves x) (on_arena v (Ok (made (head_held (table_of rs) x) v.arena))) → Frees arena t (on_arena v (Ok (made t.head v.arena))) v w (Ok rest)
+      → act v (table_of rs) other ≡ step_of v (table_of rs) (leaves x) (on_arena v (Ok (made (head_held (table_of rs) x) v.arena))) → Frees arena t (on_arena v (Ok (made t.head v.arena))) v w (Ok rest)
       → ss ≡ set rs x rest → Applies v rs call w ss Done
   leaves_one made x {t} {rest} named was does is now =
       subst (λ l. Applies v rs call w l Done) (sym now)
       (each rest (made t.head v.arena).0 (same_ok is.rest) is.had is.unheld is.others
-      (does ∙ ap (λ h. doing v (table_of rs) (leaves x) (on_arena v (Ok (made h v.arena)))) (head_is rs x t was) ∙ ap (λ p. replying p (set (table_of rs) x (made t.head v.arena).0) Done) (sym is.after)))
+      (does ∙ ap (λ h. step_of v (table_of rs) (leaves x) (on_arena v (Ok (made h v.arena)))) (head_is rs x t was) ∙ ap (λ p. replying p (set (table_of rs) x (made t.head v.arena).0) Done) (sym is.after)))
     where
       each : (rest : Option TokenValue) (o : Option ℕ) → rest ≡ option_map (token_of w.arena) o → IfSome rest (λ s. has w.arena s ≡ true) → IfSome rest (λ s. held_at v.arena s.head ≡ None)
           → LeavesOthers (t.head ∷ head_given rest) v.arena w.arena → act v (table_of rs) other ≡ replying w (set (table_of rs) x o) Done → Applies v rs call w (set rs x rest) Done
@@ -194,11 +194,11 @@ module _ {v w : PoolValue} {rs : List (Option TokenValue)} {call other : Call} (
         (λ distinct. subst (λ o. Moves v.arena w.arena (tokens_in o ++ []) []) (sym free.0) (moves_none left))
         (does ∙ ap (λ l. replying w (table_of l) Nothing) (sym same)))
 
-    pub gives_one : (g : Given PoolValue ℕ) {given : Result TokenValue Refusal} {settled : Settled} → act v (table_of rs) other ≡ doing v (table_of rs) (gives y) g → Takes arena g v w given
+    pub gives_one : (g : Given PoolValue ℕ) {given : Result TokenValue Refusal} {settled : RegistersAndReply} → act v (table_of rs) other ≡ step_of v (table_of rs) (gives y) g → Takes arena g v w given
         → settled ≡ given_to y given rs → Applies v rs call w settled.0 settled.1
-    gives_one g {given} does is settled = subst (λ (p : Settled). Applies v rs call w p.0 p.1) (sym settled) (each g given does is)
+    gives_one g {given} does is settled = subst (λ (p : RegistersAndReply). Applies v rs call w p.0 p.1) (sym settled) (each g given does is)
       where
-        each : (g : Given PoolValue ℕ) (given : Result TokenValue Refusal) → act v (table_of rs) other ≡ doing v (table_of rs) (gives y) g → Takes arena g v w given
+        each : (g : Given PoolValue ℕ) (given : Result TokenValue Refusal) → act v (table_of rs) other ≡ step_of v (table_of rs) (gives y) g → Takes arena g v w given
             → let settled = given_to y given rs in Applies v rs call w settled.0 settled.1
         each (Ok given) (Ok s) does is =
             given_one s is.had is.unheld is.others
@@ -208,15 +208,15 @@ module _ {v w : PoolValue} {rs : List (Option TokenValue)} {call other : Call} (
         each (Err why) (Err other) does is = refused (gives y) other (does ∙ ap (λ e. replying v (table_of rs) (Refused e)) (sym (same_err is.token))) is.after
 
     -- out of nothing that is held
-    pub gives_new : (g : Given PoolValue ℕ) {given : Result TokenValue Refusal} {settled : Settled} → act v (table_of rs) other ≡ doing v (table_of rs) (gives y) g → Gives arena None g v w given
+    pub gives_new : (g : Given PoolValue ℕ) {given : Result TokenValue Refusal} {settled : RegistersAndReply} → act v (table_of rs) other ≡ step_of v (table_of rs) (gives y) g → Gives arena None g v w given
         → settled ≡ given_to y given rs → Applies v rs call w settled.0 settled.1
     gives_new g does is settled = gives_one g does (record { after = is.after; token = is.token; had = is.had; unheld = is.unheld; others = is.others }) settled
 
-    pub may_give_one : (g : Given PoolValue (Option ℕ)) {given : Result (Option TokenValue) Refusal} {settled : Settled} → act v (table_of rs) other ≡ doing v (table_of rs) (may_give y) g → TakesAny arena g v w given
+    pub may_give_one : (g : Given PoolValue (Option ℕ)) {given : Result (Option TokenValue) Refusal} {settled : RegistersAndReply} → act v (table_of rs) other ≡ step_of v (table_of rs) (may_give y) g → TakesAny arena g v w given
         → settled ≡ any_given_to y given rs → Applies v rs call w settled.0 settled.1
-    may_give_one g {given} does is settled = subst (λ (p : Settled). Applies v rs call w p.0 p.1) (sym settled) (each g given does is)
+    may_give_one g {given} does is settled = subst (λ (p : RegistersAndReply). Applies v rs call w p.0 p.1) (sym settled) (each g given does is)
       where
-        each : (g : Given PoolValue (Option ℕ)) (given : Result (Option TokenValue) Refusal) → act v (table_of rs) other ≡ doing v (table_of rs) (may_give y) g → TakesAny arena g v w given
+        each : (g : Given PoolValue (Option ℕ)) (given : Result (Option TokenValue) Refusal) → act v (table_of rs) other ≡ step_of v (table_of rs) (may_give y) g → TakesAny arena g v w given
             → let settled = any_given_to y given rs in Applies v rs call w settled.0 settled.1
         each (Ok (Some n, u)) (Ok (Some s)) does is =
             given_one s is.had is.unheld is.others
@@ -245,13 +245,13 @@ module _ {v w : PoolValue} {rs : List (Option TokenValue)} {call other : Call} (
         ∙ ap (λ table. replying w table reply) (ap (λ table. set table y (option_map (λ s. s.head) p)) (sym (table-set rs x o)) ∙ sym (table-set (set rs x o) y p)))
 
     -- the first register keeps its message, the other is given one that no held message had the head of
-    pub gives_beside : (f : ℕ → Given Arena ℕ) {given : Result TokenValue Refusal} {settled : Settled} → act v (table_of rs) other ≡ doing v (table_of rs) (gives y) (on_arena v (f (head_held (table_of rs) x)))
+    pub gives_beside : (f : ℕ → Given Arena ℕ) {given : Result TokenValue Refusal} {settled : RegistersAndReply} → act v (table_of rs) other ≡ step_of v (table_of rs) (gives y) (on_arena v (f (head_held (table_of rs) x)))
         → Gives arena (Some t) (on_arena v (f t.head)) v w given → settled ≡ given_to y given rs → Applies v rs call w settled.0 settled.1
     gives_beside f {given} does is settled =
-        subst (λ (p : Settled). Applies v rs call w p.0 p.1) (sym settled)
-        (each (on_arena v (f t.head)) given (does ∙ ap (λ h. doing v (table_of rs) (gives y) (on_arena v (f h))) (head_is rs x t was)) is)
+        subst (λ (p : RegistersAndReply). Applies v rs call w p.0 p.1) (sym settled)
+        (each (on_arena v (f t.head)) given (does ∙ ap (λ h. step_of v (table_of rs) (gives y) (on_arena v (f h))) (head_is rs x t was)) is)
       where
-        each : (g : Given PoolValue ℕ) (given : Result TokenValue Refusal) → act v (table_of rs) other ≡ doing v (table_of rs) (gives y) g → Gives arena (Some t) g v w given
+        each : (g : Given PoolValue ℕ) (given : Result TokenValue Refusal) → act v (table_of rs) other ≡ step_of v (table_of rs) (gives y) g → Gives arena (Some t) g v w given
             → let settled = given_to y given rs in Applies v rs call w settled.0 settled.1
         each (Ok given) (Ok r) does is =
             subst (λ l. Applies v rs call w (set l y (Some r)) Done) (put_back rs x t was)
@@ -264,12 +264,12 @@ module _ {v w : PoolValue} {rs : List (Option TokenValue)} {call other : Call} (
         each (Err why) (Err other) does is = refused (gives y) other (does ∙ ap (λ e. replying v (table_of rs) (Refused e)) (sym (same_err is.token))) is.after
 
     -- the first register keeps the first block, and the other is given the rest, if there is one
-    pub unlinks : (made : ℕ → Arena → Option ℕ × Arena) {s : TokenValue} {rest : Option TokenValue} {settled : Settled} → act v (table_of rs) other ≡ doing v (table_of rs) (may_give y) (on_arena v (Ok (made (head_held (table_of rs) x) v.arena)))
+    pub unlinks : (made : ℕ → Arena → Option ℕ × Arena) {s : TokenValue} {rest : Option TokenValue} {settled : RegistersAndReply} → act v (table_of rs) other ≡ step_of v (table_of rs) (may_give y) (on_arena v (Ok (made (head_held (table_of rs) x) v.arena)))
         → Unlinks arena t s (on_arena v (Ok (made t.head v.arena))) v w (Ok rest) → settled ≡ any_given_to y (Ok rest) (set rs x (Some s)) → Applies v rs call w settled.0 settled.1
     unlinks made {s} {rest} does unlinked settled =
-        subst (λ (p : Settled). Applies v rs call w p.0 p.1) (sym settled)
-        (each rest (made t.head v.arena).0 (does ∙ ap (λ h. doing v (table_of rs) (may_give y) (on_arena v (Ok (made h v.arena)))) (head_is rs x t was)
-        ∙ ap (λ u. doing v (table_of rs) (may_give y) (Ok ((made t.head v.arena).0, u))) (sym unlinked.after)) (same_ok unlinked.rest) unlinked.rest_had unlinked.unheld unlinked.others)
+        subst (λ (p : RegistersAndReply). Applies v rs call w p.0 p.1) (sym settled)
+        (each rest (made t.head v.arena).0 (does ∙ ap (λ h. step_of v (table_of rs) (may_give y) (on_arena v (Ok (made h v.arena)))) (head_is rs x t was)
+        ∙ ap (λ u. step_of v (table_of rs) (may_give y) (Ok ((made t.head v.arena).0, u))) (sym unlinked.after)) (same_ok unlinked.rest) unlinked.rest_had unlinked.unheld unlinked.others)
       where
         head : s.head ≡ t.head
         head = ap (λ (q : TokenValue). q.head) unlinked.token
@@ -286,7 +286,7 @@ module _ {v w : PoolValue} {rs : List (Option TokenValue)} {call other : Call} (
         table : table_of rs ≡ set (set (table_of rs) x (Some s.head)) y None
         table = sym (table-set rs x (Some s) ∙ kept_head rs x t s was head) ∙ ap table_of (sym same) ∙ table-set (set rs x (Some s)) y None ∙ ap (λ l. set l y None) (table-set rs x (Some s))
 
-        each : (rest : Option TokenValue) (o : Option ℕ) → act v (table_of rs) other ≡ doing v (table_of rs) (may_give y) (Ok (o, w)) → rest ≡ option_map (token_of w.arena) o
+        each : (rest : Option TokenValue) (o : Option ℕ) → act v (table_of rs) other ≡ step_of v (table_of rs) (may_give y) (Ok (o, w)) → rest ≡ option_map (token_of w.arena) o
             → IfSome rest (λ r. has w.arena r ≡ true) → IfSome rest (λ r. held_at v.arena r.head ≡ None) → LeavesOthers (t.head ∷ head_given rest) v.arena w.arena
             → let settled = any_given_to y (Ok rest) (set rs x (Some s)) in Applies v rs call w settled.0 settled.1
         each (Some r) (Some n) does is had unheld left =
@@ -298,13 +298,13 @@ module _ {v w : PoolValue} {rs : List (Option TokenValue)} {call other : Call} (
             subst (λ ss. Applies v rs call w ss Nothing) same (two (Some s) None left (kept, tt) (moves_stay head (owned_token v rs x t ready.owned was) kept left) (does ∙ ap (λ table. replying w table Nothing) table))
 
     -- the token that comes first goes to the other register, and the first has the other one, if there is one
-    parts_each : (g : Given PoolValue (ℕ × Option ℕ)) (parted : Result (TokenValue × Option TokenValue) Rejected) → act v (table_of rs) other ≡ doing v (table_of rs) (parts x y) g → Parts arena t g v w parted
+    parts_each : (g : Given PoolValue (ℕ × Option ℕ)) (parted : Result (TokenValue × Option TokenValue) Rejected) → act v (table_of rs) other ≡ step_of v (table_of rs) (parts x y) g → Parts arena t g v w parted
         → let settled = parted_to x y parted (set rs x None) in Applies v rs call w settled.0 settled.1
     parts_each (Ok given) (Err rejected) does is = absurd (err_not_ok is.answer)
     parts_each (Err why) (Ok ts) does is = absurd (err_not_ok (sym is.answer))
     parts_each (Err why) (Err rejected) does is =
         subst (λ ss. Applies v rs call w ss (Refused rejected.why)) (sym (set-set rs x None (Some rejected.token) ∙ ap (λ (r : Rejected). set rs x (Some r.token)) (same_err is.answer) ∙ put_back rs x t was))
-        (refused (parts x y) rejected.why (does ∙ ap (λ (r : Rejected). doing v (table_of rs) (parts x y) (Err r.why)) (sym (same_err is.answer))) is.after)
+        (refused (parts x y) rejected.why (does ∙ ap (λ (r : Rejected). step_of v (table_of rs) (parts x y) (Err r.why)) (sym (same_err is.answer))) is.after)
     parts_each (Ok ((n, o), u)) (Ok (f, rest)) does is =
         subst (λ l. Applies v rs call w (set l y (Some f)) Done) (sym (set-set rs x None rest))
         (two rest (Some f) is.others (each rest is.rest_had) (moves_parted rest (owned_token v rs x t ready.owned was) is)
@@ -328,12 +328,12 @@ module _ {v w : PoolValue} {rs : List (Option TokenValue)} {call other : Call} (
         each None rest_had = (is.had, tt)
         each (Some r) rest_had = (rest_had, (is.had, tt))
 
-    pub parts_two : (f : ℕ → Given Arena (ℕ × Option ℕ)) {parted : Result (TokenValue × Option TokenValue) Rejected} {settled : Settled} → act v (table_of rs) other ≡ doing v (table_of rs) (parts x y) (on_arena v (f (head_held (table_of rs) x)))
+    pub parts_two : (f : ℕ → Given Arena (ℕ × Option ℕ)) {parted : Result (TokenValue × Option TokenValue) Rejected} {settled : RegistersAndReply} → act v (table_of rs) other ≡ step_of v (table_of rs) (parts x y) (on_arena v (f (head_held (table_of rs) x)))
         → Parts arena t (on_arena v (f t.head)) v w parted
         → settled ≡ parted_to x y parted (set rs x None) → Applies v rs call w settled.0 settled.1
     parts_two f {parted} does is settled =
-        subst (λ (p : Settled). Applies v rs call w p.0 p.1) (sym settled)
-        (parts_each (on_arena v (f t.head)) parted (does ∙ ap (λ h. doing v (table_of rs) (parts x y) (on_arena v (f h))) (head_is rs x t was)) is)
+        subst (λ (p : RegistersAndReply). Applies v rs call w p.0 p.1) (sym settled)
+        (parts_each (on_arena v (f t.head)) parted (does ∙ ap (λ h. step_of v (table_of rs) (parts x y) (on_arena v (f h))) (head_is rs x t was)) is)
 
 -- ---- two messages are joined
 
@@ -341,7 +341,7 @@ module _ {v w : PoolValue} {rs : List (Option TokenValue)} {call other : Call} (
 pub sources_apart : {v : PoolValue} {rs : List (Option TokenValue)} {call other : Call} → call ≡ other → IsReady v rs call → (x y : ℕ) {t : TokenValue} → IsNaming other (Some x) (Some y) None → register rs x ≡ Some t → x ≢ y
 sources_apart {v} {rs} called ready x y named was same =
     let emptied = set (table_of rs) x None in
-    let there : misses_token (table_of rs) (naming None (Some x) (Some y) None) ≡ false = ap (misses_token (table_of rs)) (sym (ap names_of called ∙ named)) ∙ ready.sources in
+    let there : misses_token (table_of rs) (names_from None (Some x) (Some y) None) ≡ false = ap (misses_token (table_of rs)) (sym (ap names_of called ∙ named)) ∙ ready.sources in
     let second : is_none (register emptied y) ≡ false = (or_parts (is_none (register (table_of rs) x)) (is_none (register emptied y)) there).1 in
     absurd (not_both (ap is_none (ap (register emptied) (sym same) ∙ cleared (table_of rs) x)) second)
 

@@ -8,8 +8,8 @@ use Rattle.strm_links.specs.Rows as rows
 use Rattle.strm_mblk.specs.Arena.{IsParted, IsWithin, blocks_in, census_of, counted_in, shelf_at}
 use Rattle.strm_mblk.specs.Limits.{most_message_blocks}
 use Rattle.strm_mblk.specs.Shelves.{heads_at}
-use Rattle.strm_queue.specs.Flow.{band_count, bytes_on, every_band, spec_at}
-use Rattle.strm_queue.specs.Limits.{most_queues}
+use Rattle.strm_queue.specs.Flow.{AreMarksApart, band_count, bytes_on, every_band, flags_at, marks_of, spec_at}
+use Rattle.strm_queue.specs.Limits.{bands as number_of_bands, most_queues}
 use Rattle.strm_queue.specs.QueueSpecs.{are_lawful}
 use Rattle.strm_queue.specs.QueuedBlocks.{AreMarksLawful}
 use Rattle.strm_queue.specs.Rank.{is_ordered, rank_of}
@@ -20,7 +20,7 @@ use Rattle.strm_pool.specs.Wishes as wishes
 -- The laws of a pool, which `Pool::lawful` states.
 pub record IsLawful (v : PoolValue) : Type 0 where
   -- Each message block is free, in one message on one queue, or in one held message. Each data block is free, or has 1 to
-  -- `MOST_DATA_BLOCK_NAMES` references.
+  -- `MOST_REFERENCES` references.
   pub parted : IsParted v.arena
   -- The size classes are lawful. Each has as many data blocks as it says, and each data block is in one class and as long
   -- as that class says.
@@ -34,20 +34,28 @@ pub record IsLawful (v : PoolValue) : Type 0 where
   pub few : length v.arena.held ≤ most_message_blocks
   -- There are at most `MOST_CLASSES` size classes.
   pub few_classes : length (class_infos v.arena.store) ≤ most_classes
-  -- The queues are lawful, at most `MOST_QUEUES`, each with flags and a shelf of messages.
+  -- The queues are lawful, at most `MOST_QUEUES`, each with flags and a shelf of messages, and with a wanted mark and water
+  -- marks for each band.
   pub lawful_queues : IsTrue (are_lawful v.queues.specs)
   pub few_queues : length v.queues.specs ≤ most_queues
   pub flagged : length v.queues.flags ≡ length v.queues.specs
+  pub marked : length v.queues.marks ≡ length v.queues.specs
+  pub banded : (queue : ℕ) → queue < length v.queues.specs → (length (flags_at v.queues queue).wanted ≡ number_of_bands)
+      × (length (marks_of v.queues queue) ≡ number_of_bands)
   pub shelves : length v.arena.shelves ≡ length v.queues.specs
   -- Ranks never rise from front to back of a queue. Going forward from its first head gives the heads of its messages, and
   -- going backward from its last head gives them in reverse.
   pub ordered : (queue : ℕ) → IsTrue (is_ordered (rank_of v.arena.store) (shelf_at v.arena queue))
-  pub forward : (queue : ℕ) → let heads = heads_at v.arena queue in rows.Reads (λ head. rows.after head heads) (rows.first heads) heads
-  pub backward : (queue : ℕ) → let heads = heads_at v.arena queue in rows.Reads (λ head. rows.before head heads) (rows.last heads) (reverse heads)
-  -- A wanted band has more bytes than its low water mark.
+  pub forward : (queue : ℕ) → let heads = heads_at v.arena queue in rows.Reads (λ head. rows.after head heads)
+      (rows.first heads) heads
+  pub backward : (queue : ℕ) → let heads = heads_at v.arena queue in rows.Reads (λ head. rows.before head heads)
+      (rows.last heads) (reverse heads)
+  -- Each band's low water mark is below its high one, and a wanted band has more bytes than its low water mark.
+  pub apart : AreMarksApart v.queues
   pub marks : (queue : ℕ) → AreMarksLawful v.queues v.arena queue
   -- The bytes of a queue's bands add up to those of its messages.
-  pub bytes : (queue : ℕ) → sum_by (λ band. band_count v.arena.store band (shelf_at v.arena queue)) every_band ≡ bytes_on (shelf_at v.arena queue)
+  pub bytes : (queue : ℕ) → sum_by (λ band. band_count v.arena.store band (shelf_at v.arena queue)) every_band
+      ≡ bytes_on (shelf_at v.arena queue)
   -- There are no more wishes than the configuration allows, at most `MOST_WISHES`. Their ids rise in the order of
   -- recording, and are below the next id.
   pub lawful_wishes : wishes.AreLawful v.wishes

@@ -35,8 +35,8 @@ abbrev pub arena : PoolValue → Arena
 arena v = v.arena
 
 -- the pool that a lawful configuration opens
-abbrev pub opening : Config → PoolValue
-opening c = record {
+abbrev pub opening_pool : Config → PoolValue
+opening_pool c = record {
   arena = opening_arena c.id c.mblks c.classes (length c.queues);
   queues = opening_queues c.queues;
   wishes = record { most = c.bufcalls; next = Some c.first_id; pending = [] };
@@ -45,7 +45,7 @@ opening c = record {
 -- A lawful configuration opens its pool, unless memory is refused. Of any other the first fault is returned, before any memory
 -- is taken.
 abbrev pub Opens : Config → Result PoolValue NewFault → Type 0
-Opens c (Ok v) = (fault_of c ≡ None) × (v ≡ opening c)
+Opens c (Ok v) = (fault_of c ≡ None) × (v ≡ opening_pool c)
 Opens c (Err (BadConfig which)) = fault_of c ≡ Some which
 Opens c (Err BadShared) = ⊥
 Opens c (Err Memory) = fault_of c ≡ None
@@ -62,8 +62,8 @@ on_arena v (Ok given) = Ok (given.0, with_arena v given.1)
 on_arena v (Err why) = Err why
 
 -- the queues of a pool, with the message blocks on them
-abbrev pub queued : PoolValue → QueuedBlocks
-queued v = record { queues = v.queues; arena = v.arena }
+abbrev pub queued_blocks_of : PoolValue → QueuedBlocks
+queued_blocks_of v = record { queues = v.queues; arena = v.arena }
 
 -- a pool with other queues and message blocks
 abbrev pub with_queued : PoolValue → QueuedBlocks → PoolValue
@@ -85,7 +85,7 @@ on_wishes v (Err why) = Err why
 
 -- whether there is a queue of this number
 abbrev pub has_queue : PoolValue → ℕ → Bool
-has_queue v q = queues.has_queue (queued v) q
+has_queue v q = queues.has_queue (queued_blocks_of v) q
 
 -- ---- tokens
 
@@ -94,9 +94,9 @@ abbrev pub owns : PoolValue → List (Option TokenValue) → Bool
 owns v rs = list_all (λ o. option_map_or (has v.arena) o true) rs
 
 -- the pool once a token is spent
-abbrev pub spent : PoolValue → TokenValue → PoolValue
-spent v t = with_arena v (freeing.spent v.arena t)
+abbrev pub with_token_spent : PoolValue → TokenValue → PoolValue
+with_token_spent v t = with_arena v (freeing.with_token_spent v.arena t)
 
 -- the pool once the tokens of these registers are spent, first to last
-abbrev pub drained : PoolValue → List (Option TokenValue) → PoolValue
-drained v rs = fold (λ w o. option_map_or (spent w) o w) v rs
+abbrev pub with_tokens_spent : PoolValue → List (Option TokenValue) → PoolValue
+with_tokens_spent v rs = fold (λ w o. option_map_or (with_token_spent w) o w) v rs

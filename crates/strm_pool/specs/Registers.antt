@@ -38,18 +38,18 @@ abbrev pub entries_of : List (Option TokenValue) → Entries
 entries_of rs = map (option_map entry_of) rs
 
 -- whether a register has the entry of a message of n blocks with head h
-abbrev pub tells : ℕ → ℕ → Option (ℕ × ℕ) → Bool
-tells h n None = false
-tells h n (Some e) = e.0 == h && e.1 == n
+abbrev pub is_entry_of : ℕ → ℕ → Option (ℕ × ℕ) → Bool
+is_entry_of h n None = false
+is_entry_of h n (Some e) = e.0 == h && e.1 == n
 
 -- each of these entries is of a held message with its number of blocks
-abbrev pub TellOfHeld : Arena → Entries → Type 0
-TellOfHeld a es = (x : ℕ) → IfSome (register es x) (λ e. is_of_length e.1 (held_at a e.0) ≡ true)
+abbrev pub AreOfHeld : Arena → Entries → Type 0
+AreOfHeld a es = (x : ℕ) → IfSome (register es x) (λ e. is_of_length e.1 (held_at a e.0) ≡ true)
 
 -- the number of registers of these desks that have this entry
-abbrev pub times_told : ℕ → ℕ → List Entries → ℕ
-times_told h n desks = count_by (tells h n) (flat_map (λ es. es) desks)
+abbrev pub times_listed : ℕ → ℕ → List Entries → ℕ
+times_listed h n desks = count_by (is_entry_of h n) (flat_map (λ es. es) desks)
 
 -- Each held message is in one register of one desk, with its number of blocks, and no register has another entry.
 abbrev pub AreAccounted : Arena → List Entries → Type 0
-AreAccounted a desks = (h n : ℕ) → times_told h n desks ≡ (if is_of_length n (held_at a h) then 1 else 0)
+AreAccounted a desks = (h n : ℕ) → times_listed h n desks ≡ (if is_of_length n (held_at a h) then 1 else 0)

@@ -23,8 +23,8 @@ pub record IsReady (v : PoolValue) (rs : List (Option TokenValue)) (call : Call)
   pub there : ForSome (names_of call).destination (λ x. x < length rs)
 
 -- a call that names no register does this, whatever the registers hold
-abbrev pub Does : PoolValue → Call → PoolValue → Reply → Type 0
-Does v call w reply = (rs : List (Option TokenValue)) → IsReady v rs call → Applies v rs call w rs reply
+abbrev pub AppliesAlone : PoolValue → Call → PoolValue → Reply → Type 0
+AppliesAlone v call w reply = (rs : List (Option TokenValue)) → IsReady v rs call → Applies v rs call w rs reply
 
 -- the reply to a call that is refused by what it names, if it is
 abbrev pub refusal_of : PoolValue → RegisterTable → Names → Option Reply
@@ -35,27 +35,27 @@ refusal_of v t names =
     else None))
 
 -- the registers and the reply after a call
-abbrev pub Settled : Type 0
-Settled = List (Option TokenValue) × Reply
+abbrev pub RegistersAndReply : Type 0
+RegistersAndReply = List (Option TokenValue) × Reply
 
 -- the destination y gets the token that the call gave
-abbrev pub given_to : ℕ → Result TokenValue Refusal → List (Option TokenValue) → Settled
+abbrev pub given_to : ℕ → Result TokenValue Refusal → List (Option TokenValue) → RegistersAndReply
 given_to y (Ok token) rs = (slice_set rs y (Some token), Done)
 given_to y (Err why) rs = (rs, Refused why)
 
 -- the destination y gets the token that the call gave, if any
-abbrev pub any_given_to : ℕ → Result (Option TokenValue) Refusal → List (Option TokenValue) → Settled
+abbrev pub any_given_to : ℕ → Result (Option TokenValue) Refusal → List (Option TokenValue) → RegistersAndReply
 any_given_to y (Ok (Some token)) rs = (slice_set rs y (Some token), Done)
 any_given_to y (Ok None) rs = (rs, Nothing)
 any_given_to y (Err why) rs = (rs, Refused why)
 
 -- the source x gets its token back if the call was rejected
-abbrev pub rejected_to : ℕ → Result (Unit {0}) Rejected → List (Option TokenValue) → Settled
+abbrev pub rejected_to : ℕ → Result (Unit {0}) Rejected → List (Option TokenValue) → RegistersAndReply
 rejected_to x (Ok done) rs = (rs, Done)
 rejected_to x (Err rejected) rs = (slice_set rs x (Some rejected.token), Refused rejected.why)
 
 -- Register y gets the first token and x the second, if any. If the call was rejected, x gets its token back.
-abbrev pub parted_to : ℕ → ℕ → Result (TokenValue × Option TokenValue) Rejected → List (Option TokenValue) → Settled
+abbrev pub parted_to : ℕ → ℕ → Result (TokenValue × Option TokenValue) Rejected → List (Option TokenValue) → RegistersAndReply
 parted_to x y (Ok tokens) rs = (slice_set (slice_set rs x tokens.1) y (Some tokens.0), Done)
 parted_to x y (Err rejected) rs = (slice_set rs x (Some rejected.token), Refused rejected.why)
 

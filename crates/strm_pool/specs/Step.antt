@@ -20,7 +20,7 @@ use Rattle.strm_pool.specs.declared.reply.Reply.TheVariants.{Done, Yes, No, Noth
 use Rattle.strm_pool.specs.declared.reply.Reply.TheVariants as replies
 use Rattle.strm_pool.specs.Limits.{most_octets, most_registers}
 use Rattle.strm_pool.specs.Names.{names_of, registers_in}
-use Rattle.strm_pool.specs.PoolValue.{PoolValue, Wish, has_queue, on_arena, on_queues, owns, queued, with_queued}
+use Rattle.strm_pool.specs.PoolValue.{PoolValue, Wish, has_queue, on_arena, on_queues, owns, queued_blocks_of, with_queued}
 use Rattle.strm_pool.specs.Wishes as wishes
 use Rattle.strm_pool.specs.Registers.{AreAccounted, AreDistinct, Entries, RegisterTable, entries_of, register, table_of}
 
@@ -55,8 +55,8 @@ is_taken t names = option_map_or (λ x. is_some (register t x)) names.destinatio
 -- ---- what the call does
 
 -- the registers that change, each with the head of its message or none, and the reply
-abbrev pub Told : Type 0
-Told = List (ℕ × Option ℕ) × Reply
+abbrev pub Changes : Type 0
+Changes = List (ℕ × Option ℕ) × Reply
 
 abbrev pub with_changes : List (ℕ × Option ℕ) → RegisterTable → RegisterTable
 with_changes [] t = t
@@ -67,37 +67,37 @@ abbrev pub replying : PoolValue → RegisterTable → Reply → Stepped
 replying v t reply = record { pool = v; table = t; reply = reply }
 
 -- A call on the pool; its answer says which registers change, and what the reply is. If it is refused, nothing changes.
-abbrev pub doing : {X : Type 0} → PoolValue → RegisterTable → (X → Told) → Given PoolValue X → Stepped
-doing v t told (Ok given) = replying given.1 (with_changes (told given.0).0 t) (told given.0).1
-doing v t told (Err why) = replying v t (Refused why)
+abbrev pub step_of : {X : Type 0} → PoolValue → RegisterTable → (X → Changes) → Given PoolValue X → Stepped
+step_of v t told (Ok given) = replying given.1 (with_changes (told given.0).0 t) (told given.0).1
+step_of v t told (Err why) = replying v t (Refused why)
 
 -- no register changes
-abbrev pub keeps : Unit {0} → Told
+abbrev pub keeps : Unit {0} → Changes
 keeps done = ([], Done)
 
 -- register x loses its message
-abbrev pub spends : ℕ → Unit {0} → Told
+abbrev pub spends : ℕ → Unit {0} → Changes
 spends x done = ((x, None) ∷ [], Done)
 
 -- register y gets the message
-abbrev pub gives : ℕ → ℕ → Told
+abbrev pub gives : ℕ → ℕ → Changes
 gives y h = ((y, Some h) ∷ [], Done)
 
 -- register y gets the message, if any
-abbrev pub may_give : ℕ → Option ℕ → Told
+abbrev pub may_give : ℕ → Option ℕ → Changes
 may_give y None = ([], Nothing)
 may_give y (Some h) = gives y h
 
 -- register x gets the message that is left, if any
-abbrev pub leaves : ℕ → Option ℕ → Told
+abbrev pub leaves : ℕ → Option ℕ → Changes
 leaves x rest = ((x, rest) ∷ [], Done)
 
 -- register y gets the first message, and x the second, if any
-abbrev pub parts : ℕ → ℕ → ℕ × Option ℕ → Told
+abbrev pub parts : ℕ → ℕ → ℕ × Option ℕ → Changes
 parts x y heads = ((x, heads.1) ∷ (y, Some heads.0) ∷ [], Done)
 
 -- no register changes, and the reply has the call's answer
-abbrev pub answers : {X : Type 0} → (X → Reply) → X → Told
+abbrev pub answers : {X : Type 0} → (X → Reply) → X → Changes
 answers reply given = ([], reply given)
 
 abbrev pub yes_or_no : Bool → Reply
@@ -107,8 +107,8 @@ abbrev pub queue_or_nothing : Option ℕ → Reply
 queue_or_nothing None = Nothing
 queue_or_nothing (Some q) = replies.Queue q
 
-abbrev pub marks_told : Marks → Reply
-marks_told marks = replies.Marks marks.hiwat marks.lowat
+abbrev pub marks_reply : Marks → Reply
+marks_reply marks = replies.Marks marks.hiwat marks.lowat
 
 abbrev pub ready_or_nothing : Option Wish → Reply
 ready_or_nothing None = Nothing
@@ -120,43 +120,43 @@ head_held t x = unwrap_or (register t x) 0
 
 -- what a call does if its queue exists, its sources have messages, and its destination is empty
 abbrev pub act : PoolValue → RegisterTable → Call → Stepped
-act v t (Allocb x size) = doing v t (gives x) (on_arena v (blocks.allocb size v.arena))
+act v t (Allocb x size) = step_of v t (gives x) (on_arena v (blocks.allocb size v.arena))
 act v t (Testb size) = replying v t (yes_or_no (blocks.testb size v.arena))
-act v t (Dupb x y) = doing v t (gives y) (on_arena v (blocks.dupb (head_held t x) v.arena))
-act v t (Dupmsg x y) = doing v t (gives y) (on_arena v (blocks.dupmsg (head_held t x) v.arena))
-act v t (Copyb x y) = doing v t (gives y) (on_arena v (blocks.copyb (head_held t x) v.arena))
-act v t (Copymsg x y) = doing v t (gives y) (on_arena v (blocks.copymsg (head_held t x) v.arena))
-act v t (Write x k bytes) = doing v t keeps (on_arena v (blocks.write (head_held t x) k bytes v.arena))
-act v t (Settype x k kind) = doing v t keeps (on_arena v (blocks.settype (head_held t x) k kind v.arena))
-act v t (Setband x band) = doing v t keeps (on_arena v (Ok (tt, blocks.setband (head_held t x) band v.arena)))
-act v t (Linkb x y) = doing v t (spends y) (on_arena v (Ok (tt, blocks.linkb (head_held t x) (head_held t y) v.arena)))
-act v t (Unlinkb x y) = doing v t (may_give y) (on_arena v (Ok (blocks.unlinkb (head_held t x) v.arena)))
-act v t (Rmvb x k y) = doing v t (parts x y) (on_arena v (blocks.rmvb (head_held t x) k v.arena))
-act v t (Adjmsg x n) = doing v t keeps (on_arena v (trimming.adjmsg (head_held t x) n v.arena))
-act v t (Pullupmsg x n) = doing v t keeps (on_arena v (trimming.pullupmsg (head_held t x) n v.arena))
+act v t (Dupb x y) = step_of v t (gives y) (on_arena v (blocks.dupb (head_held t x) v.arena))
+act v t (Dupmsg x y) = step_of v t (gives y) (on_arena v (blocks.dupmsg (head_held t x) v.arena))
+act v t (Copyb x y) = step_of v t (gives y) (on_arena v (blocks.copyb (head_held t x) v.arena))
+act v t (Copymsg x y) = step_of v t (gives y) (on_arena v (blocks.copymsg (head_held t x) v.arena))
+act v t (Write x k bytes) = step_of v t keeps (on_arena v (blocks.write (head_held t x) k bytes v.arena))
+act v t (Settype x k kind) = step_of v t keeps (on_arena v (blocks.settype (head_held t x) k kind v.arena))
+act v t (Setband x band) = step_of v t keeps (on_arena v (Ok (tt, blocks.setband (head_held t x) band v.arena)))
+act v t (Linkb x y) = step_of v t (spends y) (on_arena v (Ok (tt, blocks.linkb (head_held t x) (head_held t y) v.arena)))
+act v t (Unlinkb x y) = step_of v t (may_give y) (on_arena v (Ok (blocks.unlinkb (head_held t x) v.arena)))
+act v t (Rmvb x k y) = step_of v t (parts x y) (on_arena v (blocks.rmvb (head_held t x) k v.arena))
+act v t (Adjmsg x n) = step_of v t keeps (on_arena v (trimming.adjmsg (head_held t x) n v.arena))
+act v t (Pullupmsg x n) = step_of v t keeps (on_arena v (trimming.pullupmsg (head_held t x) n v.arena))
 act v t (Msgdsize x) = replying v t (replies.Size (data_size_of v.arena.store (message_at v.arena (head_held t x))))
 act v t (Size x) = replying v t (replies.Size (size_of (message_at v.arena (head_held t x))))
 act v t (Read x at) = replying v t (replies.Bytes (take most_octets (drop at (bytes_of v.arena.store (message_at v.arena (head_held t x))))))
-act v t (Block x k) = doing v t (answers (λ info. replies.Block info)) (on_arena v (blocks.block (head_held t x) k v.arena))
-act v t (Freeb x) = doing v t (leaves x) (on_arena v (Ok (blocks.freeb (head_held t x) v.arena)))
-act v t (Freemsg x) = doing v t (spends x) (on_arena v (Ok (tt, freeing.freemsg (head_held t x) v.arena)))
-act v t (Putq q x) = doing v t (spends x) (on_queues v (queues.putq q (head_held t x) (queued v)))
-act v t (Putbq q x) = doing v t (spends x) (on_queues v (queues.putbq q (head_held t x) (queued v)))
-act v t (Insq q k x) = doing v t (spends x) (on_queues v (queues.insq q k (head_held t x) (queued v)))
-act v t (Getq q y) = doing v t (may_give y) (on_queues v (queues.getq q (queued v)))
-act v t (Rmvq q k y) = doing v t (gives y) (on_queues v (queues.rmvq q k (queued v)))
-act v t (Flushq q flush) = doing v t keeps (on_queues v (queues.flushq q flush (queued v)))
-act v t (Flushband q band flush) = doing v t keeps (on_queues v (queues.flushband q band flush (queued v)))
-act v t (Bcanput q band) = doing v t (answers yes_or_no) (on_queues v (queues.bcanput q band (queued v)))
-act v t (Strqset q band hiwat lowat) = doing v t keeps (on_queues v (queues.strqset q band hiwat lowat (queued v)))
-act v t (Strqget q band) = doing v t (answers marks_told) (on_queues v (queues.strqget q band (queued v)))
-act v t (Qsize q) = doing v t (answers (λ size. replies.Size size)) (on_queues v (queues.qsize q (queued v)))
-act v t (Qenable q) = doing v t keeps (on_queues v (queues.qenable q (queued v)))
-act v t (Noenable q) = doing v t keeps (on_queues v (queues.noenable q (queued v)))
-act v t (Enableok q) = doing v t keeps (on_queues v (queues.enableok q (queued v)))
-act v t Service = replying (with_queued v (queues.next_service (queued v)).1) t (queue_or_nothing (queues.next_service (queued v)).0)
-act v t (Bufcall size) = doing v t (answers (λ id. replies.Id id)) (wishes.bufcall size v)
-act v t (Unbufcall id) = doing v t keeps (wishes.unbufcall id v)
+act v t (Block x k) = step_of v t (answers (λ info. replies.Block info)) (on_arena v (blocks.block (head_held t x) k v.arena))
+act v t (Freeb x) = step_of v t (leaves x) (on_arena v (Ok (blocks.freeb (head_held t x) v.arena)))
+act v t (Freemsg x) = step_of v t (spends x) (on_arena v (Ok (tt, freeing.freemsg (head_held t x) v.arena)))
+act v t (Putq q x) = step_of v t (spends x) (on_queues v (queues.putq q (head_held t x) (queued_blocks_of v)))
+act v t (Putbq q x) = step_of v t (spends x) (on_queues v (queues.putbq q (head_held t x) (queued_blocks_of v)))
+act v t (Insq q k x) = step_of v t (spends x) (on_queues v (queues.insq q k (head_held t x) (queued_blocks_of v)))
+act v t (Getq q y) = step_of v t (may_give y) (on_queues v (queues.getq q (queued_blocks_of v)))
+act v t (Rmvq q k y) = step_of v t (gives y) (on_queues v (queues.rmvq q k (queued_blocks_of v)))
+act v t (Flushq q flush) = step_of v t keeps (on_queues v (queues.flushq q flush (queued_blocks_of v)))
+act v t (Flushband q band flush) = step_of v t keeps (on_queues v (queues.flushband q band flush (queued_blocks_of v)))
+act v t (Bcanput q band) = step_of v t (answers yes_or_no) (on_queues v (queues.bcanput q band (queued_blocks_of v)))
+act v t (Strqset q band hiwat lowat) = step_of v t keeps (on_queues v (queues.strqset q band hiwat lowat (queued_blocks_of v)))
+act v t (Strqget q band) = step_of v t (answers marks_reply) (on_queues v (queues.strqget q band (queued_blocks_of v)))
+act v t (Qsize q) = step_of v t (answers (λ size. replies.Size size)) (on_queues v (queues.qsize q (queued_blocks_of v)))
+act v t (Qenable q) = step_of v t keeps (on_queues v (queues.qenable q (queued_blocks_of v)))
+act v t (Noenable q) = step_of v t keeps (on_queues v (queues.noenable q (queued_blocks_of v)))
+act v t (Enableok q) = step_of v t keeps (on_queues v (queues.enableok q (queued_blocks_of v)))
+act v t Service = replying (with_queued v (queues.next_service (queued_blocks_of v)).1) t (queue_or_nothing (queues.next_service (queued_blocks_of v)).0)
+act v t (Bufcall size) = step_of v t (answers (λ id. replies.Id id)) (wishes.bufcall size v)
+act v t (Unbufcall id) = step_of v t keeps (wishes.unbufcall id v)
 act v t Ready = replying (wishes.take_ready v).1 t (ready_or_nothing (wishes.take_ready v).0)
 act v t Census = replying v t (replies.Census (census_of v.arena))
 
@@ -181,7 +181,8 @@ is_named call x = rows.has x (registers_in (names_of call))
 -- several desks, and each held message was in one register of one desk, each still is.
 pub record Applies (v : PoolValue) (rs : List (Option TokenValue)) (call : Call) (w : PoolValue) (ss : List (Option TokenValue)) (reply : Reply) : Type 0 where
   pub step : step v (table_of rs) call ≡ record { pool = w; table = table_of ss; reply = reply }
-  pub tokens : (x : ℕ) → register ss x ≡ (if is_named call x then option_map (token_of w.arena) (register (table_of ss) x) else register rs x)
+  pub tokens : (x : ℕ) → register ss x ≡ (if is_named call x then option_map (token_of w.arena)
+      (register (table_of ss) x) else register rs x)
   pub owned : AreDistinct (table_of rs) → IsTrue (owns w ss) × AreDistinct (table_of ss)
   pub same : w.arena.id ≡ v.arena.id
   pub size : length w.arena.held ≡ length v.arena.held

@@ -2,7 +2,7 @@
 ghost use Rattle.std.specs.Prelude.{◌≡◌, ◌<◌, false, true, IsSome, IsTrue, None, Some, length, slice_set};
 ghost use Rattle.std.specs.Option.{ForSome};
 ghost use Rattle.strm_mblk.specs.Arena.{has};
-ghost use Rattle.strm_pool.specs.Names.{names_of, naming};
+ghost use Rattle.strm_pool.specs.Names.{names_of, names_from};
 ghost use Rattle.strm_pool.specs.PoolValue.{owns};
 ghost use Rattle.strm_pool.specs.Registers.{register, table_of};
 ghost use Rattle.strm_pool.specs.Shapes.{IsReady, refusal_of};
@@ -72,7 +72,7 @@ impl Pool {
 
     // Whether the call names a queue that does not exist.
     fn misses_queue(&self, queue: Option<u8>) -> bool
-        ensures { result ≡ misses_queue self.now (naming queue None None None) }
+        ensures { result ≡ misses_queue self.now (names_from queue None None None) }
     {
         match queue {
             Some(queue) => !self.has_queue(queue),
@@ -91,9 +91,9 @@ impl Pool {
         destination: Option<Reg>,
     ) -> bool
         ensures refused { result ≡ true → refusal_of self.now (table_of regs.now)
-            (naming queue source second destination) ≡ Some reply.new }
+            (names_from queue source second destination) ≡ Some reply.new }
         ensures ready { result ≡ false → refusal_of self.now (table_of regs.now)
-            (naming queue source second destination) ≡ None }
+            (names_from queue source second destination) ≡ None }
         ensures there { result ≡ false → ForSome destination (λ reg. reg < length regs.now) }
     {
         if self.misses_queue(queue) {

@@ -1,6 +1,6 @@
 //! What a call names, which is checked before the call runs.
 ghost use Rattle.std.specs.Prelude.{◌≡◌};
-ghost use Rattle.strm_pool.specs.Names.{naming};
+ghost use Rattle.strm_pool.specs.Names.{names_from};
 
 use crate::reg::Reg;
 
@@ -25,7 +25,7 @@ impl Names {
         second: Option<Reg>,
         destination: Option<Reg>,
     ) -> Names
-        ensures { result ≡ naming queue source second destination }
+        ensures { result ≡ names_from queue source second destination }
     {
         Names {
             queue,

@@ -5,8 +5,8 @@ ghost use Rattle.strm_data.specs.DataStore.{class_infos};
 ghost use Rattle.strm_mblk.specs.Arena.{census_of, has};
 ghost use Rattle.strm_pool.specs.Config.{fault_of};
 ghost use Rattle.strm_pool.specs.Lawful.{IsLawful};
-ghost use Rattle.strm_pool.specs.PoolValue.{Opens, has_queue, opening, owns};
-ghost use Rattle.strm_pool.specs.Registers.{CarryId, TellOfHeld, entries_of};
+ghost use Rattle.strm_pool.specs.PoolValue.{Opens, has_queue, opening_pool, owns};
+ghost use Rattle.strm_pool.specs.Registers.{CarryId, AreOfHeld, entries_of};
 ghost use Rattle.strm_queue.specs.QueuedBlocks.{Agrees};
 
 mod blocks;
@@ -63,7 +63,7 @@ impl Pool {
     // Makes the pool of a lawful configuration.
     fn build(alloc: Global, config: &Config) -> Result<Pool, AllocError>
         requires { fault_of config.now ≡ None }
-        ensures { IfOk result (λ v. v ≡ opening config.now) }
+        ensures { IfOk result (λ v. v ≡ opening_pool config.now) }
     {
         let queues = config.queues.items();
         Ok(Pool {
@@ -130,7 +130,7 @@ impl Pool {
     /// Law: a pool has the tokens of registers if they all carry its id, and each is of a held message with its number of
     /// blocks. Does nothing.
     pub fn lawful_regs(&self, regs: &Regs)
-        ensures { CarryId self.now.arena.id regs.now → TellOfHeld self.now.arena (entries_of regs.now)
+        ensures { CarryId self.now.arena.id regs.now → AreOfHeld self.now.arena (entries_of regs.now)
             → IsTrue (owns self.now regs.now) }
     {
         let _ = regs;

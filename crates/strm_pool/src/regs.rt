@@ -2,7 +2,7 @@
 ghost use Rattle.std.specs.Prelude.{◌≡◌, ◌≢◌, ◌<◌, None, Some, IsNone, IsSome, is_some, length, replicate, slice_set};
 ghost use Rattle.std.specs.Option.{ForSome};
 ghost use Rattle.strm_pool.specs.Limits.{most_registers};
-ghost use Rattle.strm_pool.specs.Names.{naming};
+ghost use Rattle.strm_pool.specs.Names.{names_from};
 ghost use Rattle.strm_pool.specs.Registers.{entries_of, register, table_of};
 ghost use Rattle.strm_pool.specs.Shapes.{any_given_to, given_to, parted_to, rejected_to};
 ghost use Rattle.strm_pool.specs.Step.{is_empty, is_taken, misses_token};
@@ -252,7 +252,7 @@ impl Regs {
 
     // Whether a source is empty, once the token of the source before it is taken.
     pub(crate) fn misses_token(&self, source: Option<Reg>, second: Option<Reg>) -> bool
-        ensures { result ≡ misses_token (table_of self.now) (naming None source second None) }
+        ensures { result ≡ misses_token (table_of self.now) (names_from None source second None) }
     {
         if self.is_empty(source) || self.is_empty(second) {
             return true;
@@ -268,7 +268,7 @@ impl Regs {
 
     // Whether the destination, if any, has a token.
     pub(crate) fn is_taken(&self, destination: Option<Reg>) -> bool
-        ensures value { result ≡ is_taken (table_of self.now) (naming None None None destination) }
+        ensures value { result ≡ is_taken (table_of self.now) (names_from None None None destination) }
         ensures there { ForSome destination (λ reg. reg < length self.now) }
     {
         match destination {

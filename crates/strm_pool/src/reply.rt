@@ -2,7 +2,7 @@
 ghost use Rattle.std.specs.Prelude.{◌≡◌};
 ghost use Rattle.strm_pool.specs.declared.reply.Reply.TheVariants as replies;
 ghost use Rattle.strm_pool.specs.Shapes.{reply_done, reply_made};
-ghost use Rattle.strm_pool.specs.Step.{marks_told, queue_or_nothing, ready_or_nothing, yes_or_no};
+ghost use Rattle.strm_pool.specs.Step.{marks_reply, queue_or_nothing, ready_or_nothing, yes_or_no};
 
 use crate::short_list::Octets;
 use strm_data::Refusal;
@@ -102,7 +102,7 @@ impl Reply {
 
     // Sets the water marks of a band, or the refusal.
     pub(crate) fn set_marks(&mut self, answer: Result<Marks, Refusal>)
-        ensures { self.new ≡ reply_made marks_told answer }
+        ensures { self.new ≡ reply_made marks_reply answer }
     {
         match answer {
             Ok(marks) => *self = Reply::Marks(marks.hiwat, marks.lowat),

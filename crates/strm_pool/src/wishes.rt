@@ -3,7 +3,7 @@ ghost use Rattle.std.specs.Prelude.{◌≡◌, ◌<◌, ◌≤◌, IfSome, Some,
 ghost use Rattle.std.specs.List.{position};
 ghost use Rattle.strm_mblk.specs.Given.{answer_of, value_after};
 ghost use Rattle.strm_pool.specs.Limits.{most_wishes};
-ghost use Rattle.strm_pool.specs.Wishes.{AreLawful, has_id, recorded, wishes_without};
+ghost use Rattle.strm_pool.specs.Wishes.{AreLawful, has_id, wish_recorded, wishes_without};
 
 use crate::limits::{LAST_ID, MOST_WISHES};
 use arrayvec::ArrayVec;
@@ -62,8 +62,8 @@ impl Wishes {
 
     // Records a wish of a size, and returns its id.
     pub(crate) fn record(&mut self, size: u32) -> Result<u32, Refusal>
-        ensures after { self.new ≡ value_after self.old (recorded size self.old) }
-        ensures answer { result ≡ answer_of (recorded size self.old) }
+        ensures after { self.new ≡ value_after self.old (wish_recorded size self.old) }
+        ensures answer { result ≡ answer_of (wish_recorded size self.old) }
     {
         if self.pending.len() >= self.most as usize {
             return Err(Refusal::Full);

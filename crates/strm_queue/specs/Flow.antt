@@ -63,11 +63,11 @@ abbrev pub opening_flags : Flags
 opening_flags = record { read = true; noenable = false; wanted = bands_where (λ band. false) }
 
 -- the water marks that each band of a new queue has: those of its spec
-abbrev pub given_marks : QueueSpec → Marks
-given_marks spec = record { hiwat = spec.hiwat; lowat = spec.lowat }
+abbrev pub spec_marks : QueueSpec → Marks
+spec_marks spec = record { hiwat = spec.hiwat; lowat = spec.lowat }
 
 abbrev pub opening_marks : QueueSpec → List Marks
-opening_marks spec = replicate bands (given_marks spec)
+opening_marks spec = replicate bands (spec_marks spec)
 
 -- new queues have no messages, and the run list is empty
 abbrev pub opening_queues : List QueueSpec → QueueState
@@ -183,12 +183,12 @@ waker specs q = waker_within (length specs) specs q
 -- ---- enabling
 
 -- Enabling puts q at the end of the run list. If it is on the list, or has no service procedure, nothing changes.
-abbrev pub enabled : ℕ → QueueState → QueueState
-enabled q s = if (spec_at s.specs q).service && not (rows.has q s.run) then record s { run = s.run ++ q ∷ [] } else s
+abbrev pub with_enabled : ℕ → QueueState → QueueState
+with_enabled q s = if (spec_at s.specs q).service && not (rows.has q s.run) then record s { run = s.run ++ q ∷ [] } else s
 
 -- queue q is enabled if `so` is true; otherwise nothing changes
 abbrev pub enabled_where : Bool → ℕ → QueueState → QueueState
-enabled_where so q s = if so then enabled q s else s
+enabled_where so q s = if so then with_enabled q s else s
 
 -- `putq` of a message of this rank enables a queue with these flags if it is high priority; otherwise if enabling is on,
 -- and the want-to-read mark is set or the band is above 0

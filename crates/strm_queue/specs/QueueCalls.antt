@@ -11,7 +11,7 @@ use Rattle.strm_queue.specs.declared.band_info.BandInfo.{BandInfo}
 use Rattle.strm_queue.specs.declared.flush.Flush.{Flush}
 use Rattle.strm_queue.specs.declared.marks.Marks.{Marks}
 use Rattle.strm_queue.specs.declared.queue_info.QueueInfo.{QueueInfo}
-use Rattle.strm_queue.specs.Flow.{Flags, QueueState, band_count, bytes_on, enabled, enabled_where, enables_inserted, enables_put, enables_put_back, fills, flags_at, has_band, hiwat_of, lowat_of, marks_at, some_relieved, still_wanted, target, waker, with_flags, with_marks, with_noenable, with_read, with_wanted}
+use Rattle.strm_queue.specs.Flow.{Flags, QueueState, band_count, bytes_on, with_enabled, enabled_where, enables_inserted, enables_put, enables_put_back, fills, flags_at, has_band, hiwat_of, lowat_of, marks_at, some_relieved, still_wanted, target, waker, with_flags, with_marks, with_noenable, with_read, with_wanted}
 use Rattle.strm_queue.specs.Flush.{is_picked, with_freed}
 use Rattle.strm_queue.specs.QueuedBlocks.{QueuedBlocks}
 use Rattle.strm_queue.specs.Rank.{as_queued, is_ordered, put_ahead, put_at, put_behind, rank_of}
@@ -68,15 +68,15 @@ flags_left v q = record (flags_of v q) { wanted = still_wanted (flags_of v q).wa
 
 -- the waker of q, if any, is enabled
 abbrev pub waker_enabled : ℕ → QueueState → QueueState
-waker_enabled q s = option_map_or (λ p. enabled p s) (waker s.specs q) s
+waker_enabled q s = option_map_or (λ p. with_enabled p s) (waker s.specs q) s
 
 -- the waker of q is enabled if the first argument is true; otherwise nothing changes
 abbrev pub waker_enabled_where : Bool → ℕ → QueueState → QueueState
 waker_enabled_where so q s = if so then waker_enabled q s else s
 
 -- Settling: each band of q that has drained loses its wanted mark; if one did, the waker of q is enabled.
-abbrev pub settled : ℕ → QueuedBlocks → QueuedBlocks
-settled q v = with_state (λ s. waker_enabled_where (has_relieved v q) q (with_flags q (flags_left v q) s)) v
+abbrev pub with_queue_settled : ℕ → QueuedBlocks → QueuedBlocks
+with_queue_settled q v = with_state (λ s. waker_enabled_where (has_relieved v q) q (with_flags q (flags_left v q) s)) v
 
 -- ---- messages are put on a queue
 
@@ -107,22 +107,22 @@ insq q k h v =
 
 -- The first of these messages, if any, is held, its head is returned, the want-to-read mark is cleared, and q is settled. If
 -- there is none, the want-to-read mark is set. There is nothing to settle then: an empty queue has no wanted mark.
-abbrev pub got_first : ℕ → List Message → QueuedBlocks → Given QueuedBlocks (Option ℕ)
-got_first q [] v = Ok (None, with_state (with_read q true) v)
-got_first q (m ∷ ms) v = Ok (Some (head_of m), with_state (with_read q false) (settled q (with_got q m ms v)))
+abbrev pub get_first : ℕ → List Message → QueuedBlocks → Given QueuedBlocks (Option ℕ)
+get_first q [] v = Ok (None, with_state (with_read q true) v)
+get_first q (m ∷ ms) v = Ok (Some (head_of m), with_state (with_read q false) (with_queue_settled q (with_got q m ms v)))
 
 -- the first message of queue q, if any, is taken, and its head is returned
 abbrev pub getq : ℕ → QueuedBlocks → Given QueuedBlocks (Option ℕ)
-getq q v = if has_queue v q then got_first q (messages_on v q) v else Err NoSuchQueue
+getq q v = if has_queue v q then get_first q (messages_on v q) v else Err NoSuchQueue
 
 -- the message at place k, if any, is held, its head is returned, and q is settled
-abbrev pub got_at : ℕ → ℕ → Option Message → QueuedBlocks → Given QueuedBlocks ℕ
-got_at q k None v = Err NoSuchPlace
-got_at q k (Some m) v = Ok (head_of m, settled q (with_got q m (without_place k (messages_on v q)) v))
+abbrev pub get_at : ℕ → ℕ → Option Message → QueuedBlocks → Given QueuedBlocks ℕ
+get_at q k None v = Err NoSuchPlace
+get_at q k (Some m) v = Ok (head_of m, with_queue_settled q (with_got q m (without_place k (messages_on v q)) v))
 
 -- the message at place k of queue q is taken, and its head is returned
 abbrev pub rmvq : ℕ → ℕ → QueuedBlocks → Given QueuedBlocks ℕ
-rmvq q k v = if has_queue v q then got_at q k (slice_get (messages_on v q) k) v else Err NoSuchQueue
+rmvq q k v = if has_queue v q then get_at q k (slice_get (messages_on v q) k) v else Err NoSuchQueue
 
 -- ---- messages are flushed
 
@@ -131,26 +131,26 @@ abbrev pub with_flushed : ℕ → (Message → Bool) → QueuedBlocks → Queued
 with_flushed q picked v = record v { arena = with_freed (filter picked (messages_on v q)) (with_shelf q (filter (λ m. not (picked m)) (messages_on v q)) v.arena) }
 
 -- the messages of queue q that a flush frees, of one band or of all, are freed, and q is settled
-abbrev pub flushed : ℕ → Option ℕ → Flush → QueuedBlocks → Given QueuedBlocks (Unit {0})
-flushed q band flush v = if has_queue v q then Ok (tt, settled q (with_flushed q (is_picked v.arena.store band flush) v)) else Err NoSuchQueue
+abbrev pub flush_messages : ℕ → Option ℕ → Flush → QueuedBlocks → Given QueuedBlocks (Unit {0})
+flush_messages q band flush v = if has_queue v q then Ok (tt, with_queue_settled q (with_flushed q (is_picked v.arena.store band flush) v)) else Err NoSuchQueue
 
 -- messages of queue q, all or those that carry data, are freed
 abbrev pub flushq : ℕ → Flush → QueuedBlocks → Given QueuedBlocks (Unit {0})
-flushq q flush v = flushed q None flush v
+flushq q flush v = flush_messages q None flush v
 
 -- messages of one band of queue q, all or those that carry data, are freed
 abbrev pub flushband : ℕ → ℕ → Flush → QueuedBlocks → Given QueuedBlocks (Unit {0})
-flushband q band flush v = flushed q (Some band) flush v
+flushband q band flush v = flush_messages q (Some band) flush v
 
 -- ---- flow control
 
 -- Says whether the band has room on queue p. If the band is full, it gets its wanted mark.
-abbrev pub asked_for_room : ℕ → ℕ → QueuedBlocks → Bool × QueuedBlocks
-asked_for_room p band v = if is_full v p band then (false, with_state (with_wanted p band) v) else (true, v)
+abbrev pub ask_for_room : ℕ → ℕ → QueuedBlocks → Bool × QueuedBlocks
+ask_for_room p band v = if is_full v p band then (false, with_state (with_wanted p band) v) else (true, v)
 
 -- says whether the band has room at the target of q
 abbrev pub bcanput : ℕ → ℕ → QueuedBlocks → Given QueuedBlocks Bool
-bcanput q band v = if has_queue v q then Ok (asked_for_room (target v.queues.specs q) band v) else Err NoSuchQueue
+bcanput q band v = if has_queue v q then Ok (ask_for_room (target v.queues.specs q) band v) else Err NoSuchQueue
 
 -- ---- water marks
 
@@ -159,7 +159,7 @@ abbrev pub strqset : ℕ → ℕ → ℕ → ℕ → QueuedBlocks → Given Queu
 strqset q band hiwat lowat v =
     if not (has_queue v q) then Err NoSuchQueue
     else (if nat_le hiwat lowat then Err BadMarks
-    else Ok (tt, settled q (with_state (with_marks q band (record { hiwat = hiwat; lowat = lowat })) v)))
+    else Ok (tt, with_queue_settled q (with_state (with_marks q band (record { hiwat = hiwat; lowat = lowat })) v)))
 
 -- the water marks of a band of queue q
 abbrev pub strqget : ℕ → ℕ → QueuedBlocks → Given QueuedBlocks Marks
@@ -167,22 +167,22 @@ strqget q band v = if has_queue v q then Ok (marks_at v.queues q band, v) else E
 
 -- ---- scheduling
 
--- queue q is enabled, as `enabled` says
+-- queue q is enabled, as `with_enabled` says
 abbrev pub qenable : ℕ → QueuedBlocks → Given QueuedBlocks (Unit {0})
 qenable q v = if has_queue v q then Ok (tt, with_state (enabled_where true q) v) else Err NoSuchQueue
 
 -- Enabling of queue q is switched off or on. While it is off, only high priority in `putq` and `putbq`, `qenable` and
 -- settling enable the queue.
-abbrev pub switched : ℕ → Bool → QueuedBlocks → Given QueuedBlocks (Unit {0})
-switched q off v = if has_queue v q then Ok (tt, with_state (with_noenable q off) v) else Err NoSuchQueue
+abbrev pub switch_enabling : ℕ → Bool → QueuedBlocks → Given QueuedBlocks (Unit {0})
+switch_enabling q off v = if has_queue v q then Ok (tt, with_state (with_noenable q off) v) else Err NoSuchQueue
 
--- enabling of queue q is switched off, as `switched` says
+-- enabling of queue q is switched off, as `switch_enabling` says
 abbrev pub noenable : ℕ → QueuedBlocks → Given QueuedBlocks (Unit {0})
-noenable q v = switched q true v
+noenable q v = switch_enabling q true v
 
 -- enabling of queue q is switched on again
 abbrev pub enableok : ℕ → QueuedBlocks → Given QueuedBlocks (Unit {0})
-enableok q v = switched q false v
+enableok q v = switch_enabling q false v
 
 -- takes the first queue, if any, off the run list, and returns its number
 abbrev pub next_service : QueuedBlocks → Option ℕ × QueuedBlocks

@@ -35,7 +35,8 @@ pub record AreInOrder (v : QueuesValue) (a : Arena) : Type 0 where
   pub shelves : length a.shelves ≡ length v.state.specs
   pub stored : length v.tallies ≡ length v.state.specs
   pub ordered : (q : ℕ) → IsTrue (is_ordered (rank_of a.store) (shelf_at a q))
-  pub true_of : (q : ℕ) → q < length v.state.specs → IsTallyOf a.store (hiwat_of v.state q) (shelf_at a q) (tally_at v q)
+  pub true_of : (q : ℕ) → q < length v.state.specs
+      → IsTallyOf a.store (hiwat_of v.state q) (shelf_at a q) (tally_at v q)
 
 -- the stored bytes of each band of queue q are those of its messages
 abbrev pub AreCountsTrue : QueuesValue → Arena → ℕ → Type 0
@@ -58,5 +59,5 @@ abbrev pub opening_value : List QueueSpec → QueuesValue
 opening_value specs = record { state = opening_queues specs; tallies = map (λ q. no_tally) specs }
 
 -- the model's view of queues and message blocks together
-abbrev pub together : QueuesValue → Arena → QueuedBlocks
-together v a = record { queues = v.state; arena = a }
+abbrev pub queued_blocks : QueuesValue → Arena → QueuedBlocks
+queued_blocks v a = record { queues = v.state; arena = a }

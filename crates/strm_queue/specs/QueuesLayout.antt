@@ -1,12 +1,13 @@
 -- How `Queues` stores queues and the run list. No public clause cites this module.
-use Rattle.std.specs.Prelude.{◌≡◌, true, false, List, length, map}
+use Rattle.std.specs.Prelude.{◌≡◌, ◌<◌, ℕ, true, false, List, [], length, map, slice_index_or}
 use Rattle.std.specs.List.{All}
 use Rattle.strm_links.specs.Rows.{list_at}
 use Rattle.strm_queue.specs.declared.marks.Marks.{Marks}
 use Rattle.strm_queue.specs.declared.queue_spec.QueueSpec.{QueueSpec}
 use Rattle.strm_queue.specs.declared.queues.Queue.{Queue}
 use Rattle.strm_queue.specs.declared.queues.Queues.TheInside.{Inside}
-use Rattle.strm_queue.specs.Flow.{AreMarksApart, Flags, bands_where, opening_marks, spec_at}
+use Rattle.strm_queue.specs.Flow.{AreMarksApart, Flags, bands_where, opening_flags, opening_marks, spec_at}
+use Rattle.strm_queue.specs.Limits.{bands}
 use Rattle.strm_queue.specs.QueueSpecs.{are_lawful}
 use Rattle.strm_queue.specs.QueuedBlocks.{QueuesValue}
 use Rattle.strm_queue.specs.Tallies.{Tally, no_tally}
@@ -34,11 +35,16 @@ value_of a = record {
   tallies = map tally_in a.queues.items;
 }
 
--- The specs are lawful, and each low water mark is below its high one. The run list is the one list of its links, which
--- have a node for each queue. Each queue on it has a service procedure.
+-- Each of the first n queues has a wanted mark and water marks for each band. (It is unfolded in proofs/layout/Banded.antt alone.)
+unfoldable pub AreBanded : ℕ → List Flags → List (List Marks) → Type 0
+AreBanded n flags marks = (q : ℕ) → q < n → (length (slice_index_or flags q opening_flags).wanted ≡ bands) × (length (slice_index_or marks q []) ≡ bands)
+
+-- The specs are lawful, each queue has marks for each band, and each low water mark is below its high one. The run list is the
+-- one list of its links, which have a node for each queue. Each queue on it has a service procedure.
 pub record IsSound (a : Inside) : Type 0 where
   pub specs : are_lawful (value_of a).state.specs ≡ true
   pub apart : AreMarksApart (value_of a).state
+  pub banded : AreBanded (length a.queues.items) (value_of a).state.flags (value_of a).state.marks
   pub nodes : a.run.nodes ≡ length a.queues.items
   pub lists : length a.run.lists ≡ 1
   pub served : All (λ q. (spec_at (value_of a).state.specs q).service ≡ true) (value_of a).state.run

@@ -77,33 +77,33 @@ abbrev pub with_count : ℕ → ℕ → ℕ → Tally → Tally
 with_count hiwat band n t = record t { counts = slice_set t.counts band n; full = slice_set t.full band (fills hiwat n) }
 
 -- the full mark of a band is stored anew, by this high water mark
-abbrev pub recounted : ℕ → ℕ → Tally → Tally
-recounted hiwat band t = with_count hiwat band (count_of t band) t
+abbrev pub with_full_mark : ℕ → ℕ → Tally → Tally
+with_full_mark hiwat band t = with_count hiwat band (count_of t band) t
 
 -- these heads are stored as the first and the last message of a rank
 abbrev pub with_ends : ℕ → Option ℕ → Option ℕ → Tally → Tally
 with_ends r first last t = record t { firsts = slice_set t.firsts r first; lasts = slice_set t.lasts r last; used = slice_set t.used r (is_some first) }
 
 -- an end of a rank after a message joined it: the message, if the rank was empty or its end is beside; else the old end
-abbrev pub end_joined : Option ℕ → Option ℕ → ℕ → Option ℕ
-end_joined None beside head = Some head
-end_joined (Some at) beside head = if rows.is_some_of at beside then Some head else Some at
+abbrev pub end_after_joining : Option ℕ → Option ℕ → ℕ → Option ℕ
+end_after_joining None beside head = Some head
+end_after_joining (Some at) beside head = if rows.is_some_of at beside then Some head else Some at
 
 -- An end of a rank after a message left it. If the message was that end: the one beside, or none if it was the other end too.
 -- Else the old end.
-abbrev pub end_left : Option ℕ → Option ℕ → Option ℕ → ℕ → Option ℕ
-end_left end other beside head = if rows.is_some_of head end then (if rows.is_some_of head other then None else beside) else end
+abbrev pub end_after_leaving : Option ℕ → Option ℕ → Option ℕ → ℕ → Option ℕ
+end_after_leaving end other beside head = if rows.is_some_of head end then (if rows.is_some_of head other then None else beside) else end
 
 -- the tally once a message has joined whose band has this high water mark
 abbrev pub one_more : ℕ → Placed → Tally → Tally
 one_more hiwat p t =
-    with_ends p.rank (end_joined (first_in t p.rank) p.behind p.head) (end_joined (last_in t p.rank) p.ahead p.head)
+    with_ends p.rank (end_after_joining (first_in t p.rank) p.behind p.head) (end_after_joining (last_in t p.rank) p.ahead p.head)
     (with_count hiwat (band_of_rank p.rank) (count_of t (band_of_rank p.rank) + p.size) (record t { len = t.len + 1; bytes = t.bytes + p.size }))
 
 -- the tally once a message has left whose band has this high water mark
 abbrev pub one_less : ℕ → Placed → Tally → Tally
 one_less hiwat p t =
-    with_ends p.rank (end_left (first_in t p.rank) (last_in t p.rank) p.behind p.head) (end_left (last_in t p.rank) (first_in t p.rank) p.ahead p.head)
+    with_ends p.rank (end_after_leaving (first_in t p.rank) (last_in t p.rank) p.behind p.head) (end_after_leaving (last_in t p.rank) (first_in t p.rank) p.ahead p.head)
     (with_count hiwat (band_of_rank p.rank) (count_of t (band_of_rank p.rank) - p.size) (record t { len = t.len - 1; bytes = t.bytes - p.size }))
 
 -- ---- ranks that have messages

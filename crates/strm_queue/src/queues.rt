@@ -4,13 +4,13 @@ ghost use Rattle.std.specs.List.{All};
 ghost use Rattle.strm_links.specs.Rows as rows;
 ghost use Rattle.strm_mblk.specs.Arena.{shelf_at};
 ghost use Rattle.strm_mblk.specs.Shelves.{heads_at};
-ghost use Rattle.strm_queue.specs.Flow.{AreMarksApart, band_count, band_of_rank, bytes_on, every_band, hiwat_of, marks_at, spec_at};
-ghost use Rattle.strm_queue.specs.Limits.{most_queues, ranks};
+ghost use Rattle.strm_queue.specs.Flow.{AreMarksApart, band_count, band_of_rank, bytes_on, every_band, flags_at, hiwat_of, marks_at, marks_of, spec_at};
+ghost use Rattle.strm_queue.specs.Limits.{bands, most_queues, ranks};
 ghost use Rattle.strm_queue.specs.QueueSpecs.{are_lawful};
 ghost use Rattle.strm_queue.specs.QueuedBlocks.{Agrees, AreCountsTrue, AreMarksLawful, AreFullMarksTrue, opening_value, tally_at, with_tally};
 ghost use Rattle.strm_queue.specs.QueuesLayout.{new_queue};
 ghost use Rattle.strm_queue.specs.Rank.{is_ordered, rank_of};
-ghost use Rattle.strm_queue.specs.Tallies.{IsNumbered, count_of, one_less, one_more, recounted};
+ghost use Rattle.strm_queue.specs.Tallies.{IsNumbered, count_of, one_less, one_more, with_full_mark};
 
 mod asking;
 mod counts;
@@ -168,7 +168,7 @@ impl Queues {
     // Stores anew whether a band of a queue is full.
     fn recount(&mut self, queue: u8, band: u8)
         requires { queue < length self.old.state.specs }
-        ensures { self.new ≡ with_tally queue (recounted (hiwat_of self.old.state queue band)
+        ensures { self.new ≡ with_tally queue (with_full_mark (hiwat_of self.old.state queue band)
             band (tally_at self.old queue)) self.old }
     {
         let hiwat = self.hiwat(queue, band);
@@ -211,11 +211,15 @@ impl Queues {
     #[tactic(auto, using(crate::proofs::layout::Running::run_short))]
     pub fn lawful(&self, blocks: &Blocks)
         requires { Agrees self.now blocks.now }
-        // The specs are lawful, there are at most `MOST_QUEUES` queues, each has flags, and the run list is no longer than
-        // their number.
+        // The specs are lawful. There are at most `MOST_QUEUES` queues. Each has flags, with a wanted mark for each band, and
+        // water marks for each band. The run list is no longer than the number of queues.
         ensures specs { IsTrue (are_lawful self.now.state.specs) }
         ensures few { length self.now.state.specs ≤ most_queues }
         ensures flagged { length self.now.state.flags ≡ length self.now.state.specs }
+        ensures marked { length self.now.state.marks ≡ length self.now.state.specs }
+        ensures banded { (queue : ℕ) → queue < length self.now.state.specs
+            → (length (flags_at self.now.state queue).wanted ≡ bands)
+            × (length (marks_of self.now.state queue) ≡ bands) }
         ensures short { length self.now.state.run ≤ length self.now.state.specs }
         // Each queue is in priority order. Following `after` from the first head on its shelf gives the heads of its
         // messages, and following `before` from the last one gives them in reverse.

@@ -3,7 +3,7 @@ ghost use Rattle.std.specs.Prelude.{◌≡◌, ◌+◌, ◌-◌, ◌<◌, ◌≤
 ghost use Rattle.std.specs.Option.{ForSome, IfNone, IfSome};
 ghost use Rattle.strm_queue.specs.Flow.{band_of_rank, has_band};
 ghost use Rattle.strm_queue.specs.Limits.{ranks};
-ghost use Rattle.strm_queue.specs.Tallies.{IsNumbered, IsRankFrom, IsRankTo, count_of, end_joined, end_left, first_in, has_rank, last_in, no_tally, one_less, one_more, recounted, with_count, with_ends};
+ghost use Rattle.strm_queue.specs.Tallies.{IsNumbered, IsRankFrom, IsRankTo, count_of, end_after_joining, end_after_leaving, first_in, has_rank, last_in, no_tally, one_less, one_more, with_full_mark, with_count, with_ends};
 
 use crate::band_set::BandSet;
 use crate::limits::{BANDS, HIGH_RANK, RANKS};
@@ -157,8 +157,8 @@ impl Tally {
             behind,
         } = placed;
         let band = band_of(rank);
-        let first = end_joined(self.firsts[usize::from(rank)], behind, head);
-        let last = end_joined(self.lasts[usize::from(rank)], ahead, head);
+        let first = end_after_joining(self.firsts[usize::from(rank)], behind, head);
+        let last = end_after_joining(self.lasts[usize::from(rank)], ahead, head);
         self.len += 1;
         self.bytes += size;
         self.set_count(hiwat, band, self.count(band) + size);
@@ -184,8 +184,8 @@ impl Tally {
         let band = band_of(rank);
         let first = self.firsts[usize::from(rank)];
         let last = self.lasts[usize::from(rank)];
-        let next_first = end_left(first, last, behind, head);
-        let next_last = end_left(last, first, ahead, head);
+        let next_first = end_after_leaving(first, last, behind, head);
+        let next_last = end_after_leaving(last, first, ahead, head);
         self.len -= 1;
         self.bytes -= size;
         self.set_count(hiwat, band, self.count(band) - size);
@@ -194,7 +194,7 @@ impl Tally {
 
     // Sets or clears the full mark of a band whose high water mark is now `hiwat`.
     pub(crate) fn recount(&mut self, hiwat: u32, band: u8)
-        ensures { self.new ≡ recounted hiwat band self.old }
+        ensures { self.new ≡ with_full_mark hiwat band self.old }
     {
         self.set_count(hiwat, band, self.count(band));
     }
@@ -231,9 +231,9 @@ pub(crate) fn band_of(rank: u16) -> u8
 
 // An end of a rank after a message joined it: the new message if the rank was empty or its end is `beside`, else the old
 // end.
-fn end_joined(end: Slot, beside: Option<BlockNo>, head: BlockNo) -> Slot
+fn end_after_joining(end: Slot, beside: Option<BlockNo>, head: BlockNo) -> Slot
     requires { head < 2 ^ 32 - 1 }
-    ensures { result ≡ end_joined end beside head }
+    ensures { result ≡ end_after_joining end beside head }
 {
     match end.get() {
         Some(at) if beside != Some(at) => end,
@@ -243,10 +243,10 @@ fn end_joined(end: Slot, beside: Option<BlockNo>, head: BlockNo) -> Slot
 
 // An end of a rank after a message left it. If that message was the end: `beside`, or none if it was the rank's only
 // message. Otherwise: the old end.
-fn end_left(end: Slot, other: Slot, beside: Option<BlockNo>, head: BlockNo) -> Slot
+fn end_after_leaving(end: Slot, other: Slot, beside: Option<BlockNo>, head: BlockNo) -> Slot
     requires head { head < 2 ^ 32 - 1 }
     requires beside { ForSome beside (λ at. at < 2 ^ 32 - 1) }
-    ensures { result ≡ end_left end other beside head }
+    ensures { result ≡ end_after_leaving end other beside head }
 {
     if !end.is(head) {
         return end;

@@ -2,7 +2,7 @@
 //! tokens, and the destination has none. Functions that compile to long code are not inlined: otherwise every call would
 //! clear and save at its entry what they need.
 ghost use Rattle.strm_pool.specs.declared.call.Call.TheVariants as calls;
-ghost use Rattle.strm_pool.specs.Shapes.{Does, IsReady};
+ghost use Rattle.strm_pool.specs.Shapes.{AppliesAlone, IsReady};
 ghost use Rattle.strm_pool.specs.Step.{Applies};
 
 use crate::pool::Pool;
@@ -22,7 +22,7 @@ impl Pool {
     }
 
     pub(super) fn act_testb(&self, size: u32, reply: &mut Reply)
-        ensures { Does self.now (calls.Testb size) self.now reply.new }
+        ensures { AppliesAlone self.now (calls.Testb size) self.now reply.new }
     {
         reply.set_yes_or_no(self.testb(size));
     }
@@ -213,7 +213,7 @@ impl Pool {
     }
 
     pub(super) fn act_census(&self, reply: &mut Reply)
-        ensures { Does self.now calls.Census self.now reply.new }
+        ensures { AppliesAlone self.now calls.Census self.now reply.new }
     {
         *reply = Reply::Census(self.census());
     }

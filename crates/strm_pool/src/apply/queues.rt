@@ -1,6 +1,6 @@
 //! Calls on registers that are about queues; blocks.rt says when they are inlined.
 ghost use Rattle.strm_pool.specs.declared.call.Call.TheVariants as calls;
-ghost use Rattle.strm_pool.specs.Shapes.{Does, IsReady};
+ghost use Rattle.strm_pool.specs.Shapes.{AppliesAlone, IsReady};
 ghost use Rattle.strm_pool.specs.Step.{Applies};
 
 use crate::pool::Pool;
@@ -69,21 +69,21 @@ impl Pool {
 
     #[inline(never)]
     pub(super) fn act_flushq(&mut self, queue: u8, flush: Flush, reply: &mut Reply)
-        ensures { Does self.old (calls.Flushq queue flush) self.new reply.new }
+        ensures { AppliesAlone self.old (calls.Flushq queue flush) self.new reply.new }
     {
         reply.set_done(self.flushq(queue, flush));
     }
 
     #[inline(never)]
     pub(super) fn act_flushband(&mut self, queue: u8, band: u8, flush: Flush, reply: &mut Reply)
-        ensures { Does self.old (calls.Flushband queue band flush) self.new reply.new }
+        ensures { AppliesAlone self.old (calls.Flushband queue band flush) self.new reply.new }
     {
         reply.set_done(self.flushband(queue, band, flush));
     }
 
     #[inline(never)]
     pub(super) fn act_bcanput(&mut self, queue: u8, band: u8, reply: &mut Reply)
-        ensures { Does self.old (calls.Bcanput queue band) self.new reply.new }
+        ensures { AppliesAlone self.old (calls.Bcanput queue band) self.new reply.new }
     {
         reply.set_truth(self.bcanput(queue, band));
     }
@@ -97,46 +97,46 @@ impl Pool {
         lowat: u32,
         reply: &mut Reply,
     )
-        ensures { Does self.old (calls.Strqset queue band hiwat lowat) self.new reply.new }
+        ensures { AppliesAlone self.old (calls.Strqset queue band hiwat lowat) self.new reply.new }
     {
         reply.set_done(self.strqset(queue, band, hiwat, lowat));
     }
 
     #[inline(never)]
     pub(super) fn act_strqget(&self, queue: u8, band: u8, reply: &mut Reply)
-        ensures { Does self.now (calls.Strqget queue band) self.now reply.new }
+        ensures { AppliesAlone self.now (calls.Strqget queue band) self.now reply.new }
     {
         reply.set_marks(self.strqget(queue, band));
     }
 
     pub(super) fn act_qsize(&self, queue: u8, reply: &mut Reply)
-        ensures { Does self.now (calls.Qsize queue) self.now reply.new }
+        ensures { AppliesAlone self.now (calls.Qsize queue) self.now reply.new }
     {
         reply.set_size(self.qsize(queue));
     }
 
     #[inline(never)]
     pub(super) fn act_qenable(&mut self, queue: u8, reply: &mut Reply)
-        ensures { Does self.old (calls.Qenable queue) self.new reply.new }
+        ensures { AppliesAlone self.old (calls.Qenable queue) self.new reply.new }
     {
         reply.set_done(self.qenable(queue));
     }
 
     pub(super) fn act_noenable(&mut self, queue: u8, reply: &mut Reply)
-        ensures { Does self.old (calls.Noenable queue) self.new reply.new }
+        ensures { AppliesAlone self.old (calls.Noenable queue) self.new reply.new }
     {
         reply.set_done(self.noenable(queue));
     }
 
     pub(super) fn act_enableok(&mut self, queue: u8, reply: &mut Reply)
-        ensures { Does self.old (calls.Enableok queue) self.new reply.new }
+        ensures { AppliesAlone self.old (calls.Enableok queue) self.new reply.new }
     {
         reply.set_done(self.enableok(queue));
     }
 
     #[inline(never)]
     pub(super) fn act_service(&mut self, reply: &mut Reply)
-        ensures { Does self.old calls.Service self.new reply.new }
+        ensures { AppliesAlone self.old calls.Service self.new reply.new }
     {
         reply.set_queue(self.next_service());
     }

@@ -5,10 +5,10 @@ ghost use Rattle.strm_mblk.specs.Arena.{has, message_at};
 ghost use Rattle.strm_mblk.specs.Block.{bytes_of, data_size_of, size_of};
 ghost use Rattle.strm_mblk.specs.BlockCalls as blocks;
 ghost use Rattle.strm_mblk.specs.Calls.{Alters, Frees, Gives, Joins, Parts, Spends, Unlinks};
-ghost use Rattle.strm_mblk.specs.Given.{answer_of, done};
+ghost use Rattle.strm_mblk.specs.Given.{answer_of, given_nothing};
 ghost use Rattle.strm_mblk.specs.Trimming as trimming;
 ghost use Rattle.strm_pool.specs.Limits.{most_octets};
-ghost use Rattle.strm_pool.specs.PoolValue.{arena, drained, on_arena, spent, with_arena};
+ghost use Rattle.strm_pool.specs.PoolValue.{arena, with_tokens_spent, on_arena, with_token_spent, with_arena};
 
 use super::Pool;
 use crate::limits::MOST_OCTETS;
@@ -98,7 +98,7 @@ impl Pool {
     pub fn setband(&mut self, token: &Token, band: u8)
         requires { IsTrue (has self.old.arena token.now) }
         ensures { Alters arena token.now token.now (on_arena self.old
-            (done (blocks.setband token.now.head band self.old.arena))) self.old self.new (Ok tt) }
+            (given_nothing (blocks.setband token.now.head band self.old.arena))) self.old self.new (Ok tt) }
     {
         self.blocks.setband(token, band);
     }
@@ -205,7 +205,7 @@ impl Pool {
     /// Frees a message. A token that the pool does not have is spent, and nothing else changes. As [`Blocks::freemsg`] of
     /// strm_mblk.
     pub fn freemsg(&mut self, token: Token)
-        ensures { Spends arena token (spent self.old token) self.old self.new }
+        ensures { Spends arena token (with_token_spent self.old token) self.old self.new }
     {
         self.blocks.freemsg(token);
     }
@@ -224,7 +224,7 @@ impl Pool {
 
     // Frees the message of a register, if the register has one.
     fn free_any(&mut self, slot: Option<Token>)
-        ensures { self.new ≡ option_map_or (spent self.old) slot self.old }
+        ensures { self.new ≡ option_map_or (with_token_spent self.old) slot self.old }
     {
         if let Some(token) = slot {
             self.freemsg(token);
@@ -233,7 +233,7 @@ impl Pool {
 
     /// Frees the messages of the registers, a to z, as `freemsg` does, and spends the registers.
     pub fn drain(&mut self, regs: Regs)
-        ensures { self.new ≡ drained self.old regs }
+        ensures { self.new ≡ with_tokens_spent self.old regs }
     {
         for slot in regs.into_slots() {
             self.free_any(slot.into_token());

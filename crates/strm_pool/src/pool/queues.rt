@@ -3,7 +3,7 @@ ghost use Rattle.std.specs.Prelude.{Ok, ◌≡◌, IsTrue};
 ghost use Rattle.strm_mblk.specs.Arena.{has};
 ghost use Rattle.strm_mblk.specs.Calls.{Flushes, LeavesBlocks, Puts, Takes, TakesAny};
 ghost use Rattle.strm_mblk.specs.Given.{answer_of};
-ghost use Rattle.strm_pool.specs.PoolValue.{arena, on_queues, queued};
+ghost use Rattle.strm_pool.specs.PoolValue.{arena, on_queues, queued_blocks_of};
 ghost use Rattle.strm_queue.specs.QueueCalls as queues;
 
 use super::Pool;
@@ -16,7 +16,7 @@ impl Pool {
     /// [`Queues::putq`] of strm_queue.
     pub fn putq(&mut self, queue: u8, token: Token) -> Result<(), Rejected>
         requires { IsTrue (has self.old.arena token) }
-        ensures { Puts arena token (on_queues self.old (queues.putq queue token.head (queued self.old)))
+        ensures { Puts arena token (on_queues self.old (queues.putq queue token.head (queued_blocks_of self.old)))
             self.old self.new result }
     {
         self.queues.putq(&mut self.blocks, queue, token)
@@ -26,7 +26,7 @@ impl Pool {
     /// [`Queues::putbq`] of strm_queue.
     pub fn putbq(&mut self, queue: u8, token: Token) -> Result<(), Rejected>
         requires { IsTrue (has self.old.arena token) }
-        ensures { Puts arena token (on_queues self.old (queues.putbq queue token.head (queued self.old)))
+        ensures { Puts arena token (on_queues self.old (queues.putbq queue token.head (queued_blocks_of self.old)))
             self.old self.new result }
     {
         self.queues.putbq(&mut self.blocks, queue, token)
@@ -36,7 +36,7 @@ impl Pool {
     /// [`Queues::insq`] of strm_queue.
     pub fn insq(&mut self, queue: u8, place: u32, token: Token) -> Result<(), Rejected>
         requires { IsTrue (has self.old.arena token) }
-        ensures { Puts arena token (on_queues self.old (queues.insq queue place token.head (queued self.old)))
+        ensures { Puts arena token (on_queues self.old (queues.insq queue place token.head (queued_blocks_of self.old)))
             self.old self.new result }
     {
         self.queues.insq(&mut self.blocks, queue, place, token)
@@ -45,7 +45,8 @@ impl Pool {
     /// Removes the first message of a queue, if any, and returns its token. Refused as `NoSuchQueue`. As [`Queues::getq`]
     /// of strm_queue.
     pub fn getq(&mut self, queue: u8) -> Result<Option<Token>, Refusal>
-        ensures { TakesAny arena (on_queues self.old (queues.getq queue (queued self.old))) self.old self.new result }
+        ensures { TakesAny arena (on_queues self.old (queues.getq queue
+            (queued_blocks_of self.old))) self.old self.new result }
     {
         self.queues.getq(&mut self.blocks, queue)
     }
@@ -53,7 +54,7 @@ impl Pool {
     /// Removes the message at `place` of a queue, counted from 0, and returns its token. Refused as `NoSuchQueue`, then
     /// `NoSuchPlace`. As [`Queues::rmvq`] of strm_queue.
     pub fn rmvq(&mut self, queue: u8, place: u32) -> Result<Token, Refusal>
-        ensures { Takes arena (on_queues self.old (queues.rmvq queue place (queued self.old)))
+        ensures { Takes arena (on_queues self.old (queues.rmvq queue place (queued_blocks_of self.old)))
             self.old self.new result }
     {
         self.queues.rmvq(&mut self.blocks, queue, place)
@@ -61,7 +62,7 @@ impl Pool {
 
     /// Returns the number of messages on a queue. Refused as `NoSuchQueue`. As [`Queues::qsize`] of strm_queue.
     pub fn qsize(&self, queue: u8) -> Result<u32, Refusal>
-        ensures { result ≡ answer_of (queues.qsize queue (queued self.now)) }
+        ensures { result ≡ answer_of (queues.qsize queue (queued_blocks_of self.now)) }
     {
         self.queues.qsize(&self.blocks, queue)
     }
@@ -69,7 +70,7 @@ impl Pool {
     /// Frees messages of a queue: all, or only those that carry data. Refused as `NoSuchQueue`. As [`Queues::flushq`] of
     /// strm_queue.
     pub fn flushq(&mut self, queue: u8, flush: Flush) -> Result<(), Refusal>
-        ensures { Flushes arena (on_queues self.old (queues.flushq queue flush (queued self.old)))
+        ensures { Flushes arena (on_queues self.old (queues.flushq queue flush (queued_blocks_of self.old)))
             self.old self.new result }
     {
         self.queues.flushq(&mut self.blocks, queue, flush)
@@ -78,7 +79,7 @@ impl Pool {
     /// Frees messages of one band of a queue: all, or only those that carry data. Refused as `NoSuchQueue`. As
     /// [`Queues::flushband`] of strm_queue.
     pub fn flushband(&mut self, queue: u8, band: u8, flush: Flush) -> Result<(), Refusal>
-        ensures { Flushes arena (on_queues self.old (queues.flushband queue band flush (queued self.old)))
+        ensures { Flushes arena (on_queues self.old (queues.flushband queue band flush (queued_blocks_of self.old)))
             self.old self.new result }
     {
         self.queues.flushband(&mut self.blocks, queue, band, flush)
@@ -87,7 +88,7 @@ impl Pool {
     /// Says whether a band has room at the target of a queue; if not, the band is wanted there. Refused as `NoSuchQueue`.
     /// As [`Queues::bcanput`] of strm_queue.
     pub fn bcanput(&mut self, queue: u8, band: u8) -> Result<bool, Refusal>
-        ensures { LeavesBlocks arena (on_queues self.old (queues.bcanput queue band (queued self.old)))
+        ensures { LeavesBlocks arena (on_queues self.old (queues.bcanput queue band (queued_blocks_of self.old)))
             self.old self.new result }
     {
         self.queues.bcanput(&self.blocks, queue, band)
@@ -96,7 +97,8 @@ impl Pool {
     /// Sets both water marks of one band of a queue, in bytes. Refused as `NoSuchQueue`, then `BadMarks`. As
     /// [`Queues::strqset`] of strm_queue.
     pub fn strqset(&mut self, queue: u8, band: u8, hiwat: u32, lowat: u32) -> Result<(), Refusal>
-        ensures { LeavesBlocks arena (on_queues self.old (queues.strqset queue band hiwat lowat (queued self.old)))
+        ensures { LeavesBlocks arena (on_queues self.old
+            (queues.strqset queue band hiwat lowat (queued_blocks_of self.old)))
             self.old self.new result }
     {
         self.queues.strqset(&self.blocks, queue, band, hiwat, lowat)
@@ -104,7 +106,7 @@ impl Pool {
 
     /// Returns both water marks of one band of a queue. Refused as `NoSuchQueue`. As [`Queues::strqget`] of strm_queue.
     pub fn strqget(&self, queue: u8, band: u8) -> Result<Marks, Refusal>
-        ensures { result ≡ answer_of (queues.strqget queue band (queued self.now)) }
+        ensures { result ≡ answer_of (queues.strqget queue band (queued_blocks_of self.now)) }
     {
         self.queues.strqget(queue, band)
     }
@@ -112,7 +114,7 @@ impl Pool {
     /// Puts a queue at the end of the run list, unless it is on the list or has no service procedure. Refused as
     /// `NoSuchQueue`. As [`Queues::qenable`] of strm_queue.
     pub fn qenable(&mut self, queue: u8) -> Result<(), Refusal>
-        ensures { LeavesBlocks arena (on_queues self.old (queues.qenable queue (queued self.old)))
+        ensures { LeavesBlocks arena (on_queues self.old (queues.qenable queue (queued_blocks_of self.old)))
             self.old self.new result }
     {
         self.queues.qenable(queue)
@@ -120,7 +122,7 @@ impl Pool {
 
     /// Switches enabling of a queue off. Refused as `NoSuchQueue`. As [`Queues::noenable`] of strm_queue.
     pub fn noenable(&mut self, queue: u8) -> Result<(), Refusal>
-        ensures { LeavesBlocks arena (on_queues self.old (queues.noenable queue (queued self.old)))
+        ensures { LeavesBlocks arena (on_queues self.old (queues.noenable queue (queued_blocks_of self.old)))
             self.old self.new result }
     {
         self.queues.noenable(queue)
@@ -128,7 +130,7 @@ impl Pool {
 
     /// Switches enabling of a queue on again. Refused as `NoSuchQueue`. As [`Queues::enableok`] of strm_queue.
     pub fn enableok(&mut self, queue: u8) -> Result<(), Refusal>
-        ensures { LeavesBlocks arena (on_queues self.old (queues.enableok queue (queued self.old)))
+        ensures { LeavesBlocks arena (on_queues self.old (queues.enableok queue (queued_blocks_of self.old)))
             self.old self.new result }
     {
         self.queues.enableok(queue)
@@ -136,7 +138,7 @@ impl Pool {
 
     /// Takes the first queue, if any, off the run list, and returns its number. As [`Queues::next_service`] of strm_queue.
     pub fn next_service(&mut self) -> Option<u8>
-        ensures { LeavesBlocks arena (on_queues self.old (Ok (queues.next_service (queued self.old))))
+        ensures { LeavesBlocks arena (on_queues self.old (Ok (queues.next_service (queued_blocks_of self.old))))
             self.old self.new (Ok result) }
     {
         self.queues.next_service()
@@ -144,14 +146,14 @@ impl Pool {
 
     /// Returns the queue at a place of the run list, counted from 0, if any. As [`Queues::run_at`] of strm_queue.
     pub fn run_at(&self, place: u32) -> Option<u8>
-        ensures { result ≡ queues.run_at place (queued self.now) }
+        ensures { result ≡ queues.run_at place (queued_blocks_of self.now) }
     {
         self.queues.run_at(place)
     }
 
     /// Returns the messages, bytes and marks of a queue. Refused as `NoSuchQueue`. As [`Queues::queue_info`] of strm_queue.
     pub fn queue_info(&self, queue: u8) -> Result<QueueInfo, Refusal>
-        ensures { result ≡ answer_of (queues.queue_info queue (queued self.now)) }
+        ensures { result ≡ answer_of (queues.queue_info queue (queued_blocks_of self.now)) }
     {
         self.queues.queue_info(&self.blocks, queue)
     }
@@ -159,7 +161,7 @@ impl Pool {
     /// Returns the bytes and marks of one band of a queue. Refused as `NoSuchQueue`. As [`Queues::band_info`] of
     /// strm_queue.
     pub fn band_info(&self, queue: u8, band: u8) -> Result<BandInfo, Refusal>
-        ensures { result ≡ answer_of (queues.band_info queue band (queued self.now)) }
+        ensures { result ≡ answer_of (queues.band_info queue band (queued_blocks_of self.now)) }
     {
         self.queues.band_info(&self.blocks, queue, band)
     }

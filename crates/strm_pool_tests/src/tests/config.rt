@@ -110,6 +110,63 @@ const QUEUE_ROWS: [Row<'static>; 7] = [
     ),
 ];
 
+// The most classes, of the greatest sizes and with the most data blocks.
+const MOST_CLASSES: [(u32, u32); 8] = [
+    (4089, 1),
+    (4090, 1),
+    (4091, 1),
+    (4092, 1),
+    (4093, 1),
+    (4094, 1),
+    (4095, 1),
+    (4096, 16_376),
+];
+
+// The most queues, with the greatest water marks; each but the last has a next queue.
+const MOST_QUEUES: [(u32, u32, Option<u8>); 16] = [
+    (u32::MAX, u32::MAX - 1, Some(1)),
+    (u32::MAX, u32::MAX - 1, Some(2)),
+    (u32::MAX, u32::MAX - 1, Some(3)),
+    (u32::MAX, u32::MAX - 1, Some(4)),
+    (u32::MAX, u32::MAX - 1, Some(5)),
+    (u32::MAX, u32::MAX - 1, Some(6)),
+    (u32::MAX, u32::MAX - 1, Some(7)),
+    (u32::MAX, u32::MAX - 1, Some(8)),
+    (u32::MAX, u32::MAX - 1, Some(9)),
+    (u32::MAX, u32::MAX - 1, Some(10)),
+    (u32::MAX, u32::MAX - 1, Some(11)),
+    (u32::MAX, u32::MAX - 1, Some(12)),
+    (u32::MAX, u32::MAX - 1, Some(13)),
+    (u32::MAX, u32::MAX - 1, Some(14)),
+    (u32::MAX, u32::MAX - 1, Some(15)),
+    (u32::MAX, u32::MAX - 1, None),
+];
+
+// The most classes and the most data blocks, of few bytes.
+const SMALL_CLASSES: [(u32, u32); 8] = [
+    (1, 16_376),
+    (2, 1),
+    (3, 1),
+    (4, 1),
+    (5, 1),
+    (6, 1),
+    (7, 1),
+    (8, 1),
+];
+
+// The least of everything, and the most of each thing beside the least of the others.
+const LIMITS: [Row<'static>; 6] = [
+    (1, &[(1, 1)], &[(1, 0, None)], 0, 1, None),
+    (16_383, &[(1, 1)], &[(1, 0, None)], 0, 1, None),
+    (1, &SMALL_CLASSES, &[(1, 0, None)], 0, 1, None),
+    (1, &[(1, 1)], &MOST_QUEUES, 0, 1, None),
+    (1, &[(1, 1)], &[(1, 0, None)], 64, 1, None),
+    (1, &[(1, 1)], &[(1, 0, None)], 0, u32::MAX, None),
+];
+
+// The most of everything, with which a pool takes 69 MB.
+const MOST: [Row<'static>; 1] = [(16_383, &MOST_CLASSES, &MOST_QUEUES, 64, u32::MAX, None)];
+
 // The configuration has this first fault; if it has none, its pool opens.
 fn assert_fault(rt: &impl Abort, alloc: Global, config: Config, fault: Option<Which>) {
     let mblks = config.mblks;
@@ -123,10 +180,10 @@ fn assert_fault(rt: &impl Abort, alloc: Global, config: Config, fault: Option<Wh
     }
 }
 
-// The configuration of a row.
-fn config(rt: &impl Abort, row: &Row<'_>) -> Config {
+// The configuration of a row, with this id.
+fn config(rt: &impl Abort, row: &Row<'_>, id: u32) -> Config {
     Config {
-        id: 7,
+        id,
         mblks: row.0,
         classes: classes(rt, row.1),
         queues: queues(rt, row.2),
@@ -135,23 +192,35 @@ fn config(rt: &impl Abort, row: &Row<'_>) -> Config {
     }
 }
 
-fn assert_faults(rt: &impl Abort, alloc: Global, rows: &[Row<'_>]) {
+fn assert_faults(rt: &impl Abort, alloc: Global, rows: &[Row<'_>], id: u32) {
     for row in rows {
-        assert_fault(rt, alloc, config(rt, row), row.5);
+        assert_fault(rt, alloc, config(rt, row, id), row.5);
     }
 }
 
 #[test]
 fn answers_the_first_fault(rt: HostRuntime) {
-    assert_faults(&rt, rt.alloc(), &ROWS);
+    assert_faults(&rt, rt.alloc(), &ROWS, 7);
 }
 
 #[test]
 fn answers_faults_of_classes(rt: HostRuntime) {
-    assert_faults(&rt, rt.alloc(), &CLASS_ROWS);
+    assert_faults(&rt, rt.alloc(), &CLASS_ROWS, 7);
 }
 
 #[test]
 fn answers_faults_of_queues(rt: HostRuntime) {
-    assert_faults(&rt, rt.alloc(), &QUEUE_ROWS);
+    assert_faults(&rt, rt.alloc(), &QUEUE_ROWS, 7);
+}
+
+#[test]
+fn opens_at_each_limit(rt: HostRuntime) {
+    for id in [0, 1, u32::MAX] {
+        assert_faults(&rt, rt.alloc(), &LIMITS, id);
+    }
+}
+
+#[test]
+fn opens_the_most_of_everything(rt: HostRuntime) {
+    assert_faults(&rt, rt.alloc(), &MOST, u32::MAX);
 }

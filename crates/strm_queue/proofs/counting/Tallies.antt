@@ -10,7 +10,7 @@ use Rattle.strm_queue.specs.Flow.{band_count, band_of_rank, bytes_on, fills}
 use Rattle.strm_queue.specs.Limits.{bands, ranks}
 use Rattle.strm_queue.specs.declared.tally.Placed.{Placed}
 use Rattle.strm_queue.specs.Ends.{first_of_rank, last_of_rank, of_rank}
-use Rattle.strm_queue.specs.Tallies.{IsNumbered, IsTallyOf, Tally, count_of, end_joined, end_left, first_in, last_in, no_tally, one_less, one_more, recounted, with_count, with_ends}
+use Rattle.strm_queue.specs.Tallies.{IsNumbered, IsTallyOf, Tally, count_of, end_after_joining, end_after_leaving, first_in, last_in, no_tally, one_less, one_more, with_full_mark, with_count, with_ends}
 use Rattle.strm_queue.specs.Rank.{rank_of, is_ordered}
 use Rattle.strm_queue.proofs.Lists.{get_or-replicate_same}
 use Rattle.strm_queue.proofs.bands.Bands.{has_band_where, length-bands_where, length_every_band}
@@ -73,7 +73,7 @@ at_set f xs k v d x inside new old = grind (arith, common_steps)
 
 -- one band gets another high water mark, and its full mark is stored anew
 pub tally_recounted : (s : DataStore) (hiwat high : ℕ → ℕ) (ms : List Message) (t : Tally) → IsTallyOf s hiwat ms t → (band : ℕ) → band < bands → ((x : ℕ) → x ≢ band → high x ≡ hiwat x)
-    → IsTallyOf s high ms (recounted (high band) band t)
+    → IsTallyOf s high ms (with_full_mark (high band) band t)
 tally_recounted s hiwat high ms t is band within same = grind (arith, common_steps)
 
 -- one band gets another count, and one rank other ends
@@ -136,9 +136,9 @@ module _ (s : DataStore) (m : Message) where
           (t.bytes + size_of m) (omega (arith, is.bytes, bytes_on-left pre post m))
           its (count_of t its + size_of m) (band_of_rank_range (rank_of s m)) (omega (arith, is.counts its (band_of_rank_range (rank_of s m)), band_count-left s its pre post m, own))
           (λ x other. omega (arith, band_count-left s x pre post m, none x other))
-          (rank_of s m) (end_joined (last_in t (rank_of s m)) (last (heads pre)) (head_of m)) (end_joined (first_in t (rank_of s m)) (first (heads post)) (head_of m)) (omega (arith, placed.few, placed.rank))
-          (ap (λ o. end_joined o (first (heads post)) (head_of m)) (is.ends.firsts (rank_of s m)) ∙ first_joined (rank_of s) pre post m ordered apart)
-          (ap (λ o. end_joined o (last (heads pre)) (head_of m)) (is.ends.lasts (rank_of s m)) ∙ last_joined (rank_of s) pre post m ordered apart)
+          (rank_of s m) (end_after_joining (last_in t (rank_of s m)) (last (heads pre)) (head_of m)) (end_after_joining (first_in t (rank_of s m)) (first (heads post)) (head_of m)) (omega (arith, placed.few, placed.rank))
+          (ap (λ o. end_after_joining o (first (heads post)) (head_of m)) (is.ends.firsts (rank_of s m)) ∙ first_joined (rank_of s) pre post m ordered apart)
+          (ap (λ o. end_after_joining o (last (heads pre)) (head_of m)) (is.ends.lasts (rank_of s m)) ∙ last_joined (rank_of s) pre post m ordered apart)
           (λ x other. of_rank-other (rank_of s) x pre post m other))
 
       -- its bytes fit beside those of all
@@ -158,9 +158,9 @@ module _ (s : DataStore) (m : Message) where
           (t.bytes - size_of m) (omega (arith, is.bytes, bytes_on-left pre post m))
           its (count_of t its - size_of m) (band_of_rank_range (rank_of s m)) (omega (arith, is.counts its (band_of_rank_range (rank_of s m)), band_count-left s its pre post m, own))
           (λ x other. omega (arith, band_count-left s x pre post m, none x other))
-          (rank_of s m) (end_left (last_in t (rank_of s m)) (first_in t (rank_of s m)) (last (heads pre)) (head_of m)) (end_left (first_in t (rank_of s m)) (last_in t (rank_of s m)) (first (heads post)) (head_of m)) (omega (arith, placed.few, placed.rank))
-          ((λ i. end_left (is.ends.firsts (rank_of s m) i) (is.ends.lasts (rank_of s m) i) (first (heads post)) (head_of m)) ∙ first_left (rank_of s) pre post m ordered apart)
-          ((λ i. end_left (is.ends.lasts (rank_of s m) i) (is.ends.firsts (rank_of s m) i) (last (heads pre)) (head_of m)) ∙ last_left (rank_of s) pre post m ordered apart)
+          (rank_of s m) (end_after_leaving (last_in t (rank_of s m)) (first_in t (rank_of s m)) (last (heads pre)) (head_of m)) (end_after_leaving (first_in t (rank_of s m)) (last_in t (rank_of s m)) (first (heads post)) (head_of m)) (omega (arith, placed.few, placed.rank))
+          ((λ i. end_after_leaving (is.ends.firsts (rank_of s m) i) (is.ends.lasts (rank_of s m) i) (first (heads post)) (head_of m)) ∙ first_left (rank_of s) pre post m ordered apart)
+          ((λ i. end_after_leaving (is.ends.lasts (rank_of s m) i) (is.ends.firsts (rank_of s m) i) (last (heads pre)) (head_of m)) ∙ last_left (rank_of s) pre post m ordered apart)
           (λ x other. sym (of_rank-other (rank_of s) x pre post m other)))
 
       -- its bytes are among those of all

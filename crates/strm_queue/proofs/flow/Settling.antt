@@ -5,11 +5,11 @@ use Rattle.std.specs.Option.{option_map_or}
 use Rattle.std.proofs.lemmas.Bool.{cases_eq, cases_lt, false≢true, leb-false, not-true, cond-false, lt-leb}
 use Rattle.std.proofs.lemmas.Grind.{common_steps}
 use Rattle.strm_mblk.specs.Arena.{Arena, shelf_at}
-use Rattle.strm_queue.specs.Flow.{Flags, QueueState, band_count, enabled, every_band, fills, flags_at, has_band, has_drained, is_relieved, lowat_of, opening_flags, some_relieved, still_wanted, waker, with_flags, AreMarksApart, hiwat_of, with_wanted, with_marks}
+use Rattle.strm_queue.specs.Flow.{Flags, QueueState, band_count, with_enabled, every_band, fills, flags_at, has_band, has_drained, is_relieved, lowat_of, opening_flags, some_relieved, still_wanted, waker, with_flags, AreMarksApart, hiwat_of, with_wanted, with_marks}
 use Rattle.strm_queue.specs.Limits.{bands}
-use Rattle.strm_queue.specs.QueueCalls.{count_on, flags_left, has_relieved, settled, waker_enabled_where, strqset, with_state}
-use Rattle.strm_queue.specs.QueuedBlocks.{Agrees, AreInOrder, AreMarksLawful, QueuedBlocks, QueuesValue, together, tally_at, with_tally}
-use Rattle.strm_queue.specs.Tallies.{count_of, IsTallyOf, Tally, no_tally, recounted}
+use Rattle.strm_queue.specs.QueueCalls.{count_on, flags_left, has_relieved, with_queue_settled, waker_enabled_where, strqset, with_state}
+use Rattle.strm_queue.specs.QueuedBlocks.{Agrees, AreInOrder, AreMarksLawful, QueuedBlocks, QueuesValue, queued_blocks, tally_at, with_tally}
+use Rattle.strm_queue.specs.Tallies.{count_of, IsTallyOf, Tally, no_tally, with_full_mark}
 use Rattle.strm_queue.proofs.agreeing.Agreeing.{enabled_alone}
 use Rattle.strm_queue.proofs.bands.Bands.{bands_where-same, has_band_where, some_same, wanted_past}
 use Rattle.strm_queue.proofs.agreeing.Agreeing.{in_order_state}
@@ -23,7 +23,7 @@ module _ (so : Bool) (q : ℕ) (s : QueueState) where
   waker_alone : waker_enabled_where so q s ≡ record s { run = (waker_enabled_where so q s).run }
   waker_alone = by_cases so (waker s.specs q)
     where
-      by_cases : (so : Bool) (o : Option ℕ) → (let t : QueueState = if so then option_map_or (λ p. enabled p s) o s else s in t ≡ record s { run = t.run })
+      by_cases : (so : Bool) (o : Option ℕ) → (let t : QueueState = if so then option_map_or (λ p. with_enabled p s) o s else s in t ≡ record s { run = t.run })
       by_cases true None = refl
       by_cases true (Some p) = enabled_alone true p s
       by_cases false o = refl
@@ -52,7 +52,7 @@ alone v w is = is ∙ ap (λ (t : QueueState). record v { state = t }) (sym (ap 
 
 module _ (v : QueuesValue) (a : Arena) (q : ℕ) where
   abbrev both : QueuedBlocks
-  both = together v a
+  both = queued_blocks v a
 
   abbrev wanted : List Bool
   wanted = (flags_at v.state q).wanted
@@ -71,7 +71,7 @@ module _ (v : QueuesValue) (a : Arena) (q : ℕ) where
     relieved_same : (band : ℕ) → band < bands → relieved_by band ≡ is_relieved wanted (count_on both q) lowat band
     relieved_same band below = ap (λ n. has_band wanted band && has_drained (lowat band) n) ((in_order.true_of q within).counts band below)
 
-    pub settled_by : (so : Bool) → so ≡ some_relieved wanted (count_of (tally_at v q)) lowat → record both { queues = waker_enabled_where so q relieved_state } ≡ settled q both
+    pub settled_by : (so : Bool) → so ≡ some_relieved wanted (count_of (tally_at v q)) lowat → record both { queues = waker_enabled_where so q relieved_state } ≡ with_queue_settled q both
     settled_by so some =
         let so_is = some ∙ some_same relieved_by (is_relieved wanted (count_on both q) lowat) relieved_same in
         let left =
@@ -100,7 +100,7 @@ module _ (v : QueuesValue) (a : Arena) (q : ℕ) where
           | inr past ↦ absurd (false≢true (sym (wanted_past (λ band. has_band wanted band && not (is_relieved wanted (count_on both q) lowat band)) band past) ∙ marked))
         ])
 
-    pub settled_agrees : (s : QueueState) → AreInOrder v a → record both { queues = s } ≡ settled q both → Agrees (record v { state = s }) a
+    pub settled_agrees : (s : QueueState) → AreInOrder v a → record both { queues = s } ≡ with_queue_settled q both → Agrees (record v { state = s }) a
     settled_agrees s in_order is =
         let state = ap (λ (x : QueuedBlocks). x.queues) is in
         let alone = state ∙ waker_alone (has_relieved both q) q left in
@@ -127,7 +127,7 @@ module _ (v : QueuesValue) (a : Arena) (q band : ℕ) (m : Marks) where
   marked = with_marks q band m v.state
 
   abbrev tally : Tally
-  tally = recounted (hiwat_of marked q band) band (tally_at v q)
+  tally = with_full_mark (hiwat_of marked q band) band (tally_at v q)
 
   -- the queues with the new water marks and the new full mark
   abbrev pub with_recounted : QueuesValue
@@ -161,5 +161,5 @@ module _ (v : QueuesValue) (a : Arena) (q band : ℕ) (m : Marks) where
 
 -- `strqset` of a queue that exists, with a low water mark below the high one
 pub strqset_given : (v : QueuedBlocks) (q band hiwat lowat : ℕ) → nat_lt q (length v.queues.specs) ≡ true → lowat < hiwat
-    → strqset q band hiwat lowat v ≡ Ok (tt, settled q (with_state (with_marks q band (record { hiwat = hiwat; lowat = lowat })) v))
+    → strqset q band hiwat lowat v ≡ Ok (tt, with_queue_settled q (with_state (with_marks q band (record { hiwat = hiwat; lowat = lowat })) v))
 strqset_given v q band hiwat lowat there low = cond-false _ _ _ (ap not there) ∙ cond-false _ _ _ (lt-leb hiwat lowat low)

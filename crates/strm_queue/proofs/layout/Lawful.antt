@@ -8,7 +8,7 @@ use Rattle.strm_queue.specs.declared.marks.Marks.{Marks}
 use Rattle.strm_queue.specs.declared.queue_spec.QueueSpec.{QueueSpec}
 use Rattle.strm_queue.specs.Limits.{bands, most_queues}
 use Rattle.strm_queue.specs.QueueSpecs.{are_lawful, marks_meet, nexts_fit}
-use Rattle.strm_queue.specs.Flow.{AreMarksApart, QueueState, given_marks, lowat_of, marks_at, no_marks, no_spec, opening_marks, opening_queues, spec_at, with_marks}
+use Rattle.strm_queue.specs.Flow.{AreMarksApart, QueueState, spec_marks, lowat_of, marks_at, no_marks, no_spec, opening_marks, opening_queues, spec_at, with_marks}
 
 module _ (specs : List QueueSpec) (lawful : are_lawful specs ≡ true) where
   -- what follows the test that there is a queue
@@ -36,9 +36,9 @@ none_meet (s ∷ specs) none (suc q) within = none_meet specs (or_parts (nat_le 
 -- ---- the water marks of bands
 
 -- a new queue's bands have the water marks that it was made with
-opened_marks : (specs : List QueueSpec) (q band : ℕ) → q < length specs → band < bands → marks_at (opening_queues specs) q band ≡ given_marks (spec_at specs q)
+opened_marks : (specs : List QueueSpec) (q band : ℕ) → q < length specs → band < bands → marks_at (opening_queues specs) q band ≡ spec_marks (spec_at specs q)
 opened_marks specs q band within low =
-    ap (λ (ms : List Marks). get_or ms band no_marks) (get_or-map opening_marks specs q no_spec [] within) ∙ get_or-replicate bands band (given_marks (spec_at specs q)) no_marks low
+    ap (λ (ms : List Marks). get_or ms band no_marks) (get_or-map opening_marks specs q no_spec [] within) ∙ get_or-replicate bands band (spec_marks (spec_at specs q)) no_marks low
 
 -- so the low ones are below the high ones
 pub marks_below : (specs : List QueueSpec) → are_lawful specs ≡ true → AreMarksApart (opening_queues specs)

@@ -21,6 +21,7 @@ module _ (run : Rows) (parting : IsParting run) (lists : length run.lists ≡ 1)
   lawful_left a same lawful = record {
     specs = lawful.specs;
     apart = lawful.apart;
+    banded = lawful.banded;
     nodes = ap (λ (r : Rows). r.nodes) removed ∙ ap (λ (r : Rows). r.nodes) (sym same) ∙ lawful.nodes;
     lists = ap (λ (r : Rows). length r.lists) removed ∙ length-map run.lists (without n) ∙ lists;
     served = subst (All (λ q. (spec_at (value_of a).state.specs q).service ≡ true)) (sym run_left) (behind_first (λ q. (spec_at (value_of a).state.specs q).service ≡ true) (list_at 0 run) (subst (λ r. All (λ q. (spec_at (value_of a).state.specs q).service ≡ true) (list_at 0 r)) same lawful.served));

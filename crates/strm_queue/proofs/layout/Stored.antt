@@ -1,17 +1,20 @@
 -- Queues in memory, and what their model sees of them.
-use Rattle.std.proofs.Common.{◌≡◌, ℕ, ◌<◌, true, List, [], ◌∷◌, length, map, get_or, set, refl, sym, ap, ◌∙◌, arith}
-use Rattle.std.proofs.lemmas.Grind.{common_steps}
+use Rattle.std.proofs.Common.{◌≡◌, ℕ, ◌<◌, ◌≢◌, inl, inr, true, List, [], ◌∷◌, length, map, get_or, set, refl, sym, ap, ◌∙◌, subst, arith}
+use Rattle.std.proofs.lemmas.Grind.{common_steps, get_or-set_at}
 use Rattle.std.specs.Vec.{with_item}
-use Rattle.std.proofs.lemmas.List.{get_or-map, length-map, map-set, set-get_or}
+use Rattle.std.proofs.lemmas.Bool.{cases_eq}
+use Rattle.std.proofs.lemmas.List.{get_or-map, get_or-set_other, length-map, length-set, map-set, set-get_or}
 use Rattle.strm_queue.specs.declared.marks.Marks.{Marks}
 use Rattle.strm_queue.specs.declared.queue_spec.QueueSpec.{QueueSpec}
 use Rattle.strm_queue.specs.declared.queues.Queue.{Queue}
 use Rattle.strm_queue.specs.declared.queues.Queues.TheInside.{Inside}
 use Rattle.strm_queue.specs.Flow.{AreMarksApart, Flags, flags_at, marks_of, opening_flags, with_flags, with_marks}
+use Rattle.strm_queue.specs.Limits.{bands}
 use Rattle.strm_queue.specs.QueueSpecs.{are_lawful}
 use Rattle.strm_queue.specs.QueuedBlocks.{QueuesValue, opening_value, with_tally, tally_at}
 use Rattle.strm_queue.specs.Tallies.{Tally, no_tally}
-use Rattle.strm_queue.specs.QueuesLayout.{IsSound, flags_in, marks_in, new_queue, spec_in, tally_in, value_of}
+use Rattle.strm_queue.specs.QueuesLayout.{AreBanded, IsSound, flags_in, marks_in, new_queue, spec_in, tally_in, value_of}
+use Rattle.strm_queue.proofs.layout.Banded.{are_banded, banded_new, each_banded}
 use Rattle.strm_queue.proofs.layout.Lawful.{apart_with, marks_below}
 
 -- new queues
@@ -34,7 +37,7 @@ module _ (a : Inside) (specs : List QueueSpec) (queues : a.queues.items ≡ map 
   }
 
   pub lawful_made : are_lawful specs ≡ true → a.run.nodes ≡ length specs → length a.run.lists ≡ 1 → IsSound a
-  lawful_made lawful nodes lists = grind (arith, common_steps, made_specs, value_made, marks_below, length-map)
+  lawful_made lawful nodes lists = grind (arith, common_steps, made_specs, value_made, marks_below, banded_new, length-map)
 
 -- queue q is replaced by one with the same specification
 module _ (a : Inside) (q : ℕ) (x y : Queue) (is : x ≡ get_or a.queues.items q x) (spec : y.spec ≡ x.spec) where
@@ -46,21 +49,45 @@ module _ (a : Inside) (q : ℕ) (x y : Queue) (is : x ≡ get_or a.queues.items 
   stays f same =
       map-set f a.queues.items q y ∙ ap (set (map f a.queues.items) q) same ∙ sym (map-set f a.queues.items q x) ∙ ap (λ z. map f (set a.queues.items q z)) is ∙ ap (map f) (set-get_or a.queues.items q x)
 
-  -- the queues stay lawful if the water marks are
-  lawful_where : AreMarksApart (value_of changed).state → IsSound a → IsSound changed
-  lawful_where apart lawful = grind (arith, common_steps, stays)
+  -- what is true of a part of each queue stays true if it is of that part of the new one
+  each_changed : {X : Type 0} (f : Queue → X) (none : X) (P : X → Type 0) → (P (f x) → P (f y)) → ((p : ℕ) → p < length a.queues.items → P (get_or (map f a.queues.items) p none))
+      → (p : ℕ) → p < length a.queues.items → P (get_or (map f (set a.queues.items q y)) p none)
+  each_changed f none P new all p within =
+      subst P (ap (λ xs. get_or xs p none) (sym (map-set f a.queues.items q y))) (elim (cases_eq p q) [
+        | inl same ↦
+            subst P (sym (get_or-set_at (map f a.queues.items) q p (f y) none same (omega (arith, within, same, length-map a.queues.items f))))
+            (new (subst P (get_or-map f a.queues.items q x none (omega (arith, within, same)) ∙ ap f (sym is)) (all q (omega (arith, within, same)))))
+        | inr other ↦ subst P (sym (get_or-set_other (map f a.queues.items) q p (f y) none other)) (all p within)
+      ])
+
+  -- each queue has marks for each band if the old queue had, and the new one has as many
+  abbrev AreAllBanded : Inside → Type 0
+  AreAllBanded b = AreBanded (length b.queues.items) (value_of b).state.flags (value_of b).state.marks
+
+  banded_where : (length x.wanted ≡ bands → length y.wanted ≡ bands) → (length x.marks ≡ bands → length y.marks ≡ bands) → AreAllBanded a → AreAllBanded changed
+  banded_where wanted marks banded =
+      let each = each_banded (length a.queues.items) (value_of a).state.flags (value_of a).state.marks banded in
+      are_banded (length changed.queues.items) (value_of changed).state.flags (value_of changed).state.marks (λ p within.
+      let inside : p < length a.queues.items = omega (arith, within, length-set a.queues.items q y) in (
+        each_changed flags_in opening_flags (λ m. length m.wanted ≡ bands) wanted (λ k here. (each k here).0) p inside,
+        each_changed marks_in [] (λ ms. length ms ≡ bands) marks (λ k here. (each k here).1) p inside,
+      ))
+
+  -- the queues stay lawful if the marks are
+  lawful_where : AreMarksApart (value_of changed).state → AreAllBanded changed → IsSound a → IsSound changed
+  lawful_where apart banded lawful = grind (arith, common_steps, stays)
 
   -- with the same water marks
-  pub lawful_changed : y.marks ≡ x.marks → IsSound a → IsSound changed
-  lawful_changed marks lawful = grind (arith, common_steps, lawful_where, stays)
+  pub lawful_changed : y.marks ≡ x.marks → (length x.wanted ≡ bands → length y.wanted ≡ bands) → IsSound a → IsSound changed
+  lawful_changed marks wanted lawful = grind (arith, common_steps, lawful_where, banded_where, stays)
 
   -- with other water marks of one band
   module _ (band : ℕ) (m : Marks) (marks : y.marks ≡ set x.marks band m) where
     marks_are : q < length a.queues.items → (value_of changed).state.marks ≡ (with_marks q band m (value_of a).state).marks
     marks_are inside = grind (arith, common_steps, map-set, get_or-map)
 
-    pub lawful_marked : q < length a.queues.items → m.lowat < m.hiwat → IsSound a → IsSound changed
-    lawful_marked inside low lawful = grind (arith, common_steps, lawful_where, marks_are, apart_with, stays)
+    pub lawful_marked : q < length a.queues.items → m.lowat < m.hiwat → y.wanted ≡ x.wanted → IsSound a → IsSound changed
+    lawful_marked inside low wanted lawful = grind (arith, common_steps, lawful_where, banded_where, marks_are, apart_with, length-set, stays)
 
     pub value_marked : (v : QueuesValue) → value_of a ≡ v → (p : ℕ) → q ≡ p → q < length a.queues.items → tally_in y ≡ tally_in x → flags_in y ≡ flags_in x
         → value_of changed ≡ record v { state = with_marks p band m v.state }

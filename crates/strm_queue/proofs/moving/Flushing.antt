@@ -12,19 +12,19 @@ use Rattle.strm_data.specs.declared.msg_type.MsgType.{MsgType}
 use Rattle.strm_data.specs.DataStore.{DataBlock, DataStore, no_data_block, with_data_freed}
 use Rattle.strm_links.specs.Rows.{IsApart, after, first, has}
 use Rattle.strm_mblk.specs.declared.token.TokenValue.{TokenValue}
-use Rattle.strm_mblk.specs.Arena.{Arena, IsParted, names_of, shelf_at, shelved_blocks, token_of, with_held, with_shelf}
-use Rattle.strm_mblk.specs.Block.{Block, Message, head_of, is_naming, kind_of}
+use Rattle.strm_mblk.specs.Arena.{Arena, IsParted, references_to, shelf_at, shelved_blocks, token_of, with_held, with_shelf}
+use Rattle.strm_mblk.specs.Block.{Block, Message, head_of, uses_data, kind_of}
 use Rattle.strm_mblk.specs.Frame.{IsSameData, LeavesOthers}
 use Rattle.strm_mblk.specs.Calls.{Takes, itself}
-use Rattle.strm_mblk.specs.Freeing.{spent, with_block_freed, with_blocks_freed}
-use Rattle.strm_mblk.specs.Shelves.{head_block, heads_at, stands_on, unshelve}
+use Rattle.strm_mblk.specs.Freeing.{with_token_spent, with_block_freed, with_blocks_freed}
+use Rattle.strm_mblk.specs.Shelves.{head_block, heads_at, is_on, unshelve}
 use Rattle.strm_mblk.proofs.arena.Counts.{count_adds, shelf_moves}
 use Rattle.strm_queue.specs.declared.flush.Flush.{Flush}
 use Rattle.strm_queue.specs.declared.flush.Flush.TheVariants.{All as Every, Data}
 use Rattle.strm_queue.specs.Ends.{first_of_rank, of_rank}
 use Rattle.strm_queue.specs.Flow.{band_of_rank, is_of_band}
 use Rattle.strm_queue.specs.Limits.{bands}
-use Rattle.strm_queue.specs.Flushing.{from_band}
+use Rattle.strm_queue.specs.Flushing.{messages_from_band}
 use Rattle.strm_queue.specs.Rank.{is_ordered, rank_of}
 use Rattle.strm_queue.specs.Flush.{carries_data, is_flushed, is_picked, with_freed}
 use Rattle.strm_queue.specs.QueuedBlocks.{Agrees, AreMarksLawful, QueuesValue}
@@ -60,7 +60,7 @@ free-blocks false d s = refl
 -- freeing blocks changes neither the data blocks' contents nor the shelves
 pub freed_data : (bs : List Block) (a : Arena) → (with_blocks_freed bs a).store.blocks ≡ a.store.blocks
 freed_data [] a = refl
-freed_data (b ∷ bs) a = freed_data bs (with_block_freed b bs a) ∙ free-blocks (names_of a b.data_number + count_by (is_naming b.data_number) bs == 0) b.data_number a.store
+freed_data (b ∷ bs) a = freed_data bs (with_block_freed b bs a) ∙ free-blocks (references_to a b.data_number + count_by (uses_data b.data_number) bs == 0) b.data_number a.store
 
 pub freed_shelves : (bs : List Block) (a : Arena) → (with_blocks_freed bs a).shelves ≡ a.shelves
 freed_shelves [] a = refl
@@ -78,7 +78,7 @@ module _ (s t : DataStore) (same : t.blocks ≡ s.blocks) where
   flushed_same Data (b ∷ bs) = ap (λ (ds : List DataBlock). carries_data (get_or ds b.data_number no_data_block).kind) same
 
   -- and the messages of a band begin at the same message
-  pub from_band_same : (band : Option ℕ) (ms : List Message) → from_band t band ms ≡ from_band s band ms
+  pub from_band_same : (band : Option ℕ) (ms : List Message) → messages_from_band t band ms ≡ messages_from_band s band ms
   from_band_same None ms = refl
   from_band_same (Some band) [] = refl
   from_band_same (Some band) (m ∷ ms) = λ i. if band_of_rank (rank_of-same s t m (data_same m) i) == band then m ∷ ms else from_band_same (Some band) ms i
@@ -111,14 +111,14 @@ module _ (picked taken : Message → Bool) (m : Message) (ms rest : List Message
 
 module _ (s : DataStore) (flush : Flush) where
   -- a flush of a band passes over what is ahead of it
-  pub from_band_passed : (band : Option ℕ) (ms : List Message) → IsPassed (is_picked s band flush) (is_flushed s flush) ms (from_band s band ms)
+  pub from_band_passed : (band : Option ℕ) (ms : List Message) → IsPassed (is_picked s band flush) (is_flushed s flush) ms (messages_from_band s band ms)
   from_band_passed None [] = record { mid = []; is = refl; gone = refl; stay = refl; begins = tt }
   from_band_passed None (m ∷ ms) = record { mid = []; is = refl; gone = refl; stay = refl; begins = refl }
   from_band_passed (Some band) [] = record { mid = []; is = refl; gone = refl; stay = refl; begins = tt }
   from_band_passed (Some band) (m ∷ ms) = by_band (is_of_band s band m) refl (from_band_passed (Some band) ms)
     where
-      by_band : (here : Bool) → is_of_band s band m ≡ here → IsPassed (is_picked s (Some band) flush) (is_flushed s flush) ms (from_band s (Some band) ms)
-          → IsPassed (is_picked s (Some band) flush) (is_flushed s flush) (m ∷ ms) (if here then m ∷ ms else from_band s (Some band) ms)
+      by_band : (here : Bool) → is_of_band s band m ≡ here → IsPassed (is_picked s (Some band) flush) (is_flushed s flush) ms (messages_from_band s (Some band) ms)
+          → IsPassed (is_picked s (Some band) flush) (is_flushed s flush) (m ∷ ms) (if here then m ∷ ms else messages_from_band s (Some band) ms)
       by_band true here rest = record { mid = []; is = refl; gone = refl; stay = refl; begins = ap (λ b. b && is_flushed s flush m) here }
       by_band false other rest = passed_more _ _ m ms _ _ refl (ap (λ b. b && is_flushed s flush m) other) rest
 
@@ -129,17 +129,17 @@ module _ (s : DataStore) (band : ℕ) (low : band < bands) where
     of_band-rank n less = grind (arith, nat_tests)
 
     -- so the first message of the band is the first one of that rank
-    first_from_band : (ms : List Message) → list_all (λ y. nat_le (rank_of s y) r) ms ≡ true → first_of_rank (rank_of s) band ms ≡ first (heads (from_band s (Some band) ms))
+    first_from_band : (ms : List Message) → list_all (λ y. nat_le (rank_of s y) r) ms ≡ true → first_of_rank (rank_of s) band ms ≡ first (heads (messages_from_band s (Some band) ms))
     first_from_band [] all = refl
     first_from_band (y ∷ ys) all =
         by_rank (rank_of s y == band) (first_from_band ys parts.1)
-        ∙ ap (λ (here : Bool). first (heads (if here then y ∷ ys else from_band s (Some band) ys))) (sym (of_band-rank (rank_of s y) (leb-true (rank_of s y) r parts.0)))
+        ∙ ap (λ (here : Bool). first (heads (if here then y ∷ ys else messages_from_band s (Some band) ys))) (sym (of_band-rank (rank_of s y) (leb-true (rank_of s y) r parts.0)))
       where
         parts : (nat_le (rank_of s y) r ≡ true) × (list_all (λ x. nat_le (rank_of s x) r) ys ≡ true)
         parts = and_parts (nat_le (rank_of s y) r) _ all
 
-        by_rank : (here : Bool) → first_of_rank (rank_of s) band ys ≡ first (heads (from_band s (Some band) ys))
-            → first (heads (if here then y ∷ of_rank (rank_of s) band ys else of_rank (rank_of s) band ys)) ≡ first (heads (if here then y ∷ ys else from_band s (Some band) ys))
+        by_rank : (here : Bool) → first_of_rank (rank_of s) band ys ≡ first (heads (messages_from_band s (Some band) ys))
+            → first (heads (if here then y ∷ of_rank (rank_of s) band ys else of_rank (rank_of s) band ys)) ≡ first (heads (if here then y ∷ ys else messages_from_band s (Some band) ys))
         by_rank true rest = refl
         by_rank false rest = rest
 
@@ -148,13 +148,13 @@ module _ (s : DataStore) (band : ℕ) (low : band < bands) where
     behind = and_from (nat_le (rank_of s m) (rank_of s m)) _ (le-leb (rank_of s m) (rank_of s m) (omega arith)) (around (rank_of s) pre post m ordered).behind
 
     -- after a message of lower rank there is none of the band
-    pub from_band-past : rank_of s m < band → None ≡ first (heads (from_band s (Some band) (m ∷ post)))
+    pub from_band-past : rank_of s m < band → None ≡ first (heads (messages_from_band s (Some band) (m ∷ post)))
     from_band-past less =
         sym (ap (λ ms. first (heads ms)) (of_rank-refused (rank_of s) (λ n. nat_le n (rank_of s m)) band (m ∷ post) behind (lt-leb band (rank_of s m) less)))
         ∙ first_from_band (rank_of s m) other (m ∷ post) behind
 
     -- after any other message the band begins with the first message of its rank
-    pub from_band-first : band ≤ rank_of s m → first_of_rank (rank_of s) band (pre ++ m ∷ post) ≡ first (heads (from_band s (Some band) (m ∷ post)))
+    pub from_band-first : band ≤ rank_of s m → first_of_rank (rank_of s) band (pre ++ m ∷ post) ≡ first (heads (messages_from_band s (Some band) (m ∷ post)))
     from_band-first most =
         ap (λ ms. first (heads ms))
         (of_rank-append (rank_of s) band pre (m ∷ post)
@@ -168,25 +168,25 @@ module _ (s : DataStore) (band : ℕ) (low : band < bands) where
 
 -- freeing blocks after others is freeing all of them, once their message has left its shelf
 freed_behind : (bs m : List Block) (a : Arena) (shelves : List (List Message))
-    → ((d : ℕ) → names_of a d ≡ names_of (record a { shelves = shelves }) d + count_by (is_naming d) m)
+    → ((d : ℕ) → references_to a d ≡ references_to (record a { shelves = shelves }) d + count_by (uses_data d) m)
     → with_blocks_freed m (record (with_blocks_freed bs a) { shelves = shelves }) ≡ with_blocks_freed (bs ++ m) (record a { shelves = shelves })
 freed_behind [] m a shelves names = refl
 freed_behind (b ∷ bs) m a shelves names =
     freed_behind bs m (with_block_freed b bs a) shelves names
     ∙ ap (λ n. with_blocks_freed (bs ++ m) (record a { shelves = shelves; free = b.number ∷ a.free; store = if n == 0 then with_data_freed b.data_number a.store else a.store }))
-    (omega (arith, names b.data_number, (count_adds (is_naming b.data_number)).both bs m))
+    (omega (arith, names b.data_number, (count_adds (uses_data b.data_number)).both bs m))
 
 module _ (a : Arena) (q : ℕ) (within : q < length a.shelves) (pre post : List Message) (x : Message) where
   -- the references of a data block, without those of one message
-  names_less : (d : ℕ) → names_of (with_shelf q (pre ++ x ∷ post) a) d ≡ names_of (with_shelf q (pre ++ post) a) d + count_by (is_naming d) x
+  names_less : (d : ℕ) → references_to (with_shelf q (pre ++ x ∷ post) a) d ≡ references_to (with_shelf q (pre ++ post) a) d + count_by (uses_data d) x
   names_less d =
-      let adds = count_adds (is_naming d) in
+      let adds = count_adds (uses_data d) in
       omega (
         arith,
         shelf_moves adds a q (pre ++ x ∷ post) within,
         shelf_moves adds a q (pre ++ post) within,
-        ap (count_by (is_naming d)) (flat_map-append (λ (m : Message). m) pre (x ∷ post)),
-        ap (count_by (is_naming d)) (flat_map-append (λ (m : Message). m) pre post),
+        ap (count_by (uses_data d)) (flat_map-append (λ (m : Message). m) pre (x ∷ post)),
+        ap (count_by (uses_data d)) (flat_map-append (λ (m : Message). m) pre post),
         adds.both (flat_map (λ (m : Message). m) pre) (x ++ flat_map (λ (m : Message). m) post),
         adds.both x (flat_map (λ (m : Message). m) post),
         adds.both (flat_map (λ (m : Message). m) pre) (flat_map (λ (m : Message). m) post),
@@ -206,7 +206,7 @@ pub record IsSpent (a : Arena) (q h : ℕ) (b : Arena) : Type 0 where
   pub taken : Arena
   pub token : TokenValue
   pub takes : Takes itself (Ok (h, unshelve q h a)) a taken (Ok token)
-  pub spent_is : b ≡ spent taken token
+  pub spent_is : b ≡ with_token_spent taken token
 
 module _ (a : Arena) (q h : ℕ) (b : Arena) (spends : IsSpent a q h b) (pre post : List Message) (x : Message) (is : shelf_at a q ≡ pre ++ x ∷ post) (head : head_of x ≡ h) (apart : IsApart (heads_at a q)) where
   given : spends.token ≡ token_of spends.taken h
@@ -289,7 +289,7 @@ module _ (picked taken : Message → Bool) (old : Arena) (q : ℕ) (within : q <
       pub next_is : shelf_at now q ≡ filter stays walk.pre ++ next.at ∷ next.post
       next_is = flushing_is ∙ ap (λ ms. filter stays walk.pre ++ ms) next.is
 
-      pub next_there : stands_on now q h ≡ true
+      pub next_there : is_on now q h ≡ true
       next_there = ap (λ ms. has h (heads ms)) next_is ∙ at_there h (filter stays walk.pre) next.post next.at next.head
 
       module _ (apart : IsApart (heads_at now q)) where

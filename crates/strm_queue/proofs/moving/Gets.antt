@@ -14,13 +14,13 @@ use Rattle.strm_mblk.specs.Shelves.{heads_at, unshelve}
 use Rattle.strm_mblk.proofs.lists.ListParts.{drop_from}
 use Rattle.strm_mblk.proofs.arena.Stands.{heads_apart}
 use Rattle.strm_queue.specs.Flow.{with_read}
-use Rattle.strm_queue.specs.QueueCalls.{getq, got_at, got_first, rmvq, settled, with_got, with_state}
-use Rattle.strm_queue.specs.QueuedBlocks.{Agrees, AreMarksLawful, QueuedBlocks, QueuesValue, together}
+use Rattle.strm_queue.specs.QueueCalls.{getq, get_at, get_first, rmvq, with_queue_settled, with_got, with_state}
+use Rattle.strm_queue.specs.QueuedBlocks.{Agrees, AreMarksLawful, QueuedBlocks, QueuesValue, queued_blocks}
 use Rattle.strm_queue.proofs.shelf.OnShelf.{FirstParts, first_of, unshelved}
 
 module _ (v : QueuesValue) (a : Arena) (agrees : Agrees v a) (parted : IsParted a) (q : ℕ) (there : nat_lt q (length v.state.specs) ≡ true) (h : ℕ) where
   abbrev both : QueuedBlocks
-  both = together v a
+  both = queued_blocks v a
 
   -- the message with this head was taken off its queue
   pub record IsGot (w : QueuesValue) (b : Arena) : Type 0 where
@@ -31,7 +31,7 @@ module _ (v : QueuesValue) (a : Arena) (agrees : Agrees v a) (parted : IsParted 
     arena_is : b ≡ with_held m (with_shelf q (pre ++ post) a)
     arena_is = got.arena ∙ ap (λ n. unshelve q n a) (sym head) ∙ unshelved a q pre post m is (heads_apart a parted q)
 
-    got_together : together w b ≡ with_got q m (pre ++ post) both
+    got_together : queued_blocks w b ≡ with_got q m (pre ++ post) both
     got_together = λ i. record { queues = got.state i; arena = arena_is i }
 
   -- wanted marks of other queues stay lawful
@@ -45,14 +45,14 @@ module _ (v : QueuesValue) (a : Arena) (agrees : Agrees v a) (parted : IsParted 
     first_here = first_of h (shelf_at a q) some
 
     abbrev first_got : QueuedBlocks
-    first_got = with_state (with_read q false) (settled q (with_got q first_here.at first_here.post both))
+    first_got = with_state (with_read q false) (with_queue_settled q (with_got q first_here.at first_here.post both))
 
     pub getq_given : getq q both ≡ Ok (Some h, first_got)
-    getq_given = cond-true _ _ _ there ∙ ap (λ ms. got_first q ms both) first_here.is ∙ ap (λ n. Ok (Some n, first_got)) first_here.head
+    getq_given = cond-true _ _ _ there ∙ ap (λ ms. get_first q ms both) first_here.is ∙ ap (λ n. Ok (Some n, first_got)) first_here.head
 
     module _ (w : QueuesValue) (b : Arena) (got : IsGot w b) where
-      pub getq_after : with_state (with_read q false) (settled q (together w b)) ≡ value_after both (getq q both)
-      getq_after = ap (λ x. with_state (with_read q false) (settled q x)) (got_together [] first_here.post first_here.at first_here.is first_here.head w b got) ∙ sym (ap (value_after both) getq_given)
+      pub getq_after : with_state (with_read q false) (with_queue_settled q (queued_blocks w b)) ≡ value_after both (getq q both)
+      getq_after = ap (λ x. with_state (with_read q false) (with_queue_settled q x)) (got_together [] first_here.post first_here.at first_here.is first_here.head w b got) ∙ sym (ap (value_after both) getq_given)
 
   -- ---- one at a place
 
@@ -69,11 +69,11 @@ module _ (v : QueuesValue) (a : Arena) (agrees : Agrees v a) (parted : IsParted 
     parts_here = sym (take-append-drop k (shelf_at a q)) ∙ ap (λ ms. take k (shelf_at a q) ++ ms) (drop_from (shelf_at a q) k here.0 here.1.0)
 
     abbrev one_got : QueuedBlocks
-    one_got = settled q (with_got q here.0 (without_place k (shelf_at a q)) both)
+    one_got = with_queue_settled q (with_got q here.0 (without_place k (shelf_at a q)) both)
 
     pub rmvq_given : rmvq q k both ≡ Ok (h, one_got)
-    rmvq_given = cond-true _ _ _ there ∙ ap (λ o. got_at q k o both) here.1.0 ∙ ap (λ n. Ok (n, one_got)) here.1.1
+    rmvq_given = cond-true _ _ _ there ∙ ap (λ o. get_at q k o both) here.1.0 ∙ ap (λ n. Ok (n, one_got)) here.1.1
 
     module _ (w : QueuesValue) (b : Arena) (got : IsGot w b) where
-      pub rmvq_after : settled q (together w b) ≡ value_after both (rmvq q k both)
-      rmvq_after = ap (settled q) (got_together (take k (shelf_at a q)) (drop (k + 1) (shelf_at a q)) here.0 parts_here here.1.1 w b got) ∙ sym (ap (value_after both) rmvq_given)
+      pub rmvq_after : with_queue_settled q (queued_blocks w b) ≡ value_after both (rmvq q k both)
+      rmvq_after = ap (with_queue_settled q) (got_together (take k (shelf_at a q)) (drop (k + 1) (shelf_at a q)) here.0 parts_here here.1.1 w b got) ∙ sym (ap (value_after both) rmvq_given)

@@ -14,11 +14,11 @@ use Rattle.strm_mblk.specs.Shelves.{heads_at, shelve}
 use Rattle.strm_mblk.proofs.arena.Stands.{heads_apart}
 use Rattle.strm_queue.specs.Flow.{enabled_where, enables_inserted, enables_put, enables_put_back}
 use Rattle.strm_queue.specs.QueueCalls.{insq, flags_of, putbq, putq, rank_put, with_put, with_state}
-use Rattle.strm_queue.specs.QueuedBlocks.{QueuedBlocks, QueuesValue, together}
+use Rattle.strm_queue.specs.QueuedBlocks.{QueuedBlocks, QueuesValue, queued_blocks}
 use Rattle.strm_queue.specs.Rank.{as_queued, is_ordered, put_ahead, put_at, put_behind, rank_of}
 use Rattle.strm_queue.proofs.shelf.OnShelf.{first_at, heads, placed-between}
 use Rattle.std.specs.List.{All, flat_map}
-use Rattle.strm_mblk.specs.BlockCalls.{banded, setband}
+use Rattle.strm_mblk.specs.BlockCalls.{with_band, setband}
 use Rattle.strm_mblk.proofs.arena.Counts.{flat_map-set_adds, length_adds}
 use Rattle.strm_mblk.proofs.arena.Moves.{held_within}
 use Rattle.strm_queue.specs.Limits.{high_rank}
@@ -30,7 +30,7 @@ module _ (v : QueuesValue) (a : Arena) (q h : ℕ) (there : nat_lt q (length v.s
   m = as_queued a.store (message_at a h)
 
   abbrev both : QueuedBlocks
-  both = together v a
+  both = queued_blocks v a
 
   -- the queue has these messages, and is enabled if `so` is true
   abbrev put : Bool → List Message → QueuedBlocks
@@ -79,7 +79,7 @@ module _ (a : Arena) (q : ℕ) (before : Option ℕ) (h : ℕ) where
   shelved = with_shelf q (put_before_head head_of before (as_queued a.store (message_at a h)) (shelf_at a q)) (without_held h a)
 
   -- a high priority message gets band 0 first
-  pub shelve_high : (m : Message) → held_at a h ≡ Some m → as_queued a.store (message_at a h) ≡ banded 0 (message_at a h) → shelve q before h (setband h 0 a) ≡ shelved
+  pub shelve_high : (m : Message) → held_at a h ≡ Some m → as_queued a.store (message_at a h) ≡ with_band 0 (message_at a h) → shelve q before h (setband h 0 a) ≡ shelved
   shelve_high m held high = grind (arith, common_steps, held_within, set-set)
 
   -- any other message goes there unchanged

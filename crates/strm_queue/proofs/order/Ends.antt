@@ -13,7 +13,7 @@ use Rattle.strm_links.proofs.lists.OneList.{ApartParts, IsApart-parts, absent_pa
 use Rattle.strm_mblk.specs.Block.{Message, head_of}
 use Rattle.strm_queue.specs.Ends.{first_of_rank, last_of_rank, of_rank}
 use Rattle.strm_queue.specs.Rank.{is_ordered}
-use Rattle.strm_queue.specs.Tallies.{end_joined, end_left}
+use Rattle.strm_queue.specs.Tallies.{end_after_joining, end_after_leaving}
 use Rattle.strm_queue.proofs.shelf.OnShelf.{first_none, heads, last_none, last_of}
 use Rattle.strm_queue.proofs.order.Order.{around, ordered_last}
 
@@ -57,18 +57,18 @@ not_some k None other = refl
 not_some k (Some x) other = ne_eqb x k (λ same. other (ap Some same))
 
 -- a message that joins beside the end is the new end
-joined_beside : (n : ℕ) (next : Option ℕ) → end_joined next next n ≡ Some n
+joined_beside : (n : ℕ) (next : Option ℕ) → end_after_joining next next n ≡ Some n
 joined_beside n None = refl
 joined_beside n (Some h) = cond-true _ _ _ (eq-eqb h h refl)
 
 module _ (n : ℕ) (far next rest whole : Option ℕ) where
   -- the end once n has joined
-  joined_is : (near : Option ℕ) → IsEnd n near far next rest whole → end_joined rest next n ≡ whole
+  joined_is : (near : Option ℕ) → IsEnd n near far next rest whole → end_after_joining rest next n ≡ whole
   joined_is None e =
-      ap (λ o. end_joined o next n) e.rest_is
-      ∙ elim e.far_is [ inl none ↦ ap (λ o. end_joined o next n) none | inr beyond ↦ ap (λ o. end_joined o next n) beyond ∙ joined_beside n next ]
+      ap (λ o. end_after_joining o next n) e.rest_is
+      ∙ elim e.far_is [ inl none ↦ ap (λ o. end_after_joining o next n) none | inr beyond ↦ ap (λ o. end_after_joining o next n) beyond ∙ joined_beside n next ]
       ∙ sym e.whole_is
-  joined_is (Some h) e = ap (λ o. end_joined o next n) e.rest_is ∙ cond-false _ _ _ (not_some h next (e.apart h refl).0) ∙ sym e.whole_is
+  joined_is (Some h) e = ap (λ o. end_after_joining o next n) e.rest_is ∙ cond-false _ _ _ (not_some h next (e.apart h refl).0) ∙ sym e.whole_is
 
   -- if n is the end, no message is on the near side
   left_near : (near : Option ℕ) → IsEnd n near far next rest whole → whole ≡ Some n → near ≡ None
@@ -85,7 +85,7 @@ module _ (n : ℕ) (far next rest whole : Option ℕ) where
         ∙ elim far_is [ inl none ↦ absurd (none-some h (sym (to none))) | inr beyond ↦ sym beyond ]
 
     left_is : (near near_other : Option ℕ) → IsEnd n near far next rest whole → other ≡ option_or near_other (Some n) → ((h : ℕ) → near_other ≡ Some h → n ≢ h) → (far ≡ None → near_other ≡ None)
-        → (near_other ≡ None → far ≡ None) → end_left whole other next n ≡ rest
+        → (near_other ≡ None → far ≡ None) → end_after_leaving whole other next n ≡ rest
     left_is None near_other e is apart to from =
         cond-true _ _ _ (is_some_of-same n whole e.whole_is) ∙ left_alone near_other is apart to from e.far_is ∙ sym e.rest_is
     left_is (Some h) near_other e is apart to from =
@@ -244,15 +244,15 @@ module _ (rank : Message → ℕ) where
     none_behind = left_near (head_of m) _ _ _ _ _ last_end
 
     -- the ends of its rank once it has joined
-    pub first_joined : end_joined (first_of_rank rank (rank m) (pre ++ post)) (first (heads post)) (head_of m) ≡ first_of_rank rank (rank m) (pre ++ m ∷ post)
+    pub first_joined : end_after_joining (first_of_rank rank (rank m) (pre ++ post)) (first (heads post)) (head_of m) ≡ first_of_rank rank (rank m) (pre ++ m ∷ post)
     first_joined = joined_is (head_of m) _ _ _ _ _ first_end
 
-    pub last_joined : end_joined (last_of_rank rank (rank m) (pre ++ post)) (last (heads pre)) (head_of m) ≡ last_of_rank rank (rank m) (pre ++ m ∷ post)
+    pub last_joined : end_after_joining (last_of_rank rank (rank m) (pre ++ post)) (last (heads pre)) (head_of m) ≡ last_of_rank rank (rank m) (pre ++ m ∷ post)
     last_joined = joined_is (head_of m) _ _ _ _ _ last_end
 
     -- and once it has left
-    pub first_left : end_left (first_of_rank rank (rank m) (pre ++ m ∷ post)) (last_of_rank rank (rank m) (pre ++ m ∷ post)) (first (heads post)) (head_of m) ≡ first_of_rank rank (rank m) (pre ++ post)
+    pub first_left : end_after_leaving (first_of_rank rank (rank m) (pre ++ m ∷ post)) (last_of_rank rank (rank m) (pre ++ m ∷ post)) (first (heads post)) (head_of m) ≡ first_of_rank rank (rank m) (pre ++ post)
     first_left = grind (arith, common_steps, first_end, last_end, last_of_rank-none, first_of_rank-none)
 
-    pub last_left : end_left (last_of_rank rank (rank m) (pre ++ m ∷ post)) (first_of_rank rank (rank m) (pre ++ m ∷ post)) (last (heads pre)) (head_of m) ≡ last_of_rank rank (rank m) (pre ++ post)
+    pub last_left : end_after_leaving (last_of_rank rank (rank m) (pre ++ m ∷ post)) (first_of_rank rank (rank m) (pre ++ m ∷ post)) (last (heads pre)) (head_of m) ≡ last_of_rank rank (rank m) (pre ++ post)
     last_left = grind (arith, common_steps, last_end, first_end, first_of_rank-none, last_of_rank-none)

@@ -9,7 +9,7 @@ use Rattle.strm_links.specs.Rows.{IsApart, after, before, first, has, last}
 use Rattle.strm_mblk.specs.Arena.{Arena, IsParted, shelf_at}
 use Rattle.strm_mblk.specs.Block.{Message, head_of}
 use Rattle.strm_mblk.specs.Messages.{put_before_head}
-use Rattle.strm_mblk.specs.Shelves.{heads_at, stands_on}
+use Rattle.strm_mblk.specs.Shelves.{heads_at, is_on}
 use Rattle.strm_mblk.proofs.arena.Stands.{heads_apart}
 use Rattle.strm_queue.specs.Rank.{is_ordered, rank_of}
 use Rattle.strm_queue.proofs.shelf.OnShelf.{Parts, after-head, at_there, before-head, first_of, first_there, heads, last_none, last_of, parts_of, placed-between}
@@ -22,7 +22,7 @@ pub record IsParting (a : Arena) (q : ℕ) (o : Option ℕ) : Type 0 where
   pub is : shelf_at a q ≡ pre ++ post
   pub at : o ≡ first (heads post)
 
-pub parting : (a : Arena) (q : ℕ) (o : Option ℕ) → ForSome o (λ h. stands_on a q h ≡ true) → IsParting a q o
+pub parting : (a : Arena) (q : ℕ) (o : Option ℕ) → ForSome o (λ h. is_on a q h ≡ true) → IsParting a q o
 parting a q None there = record { pre = shelf_at a q; post = []; is = sym (append-nil (shelf_at a q)); at = refl }
 parting a q (Some h) there =
     let parts = parts_of h (shelf_at a q) (there h refl) in
@@ -70,21 +70,21 @@ pub first_asked : (a : Arena) (q r : ℕ) (o : Option ℕ) (answer : Bool) → (
 first_asked a q r o answer none some parting = grind (arith, common_steps)
 
 -- the last message ahead of a place is on the shelf
-pub last_there : (a : Arena) (q : ℕ) (pre post : List Message) → shelf_at a q ≡ pre ++ post → (h : ℕ) → last (heads pre) ≡ Some h → stands_on a q h ≡ true
+pub last_there : (a : Arena) (q : ℕ) (pre post : List Message) → shelf_at a q ≡ pre ++ post → (h : ℕ) → last (heads pre) ≡ Some h → is_on a q h ≡ true
 last_there a q pre post is h some =
     let found = last_of h pre some in
     ap (λ ms. has h (heads ms)) (is ∙ ap (λ ms. ms ++ post) found.is ∙ append_assoc found.pre (found.at ∷ []) post) ∙ at_there h found.pre post found.at found.head
 
 -- so are the neighbours of a message
-module _ (a : Arena) (parted : IsParted a) (q h : ℕ) (there : stands_on a q h ≡ true) (k : ℕ) where
+module _ (a : Arena) (parted : IsParted a) (q h : ℕ) (there : is_on a q h ≡ true) (k : ℕ) where
   abbrev parts : Parts h (shelf_at a q)
   parts = parts_of h (shelf_at a q) there
 
   apart : IsApart (heads (parts.pre ++ parts.at ∷ parts.post))
   apart = subst (λ ms. IsApart (heads ms)) parts.is (heads_apart a parted q)
 
-  pub ahead_there : before h (heads_at a q) ≡ Some k → stands_on a q k ≡ true
+  pub ahead_there : before h (heads_at a q) ≡ Some k → is_on a q k ≡ true
   ahead_there some = grind (arith, common_steps, last_there, before-head, apart, heads)
 
-  pub behind_there : after h (heads_at a q) ≡ Some k → stands_on a q k ≡ true
+  pub behind_there : after h (heads_at a q) ≡ Some k → is_on a q k ≡ true
   behind_there some = grind (arith, common_steps, append_assoc, heads, first_there, after-head, apart)

@@ -4,7 +4,7 @@ ghost use Rattle.strm_mblk.specs.Arena.{Arena};
 ghost use Rattle.strm_mblk.specs.Given.{answer_of};
 ghost use Rattle.strm_mblk.specs.Calls.{LeavesBlocks};
 ghost use Rattle.strm_queue.specs.QueueCalls as model;
-ghost use Rattle.strm_queue.specs.QueuedBlocks.{Agrees, together, arena};
+ghost use Rattle.strm_queue.specs.QueuedBlocks.{Agrees, queued_blocks, arena};
 
 use super::Queues;
 use crate::{BandInfo, QueueInfo};
@@ -15,7 +15,7 @@ impl Queues {
     /// Returns the number of messages on a queue. Refused as `NoSuchQueue`. Takes constant time.
     pub fn qsize(&self, blocks: &Blocks, queue: u8) -> Result<u32, Refusal>
         requires { Agrees self.now blocks.now }
-        ensures { result ≡ answer_of (model.qsize queue (together self.now blocks.now)) }
+        ensures { result ≡ answer_of (model.qsize queue (queued_blocks self.now blocks.now)) }
     {
         if !self.has_queue(queue) {
             return Err(Refusal::NoSuchQueue);
@@ -27,7 +27,7 @@ impl Queues {
     /// This project's own call.
     pub fn queue_info(&self, blocks: &Blocks, queue: u8) -> Result<QueueInfo, Refusal>
         requires { Agrees self.now blocks.now }
-        ensures { result ≡ answer_of (model.queue_info queue (together self.now blocks.now)) }
+        ensures { result ≡ answer_of (model.queue_info queue (queued_blocks self.now blocks.now)) }
     {
         if !self.has_queue(queue) {
             return Err(Refusal::NoSuchQueue);
@@ -45,7 +45,7 @@ impl Queues {
     /// `NoSuchQueue`. Takes constant time. This project's own call; STREAMS has `qband` structures.
     pub fn band_info(&self, blocks: &Blocks, queue: u8, band: u8) -> Result<BandInfo, Refusal>
         requires { Agrees self.now blocks.now }
-        ensures { result ≡ answer_of (model.band_info queue band (together self.now blocks.now)) }
+        ensures { result ≡ answer_of (model.band_info queue band (queued_blocks self.now blocks.now)) }
     {
         if !self.has_queue(queue) {
             return Err(Refusal::NoSuchQueue);
@@ -63,8 +63,8 @@ impl Queues {
     #[tactic(auto, using(strm_mblk::proofs::arena::Calls::leaves_blocks, crate::proofs::flow::Settling::agrees_wanted))]
     pub fn bcanput(&mut self, blocks: &Blocks, queue: u8, band: u8) -> Result<bool, Refusal>
         requires { Agrees self.old blocks.now }
-        ensures does { LeavesBlocks arena (model.bcanput queue band (together self.old blocks.now))
-            (together self.old blocks.now) (together self.new blocks.now) result }
+        ensures does { LeavesBlocks arena (model.bcanput queue band (queued_blocks self.old blocks.now))
+            (queued_blocks self.old blocks.now) (queued_blocks self.new blocks.now) result }
         ensures agrees { Agrees self.new blocks.now }
     {
         if !self.has_queue(queue) {
@@ -83,8 +83,8 @@ impl Queues {
     /// `NoSuchQueue`; then nothing changes. Takes constant time.
     #[tactic(auto, using(strm_mblk::proofs::arena::Calls::leaves_blocks))]
     pub fn qenable(&mut self, queue: u8) -> Result<(), Refusal>
-        ensures does { (a : Arena) → LeavesBlocks arena (model.qenable queue (together self.old a))
-            (together self.old a) (together self.new a) result }
+        ensures does { (a : Arena) → LeavesBlocks arena (model.qenable queue (queued_blocks self.old a))
+            (queued_blocks self.old a) (queued_blocks self.new a) result }
         ensures agrees { (a : Arena) → Agrees self.old a → Agrees self.new a }
     {
         if !self.has_queue(queue) {
@@ -97,8 +97,8 @@ impl Queues {
     /// Switches enabling off: now only a high priority message in `putq` or `putbq`, `qenable` and back-enabling enable the
     /// queue. Refused as `NoSuchQueue`; then nothing changes. Takes constant time.
     pub fn noenable(&mut self, queue: u8) -> Result<(), Refusal>
-        ensures does { (a : Arena) → LeavesBlocks arena (model.noenable queue (together self.old a))
-            (together self.old a) (together self.new a) result }
+        ensures does { (a : Arena) → LeavesBlocks arena (model.noenable queue (queued_blocks self.old a))
+            (queued_blocks self.old a) (queued_blocks self.new a) result }
         ensures agrees { (a : Arena) → Agrees self.old a → Agrees self.new a }
     {
         self.switch(queue, true)
@@ -107,8 +107,8 @@ impl Queues {
     /// Switches enabling on again, and enables nothing by itself. Refused as `NoSuchQueue`; then nothing changes. Takes
     /// constant time.
     pub fn enableok(&mut self, queue: u8) -> Result<(), Refusal>
-        ensures does { (a : Arena) → LeavesBlocks arena (model.enableok queue (together self.old a))
-            (together self.old a) (together self.new a) result }
+        ensures does { (a : Arena) → LeavesBlocks arena (model.enableok queue (queued_blocks self.old a))
+            (queued_blocks self.old a) (queued_blocks self.new a) result }
         ensures agrees { (a : Arena) → Agrees self.old a → Agrees self.new a }
     {
         self.switch(queue, false)
@@ -118,8 +118,8 @@ impl Queues {
     /// This project's own call: in STREAMS the scheduler does this.
     #[tactic(auto, using(strm_mblk::proofs::arena::Calls::leaves_blocks))]
     pub fn next_service(&mut self) -> Option<u8>
-        ensures does { (a : Arena) → LeavesBlocks arena (Ok (model.next_service (together self.old a)))
-            (together self.old a) (together self.new a) (Ok result) }
+        ensures does { (a : Arena) → LeavesBlocks arena (Ok (model.next_service (queued_blocks self.old a)))
+            (queued_blocks self.old a) (queued_blocks self.new a) (Ok result) }
         ensures agrees { (a : Arena) → Agrees self.old a → Agrees self.new a }
     {
         self.take_first()
@@ -129,7 +129,7 @@ impl Queues {
     /// `place` steps. This project's own call.
     #[tactic(auto, using(crate::proofs::layout::Running::run_within, crate::proofs::layout::Running::run_step))]
     pub fn run_at(&self, place: u32) -> Option<u8>
-        ensures { (arena : Arena) → result ≡ model.run_at place (together self.now arena) }
+        ensures { (arena : Arena) → result ≡ model.run_at place (queued_blocks self.now arena) }
     {
         self.made_lawful();
         self.run.parts_nodes();

@@ -3,7 +3,7 @@ ghost use Rattle.std.specs.Prelude.{◌≡◌, ◌<◌, drop, length};
 ghost use Rattle.std.specs.Option.{ForSome};
 ghost use Rattle.strm_links.specs.Rows as rows;
 ghost use Rattle.strm_queue.specs.Flow as flow;
-ghost use Rattle.strm_queue.specs.Flow.{enabled, enabled_where, flags_at};
+ghost use Rattle.strm_queue.specs.Flow.{with_enabled, enabled_where, flags_at};
 
 use super::Queues;
 use crate::limits::HIGH_RANK;
@@ -75,7 +75,7 @@ impl Queues {
     // Puts a queue at the end of the run list, unless it is on the list or has no service procedure. Takes constant time.
     pub(super) fn enable(&mut self, queue: u8)
         requires { queue < length self.old.state.specs }
-        ensures { self.new ≡ record self.old { state = enabled queue self.old.state } }
+        ensures { self.new ≡ record self.old { state = with_enabled queue self.old.state } }
     {
         if self.spec(queue).service && !self.is_enabled(queue) {
             self.run.push_back(0, u32::from(queue));

@@ -3,9 +3,9 @@ ghost use Rattle.std.specs.Prelude.{◌≡◌, ◌<◌, length};
 ghost use Rattle.strm_mblk.specs.Calls.{LeavesBlocks};
 ghost use Rattle.strm_queue.specs.Flow.{flags_at, has_band, lowat_of, some_relieved, still_wanted, with_flags, with_noenable, with_read, with_wanted};
 ghost use Rattle.strm_mblk.specs.Arena.{Arena};
-ghost use Rattle.strm_queue.specs.QueueCalls.{switched};
+ghost use Rattle.strm_queue.specs.QueueCalls.{switch_enabling};
 ghost use Rattle.strm_queue.specs.Tallies.{count_of};
-ghost use Rattle.strm_queue.specs.QueuedBlocks.{Agrees, tally_at, together, arena};
+ghost use Rattle.strm_queue.specs.QueuedBlocks.{Agrees, tally_at, queued_blocks, arena};
 
 use super::{Queue, Queues};
 use strm_data::Refusal;
@@ -54,8 +54,9 @@ impl Queues {
     // Switches enabling off or on. Refused as `NoSuchQueue`.
     #[tactic(auto, using(strm_mblk::proofs::arena::Calls::leaves_blocks))]
     pub(super) fn switch(&mut self, queue: u8, off: bool) -> Result<(), Refusal>
-        ensures does { (a : Arena) → LeavesBlocks arena (switched queue off (together self.old a)) (together self.old a)
-            (together self.new a) result }
+        ensures does { (a : Arena) → LeavesBlocks arena (switch_enabling queue off (queued_blocks self.old a))
+            (queued_blocks self.old a)
+            (queued_blocks self.new a) result }
         ensures agrees { (a : Arena) → Agrees self.old a → Agrees self.new a }
     {
         if !self.has_queue(queue) {

@@ -4,12 +4,12 @@ ghost use Rattle.std.specs.Option.{ForSome};
 ghost use Rattle.strm_links.specs.Rows as rows;
 ghost use Rattle.strm_mblk.specs.Arena.{shelf_at, with_shelf};
 ghost use Rattle.strm_mblk.specs.Block.{Message, head_of};
-ghost use Rattle.strm_mblk.specs.Shelves.{shelf_of, stands_on};
+ghost use Rattle.strm_mblk.specs.Shelves.{shelf_of, is_on};
 ghost use Rattle.strm_mblk.specs.Calls.{Flushes};
 ghost use Rattle.strm_queue.specs.Flush.{carries_data, is_flushed, is_picked, with_freed};
-ghost use Rattle.strm_queue.specs.Flushing.{from_band};
+ghost use Rattle.strm_queue.specs.Flushing.{messages_from_band};
 ghost use Rattle.strm_queue.specs.QueueCalls as model;
-ghost use Rattle.strm_queue.specs.QueuedBlocks.{Agrees, AreInOrder, together, arena};
+ghost use Rattle.strm_queue.specs.QueuedBlocks.{Agrees, AreInOrder, queued_blocks, arena};
 
 use super::Queues;
 use super::places::queued_rank;
@@ -51,8 +51,8 @@ impl Queues {
     /// and those to settle.
     pub fn flushq(&mut self, blocks: &mut Blocks, queue: u8, flush: Flush) -> Result<(), Refusal>
         requires { Agrees self.old blocks.old }
-        ensures does { Flushes arena (model.flushq queue flush (together self.old blocks.old))
-            (together self.old blocks.old) (together self.new blocks.new) result }
+        ensures does { Flushes arena (model.flushq queue flush (queued_blocks self.old blocks.old))
+            (queued_blocks self.old blocks.old) (queued_blocks self.new blocks.new) result }
         ensures agrees { Agrees self.new blocks.new }
     {
         self.flush_band(blocks, queue, None, flush)
@@ -72,8 +72,8 @@ impl Queues {
         flush: Flush,
     ) -> Result<(), Refusal>
         requires { Agrees self.old blocks.old }
-        ensures does { Flushes arena (model.flushband queue band flush (together self.old blocks.old))
-            (together self.old blocks.old) (together self.new blocks.new) result }
+        ensures does { Flushes arena (model.flushband queue band flush (queued_blocks self.old blocks.old))
+            (queued_blocks self.old blocks.old) (queued_blocks self.new blocks.new) result }
         ensures agrees { Agrees self.new blocks.new }
     {
         self.flush_band(blocks, queue, Some(band), flush)
@@ -89,8 +89,8 @@ impl Queues {
         flush: Flush,
     ) -> Result<(), Refusal>
         requires { Agrees self.old blocks.old }
-        ensures does { Flushes arena (model.flushed queue band flush (together self.old blocks.old))
-            (together self.old blocks.old) (together self.new blocks.new) result }
+        ensures does { Flushes arena (model.flush_messages queue band flush (queued_blocks self.old blocks.old))
+            (queued_blocks self.old blocks.old) (queued_blocks self.new blocks.new) result }
         ensures agrees { Agrees self.new blocks.new }
     {
         if !self.has_queue(queue) {
@@ -112,10 +112,10 @@ impl Queues {
     ) -> Option<BlockNo>
         requires queue { queue < length self.now.state.specs }
         requires in_order { AreInOrder self.now blocks.now }
-        requires at { ForSome at (λ head. IsTrue (stands_on blocks.now queue head)) }
+        requires at { ForSome at (λ head. IsTrue (is_on blocks.now queue head)) }
         ensures { (pre post : List Message) → shelf_at blocks.now queue ≡ pre ++ post
             → at ≡ rows.first (map head_of post)
-            → result ≡ rows.first (map head_of (from_band blocks.now.store band post)) }
+            → result ≡ rows.first (map head_of (messages_from_band blocks.now.store band post)) }
     {
         let (Some(band), Some(head)) = (band, at) else {
             return at;

@@ -2,7 +2,7 @@
 ghost use Rattle.std.specs.Prelude.{None};
 ghost use Rattle.strm_mblk.specs.Calls.{Takes, TakesAny};
 ghost use Rattle.strm_queue.specs.QueueCalls as model;
-ghost use Rattle.strm_queue.specs.QueuedBlocks.{Agrees, together, arena};
+ghost use Rattle.strm_queue.specs.QueuedBlocks.{Agrees, queued_blocks, arena};
 
 use super::Queues;
 use super::places::head_at;
@@ -22,8 +22,9 @@ impl Queues {
     #[tactic(auto, using(strm_mblk::proofs::arena::Calls::takes_any_none))]
     pub fn getq(&mut self, blocks: &mut Blocks, queue: u8) -> Result<Option<Token>, Refusal>
         requires { Agrees self.old blocks.old }
-        ensures does { TakesAny arena (model.getq queue (together self.old blocks.old)) (together self.old blocks.old)
-            (together self.new blocks.new) result }
+        ensures does { TakesAny arena (model.getq queue (queued_blocks self.old blocks.old))
+            (queued_blocks self.old blocks.old)
+            (queued_blocks self.new blocks.new) result }
         ensures agrees { Agrees self.new blocks.new }
     {
         blocks.lawful();
@@ -48,8 +49,8 @@ impl Queues {
     #[tactic(auto, using(strm_mblk::proofs::arena::Calls::takes_none))]
     pub fn rmvq(&mut self, blocks: &mut Blocks, queue: u8, place: u32) -> Result<Token, Refusal>
         requires { Agrees self.old blocks.old }
-        ensures does { Takes arena (model.rmvq queue place (together self.old blocks.old))
-            (together self.old blocks.old) (together self.new blocks.new) result }
+        ensures does { Takes arena (model.rmvq queue place (queued_blocks self.old blocks.old))
+            (queued_blocks self.old blocks.old) (queued_blocks self.new blocks.new) result }
         ensures agrees { Agrees self.new blocks.new }
     {
         blocks.lawful();

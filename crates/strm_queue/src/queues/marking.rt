@@ -5,7 +5,7 @@ ghost use Rattle.strm_mblk.specs.Given.{answer_of};
 ghost use Rattle.strm_mblk.specs.Calls.{LeavesBlocks};
 ghost use Rattle.strm_queue.specs.Flow.{with_marks};
 ghost use Rattle.strm_queue.specs.QueueCalls as model;
-ghost use Rattle.strm_queue.specs.QueuedBlocks.{Agrees, together, arena};
+ghost use Rattle.strm_queue.specs.QueuedBlocks.{Agrees, queued_blocks, arena};
 
 use super::Queues;
 use crate::marks::Marks;
@@ -33,8 +33,8 @@ impl Queues {
         lowat: u32,
     ) -> Result<(), Refusal>
         requires { Agrees self.old blocks.now }
-        ensures does { LeavesBlocks arena (model.strqset queue band hiwat lowat (together self.old blocks.now))
-            (together self.old blocks.now) (together self.new blocks.now) result }
+        ensures does { LeavesBlocks arena (model.strqset queue band hiwat lowat (queued_blocks self.old blocks.now))
+            (queued_blocks self.old blocks.now) (queued_blocks self.new blocks.now) result }
         ensures agrees { Agrees self.new blocks.now }
     {
         if !self.has_queue(queue) {
@@ -53,7 +53,7 @@ impl Queues {
     /// `NoSuchQueue`. Takes constant time. STREAMS' `strqget` returns one of many fields; this returns both water marks,
     /// and no others.
     pub fn strqget(&self, queue: u8, band: u8) -> Result<Marks, Refusal>
-        ensures { (arena : Arena) → result ≡ answer_of (model.strqget queue band (together self.now arena)) }
+        ensures { (arena : Arena) → result ≡ answer_of (model.strqget queue band (queued_blocks self.now arena)) }
     {
         if !self.has_queue(queue) {
             return Err(Refusal::NoSuchQueue);

@@ -5,9 +5,9 @@ ghost use Rattle.strm_data.specs.MsgType.{is_high_priority};
 ghost use Rattle.strm_links.specs.Rows as rows;
 ghost use Rattle.strm_mblk.specs.Arena.{has, message_at, shelf_at};
 ghost use Rattle.strm_mblk.specs.Block.{Message, head_of};
-ghost use Rattle.strm_mblk.specs.BlockCalls.{banded};
+ghost use Rattle.strm_mblk.specs.BlockCalls.{with_band};
 ghost use Rattle.strm_mblk.specs.Messages.{put_before_head};
-ghost use Rattle.strm_mblk.specs.Shelves.{heads_at, shelf_of, stands_on};
+ghost use Rattle.strm_mblk.specs.Shelves.{heads_at, shelf_of, is_on};
 ghost use Rattle.strm_queue.specs.Limits.{high_rank, ranks};
 ghost use Rattle.strm_queue.specs.QueuedBlocks.{AreInOrder};
 ghost use Rattle.strm_queue.specs.Rank.{as_queued, is_ordered, put_ahead, put_behind, rank_of};
@@ -36,7 +36,7 @@ pub(super) fn held_rank(blocks: &Blocks, token: &Token) -> u16
     ensures value { result ≡ rank_of blocks.now.store (message_at blocks.now token.now.head) }
     ensures few { result < ranks }
     ensures high { let m = message_at blocks.now token.now.head in result ≡ high_rank
-        → as_queued blocks.now.store m ≡ banded 0 m }
+        → as_queued blocks.now.store m ≡ with_band 0 m }
 {
     match blocks.block(token, 0) {
         Ok(first) => rank(first.kind, first.band),
@@ -61,7 +61,7 @@ pub(super) fn queued_rank(blocks: &Blocks, head: BlockNo) -> u16
 pub(super) fn head_at(blocks: &Blocks, queue: u8, place: u32) -> Option<BlockNo>
     requires { queue < length blocks.now.shelves }
     ensures value { result ≡ slice_get (heads_at blocks.now queue) place }
-    ensures there { ForSome result (λ head. IsTrue (stands_on blocks.now queue head)) }
+    ensures there { ForSome result (λ head. IsTrue (is_on blocks.now queue head)) }
 {
     blocks.lawful();
     let mut at = blocks.first(queue);
@@ -88,7 +88,7 @@ fn is_at_most(blocks: &Blocks, at: Option<BlockNo>, rank: u16) -> bool
 // The head of the message just before this one, or of the last message if none is given.
 pub(super) fn ahead_of(blocks: &Blocks, queue: u8, before: Option<BlockNo>) -> Option<BlockNo>
     requires queue { queue < length blocks.now.shelves }
-    requires before { ForSome before (λ head. IsTrue (stands_on blocks.now queue head)) }
+    requires before { ForSome before (λ head. IsTrue (is_on blocks.now queue head)) }
     ensures { (pre post : List Message) → shelf_at blocks.now queue ≡ pre ++ post
         → before ≡ rows.first (map head_of post)
         → result ≡ rows.last (map head_of pre) }
@@ -104,10 +104,11 @@ pub(super) fn ahead_of(blocks: &Blocks, queue: u8, before: Option<BlockNo>) -> O
 // given.
 pub(super) fn fits_before(blocks: &Blocks, queue: u8, before: Option<BlockNo>, rank: u16) -> bool
     requires queue { queue < length blocks.now.shelves }
-    requires before { ForSome before (λ head. IsTrue (stands_on blocks.now queue head)) }
+    requires before { ForSome before (λ head. IsTrue (is_on blocks.now queue head)) }
     requires ordered { IsTrue (is_ordered (rank_of blocks.now.store) (shelf_at blocks.now queue)) }
     ensures { (m : Message) → rank_of blocks.now.store m ≡ rank
-        → result ≡ is_ordered (rank_of blocks.now.store) (put_before_head head_of before m (shelf_at blocks.now queue)) }
+        → result ≡ is_ordered (rank_of blocks.now.store)
+        (put_before_head head_of before m (shelf_at blocks.now queue)) }
 {
     blocks.lawful();
     if !is_at_most(blocks, before, rank) {
@@ -127,7 +128,7 @@ impl Queues {
         requires queue { queue < length self.now.state.specs }
         requires rank { rank < ranks }
         requires in_order { AreInOrder self.now blocks.now }
-        ensures there { ForSome result (λ head. IsTrue (stands_on blocks.now queue head)) }
+        ensures there { ForSome result (λ head. IsTrue (is_on blocks.now queue head)) }
         ensures place { (m : Message) → rank_of blocks.now.store m ≡ rank
             → put_before_head head_of result m (shelf_at blocks.now queue)
             ≡ put_behind (rank_of blocks.now.store) m (shelf_at blocks.now queue) }
@@ -154,7 +155,7 @@ impl Queues {
         requires queue { queue < length self.now.state.specs }
         requires rank { rank < ranks }
         requires in_order { AreInOrder self.now blocks.now }
-        ensures there { ForSome result (λ head. IsTrue (stands_on blocks.now queue head)) }
+        ensures there { ForSome result (λ head. IsTrue (is_on blocks.now queue head)) }
         ensures place { (m : Message) → rank_of blocks.now.store m ≡ rank
             → put_before_head head_of result m (shelf_at blocks.now queue)
             ≡ put_ahead (rank_of blocks.now.store) m (shelf_at blocks.now queue) }

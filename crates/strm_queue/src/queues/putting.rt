@@ -3,15 +3,15 @@ ghost use Rattle.std.specs.Prelude.{◌≡◌, ◌<◌, [], ◌∷◌, IsTrue, N
 ghost use Rattle.std.specs.Option.{ForSome};
 ghost use Rattle.strm_mblk.specs.Arena.{has, held_at, message_at, shelf_at};
 ghost use Rattle.strm_mblk.specs.Block.{head_of};
-ghost use Rattle.strm_mblk.specs.BlockCalls.{banded};
+ghost use Rattle.strm_mblk.specs.BlockCalls.{with_band};
 ghost use Rattle.strm_mblk.specs.Frame.{LeavesOthers};
 ghost use Rattle.strm_mblk.specs.Messages.{put_before_head};
-ghost use Rattle.strm_mblk.specs.Shelves.{stands_on};
+ghost use Rattle.strm_mblk.specs.Shelves.{is_on};
 ghost use Rattle.strm_mblk.specs.Calls.{Puts};
 ghost use Rattle.strm_queue.specs.Flow.{enabled_where};
 ghost use Rattle.strm_queue.specs.Limits.{high_rank, ranks};
 ghost use Rattle.strm_queue.specs.QueueCalls as model;
-ghost use Rattle.strm_queue.specs.QueuedBlocks.{Agrees, together, arena};
+ghost use Rattle.strm_queue.specs.QueuedBlocks.{Agrees, queued_blocks, arena};
 ghost use Rattle.strm_queue.specs.Rank.{as_queued, is_ordered, rank_of};
 
 use super::Queues;
@@ -36,14 +36,15 @@ impl Queues {
         requires rank { rank ≡ rank_of blocks.old.store (message_at blocks.old token.head) }
         requires few { rank < ranks }
         requires high { let m = message_at blocks.old token.head in rank ≡ high_rank
-            → as_queued blocks.old.store m ≡ banded 0 m }
-        requires before { ForSome before (λ head. IsTrue (stands_on blocks.old queue head)) }
+            → as_queued blocks.old.store m ≡ with_band 0 m }
+        requires before { ForSome before (λ head. IsTrue (is_on blocks.old queue head)) }
         requires ordered { let m = as_queued blocks.old.store (message_at blocks.old token.head) in
-            IsTrue (is_ordered (rank_of blocks.old.store) (put_before_head head_of before m (shelf_at blocks.old queue))) }
+            IsTrue (is_ordered (rank_of blocks.old.store) (put_before_head head_of before m
+            (shelf_at blocks.old queue))) }
         ensures after { let m = as_queued blocks.old.store (message_at blocks.old token.head) in
-            together self.new blocks.new ≡ model.with_state (enabled_where enables queue)
+            queued_blocks self.new blocks.new ≡ model.with_state (enabled_where enables queue)
             (model.with_put queue token.head (put_before_head head_of before m (shelf_at blocks.old queue))
-            (together self.old blocks.old)) }
+            (queued_blocks self.old blocks.old)) }
         ensures gone { held_at blocks.new token.head ≡ None }
         ensures others { LeavesOthers (token.head ∷ []) blocks.old blocks.new }
         ensures agrees { Agrees self.new blocks.new }
@@ -64,8 +65,8 @@ impl Queues {
     pub fn putq(&mut self, blocks: &mut Blocks, queue: u8, token: Token) -> Result<(), Rejected>
         requires agrees { Agrees self.old blocks.old }
         requires had { IsTrue (has blocks.old token) }
-        ensures does { Puts arena token (model.putq queue token.head (together self.old blocks.old))
-            (together self.old blocks.old) (together self.new blocks.new) result }
+        ensures does { Puts arena token (model.putq queue token.head (queued_blocks self.old blocks.old))
+            (queued_blocks self.old blocks.old) (queued_blocks self.new blocks.new) result }
         ensures agrees { Agrees self.new blocks.new }
     {
         if !self.has_queue(queue) {
@@ -91,8 +92,8 @@ impl Queues {
     pub fn putbq(&mut self, blocks: &mut Blocks, queue: u8, token: Token) -> Result<(), Rejected>
         requires agrees { Agrees self.old blocks.old }
         requires had { IsTrue (has blocks.old token) }
-        ensures does { Puts arena token (model.putbq queue token.head (together self.old blocks.old))
-            (together self.old blocks.old) (together self.new blocks.new) result }
+        ensures does { Puts arena token (model.putbq queue token.head (queued_blocks self.old blocks.old))
+            (queued_blocks self.old blocks.old) (queued_blocks self.new blocks.new) result }
         ensures agrees { Agrees self.new blocks.new }
     {
         if !self.has_queue(queue) {
@@ -125,8 +126,8 @@ impl Queues {
     ) -> Result<(), Rejected>
         requires agrees { Agrees self.old blocks.old }
         requires had { IsTrue (has blocks.old token) }
-        ensures does { Puts arena token (model.insq queue place token.head (together self.old blocks.old))
-            (together self.old blocks.old) (together self.new blocks.new) result }
+        ensures does { Puts arena token (model.insq queue place token.head (queued_blocks self.old blocks.old))
+            (queued_blocks self.old blocks.old) (queued_blocks self.new blocks.new) result }
         ensures agrees { Agrees self.new blocks.new }
     {
         blocks.lawful();

@@ -1,8 +1,8 @@
 //! Settling: each wanted band that has drained loses its wanted mark; if one does, the waker is enabled.
 ghost use Rattle.std.specs.Prelude.{◌≡◌, ◌≢◌, ◌<◌, ℕ, length};
 ghost use Rattle.strm_mblk.specs.Arena.{Arena};
-ghost use Rattle.strm_queue.specs.QueueCalls.{settled, waker_enabled};
-ghost use Rattle.strm_queue.specs.QueuedBlocks.{Agrees, AreInOrder, AreMarksLawful, together};
+ghost use Rattle.strm_queue.specs.QueueCalls.{with_queue_settled, waker_enabled};
+ghost use Rattle.strm_queue.specs.QueuedBlocks.{Agrees, AreInOrder, AreMarksLawful, queued_blocks};
 
 use super::Queues;
 
@@ -12,7 +12,7 @@ impl Queues {
     pub(super) fn settle(&mut self, queue: u8)
         requires queue { queue < length self.old.state.specs }
         ensures state { (arena : Arena) → AreInOrder self.old arena
-            → together self.new arena ≡ settled queue (together self.old arena) }
+            → queued_blocks self.new arena ≡ with_queue_settled queue (queued_blocks self.old arena) }
         ensures agrees { (arena : Arena) → AreInOrder self.old arena
             → ((other : ℕ) → other ≢ queue → AreMarksLawful self.old.state arena other) → Agrees self.new arena }
     {

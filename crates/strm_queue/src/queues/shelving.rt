@@ -3,11 +3,11 @@ ghost use Rattle.std.specs.Prelude.{Ok, ◌≡◌, ◌<◌, [], ◌∷◌, IsTru
 ghost use Rattle.std.specs.Option.{ForSome};
 ghost use Rattle.strm_mblk.specs.Arena.{has, held_at, message_at, shelf_at, with_shelf, without_held};
 ghost use Rattle.strm_mblk.specs.Block.{head_of};
-ghost use Rattle.strm_mblk.specs.BlockCalls.{banded};
+ghost use Rattle.strm_mblk.specs.BlockCalls.{with_band};
 ghost use Rattle.strm_mblk.specs.Frame.{LeavesOthers};
 ghost use Rattle.strm_mblk.specs.Messages.{put_before_head};
 ghost use Rattle.strm_mblk.specs.Shelves as model;
-ghost use Rattle.strm_mblk.specs.Shelves.{stands_on};
+ghost use Rattle.strm_mblk.specs.Shelves.{is_on};
 ghost use Rattle.strm_mblk.specs.Calls.{Takes, itself};
 ghost use Rattle.strm_queue.specs.Limits.{high_rank, ranks};
 ghost use Rattle.strm_queue.specs.QueuedBlocks.{AreInOrder};
@@ -36,10 +36,11 @@ impl Queues {
         requires rank { rank ≡ rank_of blocks.old.store (message_at blocks.old token.head) }
         requires few { rank < ranks }
         requires high { let m = message_at blocks.old token.head in rank ≡ high_rank
-            → as_queued blocks.old.store m ≡ banded 0 m }
-        requires before { ForSome before (λ head. IsTrue (stands_on blocks.old queue head)) }
+            → as_queued blocks.old.store m ≡ with_band 0 m }
+        requires before { ForSome before (λ head. IsTrue (is_on blocks.old queue head)) }
         requires ordered { let m = as_queued blocks.old.store (message_at blocks.old token.head) in
-            IsTrue (is_ordered (rank_of blocks.old.store) (put_before_head head_of before m (shelf_at blocks.old queue))) }
+            IsTrue (is_ordered (rank_of blocks.old.store) (put_before_head head_of before m
+            (shelf_at blocks.old queue))) }
         ensures after { blocks.new ≡ with_shelf queue (put_before_head head_of before
             (as_queued blocks.old.store (message_at blocks.old token.head)) (shelf_at blocks.old queue))
             (without_held token.head blocks.old) }
@@ -68,7 +69,7 @@ impl Queues {
     pub(super) fn unshelve(&mut self, blocks: &mut Blocks, queue: u8, head: BlockNo) -> Token
         requires queue { queue < length self.old.state.specs }
         requires in_order { AreInOrder self.old blocks.old }
-        requires there { IsTrue (stands_on blocks.old queue head) }
+        requires there { IsTrue (is_on blocks.old queue head) }
         ensures takes { Takes itself (Ok (head, model.unshelve queue head blocks.old))
             blocks.old blocks.new (Ok result) }
         ensures state { self.new.state ≡ self.old.state }

@@ -1,7 +1,7 @@
 //! Reads the messages of a queue, from either end.
 ghost use Rattle.std.specs.Prelude.{◌<◌, IsTrue, length};
 ghost use Rattle.std.specs.Option.{ForSome};
-ghost use Rattle.strm_mblk.specs.Shelves.{stands_on};
+ghost use Rattle.strm_mblk.specs.Shelves.{is_on};
 ghost use Rattle.strm_queue.specs.QueuedBlocks.{Agrees};
 
 use std::process::Abort;
@@ -11,7 +11,7 @@ use strm_queue::Queues;
 // The head of the first message.
 fn first(blocks: &Blocks, queue: u8) -> Option<BlockNo>
     requires { queue < length blocks.now.shelves }
-    ensures { ForSome result (λ head. IsTrue (stands_on blocks.now queue head)) }
+    ensures { ForSome result (λ head. IsTrue (is_on blocks.now queue head)) }
 {
     blocks.first(queue)
 }
@@ -19,15 +19,15 @@ fn first(blocks: &Blocks, queue: u8) -> Option<BlockNo>
 // The head of the last message.
 fn last(blocks: &Blocks, queue: u8) -> Option<BlockNo>
     requires { queue < length blocks.now.shelves }
-    ensures { ForSome result (λ head. IsTrue (stands_on blocks.now queue head)) }
+    ensures { ForSome result (λ head. IsTrue (is_on blocks.now queue head)) }
 {
     blocks.last(queue)
 }
 
 // The head of the message after this one.
 fn behind(blocks: &Blocks, queue: u8, head: BlockNo) -> Option<BlockNo>
-    requires { IsTrue (stands_on blocks.now queue head) }
-    ensures { ForSome result (λ next. IsTrue (stands_on blocks.now queue next)) }
+    requires { IsTrue (is_on blocks.now queue head) }
+    ensures { ForSome result (λ next. IsTrue (is_on blocks.now queue next)) }
 {
     blocks.lawful();
     blocks.after(head)
@@ -35,8 +35,8 @@ fn behind(blocks: &Blocks, queue: u8, head: BlockNo) -> Option<BlockNo>
 
 // The head of the message before this one.
 fn ahead(blocks: &Blocks, queue: u8, head: BlockNo) -> Option<BlockNo>
-    requires { IsTrue (stands_on blocks.now queue head) }
-    ensures { ForSome result (λ next. IsTrue (stands_on blocks.now queue next)) }
+    requires { IsTrue (is_on blocks.now queue head) }
+    ensures { ForSome result (λ next. IsTrue (is_on blocks.now queue next)) }
 {
     blocks.lawful();
     let next = blocks.before(head);

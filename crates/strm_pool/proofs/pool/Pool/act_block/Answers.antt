@@ -7,7 +7,7 @@ use Rattle.strm_mblk.specs.Given.{value_after}
 use Rattle.strm_pool.specs.declared.reply.Reply.TheVariants as replies
 use Rattle.strm_pool.specs.PoolValue.{PoolValue, on_arena}
 use Rattle.strm_pool.specs.Registers.{table_of}
-use Rattle.strm_pool.specs.Step.{answers, doing}
+use Rattle.strm_pool.specs.Step.{answers, step_of}
 use Rattle.strm_pool.proofs.OnParts.{arena_answer}
 use Rattle.strm_pool.proofs.Shaped.{asks, head_is}
 use Rattle.strm_pool.proofs.pool.Pool.act_block.Goals as goal
@@ -26,5 +26,5 @@ returns c =
     let token = c.lent.result.now in
     let made = blocks.block token.head c.args.place v.arena in
     asks refl c.requires (λ info. replies.Block info) (on_arena v made)
-    (ap (λ h. doing v (table_of c.args.regs.now) (answers (λ info. replies.Block info)) (on_arena v (blocks.block h c.args.place v.arena))) (head_is c.args.regs.now c.args.reg token c.lent.ensures.token))
+    (ap (λ h. step_of v (table_of c.args.regs.now) (answers (λ info. replies.Block info)) (on_arena v (blocks.block h c.args.place v.arena))) (head_is c.args.regs.now c.args.reg token c.lent.ensures.token))
     (block_after v token.head c.args.place) (c.block.ensures ∙ sym (arena_answer v made)) c.set_block.ensures

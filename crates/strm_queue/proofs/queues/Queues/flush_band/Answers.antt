@@ -7,8 +7,8 @@ use Rattle.strm_mblk.specs.Arena.{shelf_at, with_shelf}
 use Rattle.strm_mblk.specs.Frame.{LeavesOthers}
 use Rattle.strm_mblk.specs.Given.{value_after}
 use Rattle.strm_queue.specs.Flush.{is_picked}
-use Rattle.strm_queue.specs.QueueCalls.{settled}
-use Rattle.strm_queue.specs.QueuedBlocks.{AreMarksLawful, QueuedBlocks, together}
+use Rattle.strm_queue.specs.QueueCalls.{with_queue_settled}
+use Rattle.strm_queue.specs.QueuedBlocks.{AreMarksLawful, QueuedBlocks, queued_blocks}
 use Rattle.strm_queue.proofs.moving.Flushing.{flushed_flags}
 use Rattle.strm_queue.proofs.moving.Flushing.{others_freed}
 use Rattle.strm_queue.proofs.queues.Queues.flush_band.Goals as goal
@@ -20,8 +20,8 @@ returns-clause-does c =
     record {
       after =
           c.settle.ensures.state c.flush_shelf.new.blocks c.flush_shelf.ensures.in_order
-          ∙ ap (settled c.args.queue) (λ i. let w : QueuedBlocks = record { queues = c.flush_shelf.ensures.state i; arena = c.flush_shelf.ensures.after i } in w)
-          ∙ sym (ap (value_after (together c.args.self.now c.args.blocks.now)) (cond-true _ _ _ (sym c.has_queue.ensures ∙ c.if-not-has_queue.false)));
+          ∙ ap (with_queue_settled c.args.queue) (λ i. let w : QueuedBlocks = record { queues = c.flush_shelf.ensures.state i; arena = c.flush_shelf.ensures.after i } in w)
+          ∙ sym (ap (value_after (queued_blocks c.args.self.now c.args.blocks.now)) (cond-true _ _ _ (sym c.has_queue.ensures ∙ c.if-not-has_queue.false)));
       answer = grind (arith, common_steps);
       others =
           subst (LeavesOthers [] c.args.blocks.now) (sym c.flush_shelf.ensures.after)

@@ -3,10 +3,10 @@ use Rattle.std.specs.Prelude.{filter, not}
 use Rattle.strm_links.specs.Rows.{after, first, has}
 use Rattle.strm_mblk.specs.Arena.{shelf_at}
 use Rattle.strm_mblk.specs.Block.{Message}
-use Rattle.strm_mblk.specs.Shelves.{heads_at, stands_on}
+use Rattle.strm_mblk.specs.Shelves.{heads_at, is_on}
 use Rattle.strm_mblk.proofs.arena.Stands.{shelf_of-there}
 use Rattle.strm_queue.specs.Flush.{is_flushed, is_picked}
-use Rattle.strm_queue.specs.Flushing.{from_band}
+use Rattle.strm_queue.specs.Flushing.{messages_from_band}
 use Rattle.strm_queue.specs.QueuedBlocks.{AreInOrder, QueuesValue}
 use Rattle.strm_queue.proofs.agreeing.Agreeing.{in_order_left}
 use Rattle.strm_queue.proofs.moving.Flushing.{IsFlushing, IsPassed, behind_next, flushing_data, flushing_freed, flushing_kept, flushed_same, flushing_none, from_band_passed, from_band_same, next, next_is, next_taken, next_there}
@@ -21,7 +21,7 @@ within c = omega (arith, c.requires.queue, c.requires.in_order.shelves)
 pub loop-message-init : goal.loop-message-init
 loop-message-init c = (
   flushing_none (is_picked c.args.blocks.now.store c.args.band c.args.flush) (is_flushed c.args.blocks.now.store c.args.flush) c.args.blocks.now c.args.queue (omega (arith, c.requires.queue, c.requires.in_order.shelves)) c.onward-at.result
-      (from_band c.args.blocks.now.store c.args.band (shelf_at c.args.blocks.now c.args.queue)) (from_band_passed c.args.blocks.now.store c.args.flush c.args.band (shelf_at c.args.blocks.now c.args.queue))
+      (messages_from_band c.args.blocks.now.store c.args.band (shelf_at c.args.blocks.now c.args.queue)) (from_band_passed c.args.blocks.now.store c.args.flush c.args.band (shelf_at c.args.blocks.now c.args.queue))
       (c.onward-at.ensures [] (shelf_at c.args.blocks.now c.args.queue) refl c.first.ensures),
   refl,
   c.requires.in_order,
@@ -42,7 +42,7 @@ module _ (c : After-reads_alike) where
   one = next picked taken c.args.blocks.now c.args.queue (within c) c.loop-message._message c.loop-message.at c.loop-message.blocks so_far c.in-Some.head c.in-Some.is
 
   -- it is on the queue
-  there : stands_on c.loop-message.blocks c.args.queue c.in-Some.head ≡ true
+  there : is_on c.loop-message.blocks c.args.queue c.in-Some.head ≡ true
   there = next_there picked taken c.args.blocks.now c.args.queue (within c) c.loop-message._message c.loop-message.at c.loop-message.blocks so_far c.in-Some.head c.in-Some.is
 
   abbrev ahead : List Message
@@ -60,7 +60,7 @@ module _ (c : After-reads_alike) where
 
   -- the rest of the shelf from the band's next message on
   abbrev rest : List Message
-  rest = from_band c.args.blocks.now.store c.args.band one.post
+  rest = messages_from_band c.args.blocks.now.store c.args.band one.post
 
   passed : IsPassed picked taken one.post rest
   passed = from_band_passed c.args.blocks.now.store c.args.flush c.args.band one.post

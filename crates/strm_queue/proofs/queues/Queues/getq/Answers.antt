@@ -5,7 +5,7 @@ use Rattle.strm_links.specs.Rows.{first}
 use Rattle.strm_mblk.specs.Shelves.{heads_at}
 use Rattle.strm_queue.specs.Flow.{with_read}
 use Rattle.strm_queue.specs.QueueCalls.{with_state}
-use Rattle.strm_queue.specs.QueuedBlocks.{Agrees, QueuesValue, together}
+use Rattle.strm_queue.specs.QueuedBlocks.{Agrees, QueuesValue, queued_blocks}
 use Rattle.strm_queue.proofs.agreeing.Agreeing.{agrees_read}
 use Rattle.strm_queue.proofs.moving.Gets.{IsGot, getq_after, got_others}
 use Rattle.strm_queue.proofs.queues.Queues.getq.Goals as goal
@@ -27,7 +27,7 @@ returns-clause-does c =
     let here = (goal.at.returns-clause-does c).After-unshelve-token in
     record {
       after =
-          ap (λ (w : QueuesValue). together w c.unshelve-token.new.blocks) c.set_read-2.ensures
+          ap (λ (w : QueuesValue). queued_blocks w c.unshelve-token.new.blocks) c.set_read-2.ensures
           ∙ ap (with_state (with_read c.args.queue false)) (c.settle.ensures.state c.unshelve-token.new.blocks c.unshelve-token.ensures.in_order)
           ∙ getq_after c.args.self.now c.args.blocks.now c.requires c.lawful.ensures.parted c.args.queue (there here) c.in-Some.head (some here) c.unshelve-token.new.self c.unshelve-token.new.blocks (got here);
       token = grind (arith, common_steps);

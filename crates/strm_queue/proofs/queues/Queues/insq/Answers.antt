@@ -6,7 +6,7 @@ use Rattle.strm_mblk.specs.Arena.{message_at, shelf_at}
 use Rattle.strm_mblk.specs.Block.{head_of}
 use Rattle.strm_mblk.specs.Given.{answer_of, or_rejected}
 use Rattle.strm_mblk.specs.Messages.{put_before_head}
-use Rattle.strm_queue.specs.QueuedBlocks.{arena, together}
+use Rattle.strm_queue.specs.QueuedBlocks.{arena, queued_blocks}
 use Rattle.strm_queue.specs.Rank.{as_queued, is_ordered, rank_of}
 use Rattle.strm_mblk.proofs.arena.Calls.{puts_none}
 use Rattle.strm_queue.proofs.moving.Puts.{insq_after, insq_given, insq_refused}
@@ -30,7 +30,7 @@ fits c = grind (arith, common_steps, rank_of-queued)
 pub returns-then-not-fits_before-clause-does : goal.returns-then-not-fits_before-clause-does
 returns-then-not-fits_before-clause-does c =
     let here = (goal.at.returns-then-not-fits_before-clause-does c).After-fits_before in
-    puts_none arena (together c.args.self.now c.args.blocks.now) c.args.token _ BadOrder
+    puts_none arena (queued_blocks c.args.self.now c.args.blocks.now) c.args.token _ BadOrder
     (insq_refused c.args.self.now c.args.blocks.now c.args.queue c.args.token.head (there here) c.args.place (few here) c.lawful.ensures.parted c.head_at-before.result
     c.head_at-before.ensures.value (sym (fits here) ∙ c.if-not-fits_before.true)) c.requires.had
 

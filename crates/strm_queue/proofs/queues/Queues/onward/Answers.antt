@@ -6,7 +6,7 @@ use Rattle.strm_mblk.specs.Block.{Message}
 use Rattle.strm_mblk.proofs.arena.Stands.{shelf_of-there}
 use Rattle.strm_queue.specs.Ends.{first_of_rank}
 use Rattle.strm_queue.specs.Flow.{band_of_rank}
-use Rattle.strm_queue.specs.Flushing.{from_band}
+use Rattle.strm_queue.specs.Flushing.{messages_from_band}
 use Rattle.strm_queue.specs.Limits.{bands}
 use Rattle.strm_queue.specs.Rank.{is_ordered, rank_of}
 use Rattle.strm_queue.specs.Tallies.{first_in}
@@ -41,8 +41,8 @@ module _ (c : After-queued_rank-rank) (pre post : List Message) (is : shelf_at c
   rank_is = c.queued_rank-rank.ensures.value c.args.queue pre one.post one.at here one.head
 
   -- the band is given
-  of_band : from_band c.args.blocks.now.store (Some c.in-Some-Some.band) (one.at ∷ one.post) ≡ from_band c.args.blocks.now.store c.args.band post
-  of_band = λ i. from_band c.args.blocks.now.store (sym c.in-Some-Some.is-0 i) (sym one.is i)
+  of_band : messages_from_band c.args.blocks.now.store (Some c.in-Some-Some.band) (one.at ∷ one.post) ≡ messages_from_band c.args.blocks.now.store c.args.band post
+  of_band = λ i. messages_from_band c.args.blocks.now.store (sym c.in-Some-Some.is-0 i) (sym one.is i)
 
 pub returns-then-rank-from : goal.returns-then-rank-from
 returns-then-rank-from c pre post is at = grind (arith, common_steps, from_band-past, heads)

@@ -5,7 +5,7 @@ use Rattle.std.proofs.lemmas.Option.{none-some}
 use Rattle.strm_mblk.specs.Arena.{shelf_at}
 use Rattle.strm_mblk.specs.Block.{head_of}
 use Rattle.strm_mblk.specs.Messages.{put_before_head}
-use Rattle.strm_mblk.specs.Shelves.{stands_on}
+use Rattle.strm_mblk.specs.Shelves.{is_on}
 use Rattle.strm_mblk.proofs.arena.Stands.{heads_apart, shelf_of-there}
 use Rattle.strm_queue.specs.Ends.{last_of_rank}
 use Rattle.strm_queue.specs.Limits.{ranks}
@@ -31,7 +31,7 @@ last_is : (c : In-Some-last) → Ends c → last_of_rank (rank_of c.args.blocks.
 last_is c at = sym (at.lasts c.in-Some.found) ∙ sym c.last.ensures ∙ c.in-Some-last.is
 
 -- it is on the queue
-there : (c : In-Some-last) → Ends c → stands_on c.args.blocks.now c.args.queue c.in-Some-last.last ≡ true
+there : (c : In-Some-last) → Ends c → is_on c.args.blocks.now c.args.queue c.in-Some-last.last ≡ true
 there c at = last_of_rank-has (rank_of c.args.blocks.now.store) c.in-Some-last.last c.in-Some.found (shelf_at c.args.blocks.now c.args.queue) (last_is c at)
 
 pub after-requires : goal.after-requires

@@ -1,13 +1,15 @@
-use Rattle.std.proofs.Common.{Bool, List, refl, ap, ◌∙◌}
+use Rattle.std.proofs.Common.{Bool, List, length, refl, ap, ◌∙◌}
+use Rattle.std.proofs.lemmas.List.{length-map}
 use Rattle.std.specs.Prelude.{slice_index_or}
-use Rattle.strm_queue.specs.Flow.{Flags, lowat_of, no_marks, some_relieved, still_wanted}
+use Rattle.strm_queue.specs.Flow.{Flags, every_band, lowat_of, no_marks, some_relieved, still_wanted}
 use Rattle.strm_queue.specs.QueuedBlocks.{tally_at}
 use Rattle.strm_queue.specs.Tallies.{Tally, count_of}
+use Rattle.strm_queue.proofs.bands.Bands.{length_every_band}
 use Rattle.strm_queue.proofs.layout.Stored.{lawful_changed, flags_changed, flags_seen, marks_seen, tally_seen}
 use Rattle.strm_queue.proofs.queues.Queues.relieve.Goals as goal
 
 pub invariant_of-self : goal.invariant_of-self
-invariant_of-self c = lawful_changed c.self.inside c.from.result c.index_mut.result.now (record c.index_mut.result.now { wanted = c.relieve.new.self }) c.index_mut.ensures.value refl refl c.self.invariant
+invariant_of-self c = lawful_changed c.self.inside c.from.result c.index_mut.result.now (record c.index_mut.result.now { wanted = c.relieve.new.self }) c.index_mut.ensures.value refl refl (λ as_many. ap length c.relieve.ensures.left ∙ length-map every_band _ ∙ length_every_band) c.self.invariant
 
 pub returns-clause-flags : goal.returns-clause-flags
 returns-clause-flags c =

@@ -8,7 +8,7 @@ invariant_of-self c =
     let y = record c.index_mut.result.now { marks = c.set.new.self } in
     lawful_marked c.self.inside c.from.result c.index_mut.result.now y c.index_mut.ensures.value refl c.args.band c.args.marks c.set.ensures
     (there c.self.inside c.from.result c.index_mut.result.now y c.index_mut.ensures.value refl c.args.self.now c.self.view_is c.args.queue c.from.ensures c.requires.queue)
-    c.requires.apart c.self.invariant
+    c.requires.apart refl c.self.invariant
 
 pub returns : goal.returns
 returns c = grind (arith, common_steps, value_marked, there)

@@ -4,7 +4,7 @@ use Rattle.strm_queue.proofs.layout.Stored.{lawful_changed, flags_changed}
 use Rattle.strm_queue.proofs.queues.Queues.set_off.Goals as goal
 
 pub invariant_of-self : goal.invariant_of-self
-invariant_of-self c = lawful_changed c.self.inside c.from.result c.index_mut.result.now (record c.index_mut.result.now { noenable = c.args.off }) c.index_mut.ensures.value refl refl c.self.invariant
+invariant_of-self c = lawful_changed c.self.inside c.from.result c.index_mut.result.now (record c.index_mut.result.now { noenable = c.args.off }) c.index_mut.ensures.value refl refl (λ as_many. as_many) c.self.invariant
 
 pub returns : goal.returns
 returns c =

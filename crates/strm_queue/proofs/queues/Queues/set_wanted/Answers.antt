@@ -1,11 +1,12 @@
-use Rattle.std.proofs.Common.{true, refl, ap, set}
+use Rattle.std.proofs.Common.{true, length, refl, ap, set, ◌∙◌}
+use Rattle.std.proofs.lemmas.List.{length-set}
 use Rattle.std.specs.Prelude.{Bool, List}
 use Rattle.strm_queue.specs.Flow.{Flags}
 use Rattle.strm_queue.proofs.layout.Stored.{lawful_changed, flags_changed}
 use Rattle.strm_queue.proofs.queues.Queues.set_wanted.Goals as goal
 
 pub invariant_of-self : goal.invariant_of-self
-invariant_of-self c = lawful_changed c.self.inside c.from.result c.index_mut.result.now (record c.index_mut.result.now { wanted = c.insert.new.self }) c.index_mut.ensures.value refl refl c.self.invariant
+invariant_of-self c = lawful_changed c.self.inside c.from.result c.index_mut.result.now (record c.index_mut.result.now { wanted = c.insert.new.self }) c.index_mut.ensures.value refl refl (λ as_many. ap length c.insert.ensures ∙ length-set c.index_mut.result.now.wanted c.args.band true ∙ as_many) c.self.invariant
 
 pub returns : goal.returns
 returns c =

@@ -4,8 +4,8 @@ use Rattle.std.specs.Prelude.{nat_lt}
 use Rattle.std.proofs.lemmas.Bool.{ltb-true}
 use Rattle.strm_mblk.specs.Given.{value_after}
 use Rattle.strm_queue.specs.declared.marks.Marks.{Marks}
-use Rattle.strm_queue.specs.QueueCalls.{settled}
-use Rattle.strm_queue.specs.QueuedBlocks.{AreInOrder, AreMarksLawful, QueuesValue, together}
+use Rattle.strm_queue.specs.QueueCalls.{with_queue_settled}
+use Rattle.strm_queue.specs.QueuedBlocks.{AreInOrder, AreMarksLawful, QueuesValue, queued_blocks}
 use Rattle.strm_queue.proofs.flow.Settling.{marked_in_order, marked_others, strqset_given, with_recounted}
 use Rattle.strm_queue.proofs.queues.Queues.strqset.Goals as goal
 use Rattle.strm_queue.proofs.queues.Queues.strqset.Goals.{After-recount}
@@ -31,8 +31,8 @@ returns-clause-does c =
     record {
       after =
           c.settle.ensures.state c.args.blocks.now (in_order here)
-          ∙ ap (λ w. settled c.args.queue (together w c.args.blocks.now)) (marked here)
-          ∙ sym (ap (value_after (together c.args.self.now c.args.blocks.now)) (strqset_given (together c.args.self.now c.args.blocks.now) c.args.queue c.args.band c.args.hiwat c.args.lowat (there here) (omega (arith, c.if-lowat-hiwat.false))));
+          ∙ ap (λ w. with_queue_settled c.args.queue (queued_blocks w c.args.blocks.now)) (marked here)
+          ∙ sym (ap (value_after (queued_blocks c.args.self.now c.args.blocks.now)) (strqset_given (queued_blocks c.args.self.now c.args.blocks.now) c.args.queue c.args.band c.args.hiwat c.args.lowat (there here) (omega (arith, c.if-lowat-hiwat.false))));
       answer = grind (arith, common_steps);
       arena_stays = refl;
     }
