@@ -8,24 +8,24 @@ use Rattle.strm_named.specs.declared.fault.Fault.{Fault}
 use Rattle.strm_named.specs.NamedCalls as named
 use Rattle.strm_named.specs.NamedCalls.{LeavesNames, Outcome, Shape, answer_told}
 use Rattle.strm_named.specs.NamedValue.{NamedValue}
-use Rattle.strm_c.specs.Codes.{Answer, returned, told, told_of_refused, written}
-use Rattle.strm_c.specs.Exports.{Does, DoesOnPool, Held}
+use Rattle.strm_c.specs.Codes.{Answer, number_returned, answer_of_result, answer_of_refusable, value_written}
+use Rattle.strm_c.specs.Exports.{CallsNamed, DoesOnPool, Held}
 
 -- one on names
 pub does : {X Y Z : Type 0} (s : Shape X Y) (tells : Y → Answer Z) (outcome : NamedValue → Outcome X) (spent : List ℕ) (v w : NamedValue) (old new : Held) (number : ℤ) (was is : Z) (answer : Result Y Fault)
-    → Some v ≡ old → new ≡ Some w → named.Does s (outcome v) spent v w answer → number ≡ returned (told tells answer) → is ≡ written was (told tells answer) → Does s tells outcome spent old new number was is
+    → Some v ≡ old → new ≡ Some w → named.Does s (outcome v) spent v w answer → number ≡ number_returned (answer_of_result tells answer) → is ≡ value_written was (answer_of_result tells answer) → CallsNamed s tells outcome spent old new number was is
 does {X} {Y} {Z} s tells outcome spent v w old new number was is answer taken holds d returns writes =
     let after = d.after in
     let same = subst (λ (x : NamedValue). answer ≡ answer_told s x (outcome v)) after d.told in
-    subst (λ (o : Held). Does s tells outcome spent o new number was is) taken
-    (subst (λ (n : Held). Does s tells outcome spent (Some v) n number was is) (sym holds)
-    ((ap (λ (x : NamedValue). Some x) after, (returns ∙ ap (λ (a : Result Y Fault). returned (told tells a)) same, writes ∙ ap (λ (a : Result Y Fault). written was (told tells a)) same)), d.names))
+    subst (λ (o : Held). CallsNamed s tells outcome spent o new number was is) taken
+    (subst (λ (n : Held). CallsNamed s tells outcome spent (Some v) n number was is) (sym holds)
+    ((ap (λ (x : NamedValue). Some x) after, (returns ∙ ap (λ (a : Result Y Fault). number_returned (answer_of_result tells a)) same, writes ∙ ap (λ (a : Result Y Fault). value_written was (answer_of_result tells a)) same)), d.names))
 
 -- one that takes and gives no names
 pub does_on_pool : {X Z : Type 0} (tells : X → Answer Z) (given : PoolValue → Given PoolValue X) (v w : NamedValue) (old new : Held) (number : ℤ) (was is : Z) (answer : Result X Refusal)
     → Some v ≡ old → new ≡ Some w → LeavesNames (given v.pool) v w answer
-    → number ≡ returned (told_of_refused tells answer) → is ≡ written was (told_of_refused tells answer) → DoesOnPool tells given old new number was is
+    → number ≡ number_returned (answer_of_refusable tells answer) → is ≡ value_written was (answer_of_refusable tells answer) → DoesOnPool tells given old new number was is
 does_on_pool {X} {Z} tells given v w old new number was is answer taken holds does returns writes =
     subst (λ (o : Held). DoesOnPool tells given o new number was is) taken
     (subst (λ (n : Held). DoesOnPool tells given (Some v) n number was is) (sym holds)
-    ((ap (λ (x : NamedValue). Some x) does.pool, (returns ∙ ap (λ (a : Result X Refusal). returned (told_of_refused tells a)) does.answer, writes ∙ ap (λ (a : Result X Refusal). written was (told_of_refused tells a)) does.answer)), does.names))
+    ((ap (λ (x : NamedValue). Some x) does.pool, (returns ∙ ap (λ (a : Result X Refusal). number_returned (answer_of_refusable tells a)) does.answer, writes ∙ ap (λ (a : Result X Refusal). value_written was (answer_of_refusable tells a)) does.answer)), does.names))

@@ -43,14 +43,14 @@ abbrev pub Answer : Type 0 → Type 0
 Answer Z = Result Z Code
 
 -- the number that the call returns: 0, or that of the code
-abbrev pub returned : {Z : Type 0} → Answer Z → ℤ
-returned (Ok z) = pos 0
-returned (Err code) = number_of code
+abbrev pub number_returned : {Z : Type 0} → Answer Z → ℤ
+number_returned (Ok z) = pos 0
+number_returned (Err code) = number_of code
 
 -- what is stored behind the pointer after the call
-abbrev pub written : {Z : Type 0} → Z → Answer Z → Z
-written before (Ok z) = z
-written before (Err code) = before
+abbrev pub value_written : {Z : Type 0} → Z → Answer Z → Z
+value_written before (Ok z) = z
+value_written before (Err code) = before
 
 -- ---- answers of the named pool, as those of C
 
@@ -59,16 +59,16 @@ code_of faults.Invalid = Invalid
 code_of (faults.Refused why) = Refused why
 
 -- the answer to a call on names, from the answer to its result
-abbrev pub told : {Y Z : Type 0} → (Y → Answer Z) → Result Y Fault → Answer Z
-told tells (Ok y) = tells y
-told tells (Err fault) = Err (code_of fault)
+abbrev pub answer_of_result : {Y Z : Type 0} → (Y → Answer Z) → Result Y Fault → Answer Z
+answer_of_result tells (Ok y) = tells y
+answer_of_result tells (Err fault) = Err (code_of fault)
 
 -- the answer to a call without names, from the answer to its result
-abbrev pub told_of_refused : {Y Z : Type 0} → (Y → Answer Z) → Result Y Refusal → Answer Z
-told_of_refused tells (Ok y) = tells y
-told_of_refused tells (Err why) = Err (Refused why)
+abbrev pub answer_of_refusable : {Y Z : Type 0} → (Y → Answer Z) → Result Y Refusal → Answer Z
+answer_of_refusable tells (Ok y) = tells y
+answer_of_refusable tells (Err why) = Err (Refused why)
 
 -- the value, if any; otherwise the code `Nothing`
-abbrev pub any : {Z : Type 0} → Option Z → Answer Z
-any None = Err Nothing
-any (Some z) = Ok z
+abbrev pub any_or_nothing : {Z : Type 0} → Option Z → Answer Z
+any_or_nothing None = Err Nothing
+any_or_nothing (Some z) = Ok z

@@ -9,7 +9,7 @@ use Rattle.strm_named.specs.declared.name.Name.{Name}
 use Rattle.strm_named.specs.NamedCalls.{Outcome, Shape, answer_told, named_after}
 use Rattle.strm_named.specs.NamedValue.{KeepsNames, NamedValue, Renames, is_valid, with_pool}
 use Rattle.strm_c.specs.declared.code.Code.TheVariants.{BadArgument, NotOpen}
-use Rattle.strm_c.specs.Codes.{Answer, number_of, returned, told, told_of_refused, written}
+use Rattle.strm_c.specs.Codes.{Answer, number_of, number_returned, answer_of_result, answer_of_refusable, value_written}
 
 -- the pool of a handle, if the handle is open
 abbrev pub Held : Type 0
@@ -25,7 +25,7 @@ Seen Z = Held → Held → ℤ → Z → Z → Type 0
 -- A call that changes the pool and answers. If the handle is not open, it returns `NotOpen`, and nothing changes.
 abbrev pub Leaves : {Z : Type 0} → (NamedValue → NamedValue) → (NamedValue → Answer Z) → Seen Z
 Leaves after answer None new number was is = (new ≡ None) × ((number ≡ number_of NotOpen) × (is ≡ was))
-Leaves after answer (Some v) new number was is = (new ≡ Some (after v)) × ((number ≡ returned (answer v)) × (is ≡ written was (answer v)))
+Leaves after answer (Some v) new number was is = (new ≡ Some (after v)) × ((number ≡ number_returned (answer v)) × (is ≡ value_written was (answer v)))
 
 -- A call that answers and changes nothing.
 abbrev pub Asks : {Z : Type 0} → (NamedValue → Answer Z) → Seen Z
@@ -41,15 +41,15 @@ WhileOpen says old new = Unit {0}
 -- ---- the calls of the named pool
 
 -- A call on names: the named pool after it, its answer, and which names are valid then.
-abbrev pub Does : {X Y Z : Type 0} → Shape X Y → (Y → Answer Z) → (NamedValue → Outcome X) → List ℕ → Seen Z
-Does shape tells outcome spent old new number was is =
-    Leaves (λ v. named_after shape v (outcome v)) (λ v. told tells (answer_told shape (named_after shape v (outcome v)) (outcome v))) old new number was is
+abbrev pub CallsNamed : {X Y Z : Type 0} → Shape X Y → (Y → Answer Z) → (NamedValue → Outcome X) → List ℕ → Seen Z
+CallsNamed shape tells outcome spent old new number was is =
+    Leaves (λ v. named_after shape v (outcome v)) (λ v. answer_of_result tells (answer_told shape (named_after shape v (outcome v)) (outcome v))) old new number was is
     × WhileOpen (λ v w. IfOk (outcome v) (λ given. Renames spent (shape.heads given.0) v w)) old new
 
 -- A call that changes no name.
 abbrev pub DoesOnPool : {X Z : Type 0} → (X → Answer Z) → (PoolValue → Given PoolValue X) → Seen Z
 DoesOnPool tells given old new number was is =
-    Leaves (λ v. with_pool v (value_after v.pool (given v.pool))) (λ v. told_of_refused tells (answer_of (given v.pool))) old new number was is
+    Leaves (λ v. with_pool v (value_after v.pool (given v.pool))) (λ v. answer_of_refusable tells (answer_of (given v.pool))) old new number was is
     × WhileOpen KeepsNames old new
 
 -- A call that takes something off a list of the pool, if there is anything.
@@ -68,10 +68,10 @@ Ranged (Some a) says = says a
 -- ---- bytes
 
 -- A buffer after bytes of a message were copied into it, from place `at` on: as many as there are and as fit.
-abbrev pub laid_over : List ℕ → ℕ → ℕ → List ℕ → List ℕ
-laid_over bytes count at into = take count (drop at bytes) ++ drop count into
+abbrev pub buffer_with_bytes : List ℕ → ℕ → ℕ → List ℕ → List ℕ
+buffer_with_bytes bytes count at into = take count (drop at bytes) ++ drop count into
 
 abbrev pub bytes_read : Held → Name → ℕ → List ℕ → List ℕ
 bytes_read None msg at into = into
 bytes_read (Some v) msg at into =
-    if is_valid v msg then laid_over (bytes_of v.pool.arena.store (message_at v.pool.arena msg.head)) (min (length into) (size_of (message_at v.pool.arena msg.head) - at)) at into else into
+    if is_valid v msg then buffer_with_bytes (bytes_of v.pool.arena.store (message_at v.pool.arena msg.head)) (min (length into) (size_of (message_at v.pool.arena msg.head) - at)) at into else into

@@ -25,8 +25,8 @@ use Rattle.strm_c.specs.declared.layout.StrmWish.{StrmWish}
 -- ---- numbers that C gives
 
 -- the number of a queue or a class: there are fewer than 255 of each, so 255 means every greater number too
-abbrev pub capped : ℕ → ℕ
-capped n = if nat_lt n 255 then n else 255
+abbrev pub capped_number : ℕ → ℕ
+capped_number n = if nat_lt n 255 then n else 255
 
 -- the number of a band
 abbrev pub band_of : ℕ → Option ℕ

@@ -15,7 +15,7 @@ use Rattle.strm_c.specs.declared.layout.StrmClassSpec.{StrmClassSpec}
 use Rattle.strm_c.specs.declared.layout.StrmQueueSpec.{StrmQueueSpec}
 use Rattle.strm_c.specs.Codes.{Answer, number_of}
 use Rattle.strm_c.specs.Exports.{Held}
-use Rattle.strm_c.specs.InC.{capped}
+use Rattle.strm_c.specs.InC.{capped_number}
 
 -- ---- what C gives
 
@@ -24,7 +24,7 @@ class_spec_of c = record { size = c.size; count = c.count }
 
 -- the number of a next queue; 2^32 - 1 means none
 abbrev pub next_of : ℕ → Option ℕ
-next_of n = if n == 4294967295 then None else Some (capped n)
+next_of n = if n == 4294967295 then None else Some (capped_number n)
 
 abbrev pub queue_spec_of : StrmQueueSpec → QueueSpec
 queue_spec_of q = record { hiwat = q.hiwat; lowat = q.lowat; service = not (q.service == 0); next = next_of q.next }
@@ -72,6 +72,6 @@ OpensHandle (Some c) None new number = OpensBy (fault_of c) c new number
 -- ---- closing
 
 -- what closing a handle answers
-abbrev pub closed : Held → Answer (Unit {0})
-closed None = Err NotOpen
-closed (Some v) = Ok tt
+abbrev pub answer_of_close : Held → Answer (Unit {0})
+answer_of_close None = Err NotOpen
+answer_of_close (Some v) = Ok tt

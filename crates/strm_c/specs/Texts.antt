@@ -111,5 +111,5 @@ abbrev pub version : List ℕ
 version = codes "0.1.0"
 
 -- a buffer after as much of a text as fits was copied into it
-abbrev pub copied_into : List ℕ → List ℕ → List ℕ
-copied_into text into = take (length into) text ++ drop (length text) into
+abbrev pub buffer_with_text : List ℕ → List ℕ → List ℕ
+buffer_with_text text into = take (length into) text ++ drop (length text) into

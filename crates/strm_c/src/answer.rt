@@ -1,6 +1,6 @@
 //! From answers of the named pool to what calls of C return and store.
 ghost use Rattle.std.specs.Prelude.{◌≡◌, Ok};
-ghost use Rattle.strm_c.specs.Codes.{any, returned, told, told_of_refused, written};
+ghost use Rattle.strm_c.specs.Codes.{any_or_nothing, number_returned, answer_of_result, answer_of_refusable, value_written};
 ghost use Rattle.strm_c.specs.InC.{both};
 
 use crate::code::Code;
@@ -43,14 +43,14 @@ pub(crate) use ranged;
 
 // An answer with a code for its fault.
 pub(crate) fn coded<T>(answer: Result<T, Fault>) -> Result<T, Code>
-    ensures { result ≡ told Ok answer }
+    ensures { result ≡ answer_of_result Ok answer }
 {
     answer.map_err(Code::of)
 }
 
 // An answer that may be none, which is the code `Nothing`.
 pub(crate) fn coded_any<T>(answer: Result<Option<T>, Fault>) -> Result<T, Code>
-    ensures { result ≡ told any answer }
+    ensures { result ≡ answer_of_result any_or_nothing answer }
 {
     match answer {
         Ok(given) => present(given),
@@ -60,7 +60,7 @@ pub(crate) fn coded_any<T>(answer: Result<Option<T>, Fault>) -> Result<T, Code>
 
 // An answer of one message, and perhaps a second; if not, the second name is that of no message.
 pub(crate) fn coded_both(answer: Result<(Name, Option<Name>), Fault>) -> Result<(Name, Name), Code>
-    ensures { result ≡ told both answer }
+    ensures { result ≡ answer_of_result both answer }
 {
     match answer {
         Ok((first, second)) => Ok((first, second.unwrap_or(NO_NAME))),
@@ -70,22 +70,22 @@ pub(crate) fn coded_both(answer: Result<(Name, Option<Name>), Fault>) -> Result<
 
 // An answer to a call without names, with a code for its refusal.
 pub(crate) fn coded_refusal<T>(answer: Result<T, Refusal>) -> Result<T, Code>
-    ensures { result ≡ told_of_refused Ok answer }
+    ensures { result ≡ answer_of_refusable Ok answer }
 {
     answer.map_err(Code::Refused)
 }
 
 // The value, if any; otherwise the code `Nothing`.
 pub(crate) fn present<T>(given: Option<T>) -> Result<T, Code>
-    ensures { result ≡ any given }
+    ensures { result ≡ any_or_nothing given }
 {
     given.ok_or(Code::Nothing)
 }
 
 // Stores the answer's value through a pointer of C and returns 0; or returns the code and stores nothing.
 pub(crate) fn put<T: Copy>(answer: Result<T, Code>, into: &mut T) -> i32
-    ensures number { result ≡ returned answer }
-    ensures into { into.new ≡ written into.old answer }
+    ensures number { result ≡ number_returned answer }
+    ensures into { into.new ≡ value_written into.old answer }
 {
     match answer {
         Ok(given) => {
@@ -98,7 +98,7 @@ pub(crate) fn put<T: Copy>(answer: Result<T, Code>, into: &mut T) -> i32
 
 // What a call returns that stores nothing: 0, or the code.
 pub(crate) fn number(answer: Result<(), Code>) -> i32
-    ensures { result ≡ returned answer }
+    ensures { result ≡ number_returned answer }
 {
     put(answer, &mut ())
 }

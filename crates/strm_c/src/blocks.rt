@@ -4,11 +4,11 @@ ghost use Rattle.strm_mblk.specs.Arena.{message_at};
 ghost use Rattle.strm_mblk.specs.Block.{data_size_of, size_of};
 ghost use Rattle.strm_mblk.specs.BlockCalls as blocks;
 ghost use Rattle.strm_pool.specs.PoolValue.{on_arena, with_arena};
-ghost use Rattle.strm_mblk.specs.Given.{done};
-ghost use Rattle.strm_named.specs.NamedCalls.{answer_told, if_valid, on_name, plain};
+ghost use Rattle.strm_mblk.specs.Given.{given_nothing};
+ghost use Rattle.strm_named.specs.NamedCalls.{answer_told, if_valid, on_name, no_message};
 ghost use Rattle.strm_named.specs.NamedValue.{is_valid};
-ghost use Rattle.strm_c.specs.Codes.{told};
-ghost use Rattle.strm_c.specs.Exports.{Asks, Does, Ranged, bytes_read};
+ghost use Rattle.strm_c.specs.Codes.{answer_of_result};
+ghost use Rattle.strm_c.specs.Exports.{Asks, CallsNamed, Ranged, bytes_read};
 ghost use Rattle.strm_c.specs.InC.{band_of, block_in_c, flag, type_of};
 
 use crate::answer::{coded, number, opened, put, ranged};
@@ -28,7 +28,8 @@ pub extern "C" fn strm_c_write(
     place: u32,
     bytes: &[u8],
 ) -> i32
-    ensures { Does plain Ok (λ v. on_name v msg (on_arena v.pool (blocks.write msg.head place bytes.now v.pool.arena)))
+    ensures { CallsNamed no_message Ok (λ v. on_name v msg
+        (on_arena v.pool (blocks.write msg.head place bytes.now v.pool.arena)))
         [] pool.old.named pool.new.named result tt tt }
 {
     let mut named = opened!(alloc, pool);
@@ -47,7 +48,7 @@ pub extern "C" fn strm_c_read(
     into: &mut [u8],
     count: &mut usize,
 ) -> i32
-    ensures count { Asks (λ v. told Ok (if_valid v msg
+    ensures count { Asks (λ v. answer_of_result Ok (if_valid v msg
         (min (length into.old) (size_of (message_at v.pool.arena msg.head) - at))))
         pool.old.named pool.new.named result count.old count.new }
     ensures bytes { into.new ≡ bytes_read pool.old.named msg at into.old }
@@ -67,7 +68,7 @@ pub extern "C" fn strm_c_settype(
     place: u32,
     kind: u32,
 ) -> i32
-    ensures { Ranged (type_of kind) (λ t. Does plain Ok
+    ensures { Ranged (type_of kind) (λ t. CallsNamed no_message Ok
         (λ v. on_name v msg (on_arena v.pool (blocks.settype msg.head place t v.pool.arena))) [])
         pool.old.named pool.new.named result tt tt }
 {
@@ -81,8 +82,8 @@ pub extern "C" fn strm_c_settype(
 /// Gives a message's first block a band. As [`NamedPool::setband`] of strm_named. A band above 255 is a `BadArgument`.
 #[unsafe(no_mangle)]
 pub extern "C" fn strm_c_setband(alloc: Global, pool: &mut StrmPool, msg: Name, band: u32) -> i32
-    ensures { Ranged (band_of band) (λ b. Does plain Ok
-        (λ v. on_name v msg (done (with_arena v.pool (blocks.setband msg.head b v.pool.arena)))) [])
+    ensures { Ranged (band_of band) (λ b. CallsNamed no_message Ok
+        (λ v. on_name v msg (given_nothing (with_arena v.pool (blocks.setband msg.head b v.pool.arena)))) [])
         pool.old.named pool.new.named result tt tt }
 {
     let mut named = opened!(alloc, pool);
@@ -95,7 +96,7 @@ pub extern "C" fn strm_c_setband(alloc: Global, pool: &mut StrmPool, msg: Name, 
 /// Stores the number of a message's bytes in `bytes`. As [`NamedPool::size`] of strm_named.
 #[unsafe(no_mangle)]
 pub extern "C" fn strm_c_size(alloc: Global, pool: &mut StrmPool, msg: Name, bytes: &mut u32) -> i32
-    ensures { Asks (λ v. told Ok (if_valid v msg (size_of (message_at v.pool.arena msg.head))))
+    ensures { Asks (λ v. answer_of_result Ok (if_valid v msg (size_of (message_at v.pool.arena msg.head))))
         pool.old.named pool.new.named result bytes.old bytes.new }
 {
     let named = opened!(alloc, pool);
@@ -112,7 +113,8 @@ pub extern "C" fn strm_c_msgdsize(
     msg: Name,
     bytes: &mut u32,
 ) -> i32
-    ensures { Asks (λ v. told Ok (if_valid v msg (data_size_of v.pool.arena.store (message_at v.pool.arena msg.head))))
+    ensures { Asks (λ v. answer_of_result Ok (if_valid v msg
+        (data_size_of v.pool.arena.store (message_at v.pool.arena msg.head))))
         pool.old.named pool.new.named result bytes.old bytes.new }
 {
     let named = opened!(alloc, pool);
@@ -130,8 +132,8 @@ pub extern "C" fn strm_c_block(
     place: u32,
     block: &mut StrmBlockInfo,
 ) -> i32
-    ensures { Asks (λ v. told (λ b. Ok (block_in_c b))
-        (answer_told plain v (on_name v msg (on_arena v.pool (blocks.block msg.head place v.pool.arena)))))
+    ensures { Asks (λ v. answer_of_result (λ b. Ok (block_in_c b))
+        (answer_told no_message v (on_name v msg (on_arena v.pool (blocks.block msg.head place v.pool.arena)))))
         pool.old.named pool.new.named result block.old block.new }
 {
     let named = opened!(alloc, pool);

@@ -2,16 +2,16 @@
 ghost use Rattle.std.specs.Prelude.{Ok};
 ghost use Rattle.strm_mblk.specs.Given.{answer_of};
 ghost use Rattle.strm_queue.specs.QueueCalls as queues;
-ghost use Rattle.strm_pool.specs.PoolValue.{on_queues, queued, with_queued};
-ghost use Rattle.strm_c.specs.Codes.{any, told_of_refused};
+ghost use Rattle.strm_pool.specs.PoolValue.{on_queues, queued_blocks_of, with_queued};
+ghost use Rattle.strm_c.specs.Codes.{any_or_nothing, answer_of_refusable};
 ghost use Rattle.strm_c.specs.Exports.{Asks, DoesOnPool, Ranged, Takes};
-ghost use Rattle.strm_c.specs.InC.{band_of, flag, marks_in_c, capped};
+ghost use Rattle.strm_c.specs.InC.{band_of, flag, marks_in_c, capped_number};
 
 use crate::answer::{coded_refusal, number, opened, present, put, ranged};
 use crate::code::Code;
 use crate::handle::StrmPool;
 use crate::layout::StrmMarks;
-use crate::numbers::{band_of, capped};
+use crate::numbers::{band_of, capped_number};
 use std::alloc::Global;
 
 /// Stores 1 in `yes` if a band has room at the target of a queue, otherwise 0. As [`NamedPool::bcanput`] of strm_named. A band
@@ -25,12 +25,12 @@ pub extern "C" fn strm_c_bcanput(
     yes: &mut u32,
 ) -> i32
     ensures { Ranged (band_of band) (λ b. DoesOnPool (λ y. Ok (flag y))
-        (λ p. on_queues p (queues.bcanput (capped queue) b (queued p))))
+        (λ p. on_queues p (queues.bcanput (capped_number queue) b (queued_blocks_of p))))
         pool.old.named pool.new.named result yes.old yes.new }
 {
     let mut named = opened!(alloc, pool);
     let band = ranged!(band_of(band), pool, named);
-    let answer = named.bcanput(capped(queue), band);
+    let answer = named.bcanput(capped_number(queue), band);
     pool.hold(named);
     put(coded_refusal(answer).map(u32::from), yes)
 }
@@ -46,12 +46,12 @@ pub extern "C" fn strm_c_strqset(
     lowat: u32,
 ) -> i32
     ensures { Ranged (band_of band) (λ b. DoesOnPool Ok
-        (λ p. on_queues p (queues.strqset (capped queue) b hiwat lowat (queued p))))
+        (λ p. on_queues p (queues.strqset (capped_number queue) b hiwat lowat (queued_blocks_of p))))
         pool.old.named pool.new.named result tt tt }
 {
     let mut named = opened!(alloc, pool);
     let band = ranged!(band_of(band), pool, named);
-    let answer = named.strqset(capped(queue), band, hiwat, lowat);
+    let answer = named.strqset(capped_number(queue), band, hiwat, lowat);
     pool.hold(named);
     number(coded_refusal(answer))
 }
@@ -66,12 +66,13 @@ pub extern "C" fn strm_c_strqget(
     marks: &mut StrmMarks,
 ) -> i32
     ensures { Ranged (band_of band) (λ b. Asks
-        (λ v. told_of_refused (λ m. Ok (marks_in_c m)) (answer_of (queues.strqget (capped queue) b (queued v.pool)))))
+        (λ v. answer_of_refusable (λ m. Ok (marks_in_c m))
+        (answer_of (queues.strqget (capped_number queue) b (queued_blocks_of v.pool)))))
         pool.old.named pool.new.named result marks.old marks.new }
 {
     let named = opened!(alloc, pool);
     let band = ranged!(band_of(band), pool, named);
-    let answer = named.pool().strqget(capped(queue), band);
+    let answer = named.pool().strqget(capped_number(queue), band);
     pool.hold(named);
     put(coded_refusal(answer).map(StrmMarks::of), marks)
 }
@@ -80,11 +81,11 @@ pub extern "C" fn strm_c_strqget(
 /// strm_named.
 #[unsafe(no_mangle)]
 pub extern "C" fn strm_c_qenable(alloc: Global, pool: &mut StrmPool, queue: u32) -> i32
-    ensures { DoesOnPool Ok (λ p. on_queues p (queues.qenable (capped queue) (queued p)))
+    ensures { DoesOnPool Ok (λ p. on_queues p (queues.qenable (capped_number queue) (queued_blocks_of p)))
         pool.old.named pool.new.named result tt tt }
 {
     let mut named = opened!(alloc, pool);
-    let answer = named.qenable(capped(queue));
+    let answer = named.qenable(capped_number(queue));
     pool.hold(named);
     number(coded_refusal(answer))
 }
@@ -92,11 +93,11 @@ pub extern "C" fn strm_c_qenable(alloc: Global, pool: &mut StrmPool, queue: u32)
 /// Switches enabling of a queue off. As [`NamedPool::noenable`] of strm_named.
 #[unsafe(no_mangle)]
 pub extern "C" fn strm_c_noenable(alloc: Global, pool: &mut StrmPool, queue: u32) -> i32
-    ensures { DoesOnPool Ok (λ p. on_queues p (queues.noenable (capped queue) (queued p)))
+    ensures { DoesOnPool Ok (λ p. on_queues p (queues.noenable (capped_number queue) (queued_blocks_of p)))
         pool.old.named pool.new.named result tt tt }
 {
     let mut named = opened!(alloc, pool);
-    let answer = named.noenable(capped(queue));
+    let answer = named.noenable(capped_number(queue));
     pool.hold(named);
     number(coded_refusal(answer))
 }
@@ -104,11 +105,11 @@ pub extern "C" fn strm_c_noenable(alloc: Global, pool: &mut StrmPool, queue: u32
 /// Switches enabling of a queue on again. As [`NamedPool::enableok`] of strm_named.
 #[unsafe(no_mangle)]
 pub extern "C" fn strm_c_enableok(alloc: Global, pool: &mut StrmPool, queue: u32) -> i32
-    ensures { DoesOnPool Ok (λ p. on_queues p (queues.enableok (capped queue) (queued p)))
+    ensures { DoesOnPool Ok (λ p. on_queues p (queues.enableok (capped_number queue) (queued_blocks_of p)))
         pool.old.named pool.new.named result tt tt }
 {
     let mut named = opened!(alloc, pool);
-    let answer = named.enableok(capped(queue));
+    let answer = named.enableok(capped_number(queue));
     pool.hold(named);
     number(coded_refusal(answer))
 }
@@ -117,7 +118,11 @@ pub extern "C" fn strm_c_enableok(alloc: Global, pool: &mut StrmPool, queue: u32
 /// Returns `Nothing` if the list is empty.
 #[unsafe(no_mangle)]
 pub extern "C" fn strm_c_next_service(alloc: Global, pool: &mut StrmPool, queue: &mut u32) -> i32
-    ensures { Takes any (λ p. ((queues.next_service (queued p)).0, with_queued p (queues.next_service (queued p)).1))
+    ensures { Takes any_or_nothing (λ p. (
+      (queues.next_service (queued_blocks_of p)).0,
+      with_queued p
+          (queues.next_service (queued_blocks_of p)).1,
+    ))
         pool.old.named pool.new.named result queue.old queue.new }
 {
     let mut named = opened!(alloc, pool);
@@ -135,7 +140,7 @@ pub extern "C" fn strm_c_run_at(
     place: u32,
     queue: &mut u32,
 ) -> i32
-    ensures { Asks (λ v. any (queues.run_at place (queued v.pool)))
+    ensures { Asks (λ v. any_or_nothing (queues.run_at place (queued_blocks_of v.pool)))
         pool.old.named pool.new.named result queue.old queue.new }
 {
     let named = opened!(alloc, pool);

@@ -3,10 +3,10 @@ ghost use Rattle.std.specs.Prelude.{[], ◌∷◌, Ok};
 ghost use Rattle.strm_mblk.specs.BlockCalls as blocks;
 ghost use Rattle.strm_mblk.specs.Trimming as trimming;
 ghost use Rattle.strm_pool.specs.PoolValue.{on_arena, with_arena};
-ghost use Rattle.strm_mblk.specs.Given.{done};
-ghost use Rattle.strm_named.specs.NamedCalls.{any_message, on_name, on_names, plain, two_messages};
-ghost use Rattle.strm_c.specs.Codes.{any};
-ghost use Rattle.strm_c.specs.Exports.{Does};
+ghost use Rattle.strm_mblk.specs.Given.{given_nothing};
+ghost use Rattle.strm_named.specs.NamedCalls.{any_message, on_name, on_names, no_message, two_messages};
+ghost use Rattle.strm_c.specs.Codes.{any_or_nothing};
+ghost use Rattle.strm_c.specs.Exports.{CallsNamed};
 ghost use Rattle.strm_c.specs.InC.{both};
 
 use crate::answer::{coded, coded_any, coded_both, number, opened, put};
@@ -18,8 +18,8 @@ use strm_named::Name;
 /// Appends a message to another. As [`NamedPool::linkb`] of strm_named.
 #[unsafe(no_mangle)]
 pub extern "C" fn strm_c_linkb(alloc: Global, pool: &mut StrmPool, msg: Name, tail: Name) -> i32
-    ensures { Does plain Ok (λ v. on_names v msg tail
-        (done (with_arena v.pool (blocks.linkb msg.head tail.head v.pool.arena)))) (tail.head ∷ [])
+    ensures { CallsNamed no_message Ok (λ v. on_names v msg tail
+        (given_nothing (with_arena v.pool (blocks.linkb msg.head tail.head v.pool.arena)))) (tail.head ∷ [])
         pool.old.named pool.new.named result tt tt }
 {
     let mut named = opened!(alloc, pool);
@@ -37,7 +37,8 @@ pub extern "C" fn strm_c_unlinkb(
     msg: Name,
     rest: &mut Name,
 ) -> i32
-    ensures { Does any_message any (λ v. on_name v msg (on_arena v.pool (Ok (blocks.unlinkb msg.head v.pool.arena)))) []
+    ensures { CallsNamed any_message any_or_nothing
+        (λ v. on_name v msg (on_arena v.pool (Ok (blocks.unlinkb msg.head v.pool.arena)))) []
         pool.old.named pool.new.named result rest.old rest.new }
 {
     let mut named = opened!(alloc, pool);
@@ -57,7 +58,8 @@ pub extern "C" fn strm_c_rmvb(
     block: &mut Name,
     rest: &mut Name,
 ) -> i32
-    ensures { Does two_messages both (λ v. on_name v msg (on_arena v.pool (blocks.rmvb msg.head place v.pool.arena)))
+    ensures { CallsNamed two_messages both (λ v. on_name v msg
+        (on_arena v.pool (blocks.rmvb msg.head place v.pool.arena)))
         (msg.head ∷ []) pool.old.named pool.new.named result (block.old, rest.old) (block.new, rest.new) }
 {
     let mut named = opened!(alloc, pool);
@@ -73,7 +75,8 @@ pub extern "C" fn strm_c_rmvb(
 /// Removes bytes at the head or the tail of a message. As [`NamedPool::adjmsg`] of strm_named.
 #[unsafe(no_mangle)]
 pub extern "C" fn strm_c_adjmsg(alloc: Global, pool: &mut StrmPool, msg: Name, count: i32) -> i32
-    ensures { Does plain Ok (λ v. on_name v msg (on_arena v.pool (trimming.adjmsg msg.head count v.pool.arena))) []
+    ensures { CallsNamed no_message Ok (λ v. on_name v msg
+        (on_arena v.pool (trimming.adjmsg msg.head count v.pool.arena))) []
         pool.old.named pool.new.named result tt tt }
 {
     let mut named = opened!(alloc, pool);
@@ -85,7 +88,8 @@ pub extern "C" fn strm_c_adjmsg(alloc: Global, pool: &mut StrmPool, msg: Name, c
 /// Brings bytes of a message into its first block. As [`NamedPool::pullupmsg`] of strm_named.
 #[unsafe(no_mangle)]
 pub extern "C" fn strm_c_pullupmsg(alloc: Global, pool: &mut StrmPool, msg: Name, count: i32) -> i32
-    ensures { Does plain Ok (λ v. on_name v msg (on_arena v.pool (trimming.pullupmsg msg.head count v.pool.arena))) []
+    ensures { CallsNamed no_message Ok (λ v. on_name v msg
+        (on_arena v.pool (trimming.pullupmsg msg.head count v.pool.arena))) []
         pool.old.named pool.new.named result tt tt }
 {
     let mut named = opened!(alloc, pool);

@@ -3,10 +3,10 @@ ghost use Rattle.std.specs.Prelude.{[], ◌∷◌, Ok};
 ghost use Rattle.strm_mblk.specs.BlockCalls as blocks;
 ghost use Rattle.strm_mblk.specs.Freeing as freeing;
 ghost use Rattle.strm_pool.specs.PoolValue.{on_arena, with_arena};
-ghost use Rattle.strm_mblk.specs.Given.{done};
-ghost use Rattle.strm_named.specs.NamedCalls.{any_message, on_name, one_message, outcome_of, plain};
-ghost use Rattle.strm_c.specs.Codes.{any};
-ghost use Rattle.strm_c.specs.Exports.{Asks, Does};
+ghost use Rattle.strm_mblk.specs.Given.{given_nothing};
+ghost use Rattle.strm_named.specs.NamedCalls.{any_message, on_name, one_message, outcome_of, no_message};
+ghost use Rattle.strm_c.specs.Codes.{any_or_nothing};
+ghost use Rattle.strm_c.specs.Exports.{Asks, CallsNamed};
 ghost use Rattle.strm_c.specs.InC.{flag};
 
 use crate::answer::{coded, coded_any, number, opened, put};
@@ -23,7 +23,7 @@ pub extern "C" fn strm_c_allocb(
     size: u32,
     msg: &mut Name,
 ) -> i32
-    ensures { Does one_message Ok (λ v. outcome_of (on_arena v.pool (blocks.allocb size v.pool.arena))) []
+    ensures { CallsNamed one_message Ok (λ v. outcome_of (on_arena v.pool (blocks.allocb size v.pool.arena))) []
         pool.old.named pool.new.named result msg.old msg.new }
 {
     let mut named = opened!(alloc, pool);
@@ -47,7 +47,7 @@ pub extern "C" fn strm_c_testb(alloc: Global, pool: &mut StrmPool, size: u32, ye
 /// Duplicates a message's first block, and stores the duplicate's name in `copy`. As [`NamedPool::dupb`] of strm_named.
 #[unsafe(no_mangle)]
 pub extern "C" fn strm_c_dupb(alloc: Global, pool: &mut StrmPool, msg: Name, copy: &mut Name) -> i32
-    ensures { Does one_message Ok (λ v. on_name v msg (on_arena v.pool (blocks.dupb msg.head v.pool.arena))) []
+    ensures { CallsNamed one_message Ok (λ v. on_name v msg (on_arena v.pool (blocks.dupb msg.head v.pool.arena))) []
         pool.old.named pool.new.named result copy.old copy.new }
 {
     let mut named = opened!(alloc, pool);
@@ -64,7 +64,7 @@ pub extern "C" fn strm_c_dupmsg(
     msg: Name,
     copy: &mut Name,
 ) -> i32
-    ensures { Does one_message Ok (λ v. on_name v msg (on_arena v.pool (blocks.dupmsg msg.head v.pool.arena))) []
+    ensures { CallsNamed one_message Ok (λ v. on_name v msg (on_arena v.pool (blocks.dupmsg msg.head v.pool.arena))) []
         pool.old.named pool.new.named result copy.old copy.new }
 {
     let mut named = opened!(alloc, pool);
@@ -81,7 +81,7 @@ pub extern "C" fn strm_c_copyb(
     msg: Name,
     copy: &mut Name,
 ) -> i32
-    ensures { Does one_message Ok (λ v. on_name v msg (on_arena v.pool (blocks.copyb msg.head v.pool.arena))) []
+    ensures { CallsNamed one_message Ok (λ v. on_name v msg (on_arena v.pool (blocks.copyb msg.head v.pool.arena))) []
         pool.old.named pool.new.named result copy.old copy.new }
 {
     let mut named = opened!(alloc, pool);
@@ -98,7 +98,7 @@ pub extern "C" fn strm_c_copymsg(
     msg: Name,
     copy: &mut Name,
 ) -> i32
-    ensures { Does one_message Ok (λ v. on_name v msg (on_arena v.pool (blocks.copymsg msg.head v.pool.arena))) []
+    ensures { CallsNamed one_message Ok (λ v. on_name v msg (on_arena v.pool (blocks.copymsg msg.head v.pool.arena))) []
         pool.old.named pool.new.named result copy.old copy.new }
 {
     let mut named = opened!(alloc, pool);
@@ -116,7 +116,8 @@ pub extern "C" fn strm_c_freeb(
     msg: Name,
     rest: &mut Name,
 ) -> i32
-    ensures { Does any_message any (λ v. on_name v msg (on_arena v.pool (Ok (blocks.freeb msg.head v.pool.arena))))
+    ensures { CallsNamed any_message any_or_nothing
+        (λ v. on_name v msg (on_arena v.pool (Ok (blocks.freeb msg.head v.pool.arena))))
         (msg.head ∷ []) pool.old.named pool.new.named result rest.old rest.new }
 {
     let mut named = opened!(alloc, pool);
@@ -128,7 +129,8 @@ pub extern "C" fn strm_c_freeb(
 /// Frees a message. As [`NamedPool::freemsg`] of strm_named.
 #[unsafe(no_mangle)]
 pub extern "C" fn strm_c_freemsg(alloc: Global, pool: &mut StrmPool, msg: Name) -> i32
-    ensures { Does plain Ok (λ v. on_name v msg (done (with_arena v.pool (freeing.freemsg msg.head v.pool.arena))))
+    ensures { CallsNamed no_message Ok (λ v. on_name v msg
+        (given_nothing (with_arena v.pool (freeing.freemsg msg.head v.pool.arena))))
         (msg.head ∷ []) pool.old.named pool.new.named result tt tt }
 {
     let mut named = opened!(alloc, pool);

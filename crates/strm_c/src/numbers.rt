@@ -1,13 +1,13 @@
 //! What numbers from C mean as queues, bands, types and flushes.
 ghost use Rattle.std.specs.Prelude.{◌≡◌, slice_get};
-ghost use Rattle.strm_c.specs.InC.{band_of, capped, flush_of, type_of};
+ghost use Rattle.strm_c.specs.InC.{band_of, capped_number, flush_of, type_of};
 ghost use Rattle.strm_c.specs.Opening.{next_of};
 
 use strm_pool::{Flush, MsgType};
 
 // The number of a queue or a class. No pool has number 255, so it means every greater number too.
-pub(crate) fn capped(number: u32) -> u8
-    ensures { result ≡ capped number }
+pub(crate) fn capped_number(number: u32) -> u8
+    ensures { result ≡ capped_number number }
 {
     u8::try_from(number).unwrap_or(u8::MAX)
 }
@@ -19,7 +19,7 @@ pub(crate) fn next_of(number: u32) -> Option<u8>
     if number == u32::MAX {
         None
     } else {
-        Some(capped(number))
+        Some(capped_number(number))
     }
 }
 

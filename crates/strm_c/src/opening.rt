@@ -2,8 +2,8 @@
 ghost use Rattle.std.specs.Prelude.{◌≡◌, ◌≤◌, None, length, map};
 ghost use Rattle.strm_data.specs.Limits.{most_classes};
 ghost use Rattle.strm_queue.specs.Limits.{most_queues};
-ghost use Rattle.strm_c.specs.Codes.{returned};
-ghost use Rattle.strm_c.specs.Opening.{OpensBoxed, OpensHandle, class_spec_of, closed, config_of, queue_spec_of};
+ghost use Rattle.strm_c.specs.Codes.{number_returned};
+ghost use Rattle.strm_c.specs.Opening.{OpensBoxed, OpensHandle, class_spec_of, answer_of_close, config_of, queue_spec_of};
 
 use crate::answer::opened;
 use crate::code::Code;
@@ -122,7 +122,7 @@ pub extern "C" fn strm_c_open(
 #[unsafe(no_mangle)]
 pub extern "C" fn strm_c_close(alloc: Global, pool: &mut StrmPool) -> i32
     ensures held { pool.new.named ≡ None }
-    ensures number { result ≡ returned (closed pool.old.named) }
+    ensures number { result ≡ number_returned (answer_of_close pool.old.named) }
 {
     let named = opened!(alloc, pool);
     drop(named);

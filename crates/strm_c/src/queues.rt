@@ -2,28 +2,28 @@
 ghost use Rattle.std.specs.Prelude.{[], ◌∷◌, Ok};
 ghost use Rattle.strm_mblk.specs.Given.{answer_of};
 ghost use Rattle.strm_queue.specs.QueueCalls as queues;
-ghost use Rattle.strm_pool.specs.PoolValue.{on_queues, queued};
-ghost use Rattle.strm_named.specs.NamedCalls.{any_message, on_name, one_message, outcome_of, plain};
-ghost use Rattle.strm_c.specs.Codes.{any, told_of_refused};
-ghost use Rattle.strm_c.specs.Exports.{Asks, Does, DoesOnPool, Ranged};
-ghost use Rattle.strm_c.specs.InC.{band_of, flush_of, capped};
+ghost use Rattle.strm_pool.specs.PoolValue.{on_queues, queued_blocks_of};
+ghost use Rattle.strm_named.specs.NamedCalls.{any_message, on_name, one_message, outcome_of, no_message};
+ghost use Rattle.strm_c.specs.Codes.{any_or_nothing, answer_of_refusable};
+ghost use Rattle.strm_c.specs.Exports.{Asks, CallsNamed, DoesOnPool, Ranged};
+ghost use Rattle.strm_c.specs.InC.{band_of, flush_of, capped_number};
 
 use crate::answer::{coded, coded_any, coded_refusal, number, opened, put, ranged};
 use crate::code::Code;
 use crate::handle::StrmPool;
-use crate::numbers::{band_of, capped, flush_of};
+use crate::numbers::{band_of, capped_number, flush_of};
 use std::alloc::Global;
 use strm_named::Name;
 
 /// Puts a message on a queue, after its equals. As [`NamedPool::putq`] of strm_named.
 #[unsafe(no_mangle)]
 pub extern "C" fn strm_c_putq(alloc: Global, pool: &mut StrmPool, queue: u32, msg: Name) -> i32
-    ensures { Does plain Ok (λ v. on_name v msg
-        (on_queues v.pool (queues.putq (capped queue) msg.head (queued v.pool)))) (msg.head ∷ [])
+    ensures { CallsNamed no_message Ok (λ v. on_name v msg
+        (on_queues v.pool (queues.putq (capped_number queue) msg.head (queued_blocks_of v.pool)))) (msg.head ∷ [])
         pool.old.named pool.new.named result tt tt }
 {
     let mut named = opened!(alloc, pool);
-    let answer = named.putq(capped(queue), msg);
+    let answer = named.putq(capped_number(queue), msg);
     pool.hold(named);
     number(coded(answer))
 }
@@ -31,12 +31,12 @@ pub extern "C" fn strm_c_putq(alloc: Global, pool: &mut StrmPool, queue: u32, ms
 /// Puts a message on a queue, before its equals. As [`NamedPool::putbq`] of strm_named.
 #[unsafe(no_mangle)]
 pub extern "C" fn strm_c_putbq(alloc: Global, pool: &mut StrmPool, queue: u32, msg: Name) -> i32
-    ensures { Does plain Ok (λ v. on_name v msg
-        (on_queues v.pool (queues.putbq (capped queue) msg.head (queued v.pool)))) (msg.head ∷ [])
+    ensures { CallsNamed no_message Ok (λ v. on_name v msg
+        (on_queues v.pool (queues.putbq (capped_number queue) msg.head (queued_blocks_of v.pool)))) (msg.head ∷ [])
         pool.old.named pool.new.named result tt tt }
 {
     let mut named = opened!(alloc, pool);
-    let answer = named.putbq(capped(queue), msg);
+    let answer = named.putbq(capped_number(queue), msg);
     pool.hold(named);
     number(coded(answer))
 }
@@ -50,12 +50,12 @@ pub extern "C" fn strm_c_insq(
     place: u32,
     msg: Name,
 ) -> i32
-    ensures { Does plain Ok (λ v. on_name v msg
-        (on_queues v.pool (queues.insq (capped queue) place msg.head (queued v.pool)))) (msg.head ∷ [])
+    ensures { CallsNamed no_message Ok (λ v. on_name v msg
+        (on_queues v.pool (queues.insq (capped_number queue) place msg.head (queued_blocks_of v.pool)))) (msg.head ∷ [])
         pool.old.named pool.new.named result tt tt }
 {
     let mut named = opened!(alloc, pool);
-    let answer = named.insq(capped(queue), place, msg);
+    let answer = named.insq(capped_number(queue), place, msg);
     pool.hold(named);
     number(coded(answer))
 }
@@ -64,11 +64,12 @@ pub extern "C" fn strm_c_insq(
 /// the queue is empty.
 #[unsafe(no_mangle)]
 pub extern "C" fn strm_c_getq(alloc: Global, pool: &mut StrmPool, queue: u32, msg: &mut Name) -> i32
-    ensures { Does any_message any (λ v. outcome_of (on_queues v.pool (queues.getq (capped queue) (queued v.pool)))) []
+    ensures { CallsNamed any_message any_or_nothing
+        (λ v. outcome_of (on_queues v.pool (queues.getq (capped_number queue) (queued_blocks_of v.pool)))) []
         pool.old.named pool.new.named result msg.old msg.new }
 {
     let mut named = opened!(alloc, pool);
-    let answer = named.getq(capped(queue));
+    let answer = named.getq(capped_number(queue));
     pool.hold(named);
     put(coded_any(answer), msg)
 }
@@ -82,12 +83,12 @@ pub extern "C" fn strm_c_rmvq(
     place: u32,
     msg: &mut Name,
 ) -> i32
-    ensures { Does one_message Ok (λ v. outcome_of
-        (on_queues v.pool (queues.rmvq (capped queue) place (queued v.pool)))) []
+    ensures { CallsNamed one_message Ok (λ v. outcome_of
+        (on_queues v.pool (queues.rmvq (capped_number queue) place (queued_blocks_of v.pool)))) []
         pool.old.named pool.new.named result msg.old msg.new }
 {
     let mut named = opened!(alloc, pool);
-    let answer = named.rmvq(capped(queue), place);
+    let answer = named.rmvq(capped_number(queue), place);
     pool.hold(named);
     put(coded(answer), msg)
 }
@@ -100,11 +101,12 @@ pub extern "C" fn strm_c_qsize(
     queue: u32,
     msgs: &mut u32,
 ) -> i32
-    ensures { Asks (λ v. told_of_refused Ok (answer_of (queues.qsize (capped queue) (queued v.pool))))
+    ensures { Asks (λ v. answer_of_refusable Ok (answer_of
+        (queues.qsize (capped_number queue) (queued_blocks_of v.pool))))
         pool.old.named pool.new.named result msgs.old msgs.new }
 {
     let named = opened!(alloc, pool);
-    let answer = named.pool().qsize(capped(queue));
+    let answer = named.pool().qsize(capped_number(queue));
     pool.hold(named);
     put(coded_refusal(answer), msgs)
 }
@@ -113,12 +115,12 @@ pub extern "C" fn strm_c_qsize(
 #[unsafe(no_mangle)]
 pub extern "C" fn strm_c_flushq(alloc: Global, pool: &mut StrmPool, queue: u32, flush: u32) -> i32
     ensures { Ranged (flush_of flush) (λ f. DoesOnPool Ok
-        (λ p. on_queues p (queues.flushq (capped queue) f (queued p))))
+        (λ p. on_queues p (queues.flushq (capped_number queue) f (queued_blocks_of p))))
         pool.old.named pool.new.named result tt tt }
 {
     let mut named = opened!(alloc, pool);
     let flush = ranged!(flush_of(flush), pool, named);
-    let answer = named.flushq(capped(queue), flush);
+    let answer = named.flushq(capped_number(queue), flush);
     pool.hold(named);
     number(coded_refusal(answer))
 }
@@ -134,13 +136,13 @@ pub extern "C" fn strm_c_flushband(
     flush: u32,
 ) -> i32
     ensures { Ranged (band_of band) (λ b. Ranged (flush_of flush)
-        (λ f. DoesOnPool Ok (λ p. on_queues p (queues.flushband (capped queue) b f (queued p)))))
+        (λ f. DoesOnPool Ok (λ p. on_queues p (queues.flushband (capped_number queue) b f (queued_blocks_of p)))))
         pool.old.named pool.new.named result tt tt }
 {
     let mut named = opened!(alloc, pool);
     let band = ranged!(band_of(band), pool, named);
     let flush = ranged!(flush_of(flush), pool, named);
-    let answer = named.flushband(capped(queue), band, flush);
+    let answer = named.flushband(capped_number(queue), band, flush);
     pool.hold(named);
     number(coded_refusal(answer))
 }

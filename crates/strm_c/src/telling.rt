@@ -4,16 +4,16 @@ ghost use Rattle.strm_data.specs.DataStore.{class_infos};
 ghost use Rattle.strm_mblk.specs.Arena.{census_of};
 ghost use Rattle.strm_mblk.specs.Given.{answer_of};
 ghost use Rattle.strm_queue.specs.QueueCalls as queues;
-ghost use Rattle.strm_pool.specs.PoolValue.{queued};
-ghost use Rattle.strm_c.specs.Codes.{any, told_of_refused};
+ghost use Rattle.strm_pool.specs.PoolValue.{queued_blocks_of};
+ghost use Rattle.strm_c.specs.Codes.{any_or_nothing, answer_of_refusable};
 ghost use Rattle.strm_c.specs.Exports.{Asks, Ranged};
-ghost use Rattle.strm_c.specs.InC.{band_in_c, band_of, capped, census_in_c, class_in_c, queue_in_c};
+ghost use Rattle.strm_c.specs.InC.{band_in_c, band_of, capped_number, census_in_c, class_in_c, queue_in_c};
 
 use crate::answer::{coded_refusal, opened, present, put, ranged};
 use crate::code::Code;
 use crate::handle::StrmPool;
 use crate::layout::{StrmBandInfo, StrmCensus, StrmClassInfo, StrmQueueInfo};
-use crate::numbers::{band_of, capped};
+use crate::numbers::{band_of, capped_number};
 use std::alloc::Global;
 
 /// Stores the numbers of free, queued and held message blocks in `census`. As [`Pool::census`] of strm_pool.
@@ -37,11 +37,12 @@ pub extern "C" fn strm_c_class_info(
     place: u32,
     info: &mut StrmClassInfo,
 ) -> i32
-    ensures { Asks (λ v. any (option_map class_in_c (slice_get (class_infos v.pool.arena.store) (capped place))))
+    ensures { Asks (λ v. any_or_nothing (option_map class_in_c
+        (slice_get (class_infos v.pool.arena.store) (capped_number place))))
         pool.old.named pool.new.named result info.old info.new }
 {
     let named = opened!(alloc, pool);
-    let answer = named.pool().class_info(capped(place));
+    let answer = named.pool().class_info(capped_number(place));
     pool.hold(named);
     put(present(answer.map(StrmClassInfo::of)), info)
 }
@@ -54,12 +55,12 @@ pub extern "C" fn strm_c_queue_info(
     queue: u32,
     info: &mut StrmQueueInfo,
 ) -> i32
-    ensures { Asks (λ v. told_of_refused (λ i. Ok (queue_in_c i))
-        (answer_of (queues.queue_info (capped queue) (queued v.pool))))
+    ensures { Asks (λ v. answer_of_refusable (λ i. Ok (queue_in_c i))
+        (answer_of (queues.queue_info (capped_number queue) (queued_blocks_of v.pool))))
         pool.old.named pool.new.named result info.old info.new }
 {
     let named = opened!(alloc, pool);
-    let answer = named.pool().queue_info(capped(queue));
+    let answer = named.pool().queue_info(capped_number(queue));
     pool.hold(named);
     put(coded_refusal(answer).map(StrmQueueInfo::of), info)
 }
@@ -75,12 +76,13 @@ pub extern "C" fn strm_c_band_info(
     info: &mut StrmBandInfo,
 ) -> i32
     ensures { Ranged (band_of band) (λ b. Asks
-        (λ v. told_of_refused (λ i. Ok (band_in_c i)) (answer_of (queues.band_info (capped queue) b (queued v.pool)))))
+        (λ v. answer_of_refusable (λ i. Ok (band_in_c i))
+        (answer_of (queues.band_info (capped_number queue) b (queued_blocks_of v.pool)))))
         pool.old.named pool.new.named result info.old info.new }
 {
     let named = opened!(alloc, pool);
     let band = ranged!(band_of(band), pool, named);
-    let answer = named.pool().band_info(capped(queue), band);
+    let answer = named.pool().band_info(capped_number(queue), band);
     pool.hold(named);
     put(coded_refusal(answer).map(StrmBandInfo::of), info)
 }

@@ -1,6 +1,6 @@
 //! The names and the texts of codes, and the version.
 ghost use Rattle.std.specs.Prelude.{◌≡◌, length};
-ghost use Rattle.strm_c.specs.Texts.{code_at, copied_into, first_at, name_at, name_of, text_at, text_of, version};
+ghost use Rattle.strm_c.specs.Texts.{code_at, buffer_with_text, first_at, name_at, name_of, text_at, text_of, version};
 
 use crate::code::Code;
 use strm_pool::{Refusal, Which};
@@ -181,7 +181,7 @@ fn text_at(number: i32) -> &'static str
 // Copies as much of a text as fits, and returns the length of the whole text in bytes.
 fn copy(text: &str, into: &mut [u8]) -> usize
     ensures length { result ≡ length text.now }
-    ensures into { into.new ≡ copied_into text.now into.old }
+    ensures into { into.new ≡ buffer_with_text text.now into.old }
 {
     let bytes = text.as_bytes();
     let count = bytes.len().min(into.len());
@@ -193,7 +193,7 @@ fn copy(text: &str, into: &mut [u8]) -> usize
 #[unsafe(no_mangle)]
 pub extern "C" fn strm_c_text(code: i32, text: &mut [u8]) -> usize
     ensures length { result ≡ length (text_at code) }
-    ensures text { text.new ≡ copied_into (text_at code) text.old }
+    ensures text { text.new ≡ buffer_with_text (text_at code) text.old }
 {
     copy(text_at(code), text)
 }
@@ -202,7 +202,7 @@ pub extern "C" fn strm_c_text(code: i32, text: &mut [u8]) -> usize
 #[unsafe(no_mangle)]
 pub extern "C" fn strm_c_name(code: i32, text: &mut [u8]) -> usize
     ensures length { result ≡ length (name_at code) }
-    ensures text { text.new ≡ copied_into (name_at code) text.old }
+    ensures text { text.new ≡ buffer_with_text (name_at code) text.old }
 {
     copy(name_at(code), text)
 }
@@ -211,7 +211,7 @@ pub extern "C" fn strm_c_name(code: i32, text: &mut [u8]) -> usize
 #[unsafe(no_mangle)]
 pub extern "C" fn strm_c_version(text: &mut [u8]) -> usize
     ensures length { result ≡ length version }
-    ensures text { text.new ≡ copied_into version text.old }
+    ensures text { text.new ≡ buffer_with_text version text.old }
 {
     copy("0.1.0", text)
 }

@@ -1,7 +1,7 @@
 //! Calls on wishes for message blocks.
 ghost use Rattle.std.specs.Prelude.{Ok, option_map};
 ghost use Rattle.strm_pool.specs.Wishes as wishes;
-ghost use Rattle.strm_c.specs.Codes.{any};
+ghost use Rattle.strm_c.specs.Codes.{any_or_nothing};
 ghost use Rattle.strm_c.specs.Exports.{Asks, DoesOnPool, Takes};
 ghost use Rattle.strm_c.specs.InC.{wish_in_c};
 
@@ -37,7 +37,7 @@ pub extern "C" fn strm_c_unbufcall(alloc: Global, pool: &mut StrmPool, id: u32) 
 /// strm_named. Returns `Nothing` if there is none.
 #[unsafe(no_mangle)]
 pub extern "C" fn strm_c_take_ready(alloc: Global, pool: &mut StrmPool, wish: &mut StrmWish) -> i32
-    ensures { Takes (λ w. any (option_map wish_in_c w)) wishes.take_ready
+    ensures { Takes (λ w. any_or_nothing (option_map wish_in_c w)) wishes.take_ready
         pool.old.named pool.new.named result wish.old wish.new }
 {
     let mut named = opened!(alloc, pool);
@@ -54,7 +54,7 @@ pub extern "C" fn strm_c_wish_at(
     place: u32,
     wish: &mut StrmWish,
 ) -> i32
-    ensures { Asks (λ v. any (option_map wish_in_c (wishes.wish_at place v.pool)))
+    ensures { Asks (λ v. any_or_nothing (option_map wish_in_c (wishes.wish_at place v.pool)))
         pool.old.named pool.new.named result wish.old wish.new }
 {
     let named = opened!(alloc, pool);

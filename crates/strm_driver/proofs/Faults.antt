@@ -6,7 +6,7 @@ use Rattle.strm_driver.specs.declared.fault.RunFault.{RunFault}
 use Rattle.strm_driver.specs.declared.fault.RunFault.TheVariants.{Read, TooLong, Write, Script, Config, Memory, Refused}
 use Rattle.strm_driver.specs.declared.fault.TextFault.{TextFault}
 use Rattle.strm_driver.specs.declared.fault.TextFault.TheVariants as text_faults
-use Rattle.strm_driver.specs.Told.{IsMet, errs, is_write, run_fault_of_text, status_of}
+use Rattle.strm_driver.specs.Told.{IsRunFault, errs, is_write, run_fault_of_text, status_of}
 
 is_write-text : (fault : TextFault) → is_write (run_fault_of_text fault) ≡ false
 is_write-text (text_faults.Script found) = refl
@@ -20,7 +20,7 @@ errs-text failed (Ok x) fault is = sym (or-false failed)
 errs-text failed (Err e) fault is = rw (is, is_write-text fault) (sym (or-false failed))
 
 -- a fault that is ever met has one of these statuses
-pub met_status : (fault : RunFault) → IsMet fault → status_of fault ≤ 3
+pub met_status : (fault : RunFault) → IsRunFault fault → status_of fault ≤ 3
 met_status Read met = omega arith
 met_status TooLong met = omega arith
 met_status Write met = omega arith

@@ -9,15 +9,15 @@ use Rattle.strm_links.proofs.lists.Counting.{one_if}
 use Rattle.strm_mblk.specs.Block.{Message}
 use Rattle.strm_mblk.specs.declared.token.TokenValue.{TokenValue}
 use Rattle.strm_mblk.specs.Arena.{has, held_at, is_of_length}
-use Rattle.strm_mblk.specs.Freeing.{spent}
+use Rattle.strm_mblk.specs.Freeing.{with_token_spent}
 use Rattle.strm_mblk.proofs.arena.Counts.{count_adds}
 use Rattle.strm_mblk.proofs.arena.Frame.{leaves_spent, spent_gone}
 use Rattle.strm_pool.specs.declared.call.Call.{Call}
 use Rattle.strm_pool.specs.declared.reply.Reply.{Reply}
 use Rattle.strm_pool.specs.Limits.{most_registers}
-use Rattle.strm_pool.specs.PoolValue.{PoolValue, drained}
+use Rattle.strm_pool.specs.PoolValue.{PoolValue, with_tokens_spent}
 use Rattle.strm_pool.specs.PoolValue as pools
-use Rattle.strm_pool.specs.Registers.{AreAccounted, CarryId, Entries, entries_of, tells, times_told}
+use Rattle.strm_pool.specs.Registers.{AreAccounted, CarryId, Entries, entries_of, is_entry_of, times_listed}
 use Rattle.strm_pool.specs.Step.{Applies}
 use Rattle.strm_shared.specs.Desks.{DeskValue}
 use Rattle.strm_driver.specs.Holding.{AreHeldAlike, IsIdle}
@@ -25,12 +25,12 @@ use Rattle.strm_driver.specs.Holding.{AreHeldAlike, IsIdle}
 -- ---- a token that is spent
 
 -- an entry more
-told_more : (h n : ℕ) (o : Option (ℕ × ℕ)) (es : Entries) (others : List Entries) → times_told h n ((o ∷ es) ∷ others) ≡ one_if (tells h n o) + times_told h n (es ∷ others)
-told_more h n o es others = sum_by-cons (λ x. one_if (tells h n x)) o (flat_map (λ xs. xs) (es ∷ others))
+told_more : (h n : ℕ) (o : Option (ℕ × ℕ)) (es : Entries) (others : List Entries) → times_listed h n ((o ∷ es) ∷ others) ≡ one_if (is_entry_of h n o) + times_listed h n (es ∷ others)
+told_more h n o es others = sum_by-cons (λ x. one_if (is_entry_of h n x)) o (flat_map (λ xs. xs) (es ∷ others))
 
 module _ (v : PoolValue) (t : TokenValue) (es : Entries) (others : List Entries)
     (carried : t.pool ≡ v.arena.id) (accounted : AreAccounted v.arena ((Some (t.head, t.blocks) ∷ es) ∷ others)) where
-  here : tells t.head t.blocks (Some (t.head, t.blocks)) ≡ true
+  here : is_entry_of t.head t.blocks (Some (t.head, t.blocks)) ≡ true
   here = and_from _ _ (eq-eqb t.head t.head refl) (eq-eqb t.blocks t.blocks refl)
 
   -- its message is held
@@ -46,30 +46,30 @@ module _ (v : PoolValue) (t : TokenValue) (es : Entries) (others : List Entries)
   has_it = and_from _ _ (eq-eqb t.pool v.arena.id carried) is_held
 
   -- in as many blocks as the token has
-  alike : (n : ℕ) → is_of_length n (held_at v.arena t.head) ≡ tells t.head n (Some (t.head, t.blocks))
+  alike : (n : ℕ) → is_of_length n (held_at v.arena t.head) ≡ is_entry_of t.head n (Some (t.head, t.blocks))
   alike n = at (held_at v.arena t.head) is_held
     where
-      at : (o : Option Message) → is_of_length t.blocks o ≡ true → is_of_length n o ≡ tells t.head n (Some (t.head, t.blocks))
+      at : (o : Option Message) → is_of_length t.blocks o ≡ true → is_of_length n o ≡ is_entry_of t.head n (Some (t.head, t.blocks))
       at None is = absurd (false≢true is)
       at (Some m) is = ap (λ k. k == n) (eqb-true (length m) t.blocks is) ∙ sym (ap (λ b. b && t.blocks == n) (eq-eqb t.head t.head refl))
 
   -- then the others are accounted for
-  spent_accounted : AreAccounted (spent v.arena t) (es ∷ others)
+  spent_accounted : AreAccounted (with_token_spent v.arena t) (es ∷ others)
   spent_accounted h n =
       elim (cases_eq h t.head) [
         | inl same ↦
-            let once : times_told t.head n (es ∷ others) ≡ 0 =
+            let once : times_listed t.head n (es ∷ others) ≡ 0 =
             omega (arith, told_more t.head n (Some (t.head, t.blocks)) es others, accounted t.head n, ap one_if (alike n)) in
             cc (same, once, spent_gone v.arena t has_it)
         | inr other ↦
-            let apart : tells h n (Some (t.head, t.blocks)) ≡ false = ap (λ b. b && t.blocks == n) (ne_eqb t.head h (λ same. other (sym same))) in
-            let there : held_at (spent v.arena t) h ≡ held_at v.arena h = (leaves_spent v.arena t).others.held h (ap (λ b. b || false) (ne_eqb t.head h (λ same. other (sym same)))) in
+            let apart : is_entry_of h n (Some (t.head, t.blocks)) ≡ false = ap (λ b. b && t.blocks == n) (ne_eqb t.head h (λ same. other (sym same))) in
+            let there : held_at (with_token_spent v.arena t) h ≡ held_at v.arena h = (leaves_spent v.arena t).others.held h (ap (λ b. b || false) (ne_eqb t.head h (λ same. other (sym same)))) in
             omega (arith, told_more h n (Some (t.head, t.blocks)) es others, accounted h n, ap one_if apart, ap (λ o. one_if (is_of_length n o)) there)
       ]
 
 -- ---- registers that are drained
 
-pub drained_alike : (v : PoolValue) (rs : List (Option TokenValue)) → CarryId v.arena.id rs → AreHeldAlike v (entries_of rs ∷ []) (drained v rs) []
+pub drained_alike : (v : PoolValue) (rs : List (Option TokenValue)) → CarryId v.arena.id rs → AreHeldAlike v (entries_of rs ∷ []) (with_tokens_spent v rs) []
 drained_alike v [] carry = record { id = refl; accounted = λ others accounted. accounted }
 drained_alike v (None ∷ rs) carry =
     let rest = drained_alike v rs (λ x. carry (suc x)) in
@@ -78,7 +78,7 @@ drained_alike v (None ∷ rs) carry =
       accounted = λ others accounted. rest.accounted others (λ h n. omega (arith, told_more h n None (entries_of rs) others, accounted h n));
     }
 drained_alike v (Some t ∷ rs) carry =
-    let w = pools.spent v t in
+    let w = pools.with_token_spent v t in
     let same : w.arena.id ≡ v.arena.id = (leaves_spent v.arena t).others.id in
     let rest = drained_alike w rs (subst (λ id. CarryId id rs) (sym same) (λ x. carry (suc x))) in
     record {
@@ -100,13 +100,13 @@ alike_applied u v w es rs ss call reply applies alike = record {
 }
 
 -- empty registers hold nothing
-none_told : (h n m : ℕ) (others : List Entries) → times_told h n (replicate m None ∷ others) ≡ times_told h n others
+none_told : (h n m : ℕ) (others : List Entries) → times_listed h n (replicate m None ∷ others) ≡ times_listed h n others
 none_told h n zero others = refl
 none_told h n (suc m) others = omega (arith, told_more h n None (replicate m None) others, none_told h n m others)
 
 -- the registers of a section: they begin empty, lines are served on them, later sections leave what they hold, and that is freed
 pub section_alike : (u v w : PoolValue) (rs ss : List (Option TokenValue)) → rs ≡ replicate most_registers None → AreHeldAlike u (entries_of rs ∷ []) v (entries_of ss ∷ []) → CarryId v.arena.id ss
-    → AreHeldAlike v [] w [] → AreHeldAlike u [] (drained w ss) []
+    → AreHeldAlike v [] w [] → AreHeldAlike u [] (with_tokens_spent w ss) []
 section_alike u v w rs ss empty served carry later =
     let drains = drained_alike w ss (subst (λ id. CarryId id ss) (sym later.id) carry) in
     record {
@@ -118,11 +118,11 @@ section_alike u v w rs ss empty served carry later =
 
 -- ---- the registers of desks
 
-told_first : (h n : ℕ) (es : Entries) (others : List Entries) → times_told h n (es ∷ others) ≡ count_by (tells h n) es + times_told h n others
-told_first h n es others = (count_adds (tells h n)).both es (flat_map (λ xs. xs) others)
+told_first : (h n : ℕ) (es : Entries) (others : List Entries) → times_listed h n (es ∷ others) ≡ count_by (is_entry_of h n) es + times_listed h n others
+told_first h n es others = (count_adds (is_entry_of h n)).both es (flat_map (λ xs. xs) others)
 
 -- in which order registers are counted is the same
-told_moved : (h n : ℕ) (es : Entries) (firsts others : List Entries) → times_told h n (firsts ++ es ∷ others) ≡ times_told h n (es ∷ (firsts ++ others))
+told_moved : (h n : ℕ) (es : Entries) (firsts others : List Entries) → times_listed h n (firsts ++ es ∷ others) ≡ times_listed h n (es ∷ (firsts ++ others))
 told_moved h n es [] others = refl
 told_moved h n es (fs ∷ firsts) others =
     omega (
@@ -140,7 +140,7 @@ entries_at ds = map (λ d. entries_of d.regs) ds
 
 -- the last desk is drained
 pub last_drained : (u v : PoolValue) (ds ls : List DeskValue) (d : DeskValue) (all : List DeskValue) → all ≡ ls ++ d ∷ [] → CarryId v.arena.id d.regs
-    → AreHeldAlike u (entries_at ds) v (entries_at all) → AreHeldAlike u (entries_at ds) (drained v d.regs) (entries_at ls)
+    → AreHeldAlike u (entries_at ds) v (entries_at all) → AreHeldAlike u (entries_at ds) (with_tokens_spent v d.regs) (entries_at ls)
 last_drained u v ds ls d all is carry alike =
     let drains = drained_alike v d.regs carry in
     let split : (others : List Entries) → entries_at all ++ others ≡ entries_at ls ++ entries_of d.regs ∷ others =

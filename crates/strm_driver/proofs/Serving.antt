@@ -6,7 +6,7 @@ use Rattle.std.proofs.lemmas.List.{at_drop_more, at_drop_all, length_push, take_
 use Rattle.std.proofs.lemmas.Option.{none-some}
 use Rattle.strm_pool.specs.declared.reply.Reply.{Reply}
 use Rattle.strm_mblk.specs.declared.token.TokenValue.{TokenValue}
-use Rattle.strm_pool.specs.PoolValue.{PoolValue, opening}
+use Rattle.strm_pool.specs.PoolValue.{PoolValue, opening_pool}
 use Rattle.strm_pool.specs.Registers.{RegisterTable, register, table_of, AreDistinct}
 use Rattle.strm_pool.specs.Limits.{most_registers}
 use Rattle.strm_pool.specs.Step.{step, Stepped, table_at, empty_tables}
@@ -101,7 +101,7 @@ parts_text-next start so_far all worker v w t u (lines_of_first ∷ others) line
     cc (rest (before ++ u ∷ []) (omega (arith, place, length_push before u)), take_rest (lines_of_first ∷ others) 1, append_assoc before (u ∷ []) behind, first before behind later place, empty, at)
 
 -- the serial text of a script
-pub serial_text-parts : (script : Script) (v : PoolValue) (text start : List ℕ) → v ≡ opening script.config → start ≡ [] → text ≡ start ++ parts_text [] 0 v script.parts → IsSerialText script text
+pub serial_text-parts : (script : Script) (v : PoolValue) (text start : List ℕ) → v ≡ opening_pool script.config → start ≡ [] → text ≡ start ++ parts_text [] 0 v script.parts → IsSerialText script text
 serial_text-parts script v text start opens blank written = (
   IsMerge-serial_merge script.parts,
   written ∙ ap (λ bs. bs ++ parts_text [] 0 v script.parts) blank ∙ ap (λ (w : PoolValue). parts_text [] 0 w script.parts) opens,

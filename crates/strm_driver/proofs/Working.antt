@@ -9,7 +9,7 @@ use Rattle.std.proofs.lemmas.List.Elements.{All-contains, Contains-append_left, 
 use Rattle.std.proofs.lemmas.List.Sorted.{All-permutation, IsPermutation-sym}
 use Rattle.strm_data.specs.declared.refusal.Refusal.{Refusal}
 use Rattle.strm_pool.specs.declared.reply.Reply.{Reply}
-use Rattle.strm_pool.specs.PoolValue.{PoolValue, opening}
+use Rattle.strm_pool.specs.PoolValue.{PoolValue, opening_pool}
 use Rattle.strm_pool.specs.Step.{Replay, empty_tables}
 use Rattle.strm_shared.specs.declared.entry.Entry.{Entry}
 use Rattle.strm_shared.specs.declared.line.Line.{Line}
@@ -18,7 +18,7 @@ use Rattle.strm_shared.specs.declared.outcome.End.{End}
 use Rattle.strm_shared.specs.declared.outcome.End.TheVariants.{Done, Refused, NotStarted}
 use Rattle.strm_shared.specs.Books.{AreShown}
 use Rattle.strm_shared.specs.Chronicle.{entry_of, served_from}
-use Rattle.strm_shared.specs.Desks.{DeskValue, empty_desk, fresh, no_desk, shown}
+use Rattle.strm_shared.specs.Desks.{DeskValue, empty_desk, fresh_desks, no_desk, with_pair_seen}
 use Rattle.strm_shared.specs.Pairs.{ArePairs, Pair, no_pair, pair_at}
 use Rattle.strm_shared.specs.Runs.{AllWorked, AreServed, Worked}
 use Rattle.strm_shared.specs.Traces.{entries_kept}
@@ -101,13 +101,13 @@ module _ {N : Type 0} (n : Ghosts N) (lines : List Line) (d : DeskValue) (none :
 
 -- ---- new desks
 
-at_fresh : (m k : ℕ) (ps : List Pair) (d : DeskValue) → k < m → get_or (fresh m ps) k d ≡ empty_desk k ps
+at_fresh : (m k : ℕ) (ps : List Pair) (d : DeskValue) → k < m → get_or (fresh_desks m ps) k d ≡ empty_desk k ps
 at_fresh zero k ps d below = absurd (omega (arith, below))
 at_fresh (suc m) k ps d below = elim (cases_eq k m) [
-  | inl same ↦ get_or_push (fresh m ps) (empty_desk m ps) d k (length-fresh m ps ∙ sym same) ∙ ap (λ (j : ℕ). empty_desk j ps) (sym same)
+  | inl same ↦ get_or_push (fresh_desks m ps) (empty_desk m ps) d k (length-fresh m ps ∙ sym same) ∙ ap (λ (j : ℕ). empty_desk j ps) (sym same)
   | inr other ↦
       let within : k < m = omega (arith, below, other) in
-      get_or-append (fresh m ps) (empty_desk m ps ∷ []) d k (omega (arith, within, length-fresh m ps)) ∙ at_fresh m k ps d within
+      get_or-append (fresh_desks m ps) (empty_desk m ps ∷ []) d k (omega (arith, within, length-fresh m ps)) ∙ at_fresh m k ps d within
 ]
 
 -- ---- all workers
@@ -138,7 +138,7 @@ is_done (Refused why) started served = absurd (served why refl)
 is_done NotStarted started served = absurd (true≢false started)
 
 module _ {N : Type 0} (n : Ghosts N) (parts : List (List Line)) (ps : List Pair) (ends : List End) (all : List (List Reply)) (came : List DeskValue) (v : PoolValue) (trace : List Entry) (gathered : List DeskValue)
-    (under : IsServedUnder n parts) (worked : AllWorked n parts (fresh n.desks ps) ends all came) (left : AreShown n came v trace gathered) where
+    (under : IsServedUnder n parts) (worked : AllWorked n parts (fresh_desks n.desks ps) ends all came) (left : AreShown n came v trace gathered) where
   each : (k : ℕ) → k < length parts → Worked n (get_or parts k []) (empty_desk k ps) (get_or ends k NotStarted) (get_or all k []) (get_or came k no_desk)
   each k within =
       subst (λ (d : DeskValue). Worked n (get_or parts k []) d (get_or ends k NotStarted) (get_or all k []) (get_or came k no_desk))
@@ -152,7 +152,7 @@ module _ {N : Type 0} (n : Ghosts N) (parts : List (List Line)) (ps : List Pair)
       → ((get_or came k no_desk).served ≡ served_from (n.first + 1) (get_or came k no_desk).number left.entries)
       × All (Contains left.pairs) ((get_or came k no_desk).pairs ++ pair_at left.stamp v ∷ [])
   known k within =
-      let f = shown (pair_at left.stamp v) in
+      let f = with_pair_seen (pair_at left.stamp v) in
       let h =
       All-permutation (λ (d : DeskValue). (d.served ≡ served_from (n.first + 1) d.number left.entries) × All (Contains left.pairs) d.pairs) gathered (map f came) (IsPermutation-sym (map f came) gathered left.same)
       (λ j d inside. (left.served j d inside, left.seen j d inside)) k no_desk (omega (arith, within, worked.kept, length-map came f)) in
@@ -195,7 +195,7 @@ module _ {N : Type 0} (n : Ghosts N) (parts : List (List Line)) (ps : List Pair)
         ap (map line_of) (sym (served_from-entries (n.first + 1) k left.entries) ∙ entries) ∙ lines_of-entries_for k lines replies was.0
 
     -- and the text of the trace is that of the script, in the order of serving
-    pub as_served : (script : Script) (text : List ℕ) → script.parts ≡ parts → n.opened ≡ opening script.config → text ≡ flat_map entry_text trace ++ report_text v → IsTextAsServed script n.first came text
+    pub as_served : (script : Script) (text : List ℕ) → script.parts ≡ parts → n.opened ≡ opening_pool script.config → text ≡ flat_map entry_text trace ++ report_text v → IsTextAsServed script n.first came text
     as_served script text same opens written =
         let es : List Entry = left.entries in
         let merge = merge_of es in
@@ -209,7 +209,7 @@ module _ {N : Type 0} (n : Ghosts N) (parts : List (List Line)) (ps : List Pair)
         ∙ ap (λ (xs : List Entry). flat_map entry_text xs ++ report_text v) traced
         ∙ told
         ∙ ap (λ (w : PoolValue). text_from w (empty_tables n.desks) merge) opens
-        ∙ ap (λ (k : ℕ). text_from (opening script.config) (empty_tables k) merge) (under.desks ∙ ap length (sym same)) in
+        ∙ ap (λ (k : ℕ). text_from (opening_pool script.config) (empty_tables k) merge) (under.desks ∙ ap length (sym same)) in
         record {
           entries = es;
           under = (merges, is);

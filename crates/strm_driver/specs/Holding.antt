@@ -8,7 +8,8 @@ use Rattle.strm_pool.specs.Registers.{AreAccounted, Entries}
 -- others, each is in one now, and the others have what they had.
 pub record AreHeldAlike (v : PoolValue) (before : List Entries) (w : PoolValue) (after : List Entries) : Type 0 where
   pub id : w.arena.id ≡ v.arena.id
-  pub accounted : (others : List Entries) → AreAccounted v.arena (before ++ others) → AreAccounted w.arena (after ++ others)
+  pub accounted : (others : List Entries) → AreAccounted v.arena (before ++ others)
+      → AreAccounted w.arena (after ++ others)
 
 -- no message is held
 abbrev pub IsIdle : PoolValue → Type 0

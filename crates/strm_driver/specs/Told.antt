@@ -35,9 +35,9 @@ TellsNewFault new_faults.BadShared first = ⊥
 TellsNewFault new_faults.Memory first = first ≡ None
 
 -- the faults that a run can have: no worker is refused
-abbrev pub IsMet : RunFault → Type 0
-IsMet (Refused why) = ⊥
-IsMet other = Unit {0}
+abbrev pub IsRunFault : RunFault → Type 0
+IsRunFault (Refused why) = ⊥
+IsRunFault other = Unit {0}
 
 -- ---- what a fault says of the reader and of the writer
 

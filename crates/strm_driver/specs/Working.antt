@@ -24,4 +24,5 @@ pub record IsServedUnder {N : Type 0} (n : Ghosts N) (parts : List (List Line)) 
 pub record IsTextAsServed (script : ScriptValue) (first : ℕ) (desks : List DeskValue) (text : List ℕ) : Type 0 where
   pub entries : List Entry
   pub under : IsTextUnder script (merge_of entries) text
-  pub served : (k : ℕ) → k < length script.parts → served_from (first + 1) k entries ≡ (slice_index_or desks k no_desk).served
+  pub served : (k : ℕ) → k < length script.parts → served_from (first + 1) k entries
+      ≡ (slice_index_or desks k no_desk).served

@@ -2,10 +2,10 @@
 ghost use Rattle.std.specs.Prelude.{◌≡◌, ◌≤◌, ◌++◌, ◌∷◌, [], false, IfErr, IfOk, List, None, OnOk, length, map, sum_by};
 ghost use Rattle.std.specs.List.{flat_map, list_any};
 ghost use Rattle.strm_pool.specs.Config.{fault_of};
-ghost use Rattle.strm_pool.specs.PoolValue.{opening};
+ghost use Rattle.strm_pool.specs.PoolValue.{opening_pool};
 ghost use Rattle.strm_pool.specs.Registers.{entries_of};
 ghost use Rattle.strm_pool.specs.declared.reply.Reply.{Reply};
-ghost use Rattle.strm_shared.specs.Desks.{DeskValue, fresh};
+ghost use Rattle.strm_shared.specs.Desks.{DeskValue, fresh_desks};
 ghost use Rattle.strm_shared.specs.Limits.{most_workers};
 ghost use Rattle.strm_shared.specs.Pairs.{pair_at};
 ghost use Rattle.strm_shared.specs.Runs.{AllWorked};
@@ -97,11 +97,11 @@ fn text_of_outcome<N: Name>(
 ) -> (Result<Vec<u8>, AllocError>, Pool)
     requires under { IsServedUnder N.Name parts.now }
     requires worked { (all : List (List Reply))
-        × AllWorked N.Name parts.now (fresh N.desks (pair_at N.first N.opened ∷ [])) outcome.ends all outcome.desks }
+        × AllWorked N.Name parts.now (fresh_desks N.desks (pair_at N.first N.opened ∷ [])) outcome.ends all outcome.desks }
     ensures text { IfOk result.0 (λ text. (script : ScriptValue) → script.parts ≡ parts.now
-        → N.opened ≡ opening script.config → IsTextOf Workers script text.items) }
+        → N.opened ≡ opening_pool script.config → IsTextOf Workers script text.items) }
     ensures ordered { IfOk result.0 (λ text. (script : ScriptValue) → script.parts ≡ parts.now
-        → N.opened ≡ opening script.config → IsTextAsServed script N.first outcome.desks text.items) }
+        → N.opened ≡ opening_pool script.config → IsTextAsServed script N.first outcome.desks text.items) }
     ensures freed { IsIdle result.1 }
 {
     let _ = parts;
@@ -132,7 +132,8 @@ fn shared_text<N: Name + Send + Sync, R: Threads + Wait + Sync, G: Gate>(
 ) -> Result<Vec<u8>, AllocError>
     requires name { IsNameOf N.Name start }
     requires under { IsServedUnder N.Name parts.now }
-    ensures { IfOk result (λ text. (script : ScriptValue) → script.parts ≡ parts.now → N.opened ≡ opening script.config
+    ensures { IfOk result (λ text. (script : ScriptValue) → script.parts ≡ parts.now → N.opened
+        ≡ opening_pool script.config
         → IsTextOf Workers script text.items) }
 {
     let (shared, desks) = start.open::<N>();

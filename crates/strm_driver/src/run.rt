@@ -4,7 +4,7 @@ ghost use Rattle.std.specs.Io.KnownBytes.{Appends, Consumes, Keeps};
 ghost use Rattle.strm_script.specs.Limits.{most_script_bytes};
 ghost use Rattle.strm_script.specs.Script.{script_of};
 ghost use Rattle.strm_driver.specs.Outcome.{fault_of_script, fault_of_input, IsTextOf, IsTextOfInput};
-ghost use Rattle.strm_driver.specs.Told.{IsMet, TellsFault, run_fault_of_text, errs, is_read, is_write};
+ghost use Rattle.strm_driver.specs.Told.{IsRunFault, TellsFault, run_fault_of_text, errs, is_read, is_write};
 ghost use Rattle.strm_driver.specs.Watched.{Stops};
 
 use crate::by_workers::workers_text;
@@ -43,7 +43,7 @@ fn text_of_script<E: Threads + Wait + Sync, G: Gate>(
     ensures lawful { OnOk result (fault_of_script (script_of bytes.items) ≡ None) }
     ensures refused { IfErr result (λ fault. TellsFault (run_fault_of_text fault)
         (fault_of_script (script_of bytes.items))) }
-    ensures met { IfErr result (λ fault. IsMet (run_fault_of_text fault)) }
+    ensures met { IfErr result (λ fault. IsRunFault (run_fault_of_text fault)) }
 {
     let script = parse(alloc, &bytes)?;
     drop(bytes);
@@ -74,7 +74,7 @@ pub fn run<E: AllocGlobal + Threads + Wait + Sync, G: Gate, R: Read, W: Write>(
     ensures refused { IfErr result (λ fault. IfSome (R.remaining reader.old.inner) (λ input.
         TellsFault fault (fault_of_input max input))) }
     // No run fails as `Refused`.
-    ensures met { IfErr result IsMet }
+    ensures met { IfErr result IsRunFault }
     // After a write fault a prefix of the text was written.
     ensures cut { result ≡ Err RunFault.Write → IfSome (R.remaining reader.old.inner) (λ input.
         (text : List ℕ) × IsTextOfInput mode max input text

@@ -12,14 +12,14 @@ use Rattle.strm_mblk.specs.Arena.{Arena, has, held_at, is_of_length, message_at,
 use Rattle.strm_mblk.specs.Block.{Message, head_of, kind_of}
 use Rattle.strm_mblk.specs.Messages.{blocks_of}
 use Rattle.strm_mblk.specs.Given.{answer_map, answer_of, value_after}
-use Rattle.strm_pool.specs.PoolValue.{PoolValue, has_queue, on_queues, queued}
+use Rattle.strm_pool.specs.PoolValue.{PoolValue, has_queue, on_queues, queued_blocks_of}
 use Rattle.strm_queue.specs.declared.queue_spec.QueueSpec.{QueueSpec}
-use Rattle.strm_queue.specs.Flow.{Flags, QueueState, enabled, enabled_where, flags_at, opening_flags, waker, with_flags}
+use Rattle.strm_queue.specs.Flow.{Flags, QueueState, with_enabled, enabled_where, flags_at, opening_flags, waker, with_flags}
 use Rattle.strm_queue.specs.Limits.{high_rank}
-use Rattle.strm_queue.specs.QueueCalls.{flags_left, got_first, getq, has_relieved, putbq, putq, waker_enabled_where, with_got}
+use Rattle.strm_queue.specs.QueueCalls.{flags_left, get_first, getq, has_relieved, putbq, putq, waker_enabled_where, with_got}
 use Rattle.strm_queue.specs.Rank.{as_queued, is_ordered, put_ahead, rank_of}
 use Rattle.strm_queue.proofs.agreeing.Agreeing.{enabled_alone}
-use Rattle.strm_forward.specs.Forwarding.{Goes, HandsOn, KeepsRest, Stays, has_leave, may_go, placed, with_put, with_put_back}
+use Rattle.strm_forward.specs.Forwarding.{Goes, HandsOn, KeepsRest, Stays, has_leave, may_go, with_put_either, with_put, with_put_back}
 
 -- ---- the state of the queues
 
@@ -33,7 +33,7 @@ enabling_keeps so q s = record { specs = ap (λ (t : QueueState). t.specs) (enab
 waking_keeps : (so : Bool) (q : ℕ) (s : QueueState) → KeepsState s (waker_enabled_where so q s)
 waking_keeps so q s = by_cases so (waker s.specs q)
   where
-    by_cases : (so : Bool) (o : Option ℕ) → KeepsState s (if so then option_map_or (λ p. enabled p s) o s else s)
+    by_cases : (so : Bool) (o : Option ℕ) → KeepsState s (if so then option_map_or (λ p. with_enabled p s) o s else s)
     by_cases true None = record { specs = refl; marks = refl }
     by_cases true (Some p) = enabling_keeps true p s
     by_cases false o = record { specs = refl; marks = refl }
@@ -49,19 +49,19 @@ pub record IsGot (q : ℕ) (t : TokenValue) (v w : PoolValue) : Type 0 where
   pub arena : w.arena ≡ with_held message (with_shelf q behind v.arena)
   pub rest : KeepsRest v w
 
-module _ (v w : PoolValue) (q : ℕ) (there : has_queue v q ≡ true) (after : w ≡ value_after v (on_queues v (getq q (queued v)))) where
+module _ (v w : PoolValue) (q : ℕ) (there : has_queue v q ≡ true) (after : w ≡ value_after v (on_queues v (getq q (queued_blocks_of v)))) where
   abbrev first_taken : List Message → Type 0
-  first_taken ms = w ≡ value_after v (on_queues v (got_first q ms (queued v)))
+  first_taken ms = w ≡ value_after v (on_queues v (get_first q ms (queued_blocks_of v)))
 
   taken_after : first_taken (shelf_at v.arena q)
   taken_after = after ∙ ap (λ g. value_after v (on_queues v g)) (cond-true _ _ _ there)
 
   module _ (t : TokenValue) where
-    by_first : (ms : List Message) → shelf_at v.arena q ≡ ms → first_taken ms → Ok (Some t) ≡ answer_map (option_map (token_of w.arena)) (answer_of (on_queues v (got_first q ms (queued v)))) → IsGot q t v w
+    by_first : (ms : List Message) → shelf_at v.arena q ≡ ms → first_taken ms → Ok (Some t) ≡ answer_map (option_map (token_of w.arena)) (answer_of (on_queues v (get_first q ms (queued_blocks_of v)))) → IsGot q t v w
     by_first [] is after given = absurd (cc)
     by_first (m ∷ ms) is after given =
         let given_is : t ≡ token_of w.arena (head_of m) = cc in
-        let kept = waking_keeps (has_relieved (with_got q m ms (queued v)) q) q (with_flags q (flags_left (with_got q m ms (queued v)) q) v.queues) in
+        let kept = waking_keeps (has_relieved (with_got q m ms (queued_blocks_of v)) q) q (with_flags q (flags_left (with_got q m ms (queued_blocks_of v)) q) v.queues) in
         record {
           message = m;
           behind = ms;
@@ -75,11 +75,11 @@ module _ (v w : PoolValue) (q : ℕ) (there : has_queue v q ≡ true) (after : w
           };
         }
 
-    pub got : Ok (Some t) ≡ answer_map (option_map (token_of w.arena)) (answer_of (on_queues v (getq q (queued v)))) → IsGot q t v w
+    pub got : Ok (Some t) ≡ answer_map (option_map (token_of w.arena)) (answer_of (on_queues v (getq q (queued_blocks_of v)))) → IsGot q t v w
     got given = by_first (shelf_at v.arena q) refl taken_after (given ∙ ap (λ g. answer_map (option_map (token_of w.arena)) (answer_of (on_queues v g))) (cond-true _ _ _ there))
 
   module _ (to : ℕ) (flagged : q < length v.queues.flags) where
-    none_first : (ms : List Message) → shelf_at v.arena q ≡ ms → first_taken ms → Ok None ≡ answer_map (option_map (token_of w.arena)) (answer_of (on_queues v (got_first q ms (queued v)))) → Stays q to v w
+    none_first : (ms : List Message) → shelf_at v.arena q ≡ ms → first_taken ms → Ok None ≡ answer_map (option_map (token_of w.arena)) (answer_of (on_queues v (get_first q ms (queued_blocks_of v)))) → Stays q to v w
     none_first [] is after given = record {
       leave = λ some. absurd (omega (arith, some, ap length is));
       reads = λ none. ap (λ (x : PoolValue). (flags_at x.queues q).read) after ∙ ap (λ (f : Flags). f.read) (get_or-set_same v.queues.flags q _ opening_flags flagged);
@@ -92,7 +92,7 @@ module _ (v w : PoolValue) (q : ℕ) (there : has_queue v q ≡ true) (after : w
     }
     none_first (m ∷ ms) is after given = absurd (cc)
 
-    pub none_got : Ok None ≡ answer_map (option_map (token_of w.arena)) (answer_of (on_queues v (getq q (queued v)))) → Stays q to v w
+    pub none_got : Ok None ≡ answer_map (option_map (token_of w.arena)) (answer_of (on_queues v (getq q (queued_blocks_of v)))) → Stays q to v w
     none_got given = none_first (shelf_at v.arena q) refl taken_after (given ∙ ap (λ g. answer_map (option_map (token_of w.arena)) (answer_of (on_queues v g))) (cond-true _ _ _ there))
 
 -- ---- held
@@ -165,7 +165,7 @@ module _ (from to : ℕ) (apart : from ≢ to) (v x : PoolValue) (t : TokenValue
       rest_kept : KeepsRest v w
       rest_kept = record { specs = rest.specs ∙ g.rest.specs; marks = rest.marks ∙ g.rest.marks; wishes = rest.wishes ∙ g.rest.wishes }
 
-      module _ (below : from < length a.shelves) (leave : true ≡ has_leave to x.queues x.arena (message_at x.arena t.head)) (messages : w.arena ≡ placed from to t.head true x.arena) where
+      module _ (below : from < length a.shelves) (leave : true ≡ has_leave to x.queues x.arena (message_at x.arena t.head)) (messages : w.arena ≡ with_put_either from to t.head true x.arena) where
         put_is : w.arena ≡ with_put to g.message off
         put_is =
             messages ∙ ap (λ m. with_put to m (without_held t.head x.arena)) message_is
@@ -184,7 +184,7 @@ module _ (from to : ℕ) (apart : from ≢ to) (v x : PoolValue) (t : TokenValue
         }
 
       module _ (below : from < length a.shelves) (ordered : is_ordered (rank_of a.store) (shelf_at a from) ≡ true) (leave : false ≡ has_leave to x.queues x.arena (message_at x.arena t.head))
-          (messages : w.arena ≡ placed from to t.head false x.arena) where
+          (messages : w.arena ≡ with_put_either from to t.head false x.arena) where
         stays_off : may_go from to v.queues a ≡ false
         stays_off = sym leave_same ∙ sym leave
 
@@ -213,7 +213,7 @@ module _ (from to : ℕ) (apart : from ≢ to) (v x : PoolValue) (t : TokenValue
         }
 
       pub handed : from < length a.shelves → is_ordered (rank_of a.store) (shelf_at a from) ≡ true → (went : Bool) → went ≡ has_leave to x.queues x.arena (message_at x.arena t.head)
-          → w.arena ≡ placed from to t.head went x.arena → HandsOn from to v went w
+          → w.arena ≡ with_put_either from to t.head went x.arena → HandsOn from to v went w
       handed below ordered true leave messages = went below leave messages
       handed below ordered false leave messages = stayed below ordered leave messages
 
@@ -228,8 +228,8 @@ pub there_still : (v w : PoolValue) (q : ℕ) → KeepsRest v w → has_queue v 
 there_still v w q rest there = subst (λ (specs : List QueueSpec). nat_lt q (length specs) ≡ true) (sym rest.specs) there
 
 -- what putting leaves of the message blocks
-pub put_leaves : (v w : PoolValue) (q h : ℕ) → has_queue v q ≡ true → w ≡ value_after v (on_queues v (putq q h (queued v))) → w.arena ≡ with_put q (message_at v.arena h) (without_held h v.arena)
+pub put_leaves : (v w : PoolValue) (q h : ℕ) → has_queue v q ≡ true → w ≡ value_after v (on_queues v (putq q h (queued_blocks_of v))) → w.arena ≡ with_put q (message_at v.arena h) (without_held h v.arena)
 put_leaves v w q h there after = ap (λ (x : PoolValue). x.arena) (after ∙ ap (λ g. value_after v (on_queues v g)) (cond-true _ _ _ there))
 
-pub put_back_leaves : (v w : PoolValue) (q h : ℕ) → has_queue v q ≡ true → w ≡ value_after v (on_queues v (putbq q h (queued v))) → w.arena ≡ with_put_back q (message_at v.arena h) (without_held h v.arena)
+pub put_back_leaves : (v w : PoolValue) (q h : ℕ) → has_queue v q ≡ true → w ≡ value_after v (on_queues v (putbq q h (queued_blocks_of v))) → w.arena ≡ with_put_back q (message_at v.arena h) (without_held h v.arena)
 put_back_leaves v w q h there after = ap (λ (x : PoolValue). x.arena) (after ∙ ap (λ g. value_after v (on_queues v g)) (cond-true _ _ _ there))

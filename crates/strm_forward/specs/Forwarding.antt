@@ -22,13 +22,13 @@ abbrev pub with_put_back : ℕ → Message → Arena → Arena
 with_put_back q m a = with_shelf q (put_ahead (rank_of a.store) (as_queued a.store m) (shelf_at a q)) a
 
 -- the first message of queue `from` was put on queue `to`
-abbrev pub first_moved : ℕ → ℕ → Arena → Arena
-first_moved from to a = with_put to (first_on from a) (without_first from a)
+abbrev pub with_first_forwarded : ℕ → ℕ → Arena → Arena
+with_first_forwarded from to a = with_put to (first_on from a) (without_first from a)
 
 -- this number of messages were forwarded, one after another
-abbrev pub moved : ℕ → ℕ → ℕ → Arena → Arena
-moved from to zero a = a
-moved from to (suc n) a = first_moved from to (moved from to n a)
+abbrev pub with_forwarded : ℕ → ℕ → ℕ → Arena → Arena
+with_forwarded from to zero a = a
+with_forwarded from to (suc n) a = with_first_forwarded from to (with_forwarded from to n a)
 
 -- A message may be put on a queue if it is high priority, or if its band is not full at the queue's target.
 abbrev pub has_leave : ℕ → QueueState → Arena → Message → Bool
@@ -49,12 +49,12 @@ pub record KeepsRest (old new : PoolValue) : Type 0 where
 -- `count` messages were forwarded.
 pub record Forwards (from to count : ℕ) (old new : PoolValue) : Type 0 where
   -- They are the first ones, in order; all other message blocks, free or in messages, are unchanged.
-  pub messages : new.arena ≡ moved from to count old.arena
+  pub messages : new.arena ≡ with_forwarded from to count old.arena
   pub within : count ≤ length (shelf_at old.arena from)
   pub left : shelf_at new.arena from ≡ drop count (shelf_at old.arena from)
   pub census : census_of new.arena ≡ census_of old.arena
   -- Each was allowed to go when its turn came; the first message that stays, if any, is not.
-  pub leave : (k : ℕ) → k < count → IsTrue (may_go from to old.queues (moved from to k old.arena))
+  pub leave : (k : ℕ) → k < count → IsTrue (may_go from to old.queues (with_forwarded from to k old.arena))
   pub stops : count < length (shelf_at old.arena from) → may_go from to old.queues new.arena ≡ false
   -- If none stays, the want-to-read mark is set, so that the next message enables the queue.
   pub reads : count ≡ length (shelf_at old.arena from) → IsTrue (flags_at new.queues from).read
@@ -66,7 +66,7 @@ pub record Forwards (from to count : ℕ) (old new : PoolValue) : Type 0 where
 pub record Goes (from to : ℕ) (old new : PoolValue) : Type 0 where
   pub some : 0 < length (shelf_at old.arena from)
   pub leave : may_go from to old.queues old.arena ≡ true
-  pub messages : new.arena ≡ first_moved from to old.arena
+  pub messages : new.arena ≡ with_first_forwarded from to old.arena
   pub left : shelf_at new.arena from ≡ drop 1 (shelf_at old.arena from)
   pub rest : KeepsRest old new
 
@@ -82,6 +82,6 @@ HandsOn from to old true new = Goes from to old new
 HandsOn from to old false new = Stays from to old new
 
 -- the message held at h is put on queue `to`, or back on queue `from`
-abbrev pub placed : ℕ → ℕ → ℕ → Bool → Arena → Arena
-placed from to h true a = with_put to (message_at a h) (without_held h a)
-placed from to h false a = with_put_back from (message_at a h) (without_held h a)
+abbrev pub with_put_either : ℕ → ℕ → ℕ → Bool → Arena → Arena
+with_put_either from to h true a = with_put to (message_at a h) (without_held h a)
+with_put_either from to h false a = with_put_back from (message_at a h) (without_held h a)

@@ -1,7 +1,7 @@
 //! The service procedure, as one of a STREAMS module that changes nothing.
 ghost use Rattle.std.specs.Prelude.{◌≡◌, ◌≢◌, IfErr, IfOk, IsTrue, ◌&&◌, false, true};
 ghost use Rattle.strm_data.specs.declared.refusal.Refusal.TheVariants.{NoSuchQueue};
-ghost use Rattle.strm_forward.specs.Forwarding.{Forwards, HandsOn, KeepsRest, has_leave, placed};
+ghost use Rattle.strm_forward.specs.Forwarding.{Forwards, HandsOn, KeepsRest, has_leave, with_put_either};
 ghost use Rattle.strm_mblk.specs.Arena.{has, message_at};
 ghost use Rattle.strm_pool.specs.PoolValue.{has_queue};
 
@@ -54,7 +54,7 @@ fn place(pool: &mut Pool, from: u8, to: u8, token: Token) -> bool
     requires behind { IsTrue (has_queue pool.old from) }
     requires ahead { IsTrue (has_queue pool.old to) }
     ensures leave { result ≡ has_leave to pool.old.queues pool.old.arena (message_at pool.old.arena token.head) }
-    ensures messages { pool.new.arena ≡ placed from to token.head result pool.old.arena }
+    ensures messages { pool.new.arena ≡ with_put_either from to token.head result pool.old.arena }
     ensures rest { KeepsRest pool.old pool.new }
 {
     let goes = may_go(pool, to, &token);

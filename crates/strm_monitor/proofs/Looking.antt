@@ -6,7 +6,7 @@ use Rattle.std.proofs.lemmas.List.{append-nil, get_or-append_right, get_or_appen
 use Rattle.std.proofs.lemmas.List.Elements.{All-append}
 use Rattle.std.proofs.lemmas.List.Sums.{fold-append}
 use Rattle.strm_monitor.specs.Watching.{Looks, NeverFall}
-use Rattle.strm_shared.specs.Desks.{DeskValue, shown, stamp_seen}
+use Rattle.strm_shared.specs.Desks.{DeskValue, with_pair_seen, stamp_seen}
 use Rattle.strm_shared.specs.Pairs.{Pair, count_in, last_pair, no_pair}
 
 -- the stamp that stands at this place
@@ -46,11 +46,11 @@ only p whole zero d below = whole
 only p whole (suc k) d below = absurd (omega (arith, below))
 
 pub one_more : (blocks : ℕ) (before : DeskValue) (looks fewest : ℕ) (after : DeskValue) (p : Pair) → Looks blocks before looks fewest after → 1 ≤ length after.pairs → stamp_seen after ≤ p.0 → count_in p.1 ≡ blocks
-    → Looks blocks before (looks + 1) (min fewest p.1.free) (shown p after)
+    → Looks blocks before (looks + 1) (min fewest p.1.free) (with_pair_seen p after)
 one_more blocks before looks fewest after p seen some later whole = record {
   pairs = seen.pairs ++ p ∷ [];
   shown =
-      ap (shown p) seen.shown ∙ ap (λ ps. record before { pairs = ps }) (append_assoc before.pairs seen.pairs (p ∷ []));
+      ap (with_pair_seen p) seen.shown ∙ ap (λ ps. record before { pairs = ps }) (append_assoc before.pairs seen.pairs (p ∷ []));
   often = length-append seen.pairs (p ∷ []) ∙ ap (λ n. n + 1) seen.often;
   whole = All-append (λ (q : Pair). count_in q.1 ≡ blocks) seen.pairs (p ∷ []) seen.whole (only p whole);
   rise = fall_not_more (length before.pairs) after.pairs p some seen.rise later;
@@ -67,9 +67,9 @@ last_is ps p =
 
 -- a look at this pair, by what the calls say
 module _ (blocks : ℕ) (before : DeskValue) (looks fewest : ℕ) (after : DeskValue) (p : Pair) (seen : Looks blocks before looks fewest after) (some : 1 ≤ length after.pairs)
-    (later : stamp_seen after ≤ p.0) (whole : count_in p.1 ≡ blocks) (n : ℕ) (least : n ≡ min fewest p.1.free) (e : DeskValue) (longer : e ≡ shown p after) where
+    (later : stamp_seen after ≤ p.0) (whole : count_in p.1 ≡ blocks) (n : ℕ) (least : n ≡ min fewest p.1.free) (e : DeskValue) (longer : e ≡ with_pair_seen p after) where
   pub looked : Looks blocks before (looks + 1) n e
-  looked = subst (Looks blocks before (looks + 1) n) (sym longer) (subst (λ m. Looks blocks before (looks + 1) m (shown p after)) (sym least) (one_more blocks before looks fewest after p seen some later whole))
+  looked = subst (Looks blocks before (looks + 1) n) (sym longer) (subst (λ m. Looks blocks before (looks + 1) m (with_pair_seen p after)) (sym least) (one_more blocks before looks fewest after p seen some later whole))
 
   pub stamp_is : stamp_seen e ≡ p.0
   stamp_is = ap stamp_seen longer ∙ ap (λ (q : Pair). q.0) (last_is after.pairs p)

@@ -9,13 +9,13 @@ use Rattle.strm_mblk.specs.declared.token.TokenValue.{TokenValue}
 use Rattle.strm_mblk.specs.Arena.{held_at}
 use Rattle.strm_mblk.specs.Block.{Message}
 use Rattle.strm_pool.proofs.Tokens.{Moves, heads_of}
-use Rattle.strm_named.specs.NamedValue.{NamedValue, Renames, raised, stamp_at, stamps_given}
+use Rattle.strm_named.specs.NamedValue.{NamedValue, Renames, stamp_after, stamp_at, stamps_given}
 use Rattle.strm_named.proofs.Fitted.{stands_each, within_some}
 
 -- ---- stamps
 
 -- a stamp that was raised is another
-raised-other : (n : ℕ) → raised n ≡ n → ⊥
+raised-other : (n : ℕ) → stamp_after n ≡ n → ⊥
 raised-other n same = omega arith
 
 -- the stamps of other heads stay
@@ -23,29 +23,29 @@ pub stamps_other : (hs stamps : List ℕ) (h : ℕ) → rows.has h hs ≡ false 
 stamps_other [] stamps h none = refl
 stamps_other (k ∷ hs) stamps h none =
     let parts = or_parts (eqb k h) (rows.has h hs) none in
-    let next = raised (get_or stamps k 0) in
+    let next = stamp_after (get_or stamps k 0) in
     stamps_other hs (set stamps k next) h parts.1 ∙ get_or-set_other stamps k h next 0 (λ same. false≢true (sym parts.0 ∙ eq-eqb k h (sym same)))
 
 -- those of heads that are given, each once, are raised
-pub stamps_raised : (hs stamps : List ℕ) (h : ℕ) → h < length stamps → IsApart hs → rows.has h hs ≡ true → get_or (stamps_given hs stamps) h 0 ≡ raised (get_or stamps h 0)
+pub stamps_raised : (hs stamps : List ℕ) (h : ℕ) → h < length stamps → IsApart hs → rows.has h hs ≡ true → get_or (stamps_given hs stamps) h 0 ≡ stamp_after (get_or stamps h 0)
 stamps_raised [] stamps h within apart is = absurd (false≢true is)
 stamps_raised (k ∷ hs) stamps h within apart is =
     elim (cases_eq k h) [
       | inl same ↦
           let inside : k < length stamps = omega (arith, same, within) in
-          subst (λ j. get_or (stamps_given hs (set stamps k (raised (get_or stamps k 0)))) j 0 ≡ raised (get_or stamps j 0)) same
-          (stamps_other hs (set stamps k (raised (get_or stamps k 0))) k apart.0 ∙ get_or-set_same stamps k (raised (get_or stamps k 0)) 0 inside)
+          subst (λ j. get_or (stamps_given hs (set stamps k (stamp_after (get_or stamps k 0)))) j 0 ≡ stamp_after (get_or stamps j 0)) same
+          (stamps_other hs (set stamps k (stamp_after (get_or stamps k 0))) k apart.0 ∙ get_or-set_same stamps k (stamp_after (get_or stamps k 0)) 0 inside)
       | inr other ↦
-          let next = raised (get_or stamps k 0) in
+          let next = stamp_after (get_or stamps k 0) in
           let rest : rows.has h hs ≡ true = ap (λ b. b || rows.has h hs) (sym (ne_eqb k h other)) ∙ is in
           let inside : h < length (set stamps k next) = omega (arith, within, length-set stamps k next) in
-          stamps_raised hs (set stamps k next) h inside apart.1 rest ∙ ap raised (get_or-set_other stamps k h next 0 (λ e. other (sym e)))
+          stamps_raised hs (set stamps k next) h inside apart.1 rest ∙ ap stamp_after (get_or-set_other stamps k h next 0 (λ e. other (sym e)))
     ]
 
 pub length-stamps_given : (hs stamps : List ℕ) → length (stamps_given hs stamps) ≡ length stamps
 length-stamps_given [] stamps = refl
 length-stamps_given (k ∷ hs) stamps =
-    let next = raised (get_or stamps k 0) in
+    let next = stamp_after (get_or stamps k 0) in
     length-stamps_given hs (set stamps k next) ∙ length-set stamps k next
 
 -- the last of those that are apart are apart

@@ -10,7 +10,7 @@ use Rattle.strm_mblk.specs.declared.token.TokenValue.{TokenValue}
 use Rattle.strm_mblk.specs.Arena.{Arena, has, token_of}
 use Rattle.strm_mblk.specs.Calls.{Alters, Frees, Gives, Joins, Parts, Puts, Takes, TakesAny, Unlinks}
 use Rattle.strm_mblk.specs.Frame.{LeavesOthers}
-use Rattle.strm_mblk.specs.Given.{Given, answer_of, done, value_after}
+use Rattle.strm_mblk.specs.Given.{Given, answer_of, given_nothing, value_after}
 use Rattle.strm_mblk.proofs.arena.Frame.{leaves_same}
 use Rattle.strm_mblk.proofs.arena.Tokens.{had_message}
 use Rattle.strm_pool.specs.PoolValue.{PoolValue, arena, on_arena, with_arena}
@@ -18,10 +18,10 @@ use Rattle.strm_pool.proofs.Tokens.{Moves, err_not_ok, has_here, heads_of, moves
 use Rattle.strm_named.specs.declared.fault.Fault.{Fault}
 use Rattle.strm_named.specs.declared.fault.Fault.TheVariants.{Invalid, Refused}
 use Rattle.strm_named.specs.declared.name.Name.{Name}
-use Rattle.strm_named.specs.Fitting.{Fits, IsTokenOf, named}
-use Rattle.strm_named.specs.NamedCalls.{Does, LeavesNames, Outcome, Shape, any_message, one_message, outcome_of, plain, two_messages}
-use Rattle.strm_named.specs.NamedValue.{NamedValue, name_of, raised, stamp_at, stamps_given}
-use Rattle.strm_named.specs.PlacesValue.{PlacesValue, answer_given, answer_spent, any_answer_given, any_given, name_given, parted_given, refusing, stamp_in, with_answer, with_any, with_any_answer, with_given, with_parted, with_rejected, with_token, without_token}
+use Rattle.strm_named.specs.Fitting.{Fits, IsTokenOf, pool_with_places}
+use Rattle.strm_named.specs.NamedCalls.{Does, LeavesNames, Outcome, Shape, any_message, one_message, outcome_of, no_message, two_messages}
+use Rattle.strm_named.specs.NamedValue.{NamedValue, name_of, stamp_after, stamp_at, stamps_given}
+use Rattle.strm_named.specs.PlacesValue.{PlacesValue, answer_given, answer_spent, any_answer_given, any_given, name_given, parted_given, as_named_result, stamp_in, with_answer, with_any, with_any_answer, with_given, with_parted, with_rejected, with_token, without_token}
 use Rattle.strm_named.proofs.Fitted.{emptied, filled, fits_moved, put_back, stands_had, within_some}
 use Rattle.strm_named.proofs.Renamed.{length-stamps_given, renames, stamps_raised}
 
@@ -43,30 +43,30 @@ on_valid {X} {Y} {s} {valid} {spent} {u} {v} {w} {answer} call view is does =
 -- A call was made: places and message blocks fit together again, and it does what its definition says.
 pub record Called {X Y : Type 0} (s : Shape X Y) (outcome : Outcome X) (spent : List ℕ) (p r : PoolValue) (ps qs : PlacesValue) (answer : Result Y Fault) : Type 0 where
   pub fits : Fits r.arena qs
-  pub does : Does s outcome spent (named p ps) (named r qs) answer
+  pub does : Does s outcome spent (pool_with_places p ps) (pool_with_places r qs) answer
 
 module _ (p r : PoolValue) (ps qs : PlacesValue) (fits : Fits p.arena ps) where
   -- It was done, and messages moved: of the heads before, some stay and some are spent; of those afterwards, some stay and some
   -- are given.
   made : {X Y : Type 0} (s : Shape X Y) {outcome : Outcome X} {answer : Result Y Fault} (x : X) (kept spent : List ℕ) {before after : List TokenValue} → Moves p.arena r.arena before after
       → heads_of before ≡ kept ++ spent → heads_of after ≡ kept ++ s.heads x → ((h : ℕ) → rows.has h spent ≡ true → rows.has h kept ≡ false) → outcome ≡ Ok (x, r)
-      → qs ≡ (let q : PlacesValue = record { slots = filled after (emptied before ps.slots); stamps = stamps_given (s.heads x) ps.stamps } in q) → answer ≡ Ok (s.told (named r qs) x)
+      → qs ≡ (let q : PlacesValue = record { slots = filled after (emptied before ps.slots); stamps = stamps_given (s.heads x) ps.stamps } in q) → answer ≡ Ok (s.told (pool_with_places r qs) x)
       → Called s outcome spent p r ps qs answer
   made {X} s {outcome} {answer} x kept spent moves were are other is places told =
       let stamps : qs.stamps ≡ stamps_given (s.heads x) ps.stamps = ap (λ (q : PlacesValue). q.stamps) places in
       record {
         fits = fits_moved fits moves (ap (λ (q : PlacesValue). q.slots) places) (ap length stamps ∙ length-stamps_given (s.heads x) ps.stamps);
         does =
-            subst (λ (o : Outcome X). Does s o spent (named p ps) (named r qs) answer) (sym is)
-            (let d : Does s (Ok (x, r)) spent (named p ps) (named r qs) answer = record {
+            subst (λ (o : Outcome X). Does s o spent (pool_with_places p ps) (pool_with_places r qs) answer) (sym is)
+            (let d : Does s (Ok (x, r)) spent (pool_with_places p ps) (pool_with_places r qs) answer = record {
               after = λ i. let w : NamedValue = record { pool = r; stamps = stamps i } in w;
               told = told;
-              names = renames (named p ps) (named r qs) kept spent (s.heads x) moves were are other stamps fits.stamps;
+              names = renames (pool_with_places p ps) (pool_with_places r qs) kept spent (s.heads x) moves were are other stamps fits.stamps;
             } in d);
       }
 
   -- it was refused
-  failed : {X Y : Type 0} (s : Shape X Y) {answer : Result Y Fault} {spent : List ℕ} {fault : Fault} → r ≡ p → qs.stamps ≡ ps.stamps → answer ≡ Err fault → Does s (Err fault) spent (named p ps) (named r qs) answer
+  failed : {X Y : Type 0} (s : Shape X Y) {answer : Result Y Fault} {spent : List ℕ} {fault : Fault} → r ≡ p → qs.stamps ≡ ps.stamps → answer ≡ Err fault → Does s (Err fault) spent (pool_with_places p ps) (pool_with_places r qs) answer
   failed s same stamps told = record {
     after = λ i. let w : NamedValue = record { pool = same i; stamps = stamps i } in w;
     told = told;
@@ -84,15 +84,15 @@ module _ (p r : PoolValue) (ps qs : PlacesValue) (fits : Fits p.arena ps) where
 
   -- the name of one of the tokens that are given
   name_told : (hs : List ℕ) (t : TokenValue) → length r.arena.held ≡ length p.arena.held → has r.arena t ≡ true → IsApart hs → rows.has t.head hs ≡ true → qs.stamps ≡ stamps_given hs ps.stamps
-      → name_given t ps ≡ name_of (named r qs) t.head
+      → name_given t ps ≡ name_of (pool_with_places r qs) t.head
   name_told hs t size had apart is stamps =
       let pool : t.pool ≡ r.arena.id = (had_message r.arena t had).1.pool in
       let within : t.head < length ps.stamps = omega (arith, within_some r.arena t.head (stands_had r.arena t had), size, fits.stamps) in
-      let stamp : raised (stamp_in ps t.head) ≡ stamp_at (named r qs) t.head = sym (ap (λ ss. get_or ss t.head 0) stamps ∙ stamps_raised hs ps.stamps t.head within apart is) in
+      let stamp : stamp_after (stamp_in ps t.head) ≡ stamp_at (pool_with_places r qs) t.head = sym (ap (λ ss. get_or ss t.head 0) stamps ∙ stamps_raised hs ps.stamps t.head within apart is) in
       λ i. let n : Name = record { pool = pool i; head = t.head; stamp = stamp i } in n
 
   -- of one that is given alone
-  name_alone : (t : TokenValue) → length r.arena.held ≡ length p.arena.held → has r.arena t ≡ true → qs.stamps ≡ stamps_given (t.head ∷ []) ps.stamps → name_given t ps ≡ name_of (named r qs) t.head
+  name_alone : (t : TokenValue) → length r.arena.held ≡ length p.arena.held → has r.arena t ≡ true → qs.stamps ≡ stamps_given (t.head ∷ []) ps.stamps → name_given t ps ≡ name_of (pool_with_places r qs) t.head
   name_alone t size had stamps = name_told (t.head ∷ []) t size had (refl, tt) (has_here t.head []) stamps
 
 module _ {p r : PoolValue} {ps qs : PlacesValue} (fits : Fits p.arena ps) where
@@ -148,9 +148,9 @@ module _ {p r : PoolValue} {ps qs : PlacesValue} (fits : Fits p.arena ps) where
 
     -- a message is altered, and its token may have another number of blocks
     pub alters : (f : ℕ → Given PoolValue (Unit {0})) {s : TokenValue} {given : Result (Unit {0}) Refusal} {answer : Result (Unit {0}) Fault} → Alters arena t s (f t.head) p r given
-        → qs ≡ with_token s (without_token n.head ps) → answer ≡ refusing given → Called plain (outcome_of (f n.head)) [] p r ps qs answer
+        → qs ≡ with_token s (without_token n.head ps) → answer ≡ as_named_result given → Called no_message (outcome_of (f n.head)) [] p r ps qs answer
     alters f {s} {given} {answer} is places told =
-        subst (λ h. Called plain (outcome_of (f h)) [] p r ps qs answer) of.head (each (f t.head) is.after (told ∙ ap refusing is.answer))
+        subst (λ h. Called no_message (outcome_of (f h)) [] p r ps qs answer) of.head (each (f t.head) is.after (told ∙ ap as_named_result is.answer))
       where
         head : s.head ≡ t.head
         head = ap (λ (y : TokenValue). y.head) is.token
@@ -161,36 +161,36 @@ module _ {p r : PoolValue} {ps qs : PlacesValue} (fits : Fits p.arena ps) where
         moved : Moves p.arena r.arena (t ∷ []) (s ∷ [])
         moved = moves_stay head of.had is.had is.others
 
-        each : (g : Given PoolValue (Unit {0})) → r ≡ value_after p g → answer ≡ refusing (answer_of g) → Called plain (outcome_of g) [] p r ps qs answer
+        each : (g : Given PoolValue (Unit {0})) → r ≡ value_after p g → answer ≡ as_named_result (answer_of g) → Called no_message (outcome_of g) [] p r ps qs answer
         each (Ok (x, u)) after told =
             let pool : u ≡ r = sym after in
-            made p r ps qs fits plain x (t.head ∷ []) [] moved refl (ap (λ h. h ∷ []) head) (λ h none. absurd (false≢true none)) (λ i. Ok (x, pool i)) at told
+            made p r ps qs fits no_message x (t.head ∷ []) [] moved refl (ap (λ h. h ∷ []) head) (λ h none. absurd (false≢true none)) (λ i. Ok (x, pool i)) at told
         each (Err why) after told = record {
           fits = fits_moved fits moved (ap (λ (x : PlacesValue). x.slots) at) (ap (λ (x : PlacesValue). length x.stamps) at);
-          does = failed p r ps qs fits plain after (ap (λ (x : PlacesValue). x.stamps) at) told;
+          does = failed p r ps qs fits no_message after (ap (λ (x : PlacesValue). x.stamps) at) told;
         }
 
     -- a message is altered, and its token has as many blocks as before
-    pub stays : (f : ℕ → Given PoolValue (Unit {0})) {given : Result (Unit {0}) Refusal} {answer : Result (Unit {0}) Fault} → Alters arena t t (f t.head) p r given → qs ≡ ps → answer ≡ refusing given
-        → Called plain (outcome_of (f n.head)) [] p r ps qs answer
+    pub stays : (f : ℕ → Given PoolValue (Unit {0})) {given : Result (Unit {0}) Refusal} {answer : Result (Unit {0}) Fault} → Alters arena t t (f t.head) p r given → qs ≡ ps → answer ≡ as_named_result given
+        → Called no_message (outcome_of (f n.head)) [] p r ps qs answer
     stays f is places told = alters f is (places ∙ sym (ap (λ h. with_token t (without_token h ps)) (sym of.head) ∙ put_back t fits of.had)) told
 
     -- goes, or comes back
     pub spends : (f : ℕ → Given PoolValue (Unit {0})) {put : Result (Unit {0}) Rejected} {answer : Result (Unit {0}) Fault} → Puts arena t (f t.head) p r put → qs ≡ with_rejected put (without_token n.head ps) → answer ≡ answer_spent put
-        → Called plain (outcome_of (f n.head)) (n.head ∷ []) p r ps qs answer
+        → Called no_message (outcome_of (f n.head)) (n.head ∷ []) p r ps qs answer
     spends f {put} {answer} is places told =
-        subst (λ h. Called plain (outcome_of (f h)) (h ∷ []) p r ps qs answer) of.head (each (f t.head) put is (places ∙ ap (λ h. with_rejected put (without_token h ps)) (sym of.head)) told)
+        subst (λ h. Called no_message (outcome_of (f h)) (h ∷ []) p r ps qs answer) of.head (each (f t.head) put is (places ∙ ap (λ h. with_rejected put (without_token h ps)) (sym of.head)) told)
       where
         each : (g : Given PoolValue (Unit {0})) (put : Result (Unit {0}) Rejected) → Puts arena t g p r put → qs ≡ with_rejected put (without_token t.head ps) → answer ≡ answer_spent put
-            → Called plain (outcome_of g) (t.head ∷ []) p r ps qs answer
+            → Called no_message (outcome_of g) (t.head ∷ []) p r ps qs answer
         each (Ok (x, u)) (Ok y) is places told =
             let pool : u ≡ r = sym is.after in
-            made p r ps qs fits plain x [] (t.head ∷ []) (moves_gone of.had is.gone is.others) refl refl (λ h there. refl) (λ i. Ok (x, pool i)) places
+            made p r ps qs fits no_message x [] (t.head ∷ []) (moves_gone of.had is.gone is.others) refl refl (λ h there. refl) (λ i. Ok (x, pool i)) places
             (told ∙ ap (λ (z : Unit {0}). let q : Result (Unit {0}) Fault = Ok z in q) (same_ok is.answer))
         each (Ok given) (Err rejected) is places told = absurd (err_not_ok is.answer)
         each (Err why) (Ok y) is places told = absurd (err_not_ok (sym is.answer))
         each (Err why) (Err rejected) is places told =
-            refused p r ps qs fits plain is.after (places ∙ ap (λ (x : Rejected). with_token x.token (without_token t.head ps)) (same_err is.answer) ∙ put_back t fits of.had)
+            refused p r ps qs fits no_message is.after (places ∙ ap (λ (x : Rejected). with_token x.token (without_token t.head ps)) (same_err is.answer) ∙ put_back t fits of.had)
             (told ∙ ap (λ (x : Rejected). Err (Refused x.why)) (same_err is.answer))
 
     -- loses its first block, and what is left is a message, if anything is
@@ -255,9 +255,9 @@ module _ {p r : PoolValue} {ps qs : PlacesValue} (fits : Fits p.arena ps) where
             let moved = moves_swapped (moves_parted (Some s) of.had is) in
             let stamps : qs.stamps ≡ stamps_given (b.head ∷ s.head ∷ []) ps.stamps = ap (λ (x : PlacesValue). x.stamps) places in
             let one = name_told p r ps qs fits (b.head ∷ s.head ∷ []) b moved.size is.had moved.apart (has_here b.head (s.head ∷ [])) stamps in
-            let still : stamp_in (with_given b ps) s.head ≡ stamp_in ps s.head = get_or-set_other ps.stamps b.head s.head (raised (stamp_in ps b.head)) 0 is.apart in
-            let other : name_given s (with_given b ps) ≡ name_of (named r qs) s.head =
-            (λ i. let n : Name = record { pool = s.pool; head = s.head; stamp = raised (still i) } in n)
+            let still : stamp_in (with_given b ps) s.head ≡ stamp_in ps s.head = get_or-set_other ps.stamps b.head s.head (stamp_after (stamp_in ps b.head)) 0 is.apart in
+            let other : name_given s (with_given b ps) ≡ name_of (pool_with_places r qs) s.head =
+            (λ i. let n : Name = record { pool = s.pool; head = s.head; stamp = stamp_after (still i) } in n)
             ∙ name_told p r ps qs fits (b.head ∷ s.head ∷ []) s moved.size is.rest_had moved.apart (or_right (b.head == s.head) (rows.has s.head (s.head ∷ [])) (has_here s.head [])) stamps in
             made p r ps qs fits two_messages (b.head, Some s.head) [] (t.head ∷ []) moved refl refl (λ h there. refl) gives places (told ∙ (λ i. Ok (one i, Some (other i))))
 
@@ -277,25 +277,25 @@ module _ {p r : PoolValue} {ps qs : PlacesValue} (fits : Fits p.arena ps) where
 
     -- gets the blocks of that of a second name, which goes
     pub links : (f : ℕ → ℕ → PoolValue) {m : Name} {u s : TokenValue} {answer : Result (Unit {0}) Fault} → IsTokenOf m p.arena u → n.head ≢ m.head → Joins arena t s u (f t.head u.head) p r
-        → qs ≡ with_token s (without_token m.head (without_token n.head ps)) → answer ≡ Ok tt → Called plain (outcome_of (done (f n.head m.head))) (m.head ∷ []) p r ps qs answer
+        → qs ≡ with_token s (without_token m.head (without_token n.head ps)) → answer ≡ Ok tt → Called no_message (outcome_of (given_nothing (f n.head m.head))) (m.head ∷ []) p r ps qs answer
     links f {m} {u} {s} {answer} also apart is places told =
         let pool : f t.head u.head ≡ r = sym is.after in
         let head : s.head ≡ t.head = ap (λ (y : TokenValue). y.head) is.token in
         let two : t.head ≢ u.head = λ same. apart (sym of.head ∙ same ∙ also.head) in
-        subst (λ h. Called plain (outcome_of (done (f h m.head))) (m.head ∷ []) p r ps qs answer) of.head
-        (subst (λ k. Called plain (outcome_of (done (f t.head k))) (k ∷ []) p r ps qs answer) also.head
-        (made p r ps qs fits plain tt (t.head ∷ []) (u.head ∷ []) (moves_joined head of.had also.had is.had (is.gone two) is.others) refl (ap (λ h. h ∷ []) head)
+        subst (λ h. Called no_message (outcome_of (given_nothing (f h m.head))) (m.head ∷ []) p r ps qs answer) of.head
+        (subst (λ k. Called no_message (outcome_of (given_nothing (f t.head k))) (k ∷ []) p r ps qs answer) also.head
+        (made p r ps qs fits no_message tt (t.head ∷ []) (u.head ∷ []) (moves_joined head of.had also.had is.had (is.gone two) is.others) refl (ap (λ h. h ∷ []) head)
         (λ h there. or_from (t.head == h) false (ne_eqb t.head h (λ same. two (same ∙ sym (lone h u.head there)))) refl) (λ i. Ok (tt, pool i))
         (places ∙ (λ i. with_token s (without_token (sym also.head i) (without_token (sym of.head i) ps)))) told))
 
 -- ---- a call that leaves the held messages
 
-pub leaves_names : {X : Type 0} {v : NamedValue} {p r : PoolValue} (ps : PlacesValue) {result : Result X Refusal} (call : PoolValue → Given PoolValue X) → named p ps ≡ v → r ≡ value_after p (call p) → result ≡ answer_of (call p)
-    → LeavesOthers [] p.arena r.arena → LeavesNames (call v.pool) v (named r ps) result
+pub leaves_names : {X : Type 0} {v : NamedValue} {p r : PoolValue} (ps : PlacesValue) {result : Result X Refusal} (call : PoolValue → Given PoolValue X) → pool_with_places p ps ≡ v → r ≡ value_after p (call p) → result ≡ answer_of (call p)
+    → LeavesOthers [] p.arena r.arena → LeavesNames (call v.pool) v (pool_with_places r ps) result
 leaves_names {X} {v} {p} {r} ps {result} call view after answer left =
-    subst (λ w. LeavesNames (call w.pool) w (named r ps) result) view
+    subst (λ w. LeavesNames (call w.pool) w (pool_with_places r ps) result) view
     (record {
-      pool = ap (λ (x : PoolValue). named x ps) after;
+      pool = ap (λ (x : PoolValue). pool_with_places x ps) after;
       answer = answer;
       names = λ n i. n.pool == left.id i && (is_some (left.held n.head refl i) && n.stamp == stamp_in ps n.head);
     })

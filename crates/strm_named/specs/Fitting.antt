@@ -8,8 +8,8 @@ use Rattle.strm_named.specs.NamedValue.{NamedValue}
 use Rattle.strm_named.specs.PlacesValue.{PlacesValue, token_in}
 
 -- a pool with the stamps of these places
-abbrev pub named : PoolValue → PlacesValue → NamedValue
-named p s = record { pool = p; stamps = s.stamps }
+abbrev pub pool_with_places : PoolValue → PlacesValue → NamedValue
+pool_with_places p s = record { pool = p; stamps = s.stamps }
 
 -- the token of the message held at h, if one is
 abbrev pub token_at : Arena → ℕ → Option TokenValue

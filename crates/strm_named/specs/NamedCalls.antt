@@ -39,8 +39,8 @@ pub record Shape (X Y : Type 0) : Type 0 where
   pub told : NamedValue → X → Y
 
 -- the call gives no message
-abbrev pub plain : {X : Type 0} → Shape X X
-plain = record { heads = λ x. []; told = λ v x. x }
+abbrev pub no_message : {X : Type 0} → Shape X X
+no_message = record { heads = λ x. []; told = λ v x. x }
 
 -- the call gives one message
 abbrev pub one_message : Shape ℕ Name

@@ -5,7 +5,7 @@ use Rattle.strm_mblk.specs.Arena.{held_at}
 use Rattle.strm_pool.specs.declared.config.Config.{Config}
 use Rattle.strm_pool.specs.declared.config.NewFault.{NewFault}
 use Rattle.strm_pool.specs.Config.{fault_of}
-use Rattle.strm_pool.specs.PoolValue.{Opens, PoolValue, opening}
+use Rattle.strm_pool.specs.PoolValue.{Opens, PoolValue, opening_pool}
 use Rattle.strm_named.specs.declared.name.Name.{Name}
 
 -- A pool, and the stamp of each message block: the number of messages that were given and begin with it.
@@ -26,17 +26,17 @@ abbrev pub is_valid : NamedValue → Name → Bool
 is_valid v n = n.pool == v.pool.arena.id && (is_some (held_at v.pool.arena n.head) && n.stamp == stamp_at v n.head)
 
 -- the next stamp; stamps have 64 bits, and begin again at 0 after the last
-abbrev pub raised : ℕ → ℕ
-raised n = (n + 1) % 2 ^ 64
+abbrev pub stamp_after : ℕ → ℕ
+stamp_after n = (n + 1) % 2 ^ 64
 
 -- the stamps after messages with these heads were given
 abbrev pub stamps_given : List ℕ → List ℕ → List ℕ
 stamps_given [] stamps = stamps
-stamps_given (h ∷ hs) stamps = stamps_given hs (slice_set stamps h (raised (slice_index_or stamps h 0)))
+stamps_given (h ∷ hs) stamps = stamps_given hs (slice_set stamps h (stamp_after (slice_index_or stamps h 0)))
 
 -- the named pool that a lawful configuration opens: no message was given yet
 abbrev pub opening_named : Config → NamedValue
-opening_named c = record { pool = opening c; stamps = replicate c.mblks 0 }
+opening_named c = record { pool = opening_pool c; stamps = replicate c.mblks 0 }
 
 -- a lawful configuration opens its named pool, unless memory is refused; otherwise its fault is that of any pool
 abbrev pub OpensNamed : Config → Result NamedValue NewFault → Type 0
@@ -49,7 +49,8 @@ OpensNamed c (Err fault) = Opens c (Err fault)
 -- more, except the new name of a message that is given there. The name of a given message is valid, and was not before. All
 -- other names are valid if and only if they were before.
 pub record Renames (spent given : List ℕ) (old new : NamedValue) : Type 0 where
-  pub others : (n : Name) → rows.has n.head spent ≡ false → rows.has n.head given ≡ false → is_valid new n ≡ is_valid old n
+  pub others : (n : Name) → rows.has n.head spent ≡ false → rows.has n.head given ≡ false → is_valid new n
+      ≡ is_valid old n
   pub gone : (n : Name) → rows.has n.head spent ≡ true → rows.has n.head given ≡ false → is_valid new n ≡ false
   pub fresh : (h : ℕ) → rows.has h given ≡ true → is_valid new (name_of new h) ≡ true
   pub unheard : (h : ℕ) → rows.has h given ≡ true → is_valid old (name_of new h) ≡ false

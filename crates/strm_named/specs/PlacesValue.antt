@@ -6,7 +6,7 @@ use Rattle.strm_mblk.specs.declared.token.TokenValue.{TokenValue}
 use Rattle.strm_named.specs.declared.fault.Fault.{Fault}
 use Rattle.strm_named.specs.declared.fault.Fault.TheVariants.{Refused}
 use Rattle.strm_named.specs.declared.name.Name.{Name}
-use Rattle.strm_named.specs.NamedValue.{raised}
+use Rattle.strm_named.specs.NamedValue.{stamp_after}
 
 -- for each message block the token of the held message that begins with it, if any, and its stamp
 pub record PlacesValue : Type 0 where
@@ -38,11 +38,11 @@ without_token h p = record p { slots = slice_set p.slots h None }
 
 -- a token was given: it is at the place of its head, whose stamp is raised
 abbrev pub with_given : TokenValue → PlacesValue → PlacesValue
-with_given t p = record { slots = slice_set p.slots t.head (Some t); stamps = slice_set p.stamps t.head (raised (stamp_in p t.head)) }
+with_given t p = record { slots = slice_set p.slots t.head (Some t); stamps = slice_set p.stamps t.head (stamp_after (stamp_in p t.head)) }
 
 -- the name of a token that was given
 abbrev pub name_given : TokenValue → PlacesValue → Name
-name_given t p = record { pool = t.pool; head = t.head; stamp = raised (stamp_in p t.head) }
+name_given t p = record { pool = t.pool; head = t.head; stamp = stamp_after (stamp_in p t.head) }
 
 -- a token was given, or none
 abbrev pub with_any : Option TokenValue → PlacesValue → PlacesValue
@@ -90,6 +90,6 @@ answer_spent (Ok done) = Ok done
 answer_spent (Err rejected) = Err (Refused rejected.why)
 
 -- the pool's result as a result of the named pool
-abbrev pub refusing : {X : Type 0} → Result X Refusal → Result X Fault
-refusing (Ok answer) = Ok answer
-refusing (Err why) = Err (Refused why)
+abbrev pub as_named_result : {X : Type 0} → Result X Refusal → Result X Fault
+as_named_result (Ok answer) = Ok answer
+as_named_result (Err why) = Err (Refused why)

@@ -1,7 +1,7 @@
 //! Where a named pool keeps the tokens of held messages, and the stamps of their names.
 ghost use Rattle.std.specs.Prelude.{◌≡◌, IfOk, IsSome, None, Some, replicate, slice_set};
 ghost use Rattle.strm_named.specs.PlacesValue.{answer_given, answer_spent, any_answer_given, any_given, is_named, name_given, parted_given, stamp_in, token_in, with_answer, with_any, with_any_answer, with_given, with_parted, with_rejected, with_token, without_token};
-ghost use Rattle.strm_named.specs.NamedValue.{raised};
+ghost use Rattle.strm_named.specs.NamedValue.{stamp_after};
 
 use crate::fault::Fault;
 use crate::name::Name;
@@ -101,10 +101,10 @@ impl Places {
 
     // Raises the stamp of a place, and returns it. If there is no such place, it returns 1.
     fn raise(&mut self, head: u32) -> u64
-        ensures stamp { result ≡ raised (stamp_in self.old head) }
+        ensures stamp { result ≡ stamp_after (stamp_in self.old head) }
         ensures places { self.new ≡ record self.old {
           stamps = slice_set self.old.stamps head
-              (raised (stamp_in self.old head));
+              (stamp_after (stamp_in self.old head));
         } }
     {
         match self.stamps.get_mut(head as usize) {

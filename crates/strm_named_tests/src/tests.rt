@@ -1,6 +1,7 @@
 use arrayvec::ArrayVec;
 use std::alloc::Global;
 use std::process::Abort;
+use std::test::Fail;
 use strm_named::{Fault, Name, NamedPool};
 use strm_pool::{ClassSpec, ClassSpecs, Config, NewFault, QueueSpec, QueueSpecs, Refusal, Which};
 
@@ -96,4 +97,56 @@ fn refuses_as_the_pool_does(rt: HostRuntime) {
     let mut pool = opened(&rt, rt.alloc(), 1);
     assert!(rt; pool.pool().testb(16) && !pool.pool().testb(17));
     assert_is(&rt, pool.allocb(17), Err(Fault::Refused(Refusal::TooLarge)));
+}
+
+// A pool of this id and this number of message blocks opens, and its first message has a name of this id.
+fn assert_opens(rt: &impl Abort, alloc: Global, id: u32, mblks: u32) {
+    let mut pool = NamedPool::new(alloc, config(id, mblks)).expect(rt, "a pool");
+    assert_census(rt, &pool, (mblks, 0, 0));
+    let first = Name {
+        pool: id,
+        head: 0,
+        stamp: 1,
+    };
+    assert_is(rt, pool.allocb(16), Ok(first));
+    assert_census(rt, &pool, (mblks.wrapping_sub(1), 0, 1));
+}
+
+#[test]
+fn opens_with_each_id(rt: HostRuntime) {
+    for id in [0, 1, u32::MAX] {
+        assert_opens(&rt, rt.alloc(), id, 8);
+    }
+}
+
+#[test]
+fn opens_with_the_fewest_and_the_most_message_blocks(rt: HostRuntime) {
+    for mblks in [1, 16_383] {
+        assert_opens(&rt, rt.alloc(), 1, mblks);
+    }
+}
+
+// The fault has this text.
+fn assert_told(rt: &impl Abort, alloc: Global, fault: Fault, text: &str) -> Result<(), Fail> {
+    assert!(rt; format!(in alloc; "{fault}")?.as_str() == text);
+    Ok(())
+}
+
+// An invalid name has a text; a refusal has its own.
+#[test]
+fn faults_are_told(rt: HostRuntime) -> Result<(), Fail> {
+    for (fault, text) in [
+        (Fault::Invalid, "a name is not valid"),
+        (
+            Fault::Refused(Refusal::TooLarge),
+            "the size is above the largest class",
+        ),
+        (
+            Fault::Refused(Refusal::NoSuchBlock),
+            "the message has no such block",
+        ),
+    ] {
+        assert_told(&rt, rt.alloc(), fault, text)?;
+    }
+    Ok(())
 }

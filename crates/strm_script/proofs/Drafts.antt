@@ -18,7 +18,7 @@ use Rattle.strm_script.specs.declared.word.Word.{Word}
 use Rattle.strm_script.specs.declared.word.Word.TheVariants as words
 use Rattle.strm_script.specs.Draft.{StandsFor, HasRoom, pool_at, wishes_at, parts_at, IsIdleAt}
 use Rattle.strm_script.specs.Limits.{most_command_lines}
-use Rattle.strm_script.specs.Script.{Numbered, said, pool_line, class_line, queue_line, bufcalls_line, parts_of, lines_of_section, with_command, with_section, stage_of, stage_behind, may_stand}
+use Rattle.strm_script.specs.Script.{Numbered, values_said, pool_line, class_line, queue_line, bufcalls_line, parts_of, lines_of_section, with_command, with_section, stage_of, stage_behind, may_stand}
 
 -- ---- one entry more
 
@@ -31,10 +31,10 @@ stage_of-push es e =
     let last : length (es ++ e ∷ []) - 1 ≡ length es = omega (arith, length_push es e) in
     cc (last, slice_get-push es e)
 
-said-more : {X : Type 0} (line : Entry → Option X) (es : List Numbered) (e : Numbered) (xs ys : List X) → said line es ≡ xs → said line (e ∷ []) ≡ ys → said line (es ++ e ∷ []) ≡ xs ++ ys
-said-more line es e xs ys before here = filter_map-append (λ (x : Numbered). line x.entry) es (e ∷ []) ∙ ap (λ zs. zs ++ said line (e ∷ [])) before ∙ ap (λ zs. xs ++ zs) here
+said-more : {X : Type 0} (line : Entry → Option X) (es : List Numbered) (e : Numbered) (xs ys : List X) → values_said line es ≡ xs → values_said line (e ∷ []) ≡ ys → values_said line (es ++ e ∷ []) ≡ xs ++ ys
+said-more line es e xs ys before here = filter_map-append (λ (x : Numbered). line x.entry) es (e ∷ []) ∙ ap (λ zs. zs ++ values_said line (e ∷ [])) before ∙ ap (λ zs. xs ++ zs) here
 
-said-same : {X : Type 0} (line : Entry → Option X) (es : List Numbered) (e : Numbered) (xs : List X) → said line es ≡ xs → said line (e ∷ []) ≡ [] → said line (es ++ e ∷ []) ≡ xs
+said-same : {X : Type 0} (line : Entry → Option X) (es : List Numbered) (e : Numbered) (xs : List X) → values_said line es ≡ xs → values_said line (e ∷ []) ≡ [] → values_said line (es ++ e ∷ []) ≡ xs
 said-same line es e xs before here = said-more line es e xs [] before here ∙ append-nil xs
 
 lines_of_section-same : (es : List Numbered) (e : Numbered) → lines_of_section (e ∷ []) ≡ [] → lines_of_section (es ++ e ∷ []) ≡ lines_of_section es

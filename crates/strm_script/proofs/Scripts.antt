@@ -8,7 +8,7 @@ use Rattle.strm_script.specs.declared.fault.LineFault.TheVariants as faults
 use Rattle.strm_script.specs.Draft.{StandsFor, Reads}
 use Rattle.strm_script.specs.Fault.{on_line}
 use Rattle.strm_script.specs.Parsed.{Parses}
-use Rattle.strm_script.specs.Script.{Numbered, with_line, then_lines, entries_from, pieces_of, closed, script_of}
+use Rattle.strm_script.specs.Script.{Numbered, with_line, then_lines, entries_from, pieces_of, script_or_fault, script_of}
 use Rattle.strm_script.specs.Limits.{most_script_bytes}
 
 -- there is a piece
@@ -26,7 +26,7 @@ entries_from-line es n line (piece ∷ pieces) some = refl
 pub record Continues (d : Draft) (n : ℕ) (text bytes : List ℕ) : Type 0 where
   pub es : List Numbered
   pub stands : StandsFor d es
-  pub gives : closed (length (pieces_of bytes)) (entries_from es n (pieces_of text)) ≡ script_of bytes
+  pub gives : script_or_fault (length (pieces_of bytes)) (entries_from es n (pieces_of text)) ≡ script_of bytes
   pub count : n + length (pieces_of text) ≡ length (pieces_of bytes) + 1
   pub few : length (pieces_of bytes) ≤ most_script_bytes + 1
 
@@ -34,7 +34,7 @@ pub continues-start : (d : Draft) (bytes : List ℕ) → length bytes ≤ most_s
 continues-start d bytes short stands = record { es = []; stands = stands; gives = refl; count = omega arith; few = few_pieces bytes short }
 
 -- what line n says decides
-given-line : (d : Draft) (n : ℕ) (text bytes line rest : List ℕ) (k : Continues d n text bytes) → pieces_of text ≡ line ∷ pieces_of rest → closed (length (pieces_of bytes)) (then_lines n (with_line k.es n line) (λ more. entries_from more (n + 1) (pieces_of rest))) ≡ script_of bytes
+given-line : (d : Draft) (n : ℕ) (text bytes line rest : List ℕ) (k : Continues d n text bytes) → pieces_of text ≡ line ∷ pieces_of rest → script_or_fault (length (pieces_of bytes)) (then_lines n (with_line k.es n line) (λ more. entries_from more (n + 1) (pieces_of rest))) ≡ script_of bytes
 given-line d n text bytes line rest k cut = cc (cut, entries_from-line k.es n line (pieces_of rest) (some_piece rest), k.gives)
 
 -- a line was read

@@ -13,7 +13,7 @@ use Rattle.strm_script.specs.declared.stage.Stage.TheVariants as stages
 use Rattle.strm_script.specs.declared.word.Word.{Word}
 use Rattle.strm_script.specs.declared.word.Word.TheVariants as words
 use Rattle.strm_script.specs.Limits.{most_command_lines}
-use Rattle.strm_script.specs.Script.{Numbered, pool_line, class_line, queue_line, bufcalls_line, said, parts_of, stage_of, with_entry}
+use Rattle.strm_script.specs.Script.{Numbered, pool_line, class_line, queue_line, bufcalls_line, values_said, parts_of, stage_of, with_entry}
 use Rattle.strm_script.specs.Entry.{entry_of}
 
 -- the numbers of the pool line, once it was read
@@ -40,10 +40,10 @@ IsIdleAt _ whole lines = (whole ≡ []) × (lines ≡ [])
 -- a draft has the meaning of these entries
 pub record StandsFor (d : Draft) (es : List Numbered) : Type 0 where
   pub stage : stage_of es ≡ d.stage
-  pub pool : said pool_line es ≡ pool_at d.stage (d.id, d.mblks)
-  pub classes : said class_line es ≡ d.classes.items
-  pub queues : said queue_line es ≡ d.queues.items
-  pub wishes : said bufcalls_line es ≡ wishes_at d.stage (d.bufcalls, d.first_id)
+  pub pool : values_said pool_line es ≡ pool_at d.stage (d.id, d.mblks)
+  pub classes : values_said class_line es ≡ d.classes.items
+  pub queues : values_said queue_line es ≡ d.queues.items
+  pub wishes : values_said bufcalls_line es ≡ wishes_at d.stage (d.bufcalls, d.first_id)
   pub parts : parts_of es ≡ parts_at d.stage d.parts.items d.lines.items
   pub left : d.left + sum_by length (parts_of es) ≡ most_command_lines
   pub few : length d.parts.items < most_workers

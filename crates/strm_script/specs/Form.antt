@@ -41,18 +41,18 @@ u32_of word = number_of (2 ^ 32 - 1) word
 abbrev pub u8_of : List ℕ → Result ℕ Kind
 u8_of word = number_of 255 word
 
-abbrev pub signed : (ℕ → ℤ) → Result ℕ Kind → Result ℤ Kind
-signed sign (Ok n) = Ok (sign n)
-signed sign (Err kind) = Err kind
+abbrev pub signed_number : (ℕ → ℤ) → Result ℕ Kind → Result ℤ Kind
+signed_number sign (Ok n) = Ok (sign n)
+signed_number sign (Err kind) = Err kind
 
 -- the number below 0 that `-` and these digits mean; `-0` is no number
 abbrev pub negative_of : List ℕ → Result ℤ Kind
-negative_of digits = if bytes_eq digits (codes "0") then Err Number else signed (λ n. neg_ℤ (pos n)) (number_of (2 ^ 31) digits)
+negative_of digits = if bytes_eq digits (codes "0") then Err Number else signed_number (λ n. neg_ℤ (pos n)) (number_of (2 ^ 31) digits)
 
 -- a number from -2^31 to 2^31 - 1: `-` may come before a number that is not `0`
 abbrev pub i32_of : List ℕ → Result ℤ Kind
 i32_of [] = Err Number
-i32_of (b ∷ bs) = if b == 45 then negative_of bs else signed (λ n. pos n) (number_of (2 ^ 31 - 1) (b ∷ bs))
+i32_of (b ∷ bs) = if b == 45 then negative_of bs else signed_number (λ n. pos n) (number_of (2 ^ 31 - 1) (b ∷ bs))
 
 -- one letter of `a` to `z`, as its place in the alphabet
 abbrev pub register_of : List ℕ → Result ℕ Kind

@@ -46,19 +46,19 @@ bufcalls_line (Bufcalls wishes first_id) = Some (wishes, first_id)
 bufcalls_line _ = None
 
 -- what the entries of one kind say, in order
-abbrev pub said : {X : Type 0} → (Entry → Option X) → List Numbered → List X
-said line es = filter_map (λ e. line e.entry) es
+abbrev pub values_said : {X : Type 0} → (Entry → Option X) → List Numbered → List X
+values_said line es = filter_map (λ e. line e.entry) es
 
 -- the two numbers of the first entry of a kind, or zeros
 abbrev pub numbers_said : (Entry → Option (ℕ × ℕ)) → List Numbered → ℕ × ℕ
-numbers_said line es = unwrap_or (slice_get (said line es) 0) (0, 0)
+numbers_said line es = unwrap_or (slice_get (values_said line es) 0) (0, 0)
 
 abbrev pub config_of : List Numbered → Config
 config_of es = record {
   id = (numbers_said pool_line es).0;
   mblks = (numbers_said pool_line es).1;
-  classes = said class_line es;
-  queues = said queue_line es;
+  classes = values_said class_line es;
+  queues = values_said queue_line es;
   bufcalls = (numbers_said bufcalls_line es).0;
   first_id = (numbers_said bufcalls_line es).1;
 }
@@ -114,8 +114,8 @@ may_stand _ _ = false
 -- whether there are as many lines with this first word as there may be; commands are counted over all sections
 abbrev pub is_full : List Numbered → Word → Bool
 is_full es words.Pool = false
-is_full es words.Class = nat_le most_classes (length (said class_line es))
-is_full es words.Queue = nat_le most_queues (length (said queue_line es))
+is_full es words.Class = nat_le most_classes (length (values_said class_line es))
+is_full es words.Queue = nat_le most_queues (length (values_said queue_line es))
 is_full es words.Bufcalls = false
 is_full es words.Worker = nat_le most_workers (length (parts_of es))
 is_full es (words.Command verb) = nat_le most_command_lines (sum_by length (parts_of es))
@@ -164,9 +164,9 @@ abbrev pub pieces_of : List ℕ → List (List ℕ)
 pieces_of bytes = slice_split (λ b. b == 10) bytes
 
 -- the script of all entries; if it has no section, one is missing on line n, after its last line
-abbrev pub closed : ℕ → Result (List Numbered) Fault → Result Script Fault
-closed n (Ok es) = if is_nil (parts_of es) then fault n Missing else Ok (record { config = config_of es; parts = parts_of es })
-closed n (Err found) = Err found
+abbrev pub script_or_fault : ℕ → Result (List Numbered) Fault → Result Script Fault
+script_or_fault n (Ok es) = if is_nil (parts_of es) then fault n Missing else Ok (record { config = config_of es; parts = parts_of es })
+script_or_fault n (Err found) = Err found
 
 abbrev pub script_of : List ℕ → Result Script Fault
-script_of bytes = closed (length (pieces_of bytes)) (entries_from [] 1 (pieces_of bytes))
+script_of bytes = script_or_fault (length (pieces_of bytes)) (entries_from [] 1 (pieces_of bytes))

@@ -12,7 +12,7 @@ use Rattle.strm_pool.specs.declared.reply.Reply.{Reply}
 use Rattle.strm_pool.specs.declared.reply.Reply.TheVariants.{Done, Yes, No, Nothing, Empty, Taken, Bytes, Refused}
 use Rattle.strm_pool.specs.declared.reply.Reply.TheVariants as replies
 use Rattle.strm_mblk.specs.Arena.{census_of}
-use Rattle.strm_pool.specs.PoolValue.{PoolValue, Wish, opening, queued}
+use Rattle.strm_pool.specs.PoolValue.{PoolValue, Wish, opening_pool, queued_blocks_of}
 use Rattle.strm_queue.specs.declared.band_info.BandInfo.{BandInfo}
 use Rattle.strm_queue.specs.declared.queue_info.QueueInfo.{QueueInfo}
 use Rattle.strm_queue.specs.Flow.{every_band}
@@ -139,7 +139,7 @@ wishes_text wishes = list_text (codes "wishes") wish_text wishes
 
 -- the report: a line on message blocks, one on each size class, those on each queue, one on the run list, and one on wishes
 abbrev pub report_text : PoolValue → List ℕ
-report_text v = blocks_text (census_of v.arena) ++ (classes_text (class_infos v.arena.store) ++ (queues_text (queued v) ++ (run_text v.queues.run ++ wishes_text v.wishes.pending)))
+report_text v = blocks_text (census_of v.arena) ++ (classes_text (class_infos v.arena.store) ++ (queues_text (queued_blocks_of v) ++ (run_text v.queues.run ++ wishes_text v.wishes.pending)))
 
 abbrev pub desk_calls : List Served → List DeskCall
 desk_calls served = map (λ s. record { desk = s.worker; call = s.line.call }) served
@@ -154,4 +154,4 @@ text_from v tables served = text_after served (replay_from v tables (desk_calls 
 
 -- the text of a script whose lines are executed in this order
 abbrev pub text_of : Script → List Served → List ℕ
-text_of script served = text_from (opening script.config) (empty_tables (length script.parts)) served
+text_of script served = text_from (opening_pool script.config) (empty_tables (length script.parts)) served

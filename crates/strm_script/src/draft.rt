@@ -4,7 +4,7 @@ ghost use Rattle.strm_script.specs.Cut.{words_behind};
 ghost use Rattle.strm_shared.specs.Limits.{most_workers};
 ghost use Rattle.strm_script.specs.Limits.{most_command_lines};
 ghost use Rattle.strm_script.specs.Entry.{Worker, Command, entry_of};
-ghost use Rattle.strm_script.specs.Script.{Numbered, is_full, may_stand, with_words, with_entry, is_skipped, with_line, closed};
+ghost use Rattle.strm_script.specs.Script.{Numbered, is_full, may_stand, with_words, with_entry, is_skipped, with_line, script_or_fault};
 ghost use Rattle.strm_script.specs.Draft.{StandsFor, HasRoom, Reads, with_first};
 ghost use Rattle.strm_script.specs.Parsed.{Parses};
 
@@ -183,7 +183,7 @@ impl Draft {
 
     /// Returns the script, which ends before line `number`. If there is no worker section, one is missing on that line.
     pub fn finish(self, number: u32) -> Result<Script, ParseFault>
-        ensures parses { (es : List Numbered) → StandsFor self es → Parses result (closed number (Ok es)) }
+        ensures parses { (es : List Numbered) → StandsFor self es → Parses result (script_or_fault number (Ok es)) }
         ensures some { IfOk result (λ script. 1 ≤ length script.parts) }
         ensures few { (es : List Numbered) → StandsFor self es
             → IfOk result (λ script. length script.parts ≤ most_workers) }

@@ -1,6 +1,6 @@
 //! The report of a pool: lines on blocks, size classes, queues, bands, the run list and wishes.
 ghost use Rattle.std.specs.Prelude.{◌≡◌, ◌++◌, OnOk, OnErr, IsTrue};
-ghost use Rattle.strm_pool.specs.PoolValue.{has_queue, queued};
+ghost use Rattle.strm_pool.specs.PoolValue.{has_queue, queued_blocks_of};
 ghost use Rattle.strm_script.specs.Text.{report_text};
 
 use crate::piece::{Piece, append_whole, pieces};
@@ -139,7 +139,7 @@ struct Bands<'a> {
 impl Piece for Bands<'_> {
     ghost use Rattle.strm_script.specs.Text.{bands_text};
 
-    ghost bytes = { λ bands. bands_text (queued bands.pool.now) bands.queue };
+    ghost bytes = { λ bands. bands_text (queued_blocks_of bands.pool.now) bands.queue };
 
     fn append(self, text: &mut Vec<u8>) -> Result<(), AllocError> {
         for band in (0..=u8::MAX).rev() {
@@ -159,7 +159,7 @@ struct Queues<'a>(&'a Pool);
 impl Piece for Queues<'_> {
     ghost use Rattle.strm_script.specs.Text.{queues_text};
 
-    ghost bytes = { λ queues. queues_text (queued queues.0.now) };
+    ghost bytes = { λ queues. queues_text (queued_blocks_of queues.0.now) };
 
     fn append(self, text: &mut Vec<u8>) -> Result<(), AllocError> {
         let Queues(pool) = self;

@@ -4,8 +4,8 @@ ghost use Rattle.strm_mblk.specs.Arena.{message_at};
 ghost use Rattle.strm_mblk.specs.Block.{bytes_of, data_size_of, size_of};
 ghost use Rattle.strm_mblk.specs.BlockCalls as blocks;
 ghost use Rattle.strm_mblk.specs.Trimming as trimming;
-ghost use Rattle.strm_mblk.specs.Given.{done};
-ghost use Rattle.strm_named.specs.NamedCalls.{Does, answer_told, any_message, if_valid, on_name, on_names, plain, two_messages};
+ghost use Rattle.strm_mblk.specs.Given.{given_nothing};
+ghost use Rattle.strm_named.specs.NamedCalls.{Does, answer_told, any_message, if_valid, on_name, on_names, no_message, two_messages};
 ghost use Rattle.strm_pool.specs.PoolValue.{on_arena, with_arena};
 
 use super::NamedPool;
@@ -18,7 +18,7 @@ impl NamedPool {
     /// Puts bytes at the write place of a message's block `place`, counted from 0. Refused as `Invalid`, `NoSuchBlock`,
     /// `Shared`, then `NoRoom`. As [`Blocks::write`] of strm_mblk.
     pub fn write(&mut self, name: Name, place: u32, bytes: &[u8]) -> Result<(), Fault>
-        ensures { Does plain (on_name self.old name (on_arena self.old.pool
+        ensures { Does no_message (on_name self.old name (on_arena self.old.pool
             (blocks.write name.head place bytes.now self.old.pool.arena))) [] self.old self.new result }
     {
         if !self.has(name) {
@@ -31,7 +31,7 @@ impl NamedPool {
     /// Gives the data block of a message's block `place`, counted from 0, a type. Refused as `Invalid`, `NoSuchBlock`, then
     /// `Shared`. As [`Blocks::settype`] of strm_mblk.
     pub fn settype(&mut self, name: Name, place: u32, kind: MsgType) -> Result<(), Fault>
-        ensures { Does plain (on_name self.old name (on_arena self.old.pool
+        ensures { Does no_message (on_name self.old name (on_arena self.old.pool
             (blocks.settype name.head place kind self.old.pool.arena))) [] self.old self.new result }
     {
         if !self.has(name) {
@@ -43,8 +43,8 @@ impl NamedPool {
 
     /// Gives a message's first block a band. Refused as `Invalid`. As [`Blocks::setband`] of strm_mblk.
     pub fn setband(&mut self, name: Name, band: u8) -> Result<(), Fault>
-        ensures { Does plain (on_name self.old name
-            (done (with_arena self.old.pool (blocks.setband name.head band self.old.pool.arena))))
+        ensures { Does no_message (on_name self.old name
+            (given_nothing (with_arena self.old.pool (blocks.setband name.head band self.old.pool.arena))))
             [] self.old self.new result }
     {
         if !self.has(name) {
@@ -58,7 +58,7 @@ impl NamedPool {
     /// Appends the blocks of message `tail` to the other message, which keeps its name. The name `tail` is spent. Refused as
     /// `Invalid`, also if both names are of one message. As [`Blocks::linkb`] of strm_mblk.
     pub fn linkb(&mut self, name: Name, tail: Name) -> Result<(), Fault>
-        ensures { Does plain (on_names self.old name tail (done
+        ensures { Does no_message (on_names self.old name tail (given_nothing
             (with_arena self.old.pool (blocks.linkb name.head tail.head self.old.pool.arena)))) (tail.head ∷ [])
             self.old self.new result }
     {
@@ -103,7 +103,7 @@ impl NamedPool {
     /// Removes `count` bytes at the head of a message or, if `count` is below 0, -`count` bytes at its tail, from blocks of one
     /// type. Refused as `Invalid`, then `Short`. As [`Blocks::adjmsg`] of strm_mblk.
     pub fn adjmsg(&mut self, name: Name, count: i32) -> Result<(), Fault>
-        ensures { Does plain (on_name self.old name (on_arena self.old.pool
+        ensures { Does no_message (on_name self.old name (on_arena self.old.pool
             (trimming.adjmsg name.head count self.old.pool.arena))) [] self.old self.new result }
     {
         if !self.has(name) {
@@ -116,7 +116,7 @@ impl NamedPool {
     /// Brings the first `count` bytes of a message into its first block; -1 means all bytes of its leading blocks of one type.
     /// Refused as `Invalid`, `Short`, `TooLarge`, then `NoData`. As [`Blocks::pullupmsg`] of strm_mblk.
     pub fn pullupmsg(&mut self, name: Name, count: i32) -> Result<(), Fault>
-        ensures { Does plain (on_name self.old name (on_arena self.old.pool
+        ensures { Does no_message (on_name self.old name (on_arena self.old.pool
             (trimming.pullupmsg name.head count self.old.pool.arena))) [] self.old self.new result }
     {
         if !self.has(name) {
@@ -171,7 +171,7 @@ impl NamedPool {
     /// Returns what a message's block `place`, counted from 0, is like. Refused as `Invalid`, then `NoSuchBlock`. As
     /// [`Blocks::block`] of strm_mblk.
     pub fn block(&self, name: Name, place: u32) -> Result<BlockInfo, Fault>
-        ensures { result ≡ answer_told plain self.now (on_name self.now name
+        ensures { result ≡ answer_told no_message self.now (on_name self.now name
             (on_arena self.now.pool (blocks.block name.head place self.now.pool.arena))) }
     {
         if !self.has(name) {

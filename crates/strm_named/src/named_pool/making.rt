@@ -2,8 +2,8 @@
 ghost use Rattle.std.specs.Prelude.{[], ◌∷◌, Ok};
 ghost use Rattle.strm_mblk.specs.BlockCalls as blocks;
 ghost use Rattle.strm_mblk.specs.Freeing as freeing;
-ghost use Rattle.strm_mblk.specs.Given.{done};
-ghost use Rattle.strm_named.specs.NamedCalls.{Does, any_message, on_name, one_message, outcome_of, plain};
+ghost use Rattle.strm_mblk.specs.Given.{given_nothing};
+ghost use Rattle.strm_named.specs.NamedCalls.{Does, any_message, on_name, one_message, outcome_of, no_message};
 ghost use Rattle.strm_pool.specs.PoolValue.{on_arena, with_arena};
 
 use super::NamedPool;
@@ -90,8 +90,8 @@ impl NamedPool {
 
     /// Frees a message, and spends its name. Refused as `Invalid`. As [`Blocks::freemsg`] of strm_mblk.
     pub fn freemsg(&mut self, name: Name) -> Result<(), Fault>
-        ensures { Does plain (on_name self.old name
-            (done (with_arena self.old.pool (freeing.freemsg name.head self.old.pool.arena)))) (name.head ∷ [])
+        ensures { Does no_message (on_name self.old name
+            (given_nothing (with_arena self.old.pool (freeing.freemsg name.head self.old.pool.arena)))) (name.head ∷ [])
             self.old self.new result }
     {
         if !self.has(name) {

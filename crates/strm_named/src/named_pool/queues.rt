@@ -1,7 +1,7 @@
 //! Calls on queues. Those that put a message spend its name; those that take one return a new name.
 ghost use Rattle.std.specs.Prelude.{Ok, [], ◌∷◌};
-ghost use Rattle.strm_named.specs.NamedCalls.{Does, LeavesNames, any_message, on_name, one_message, outcome_of, plain};
-ghost use Rattle.strm_pool.specs.PoolValue.{on_queues, queued};
+ghost use Rattle.strm_named.specs.NamedCalls.{Does, LeavesNames, any_message, on_name, one_message, outcome_of, no_message};
+ghost use Rattle.strm_pool.specs.PoolValue.{on_queues, queued_blocks_of};
 ghost use Rattle.strm_queue.specs.QueueCalls as queues;
 
 use super::NamedPool;
@@ -14,8 +14,8 @@ impl NamedPool {
     /// Puts a message on a queue, after the last message whose rank is at least its own, and spends its name. Refused as
     /// `Invalid`, then `NoSuchQueue`. As [`Queues::putq`] of strm_queue.
     pub fn putq(&mut self, queue: u8, name: Name) -> Result<(), Fault>
-        ensures { Does plain (on_name self.old name (on_queues self.old.pool
-            (queues.putq queue name.head (queued self.old.pool)))) (name.head ∷ []) self.old self.new result }
+        ensures { Does no_message (on_name self.old name (on_queues self.old.pool
+            (queues.putq queue name.head (queued_blocks_of self.old.pool)))) (name.head ∷ []) self.old self.new result }
     {
         if !self.has(name) {
             return Err(Fault::Invalid);
@@ -28,8 +28,8 @@ impl NamedPool {
     /// Puts a message on a queue, before the first message whose rank is at most its own, and spends its name. Refused as
     /// `Invalid`, then `NoSuchQueue`. As [`Queues::putbq`] of strm_queue.
     pub fn putbq(&mut self, queue: u8, name: Name) -> Result<(), Fault>
-        ensures { Does plain (on_name self.old name (on_queues self.old.pool
-            (queues.putbq queue name.head (queued self.old.pool)))) (name.head ∷ []) self.old self.new result }
+        ensures { Does no_message (on_name self.old name (on_queues self.old.pool
+            (queues.putbq queue name.head (queued_blocks_of self.old.pool)))) (name.head ∷ []) self.old self.new result }
     {
         if !self.has(name) {
             return Err(Fault::Invalid);
@@ -42,8 +42,8 @@ impl NamedPool {
     /// Puts a message on a queue at `place`, counted from 0, and spends its name. Refused as `Invalid`, `NoSuchQueue`,
     /// `NoSuchPlace`, then `BadOrder`. As [`Queues::insq`] of strm_queue.
     pub fn insq(&mut self, queue: u8, place: u32, name: Name) -> Result<(), Fault>
-        ensures { Does plain (on_name self.old name (on_queues self.old.pool
-            (queues.insq queue place name.head (queued self.old.pool)))) (name.head ∷ []) self.old self.new result }
+        ensures { Does no_message (on_name self.old name (on_queues self.old.pool
+            (queues.insq queue place name.head (queued_blocks_of self.old.pool)))) (name.head ∷ []) self.old self.new result }
     {
         if !self.has(name) {
             return Err(Fault::Invalid);
@@ -56,7 +56,8 @@ impl NamedPool {
     /// Removes the first message of a queue, if any, and returns its new name. Refused as `NoSuchQueue`. As [`Queues::getq`] of
     /// strm_queue.
     pub fn getq(&mut self, queue: u8) -> Result<Option<Name>, Fault>
-        ensures { Does any_message (outcome_of (on_queues self.old.pool (queues.getq queue (queued self.old.pool))))
+        ensures { Does any_message (outcome_of (on_queues self.old.pool
+            (queues.getq queue (queued_blocks_of self.old.pool))))
             [] self.old self.new result }
     {
         let given = self.pool.getq(queue);
@@ -67,7 +68,7 @@ impl NamedPool {
     /// `NoSuchPlace`. As [`Queues::rmvq`] of strm_queue.
     pub fn rmvq(&mut self, queue: u8, place: u32) -> Result<Name, Fault>
         ensures { Does one_message (outcome_of (on_queues self.old.pool
-            (queues.rmvq queue place (queued self.old.pool)))) [] self.old self.new result }
+            (queues.rmvq queue place (queued_blocks_of self.old.pool)))) [] self.old self.new result }
     {
         let given = self.pool.rmvq(queue, place);
         self.places.answer(given)
@@ -76,7 +77,7 @@ impl NamedPool {
     /// Frees messages of a queue: all, or only those that carry data. Refused as `NoSuchQueue`. As [`Queues::flushq`] of
     /// strm_queue.
     pub fn flushq(&mut self, queue: u8, flush: Flush) -> Result<(), Refusal>
-        ensures { LeavesNames (on_queues self.old.pool (queues.flushq queue flush (queued self.old.pool)))
+        ensures { LeavesNames (on_queues self.old.pool (queues.flushq queue flush (queued_blocks_of self.old.pool)))
             self.old self.new result }
     {
         self.pool.flushq(queue, flush)
@@ -85,7 +86,8 @@ impl NamedPool {
     /// Frees messages of one band of a queue: all, or only those that carry data. Refused as `NoSuchQueue`. As
     /// [`Queues::flushband`] of strm_queue.
     pub fn flushband(&mut self, queue: u8, band: u8, flush: Flush) -> Result<(), Refusal>
-        ensures { LeavesNames (on_queues self.old.pool (queues.flushband queue band flush (queued self.old.pool)))
+        ensures { LeavesNames (on_queues self.old.pool
+            (queues.flushband queue band flush (queued_blocks_of self.old.pool)))
             self.old self.new result }
     {
         self.pool.flushband(queue, band, flush)
@@ -94,7 +96,7 @@ impl NamedPool {
     /// Says whether a band has room at the target of a queue; if not, the band is wanted there. Refused as `NoSuchQueue`. As
     /// [`Queues::bcanput`] of strm_queue.
     pub fn bcanput(&mut self, queue: u8, band: u8) -> Result<bool, Refusal>
-        ensures { LeavesNames (on_queues self.old.pool (queues.bcanput queue band (queued self.old.pool)))
+        ensures { LeavesNames (on_queues self.old.pool (queues.bcanput queue band (queued_blocks_of self.old.pool)))
             self.old self.new result }
     {
         self.pool.bcanput(queue, band)
@@ -103,7 +105,8 @@ impl NamedPool {
     /// Sets both water marks of one band of a queue, in bytes. Refused as `NoSuchQueue`, then `BadMarks`. As
     /// [`Queues::strqset`] of strm_queue.
     pub fn strqset(&mut self, queue: u8, band: u8, hiwat: u32, lowat: u32) -> Result<(), Refusal>
-        ensures { LeavesNames (on_queues self.old.pool (queues.strqset queue band hiwat lowat (queued self.old.pool)))
+        ensures { LeavesNames (on_queues self.old.pool
+            (queues.strqset queue band hiwat lowat (queued_blocks_of self.old.pool)))
             self.old self.new result }
     {
         self.pool.strqset(queue, band, hiwat, lowat)
@@ -112,7 +115,7 @@ impl NamedPool {
     /// Puts a queue at the end of the run list, unless it is on the list or has no service procedure. Refused as `NoSuchQueue`.
     /// As [`Queues::qenable`] of strm_queue.
     pub fn qenable(&mut self, queue: u8) -> Result<(), Refusal>
-        ensures { LeavesNames (on_queues self.old.pool (queues.qenable queue (queued self.old.pool)))
+        ensures { LeavesNames (on_queues self.old.pool (queues.qenable queue (queued_blocks_of self.old.pool)))
             self.old self.new result }
     {
         self.pool.qenable(queue)
@@ -120,7 +123,7 @@ impl NamedPool {
 
     /// Switches enabling of a queue off. Refused as `NoSuchQueue`. As [`Queues::noenable`] of strm_queue.
     pub fn noenable(&mut self, queue: u8) -> Result<(), Refusal>
-        ensures { LeavesNames (on_queues self.old.pool (queues.noenable queue (queued self.old.pool)))
+        ensures { LeavesNames (on_queues self.old.pool (queues.noenable queue (queued_blocks_of self.old.pool)))
             self.old self.new result }
     {
         self.pool.noenable(queue)
@@ -128,7 +131,7 @@ impl NamedPool {
 
     /// Switches enabling of a queue on again. Refused as `NoSuchQueue`. As [`Queues::enableok`] of strm_queue.
     pub fn enableok(&mut self, queue: u8) -> Result<(), Refusal>
-        ensures { LeavesNames (on_queues self.old.pool (queues.enableok queue (queued self.old.pool)))
+        ensures { LeavesNames (on_queues self.old.pool (queues.enableok queue (queued_blocks_of self.old.pool)))
             self.old self.new result }
     {
         self.pool.enableok(queue)
@@ -136,7 +139,7 @@ impl NamedPool {
 
     /// Takes the first queue, if any, off the run list, and returns its number. As [`Queues::next_service`] of strm_queue.
     pub fn next_service(&mut self) -> Option<u8>
-        ensures { LeavesNames (on_queues self.old.pool (Ok (queues.next_service (queued self.old.pool))))
+        ensures { LeavesNames (on_queues self.old.pool (Ok (queues.next_service (queued_blocks_of self.old.pool))))
             self.old self.new (Ok result) }
     {
         self.pool.next_service()

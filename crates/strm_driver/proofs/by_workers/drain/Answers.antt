@@ -1,5 +1,5 @@
 use Rattle.std.proofs.Common.{◌≡◌, ap, sym, ◌∙◌, subst}
-use Rattle.strm_pool.specs.PoolValue.{PoolValue, drained}
+use Rattle.strm_pool.specs.PoolValue.{PoolValue, with_tokens_spent}
 use Rattle.strm_pool.specs.Registers.{CarryId}
 use Rattle.strm_shared.specs.Desks.{DeskValue}
 use Rattle.strm_driver.specs.Holding.{AreHeldAlike}
@@ -10,7 +10,7 @@ pub loop-desks-preserved : goal.loop-desks-preserved
 loop-desks-preserved g c =
     let v : PoolValue = c.loop-desks.pool in
     let d : DeskValue = c.take_last-desk.result in
-    let is : c.drain.new.self ≡ drained v d.regs = c.drain.ensures ∙ ap (drained v) c.into_regs.ensures in
+    let is : c.drain.new.self ≡ with_tokens_spent v d.regs = c.drain.ensures ∙ ap (with_tokens_spent v) c.into_regs.ensures in
     let carry : CarryId v.arena.id d.regs = subst (λ id. CarryId id d.regs) (sym c.loop-desks.invariant.id) c.lawful.ensures.desk.carry in
     let left = last_drained c.args.pool.now v c.args.desks c.take_last-desk.new.self d c.loop-desks.desks c.take_last-desk.ensures carry c.loop-desks.invariant.alike in
     record {

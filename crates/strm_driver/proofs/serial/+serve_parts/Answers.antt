@@ -1,7 +1,7 @@
 -- The first section is served, and then those behind it.
 use Rattle.std.proofs.Common.{[], ◌++◌, ap, sym, ◌∙◌, subst}
 use Rattle.std.proofs.lemmas.Result.{on_ok_weaker}
-use Rattle.strm_pool.specs.PoolValue.{PoolValue, drained}
+use Rattle.strm_pool.specs.PoolValue.{PoolValue, with_tokens_spent}
 use Rattle.strm_pool.specs.Registers.{table_of}
 use Rattle.strm_pool.proofs.Accounts.{owned_carry}
 use Rattle.strm_driver.specs.Holding.{AreHeldAlike}
@@ -36,9 +36,9 @@ returns-clause-freed t c =
     let carry = owned_carry c.serve.new.pool c.serve.new.regs c.serve.ensures.owned in
     elim c.match-serve.branch [
       | in-Ok w ↦
-          subst (λ (v : PoolValue). AreHeldAlike c.args.pool.now [] v []) (sym (c.drain.ensures ∙ ap (λ (v : PoolValue). drained v c.serve.new.regs) w.pool-is))
+          subst (λ (v : PoolValue). AreHeldAlike c.args.pool.now [] v []) (sym (c.drain.ensures ∙ ap (λ (v : PoolValue). with_tokens_spent v c.serve.new.regs) w.pool-is))
           (section_alike c.args.pool.now c.serve.new.pool w.serve_parts-served.new.pool c.new-regs.result c.serve.new.regs c.new-regs.ensures c.serve.ensures.held carry w.serve_parts-served.ensures.freed)
       | in-Err w ↦
-          subst (λ (v : PoolValue). AreHeldAlike c.args.pool.now [] v []) (sym (c.drain.ensures ∙ ap (λ (v : PoolValue). drained v c.serve.new.regs) w.pool-is))
+          subst (λ (v : PoolValue). AreHeldAlike c.args.pool.now [] v []) (sym (c.drain.ensures ∙ ap (λ (v : PoolValue). with_tokens_spent v c.serve.new.regs) w.pool-is))
           (section_alike c.args.pool.now c.serve.new.pool c.serve.new.pool c.new-regs.result c.serve.new.regs c.new-regs.ensures c.serve.ensures.held carry (alike_same c.serve.new.pool []))
     ]

@@ -1,12 +1,12 @@
 use Rattle.std.proofs.Common.{[]}
 use Rattle.strm_queue.specs.QueueCalls as queues
-use Rattle.strm_pool.specs.PoolValue.{on_queues, queued}
+use Rattle.strm_pool.specs.PoolValue.{on_queues, queued_blocks_of}
 use Rattle.strm_named.specs.NamedCalls.{one_message, outcome_of}
 use Rattle.strm_named.proofs.Shaped.{Called, gives_one, on_any}
 use Rattle.strm_named.proofs.named_pool.NamedPool.rmvq.Goals.{After-answer}
 use Rattle.strm_named.proofs.named_pool.NamedPool.rmvq.Goals as goal
 
-called : (c : After-answer) → Called one_message (outcome_of (on_queues c.self.inside.pool (queues.rmvq c.args.queue c.args.place (queued c.self.inside.pool)))) [] c.self.inside.pool c.rmvq-given.new.self c.self.inside.places c.answer.new.self (c.answer.result)
+called : (c : After-answer) → Called one_message (outcome_of (on_queues c.self.inside.pool (queues.rmvq c.args.queue c.args.place (queued_blocks_of c.self.inside.pool)))) [] c.self.inside.pool c.rmvq-given.new.self c.self.inside.places c.answer.new.self (c.answer.result)
 called c =
     gives_one c.self.invariant c.rmvq-given.ensures c.answer.ensures.places c.answer.ensures.name
 
@@ -14,4 +14,4 @@ pub invariant_of-self : goal.invariant_of-self
 invariant_of-self c = (called (goal.at.invariant_of-self c).After-answer).fits
 
 pub returns : goal.returns
-returns c = on_any (λ v. on_queues v.pool (queues.rmvq c.args.queue c.args.place (queued v.pool))) c.self.view_is (called (goal.at.returns c).After-answer).does
+returns c = on_any (λ v. on_queues v.pool (queues.rmvq c.args.queue c.args.place (queued_blocks_of v.pool))) c.self.view_is (called (goal.at.returns c).After-answer).does

@@ -1,12 +1,12 @@
 use Rattle.std.proofs.Common.{[], refl, sym, ◌∙◌}
 use Rattle.strm_mblk.specs.BlockCalls as blocks
 use Rattle.strm_pool.specs.PoolValue.{on_arena}
-use Rattle.strm_named.specs.NamedCalls.{plain, outcome_of}
+use Rattle.strm_named.specs.NamedCalls.{no_message, outcome_of}
 use Rattle.strm_named.proofs.Shaped.{Called, stays, on_valid}
 use Rattle.strm_named.proofs.named_pool.NamedPool.settype.Goals.{After-answered}
 use Rattle.strm_named.proofs.named_pool.NamedPool.settype.Goals as goal
 
-called : (c : After-answered) → Called plain (outcome_of (on_arena c.self.inside.pool (blocks.settype c.args.name.head c.args.place c.args.kind c.self.inside.pool.arena))) [] c.self.inside.pool c.settype.new.self c.self.inside.places c.self.inside.places (c.answered.result)
+called : (c : After-answered) → Called no_message (outcome_of (on_arena c.self.inside.pool (blocks.settype c.args.name.head c.args.place c.args.kind c.self.inside.pool.arena))) [] c.self.inside.pool c.settype.new.self c.self.inside.places c.self.inside.places (c.answered.result)
 called c =
     stays c.self.invariant c.lent-token.ensures (λ h. on_arena c.self.inside.pool (blocks.settype h c.args.place c.args.kind c.self.inside.pool.arena)) c.settype.ensures refl c.answered.ensures
 
