@@ -9,9 +9,9 @@ use Rattle.strm_pool.specs.PoolValue.{PoolValue, owns}
 use Rattle.strm_pool.specs.Registers.{AreAccounted, entries_of}
 use Rattle.strm_pool.proofs.Accounts.{accounted_owned}
 use Rattle.strm_shared.specs.declared.views.History.{History}
-use Rattle.strm_shared.specs.Desks.{DeskValue, no_desk, shown}
+use Rattle.strm_shared.specs.Desks.{DeskValue, no_desk, with_pair_seen}
 use Rattle.strm_shared.specs.Pairs.{Pair}
-use Rattle.strm_shared.specs.SeatsLayout.{IsMet}
+use Rattle.strm_shared.specs.SeatsLayout.{IsDeskOfHistory}
 use Rattle.strm_shared.proofs.Listing.{sorted-map}
 
 -- ---- the order of the numbers
@@ -26,8 +26,8 @@ apart (x ∷ xs) once (suc i) (suc j) before within same =
     apart xs (λ k. omega (arith, once k, times-cons k x xs)) i j (omega (arith, before)) (omega (arith, within)) same
 
 -- desks that have seen one pair more are in the same order
-pub sorted_shown : (p : Pair) (ds : List DeskValue) → IsNonDecreasingBy (λ (d : DeskValue). d.number) ds → IsNonDecreasingBy (λ (d : DeskValue). d.number) (map (shown p) ds)
-sorted_shown p ds sorted = sorted-map (shown p) (λ (d : DeskValue). d.number) ds sorted
+pub sorted_shown : (p : Pair) (ds : List DeskValue) → IsNonDecreasingBy (λ (d : DeskValue). d.number) ds → IsNonDecreasingBy (λ (d : DeskValue). d.number) (map (with_pair_seen p) ds)
+sorted_shown p ds sorted = sorted-map (with_pair_seen p) (λ (d : DeskValue). d.number) ds sorted
 
 module _ (ds : List DeskValue) (sorted : IsNonDecreasingBy (λ (d : DeskValue). d.number) ds) (once : (k : ℕ) → times k (map (λ (d : DeskValue). d.number) ds) ≤ 1) where
   -- the number at a place further back is greater by as many places at least
@@ -61,7 +61,7 @@ module _ (ds : List DeskValue) (sorted : IsNonDecreasingBy (λ (d : DeskValue). 
 
 -- ---- what the registers tell
 
-module _ (desks first : ℕ) (h : History) (v : PoolValue) (ds : List DeskValue) (met : All (IsMet v.arena.id desks first h) ds) (accounted : AreAccounted v.arena h.tables) (many : length h.tables ≡ desks) where
+module _ (desks first : ℕ) (h : History) (v : PoolValue) (ds : List DeskValue) (met : All (IsDeskOfHistory v.arena.id desks first h) ds) (accounted : AreAccounted v.arena h.tables) (many : length h.tables ≡ desks) where
   -- the pool owns the registers of each
   pub all_owned : All (λ (d : DeskValue). IsTrue (owns v d.regs)) ds
   all_owned k d within =

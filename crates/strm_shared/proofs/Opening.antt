@@ -9,7 +9,7 @@ use Rattle.strm_mblk.specs.Limits.{most_message_blocks}
 use Rattle.strm_pool.specs.Registers.{CarryId, Entries}
 use Rattle.strm_shared.specs.declared.setup.Setup.{Setup}
 use Rattle.strm_shared.specs.declared.views.View.{View}
-use Rattle.strm_shared.specs.Desks.{empty_desk, fresh}
+use Rattle.strm_shared.specs.Desks.{empty_desk, fresh_desks}
 use Rattle.strm_shared.specs.Limits.{most_stamp, most_workers}
 use Rattle.strm_shared.specs.Pairs.{Pair, count_in}
 use Rattle.strm_shared.specs.Seats.{new_known, no_entries, opening_history}
@@ -25,13 +25,13 @@ carry_none id zero x = tt
 carry_none id (suc n) zero = tt
 carry_none id (suc n) (suc x) = carry_none id n x
 
-pub length-fresh : (n : ℕ) (ps : List Pair) → length (fresh n ps) ≡ n
+pub length-fresh : (n : ℕ) (ps : List Pair) → length (fresh_desks n ps) ≡ n
 length-fresh zero ps = refl
-length-fresh (suc n) ps = length_push (fresh n ps) (empty_desk n ps) ∙ ap (λ k. k + 1) (length-fresh n ps) ∙ omega arith
+length-fresh (suc n) ps = length_push (fresh_desks n ps) (empty_desk n ps) ∙ ap (λ k. k + 1) (length-fresh n ps) ∙ omega arith
 
 -- one more of them
-pub fresh_more : (n : ℕ) (ps : List Pair) → fresh (n + 1) ps ≡ fresh n ps ++ empty_desk n ps ∷ []
-fresh_more n ps = let more : n + 1 ≡ suc n = omega arith in ap (λ k. fresh k ps) more
+pub fresh_more : (n : ℕ) (ps : List Pair) → fresh_desks (n + 1) ps ≡ fresh_desks n ps ++ empty_desk n ps ∷ []
+fresh_more n ps = let more : n + 1 ≡ suc n = omega arith in ap (λ k. fresh_desks k ps) more
 
 -- the bounds of a setup that is not bad
 pub good_setup : (s : Setup) → is_bad_shared s ≡ false → (1 ≤ s.desks) × (s.desks ≤ most_workers) × (s.first_stamp ≤ most_stamp)

@@ -8,7 +8,7 @@ use Rattle.strm_data.specs.declared.refusal.Refusal.{Refusal}
 use Rattle.strm_data.specs.declared.refusal.Refusal.TheVariants.{TraceFull, Worn}
 use Rattle.strm_pool.specs.declared.call.Call.{Call}
 use Rattle.strm_shared.specs.Books.{BookValue, IsAfter, IsEnd, IsLawfulBook, end_of, pair_in}
-use Rattle.strm_shared.specs.Desks.{DeskValue, shown, stamp_seen}
+use Rattle.strm_shared.specs.Desks.{DeskValue, with_pair_seen, stamp_seen}
 use Rattle.strm_shared.specs.Limits.{most_stamp}
 use Rattle.strm_shared.specs.Pairs.{Pair}
 use Rattle.strm_shared.specs.Traces.{entries_kept, is_full}
@@ -61,7 +61,7 @@ end_seen n d line call e why after =
 
 -- where an end by the trace comes before the last stamp, whoever is refused has seen the stamp of a full trace
 pub full_shown : {N : Type 0} (n : Ghosts N) (most : ℕ) → n.kept ≡ Some most → n.first + most < most_stamp
-    → (d : DeskValue) (line : ℕ) (call : Call) (e : DeskValue) (why : Refusal) → IsAfter n d line call e (Err why) → (p : Pair) × (e ≡ shown p d) × (p.0 ≡ n.first + most)
+    → (d : DeskValue) (line : ℕ) (call : Call) (e : DeskValue) (why : Refusal) → IsAfter n d line call e (Err why) → (p : Pair) × (e ≡ with_pair_seen p d) × (p.0 ≡ n.first + most)
 full_shown n most kept few d line call e why after =
     let b = after.0 in
     let lawful = after.2.lawful in

@@ -16,7 +16,7 @@ use Rattle.strm_pool.specs.Step.{DeskCall, Replay, Stepped, empty_tables, replay
 use Rattle.strm_pool.proofs.Replays.{replay_more, replay_push}
 use Rattle.strm_shared.specs.declared.entry.Entry.{Entry}
 use Rattle.strm_shared.specs.Books.{BookValue, IsServed}
-use Rattle.strm_shared.specs.Chronicle.{AreTold, calls_of, chronicle_from, entry_of, heads_told}
+use Rattle.strm_shared.specs.Chronicle.{AreTold, calls_of, chronicle_from, entry_of, heads_listed}
 use Rattle.strm_shared.specs.Desks.{DeskValue}
 use Rattle.strm_shared.specs.Pairs.{Pair, no_pair, pair_at}
 
@@ -55,7 +55,7 @@ told_at {opened} {desks} {first} {stamp} {es} {v} {ts} {ps} told k within =
     ∙ ap (λ (cs : List DeskCall). pair_at (first + k) (replay opened desks cs).pool) (take-map (λ (x : Entry). let y : DeskCall = record { desk = x.desk; call = x.call } in y) k es)
 
 -- the heads in a desk's table are those of its tokens
-heads_told-entries_of : (rs : List (Option TokenValue)) → heads_told (entries_of rs) ≡ table_of rs
+heads_told-entries_of : (rs : List (Option TokenValue)) → heads_listed (entries_of rs) ≡ table_of rs
 heads_told-entries_of [] = refl
 heads_told-entries_of (None ∷ rs) = ap (λ (t : RegisterTable). None ∷ t) (heads_told-entries_of rs)
 heads_told-entries_of (Some token ∷ rs) = ap (λ (t : RegisterTable). Some token.head ∷ t) (heads_told-entries_of rs)
@@ -64,7 +64,7 @@ heads_told-entries_of (Some token ∷ rs) = ap (λ (t : RegisterTable). Some tok
 pub told_first : (v : PoolValue) (desks first : ℕ) → AreTold v desks first first [] v (replicate desks (replicate most_registers None)) (pair_at first v ∷ [])
 told_first v desks first = record {
   replayed =
-      let new : map heads_told (replicate desks (replicate most_registers None)) ≡ empty_tables desks = map-replicate heads_told desks (replicate most_registers None) in
+      let new : map heads_listed (replicate desks (replicate most_registers None)) ≡ empty_tables desks = map-replicate heads_listed desks (replicate most_registers None) in
       ap (λ (ts : List RegisterTable). let r : Replay = record { pool = v; tables = ts; replies = [] } in r) (sym new);
   listed = refl;
   stamped = omega arith;
@@ -74,19 +74,19 @@ told_first v desks first = record {
 -- a call more
 module _ {opened : PoolValue} {desks first : ℕ} {b c : BookValue} {d e : DeskValue} {line : ℕ} {call : Call} {reply : Reply}
     (told : AreTold opened desks first b.stamp b.entries b.pool b.tables b.pairs) (served : IsServed b d line call c e reply) (below : d.number < desks) where
-  known : table_at (map heads_told b.tables) d.number ≡ table_of d.regs
-  known = get_or-map heads_told b.tables d.number [] ∙ ap heads_told served.known ∙ heads_told-entries_of d.regs
+  known : table_at (map heads_listed b.tables) d.number ≡ table_of d.regs
+  known = get_or-map heads_listed b.tables d.number [] ∙ ap heads_listed served.known ∙ heads_told-entries_of d.regs
 
-  tables : slice_set (map heads_told b.tables) d.number (table_of e.regs) ≡ map heads_told c.tables
-  tables = cc (heads_told-entries_of e.regs, map-set heads_told b.tables d.number (entries_of e.regs), served.tables)
+  tables : slice_set (map heads_listed b.tables) d.number (table_of e.regs) ≡ map heads_listed c.tables
+  tables = cc (heads_told-entries_of e.regs, map-set heads_listed b.tables d.number (entries_of e.regs), served.tables)
 
   -- the replay of all calls before, and of this one
   more : replay_more (replay opened desks (calls_of b.entries)) (record { desk = d.number; call = call })
-      ≡ (let r : Replay = record { pool = c.pool; tables = map heads_told c.tables; replies = map (λ x. x.reply) c.entries } in r)
+      ≡ (let r : Replay = record { pool = c.pool; tables = map heads_listed c.tables; replies = map (λ x. x.reply) c.entries } in r)
   more =
       ap (λ (r : Replay). replay_more r (record { desk = d.number; call = call })) told.replayed
       ∙ ap
-      (λ (o : Stepped). let r : Replay = record { pool = o.pool; tables = slice_set (map heads_told b.tables) d.number o.table; replies = map (λ x. x.reply) b.entries ++ o.reply ∷ [] } in r)
+      (λ (o : Stepped). let r : Replay = record { pool = o.pool; tables = slice_set (map heads_listed b.tables) d.number o.table; replies = map (λ x. x.reply) b.entries ++ o.reply ∷ [] } in r)
       (ap (λ (t : RegisterTable). step b.pool t call) known ∙ served.step)
       ∙ (λ i. record {
         pool = c.pool;

@@ -13,7 +13,7 @@ use Rattle.strm_pool.specs.Step.{is_named, replay, step}
 use Rattle.strm_shared.specs.declared.entry.Entry.{Entry}
 use Rattle.strm_shared.specs.declared.name.Name.{Ghosts}
 use Rattle.strm_shared.specs.Chronicle.{AreTold, calls_of, entry_of, served_from}
-use Rattle.strm_shared.specs.Desks.{DeskValue, newest, shown}
+use Rattle.strm_shared.specs.Desks.{DeskValue, newest, with_pair_seen}
 use Rattle.strm_shared.specs.Limits.{most_stamp}
 use Rattle.strm_shared.specs.Pairs.{ArePairs, Pair, count_in, no_pair, pair_at}
 use Rattle.strm_shared.specs.Traces.{IsTraceOf, TraceValue, entries_kept, is_full}
@@ -87,7 +87,7 @@ pub record IsServed (b : BookValue) (d : DeskValue) (line : ℕ) (call : Call) (
 -- A call is served. Or it is refused, as every call is now: the book stays unchanged, and the desk sees the last pair.
 abbrev pub Answers : BookValue → DeskValue → ℕ → Call → BookValue → DeskValue → Result Reply Refusal → Type 0
 Answers b d line call c e (Ok reply) = IsServed b d line call c e reply
-Answers b d line call c e (Err why) = (end_of b ≡ Some why) × (c ≡ b) × (e ≡ shown (pair_in b) d)
+Answers b d line call c e (Err why) = (end_of b ≡ Some why) × (c ≡ b) × (e ≡ with_pair_seen (pair_in b) d)
 
 -- ---- what is known without the book
 
@@ -131,10 +131,11 @@ pub record AreShown {N : Type 0} (n : Ghosts N) (before : List DeskValue) (v : P
   pub entries : List Entry
   pub tables : List Entries
   pub told : AreTold n.opened n.desks n.first stamp entries v tables pairs
-  pub counted : (k : ℕ) → k ≤ length entries → slice_index_or pairs k no_pair ≡ pair_at (n.first + k) (replay n.opened n.desks (calls_of (take k entries))).pool
+  pub counted : (k : ℕ) → k ≤ length entries → slice_index_or pairs k no_pair
+      ≡ pair_at (n.first + k) (replay n.opened n.desks (calls_of (take k entries))).pool
   pub kept : trace ≡ entries_kept n.kept entries
   pub lawful : ArePairs (pair_at n.first n.opened) stamp v pairs
-  pub same : IsPermutation (map (shown (pair_at stamp v)) before) after
+  pub same : IsPermutation (map (with_pair_seen (pair_at stamp v)) before) after
   pub seen : All (λ d. All (Contains pairs) d.pairs) after
   pub served : All (λ d. d.served ≡ served_from (n.first + 1) d.number entries) after
   pub known : All (λ d. slice_index_or tables d.number [] ≡ entries_of d.regs) after

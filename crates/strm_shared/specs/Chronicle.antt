@@ -22,8 +22,8 @@ abbrev pub calls_of : List Entry → List DeskCall
 calls_of es = map (λ e. record { desk = e.desk; call = e.call }) es
 
 -- the heads in a desk's table
-abbrev pub heads_told : Entries → RegisterTable
-heads_told es = map (option_map (λ e. e.0)) es
+abbrev pub heads_listed : Entries → RegisterTable
+heads_listed es = map (option_map (λ e. e.0)) es
 
 -- the pair of a pool at a stamp, then the pair after each of these calls
 abbrev pub chronicle_from : PoolValue → List RegisterTable → ℕ → List DeskCall → List Pair
@@ -39,7 +39,8 @@ chronicle v desks first calls = chronicle_from v (empty_tables desks) first call
 -- What these calls left of a pool that was shared with this number of desks and first stamp. The pool and the desks' tables are
 -- those of a replay, each call had the replay's reply, and the pairs are the chronicle.
 pub record AreTold (opened : PoolValue) (desks first stamp : ℕ) (es : List Entry) (v : PoolValue) (ts : List Entries) (ps : List Pair) : Type 0 where
-  pub replayed : let r : Replay = record { pool = v; tables = map heads_told ts; replies = map (λ e. e.reply) es } in replay opened desks (calls_of es) ≡ r
+  pub replayed : let r : Replay = record { pool = v; tables = map heads_listed ts; replies = map (λ e. e.reply) es }
+      in replay opened desks (calls_of es) ≡ r
   pub listed : ps ≡ chronicle opened desks first (calls_of es)
   pub stamped : stamp ≡ first + length es
   pub below : All (λ e. e.desk < desks) es

@@ -17,8 +17,8 @@ abbrev pub desk_value : ℕ → List (Option TokenValue) → List Pair → List 
 desk_value n rs ps ss = record { number = n; regs = rs; pairs = ps; served = ss }
 
 -- the desk after it saw one more pair
-abbrev pub shown : Pair → DeskValue → DeskValue
-shown p d = record d { pairs = d.pairs ++ p ∷ [] }
+abbrev pub with_pair_seen : Pair → DeskValue → DeskValue
+with_pair_seen p d = record d { pairs = d.pairs ++ p ∷ [] }
 
 -- the pair that the desk saw last, and that pair's stamp
 abbrev pub newest : DeskValue → Pair
@@ -37,9 +37,9 @@ abbrev pub empty_desk : ℕ → List Pair → DeskValue
 empty_desk n ps = desk_value n (replicate most_registers None) ps []
 
 -- this number of unused desks, numbered from 0
-abbrev pub fresh : ℕ → List Pair → List DeskValue
-fresh zero ps = []
-fresh (suc n) ps = fresh n ps ++ empty_desk n ps ∷ []
+abbrev pub fresh_desks : ℕ → List Pair → List DeskValue
+fresh_desks zero ps = []
+fresh_desks (suc n) ps = fresh_desks n ps ++ empty_desk n ps ∷ []
 
 -- the desk that is found at a place without one
 abbrev pub no_desk : DeskValue

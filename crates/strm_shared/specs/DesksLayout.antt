@@ -10,8 +10,8 @@ abbrev pub IsFilled : {N : Type 0} → DeskSlot N → Type 0
 IsFilled s = IsSome s.desk
 
 -- a slot with this desk
-abbrev pub filled : {N : Type 0} → DeskValue → DeskSlot N
-filled d = record { desk = Some d }
+abbrev pub slot_with : {N : Type 0} → DeskValue → DeskSlot N
+slot_with d = record { desk = Some d }
 
 abbrev pub desk_or : Option DeskValue → DeskValue
 desk_or (Some d) = d

@@ -27,7 +27,8 @@ pub record IsSoundBook {N : Type 0} (n : Ghosts N) (v : PoolValue) (stamp : ℕ)
   -- The lock's seat is at the word's table. No desk's seat has joined it, and the last pair of its history is that of stamp and pool.
   pub seat : IsKeptBy n.board (pair_at n.first n.opened) n.desks stamp v (history_at lock) lock
   -- Pool, tables, pairs and replies are those of the served calls, one after another, from the pool as it was shared.
-  pub told : AreTold n.opened n.desks n.first stamp (history_at lock).entries v (history_at lock).tables (history_at lock).pairs
+  pub told : AreTold n.opened n.desks n.first stamp (history_at lock).entries v (history_at lock).tables
+      (history_at lock).pairs
   -- If a trace is kept, it has the entry of each served call, in order, and no more entries than it may have.
   pub trace : IsTraceOf n.kept (history_at lock).entries t
 
@@ -38,7 +39,8 @@ pub record IsSoundDesk {N : Type 0} (n : Ghosts N) (number seen calls : ℕ) (re
   -- The share is one part of the ledger, which counts the blocks of these tokens.
   pub share : IsPart parts amount regs
   -- The seat is at the word's table and knows what the desk knows: its number, its registers, what it has seen and was served.
-  pub seat : IsSeated n.board (pair_at n.first n.opened) (length n.opened.arena.held) number seen calls (entries_of regs) (known_in s) s
+  pub seat : IsSeated n.board (pair_at n.first n.opened) (length n.opened.arena.held) number seen calls
+      (entries_of regs) (known_in s) s
 
 -- A pool that is to be shared: the pool, the number of desks, the first stamp, the trace, how many parts the ledger has, and the
 -- word's table with the lock's seat.

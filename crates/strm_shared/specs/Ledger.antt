@@ -12,12 +12,12 @@ entry_blocks None = 0
 entry_blocks (Some e) = e.1
 
 -- the number of blocks of all messages in a desk's table
-abbrev pub blocks_told : Entries → ℕ
-blocks_told es = sum_by entry_blocks es
+abbrev pub blocks_listed : Entries → ℕ
+blocks_listed es = sum_by entry_blocks es
 
 -- the blocks of the tokens in these registers
 abbrev pub blocks_held : List (Option TokenValue) → ℕ
-blocks_held rs = blocks_told (entries_of rs)
+blocks_held rs = blocks_listed (entries_of rs)
 
 -- the blocks of the tokens in the registers of these desks
 abbrev pub blocks_at : List DeskValue → ℕ

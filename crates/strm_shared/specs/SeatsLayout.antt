@@ -69,9 +69,9 @@ pub record IsShownBy (z : TableId) (o : Pair) (h : History) (d : Known) (p : Pai
   pub last : last_pair h.pairs ≡ p
   pub known : IsOf o.0 h (with_pair p d)
 
--- A desk of a pool with this id and number of desks, whose seat was at the lock's. The pairs that it saw are of the lock's
--- history. It was served exactly the entries of its number, and its registers are the table of its number.
-pub record IsMet (id desks first : ℕ) (h : History) (d : DeskValue) : Type 0 where
+-- A desk of a pool with this id and number of desks, as the history says: the pairs that it saw are of the history, it was
+-- served exactly the entries of its number, and its registers are the table of its number.
+pub record IsDeskOfHistory (id desks first : ℕ) (h : History) (d : DeskValue) : Type 0 where
   pub desk : IsDeskOf id desks d
   pub pairs : All (Contains h.pairs) d.pairs
   pub served : d.served ≡ served_from (first + 1) d.number h.entries

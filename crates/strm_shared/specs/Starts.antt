@@ -3,7 +3,7 @@ use Rattle.std.specs.Prelude.{◌≡◌, ℕ, Bool, true, false, not, ◌&&◌, 
 use Rattle.atomic_table.specs.Seated.{TableId}
 use Rattle.strm_pool.specs.declared.config.NewFault.{NewFault}
 use Rattle.strm_pool.specs.declared.config.NewFault.TheVariants.{BadConfig, BadShared, Memory}
-use Rattle.strm_pool.specs.PoolValue.{PoolValue, opening}
+use Rattle.strm_pool.specs.PoolValue.{PoolValue, opening_pool}
 use Rattle.strm_shared.specs.declared.name.Name.{Ghosts}
 use Rattle.strm_shared.specs.declared.setup.Setup.{Setup}
 use Rattle.strm_shared.specs.Limits.{most_stamp, most_workers}
@@ -39,7 +39,7 @@ no_board = record { words = 0; slots = 0; views_name = 0; atom = 0; block = 0; o
 
 -- a pool without blocks, which is that of no name
 abbrev pub no_pool : PoolValue
-no_pool = opening (record { id = 0; mblks = 0; classes = []; queues = []; bufcalls = 0; first_id = 0 })
+no_pool = opening_pool (record { id = 0; mblks = 0; classes = []; queues = []; bufcalls = 0; first_id = 0 })
 
 -- what the name of a start says: pool, board, number of desks, first stamp, number of entries, ledger
 abbrev pub name_of : {N : Type 0} → StartValue → Ghosts N

@@ -2,7 +2,7 @@
 ghost use Rattle.std.specs.Prelude.{◌≡◌, ◌+◌, ◌<◌, ◌≤◌, IfErr, length};
 ghost use Rattle.strm_mblk.specs.Given.{answer_map};
 ghost use Rattle.strm_shared.specs.Books.{Answers, IsLawfulBook, end_of, pair_in};
-ghost use Rattle.strm_shared.specs.Desks.{shown};
+ghost use Rattle.strm_shared.specs.Desks.{with_pair_seen};
 
 use crate::board::Board;
 use crate::desk::Desk;
@@ -76,7 +76,7 @@ impl<N: Name> Book<N> {
     // Lets a desk see the last pair.
     fn show(&mut self, board: &Board<N>, desk: &mut Desk<N>)
         ensures book { self.new ≡ self.old }
-        ensures desk { desk.new ≡ shown (pair_in self.old) desk.old }
+        ensures desk { desk.new ≡ with_pair_seen (pair_in self.old) desk.old }
     {
         let Some(seat) = desk.seat.take() else {
             unreachable!()

@@ -1,6 +1,6 @@
 //! A slot for a desk. Unlike the desk, the slot may be dropped, as elements of an `ArrayVec` must.
 ghost use Rattle.std.specs.Prelude.{◌≡◌, Some};
-ghost use Rattle.strm_shared.specs.DesksLayout.{IsFilled, desk_in, filled};
+ghost use Rattle.strm_shared.specs.DesksLayout.{IsFilled, desk_in, slot_with};
 
 use crate::desk::Desk;
 use crate::name::Name;
@@ -32,7 +32,7 @@ impl<N: Name> DeskSlot<N> {
 
     // A slot with this desk.
     pub(crate) fn of(desk: Desk<N>) -> DeskSlot<N>
-        ensures { result ≡ filled desk }
+        ensures { result ≡ slot_with desk }
     {
         DeskSlot { desk: Some(desk) }
     }
@@ -50,7 +50,8 @@ impl<N: Name> DeskSlot<N> {
     // Lends the slot's desk.
     pub(crate) fn desk_mut(&mut self) -> &mut Desk<N>
         requires { IsFilled self.old }
-        ensures* writes_back { sem 𝓛 (Lends (slot_row N.row N.Name) (desk_row N.row N.Name) self.entry result filled) }
+        ensures* writes_back { sem 𝓛 (Lends (slot_row N.row N.Name)
+            (desk_row N.row N.Name) self.entry result slot_with) }
         ensures value { self.old.desk ≡ Some result.now }
     {
         let Some(desk) = &mut self.desk else {

@@ -2,11 +2,11 @@
 ghost use Rattle.std.specs.Prelude.{◌≡◌, ℕ, ◌+◌, ◌≤◌, ◌<◌, ◌++◌, ◌∷◌, List, [], length, map, All, slice_index_or, IsPermutation, IsTrue, ◌↔◌};
 ghost use Rattle.std.specs.List.Sorted.{IsNonDecreasingBy};
 ghost use Rattle.strm_links.specs.Counting.{times};
-ghost use Rattle.strm_shared.specs.Desks.{DeskValue, shown};
+ghost use Rattle.strm_shared.specs.Desks.{DeskValue, with_pair_seen};
 ghost use Rattle.strm_shared.specs.Ledger.{blocks_at};
 ghost use Rattle.strm_shared.specs.Limits.{most_workers};
 ghost use Rattle.strm_shared.specs.Pairs.{pair_at};
-ghost use Rattle.strm_shared.specs.SeatsLayout.{AreGuestsShown, IsLock, IsMet};
+ghost use Rattle.strm_shared.specs.SeatsLayout.{AreGuestsShown, IsLock, IsDeskOfHistory};
 ghost use Rattle.strm_shared.specs.declared.views.History.{History};
 ghost use Rattle.strm_shared.specs.declared.views.Known.{Known};
 
@@ -191,9 +191,9 @@ impl<N: Name> Desks<N> {
         requires few { length self.old ≤ most_workers }
         ensures guests { (h : History) (gs : List Known) → IsLock N.board h gs lock.old
             → AreGuestsShown N.board (pair_at N.first N.opened) h gs result lock.new }
-        ensures shown { self.new ≡ map (shown result) self.old }
+        ensures shown { self.new ≡ map (with_pair_seen result) self.old }
         ensures met { (h : History) (gs : List Known) → IsLock N.board h gs lock.old
-            → All (IsMet N.opened.arena.id N.desks N.first h) self.new }
+            → All (IsDeskOfHistory N.opened.arena.id N.desks N.first h) self.new }
         ensures apart { (h : History) (gs : List Known) → IsLock N.board h gs lock.old → (n : ℕ)
             → times n (map (λ (d : DeskValue). d.number) self.new ++ map (λ (d : Known). d.number) gs) ≤ 1 }
     {

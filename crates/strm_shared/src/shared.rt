@@ -6,7 +6,7 @@ ghost use Rattle.strm_mblk.specs.Given.{answer_map};
 ghost use Rattle.strm_pool.specs.PoolValue.{owns};
 ghost use Rattle.strm_pool.specs.Registers.{AreAccounted, entries_of};
 ghost use Rattle.strm_shared.specs.Books.{AreShown, IsAfter, IsEnd, IsWholeUnder, TellsNewest};
-ghost use Rattle.strm_shared.specs.Desks.{DeskValue, no_desk, shown, stamp_seen};
+ghost use Rattle.strm_shared.specs.Desks.{DeskValue, no_desk, with_pair_seen, stamp_seen};
 ghost use Rattle.strm_shared.specs.Ledger.{AreAll};
 
 use crate::board::Board;
@@ -107,7 +107,7 @@ impl<N: Name> Shared<N> {
     /// lock, waits for no thread, and allocates nothing. The desk has then seen this pair; its stamp is at least the last one
     /// that the desk saw. Nothing else of the desk changes. This project's own.
     pub fn census_now(&self, desk: &mut Desk<N>) -> (u64, Census)
-        ensures longer { desk.new ≡ shown result desk.old }
+        ensures longer { desk.new ≡ with_pair_seen result desk.old }
         ensures later { stamp_seen desk.old ≤ result.0 }
         ensures whole { IsWholeUnder N.Name result }
     {

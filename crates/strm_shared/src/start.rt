@@ -2,7 +2,7 @@
 ghost use Rattle.std.specs.Prelude.{◌≡◌, ◌≤◌, [], ◌∷◌, length};
 ghost use Rattle.strm_mblk.specs.Arena.{census_of};
 ghost use Rattle.strm_mblk.specs.Limits.{most_message_blocks};
-ghost use Rattle.strm_shared.specs.Desks.{fresh};
+ghost use Rattle.strm_shared.specs.Desks.{fresh_desks};
 ghost use Rattle.strm_shared.specs.Limits.{most_workers};
 ghost use Rattle.strm_shared.specs.Pairs.{count_in, pair_at};
 ghost use Rattle.strm_shared.specs.Seats.{opening_history};
@@ -95,7 +95,7 @@ impl Start {
     /// with empty registers. Each desk has seen the first stamp and the pool's census. This allocates nothing and cannot fail.
     pub fn open<N: Name>(self) -> (Shared<N>, Desks<N>)
         requires { IsNameOf N.Name self }
-        ensures { result.1 ≡ fresh N.desks (pair_at N.first N.opened ∷ []) }
+        ensures { result.1 ≡ fresh_desks N.desks (pair_at N.first N.opened ∷ []) }
     {
         let Start {
             pool,
@@ -153,7 +153,7 @@ fn hand_out<N: Name>(
     requires parts { share.parts ≡ count }
     requires amount { share.amount ≡ 0 }
     ensures lock { IsLock N.board (opening_history (pair_at N.first N.opened) count) [] lock.new }
-    ensures desks { result ≡ fresh count (pair_at N.first N.opened ∷ []) }
+    ensures desks { result ≡ fresh_desks count (pair_at N.first N.opened ∷ []) }
 {
     let mut share = share;
     let mut desks = Desks::new();

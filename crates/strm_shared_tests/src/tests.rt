@@ -2,6 +2,7 @@ ghost use Rattle.strm_pool.specs.Registers.{CarryId};
 ghost use Rattle.strm_shared.specs.Starts.{IsNameOf};
 
 mod calls;
+mod crews;
 mod gates;
 mod steps;
 mod traces;

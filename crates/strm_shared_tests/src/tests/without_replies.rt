@@ -40,22 +40,23 @@ fn ran_without<N: Name + Send + Sync, R: Threads + Wait + Abort + Sync, G: Gate>
 }
 
 // Runs workers with or without replies; returns their desks and how each ended.
-fn left<N: Name + Send + Sync, R: Threads + Wait + Abort + Sync>(
+pub(super) fn left<N: Name + Send + Sync, R: Threads + Wait + Abort + Sync, G: Gate>(
     rt: &R,
     alloc: Global,
     shared: &Shared<N>,
     desks: Desks<N>,
     parts: &Parts,
+    gate: &G,
     keeps: bool,
 ) -> (Desks<N>, Ends) {
     if !keeps {
-        return ran_without(rt, alloc, shared, desks, parts, &OpenGate);
+        return ran_without(rt, alloc, shared, desks, parts, gate);
     }
     let Outcome {
         desks,
         replies: _,
         ends,
-    } = ran(rt, alloc, shared, desks, parts, &OpenGate);
+    } = ran(rt, alloc, shared, desks, parts, gate);
     (desks, ends)
 }
 
@@ -72,7 +73,7 @@ fn one_trace<N: Name + Send + Sync, R: Threads + Wait + Abort + Sync>(
 {
     let (shared, desks) = start.open::<N>();
     let parts = one_part(alloc, reg(rt, b'a')).expect(rt, "memory");
-    let (desks, ends) = left(rt, alloc, &shared, desks, &parts, keeps);
+    let (desks, ends) = left(rt, alloc, &shared, desks, &parts, &OpenGate, keeps);
     assert!(rt; ends.items() == [end].as_slice());
     let (pool, trace) = drained(rt, shared.gather(desks), 1, stamp);
     assert_census(rt, &pool, (8, 0, 0));

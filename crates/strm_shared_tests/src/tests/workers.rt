@@ -26,7 +26,7 @@ const TURNS: u32 = 100_000_000;
 const LOOKS: u32 = 10_000;
 
 // Whether one of these bits is set in time.
-fn comes(flags: &AtomicU32, bits: u32) -> bool {
+pub(super) fn comes(flags: &AtomicU32, bits: u32) -> bool {
     for _ in 0..TURNS {
         if flags.load(Ordering::SeqCst) & bits != 0 {
             return true;
@@ -160,7 +160,7 @@ pub(super) fn line(reg: Reg, number: u32) -> Line {
 }
 
 // This number of rounds of a worker, each an `allocb` and then a `freemsg` of a register.
-fn lines(alloc: Global, reg: Reg, rounds: u32) -> Result<Lines, AllocError> {
+pub(super) fn lines(alloc: Global, reg: Reg, rounds: u32) -> Result<Lines, AllocError> {
     let mut list = Vec::new(alloc);
     for number in 0..rounds.wrapping_mul(2) {
         list.push(line(reg, number))?;
@@ -190,7 +190,7 @@ fn assert_done(rt: &impl Abort, replies: &Replies, count: usize) {
 }
 
 // The desks of workers whose lines all have the reply `Done`.
-fn all_done<N: Name>(rt: &impl Abort, outcome: Outcome<N>, count: usize) -> Desks<N> {
+pub(super) fn all_done<N: Name>(rt: &impl Abort, outcome: Outcome<N>, count: usize) -> Desks<N> {
     let Outcome {
         desks,
         replies,

@@ -3,7 +3,7 @@ use Rattle.strm_shared.specs.declared.views.History.{History}
 use Rattle.strm_shared.specs.declared.views.Known.{Known}
 use Rattle.strm_shared.specs.Chronicle.{AreTold}
 use Rattle.strm_shared.specs.Books.{BookValue, IsBookOf, pair_in}
-use Rattle.strm_shared.specs.Desks.{desk_value, shown}
+use Rattle.strm_shared.specs.Desks.{desk_value, with_pair_seen}
 use Rattle.strm_shared.specs.Pairs.{pair_at}
 use Rattle.strm_shared.specs.Seats.{with_pair}
 use Rattle.strm_shared.specs.Traces.{IsTraceOf}
@@ -26,7 +26,7 @@ same_book g c = ap (λ (h : History). book_with h c.self.inside.pool c.self.insi
 
 -- and of the desk, that it has seen the pair
 desk_shown_it : (g : given.Over) (c : After-show_desk-seat g)
-    → desk_value c.desk.inside.number c.desk.inside.regs (known_at c.show_desk-seat.result.1).pairs (known_at c.show_desk-seat.result.1).served ≡ shown c.show_desk-seat.result.0 (desk_value c.desk.inside.number c.desk.inside.regs (known_in c.desk.inside.seat).pairs (known_in c.desk.inside.seat).served)
+    → desk_value c.desk.inside.number c.desk.inside.regs (known_at c.show_desk-seat.result.1).pairs (known_at c.show_desk-seat.result.1).served ≡ with_pair_seen c.show_desk-seat.result.0 (desk_value c.desk.inside.number c.desk.inside.regs (known_in c.desk.inside.seat).pairs (known_in c.desk.inside.seat).served)
 desk_shown_it g c = ap (λ (k : Known). desk_value c.desk.inside.number c.desk.inside.regs k.pairs k.served) (known_is _ (with_pair c.show_desk-seat.result.0 (known_in c.desk.inside.seat)) c.show_desk-seat.result.1 (looked g c).there)
 
 pub invariant_of-self : goal.invariant_of-self
@@ -59,4 +59,4 @@ pub returns-clause-desk : goal.returns-clause-desk
 returns-clause-desk g c =
     let at = (goal.at.returns-clause-desk g c).After-show_desk-seat in
     let last : c.show_desk-seat.result.0 ≡ pair_in c.args.self.now = sym (looked g at).last ∙ c.self.invariant.seat.last ∙ ap pair_in c.self.view_is in
-    desk_shown_it g at ∙ (λ i. shown (last i) (c.desk.view_is i))
+    desk_shown_it g at ∙ (λ i. with_pair_seen (last i) (c.desk.view_is i))

@@ -4,7 +4,7 @@ use Rattle.std.proofs.lemmas.List.Sums.{sum_by_more}
 use Rattle.strm_pool.specs.Limits.{most_registers}
 use Rattle.strm_pool.specs.Registers.{entries_of, register}
 use Rattle.strm_shared.specs.Desks.{DeskValue}
-use Rattle.strm_shared.specs.Ledger.{blocks_told, entry_blocks}
+use Rattle.strm_shared.specs.Ledger.{blocks_listed, entry_blocks}
 use Rattle.strm_shared.proofs.desk.Desk.blocks_held.Goals as goal
 
 pub loop-place-preserved : goal.loop-place-preserved
@@ -33,4 +33,4 @@ returns g c =
     let rs = c.args.self.now.regs in
     let es = entries_of rs in
     let long : length es ≡ most_registers = length-map rs _ ∙ ap (λ (d : DeskValue). length d.regs) (sym c.self.view_is) ∙ c.lawful.ensures in
-    c.loop-place.invariant.sum ∙ ap blocks_told (take_all c.loop-place.place es (omega (arith, long, c.loop-place-test.false)))
+    c.loop-place.invariant.sum ∙ ap blocks_listed (take_all c.loop-place.place es (omega (arith, long, c.loop-place-test.false)))

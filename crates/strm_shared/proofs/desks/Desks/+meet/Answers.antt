@@ -5,10 +5,10 @@ use Rattle.std.proofs.lemmas.List.Elements.{All-head, All-push, All-tail}
 use Rattle.strm_links.specs.Counting.{times}
 use Rattle.strm_links.proofs.lists.Counting.{times-cons}
 use Rattle.strm_shared.specs.declared.views.Known.{Known}
-use Rattle.strm_shared.specs.Desks.{DeskValue, desk_value, shown}
+use Rattle.strm_shared.specs.Desks.{DeskValue, desk_value, with_pair_seen}
 use Rattle.strm_shared.specs.Pairs.{pair_at}
 use Rattle.strm_shared.specs.Seats.{IsOf, with_pair}
-use Rattle.strm_shared.specs.SeatsLayout.{IsMet, known_at, known_in}
+use Rattle.strm_shared.specs.SeatsLayout.{IsDeskOfHistory, known_at, known_in}
 use Rattle.strm_shared.proofs.seats.Desks.{desk_shown, known_is, seat_is, seated_shown}
 use Rattle.strm_shared.proofs.desks.Desks.+meet.Goals as goal
 
@@ -61,13 +61,13 @@ returns-clause-shown g t c =
     let here = seat_is c.in-Some.is c.number.invariant.seat in
     let m = c.meet-pair.ensures.guests l.0 (d ∷ l.1) (c.join.ensures.joined l.0 l.1 d l.2 here) in
     let away = (c.leave-seat.ensures l.0 (with_pair p d) (map (with_pair p) l.1) m.here).1 in
-    let desk : desk_value i.number i.regs (known_at c.leave-seat.result).pairs (known_at c.leave-seat.result).served ≡ shown p c.take_last.result =
+    let desk : desk_value i.number i.regs (known_at c.leave-seat.result).pairs (known_at c.leave-seat.result).served ≡ with_pair_seen p c.take_last.result =
     ap (λ (k : Known). desk_value i.number i.regs k.pairs k.served) (known_is g.N.Name.board (with_pair p d) c.leave-seat.result away)
-    ∙ ap (shown p) c.number.view_is in
+    ∙ ap (with_pair_seen p) c.number.view_is in
     c.push.ensures
     ∙ (λ j. c.meet-pair.ensures.shown j ++ desk j ∷ [])
-    ∙ sym (map_push (shown p) c.take_last.new.self c.take_last.result)
-    ∙ ap (map (shown p)) (sym c.take_last.ensures)
+    ∙ sym (map_push (with_pair_seen p) c.take_last.new.self c.take_last.result)
+    ∙ ap (map (with_pair_seen p)) (sym c.take_last.ensures)
 
 pub returns-clause-met : goal.returns-clause-met
 returns-clause-met g t c h gs lock =
@@ -80,15 +80,15 @@ returns-clause-met g t c h gs lock =
     let of = All-head (IsOf g.N.Name.first h) (with_pair p d) (map (with_pair p) gs) m.guests in
     let away = (c.leave-seat.ensures h (with_pair p d) (map (with_pair p) gs) m.here).1 in
     let e : DeskValue = desk_value i.number i.regs (known_at c.leave-seat.result).pairs (known_at c.leave-seat.result).served in
-    let met : IsMet g.N.Name.opened.arena.id g.N.Name.desks g.N.Name.first h e =
+    let met : IsDeskOfHistory g.N.Name.opened.arena.id g.N.Name.desks g.N.Name.first h e =
     record {
       desk = record { below = c.number.invariant.desk.below; carry = c.number.invariant.desk.carry };
       pairs = subst (λ (k : Known). All (Contains h.pairs) k.pairs) (sym (known_is g.N.Name.board (with_pair p d) c.leave-seat.result away)) of.pairs;
       served = cc (known_is g.N.Name.board (with_pair p d) c.leave-seat.result away, of.served, c.number.invariant.seat.number);
       table = ap (λ (n : ℕ). get_or h.tables n []) (sym c.number.invariant.seat.number) ∙ of.table ∙ c.number.invariant.seat.table;
     } in
-    subst (All (IsMet g.N.Name.opened.arena.id g.N.Name.desks g.N.Name.first h)) {x = c.meet-pair.new.self ++ e ∷ []} (sym c.push.ensures)
-    (All-push (IsMet g.N.Name.opened.arena.id g.N.Name.desks g.N.Name.first h) c.meet-pair.new.self e (c.meet-pair.ensures.met h (d ∷ gs) there) met)
+    subst (All (IsDeskOfHistory g.N.Name.opened.arena.id g.N.Name.desks g.N.Name.first h)) {x = c.meet-pair.new.self ++ e ∷ []} (sym c.push.ensures)
+    (All-push (IsDeskOfHistory g.N.Name.opened.arena.id g.N.Name.desks g.N.Name.first h) c.meet-pair.new.self e (c.meet-pair.ensures.met h (d ∷ gs) there) met)
 
 pub returns-clause-apart : goal.returns-clause-apart
 returns-clause-apart g t c h gs lock n =

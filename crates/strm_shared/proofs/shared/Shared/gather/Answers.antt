@@ -5,10 +5,10 @@ use Rattle.std.proofs.lemmas.List.{length-map}
 use Rattle.std.proofs.lemmas.List.Sorted.{IsPermutation-map, length_permutation, sum_by-IsPermutation}
 use Rattle.std.proofs.lemmas.List.Sums.{sum_by-cons}
 use Rattle.strm_links.specs.Counting.{times}
-use Rattle.strm_shared.specs.Desks.{DeskValue, shown}
+use Rattle.strm_shared.specs.Desks.{DeskValue, with_pair_seen}
 use Rattle.strm_shared.specs.Ledger.{blocks_at, blocks_held}
 use Rattle.strm_shared.specs.Pairs.{Pair, pair_at}
-use Rattle.strm_shared.specs.SeatsLayout.{IsMet, history_at}
+use Rattle.strm_shared.specs.SeatsLayout.{IsDeskOfHistory, history_at}
 use Rattle.strm_shared.proofs.Gathering.{all_accounted, all_owned, number_at, sorted_shown}
 use Rattle.strm_shared.proofs.Telling.{told_at}
 use Rattle.strm_shared.proofs.seats.Books.{pairs_lawful}
@@ -17,15 +17,15 @@ use Rattle.strm_shared.proofs.shared.Shared.gather.Goals as goal
 use Rattle.strm_shared.proofs.shared.Shared.gather.Goals.{After-meet}
 
 -- what desks have seen is no block that they hold
-blocks_at-shown : (p : Pair) (ds : List DeskValue) → blocks_at (map (shown p) ds) ≡ blocks_at ds
+blocks_at-shown : (p : Pair) (ds : List DeskValue) → blocks_at (map (with_pair_seen p) ds) ≡ blocks_at ds
 blocks_at-shown p [] = refl
 blocks_at-shown p (d ∷ ds) =
-    cc (sum_by-cons (λ (x : DeskValue). blocks_held x.regs) (shown p d) (map (shown p) ds), blocks_at-shown p ds, sum_by-cons (λ (x : DeskValue). blocks_held x.regs) d ds)
+    cc (sum_by-cons (λ (x : DeskValue). blocks_held x.regs) (with_pair_seen p d) (map (with_pair_seen p) ds), blocks_at-shown p ds, sum_by-cons (λ (x : DeskValue). blocks_held x.regs) d ds)
 
 -- each desk has met the lock's history, whose pool is that of the name
-met : (g : given.Over) (c : After-meet g) → All (IsMet c.pool.inside.pool.arena.id g.N.Name.desks g.N.Name.first (history_at c.pool.inside.seat)) c.meet.new.self
+met : (g : given.Over) (c : After-meet g) → All (IsDeskOfHistory c.pool.inside.pool.arena.id g.N.Name.desks g.N.Name.first (history_at c.pool.inside.seat)) c.meet.new.self
 met g c =
-    subst (λ id. All (IsMet id g.N.Name.desks g.N.Name.first (history_at c.pool.inside.seat)) c.meet.new.self) (sym c.pool.invariant.book.same)
+    subst (λ id. All (IsDeskOfHistory id g.N.Name.desks g.N.Name.first (history_at c.pool.inside.seat)) c.meet.new.self) (sym c.pool.invariant.book.same)
     (c.meet.ensures.met (history_at c.pool.inside.seat) [] c.pool.invariant.seat.here)
 
 pub meet-requires : goal.meet-requires
@@ -51,8 +51,8 @@ returns-clause-shown g c =
       kept = search rules;
       lawful = pairs_lawful kept;
       same =
-          subst (IsPermutation (map (shown (pair_at b.stamp b.pool)) c.args.desks)) (sym (c.meet.ensures.shown ∙ ap (λ (p : Pair). map (shown p) c.sort.new.self) last))
-          (IsPermutation-map (shown (pair_at b.stamp b.pool)) c.args.desks c.sort.new.self (subst (λ (ds : List DeskValue). IsPermutation ds c.sort.new.self) c.audit.ensures.same c.sort.ensures.same));
+          subst (IsPermutation (map (with_pair_seen (pair_at b.stamp b.pool)) c.args.desks)) (sym (c.meet.ensures.shown ∙ ap (λ (p : Pair). map (with_pair_seen p) c.sort.new.self) last))
+          (IsPermutation-map (with_pair_seen (pair_at b.stamp b.pool)) c.args.desks c.sort.new.self (subst (λ (ds : List DeskValue). IsPermutation ds c.sort.new.self) c.audit.ensures.same c.sort.ensures.same));
       seen = λ k d within. (there k d within).pairs;
       served = λ k d within. (there k d within).served;
       known = λ k d within. (there k d within).table;
@@ -91,7 +91,7 @@ once g c n =
 
 all_came : (g : given.Over) (c : After-meet g) → length c.args.desks ≡ g.N.Name.desks → length c.meet.new.self ≡ g.N.Name.desks
 all_came g c enough =
-    cc (c.meet.ensures.shown, length-map c.sort.new.self (shown c.meet.result), length_permutation c.audit.new.self c.sort.new.self c.sort.ensures.same, c.audit.ensures.same, enough)
+    cc (c.meet.ensures.shown, length-map c.sort.new.self (with_pair_seen c.meet.result), length_permutation c.audit.new.self c.sort.new.self c.sort.ensures.same, c.audit.ensures.same, enough)
 
 pub returns-clause-numbered : goal.returns-clause-numbered
 returns-clause-numbered g c =
