@@ -73,21 +73,21 @@ static uint32_t bytes_in(const struct cell *m)
 }
 
 /* How many blocks of a message name a data block. */
-static uint32_t names_in(const struct cell *m, const struct datum *d)
+static uint32_t references_in(const struct cell *m, const struct datum *d)
 {
-	return m == NULL ? 0 : (m->datum == d) + names_in(m->next, d);
+	return m == NULL ? 0 : (m->datum == d) + references_in(m->next, d);
 }
 
-static uint32_t names_of(const struct model *v, const struct datum *d)
+static uint32_t references_to(const struct model *v, const struct datum *d)
 {
 	const struct item *item;
 	uint32_t i, sum = 0;
 
 	for (i = 0; i < REGISTERS; i++)
-		sum += names_in(v->registers[i], d);
+		sum += references_in(v->registers[i], d);
 	for (i = 0; i < v->queue_count; i++)
 		for (item = v->queues[i].items; item != NULL; item = item->next)
-			sum += names_in(item->message, d);
+			sum += references_in(item->message, d);
 	return sum;
 }
 
@@ -140,7 +140,7 @@ static void cells_freed(struct model *v, struct cell *m)
 	if (m == NULL)
 		return;
 	rest = m->next;
-	if (names_of(v, m->datum) + names_in(rest, m->datum) == 0)
+	if (references_to(v, m->datum) + references_in(rest, m->datum) == 0)
 		datum_freed(v, m->datum);
 	m->next = v->free_cells;
 	v->free_cells = m;
@@ -273,7 +273,7 @@ struct strm_block_info model_block(const struct model *v, int reg, uint32_t plac
 	info.length = cell->write - cell->read;
 	info.band = cell->band;
 	info.room = capacity(v, cell->datum) - cell->write;
-	info.names = names_of(v, cell->datum);
+	info.names = references_to(v, cell->datum);
 	return info;
 }
 
@@ -498,13 +498,13 @@ static struct cell *item_taken(struct model *v, struct item **at)
 /* ---- calls on messages, by the registers that hold them */
 
 /* Whether some data block would have too many references once the first `count` blocks of a message have duplicates. */
-static int exceeds_names(const struct model *v, const struct cell *m, uint32_t count)
+static int exceeds_references(const struct model *v, const struct cell *m, uint32_t count)
 {
 	const struct cell *cell, *other;
 	uint32_t i, j, names;
 
 	for (i = 0, cell = m; i < count; i++, cell = cell->next) {
-		names = names_of(v, cell->datum);
+		names = references_to(v, cell->datum);
 		for (j = 0, other = m; j < count; j++, other = other->next)
 			names += other->datum == cell->datum;
 		if (names > STRM_MOST_NAMES)
@@ -540,7 +540,7 @@ static struct reply duplicated(struct model *v, const struct call *call, uint32_
 
 	if (length_of(v->free_cells) < count)
 		return refused(STRM_NO_MBLK);
-	if (!is_copy && exceeds_names(v, from, count))
+	if (!is_copy && exceeds_references(v, from, count))
 		return refused(STRM_REF_MAX);
 	if (is_copy && !copies_taken(v, from, count, copies))
 		return refused(STRM_NO_DATA);
@@ -573,7 +573,7 @@ static struct reply written(struct model *v, const struct call *call)
 
 	if (cell == NULL)
 		return refused(STRM_NO_SUCH_BLOCK);
-	if (names_of(v, cell->datum) > 1)
+	if (references_to(v, cell->datum) > 1)
 		return refused(STRM_SHARED);
 	if (cell->write + call->length > capacity(v, cell->datum))
 		return refused(STRM_NO_ROOM);
@@ -588,7 +588,7 @@ static struct reply typed(struct model *v, const struct call *call)
 
 	if (cell == NULL)
 		return refused(STRM_NO_SUCH_BLOCK);
-	if (names_of(v, cell->datum) > 1)
+	if (references_to(v, cell->datum) > 1)
 		return refused(STRM_SHARED);
 	cell->datum->type = call->type;
 	return reply_of(DONE);
@@ -682,7 +682,7 @@ static struct reply pulled_up(struct model *v, const struct call *call)
 	m->datum = d;
 	m->read = 0;
 	m->write = wanted;
-	if (names_of(v, old) == 0)
+	if (references_to(v, old) == 0)
 		datum_freed(v, old);
 	while (left > 0) {
 		behind = m->next;

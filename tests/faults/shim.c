@@ -2,7 +2,7 @@
  * file that FAULTS names, and leaves its counts there, however the program ends.
  *
  * A growth is a call of malloc or realloc. A program that Rattle builds imports no other function that allocates, and shim.py refuses one
- * that does. It creates threads by pthread_create, reads by read, and writes by write, which has a second name. Only calls from the
+ * that does. Each block that it frees is one that a growth gave it. It creates threads by pthread_create, reads by read, and writes by write, which has a second name. Only calls from the
  * program's own code count, not what the loader and the C library allocate for themselves, such as a thread's stack. */
 #define _GNU_SOURCE
 #include <dlfcn.h>
@@ -28,10 +28,12 @@ struct calls {
     uint64_t failing;
 };
 
-/* What the file holds. No write to standard output takes more bytes than `most`. */
+/* What the file holds. No write to standard output takes more bytes than `most`. `kept` counts the blocks of memory that the program
+ * took and has not freed. */
 struct plan {
     struct calls growths, threads, reads, outputs, errors;
     uint64_t most;
+    _Atomic int64_t kept;
 };
 
 static struct plan no_plan = {.most = UINT64_MAX};
@@ -40,9 +42,10 @@ static struct plan *plan = &no_plan;
 /* Where the program's own code begins and ends. */
 static uintptr_t code, code_end;
 
-/* The C library's malloc and realloc. */
+/* The C library's malloc, realloc and free. */
 extern void *__libc_malloc(size_t size);
 extern void *__libc_realloc(void *block, size_t size);
+extern void __libc_free(void *block);
 
 /* The program is the first of all objects. */
 static int find_code(struct dl_phdr_info *object, size_t size, void *unused)
@@ -69,23 +72,43 @@ __attribute__((constructor)) static void take_orders(void)
     dl_iterate_phdr(find_code, NULL);
 }
 
+static bool is_of_program(uintptr_t caller)
+{
+    return code <= caller && caller < code_end;
+}
+
 /* Counts a call, and returns whether it is the one that fails, with errno set to this error. */
 static bool fails(struct calls *calls, int error, uintptr_t caller)
 {
-    if (caller < code || code_end <= caller || atomic_fetch_add(&calls->made, 1) + 1 != calls->failing)
+    if (!is_of_program(caller) || atomic_fetch_add(&calls->made, 1) + 1 != calls->failing)
         return false;
     errno = error;
     return true;
 }
 
+/* Notes that a block came instead of another, where none is NULL. */
+static void *replaced(const void *old, void *block, uintptr_t caller)
+{
+    if (is_of_program(caller) && old == NULL && block != NULL)
+        atomic_fetch_add(&plan->kept, 1);
+    return block;
+}
+
 void *malloc(size_t size)
 {
-    return fails(&plan->growths, ENOMEM, CALLER) ? NULL : __libc_malloc(size);
+    return fails(&plan->growths, ENOMEM, CALLER) ? NULL : replaced(NULL, __libc_malloc(size), CALLER);
 }
 
 void *realloc(void *block, size_t size)
 {
-    return fails(&plan->growths, ENOMEM, CALLER) ? NULL : __libc_realloc(block, size);
+    return fails(&plan->growths, ENOMEM, CALLER) ? NULL : replaced(block, __libc_realloc(block, size), CALLER);
+}
+
+void free(void *block)
+{
+    if (is_of_program(CALLER) && block != NULL)
+        atomic_fetch_sub(&plan->kept, 1);
+    __libc_free(block);
 }
 
 int pthread_create(pthread_t *thread, const pthread_attr_t *attributes, void *(*start)(void *), void *argument)

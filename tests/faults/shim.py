@@ -11,11 +11,12 @@ from imports import Unreadable, imports_of
 SOURCE = os.path.join(os.path.dirname(os.path.abspath(__file__)), "shim.c")
 # How long a run may take.
 SECONDS = 20
-# What the shim maps: of each kind of calls, how many were made and which one fails, and how many bytes a write to standard
-# output takes at most.
+# What the shim maps: of each kind of calls, how many were made and which one fails; how many bytes a write to standard output
+# takes at most; and how many blocks of memory the program has not freed.
 KINDS_OF_CALLS = GROWTHS, THREADS, READS, OUTPUTS, ERRORS = range(5)
 CALLS = struct.Struct("2Q")
 MOST = struct.Struct("Q")
+KEPT = struct.Struct("q")
 NO_LIMIT = 2**64 - 1
 # Other functions of the C library that allocate, create a thread, read or write. The shim fails none of them, so no program may import one.
 OTHERS = {
@@ -47,6 +48,14 @@ class Answer(NamedTuple):
         return f"status {self.status}, {self.stdout[-100:]!r}, {self.stderr[-100:]!r}"
 
 
+class Ran(NamedTuple):
+    """What came of a run: its answer, how many calls of a kind were made, and how many blocks of memory were not freed."""
+
+    answer: Answer
+    made: int
+    kept: int
+
+
 class Shim:
     """A program over the shim."""
 
@@ -65,8 +74,9 @@ class Shim:
 
     def run(self, words, script, kind, failing=0, most=NO_LIMIT):
         """Runs the program on a script, where this call of a kind fails, or none, and a write to standard output takes so many
-        bytes at most. Returns the answer, and how many calls of that kind were made."""
-        plan = b"".join(CALLS.pack(0, failing if calls == kind else 0) for calls in KINDS_OF_CALLS) + MOST.pack(most)
+        bytes at most."""
+        kinds = [CALLS.pack(0, failing if calls == kind else 0) for calls in KINDS_OF_CALLS]
+        plan = b"".join(kinds) + MOST.pack(most) + KEPT.pack(0)
         with tempfile.NamedTemporaryFile(dir=self.room) as mapped, open(script, "rb") as stdin:
             mapped.write(plan)
             mapped.flush()
@@ -79,4 +89,6 @@ class Shim:
             )
             mapped.seek(kind * CALLS.size)
             made, _ = CALLS.unpack(mapped.read(CALLS.size))
-        return Answer(ran.returncode, ran.stdout.decode("latin-1"), ran.stderr.decode("latin-1")), made
+            mapped.seek(len(plan) - KEPT.size)
+            (kept,) = KEPT.unpack(mapped.read(KEPT.size))
+        return Ran(Answer(ran.returncode, ran.stdout.decode("latin-1"), ran.stderr.decode("latin-1")), made, kept)

@@ -1,0 +1,165 @@
+/*
+ * strm_open, if one of its allocations is refused, each in turn: it answers STRM_NO_MEMORY and keeps no memory. No other call allocates, and
+ * strm_close frees all memory. The linker puts the three functions below between the library and malloc, realloc and free. The last line is
+ * as in each.c.
+ */
+#include "check.h"
+
+#include <stdlib.h>
+
+/* How many blocks of memory were asked for, which of them is refused, counted from 1, and how many are not freed. */
+static long asked, refused, kept;
+
+#ifdef __cplusplus
+extern "C" {
+#endif
+void *__real_malloc(size_t size);
+void *__real_realloc(void *block, size_t size);
+void __real_free(void *block);
+void *__wrap_malloc(size_t size);
+void *__wrap_realloc(void *block, size_t size);
+void __wrap_free(void *block);
+#ifdef __cplusplus
+}
+#endif
+
+void *__wrap_malloc(size_t size)
+{
+	void *block = ++asked == refused ? NULL : __real_malloc(size);
+
+	kept += block != NULL;
+	return block;
+}
+
+void *__wrap_realloc(void *block, size_t size)
+{
+	void *other = ++asked == refused ? NULL : __real_realloc(block, size);
+
+	kept += block == NULL && other != NULL;
+	return other;
+}
+
+void __wrap_free(void *block)
+{
+	kept -= block != NULL;
+	__real_free(block);
+}
+
+/* Opens a pool once no allocation is refused. */
+static struct strm_pool opened(const struct strm_config *config)
+{
+	struct strm_pool pool = STRM_POOL_INIT;
+	int code;
+
+	for (refused = 1; refused < 100; refused++) {
+		asked = 0;
+		code = strm_open(&pool, config);
+		if (code == STRM_OK)
+			break;
+		CHECK(code == STRM_NO_MEMORY && !strm_is_open(&pool));
+		CHECK(asked == refused && kept == 0);
+	}
+	CHECK(asked == refused - 1 && 0 < asked && 0 < kept);
+	return pool;
+}
+
+/* Makes each call on messages, with what it needs, and leaves no message. */
+static void call_on_messages(struct strm_pool *pool)
+{
+	struct strm_msg msg = message(pool, "strm"), rest, part;
+	struct strm_block_info block;
+	uint32_t number;
+	char byte;
+	size_t count;
+
+	ANSWERS(strm_testb(pool, 16, &number), STRM_OK);
+	ANSWERS(strm_settype(pool, msg, 0, STRM_M_PROTO), STRM_OK);
+	ANSWERS(strm_settype(pool, msg, 0, STRM_M_DATA), STRM_OK);
+	ANSWERS(strm_setband(pool, msg, 1), STRM_OK);
+	ANSWERS(strm_read(pool, msg, 0, &byte, 1, &count), STRM_OK);
+	ANSWERS(strm_size(pool, msg, &number), STRM_OK);
+	ANSWERS(strm_msgdsize(pool, msg, &number), STRM_OK);
+	ANSWERS(strm_block(pool, msg, 0, &block), STRM_OK);
+	ANSWERS(strm_has(pool, msg, &number), STRM_OK);
+	ANSWERS(strm_copyb(pool, msg, &rest), STRM_OK);
+	ANSWERS(strm_linkb(pool, msg, rest), STRM_OK);
+	ANSWERS(strm_copymsg(pool, msg, &rest), STRM_OK);
+	ANSWERS(strm_linkb(pool, msg, rest), STRM_OK);
+	ANSWERS(strm_pullupmsg(pool, msg, 6), STRM_OK);
+	ANSWERS(strm_adjmsg(pool, msg, 1), STRM_OK);
+	ANSWERS(strm_rmvb(pool, msg, 1, &part, &msg), STRM_OK);
+	ANSWERS(strm_freemsg(pool, part), STRM_OK);
+	ANSWERS(strm_unlinkb(pool, msg, &rest), STRM_OK);
+	ANSWERS(strm_freemsg(pool, rest), STRM_OK);
+	ANSWERS(strm_dupb(pool, msg, &part), STRM_OK);
+	ANSWERS(strm_freeb(pool, part, &rest), STRM_NONE);
+	ANSWERS(strm_dupmsg(pool, msg, &rest), STRM_OK);
+	ANSWERS(strm_freemsg(pool, rest), STRM_OK);
+	ANSWERS(strm_freemsg(pool, msg), STRM_OK);
+}
+
+/* Makes each call on queues and wishes, with what it needs, and leaves no message. */
+static void call_on_queues(struct strm_pool *pool)
+{
+	struct strm_msg msg;
+	struct strm_queue_info queue;
+	struct strm_band_info band;
+	struct strm_marks marks;
+	struct strm_class_info info;
+	struct strm_wish wish;
+	uint32_t number;
+
+	ANSWERS(strm_putq(pool, 0, message(pool, "a")), STRM_OK);
+	ANSWERS(strm_insq(pool, 0, 1, message(pool, "b")), STRM_OK);
+	ANSWERS(strm_getq(pool, 0, &msg), STRM_OK);
+	ANSWERS(strm_putbq(pool, 0, msg), STRM_OK);
+	ANSWERS(strm_qsize(pool, 0, &number), STRM_OK);
+	ANSWERS(strm_queue_info(pool, 0, &queue), STRM_OK);
+	ANSWERS(strm_band_info(pool, 0, 0, &band), STRM_OK);
+	ANSWERS(strm_strqset(pool, 0, 0, 2, 1), STRM_OK);
+	ANSWERS(strm_strqget(pool, 0, 0, &marks), STRM_OK);
+	ANSWERS(strm_bcanput(pool, 0, 0, &number), STRM_OK);
+	ANSWERS(strm_run_at(pool, 0, &number), STRM_OK);
+	ANSWERS(strm_next_service(pool, &number), STRM_OK);
+	ANSWERS(strm_noenable(pool, 0), STRM_OK);
+	ANSWERS(strm_enableok(pool, 0), STRM_OK);
+	ANSWERS(strm_qenable(pool, 0), STRM_OK);
+	ANSWERS(strm_rmvq(pool, 0, 1, &msg), STRM_OK);
+	ANSWERS(strm_freemsg(pool, msg), STRM_OK);
+	ANSWERS(strm_flushband(pool, 0, 0, STRM_FLUSHDATA), STRM_OK);
+	ANSWERS(strm_flushq(pool, 0, STRM_FLUSHALL), STRM_OK);
+	ANSWERS(strm_class_info(pool, 0, &info), STRM_OK);
+	ANSWERS(strm_bufcall(pool, 16, &number), STRM_OK);
+	ANSWERS(strm_wish_at(pool, 0, &wish), STRM_OK);
+	ANSWERS(strm_take_ready(pool, &wish), STRM_OK);
+	ANSWERS(strm_bufcall(pool, 16, &number), STRM_OK);
+	ANSWERS(strm_unbufcall(pool, number), STRM_OK);
+}
+
+int main(void)
+{
+	static const struct strm_class_spec classes[] = { { 16, 8 } };
+	static const struct strm_queue_spec queues[] = { { 10, 4, 1, STRM_NO_QUEUE } };
+	struct strm_config config;
+	struct strm_pool pool;
+	char text[80];
+
+	config.id = 7;
+	config.mblks = 8;
+	config.classes = classes;
+	config.class_count = 1;
+	config.queues = queues;
+	config.queue_count = 1;
+	config.bufcalls = 2;
+	config.first_id = 1;
+	pool = opened(&config);
+	call_on_messages(&pool);
+	call_on_queues(&pool);
+	CENSUS(&pool, 8, 0, 0);
+	CHECK(strm_text(STRM_NO_MEMORY, text, sizeof text) > 0 && strm_name(STRM_OK, text, sizeof text) > 0);
+	CHECK(strm_version(text, sizeof text) > 0);
+	CHECK(asked == refused - 1);
+	ANSWERS(strm_close(&pool), STRM_OK);
+	CHECK(kept == 0);
+	return summary();
+}
