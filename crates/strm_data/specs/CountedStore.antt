@@ -31,7 +31,7 @@ pub record IsUnused (s : CountedStore) (d : ℕ) : Type 0 where
   pub unnamed : count_of s d ≡ 0
 
 -- each data block is accounted for: the classes are lawful, and each has its number of data blocks. Each data block has the size of
--- its class, and at most most_data_block_names references. Each class's free list has its data blocks without references, each once
+-- its class, and at most most_references references. Each class's free list has its data blocks without references, each once
 pub record IsKept (s : CountedStore) : Type 0 where
   pub lawful : IsTrue (are_lawful s.store.classes)
   pub complete : (c : ℕ) → blocks_in s.store c ≡ (class_spec_at s.store c).count

@@ -51,6 +51,10 @@ blocks_in s c = count_by (λ b. b.class == c) s.blocks
 abbrev pub capacity_of : DataStore → ℕ → ℕ
 capacity_of s d = length (data_block_at s d).bytes
 
+-- n bytes of data block d, from place `at` on
+abbrev pub bytes_at : ℕ → ℕ → ℕ → DataStore → List ℕ
+bytes_at d at n s = take n (drop at (data_block_at s d).bytes)
+
 -- the free data blocks of class c
 abbrev pub free_of : DataStore → ℕ → List ℕ
 free_of s c = slice_index_or s.free c []

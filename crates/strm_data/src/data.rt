@@ -9,6 +9,8 @@ ghost use Rattle.strm_data.specs.CountedStore.{count_of, IsInUse, IsKept, IsUnus
 ghost use Rattle.strm_data.specs.DataLayout.{block_at, bytes_of, class_at, region_at, start_in};
 ghost use Rattle.strm_data.specs.DataStore.{capacity_of, data_block_at, class_infos, fits, take_data, with_kind, with_bytes_copied, with_bytes_written, free_of, numbers_from, bytes_overwritten, IsTakenFrom};
 
+mod lending;
+
 use crate::class_info::ClassInfo;
 use crate::class_spec::ClassSpec;
 use crate::msg_type::MsgType;
@@ -169,14 +171,6 @@ fn copy_bytes(regions: &mut [Vec<u8>], from: RegionPlace, into: RegionPlace, len
         let (low, high) = regions.split_at_mut(from.class);
         overwrite(&mut low[into.class], into.start, &high[0][bytes]);
     }
-}
-
-// Copies bytes from place `at` on into `into`, which they fill.
-fn copy_out(bytes: &[u8], at: usize, into: &mut [u8])
-    requires { at + length into.old ≤ length bytes.now }
-    ensures { into.new ≡ take (length into.old) (drop at bytes.now) }
-{
-    into.copy_from_slice(&bytes[at..at + into.len()]);
 }
 
 // Puts `count` free nodes, from `first` on, into an empty list. The last joins first, so `first` ends up at the front.
@@ -378,18 +372,6 @@ impl Data {
         self.blocks[number as usize].kind = kind;
     }
 
-    /// Overwrites bytes of a data block, from place `at` on, with `bytes`. They must fit into its capacity. All other
-    /// bytes, references and types stay unchanged.
-    pub fn write(&mut self, number: DataNo, at: u32, bytes: &[u8])
-        requires there { number < length self.old.store.blocks }
-        requires room { at + length bytes.now ≤ capacity_of self.old.store number }
-        ensures after { self.new ≡ record self.old { store = with_bytes_written number at bytes.now self.old.store } }
-        ensures kept { IsKept self.new }
-    {
-        let place = place_of(&self.classes, &self.blocks, number, at);
-        overwrite(&mut self.regions[place.class], place.start, bytes);
-    }
-
     /// Copies `len` bytes of data block `from`, from place `at` on, over those of data block `into`, from place `to` on.
     /// Both may be the same block. The bytes must be within each block's capacity. All other bytes, references and types
     /// stay unchanged. Takes one slice copy, or a step for each byte if the places overlap.
@@ -405,17 +387,6 @@ impl Data {
         let source = place_of(&self.classes, &self.blocks, from, at);
         let target = place_of(&self.classes, &self.blocks, into, to);
         copy_bytes(&mut self.regions, source, target, len as usize);
-    }
-
-    /// Copies bytes of a data block, from place `at` on, into `into`, which they fill. They must be within the block's
-    /// capacity. Changes nothing else.
-    pub fn read(&self, number: DataNo, at: u32, into: &mut [u8])
-        requires there { number < length self.now.store.blocks }
-        requires room { at + length into.old ≤ capacity_of self.now.store number }
-        ensures { into.new ≡ take (length into.old) (drop at (data_block_at self.now.store number).bytes) }
-    {
-        let place = place_of(&self.classes, &self.blocks, number, at);
-        copy_out(&self.regions[place.class], place.start, into);
     }
 
     /// Returns the size of a class, the number of its free data blocks and that of all of them, or none if there is no

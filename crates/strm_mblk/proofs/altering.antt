@@ -1,4 +1,4 @@
 -- Calls that alter a block.
-pub mod Alteration
-pub mod Writing
-pub mod Setband
+pub mod Placing
+pub mod Own
+pub mod Overwriting

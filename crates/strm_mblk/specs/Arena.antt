@@ -101,7 +101,7 @@ abbrev pub is_free_in : Arena → ℕ → ℕ → Bool
 is_free_in a c d = nat_lt d (length a.store.blocks) && (class_of a.store d == c && references_to a d == 0)
 
 -- Each message block is in exactly one place: free, in one message on one shelf, or in one held message, which is at its head. Each
--- data block either has no references, and is once in its class's free list, or has 1 to most_data_block_names references, and is
+-- data block either has no references, and is once in its class's free list, or has 1 to most_references references, and is
 -- in no free list.
 pub record IsParted (a : Arena) : Type 0 where
   pub blocks : (n : ℕ) → times n (a.free ++ numbers_of (blocks_in a)) ≡ (if nat_lt n (length a.held) then 1 else 0)

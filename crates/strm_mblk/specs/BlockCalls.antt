@@ -1,6 +1,6 @@
 -- What each call on blocks of messages does to the arena. A call gets the head of a message instead of its token.
-use Rattle.std.specs.Prelude.{ℕ, ◌+◌, ◌-◌, Bool, ◌==◌, nat_lt, List, [], ◌∷◌, length, map, take, drop, Option, None, Some, Result, Ok, Err, slice_get, slice_set, count_by, if◌then◌else◌}
-use Rattle.std.specs.List.{list_any, zip}
+use Rattle.std.specs.Prelude.{ℕ, ◌+◌, ◌-◌, Bool, ◌==◌, nat_lt, List, [], ◌∷◌, length, map, take, drop, Option, None, Some, Result, Ok, Err, ok_or, slice_get, slice_set, count_by, if◌then◌else◌}
+use Rattle.std.specs.List.{list_all, list_any, zip}
 use Rattle.std.specs.Result.{is_ok}
 use Rattle.strm_data.specs.declared.msg_type.MsgType.{MsgType}
 use Rattle.strm_data.specs.declared.refusal.Refusal.{Refusal}
@@ -38,7 +38,7 @@ testb size a = is_ok (allocb size a)
 abbrev pub blocks_renumbered : List ℕ → List Block → List Block
 blocks_renumbered ns bs = map (λ p. record p.1 { number = p.0 }) (zip ns bs)
 
--- whether some data block would have more than most_data_block_names references after each of these blocks got a duplicate
+-- whether some data block would have more than most_references references after each of these blocks got a duplicate
 abbrev pub exceeds_references : List Block → Arena → Bool
 exceeds_references bs a = list_any (λ b. nat_lt most_references (references_to a b.data_number + count_by (uses_data b.data_number) bs)) bs
 
@@ -63,60 +63,80 @@ dupb h a = message_duplicated (take 1 (message_at a h)) a
 abbrev pub dupmsg : ℕ → Arena → Given Arena ℕ
 dupmsg h a = message_duplicated (message_at a h) a
 
+-- the store with the data blocks that are copied into store s: another pool's, if any, or s itself
+abbrev pub copied_from : Option DataStore → DataStore → DataStore
+copied_from None s = s
+copied_from (Some other) s = other
+
 -- the store after d was taken for a copy of b: it has b's type, and b's bytes at the same places
-abbrev pub store_with_copy : Block → DataStore → ℕ → DataStore
-store_with_copy b s d = with_bytes_written d b.offset (bytes_of_block s b) (with_kind d (kind_of s b) (with_data_taken d s))
+abbrev pub store_with_copy : Option DataStore → Block → DataStore → ℕ → DataStore
+store_with_copy other b s d = with_bytes_written d b.offset (bytes_of_block (copied_from other s) b) (with_kind d (kind_of (copied_from other s) b) (with_data_taken d s))
 
 -- these blocks over copies of their data blocks, each of which is taken for the old one's capacity, in order
-abbrev pub blocks_copied : List Block → DataStore → Given DataStore (List Block)
-blocks_copied [] s = Ok ([], s)
-blocks_copied (b ∷ bs) s =
-    and_then (λ d. answer_map (λ g. (record b { data_number = d } ∷ g.0, g.1)) (blocks_copied bs (store_with_copy b s d))) (take_data (capacity_of s b.data_number) s)
+abbrev pub blocks_copied : Option DataStore → List Block → DataStore → Given DataStore (List Block)
+blocks_copied other [] s = Ok ([], s)
+blocks_copied other (b ∷ bs) s =
+    and_then (λ d. answer_map (λ g. (record b { data_number = d } ∷ g.0, g.1)) (blocks_copied other bs (store_with_copy other b s d))) (take_data (capacity_of (copied_from other s) b.data_number) s)
 
 -- makes a message of new blocks, one for each of these, over a copy of its data block, with its places and band
-abbrev pub message_copied : List Block → Arena → Given Arena ℕ
-message_copied bs a =
+abbrev pub message_copied : Option DataStore → List Block → Arena → Given Arena ℕ
+message_copied other bs a =
     if nat_lt (length a.free) (length bs) then Err NoMblk
-    else answer_map (λ g. held_under g.0 g.1 a) (blocks_copied bs a.store)
+    else answer_map (λ g. held_under g.0 g.1 a) (blocks_copied other bs a.store)
 
 -- copies the first block of the message held at h
 abbrev pub copyb : ℕ → Arena → Given Arena ℕ
-copyb h a = message_copied (take 1 (message_at a h)) a
+copyb h a = message_copied None (take 1 (message_at a h)) a
 
 -- copies all blocks of the message held at h
 abbrev pub copymsg : ℕ → Arena → Given Arena ℕ
-copymsg h a = message_copied (message_at a h) a
+copymsg h a = message_copied None (message_at a h) a
+
+-- whether a class fits each of these blocks of another pool's store
+abbrev pub fits_classes : DataStore → List Block → DataStore → Bool
+fits_classes other bs s = list_all (λ b. fits_a_class (capacity_of other b.data_number) s.classes) bs
+
+-- copies all blocks of the message held at h in another pool's arena, `from`
+abbrev pub transfer : Arena → ℕ → Arena → Given Arena ℕ
+transfer from h a =
+    if fits_classes from.store (message_at from h) a.store then message_copied (Some from.store) (message_at from h) a
+    else Err TooLarge
 
 -- ---- one block
 
--- writes bytes after the write place of b, block k of the message m held at h
-abbrev pub write_block : ℕ → ℕ → List ℕ → Arena → Message → Option Block → Given Arena (Unit {0})
-write_block h k bytes a m None = Err NoSuchBlock
-write_block h k bytes a m (Some b) =
-    if nat_lt 1 (references_to a b.data_number) then Err Shared
-    else (if nat_lt (capacity_of a.store b.data_number) (b.offset + b.len + length bytes) then Err NoRoom
-    else Ok (
-      tt,
-      record a {
-        store = with_bytes_written b.data_number (b.offset + b.len) bytes a.store;
-        held = slice_set a.held h (Some (slice_set m k (record b { len = b.len + length bytes })));
-      },
-    ))
+-- block k of the message held at h
+abbrev pub block_found : ℕ → ℕ → Arena → Result Block Refusal
+block_found h k a = ok_or (slice_get (message_at a h) k) NoSuchBlock
+
+-- this block, if no other block uses its data block
+abbrev pub if_unshared : Arena → Block → Result Block Refusal
+if_unshared a b = if nat_lt 1 (references_to a b.data_number) then Err Shared else Ok b
+
+-- block k of the message held at h, if no other block uses its data block
+abbrev pub own_block : ℕ → ℕ → Arena → Result Block Refusal
+own_block h k a = and_then (if_unshared a) (block_found h k a)
+
+-- the arena after block k of the message held at h became b
+abbrev pub with_block : ℕ → ℕ → Block → Arena → Arena
+with_block h k b a = with_message h (slice_set (message_at a h) k b) a
+
+-- the arena after these bytes were written into data block d from place `at` on
+abbrev pub with_bytes : ℕ → ℕ → List ℕ → Arena → Arena
+with_bytes d at bytes a = record a { store = with_bytes_written d at bytes a.store }
+
+-- writes bytes after the write place of b, block k of the message held at h
+abbrev pub write_block : ℕ → ℕ → List ℕ → Arena → Block → Given Arena (Unit {0})
+write_block h k bytes a b =
+    if nat_lt (capacity_of a.store b.data_number) (b.offset + b.len + length bytes) then Err NoRoom
+    else Ok (tt, with_block h k (record b { len = b.len + length bytes }) (with_bytes b.data_number (b.offset + b.len) bytes a))
 
 -- writes bytes after the write place of block k of the message held at h, and moves the write place after them
 abbrev pub write : ℕ → ℕ → List ℕ → Arena → Given Arena (Unit {0})
-write h k bytes a = write_block h k bytes a (message_at a h) (slice_get (message_at a h) k)
-
--- gives the data block of this block of a message a type; no other block may use it
-abbrev pub settype_of : MsgType → Arena → Option Block → Given Arena (Unit {0})
-settype_of kind a None = Err NoSuchBlock
-settype_of kind a (Some b) =
-    if nat_lt 1 (references_to a b.data_number) then Err Shared
-    else Ok (tt, record a { store = with_kind b.data_number kind a.store })
+write h k bytes a = and_then (write_block h k bytes a) (own_block h k a)
 
 -- gives the data block of block k of the message held at h a type
 abbrev pub settype : ℕ → ℕ → MsgType → Arena → Given Arena (Unit {0})
-settype h k kind a = settype_of kind a (slice_get (message_at a h) k)
+settype h k kind a = answer_map (λ b. (tt, record a { store = with_kind b.data_number kind a.store })) (own_block h k a)
 
 -- the message after its first block got this band
 abbrev pub with_band : ℕ → Message → Message
@@ -127,23 +147,19 @@ with_band band (b ∷ bs) = record b { band = band } ∷ bs
 abbrev pub setband : ℕ → ℕ → Arena → Arena
 setband h band a = with_message h (with_band band (message_at a h)) a
 
--- type, length, band, room and references of a block of a message, if any
-abbrev pub info_of : Arena → Option Block → Given Arena BlockInfo
-info_of a None = Err NoSuchBlock
-info_of a (Some b) = Ok (
-  record {
-    kind = kind_of a.store b;
-    len = b.len;
-    band = b.band;
-    room = capacity_of a.store b.data_number - (b.offset + b.len);
-    names = references_to a b.data_number;
-  },
-  a,
-)
+-- type, length, band, room and references of a block
+abbrev pub info_of : Arena → Block → BlockInfo
+info_of a b = record {
+  kind = kind_of a.store b;
+  len = b.len;
+  band = b.band;
+  room = capacity_of a.store b.data_number - (b.offset + b.len);
+  names = references_to a b.data_number;
+}
 
 -- returns type, length, band, room and references of block k of the message held at h
 abbrev pub block : ℕ → ℕ → Arena → Given Arena BlockInfo
-block h k a = info_of a (slice_get (message_at a h) k)
+block h k a = answer_map (λ b. (info_of a b, a)) (block_found h k a)
 
 -- ---- joining and dividing
 

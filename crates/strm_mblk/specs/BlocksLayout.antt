@@ -4,10 +4,11 @@ use Rattle.strm_data.specs.CountedStore.{CountedStore, IsKept, count_of, without
 use Rattle.strm_data.specs.DataStore.{DataStore, capacity_of, times}
 use Rattle.std.specs.List.{list_any}
 use Rattle.strm_links.specs.StrandLists.{StrandLists, strand_at}
-use Rattle.strm_data.specs.Limits.{most_references}
+use Rattle.strm_data.specs.Limits.{most_data_block_bytes, most_references}
 use Rattle.strm_mblk.specs.declared.blocks.Blocks.TheInside.{Inside}
 use Rattle.strm_mblk.specs.declared.blocks.Fields.{Fields}
-use Rattle.strm_mblk.specs.Arena.{Arena, references_to, shelved_blocks}
+use Rattle.strm_mblk.specs.declared.blocks.finding.Found.{Found}
+use Rattle.strm_mblk.specs.Arena.{Arena, message_at, references_to, shelved_blocks}
 use Rattle.strm_mblk.specs.Block as model
 use Rattle.strm_mblk.specs.NodeLists.{NodeLists, IsNodesParted}
 use Rattle.strm_mblk.specs.Limits.{most_message_blocks}
@@ -22,6 +23,10 @@ fields_at fields n = slice_index_or fields n no_fields
 -- message block n with these fields
 abbrev pub block_of : ℕ → Fields → model.Block
 block_of n f = record { number = n; data_number = f.data_number; offset = f.offset; len = f.len; band = f.band }
+
+-- the block that a call found
+abbrev pub block_of_found : Found → model.Block
+block_of_found f = block_of f.node f.fields
 
 -- the fields of a message block, which are all but its number
 abbrev pub fields_of : model.Block → Fields
@@ -50,7 +55,7 @@ abbrev pub with_references_given : List ℕ → CountedStore → CountedStore
 with_references_given [] s = s
 with_references_given (d ∷ ds) s = with_references_given ds (with_reference d s)
 
--- whether some data block would have more than most_data_block_names references after each of these got one
+-- whether some data block would have more than most_references references after each of these got one
 abbrev pub exceeds_counts : List ℕ → CountedStore → Bool
 exceeds_counts ds s = list_any (λ d. nat_lt most_references (count_of s d + times d ds)) ds
 
@@ -77,12 +82,39 @@ pub record IsPlaced (s : DataStore) (f : Fields) : Type 0 where
   pub within : f.offset + f.len ≤ capacity_of s f.data_number
   pub banded : f.band < 2 ^ 8
 
+-- the block that a call found has its places inside its data block, which has this capacity, and a band below 256
+pub record IsFoundIn (s : DataStore) (f : Found) : Type 0 where
+  pub there : f.fields.data_number < length s.blocks
+  pub within : f.fields.offset + f.fields.len ≤ f.capacity
+  pub capacity : f.capacity ≡ capacity_of s f.fields.data_number
+  pub small : f.capacity ≤ most_data_block_bytes
+  pub banded : f.fields.band < 2 ^ 8
+
+-- message block n is in a held message, and these can become its fields: they have its data block, and places inside it
+pub record Suits (a : Arena) (n : ℕ) (f : Fields) : Type 0 where
+  pub head : ℕ
+  pub place : ℕ
+  pub block : model.Block
+  pub found : slice_get (message_at a head) place ≡ Some block
+  pub number : block.number ≡ n
+  pub same : f.data_number ≡ block.data_number
+  pub room : f.offset + f.len ≤ capacity_of a.store f.data_number
+  pub banded : f.band < 2 ^ 8
+
 -- every message block has an existing data block, and the bytes of the message that begins with `head` number less than 2^32
 pub record IsSummable (strands : StrandLists) (fields : List Fields) (s : DataStore) (head : ℕ) : Type 0 where
   pub begins : slice_get (strand_at strands head) 0 ≡ Some head
   pub listed : length fields ≡ length strands.chains
   pub named : (n : ℕ) → n < length fields → (fields_at fields n).data_number < length s.blocks
   pub small : model.size_of (message_of fields (strand_at strands head)) < 2 ^ 32
+
+-- every message block has its places inside a data block, and a message begins with `head`
+pub record IsReadable (strands : StrandLists) (fields : List Fields) (s : CountedStore) (head : ℕ) : Type 0 where
+  pub begins : slice_get (strand_at strands head) 0 ≡ Some head
+  pub there : head < length strands.chains
+  pub listed : length fields ≡ length strands.chains
+  pub placed : (n : ℕ) → n < length fields → IsPlaced s.store (fields_at fields n)
+  pub kept : IsKept s
 
 -- every message block, free ones too, has its places inside a data block, and the stored counts are the numbers of references
 pub record IsFilled (s : CountedStore) (fields : List Fields) (lists : NodeLists) (arena : Arena) : Type 0 where

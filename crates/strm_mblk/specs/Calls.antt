@@ -1,13 +1,14 @@
 -- What a call does with messages: a record for each shape of a call. The records are about a value with an arena, which `arena` finds in
 -- it. `call` is the result of the call's definition for the old value. `result` is what the call returns: `Ok result` if it is never
 -- refused, and `Ok tt` if it returns nothing. A refused call changes nothing.
-use Rattle.std.specs.Prelude.{◌≡◌, ◌≢◌, ◌⊎◌, ℕ, IsTrue, [], ◌∷◌, Option, None, Some, Result, IfOk, IfSome, MatchResult, option_map}
+use Rattle.std.specs.Prelude.{◌≡◌, ◌≢◌, ◌⊎◌, ℕ, IsTrue, List, [], ◌∷◌, Option, None, Some, Result, Err, IfOk, IfSome, MatchResult, option_map}
 use Rattle.strm_data.specs.declared.refusal.Refusal.{Refusal}
+use Rattle.strm_data.specs.Lending.{Edits}
 use Rattle.strm_mblk.specs.declared.rejected.Rejected.{Rejected}
 use Rattle.strm_mblk.specs.declared.token.TokenValue.{TokenValue}
 use Rattle.strm_mblk.specs.Arena.{Arena, has, held_at, token_of}
 use Rattle.strm_mblk.specs.Frame.{LeavesOthers, LeavesShelves, head_answered, heads_answered, heads_parted}
-use Rattle.strm_mblk.specs.Given.{Given, answer_map, answer_of, or_rejected, value_after}
+use Rattle.strm_mblk.specs.Given.{Given, answer_map, answer_of, or_rejected, value_after, without_token}
 
 -- an arena is its own arena
 abbrev pub itself : Arena → Arena
@@ -28,7 +29,7 @@ pub record Gives {V : Type 0} (arena : V → Arena) (source : Option TokenValue)
   pub shelves : LeavesShelves (head_answered result) (arena old) (arena new)
 
 -- A call that alters the message of token t, which becomes u.
-pub record Alters {V : Type 0} (arena : V → Arena) (t u : TokenValue) (call : Given V (Unit {0})) (old new : V) (result : Result (Unit {0}) Refusal) : Type 0 where
+pub record Alters {V X : Type 0} (arena : V → Arena) (t u : TokenValue) (call : Given V X) (old new : V) (result : Result X Refusal) : Type 0 where
   pub after : new ≡ value_after old call
   pub answer : result ≡ answer_of call
   -- the message is still held at its head
@@ -36,6 +37,15 @@ pub record Alters {V : Type 0} (arena : V → Arena) (t u : TokenValue) (call : 
   pub had : IsTrue (has (arena new) u)
   pub others : LeavesOthers (t.head ∷ []) (arena old) (arena new)
   pub shelves : LeavesShelves (t.head ∷ []) (arena old) (arena new)
+
+-- A call that lends bytes of the message of token t to a closure, or is refused. `lent` are the bytes. `call` is the result of the call's
+-- definition if the closure returns r and leaves these bytes, as many as before. A refused call does not call the closure: it may be called
+-- only where bytes are lent.
+abbrev pub Lends : {V X R : Type 0} → (V → Arena) → TokenValue → (List ℕ → R → List ℕ → Type 0) → Result (List ℕ) Refusal
+    → (R → List ℕ → Given V X) → V → V → Result X Refusal → Type 0
+Lends {R} arena t closure lent call old new result = MatchResult lent
+    (λ bytes. (r : R) × Edits closure bytes r (λ left. Alters arena t t (call r left) old new result))
+    (λ why. Alters arena t t (Err why) old new result)
 
 -- A call that appends the message of token u, which is spent, to that of token s, which becomes t. `next` is the value that the
 -- definition gives.
@@ -95,6 +105,12 @@ pub record Spends {V : Type 0} (arena : V → Arena) (t : TokenValue) (next old 
   pub gone : IsTrue (has (arena old) t) → held_at (arena new) t.head ≡ None
   pub others : LeavesOthers (t.head ∷ []) (arena old) (arena new)
   pub shelves : LeavesShelves (t.head ∷ []) (arena old) (arena new)
+
+-- A call that makes the message of token t anew in another pool, and spends t here, or returns t if it is refused. `call` is the result of
+-- the call's definition for the other pool, and `next` is the value that spending t gives here.
+pub record Transfers {V : Type 0} (arena : V → Arena) (t : TokenValue) (call : Given V ℕ) (next old new other_old other_new : V) (result : Result TokenValue Rejected) : Type 0 where
+  pub there : Gives arena None call other_old other_new (without_token result)
+  pub here : MatchResult result (λ u. Spends arena t next old new) (λ rejected. (rejected.token ≡ t) × (new ≡ old))
 
 -- ---- calls that change shelves, or what queues store
 

@@ -36,3 +36,8 @@ answer_map f (Err why) = Err why
 abbrev pub or_rejected : {A : Type 0} → TokenValue → Result A Refusal → Result A Rejected
 or_rejected t (Ok given) = Ok given
 or_rejected t (Err why) = Err (record { why = why; token = t })
+
+-- what a call returned, or its refusal alone
+abbrev pub without_token : {A : Type 0} → Result A Rejected → Result A Refusal
+without_token (Ok given) = Ok given
+without_token (Err rejected) = Err rejected.why

@@ -7,6 +7,7 @@ pub mod Frame
 pub mod Calls
 pub mod Freeing
 pub mod BlockCalls
+pub mod InPlace
 pub mod Trimming
 pub mod Pulling
 pub mod Shelves

@@ -1,7 +1,7 @@
 -- Message blocks as numbers only: the free ones, and the messages of the others. No public clause cites this module.
 use Rattle.std.specs.Prelude.{◌≡◌, ℕ, ◌+◌, ◌<◌, nat_lt, List, [], ◌∷◌, ◌++◌, length, map, replicate, reverse, take, drop, Option, None, Some, IfSome, slice_get, slice_index_or, slice_set, if◌then◌else◌}
-use Rattle.std.specs.List.{All, range_with_len}
-use Rattle.strm_links.specs.Rows.{first}
+use Rattle.std.specs.List.{All, position, range_with_len}
+use Rattle.strm_links.specs.Rows.{first, has}
 use Rattle.strm_data.specs.DataStore.{times}
 use Rattle.strm_mblk.specs.Messages.{blocks_of, held_in, shelf_in, blocks_on, blocks_held}
 
@@ -28,6 +28,10 @@ head_node m = slice_index_or m 0 0
 -- the heads of the messages on a shelf
 abbrev pub heads_on : NodeLists → ℕ → List ℕ
 heads_on v s = map head_node (shelf_in v.shelves s)
+
+-- the shelf that has a message with this head, if any
+abbrev pub shelf_with : NodeLists → ℕ → Option ℕ
+shelf_with v h = position (λ ns. has h (map head_node ns)) v.shelves
 
 -- the numbers of message k of a shelf
 abbrev pub shelved_nodes : NodeLists → ℕ → ℕ → List ℕ

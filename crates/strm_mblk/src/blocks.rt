@@ -15,17 +15,22 @@ mod alteration;
 pub(crate) mod beside;
 mod copying;
 mod duplicating;
+mod finding;
 mod freeing;
+mod in_place;
 mod joining;
+mod overwriting;
 mod pulling;
 mod reading;
 mod shelves;
+mod transferring;
 mod trimming;
 
 use crate::block_info::BlockInfo;
 use crate::census::Census;
 use crate::chains::Chains;
 use crate::token::{Token, TokenValue};
+use finding::Found;
 use std::alloc::{AllocError, Global};
 use std::marker::Model;
 use std::mem::size_of;
@@ -243,16 +248,7 @@ impl Blocks {
         requires { IsTrue (has self.now token.now) }
         ensures { result ≡ answer_of (model.block token.now.head place self.now) }
     {
-        let Some(node) = node_at(&self.chains, token.head(), place) else {
-            return Err(Refusal::NoSuchBlock);
-        };
-        let fields = self.blocks[node as usize];
-        Ok(BlockInfo {
-            kind: self.data.kind(fields.data_number),
-            len: fields.len,
-            band: fields.band,
-            room: self.data.cap(fields.data_number) - (fields.offset + fields.len),
-            names: self.data.count(fields.data_number),
-        })
+        let Found { fields, .. } = self.found(token, place)?;
+        Ok(self.info(fields))
     }
 }

@@ -5,7 +5,7 @@ ghost use Rattle.std.specs.Option.{ForSome};
 ghost use Rattle.strm_links.specs.Rows.{IsParting, after, before, first, has, holder, last, list_at, put_in};
 ghost use Rattle.strm_links.specs.StrandLists.{strand_at};
 ghost use Rattle.strm_mblk.specs.Messages.{chain_divided, held_in, chains_joined, put_before_head, shelf_in, with_head, without_head, without_place};
-ghost use Rattle.strm_mblk.specs.NodeLists.{IsNodesParted, IsReached, after_begin, after_behind_freed, head_node, heads_on, nodes_at, opening_nodes, shelved_nodes};
+ghost use Rattle.strm_mblk.specs.NodeLists.{IsNodesParted, IsReached, after_begin, after_behind_freed, head_node, heads_on, nodes_at, opening_nodes, shelf_with, shelved_nodes};
 
 #[cfg(test)]
 pub(crate) mod beside;
@@ -214,6 +214,15 @@ impl Chains {
         ensures { result ≡ last (heads_on self.now shelf) }
     {
         self.heads.back(shelf)
+    }
+
+    // Whether a message with this head is on a shelf.
+    #[inline(always)]
+    pub(crate) fn is_shelved(&self, head: u32) -> bool
+        requires { head < length self.now.held }
+        ensures { result ≡ is_some (shelf_with self.now head) }
+    {
+        self.heads.list_of(head).is_some()
     }
 
     // The head of the message after this one on its shelf, if any.

@@ -2,6 +2,7 @@
 #![tactic(auto)]
 
 mod block_info;
+mod block_place;
 mod blocks;
 mod census;
 mod chains;
@@ -10,6 +11,7 @@ mod rejected;
 mod token;
 
 pub use block_info::BlockInfo;
+pub use block_place::BlockPlace;
 pub use blocks::{BlockNo, Blocks};
 pub use census::Census;
 pub use limits::MOST_MESSAGE_BLOCKS;

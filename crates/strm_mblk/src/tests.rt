@@ -9,6 +9,8 @@ mod beside;
 mod by_number;
 mod copies;
 mod duplicates;
+mod in_place;
+mod in_place_rows;
 mod joining;
 mod long_run;
 mod names;
@@ -19,6 +21,7 @@ mod rows;
 mod shelves;
 mod tally;
 mod tokens;
+mod transfers;
 mod trimming;
 
 // Four data blocks of 16 bytes, and two of 64 bytes.

@@ -1,5 +1,5 @@
 -- Where bytes of a data block are in memory, and what a contract sees once others stand over them.
-use Rattle.std.proofs.Common.{◌≡◌, ℕ, ◌+◌, ◌<◌, ◌≤◌, List, length, set, take, drop, ap, ◌∙◌, arith}
+use Rattle.std.proofs.Common.{◌≡◌, ℕ, ◌+◌, ◌<◌, ◌≤◌, List, Vec, Global, get_or, length, set, take, drop, sym, ap, ◌∙◌, arith}
 use Rattle.std.proofs.lemmas.List.{length-map}
 use Rattle.strm_data.specs.declared.data.Class.{Class}
 use Rattle.strm_data.specs.declared.data.Data.TheInside.{Inside}
@@ -8,6 +8,7 @@ use Rattle.strm_data.specs.CountedStore.{CountedStore}
 use Rattle.strm_data.specs.DataLayout.{block_at, bytes_in, bytes_of, class_at, store_of_parts, store_of, region_at, start_in, IsSound, IsPlaced}
 use Rattle.strm_data.specs.DataStore.{capacity_of, data_block_at, bytes_overwritten, with_bytes_written}
 use Rattle.strm_data.proofs.layout.Laid.{block_within, in_regions, seen_at, seen_capacity, whole, written_blocks, IsPlaced-written}
+use Rattle.strm_data.proofs.layout.Regions.{region_of}
 use Rattle.strm_data.proofs.lists.Tables.{part_of}
 
 -- byte `at` of data block d is at this place
@@ -39,6 +40,10 @@ module _ (a : Inside) (v : CountedStore) (view : store_of a ≡ v) (laid : IsSou
 
   pub region_within : p.class < length a.regions.items
   region_within = rw is.class (omega (arith, in_regions a.classes.items regions a.blocks.items a.free.lists d within laid.placed, length-map a.regions.items (λ r. r.items)))
+
+  -- the bytes of the vector that the place is in
+  pub region_is : (x : Vec ℕ Global) (bytes : List ℕ) → x ≡ get_or a.regions.items p.class x → bytes ≡ x.items → bytes ≡ region_at regions p.class
+  region_is x bytes read has = has ∙ sym (region_of a.regions.items p.class x x region_within read)
 
   -- n bytes from there on are in the region
   module _ (n : ℕ) (few : at + n ≤ capacity_of v.store d) where

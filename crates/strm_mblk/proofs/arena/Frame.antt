@@ -2,16 +2,15 @@
 use Rattle.std.proofs.Common.{◌≡◌, ◌≢◌, ℕ, zero, suc, ◌+◌, ◌<◌, ◌≤◌, Bool, true, false, ◌||◌, ◌&&◌, ◌==◌, ◌-◌, List, [], ◌∷◌, ◌++◌, length, get_or, set, Option, Some, None, Result, Ok, Err, refl, sym, ap, ◌∙◌, subst, inl, inr, arith, get_or-set_same, get_or-set_other, length-set, if◌then◌else◌}
 use Rattle.std.specs.Prelude.{IfOk, ℤ, count_by, drop, nat_le, nat_lt, ok_or, option_map, slice_get, take}
 use Rattle.std.specs.List.{All, flat_map, zip}
-use Rattle.std.proofs.lemmas.Bool.{cases_Bool, cases_eq, cases_lt, cond-true, cond-false, eq-eqb, ne_eqb, false≢true}
-use Rattle.std.proofs.lemmas.Bool.Decides.{nat_tests}
+use Rattle.std.proofs.lemmas.Bool.{cases_Bool, cases_eq, cases_lt, cond-true, cond-false, eq-eqb, ltb-false, ne_eqb, false≢true}
 use Rattle.std.proofs.lemmas.List.{get_or_past}
 use Rattle.std.proofs.lemmas.Option.{none-some, same_Some}
 use Rattle.strm_data.specs.declared.class_spec.ClassSpec.{ClassSpec}
 use Rattle.strm_data.specs.declared.msg_type.MsgType.{MsgType}
 use Rattle.strm_data.specs.declared.refusal.Refusal.{Refusal}
-use Rattle.strm_data.specs.declared.refusal.Refusal.TheVariants.{NoData, NoMblk, NoRoom, Shared, TooLarge}
+use Rattle.strm_data.specs.declared.refusal.Refusal.TheVariants.{NoData, NoMblk, NoSuchBlock, Shared, TooLarge}
 use Rattle.strm_data.specs.Classes.{fits_a_class}
-use Rattle.strm_data.specs.DataStore.{DataStore, capacity_of, class_of, data_block_at, fitting_blocks, free_of, no_data_block, take_data, times, with_bytes_written, with_data_taken, with_kind}
+use Rattle.strm_data.specs.DataStore.{DataBlock, DataStore, capacity_of, class_of, data_block_at, fitting_blocks, free_of, no_data_block, take_data, times, with_bytes_written, with_data_taken, with_kind}
 use Rattle.strm_data.proofs.store.Fitting.{if_fits}
 use Rattle.strm_links.proofs.lists.Counting.{one_if, times-append, times-cons, times_here}
 use Rattle.strm_links.specs.Rows.{has}
@@ -19,7 +18,7 @@ use Rattle.strm_links.proofs.lists.OneList.{has_head}
 use Rattle.strm_mblk.specs.declared.token.TokenValue.{TokenValue}
 use Rattle.strm_mblk.specs.Arena.{has as has_token, Arena, IsParted, held_at, message_at, references_to, shelved_blocks, token_of, with_held, without_held}
 use Rattle.strm_mblk.specs.Block.{Block, Message, bytes_of, bytes_of_block, uses_data, kind_of, new_block}
-use Rattle.strm_mblk.specs.BlockCalls.{allocb, allocb_from, with_band, message_copied, store_with_copy, blocks_copied, message_duplicated, freeb, freeb_from, head_in, held_new, held_under, linkb, rmvb, rmvb_of, setband, settype, settype_of, unlinkb, with_rest, write, write_block}
+use Rattle.strm_mblk.specs.BlockCalls.{allocb, allocb_from, with_band, blocks_copied, copied_from, fits_classes, message_copied, store_with_copy, transfer, message_duplicated, freeb, freeb_from, head_in, held_new, held_under, linkb, rmvb, rmvb_of, setband, unlinkb, with_rest, if_unshared, own_block, with_block}
 use Rattle.strm_mblk.specs.Frame.{IsSameData, LeavesOthers, LeavesShelves, head_given, heads_parted}
 use Rattle.strm_mblk.specs.Freeing.{freemsg, with_token_spent, with_block_freed, with_blocks_freed, with_reference_dropped}
 use Rattle.strm_mblk.specs.Given.{Given, value_after, and_then, answer_map, answer_of, or_rejected}
@@ -49,7 +48,7 @@ gone_on P f (Err why) holds = tt
 -- ---- heads that are not among some
 
 -- the first of them is another
-other_head : (h g : ℕ) (gs : List ℕ) → has h (g ∷ gs) ≡ false → h ≢ g
+pub other_head : (h g : ℕ) (gs : List ℕ) → has h (g ∷ gs) ≡ false → h ≢ g
 other_head h g gs absent same = false≢true (sym absent ∙ has_head g h gs (sym same))
 
 later : (b c : Bool) → (b || c) ≡ false → c ≡ false
@@ -73,10 +72,10 @@ same_data s t (b ∷ bs) same zero e within = grind (arith, common_steps, count_
 same_data s t (b ∷ bs) same (suc k) e within = grind (arith, common_steps, (same_data s t bs), count_adds)
 
 -- the blocks on shelves, and those of a held message, are among those that name a data block
-shelved_named : (a : Arena) (d : ℕ) → count_by (uses_data d) (shelved_blocks a) ≤ references_to a d
+pub shelved_named : (a : Arena) (d : ℕ) → count_by (uses_data d) (shelved_blocks a) ≤ references_to a d
 shelved_named a d = omega (arith, blocks_in_adds (count_adds (uses_data d)) a)
 
-held_named : (a : Arena) (h d : ℕ) → count_by (uses_data d) (message_at a h) ≤ references_to a d
+pub held_named : (a : Arena) (h d : ℕ) → count_by (uses_data d) (message_at a h) ≤ references_to a d
 held_named a h d = grind (arith, common_steps, held_among, blocks_in_adds, count_adds, get_or_past)
 
 -- ---- what stays
@@ -100,7 +99,7 @@ others_one a b h o = others_set a a b (h ∷ []) (leaves_same a (h ∷ [])).othe
 
 module _ (a b : Arena) (heads : List ℕ) (others : LeavesOthers heads a b) (shelves : b.shelves ≡ a.shelves) where
   -- each data block stays that is named on a shelf, or in a message held at another head
-  leaves_data : ((d : ℕ) → 0 < count_by (uses_data d) (shelved_blocks a) → data_block_at b.store d ≡ data_block_at a.store d)
+  pub leaves_data : ((d : ℕ) → 0 < count_by (uses_data d) (shelved_blocks a) → data_block_at b.store d ≡ data_block_at a.store d)
       → ((h d : ℕ) → has h heads ≡ false → 0 < count_by (uses_data d) (message_at a h) → data_block_at b.store d ≡ data_block_at a.store d) → Leaves heads a b
   leaves_data shelved held = grind (arith, common_steps, same_data)
 
@@ -178,13 +177,15 @@ filled_other : (d e at : ℕ) (kind : MsgType) (bytes : List ℕ) (s : DataStore
 filled_other d e at kind bytes s other = grind (arith, common_steps, get_or-set_other)
 
 -- copies leave every data block that was in use
-copies_leave : (bs : List Block) (s : DataStore) (e : ℕ) → IsTaken e s → IfOk (blocks_copied bs s) (λ g. data_block_at g.1 e ≡ data_block_at s e)
-copies_leave [] s e taken = refl
-copies_leave (b ∷ bs) s e taken =
-    gone_on (λ (g : List Block × DataStore). data_block_at g.1 e ≡ data_block_at s e) _ (take_data (capacity_of s b.data_number) s) (λ d is.
-    answered (λ (g : List Block × DataStore). data_block_at g.1 e ≡ data_block_at s e) (λ g. (record b { data_number = d } ∷ g.0, g.1)) (blocks_copied bs (store_with_copy b s d)) (λ g made.
-    subst (λ r. IfOk r (λ (g : List Block × DataStore). data_block_at g.1 e ≡ data_block_at (store_with_copy b s d) e)) made (copies_leave bs (store_with_copy b s d) e (taken_stays d e s taken))
-    ∙ filled_other d e b.offset (kind_of s b) (bytes_of_block s b) s (take_other (capacity_of s b.data_number) d e s taken is)))
+copies_leave : (o : Option DataStore) (bs : List Block) (s : DataStore) (e : ℕ) → IsTaken e s → IfOk (blocks_copied o bs s) (λ g. data_block_at g.1 e ≡ data_block_at s e)
+copies_leave o [] s e taken = refl
+copies_leave o (b ∷ bs) s e taken =
+    let from = copied_from o s in
+    gone_on (λ (g : List Block × DataStore). data_block_at g.1 e ≡ data_block_at s e) _ (take_data (capacity_of from b.data_number) s) (λ d is.
+    let next = store_with_copy o b s d in
+    answered (λ (g : List Block × DataStore). data_block_at g.1 e ≡ data_block_at s e) (λ g. (record b { data_number = d } ∷ g.0, g.1)) (blocks_copied o bs next) (λ g made.
+    subst (λ r. IfOk r (λ (g : List Block × DataStore). data_block_at g.1 e ≡ data_block_at next e)) made (copies_leave o bs next e (taken_stays d e s taken))
+    ∙ filled_other d e b.offset (kind_of from b) (bytes_of_block from b) s (take_other (capacity_of from b.data_number) d e s taken is)))
 
 -- ---- blocks that are freed
 
@@ -368,11 +369,15 @@ module _ (a : Arena) (parted : IsParted a) where
   pub leaves_duplicated : (bs : List Block) → Making a (message_duplicated bs a)
   leaves_duplicated bs = grind (arith, common_steps, chosen, under_leaves)
 
-  pub leaves_copied : (bs : List Block) → Making a (message_copied bs a)
-  leaves_copied bs =
-      chosen (Making a) (nat_lt (length a.free) (length bs)) (Err NoMblk) (answer_map (λ g. held_under g.0 g.1 a) (blocks_copied bs a.store)) tt (λ enough.
-      answered (λ (g : ℕ × Arena). Leaves (g.0 ∷ []) a g.1) (λ g. held_under g.0 g.1 a) (blocks_copied bs a.store) (λ g made. under_leaves g.0 g.1 (λ d some.
-      subst (λ r. IfOk r (λ (g : List Block × DataStore). data_block_at g.1 d ≡ data_block_at a.store d)) made (copies_leave bs a.store d (named_taken d some)))))
+  pub leaves_copied : (o : Option DataStore) (bs : List Block) → Making a (message_copied o bs a)
+  leaves_copied o bs =
+      chosen (Making a) (nat_lt (length a.free) (length bs)) (Err NoMblk) (answer_map (λ g. held_under g.0 g.1 a) (blocks_copied o bs a.store)) tt (λ enough.
+      answered (λ (g : ℕ × Arena). Leaves (g.0 ∷ []) a g.1) (λ g. held_under g.0 g.1 a) (blocks_copied o bs a.store) (λ g made. under_leaves g.0 g.1 (λ d some.
+      subst (λ r. IfOk r (λ (g : List Block × DataStore). data_block_at g.1 d ≡ data_block_at a.store d)) made (copies_leave o bs a.store d (named_taken d some)))))
+
+  pub leaves_transfer : (other : Arena) (h : ℕ) → Making a (transfer other h a)
+  leaves_transfer other h =
+      chosen (Making a) (fits_classes other.store (message_at other h) a.store) (message_copied (Some other.store) (message_at other h) a) (Err TooLarge) (leaves_copied (Some other.store) (message_at other h)) (λ large. tt)
 
   pub leaves_pullupmsg : (h : ℕ) (n : ℤ) → Leaves (h ∷ []) a (value_after a (pullupmsg h n a))
   leaves_pullupmsg h n = leaves_after a (h ∷ []) (pullupmsg h n a) (asked (bytes_asked n (run_of a.store (message_at a h))) (message_at a h))
@@ -398,48 +403,52 @@ module _ (a : Arena) (parted : IsParted a) where
       asked (Some n) m = pulls n m
 
 -- a block is one of those that name its data block
-naming_at : (m : Message) (k : ℕ) (b : Block) → slice_get m k ≡ Some b → 0 < count_by (uses_data b.data_number) m
+pub naming_at : (m : Message) (k : ℕ) (b : Block) → slice_get m k ≡ Some b → 0 < count_by (uses_data b.data_number) m
 naming_at [] k b is = absurd (none-some b is)
 naming_at (c ∷ m) zero b is = grind (arith, common_steps, count_adds, one_if, eq-eqb, same_Some)
 naming_at (c ∷ m) (suc k) b is = omega (arith, naming_at m k b is, (count_adds (uses_data b.data_number)).both (c ∷ []) m)
 
-module _ (a : Arena) (h : ℕ) (m : Message) (is : held_at a h ≡ Some m) where
-  -- a data block that no other block uses is altered
-  altered : (k : ℕ) (b : Block) (new : Arena) → slice_get (message_at a h) k ≡ Some b → nat_lt 1 (references_to a b.data_number) ≡ false → LeavesOthers (h ∷ []) a new → new.shelves ≡ a.shelves
-      → ((d : ℕ) → d ≢ b.data_number → data_block_at new.store d ≡ data_block_at a.store d) → Leaves (h ∷ []) a new
-  altered k b new at lone others shelves same =
-      leaves_own a new (h ∷ []) others shelves h b.data_number (λ g other. other_head g h [] other) m is (most (references_to a b.data_number) lone)
-      (subst (λ x. 0 < count_by (uses_data b.data_number) x) (ap blocks_of is) (naming_at (message_at a h) k b at)) same
-    where
-      most : (n : ℕ) → nat_lt 1 n ≡ false → n ≤ 1
-      most n lone = grind (arith, nat_tests)
+-- block k of the message held at h is this one, and alone uses its data block
+pub record IsOwn (a : Arena) (h k : ℕ) (b : Block) : Type 0 where
+  pub found : slice_get (message_at a h) k ≡ Some b
+  pub alone : references_to a b.data_number ≤ 1
 
-  -- the arena once the bytes are after the write place of block k, which is b
-  abbrev written : ℕ → List ℕ → Block → Arena
-  written k bytes b = record a {
-    store = with_bytes_written b.data_number (b.offset + b.len) bytes a.store;
-    held = set a.held h (Some (set (message_at a h) k (record b { len = b.len + length bytes })));
-  }
+pub own_is : (a : Arena) (h k : ℕ) (b : Block) → own_block h k a ≡ Ok b → IsOwn a h k b
+own_is a h k b is = of_place (slice_get (message_at a h) k) refl is
+  where
+    of_choice : (c : Block) (shared : Bool) → slice_get (message_at a h) k ≡ Some c → nat_lt 1 (references_to a c.data_number) ≡ shared → (if shared then Err Shared else Ok c) ≡ Ok b → IsOwn a h k b
+    of_choice c true found many is = absurd cc
+    of_choice c false found few is =
+        let same : c ≡ b = cc in
+        subst (IsOwn a h k) same (record { found = found; alone = ltb-false 1 (references_to a c.data_number) few })
 
-  pub leaves_write : (k : ℕ) (bytes : List ℕ) → Leaves (h ∷ []) a (value_after a (write h k bytes a))
-  leaves_write k bytes = leaves_after a (h ∷ []) (write h k bytes a) (at (slice_get (message_at a h) k) refl)
-    where
-      at : (o : Option Block) → slice_get (message_at a h) k ≡ o → Leaving {X = Unit {0}} (h ∷ []) a (write_block h k bytes a (message_at a h) o)
-      at None there = tt
-      at (Some b) there =
-          let full = nat_lt (capacity_of a.store b.data_number) (b.offset + b.len + length bytes) in
-          chosen (Leaving {X = Unit {0}} (h ∷ []) a) (nat_lt 1 (references_to a b.data_number)) (Err Shared) (if full then Err NoRoom else Ok (tt, written k bytes b)) tt (λ lone.
-          chosen (Leaving {X = Unit {0}} (h ∷ []) a) full (Err NoRoom) (Ok (tt, written k bytes b)) tt (λ fits.
-          altered k b (written k bytes b) there lone (others_one a (written k bytes b) h _ refl refl) refl
-          (λ d other. get_or-set_other a.store.blocks b.data_number d _ no_data_block other)))
+    of_place : (o : Option Block) → slice_get (message_at a h) k ≡ o → and_then (if_unshared a) (ok_or o NoSuchBlock) ≡ Ok b → IsOwn a h k b
+    of_place None none is = absurd cc
+    of_place (Some c) some is = of_choice c (nat_lt 1 (references_to a c.data_number)) some refl is
 
-  pub leaves_settype : (k : ℕ) (kind : MsgType) → Leaves (h ∷ []) a (value_after a (settype h k kind a))
-  leaves_settype k kind = leaves_after a (h ∷ []) (settype h k kind a) (at (slice_get (message_at a h) k) refl)
+module _ (a : Arena) (h k : ℕ) (b : Block) (own : own_block h k a ≡ Ok b) where
+  held : held_at a h ≡ Some (message_at a h)
+  held = of_message (held_at a h) refl
     where
-      at : (o : Option Block) → slice_get (message_at a h) k ≡ o → Leaving {X = Unit {0}} (h ∷ []) a (settype_of kind a o)
-      at None there = tt
-      at (Some b) there =
-          chosen (Leaving {X = Unit {0}} (h ∷ []) a) (nat_lt 1 (references_to a b.data_number)) (Err Shared) (Ok (tt, record a { store = with_kind b.data_number kind a.store })) tt (λ lone.
-          altered k b (record a { store = with_kind b.data_number kind a.store }) there lone
-          (record { id = refl; size = refl; held = λ g other. refl }) refl
-          (λ d other. get_or-set_other a.store.blocks b.data_number d _ no_data_block other))
+      of_message : (o : Option Message) → held_at a h ≡ o → o ≡ Some (blocks_of o)
+      of_message None none = absurd (none-some b (sym (ap (λ o. slice_get (blocks_of o) k) none) ∙ (own_is a h k b own).found))
+      of_message (Some m) some = refl
+
+  module _ (s : DataStore) (same : (d : ℕ) → d ≢ b.data_number → data_block_at s d ≡ data_block_at a.store d) where
+    -- what it leaves if its data block alone becomes another
+    leaves_alone : (new : Arena) → new.store ≡ s → LeavesOthers (h ∷ []) a new → new.shelves ≡ a.shelves → Leaves (h ∷ []) a new
+    leaves_alone new store others shelves =
+        leaves_own a new (h ∷ []) others shelves h b.data_number (λ g other. other_head g h [] other) (message_at a h) held (own_is a h k b own).alone
+        (naming_at (message_at a h) k b (own_is a h k b own).found) (λ d other. ap (λ x. data_block_at x d) store ∙ same d other)
+
+    pub leaves_with_store : Leaves (h ∷ []) a (record a { store = s })
+    leaves_with_store = leaves_alone (record a { store = s }) refl (record { id = refl; size = refl; held = λ g other. refl }) refl
+
+    -- and if the block, too, becomes another
+    pub leaves_with_block : (c : Block) → Leaves (h ∷ []) a (with_block h k c (record a { store = s }))
+    leaves_with_block c =
+        leaves_alone (with_block h k c (record a { store = s })) refl (others_one a (with_block h k c (record a { store = s })) h _ refl refl) refl
+
+-- a data block of a store becomes another
+pub other_data : (s : DataStore) (d : ℕ) (x : DataBlock) (e : ℕ) → e ≢ d → data_block_at (record s { blocks = set s.blocks d x }) e ≡ data_block_at s e
+other_data s d x e other = get_or-set_other s.blocks d e x no_data_block other

@@ -1,9 +1,10 @@
 -- What a caller reads off the value that it sees, in strands and on shelves.
-use Rattle.std.proofs.Common.{◌≡◌, ℕ, ◌+◌, true, ◌&&◌, List, [], ◌∷◌, map, length, get_or, Option, Some, None, IsSome, is_some, refl, sym, ap, ◌∙◌, subst, inl, inr, ◌⊎◌, arith}
-use Rattle.std.specs.Prelude.{not, slice_get}
+use Rattle.std.proofs.Common.{◌≡◌, ℕ, suc, ◌+◌, ◌<◌, Bool, cond, true, ◌&&◌, List, [], ◌∷◌, map, length, get_or, Option, Some, None, IsSome, is_some, refl, sym, ap, ◌∙◌, subst, inl, inr, ◌⊎◌, arith}
+use Rattle.std.specs.Prelude.{nat_lt, not, slice_get}
 use Rattle.std.proofs.Math.Bool.{and-true, and-false}
 use Rattle.std.proofs.lemmas.List.{get_or_past, get_or-map, length-map}
 use Rattle.std.proofs.lemmas.Option.{none-some, same_Some}
+use Rattle.std.specs.List.{position, position_or_len}
 use Rattle.strm_links.specs.Rows.{Rows, has, first, after, before, list_at, holder, next_in, previous_in}
 use Rattle.std.specs.Option.{option_map_or}
 use Rattle.strm_links.specs.Chains.{items_of, chain_in as held_in}
@@ -12,7 +13,7 @@ use Rattle.strm_links.proofs.lists.OneList.{has_head, has_tail, some_of}
 use Rattle.strm_links.proofs.lists.AllLists.{has-holder}
 use Rattle.strm_mblk.specs.ChainLayout.{IsChained, nodes_of}
 use Rattle.strm_mblk.specs.Messages.{shelf_in}
-use Rattle.strm_mblk.specs.NodeLists.{NodeLists, head_node, heads_on, nodes_at, shelved_nodes}
+use Rattle.strm_mblk.specs.NodeLists.{NodeLists, head_node, heads_on, nodes_at, shelf_with, shelved_nodes}
 use Rattle.strm_mblk.proofs.lists.Numbers.{at_first}
 use Rattle.strm_mblk.proofs.chaining.Seen.{held_off, held_on, length-held, length-shelves, off_shelf, shelf-get}
 use Rattle.std.proofs.lemmas.Grind.{common_steps}
@@ -26,6 +27,21 @@ there_is (Some ns) i x at = refl
 first_node : (xs : List ℕ) (x : ℕ) → first xs ≡ Some x → head_node xs ≡ x
 first_node [] x is = absurd (none-some x is)
 first_node (y ∷ ys) x is = same_Some y x is
+
+-- where a test first passes, among lists and among what each of them gives
+module _ {X Y : Type 0} (p : X → Bool) (q : Y → Bool) (f : Y → X) (d : Y) where
+  place_same : (ys : List Y) → ((k : ℕ) → k < length ys → p (f (get_or ys k d)) ≡ q (get_or ys k d)) → position_or_len p (map f ys) ≡ position_or_len q ys
+  place_same [] each = refl
+  place_same (y ∷ ys) each =
+      let here = each 0 (omega arith) in
+      let behind = place_same ys (λ k within. each (suc k) (omega (arith, within))) in
+      λ j. cond (not (here j)) (1 + behind j) 0
+
+  pub position_same : (ys : List Y) → ((k : ℕ) → k < length ys → p (f (get_or ys k d)) ≡ q (get_or ys k d)) → position p (map f ys) ≡ position q ys
+  position_same ys each =
+      let place = place_same ys each in
+      let long = length-map ys f in
+      λ j. cond (nat_lt (place j) (long j)) (Some (place j)) None
 
 module _ (v : StrandLists) (heads : Rows) (laid : IsChained v heads) where
   -- a strand that is there begins with its number
@@ -101,6 +117,12 @@ module _ (v : StrandLists) (heads : Rows) (laid : IsChained v heads) where
         heads_of : (xs : List ℕ) → ((x : ℕ) → has x xs ≡ true → head_node (strand_at v x) ≡ x) → map head_node (map (strand_at v) xs) ≡ xs
         heads_of [] each = refl
         heads_of (x ∷ xs) each = λ i. each x (has_head x x xs refl) i ∷ heads_of xs (λ y there. each y (has_tail x y xs there)) i
+
+    -- whether some shelf has a head
+    pub shelf_with_is : (h : ℕ) → shelf_with w h ≡ holder h heads
+    shelf_with_is h =
+        ap (λ u. shelf_with u h) (sym is)
+        ∙ position_same (λ ns. has h (map head_node ns)) (has h) (map (strand_at v)) [] heads.lists (λ k within. ap (has h) (ap (map head_node) (sym (shelf_is k)) ∙ heads_at k))
 
     -- a head on a shelf of the value is on that list
     pub shelved_at : (x k : ℕ) → has x (heads_on w k) ≡ true → holder x heads ≡ Some k

@@ -1,19 +1,20 @@
 -- The blocks of a held message by their place, as the code finds them.
-use Rattle.std.proofs.Common.{◌≡◌, ℕ, ◌<◌, true, List, length, Some, None, sym, ap, ◌∙◌, arith}
-use Rattle.std.specs.Prelude.{option_map, slice_get, take}
-use Rattle.std.specs.Option.{IsSome}
+use Rattle.std.proofs.Common.{◌≡◌, ℕ, ◌<◌, true, List, length, Option, Some, None, refl, sym, ap, ◌∙◌, arith}
+use Rattle.std.specs.Prelude.{option_map, slice_get, take, unwrap_or}
+use Rattle.std.specs.Option.{IsSome, is_some}
 use Rattle.std.proofs.lemmas.List.{get_or_past, length-map}
-use Rattle.std.proofs.lemmas.Option.{none-some, slice_get-map}
+use Rattle.std.proofs.lemmas.Option.{none-some, same_Some, slice_get-get_or, slice_get-map, unwrap_or-slice_get}
 use Rattle.strm_data.specs.CountedStore.{CountedStore, count_of}
 use Rattle.strm_mblk.specs.declared.blocks.Fields.{Fields}
 use Rattle.strm_mblk.specs.declared.token.TokenValue.{TokenValue}
-use Rattle.strm_mblk.specs.Arena.{Arena, has, held_at, message_at, references_to}
+use Rattle.strm_mblk.specs.Arena.{Arena, has, held_at, message_at, references_to, token_of}
+use Rattle.strm_mblk.specs.Block.{Block, Message}
 use Rattle.strm_mblk.specs.BlocksLayout.{IsFilled, IsPlaced, arena_of, block_at, fields_at, message_of, data_used_by}
 use Rattle.strm_mblk.specs.Messages.{blocks_of, held_in}
 use Rattle.strm_mblk.specs.NodeLists.{IsReached, NodeLists, nodes_at}
 use Rattle.strm_mblk.proofs.layout.Rewriting.{held_nodes, node_room}
 use Rattle.strm_mblk.proofs.layout.Shown.{message_at-seen}
-use Rattle.strm_mblk.proofs.arena.Tokens.{had_message, held_is}
+use Rattle.strm_mblk.proofs.arena.Tokens.{had_message, held_is, token_had}
 use Rattle.strm_mblk.proofs.chaining.Standing.{begins_with}
 use Rattle.strm_mblk.proofs.lists.Numbers.{at_first}
 use Rattle.std.proofs.Math.Seq.{take-length}
@@ -74,9 +75,32 @@ module _ (id : ℕ) (s : CountedStore) (fields : List Fields) (v : NodeLists) (f
         named = filled.counts (fields_at fields n).data_number ∙ ap (λ x. references_to x (fields_at fields n).data_number) is;
       }
 
+  -- there is one, by what a contract sees
+  pub block_given : (b : Block) → slice_get (message_at a h) k ≡ Some b → IsAt s fields v a h k b.number (nodes_at v h)
+  block_given b found = block_some (token_of a h) refl had b.number (number_of (slice_get (nodes_at v h) k) refl)
+    where
+      had_by : (o : Option Message) → held_at a h ≡ o → has a (token_of a h) ≡ true
+      had_by None none = absurd (none-some b (sym (ap (λ o. slice_get (blocks_of o) k) none) ∙ found))
+      had_by (Some m) held = token_had a h m held
+
+      had : has a (token_of a h) ≡ true
+      had = had_by (held_at a h) refl
+
+      number_of : (o : Option ℕ) → slice_get (nodes_at v h) k ≡ o → o ≡ Some b.number
+      number_of None none = absurd (none-some b (sym (block-get ∙ ap (option_map (block_at fields)) none) ∙ found))
+      number_of (Some n) some =
+          ap (λ (c : Block). Some c.number) (same_Some (block_at fields n) b (sym (block-get ∙ ap (option_map (block_at fields)) some) ∙ found))
+
   -- a walk that has come to a block of it
   pub block_reached : (t : TokenValue) → t.head ≡ h → has a t ≡ true → (n : ℕ) → IsReached v h k n → k < t.blocks → IsAt s fields v a h k n (nodes_at v h)
   block_reached t head had n reached few = grind (arith, common_steps, token_nodes, block_some)
+
+  -- a walk that begins at place k, as far as there is a block
+  pub starts_at : (t : TokenValue) → t.head ≡ h → has a t ≡ true → (n d : ℕ) → n ≡ unwrap_or (slice_get (nodes_at v h) k) d → IsReached v h k n
+  starts_at t head had n d found = record { here = here; in_range = λ within. omega (arith, (block_some t head had n (here within)).there, filled.listed) }
+    where
+      here : k < length (nodes_at v h) → slice_get (nodes_at v h) k ≡ Some n
+      here within = slice_get-get_or (nodes_at v h) k d within ∙ ap Some (sym (found ∙ unwrap_or-slice_get (nodes_at v h) k d))
 
 -- the message at h is held
 pub record IsHeldHead (fields : List Fields) (v : NodeLists) (h : ℕ) : Type 0 where
@@ -87,3 +111,10 @@ pub record IsHeldHead (fields : List Fields) (v : NodeLists) (h : ℕ) : Type 0 
 pub seen_head : (id : ℕ) (s : CountedStore) (fields : List Fields) (v : NodeLists) → IsFilled s fields v (arena_of id s.store fields v) → (h : ℕ) (a : Arena) → arena_of id s.store fields v ≡ a → IsSome (held_at a h)
     → IsHeldHead fields v h
 seen_head id s fields v filled h a is some = grind (arith, common_steps, held_nodes, held_is, at_first, begins_with, node_room)
+
+-- a walk begins at the head
+pub reached_head : (id : ℕ) (s : CountedStore) (fields : List Fields) (v : NodeLists) → IsFilled s fields v (arena_of id s.store fields v) → (a : Arena) → arena_of id s.store fields v ≡ a
+    → (t : TokenValue) → has a t ≡ true → (n : ℕ) → n ≡ t.head → IsReached v t.head 0 n
+reached_head id s fields v filled a is t had n same =
+    let head = seen_head id s fields v filled t.head a is (ap is_some (had_message a t had).1.held) in
+    record { here = λ some. head.first ∙ ap Some (sym same); in_range = λ some. omega (arith, head.there, filled.listed, same) }

@@ -1,11 +1,12 @@
 -- Data blocks keep their capacity, whatever is done to them.
-use Rattle.std.proofs.Common.{◌≡◌, ℕ, ◌<◌, cond, eqb, List, length, set, refl, ◌∙◌, arith, get_or-set_same, get_or-set_other, length-set}
+use Rattle.std.proofs.Common.{◌≡◌, ℕ, ◌+◌, ◌<◌, ◌≤◌, cond, eqb, List, length, set, refl, ◌∙◌, arith, get_or-set_same, get_or-set_other, length-set}
 use Rattle.std.proofs.lemmas.Bool.Decides.{eqb_tells}
 use Rattle.std.proofs.lemmas.List.{set_past}
 use Rattle.strm_data.specs.declared.msg_type.MsgType.{MsgType}
 use Rattle.strm_data.specs.declared.msg_type.MsgType.TheVariants.{MData}
 use Rattle.strm_data.specs.CountedStore.{CountedStore, IsKept, count_of}
-use Rattle.strm_data.specs.DataStore.{DataStore, DataBlock, data_block_at, capacity_of, with_data_taken, with_kind}
+use Rattle.strm_data.specs.DataStore.{DataStore, DataBlock, bytes_overwritten, data_block_at, capacity_of, with_bytes_written, with_data_taken, with_kind}
+use Rattle.strm_data.proofs.lists.Tables.{length-overwritten}
 use Rattle.strm_mblk.specs.declared.blocks.Fields.{Fields}
 use Rattle.strm_mblk.specs.BlocksLayout.{IsFilled, IsPlaced, arena_of, fields_at}
 use Rattle.strm_mblk.specs.NodeLists.{NodeLists}
@@ -25,6 +26,9 @@ rooms-taken s d = let kept = rooms-set s d (record (data_block_at s d) { kind = 
 
 pub rooms-kind : (s : DataStore) (d : ℕ) (kind : MsgType) → HasRooms s (with_kind d kind s)
 rooms-kind s d kind = rooms-set s d (record (data_block_at s d) { kind = kind }) refl
+
+pub rooms-written : (s : DataStore) (d at : ℕ) (bytes : List ℕ) → at + length bytes ≤ capacity_of s d → HasRooms s (with_bytes_written d at bytes s)
+rooms-written s d at bytes within = rooms-set s d (record (data_block_at s d) { bytes = bytes_overwritten at bytes (data_block_at s d).bytes }) (length-overwritten at bytes _ within)
 
 -- so it is where a store changes twice
 pub rooms-both : {s t u : DataStore} → HasRooms s t → HasRooms t u → HasRooms s u

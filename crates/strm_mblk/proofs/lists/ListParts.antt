@@ -1,5 +1,5 @@
 -- Parts of a list, and a part put instead of another.
-use Rattle.std.proofs.Common.{◌≡◌, ℕ, zero, suc, ◌+◌, ◌-◌, ◌≤◌, List, [], ◌∷◌, ◌++◌, length, take, drop, Some, sym, ap, ◌∙◌, inl, inr, arith}
+use Rattle.std.proofs.Common.{◌≡◌, ℕ, zero, suc, ◌+◌, ◌-◌, ◌<◌, ◌≤◌, List, [], ◌∷◌, ◌++◌, length, set, take, drop, Some, refl, sym, ap, ◌∙◌, inl, inr, arith}
 use Rattle.std.specs.Prelude.{min, slice_get}
 use Rattle.std.proofs.lemmas.Bool.{cases_lt}
 use Rattle.std.proofs.lemmas.List.{append-nil, drop-drop, drop-take, drop_all, length-drop, take-take}
@@ -36,3 +36,19 @@ drop-append (suc n) (x ∷ xs) ys = drop-append n xs ys ∙ ap (λ k. drop n xs 
 -- a list whose part from a place on is another
 pub put_rest : {X : Type 0} (a : ℕ) (xs ys : List X) → put_mid a (length xs - a) xs ys ≡ take a xs ++ ys
 put_rest a xs ys = grind (arith, common_steps, drop_all, length-drop, append-nil)
+
+-- the first items of one list before the rest of another, and one item more
+pub filled_more : {X : Type 0} (ps xs : List X) (d : ℕ) (p : X) → slice_get ps d ≡ Some p → d < length xs → set (take d ps ++ drop d xs) d p ≡ take (d + 1) ps ++ drop (d + 1) xs
+filled_more [] xs d p is within = absurd (none-some p is)
+filled_more (q ∷ ps) [] d p is within = absurd (omega (arith, within))
+filled_more (q ∷ ps) (x ∷ xs) zero p is within = ap (λ y. y ∷ xs) (sym (same_Some q p is))
+filled_more (q ∷ ps) (x ∷ xs) (suc d) p is within =
+    let next : suc (d + 1) ≡ suc d + 1 = omega arith in
+    ap (λ ys. q ∷ ys) (filled_more ps xs d p is (omega (arith, within))) ∙ ap (λ n. take n (q ∷ ps) ++ drop n (x ∷ xs)) next
+
+-- an item behind the first n
+pub got_behind : {X : Type 0} (xs : List X) (n d : ℕ) → slice_get (drop n xs) d ≡ slice_get xs (n + d)
+got_behind [] zero d = refl
+got_behind [] (suc n) d = refl
+got_behind (x ∷ xs) zero d = let same : d ≡ 0 + d = omega arith in ap (slice_get (x ∷ xs)) same
+got_behind (x ∷ xs) (suc n) d = let next : suc (n + d) ≡ suc n + d = omega arith in got_behind xs n d ∙ ap (slice_get (x ∷ xs)) next

@@ -1,5 +1,5 @@
 -- Lists laid over the front of another, as far as there is room for them; and laid there piece by piece.
-use Rattle.std.proofs.Common.{◌≡◌, ℕ, ◌+◌, ◌-◌, ◌≤◌, List, [], ◌∷◌, ◌++◌, length, take, drop, sym, ap, ◌∙◌, arith, length-append, append_assoc}
+use Rattle.std.proofs.Common.{◌≡◌, ℕ, ◌+◌, ◌-◌, ◌≤◌, List, [], ◌∷◌, ◌++◌, length, take, drop, refl, sym, ap, ◌∙◌, arith, length-append, append_assoc}
 use Rattle.std.specs.Prelude.{min}
 use Rattle.std.proofs.Math.Nat.{min_comm}
 use Rattle.std.proofs.Math.Seq.{drop-append-add, drop-nil, take-append-add, take-nil}
@@ -34,6 +34,12 @@ pub record IsLaid {X : Type 0} (all rest old now : List X) (done : ℕ) : Type 0
   pub within : done ≤ length now
   pub list : take done now ++ overlaid rest (drop done now) ≡ overlaid all old
   pub count : done + min (length now - done) (length rest) ≡ min (length old) (length all)
+
+-- nothing is laid there at first
+pub laid_start : {X : Type 0} (all xs : List X) → IsLaid all all xs xs 0
+laid_start all xs =
+    let same : length xs - 0 ≡ length xs = omega arith in
+    record { within = omega arith; list = refl; count = omega (arith, ap (λ n. min n (length all)) same) }
 
 -- a piece of the rest is laid there
 pub laid_on : {X : Type 0} (all ps rest old now new : List X) (done n : ℕ) → IsLaid all (ps ++ rest) old now done → n ≡ min (length (drop done now)) (length ps) → new ≡ take n ps ++ drop n (drop done now)

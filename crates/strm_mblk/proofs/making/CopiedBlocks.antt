@@ -1,5 +1,5 @@
 -- Copies of blocks are made one after the other, each over a data block just taken.
-use Rattle.std.proofs.Common.{◌≡◌, ℕ, ◌+◌, ◌≤◌, true, eqb, List, [], ◌∷◌, ◌++◌, map, drop, take, get_or, set, length, Some, Ok, refl, sym, ap, ◌∙◌, arith, length-append}
+use Rattle.std.proofs.Common.{◌≡◌, ℕ, ◌+◌, ◌^◌, ◌<◌, ◌≤◌, true, eqb, List, [], ◌∷◌, ◌++◌, map, drop, take, get_or, set, length, Option, Some, Ok, refl, sym, ap, ◌∙◌, arith, length-append}
 use Rattle.std.specs.Prelude.{count_by, slice_get}
 use Rattle.std.specs.List.{All}
 use Rattle.std.specs.Result.{is_ok}
@@ -8,11 +8,11 @@ use Rattle.std.proofs.lemmas.List.{length-map, length-take-le, map-append}
 use Rattle.std.proofs.lemmas.List.Elements.{All-push}
 use Rattle.std.proofs.lemmas.Option.{slice_get_within}
 use Rattle.strm_data.specs.CountedStore.{CountedStore, IsUnused, count_of}
-use Rattle.strm_data.specs.DataStore.{capacity_of, take_data, times}
+use Rattle.strm_data.specs.DataStore.{DataStore, capacity_of, take_data, times}
 use Rattle.strm_links.proofs.lists.Counting.{one_if}
 use Rattle.strm_mblk.specs.declared.blocks.Fields.{Fields}
 use Rattle.strm_mblk.specs.Block.{Block, uses_data}
-use Rattle.strm_mblk.specs.BlockCalls.{store_with_copy, blocks_copied}
+use Rattle.strm_mblk.specs.BlockCalls.{blocks_copied, copied_from, store_with_copy}
 use Rattle.strm_mblk.specs.BlocksLayout.{IsPlaced, fields_at, fields_of, with_fields}
 use Rattle.strm_mblk.specs.Copying.{with_copy}
 use Rattle.strm_mblk.specs.Given.{answer_map}
@@ -35,9 +35,9 @@ with_fields_more (m ∷ ns) (y ∷ xs) fields n x same = with_fields_more ns xs 
 -- ---- the loop
 
 -- what the loop keeps while it copies: `made` are the copies of the blocks before i
-pub record IsCopying (bs : List Block) (ns : List ℕ) (i : ℕ) (old new : List Fields) (s t : CountedStore) : Type 0 where
+pub record IsCopying (o : Option DataStore) (bs : List Block) (ns : List ℕ) (i : ℕ) (old new : List Fields) (s t : CountedStore) : Type 0 where
   pub made : List Block
-  pub answer : blocks_copied bs s.store ≡ answer_map (in_front made) (blocks_copied (drop i bs) t.store)
+  pub answer : blocks_copied o bs s.store ≡ answer_map (in_front made) (blocks_copied o (drop i bs) t.store)
   pub fields : new ≡ with_fields (take i ns) (map fields_of made) old
   pub many : length made ≡ i
   pub named : (d : ℕ) → count_of t d ≡ count_of s d + count_by (uses_data d) made
@@ -45,41 +45,41 @@ pub record IsCopying (bs : List Block) (ns : List ℕ) (i : ℕ) (old new : List
   pub rooms : HasRooms s.store t.store
 
 -- nothing is copied yet
-pub none_copied : (bs : List Block) (ns : List ℕ) (fields : List Fields) (s : CountedStore) → IsCopying bs ns 0 fields fields s s
-none_copied bs ns fields s = grind (arith, common_steps, in_front_none)
+pub none_copied : (o : Option DataStore) (bs : List Block) (ns : List ℕ) (fields : List Fields) (s : CountedStore) → IsCopying o bs ns 0 fields fields s s
+none_copied o bs ns fields s = grind (arith, common_steps, in_front_none)
 
-module _ (bs : List Block) (ns : List ℕ) (i : ℕ) (old new : List Fields) (s t : CountedStore) (copying : IsCopying bs ns i old new s t) where
+module _ (o : Option DataStore) (bs : List Block) (ns : List ℕ) (i : ℕ) (old new : List Fields) (s t : CountedStore) (copying : IsCopying o bs ns i old new s t) where
   -- a number that is none of the copies' says what it said
   pub source_stays : (n : ℕ) → times n ns ≡ 0 → fields_at new n ≡ fields_at old n
   source_stays n none = grind (arith, common_steps, with_fields_other, times_part)
 
   module _ (b : Block) (next : drop i bs ≡ b ∷ drop (i + 1) bs) where
     -- the next data block can be taken
-    pub next_fits : is_ok (blocks_copied bs s.store) ≡ true → is_ok (take_data (capacity_of t.store b.data_number) t.store) ≡ true
-    next_fits = can_take bs i s.store t.store copying.made copying.answer b next
+    pub next_fits : is_ok (blocks_copied o bs s.store) ≡ true → is_ok (take_data (capacity_of (copied_from o t.store) b.data_number) t.store) ≡ true
+    next_fits = can_take o bs i s.store t.store copying.made copying.answer b next
 
     -- the next block is copied
-    module _ (d n : ℕ) (taken : take_data (capacity_of t.store b.data_number) t.store ≡ Ok d) (unused : IsUnused t d) (room : capacity_of t.store b.data_number ≤ capacity_of t.store d)
-        (was : IsPlaced t.store (fields_of b)) (at : slice_get ns i ≡ Some n) where
+    module _ (d n : ℕ) (taken : take_data (capacity_of (copied_from o t.store) b.data_number) t.store ≡ Ok d) (unused : IsUnused t d) (room : capacity_of (copied_from o t.store) b.data_number ≤ capacity_of t.store d)
+        (within : b.offset + b.len ≤ capacity_of (copied_from o t.store) b.data_number) (banded : b.band < 2 ^ 8) (at : slice_get ns i ≡ Some n) where
       abbrev copy : Block
       copy = record b { data_number = d }
 
-      rooms_more : HasRooms t.store (store_with_copy b t.store d)
-      rooms_more = rooms-copied b t.store d (omega (arith, room, was.within))
+      rooms_more : HasRooms t.store (store_with_copy o b t.store d)
+      rooms_more = rooms-copied o b t.store d (omega (arith, room, within))
 
       many_before : length (take i ns) ≡ length (map fields_of copying.made)
       many_before = omega (arith, length-take-le i ns (omega (arith, slice_get_within ns i n at)), length-map copying.made fields_of, copying.many)
 
-      named_more : (k : ℕ) → count_of (with_copy b t d) k ≡ count_of t k + one_if (eqb d k)
+      named_more : (k : ℕ) → count_of (with_copy o b t d) k ≡ count_of t k + one_if (eqb d k)
       named_more k = grind (arith, common_steps, count_of-set, eqb_tells)
 
-      placed_copy : IsPlaced (store_with_copy b t.store d) (fields_of copy)
-      placed_copy = record { there = omega (arith, unused.there, rooms_more.many); within = omega (arith, was.within, room, rooms_more.room d); banded = was.banded }
+      placed_copy : IsPlaced (store_with_copy o b t.store d) (fields_of copy)
+      placed_copy = record { there = omega (arith, unused.there, rooms_more.many); within = omega (arith, within, room, rooms_more.room d); banded = banded }
 
-      pub next_copied : IsCopying bs ns (i + 1) old (set new n (fields_of copy)) s (with_copy b t d)
+      pub next_copied : IsCopying o bs ns (i + 1) old (set new n (fields_of copy)) s (with_copy o b t d)
       next_copied = record {
         made = copying.made ++ copy ∷ [];
-        answer = answer_more bs i s.store t.store copying.made copying.answer b next d taken;
+        answer = answer_more o bs i s.store t.store copying.made copying.answer b next d taken;
         fields =
             ap (λ fs. set fs n (fields_of copy)) copying.fields
             ∙ sym (with_fields_more (take i ns) (map fields_of copying.made) old n (fields_of copy) many_before)
@@ -87,7 +87,7 @@ module _ (bs : List Block) (ns : List ℕ) (i : ℕ) (old new : List Fields) (s 
         many = omega (arith, length-append copying.made (copy ∷ []), copying.many);
         named = λ k. omega (arith, named_more k, copying.named k, (count_adds (uses_data k)).both copying.made (copy ∷ []), count_one (uses_data k) copy);
         placed =
-            All-push (λ x. IsPlaced (store_with_copy b t.store d) (fields_of x)) copying.made copy
-            (λ k e below. placed-over t.store (store_with_copy b t.store d) (fields_of (get_or copying.made k e)) rooms_more (copying.placed k e below)) placed_copy;
+            All-push (λ x. IsPlaced (store_with_copy o b t.store d) (fields_of x)) copying.made copy
+            (λ k e below. placed-over t.store (store_with_copy o b t.store d) (fields_of (get_or copying.made k e)) rooms_more (copying.placed k e below)) placed_copy;
         rooms = rooms-both copying.rooms rooms_more;
       }

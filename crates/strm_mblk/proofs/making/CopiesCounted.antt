@@ -1,30 +1,32 @@
 -- Copies of blocks, one after the other.
-use Rattle.std.proofs.Common.{◌≡◌, ℕ, zero, suc, ◌+◌, ◌-◌, ◌<◌, ◌≤◌, true, false, List, [], ◌∷◌, ◌++◌, drop, take, get_or, set, length, Some, Result, Ok, Err, refl, sym, ap, ◌∙◌, subst, inl, inr, arith, get_or-set_same, get_or-set_other}
-use Rattle.std.proofs.lemmas.Option.{slice_get-map}
+use Rattle.std.proofs.Common.{◌≡◌, ℕ, zero, suc, ◌+◌, ◌-◌, ◌<◌, ◌≤◌, true, false, List, [], ◌∷◌, ◌++◌, drop, take, get_or, set, length, Option, None, Some, Result, Ok, Err, refl, sym, ap, ◌∙◌, subst, inl, inr, arith, get_or-set_same, get_or-set_other}
+use Rattle.std.proofs.lemmas.Option.{none-some, same_Some, slice_get-get_or, slice_get-map, slice_get_within}
 use Rattle.std.specs.Result.{is_ok}
-use Rattle.std.proofs.lemmas.Bool.{cases_eq, cases_lt, le-leb}
-use Rattle.std.proofs.lemmas.List.{append_assoc, get_or_past, length-drop, length-take}
+use Rattle.std.proofs.lemmas.Bool.{cases_eq, cases_lt, le-leb, leb-true}
+use Rattle.std.proofs.lemmas.List.{append_assoc, get_or_default, get_or_past, length-drop, length-map, length-take}
 use Rattle.strm_data.specs.declared.class_spec.ClassSpec.{ClassSpec}
 use Rattle.strm_data.specs.declared.refusal.Refusal.{Refusal}
 use Rattle.strm_data.specs.declared.refusal.Refusal.TheVariants.{NoData}
 use Rattle.strm_data.specs.Classes.{fits_a_class}
-use Rattle.std.proofs.lemmas.List.Folds.{list_any_at}
+use Rattle.std.proofs.lemmas.List.Folds.{Any-from_list_any, list_any_at}
 use Rattle.strm_data.specs.CountedStore.{CountedStore, IsKept, IsUnused, after_take}
-use Rattle.strm_data.specs.DataStore.{DataStore, IsTakenFrom, capacity_of, class_of, class_spec_at, data_block_at, free_of, bytes_overwritten, take_data, with_data_taken, with_kind}
+use Rattle.strm_data.specs.DataStore.{DataStore, IsTakenFrom, capacity_of, class_of, class_spec_at, data_block_at, free_of, bytes_overwritten, no_class_spec, take_data, with_data_taken, with_kind}
 use Rattle.strm_data.proofs.store.Kept.{IsKept-altered, IsKept-take, first_unused}
 use Rattle.strm_data.proofs.store.Lawful.{lawful_rise, lawful_some}
 use Rattle.strm_data.proofs.lists.Tables.{length-overwritten}
 use Rattle.strm_mblk.specs.Block.{Block, bytes_of_block, kind_of}
-use Rattle.strm_mblk.specs.BlockCalls.{store_with_copy, blocks_copied}
+use Rattle.strm_mblk.specs.BlockCalls.{blocks_copied, copied_from, fits_classes, store_with_copy}
 use Rattle.strm_mblk.specs.declared.blocks.Fields.{Fields}
 use Rattle.strm_mblk.specs.BlocksLayout.{block_at, message_of}
 use Rattle.strm_mblk.proofs.lists.Numbers.{slice_get-take}
 use Rattle.strm_mblk.proofs.lists.ListParts.{drop_from}
 use Rattle.strm_mblk.proofs.making.ClassesLeft.{takes_left, takes_none}
 use Rattle.strm_mblk.proofs.layout.Rooms.{HasRooms, rooms-both, rooms-kind, rooms-set, rooms-taken}
-use Rattle.std.specs.Prelude.{◌⊎◌, option_map, slice_get}
+use Rattle.std.specs.Prelude.{◌⊎◌, ◌&&◌, min, nat_le, option_map, slice_get}
 use Rattle.strm_mblk.specs.Copying.{AreLeft, IsLeft, with_copy}
 use Rattle.strm_mblk.specs.Given.{and_then, answer_map}
+use Rattle.strm_mblk.specs.NodeLists.{IsNodesParted, NodeLists, nodes_at}
+use Rattle.strm_mblk.proofs.chaining.Standing.{block_room}
 use Rattle.std.proofs.lemmas.Grind.{common_steps}
 
 -- ---- answers
@@ -63,24 +65,43 @@ next_block fields ns count i n below is =
     drop_from (take count (message_of fields ns)) i (block_at fields n)
     (slice_get-take count i (message_of fields ns) below ∙ slice_get-map (block_at fields) ns i ∙ ap (option_map (block_at fields)) is)
 
+-- each of them is one that there is
+pub block_there : (fields : List Fields) (v : NodeLists) → IsNodesParted v → length fields ≡ length v.held → (h count k : ℕ) (b : Block) → slice_get (take count (message_of fields (nodes_at v h))) k ≡ Some b
+    → (n : ℕ) × (n < length fields) × (block_at fields n ≡ b)
+block_there fields v parted listed h count k b at =
+    let ns = nodes_at v h in
+    let bs = take count (message_of fields ns) in
+    let n = get_or ns k 0 in
+    let few : k < min count (length ns) = omega (arith, slice_get_within bs k b at, length-take count (message_of fields ns), length-map ns (block_at fields)) in
+    let at_n : slice_get ns k ≡ Some n = slice_get-get_or ns k 0 (omega (arith, few)) in (
+      n,
+      omega (arith, listed, node_room v parted h k n at_n),
+      same_Some _ _ (ap (option_map (block_at fields)) (sym at_n) ∙ sym (slice_get-map (block_at fields) ns k) ∙ sym (slice_get-take count k (message_of fields ns) (omega (arith, few))) ∙ at),
+    )
+  where
+    -- a block of a held message is one of those that there are
+    node_room : (v : NodeLists) → IsNodesParted v → (h k n : ℕ) → slice_get (nodes_at v h) k ≡ Some n → n < length v.held
+    node_room v parted h k n at = grind (arith, common_steps, none-some, block_room)
+
 -- the copies so far are `made`, in store t, and b is to be copied next
-module _ (bs : List Block) (i : ℕ) (s t : DataStore) (made : List Block) (answer : blocks_copied bs s ≡ answer_map (in_front made) (blocks_copied (drop i bs) t)) (b : Block) (next : drop i bs ≡ b ∷ drop (i + 1) bs) where
+module _ (o : Option DataStore) (bs : List Block) (i : ℕ) (s t : DataStore) (made : List Block) (answer : blocks_copied o bs s ≡ answer_map (in_front made) (blocks_copied o (drop i bs) t)) (b : Block)
+    (next : drop i bs ≡ b ∷ drop (i + 1) bs) where
   -- the copies from its data block on
   abbrev goes_on : ℕ → Result Made Refusal
-  goes_on d = answer_map (in_front (record b { data_number = d } ∷ [])) (blocks_copied (drop (i + 1) bs) (store_with_copy b t d))
+  goes_on d = answer_map (in_front (record b { data_number = d } ∷ [])) (blocks_copied o (drop (i + 1) bs) (store_with_copy o b t d))
 
-  next_answer : blocks_copied bs s ≡ answer_map (in_front made) (and_then goes_on (take_data (capacity_of t b.data_number) t))
-  next_answer = answer ∙ ap (λ xs. answer_map (in_front made) (blocks_copied xs t)) next
+  next_answer : blocks_copied o bs s ≡ answer_map (in_front made) (and_then goes_on (take_data (capacity_of (copied_from o t) b.data_number) t))
+  next_answer = answer ∙ ap (λ xs. answer_map (in_front made) (blocks_copied o xs t)) next
 
-  pub answer_refused : {why : Refusal} → take_data (capacity_of t b.data_number) t ≡ Err why → blocks_copied bs s ≡ Err why
+  pub answer_refused : {why : Refusal} → take_data (capacity_of (copied_from o t) b.data_number) t ≡ Err why → blocks_copied o bs s ≡ Err why
   answer_refused none = next_answer ∙ ap (λ r. answer_map (in_front made) (and_then goes_on r)) none
 
-  pub answer_more : (d : ℕ) → take_data (capacity_of t b.data_number) t ≡ Ok d
-      → blocks_copied bs s ≡ answer_map (in_front (made ++ record b { data_number = d } ∷ [])) (blocks_copied (drop (i + 1) bs) (store_with_copy b t d))
+  pub answer_more : (d : ℕ) → take_data (capacity_of (copied_from o t) b.data_number) t ≡ Ok d
+      → blocks_copied o bs s ≡ answer_map (in_front (made ++ record b { data_number = d } ∷ [])) (blocks_copied o (drop (i + 1) bs) (store_with_copy o b t d))
   answer_more d taken = grind (arith, common_steps, next_answer, in_front_more)
 
   -- a data block can be taken where all can
-  pub can_take : is_ok (blocks_copied bs s) ≡ true → is_ok (take_data (capacity_of t b.data_number) t) ≡ true
+  pub can_take : is_ok (blocks_copied o bs s) ≡ true → is_ok (take_data (capacity_of (copied_from o t) b.data_number) t) ≡ true
   can_take all = grind (arith, common_steps, is_ok-refused, is_ok-map, next_answer)
 
 -- ---- one copy
@@ -93,47 +114,62 @@ IsInside s b = (b.data_number < length s.blocks) × (b.offset + b.len ≤ capaci
 bytes_few : (s : DataStore) (b : Block) → length (bytes_of_block s b) ≤ b.len
 bytes_few s b = omega (arith, length-take b.len (drop b.offset (data_block_at s b.data_number).bytes))
 
-module _ (b : Block) (s : DataStore) (d : ℕ) (room : b.offset + b.len ≤ capacity_of s d) where
+-- data blocks that are copied keep their capacity while those of the copies are taken
+pub copied_room : (o : Option DataStore) (s t : DataStore) → HasRooms s t → (d : ℕ) → capacity_of (copied_from o t) d ≡ capacity_of (copied_from o s) d
+copied_room None s t rooms d = rooms.room d
+copied_room (Some other) s t rooms d = refl
+
+-- and stay as many
+copied_many : (o : Option DataStore) (s t : DataStore) → HasRooms s t → length (copied_from o t).blocks ≡ length (copied_from o s).blocks
+copied_many None s t rooms = rooms.many
+copied_many (Some other) s t rooms = refl
+
+module _ (o : Option DataStore) (b : Block) (s : DataStore) (d : ℕ) (room : b.offset + b.len ≤ capacity_of s d) where
+  -- the bytes that are copied
+  abbrev bytes : List ℕ
+  bytes = bytes_of_block (copied_from o s) b
+
   abbrev typed : DataStore
-  typed = with_kind d (kind_of s b) (with_data_taken d s)
+  typed = with_kind d (kind_of (copied_from o s) b) (with_data_taken d s)
 
   rooms_typed : HasRooms s typed
-  rooms_typed = rooms-both (rooms-taken s d) (rooms-kind (with_data_taken d s) d (kind_of s b))
+  rooms_typed = rooms-both (rooms-taken s d) (rooms-kind (with_data_taken d s) d (kind_of (copied_from o s) b))
 
-  as_long : length (bytes_overwritten b.offset (bytes_of_block s b) (data_block_at typed d).bytes) ≡ capacity_of typed d
-  as_long = length-overwritten b.offset (bytes_of_block s b) (data_block_at typed d).bytes (omega (arith, bytes_few s b, room, rooms_typed.room d))
+  as_long : length (bytes_overwritten b.offset bytes (data_block_at typed d).bytes) ≡ capacity_of typed d
+  as_long = length-overwritten b.offset bytes (data_block_at typed d).bytes (omega (arith, bytes_few (copied_from o s) b, room, rooms_typed.room d))
 
   -- data blocks keep their capacity when a copy is made
-  pub rooms-copied : HasRooms s (store_with_copy b s d)
-  rooms-copied = rooms-both rooms_typed (rooms-set typed d (record (data_block_at typed d) { bytes = bytes_overwritten b.offset (bytes_of_block s b) (data_block_at typed d).bytes }) as_long)
+  pub rooms-copied : HasRooms s (store_with_copy o b s d)
+  rooms-copied = rooms-both rooms_typed (rooms-set typed d (record (data_block_at typed d) { bytes = bytes_overwritten b.offset bytes (data_block_at typed d).bytes }) as_long)
 
 -- what a copy leaves of which the data block is the first free one of class c
-pub record HasCopy (b : Block) (s : CountedStore) (d c : ℕ) : Type 0 where
-  pub taken : take_data (capacity_of s.store b.data_number) s.store ≡ Ok d
+pub record HasCopy (o : Option DataStore) (b : Block) (s : CountedStore) (d c : ℕ) : Type 0 where
+  pub taken : take_data (capacity_of (copied_from o s.store) b.data_number) s.store ≡ Ok d
   pub class : class_of s.store d ≡ c
   pub unused : IsUnused s d
-  pub rooms : HasRooms s.store (store_with_copy b s.store d)
-  pub kept : IsKept (with_copy b s d)
+  pub rooms : HasRooms s.store (store_with_copy o b s.store d)
+  pub kept : IsKept (with_copy o b s d)
 
-pub has_copy : (b : Block) (s : CountedStore) (c : ℕ) → IsKept s → b.offset + b.len ≤ capacity_of s.store b.data_number → IsTakenFrom (capacity_of s.store b.data_number) s.store c
-    → HasCopy b s (get_or (free_of s.store c) 0 0) c
-has_copy b s c kept within from =
+pub has_copy : (o : Option DataStore) (b : Block) (s : CountedStore) (c : ℕ) → IsKept s → b.offset + b.len ≤ capacity_of (copied_from o s.store) b.data_number → IsTakenFrom (capacity_of (copied_from o s.store) b.data_number) s.store c
+    → HasCopy o b s (get_or (free_of s.store c) 0 0) c
+has_copy o b s c kept within from =
     let d = get_or (free_of s.store c) 0 0 in
+    let size = capacity_of (copied_from o s.store) b.data_number in
     let first = first_unused s kept c from.some in
     let room : b.offset + b.len ≤ capacity_of s.store d =
     omega (arith, within, from.wide, kept.sized d first.1.there, ap (λ k. (class_spec_at s.store k).size) first.0) in
     let taken : CountedStore = after_take s (Ok d) in
-    let kept_taken : IsKept taken = subst (λ r. IsKept (after_take s r)) from.front (IsKept-take (capacity_of s.store b.data_number) s c from kept) in
-    let kept_typed = IsKept-altered taken d (record (data_block_at taken.store d) { kind = kind_of s.store b }) refl refl kept_taken in
+    let kept_taken : IsKept taken = subst (λ r. IsKept (after_take s r)) from.front (IsKept-take size s c from kept) in
+    let kept_typed = IsKept-altered taken d (record (data_block_at taken.store d) { kind = kind_of (copied_from o s.store) b }) refl refl kept_taken in
+    let now = typed o b s.store d room in
     record {
       taken = from.front;
       class = first.0;
       unused = first.1;
-      rooms = rooms-copied b s.store d room;
+      rooms = rooms-copied o b s.store d room;
       kept =
-          IsKept-altered (record taken { store = typed b s.store d room }) d
-          (record (data_block_at (typed b s.store d room) d) { bytes = bytes_overwritten b.offset (bytes_of_block s.store b) (data_block_at (typed b s.store d room) d).bytes })
-          refl (as_long b s.store d room) kept_typed;
+          IsKept-altered (record taken { store = now }) d (record (data_block_at now d) { bytes = bytes_overwritten b.offset (bytes o b s.store d room) (data_block_at now d).bytes })
+          refl (as_long o b s.store d room) kept_typed;
     }
 
 -- ---- whether the data blocks suffice
@@ -142,21 +178,27 @@ has_copy b s c kept within from =
 fits_own : (s : CountedStore) → IsKept s → (d : ℕ) → d < length s.store.blocks → fits_a_class (capacity_of s.store d) s.store.classes ≡ true
 fits_own s kept d there = grind (arith, common_steps, list_any_at, le-leb)
 
+-- so a class fits each block of a message in the same store
+pub fits_each : (s : CountedStore) → IsKept s → (bs : List Block) → ((k : ℕ) (b : Block) → slice_get bs k ≡ Some b → b.data_number < length s.store.blocks) → fits_classes s.store bs s.store ≡ true
+fits_each s kept [] there = refl
+fits_each s kept (b ∷ bs) there = λ i. fits_own s kept b.data_number (there 0 b refl) i && fits_each s kept bs (λ k x at. there (suc k) x at) i
+
 -- what would be left after copies of the blocks before i, which are `made`
-pub record IsAhead (bs : List Block) (i : ℕ) (s t : CountedStore) (left : List ℕ) : Type 0 where
+pub record IsAhead (o : Option DataStore) (bs : List Block) (i : ℕ) (s t : CountedStore) (left : List ℕ) : Type 0 where
   pub kept : IsKept t
   pub rooms : HasRooms s.store t.store
   pub classes : t.store.classes ≡ s.store.classes
   pub are : AreLeft left t.store
   pub made : List Block
-  pub answer : blocks_copied bs s.store ≡ answer_map (in_front made) (blocks_copied (drop i bs) t.store)
+  pub answer : blocks_copied o bs s.store ≡ answer_map (in_front made) (blocks_copied o (drop i bs) t.store)
 
 -- one of a class was taken
-left_less : (b : Block) (s : CountedStore) (d c : ℕ) (left : List ℕ) → IsKept s → HasCopy b s d c → AreLeft left s.store → 0 < get_or left c 0 → AreLeft (set left c (get_or left c 0 - 1)) (store_with_copy b s.store d)
-left_less b s d c left kept copy are some k =
+left_less : (o : Option DataStore) (b : Block) (s : CountedStore) (d c : ℕ) (left : List ℕ) → IsKept s → HasCopy o b s d c → AreLeft left s.store → 0 < get_or left c 0
+    → AreLeft (set left c (get_or left c 0 - 1)) (store_with_copy o b s.store d)
+left_less o b s d c left kept copy are some k =
     let counted : c < length left = elim (cases_lt c (length left)) [ inl inside ↦ inside | inr past ↦ absurd (omega (arith, some, get_or_past left c 0 past)) ] in
     let listed : c < length s.store.free = omega (arith, copy.unused.classed, copy.class, kept.lists) in
-    let lists : (store_with_copy b s.store d).free ≡ set s.store.free c (drop 1 (free_of s.store c)) = ap (λ j. set s.store.free j (drop 1 (free_of s.store j))) copy.class in
+    let lists : (store_with_copy o b s.store d).free ≡ set s.store.free c (drop 1 (free_of s.store c)) = ap (λ j. set s.store.free j (drop 1 (free_of s.store j))) copy.class in
     elim (cases_eq k c) [
       | inl same ↦
           rw same (get_or-set_same left c (get_or left c 0 - 1) 0 counted ∙ ap (λ n. n - 1) (are c) ∙ sym (length-drop 1 (free_of s.store c))
@@ -166,35 +208,42 @@ left_less b s d c left kept copy are some k =
           ∙ sym (ap (λ (fs : List (List ℕ)). length (get_or fs k [])) lists ∙ ap length (get_or-set_other s.store.free c k (drop 1 (free_of s.store c)) [] other))
     ]
 
-module _ (bs : List Block) (i : ℕ) (s t : CountedStore) (left : List ℕ) (ahead : IsAhead bs i s t left) (b : Block) (next : drop i bs ≡ b ∷ drop (i + 1) bs) (inside : IsInside s.store b) where
-  -- a class serves for the store as it would be where it does for the store as it is
-  as_wide : ◌≡◌ {A = ℕ × List ClassSpec} (capacity_of t.store b.data_number, t.store.classes) (capacity_of s.store b.data_number, s.store.classes)
-  as_wide = λ i. (ahead.rooms.room b.data_number i, ahead.classes i)
+module _ (o : Option DataStore) (bs : List Block) (i : ℕ) (s t : CountedStore) (left : List ℕ) (ahead : IsAhead o bs i s t left) (b : Block) (next : drop i bs ≡ b ∷ drop (i + 1) bs)
+    (inside : IsInside (copied_from o s.store) b) (wide : fits_a_class (capacity_of (copied_from o s.store) b.data_number) s.store.classes ≡ true) where
+  -- the capacity to look up
+  abbrev asked : ℕ
+  asked = capacity_of (copied_from o s.store) b.data_number
 
-  served : (k : ℕ) → IsLeft (capacity_of t.store b.data_number) t.store.classes left k → IsLeft (capacity_of s.store b.data_number) s.store.classes left k
+  -- a class serves for the store as it would be where it does for the store as it is
+  as_wide : ◌≡◌ {A = ℕ × List ClassSpec} (capacity_of (copied_from o t.store) b.data_number, t.store.classes) (asked, s.store.classes)
+  as_wide = λ i. (copied_room o s.store t.store ahead.rooms b.data_number i, ahead.classes i)
+
+  served : (k : ℕ) → IsLeft (capacity_of (copied_from o t.store) b.data_number) t.store.classes left k → IsLeft asked s.store.classes left k
   served k = subst (λ (p : ℕ × List ClassSpec). IsLeft p.0 p.1 left k) as_wide
 
   -- none is left for the next block
-  pub none_ahead : ((k : ℕ) → IsLeft (capacity_of s.store b.data_number) s.store.classes left k → ⊥) → blocks_copied bs s.store ≡ Err NoData
+  pub none_ahead : ((k : ℕ) → IsLeft asked s.store.classes left k → ⊥) → blocks_copied o bs s.store ≡ Err NoData
   none_ahead none =
-      answer_refused bs i s.store t.store ahead.made ahead.answer b next
-      (takes_none (capacity_of t.store b.data_number) t.store ahead.kept.lists left ahead.are (fits_own t ahead.kept b.data_number (omega (arith, inside.0, ahead.rooms.many))) (λ k is. none k (served k is)))
+      answer_refused o bs i s.store t.store ahead.made ahead.answer b next
+      (takes_none (capacity_of (copied_from o t.store) b.data_number) t.store ahead.kept.lists left ahead.are (subst (λ (p : ℕ × List ClassSpec). fits_a_class p.0 p.1 ≡ true) (sym as_wide) wide)
+      (λ k is. none k (served k is)))
 
   -- the first class that serves loses one
-  pub next_ahead : (c : ℕ) → IsLeft (capacity_of s.store b.data_number) s.store.classes left c → ((k : ℕ) → k < c → IsLeft (capacity_of s.store b.data_number) s.store.classes left k → ⊥)
-      → (u : CountedStore) × IsAhead bs (i + 1) s u (set left c (get_or left c 0 - 1))
+  pub next_ahead : (c : ℕ) → IsLeft asked s.store.classes left c → ((k : ℕ) → k < c → IsLeft asked s.store.classes left k → ⊥)
+      → (u : CountedStore) × IsAhead o bs (i + 1) s u (set left c (get_or left c 0 - 1))
   next_ahead c is first =
-      let from = takes_left (capacity_of t.store b.data_number) t.store ahead.kept.lists left ahead.are c (subst (λ (p : ℕ × List ClassSpec). IsLeft p.0 p.1 left c) (sym as_wide) is) (λ k below other. first k below (served k other)) in
+      let from =
+      takes_left (capacity_of (copied_from o t.store) b.data_number) t.store ahead.kept.lists left ahead.are c (subst (λ (p : ℕ × List ClassSpec). IsLeft p.0 p.1 left c) (sym as_wide) is) (λ k below other. first k below (served k other)) in
       let d = get_or (free_of t.store c) 0 0 in
-      let copy = has_copy b t c ahead.kept (omega (arith, inside.1, ahead.rooms.room b.data_number)) from in (
-        with_copy b t d,
+      let copy = has_copy o b t c ahead.kept (omega (arith, inside.1, copied_room o s.store t.store ahead.rooms b.data_number)) from in (
+        with_copy o b t d,
         record {
           kept = copy.kept;
           rooms = rooms-both ahead.rooms copy.rooms;
           classes = ahead.classes;
-          are = left_less b t d c left ahead.kept copy ahead.are is.some;
+          are = left_less o b t d c left ahead.kept copy ahead.are is.some;
           made = ahead.made ++ record b { data_number = d } ∷ [];
-          answer = answer_more bs i s.store t.store ahead.made ahead.answer b next d copy.taken;
+          answer = answer_more o bs i s.store t.store ahead.made ahead.answer b next d copy.taken;
         },
       )
 
@@ -226,31 +275,44 @@ module _ (size : ℕ) (classes : List ClassSpec) (left : List ℕ) where
 still_left : (left : List ℕ) (last c n : ℕ) → suc n ≤ get_or left last 0 → n ≤ get_or (set left c (get_or left c 0 - 1)) last 0
 still_left left last c n many = grind (arith, common_steps, get_or_past, get_or-set_same, get_or-set_other)
 
+-- a size that fits a class fits the largest
+fits_largest : (size : ℕ) (s : CountedStore) → IsKept s → fits_a_class size s.store.classes ≡ true → size ≤ (class_spec_at s.store (length s.store.classes - 1)).size
+fits_largest size s kept fits =
+    let classes = s.store.classes in
+    let any = Any-from_list_any (λ (c : ClassSpec). nat_le size c.size) classes fits in
+    omega (
+      arith,
+      leb-true size any.1.size any.4,
+      ap (λ (c : ClassSpec). c.size) (sym any.3 ∙ get_or_default classes any.0 any.1 no_class_spec any.2),
+      lawful_rise classes kept.lawful any.0 (length classes - 1) (omega (arith, any.2)) (omega (arith, lawful_some classes kept.lawful)),
+    )
+
 -- all can be made where the largest class has as many data blocks left
-pub enough_left : (bs : List Block) (s : CountedStore) (left : List ℕ) → IsKept s → AreLeft left s.store → ((k : ℕ) (b : Block) → slice_get bs k ≡ Some b → IsInside s.store b)
-    → length bs ≤ get_or left (length s.store.classes - 1) 0 → is_ok (blocks_copied bs s.store) ≡ true
-enough_left [] s left kept are inside many = refl
-enough_left (b ∷ bs) s left kept are inside many =
+pub enough_left : (o : Option DataStore) (bs : List Block) (s : CountedStore) (left : List ℕ) → IsKept s → AreLeft left s.store
+    → ((k : ℕ) (b : Block) → slice_get bs k ≡ Some b → IsInside (copied_from o s.store) b × (fits_a_class (capacity_of (copied_from o s.store) b.data_number) s.store.classes ≡ true))
+    → length bs ≤ get_or left (length s.store.classes - 1) 0 → is_ok (blocks_copied o bs s.store) ≡ true
+enough_left o [] s left kept are inside many = refl
+enough_left o (b ∷ bs) s left kept are inside many =
     let classes = s.store.classes in
     let last = length classes - 1 in
-    let size = capacity_of s.store b.data_number in
+    let size = capacity_of (copied_from o s.store) b.data_number in
     let here = inside 0 b refl in
     let widest : IsLeft size classes left last = record {
       there = omega (arith, lawful_some classes kept.lawful);
-      wide =
-          omega (
-            arith,
-            kept.sized b.data_number here.0,
-            lawful_rise classes kept.lawful (class_of s.store b.data_number) last (omega (arith, kept.classed b.data_number here.0)) (omega (arith, lawful_some classes kept.lawful)),
-          );
+      wide = fits_largest size s kept here.1;
       some = omega (arith, many);
     } in
     let found = first_from size classes left last 0 last (omega arith) widest (λ k below. absurd (omega (arith, below))) in
     let c = found.0 in
     let d = get_or (free_of s.store c) 0 0 in
-    let copy = has_copy b s c kept here.1 (takes_left size s.store kept.lists left are c found.1.is found.1.first) in
-    ap (λ r. is_ok (and_then (λ e. answer_map (in_front (record b { data_number = e } ∷ [])) (blocks_copied bs (store_with_copy b s.store e))) r)) copy.taken
-    ∙ is_ok-map (in_front (record b { data_number = d } ∷ [])) (blocks_copied bs (store_with_copy b s.store d))
-    ∙ enough_left bs (with_copy b s d) (set left c (get_or left c 0 - 1)) copy.kept (left_less b s d c left kept copy are found.1.is.some)
-    (λ k x at. let was = inside (suc k) x at in (omega (arith, was.0, copy.rooms.many), omega (arith, was.1, copy.rooms.room x.data_number)))
+    let copy = has_copy o b s c kept here.0.1 (takes_left size s.store kept.lists left are c found.1.is found.1.first) in
+    ap (λ r. is_ok (and_then (λ e. answer_map (in_front (record b { data_number = e } ∷ [])) (blocks_copied o bs (store_with_copy o b s.store e))) r)) copy.taken
+    ∙ is_ok-map (in_front (record b { data_number = d } ∷ [])) (blocks_copied o bs (store_with_copy o b s.store d))
+    ∙ enough_left o bs (with_copy o b s d) (set left c (get_or left c 0 - 1)) copy.kept (left_less o b s d c left kept copy are found.1.is.some)
+    (λ k x at.
+    let was = inside (suc k) x at in
+    let room = copied_room o s.store (store_with_copy o b s.store d) copy.rooms x.data_number in (
+      (omega (arith, was.0.0, copied_many o s.store (store_with_copy o b s.store d) copy.rooms), omega (arith, was.0.1, room)),
+      ap (λ n. fits_a_class n classes) room ∙ was.1,
+    ))
     (still_left left last c (length bs) (omega (arith, many)))

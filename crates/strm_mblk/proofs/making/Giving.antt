@@ -77,7 +77,7 @@ given_back (d ∷ ds) s used = grind (arith, common_steps, (given_back ds s (res
 
 -- ---- too many
 
--- one of them would have more than most_data_block_names
+-- one of them would have more than most_references
 pub exceeds : (ds : List ℕ) (s : CountedStore) (i d : ℕ) → slice_get ds i ≡ Some d → most_references < count_of s d + times d ds → exceeds_counts ds s ≡ true
 exceeds ds s i d is many =
     list_any_at (λ k. nat_lt most_references (count_of s k + times k ds)) ds i d (slice_get_within ds i d is)

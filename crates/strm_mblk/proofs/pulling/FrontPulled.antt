@@ -25,11 +25,10 @@ use Rattle.strm_mblk.proofs.freeing.Freemsg.{enough}
 use Rattle.strm_mblk.proofs.arena.Moves.{held_within}
 use Rattle.strm_mblk.proofs.chaining.Standing.{begins_with}
 use Rattle.strm_mblk.proofs.layout.Rewriting.{written_shows}
-use Rattle.strm_mblk.proofs.layout.Rooms.{HasRooms, count_of-set, placed-set, rooms-both, rooms-kind, rooms-taken}
+use Rattle.strm_mblk.proofs.layout.Rooms.{HasRooms, count_of-set, placed-set, rooms-both, rooms-kind, rooms-taken, rooms-written}
 use Rattle.strm_mblk.proofs.layout.Places.{IsHeldHead}
 use Rattle.strm_mblk.proofs.layout.Shown.{held_at-seen, message_at-seen}
 use Rattle.strm_mblk.proofs.layout.Unaltered.{bytes-message, bytes-typed}
-use Rattle.strm_mblk.proofs.altering.Writing.{rooms-written}
 use Rattle.std.proofs.lemmas.Grind.{common_steps}
 
 -- a data block that is taken, gets a type, and then the first bytes of some blocks, keeps its capacity

@@ -1,8 +1,9 @@
 -- The bytes of a held message, block by block.
-use Rattle.std.proofs.Common.{◌≡◌, ℕ, suc, ◌+◌, ◌-◌, ◌≤◌, List, [], ◌∷◌, ◌++◌, length, take, drop, true, Some, None, refl, sym, ap, ◌∙◌, arith, length-append}
+use Rattle.std.proofs.Common.{◌≡◌, ℕ, suc, ◌+◌, ◌-◌, ◌<◌, ◌≤◌, List, [], ◌∷◌, ◌++◌, length, take, drop, true, Some, None, refl, sym, ap, ◌∙◌, inl, inr, arith, length-append}
 use Rattle.std.specs.Prelude.{min, slice_get}
 use Rattle.std.proofs.Math.Seq.{drop-nil}
-use Rattle.std.proofs.lemmas.List.{drop_all, length-drop}
+use Rattle.std.proofs.lemmas.List.{drop_all, get_or_past, length-drop}
+use Rattle.std.proofs.lemmas.Bool.{cases_lt}
 use Rattle.std.proofs.lemmas.List.Sums.{sum_by-append}
 use Rattle.std.proofs.lemmas.Option.{none-some, same_Some}
 use Rattle.strm_data.proofs.lists.Tables.{length-part}
@@ -12,7 +13,7 @@ use Rattle.strm_mblk.specs.declared.blocks.Fields.{Fields}
 use Rattle.strm_mblk.specs.declared.token.TokenValue.{TokenValue}
 use Rattle.strm_mblk.specs.Arena.{Arena, has, message_at}
 use Rattle.strm_mblk.specs.Block.{Block, Message, bytes_of, bytes_of_block, size_of}
-use Rattle.strm_mblk.specs.BlocksLayout.{IsFilled, IsPlaced, arena_of, block_at, block_of, fields_at}
+use Rattle.strm_mblk.specs.BlocksLayout.{IsFilled, IsPlaced, arena_of, block_at, block_of, fields_at, message_of, no_fields}
 use Rattle.strm_mblk.specs.NodeLists.{NodeLists, nodes_at}
 use Rattle.strm_mblk.proofs.lists.ListParts.{drop-append, drop_from}
 use Rattle.strm_mblk.proofs.lists.Overlaid.{IsLaid, laid_all}
@@ -51,6 +52,30 @@ pub record IsRead (s : DataStore) (m : Message) (at : ℕ) (old now : List ℕ) 
   pub count : done ≡ min (length old) (size_of m - at)
   pub bytes : now ≡ take done (drop at (bytes_of s m)) ++ drop done old
 
+-- blocks with places inside their data blocks have as many bytes as they say
+pub sized : (s : DataStore) (fields : List Fields) → ((n : ℕ) → n < length fields → IsPlaced s (fields_at fields n)) → (ns : List ℕ) → length (bytes_of s (message_of fields ns)) ≡ size_of (message_of fields ns)
+sized s fields placed [] = refl
+sized s fields placed (n ∷ ns) =
+    omega (
+      arith,
+      length-append (bytes_of_block s (block_at fields n)) (bytes_of s (message_of fields ns)),
+      sum_by-append (λ (c : Block). c.len) (block_at fields n ∷ []) (message_of fields ns),
+      here,
+      sized s fields placed ns,
+    )
+  where
+    here : length (bytes_of_block s (block_at fields n)) ≡ (fields_at fields n).len
+    here =
+        elim (cases_lt n (length fields)) [
+          | inl within ↦ length-bytes_of_block s n (fields_at fields n) (placed n within)
+          | inr past ↦ let none = get_or_past fields n no_fields past in ap (λ (f : Fields). length (bytes_of_block s (block_of n f))) none ∙ sym (ap (λ (f : Fields). f.len) none)
+        ]
+
+-- once the bytes of a message from a place on are laid there block by block, they are read
+pub read_all : (s : DataStore) (m : Message) → length (bytes_of s m) ≡ size_of m → (at skip k done : ℕ) (old now : List ℕ) → drop k m ≡ [] → IsLaid (drop at (bytes_of s m)) (drop skip (bytes_of s (drop k m))) old now done
+    → IsRead s m at old now done
+read_all s m many at skip k done old now none laid = grind (arith, common_steps, laid_all, drop-nil, length-drop)
+
 module _ (id : ℕ) (s : CountedStore) (fields : List Fields) (v : NodeLists) (filled : IsFilled s fields v (arena_of id s.store fields v)) (a : Arena) (is : arena_of id s.store fields v ≡ a) (t : TokenValue) (had : has a t ≡ true) where
   -- each block of a held message has as many bytes as it says
   bytes_each : (k : ℕ) (b : Block) → slice_get (message_at a t.head) k ≡ Some b → length (bytes_of_block a.store b) ≡ b.len
@@ -73,9 +98,3 @@ module _ (id : ℕ) (s : CountedStore) (fields : List Fields) (v : NodeLists) (f
   -- a list of that length has nothing more
   pub past_last : (k : ℕ) → t.blocks ≤ k → drop k (message_at a t.head) ≡ []
   past_last k past = grind (arith, common_steps, had_message, drop_all)
-
-  -- once its bytes from a place on are laid there block by block, they are read
-  pub all_read : (at skip k done : ℕ) (old now : List ℕ) → drop k (message_at a t.head) ≡ []
-      → IsLaid (drop at (bytes_of a.store (message_at a t.head))) (drop skip (bytes_of a.store (drop k (message_at a t.head)))) old now done
-      → IsRead a.store (message_at a t.head) at old now done
-  all_read at skip k done old now none laid = grind (arith, common_steps, laid_all, drop-nil, length-drop, length-message)

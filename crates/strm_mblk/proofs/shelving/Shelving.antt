@@ -8,6 +8,7 @@ use Rattle.std.specs.List.{All, flat_map}
 use Rattle.std.proofs.lemmas.Bool.{cases_eq, cond-true, cond-false, eq-eqb, ne_eqb, false≢true}
 use Rattle.std.proofs.lemmas.List.{length-map, map-append, map-set}
 use Rattle.strm_links.specs.Rows.{has}
+use Rattle.strm_mblk.proofs.chaining.Readings.{position_same}
 use Rattle.strm_links.proofs.lists.OneList.{has_cases, has_head, has_tail}
 use Rattle.strm_data.specs.CountedStore.{CountedStore}
 use Rattle.strm_data.specs.DataStore.{DataStore}
@@ -16,7 +17,7 @@ use Rattle.strm_mblk.specs.Arena.{Arena, held_at, message_at, shelf_at, shelved_
 use Rattle.strm_mblk.specs.Block.{Block, Message, head_of}
 use Rattle.strm_mblk.specs.BlocksLayout.{IsFilled, IsPlaced, arena_of, block_at, fields_at, message_of}
 use Rattle.strm_mblk.specs.Messages.{blocks_of, put_before_head, shelf_in, with_head, without_head}
-use Rattle.strm_mblk.specs.NodeLists.{IsNodesParted, NodeLists, head_node, heads_on, nodes_at, shelved_nodes}
+use Rattle.strm_mblk.specs.NodeLists.{IsNodesParted, NodeLists, head_node, heads_on, nodes_at, shelf_with, shelved_nodes}
 use Rattle.strm_mblk.specs.Shelves.{head_block, heads_at, shelf_of, shelve, shelved_message, unshelve}
 use Rattle.strm_mblk.proofs.lists.Additive.{IsAdditive, count_adds, flat_map-set_adds, length_adds}
 use Rattle.strm_mblk.proofs.arena.Counts.{blocks_in_adds}
@@ -68,6 +69,11 @@ module _ (fields : List Fields) where
 -- the heads on a shelf
 pub heads_at-seen : (id : ℕ) (s : DataStore) (fields : List Fields) (v : NodeLists) (q : ℕ) → heads_at (arena_of id s fields v) q ≡ heads_on v q
 heads_at-seen id s fields v q = ap (map head_of) (shelf_at-seen id s fields v q) ∙ heads-seen fields (shelf_in v.shelves q)
+
+-- whether some shelf has a head
+pub shelf_of-seen : (id : ℕ) (s : DataStore) (fields : List Fields) (v : NodeLists) (h : ℕ) → shelf_of (arena_of id s fields v) h ≡ shelf_with v h
+shelf_of-seen id s fields v h =
+    position_same (λ ms. has h (map head_of ms)) (λ ns. has h (map head_node ns)) (map (message_of fields)) [] v.shelves (λ k within. ap (has h) (heads-seen fields (get_or v.shelves k [])))
 
 -- ---- the blocks of a shelf's messages
 

@@ -5,7 +5,8 @@ ghost use Rattle.strm_mblk.specs.BlockCalls as model;
 ghost use Rattle.strm_mblk.specs.Calls.{Alters, itself};
 ghost use Rattle.strm_mblk.specs.Given.{given_nothing};
 
-use super::{Blocks, node_at};
+use super::finding::Found;
+use super::{Blocks, Fields};
 use crate::token::Token;
 use strm_data::{MsgType, Refusal};
 
@@ -15,57 +16,51 @@ impl Blocks {
     ///
     /// Refused as `NoSuchBlock` if the message has no such block, then as `Shared` if another message block refers to its
     /// data block, then as `NoRoom` if the bytes do not fit. On an error nothing changes. Takes at most `place` steps
-    /// and a copy of the bytes. In STREAMS modules do this by hand (`b_wptr`).
+    /// and a copy of the bytes. In STREAMS, modules do this by hand (`b_wptr`).
     pub fn write(&mut self, token: &Token, place: u32, bytes: &[u8]) -> Result<(), Refusal>
         requires { IsTrue (has self.old token.now) }
         ensures { Alters itself token.now token.now (model.write token.now.head place bytes.now self.old)
             self.old self.new result }
     {
-        let Some(node) = node_at(&self.chains, token.head(), place) else {
-            return Err(Refusal::NoSuchBlock);
-        };
-        let fields = self.blocks[node as usize];
-        if self.data.count(fields.data_number) > 1 {
-            return Err(Refusal::Shared);
-        }
-        let capacity = self.data.cap(fields.data_number);
+        let Found {
+            node,
+            fields,
+            capacity,
+        } = self.own(token, place)?;
         let end = fields.offset + fields.len;
         if bytes.len() > (capacity - end) as usize {
             return Err(Refusal::NoRoom);
         }
-        self.data.write(fields.data_number, end, bytes);
-        self.blocks[node as usize].len = fields.len + bytes.len() as u32;
+        self.write_data(fields.data_number, end, bytes);
+        let len = fields.len + bytes.len() as u32;
+        self.set_fields(node, Fields { len, ..fields });
         Ok(())
     }
 
     /// Gives the data block of a message's block `place` a type. Places count from 0.
     ///
     /// Refused as `NoSuchBlock` if the message has no such block, then as `Shared` if another message block refers to its
-    /// data block. On an error nothing changes. Takes at most `place` steps. In STREAMS modules do this by hand
+    /// data block. On an error nothing changes. Takes at most `place` steps. In STREAMS, modules do this by hand
     /// (`db_type`).
     pub fn settype(&mut self, token: &Token, place: u32, kind: MsgType) -> Result<(), Refusal>
         requires { IsTrue (has self.old token.now) }
         ensures { Alters itself token.now token.now (model.settype token.now.head place kind self.old)
             self.old self.new result }
     {
-        let Some(node) = node_at(&self.chains, token.head(), place) else {
-            return Err(Refusal::NoSuchBlock);
-        };
-        let data_number = self.blocks[node as usize].data_number;
-        if self.data.count(data_number) > 1 {
-            return Err(Refusal::Shared);
-        }
-        self.data.set_kind(data_number, kind);
+        let found = self.own(token, place)?;
+        self.data.set_kind(found.fields.data_number, kind);
         Ok(())
     }
 
     /// Gives a message's first block a band, 0 to 255. All else stays unchanged, the bands of its other blocks too. Takes
-    /// constant time. In STREAMS modules do this by hand (`b_band`).
+    /// constant time. In STREAMS, modules do this by hand (`b_band`).
     pub fn setband(&mut self, token: &Token, band: u8)
         requires { IsTrue (has self.old token.now) }
         ensures { Alters itself token.now token.now (given_nothing (model.setband token.now.head band self.old))
             self.old self.new (Ok tt) }
     {
-        self.blocks[token.head() as usize].band = band;
+        let node = token.head();
+        let fields = self.blocks[node as usize];
+        self.set_fields(node, Fields { band, ..fields });
     }
 }

@@ -1,5 +1,5 @@
 //! Copies: new messages over new data blocks with the same bytes.
-ghost use Rattle.std.specs.Prelude.{◌≡◌, ◌⊎◌, ◌≤◌, ◌<◌, ◌+◌, ℕ, Err, IfSome, IsTrue, None, Ok, Some, false, length, slice_get, take};
+ghost use Rattle.std.specs.Prelude.{◌≡◌, ◌⊎◌, ◌≤◌, ◌<◌, ◌+◌, ℕ, Err, IfSome, IsTrue, None, Ok, Some, false, length, slice_get, slice_set, take, true};
 ghost use Rattle.std.specs.Result.{is_ok};
 ghost use Rattle.strm_data.specs.declared.refusal.Refusal.TheVariants.{NoData};
 ghost use Rattle.strm_data.specs.CountedStore.{IsKept, IsUnused};
@@ -7,7 +7,7 @@ ghost use Rattle.strm_data.specs.DataStore.{capacity_of, take_data, times};
 ghost use Rattle.strm_mblk.specs.Arena.{has, message_at};
 ghost use Rattle.strm_mblk.specs.BlockCalls as model;
 ghost use Rattle.strm_mblk.specs.BlocksLayout.{IsPlaced, block_of, fields_at, message_of};
-ghost use Rattle.strm_mblk.specs.Copying.{AreCopied, AreLeft, IsLeft, with_copy};
+ghost use Rattle.strm_mblk.specs.Copying.{AreCopied, AreLeft, IsLeft, lent_store, with_copy};
 ghost use Rattle.strm_mblk.specs.Calls.{Gives, itself};
 ghost use Rattle.strm_mblk.specs.NodeLists.{IsNodesParted, nodes_at};
 
@@ -50,29 +50,40 @@ fn class_left(stored: &Data, left: &[u32; MOST_CLASSES], size: u32) -> Option<u8
     None
 }
 
-// Whether enough data blocks are free to copy a message's first `count` blocks. Usually the largest class alone has
-// enough. This changes nothing, whereas taking data blocks would change their types.
+// Whether enough data blocks are free to copy a message's first `count` blocks. `other` has their data blocks, if those are
+// another pool's. Some class fits each of them. Usually the largest class alone has enough. This changes nothing, whereas
+// taking data blocks would change their types.
 #[inline(always)]
-fn copies_fit(chains: &Chains, blocks: &[Fields], stored: &Data, head: u32, count: u32) -> bool
+pub(super) fn copies_fit(
+    chains: &Chains,
+    blocks: &[Fields],
+    other: Option<&Data>,
+    stored: &Data,
+    head: u32,
+    count: u32,
+) -> bool
     requires parted { IsNodesParted chains.now }
     requires begun { slice_get (nodes_at chains.now head) 0 ≡ Some head }
     requires count { count ≤ length (nodes_at chains.now head) }
     requires listed { length blocks.now ≡ length chains.now.held }
-    requires placed { (n : ℕ) → n < length blocks.now → IsPlaced stored.now.store (fields_at blocks.now n) }
+    requires placed { (n : ℕ) → n < length blocks.now → IsPlaced
+        (model.copied_from (lent_store other) stored.now.store) (fields_at blocks.now n) }
+    requires classed { model.fits_classes (model.copied_from (lent_store other) stored.now.store)
+        (take count (message_of blocks.now (nodes_at chains.now head))) stored.now.store ≡ true }
     requires kept { IsKept stored.now }
-    ensures fit { result ≡ is_ok (model.blocks_copied (take count (message_of blocks.now (nodes_at chains.now head)))
-        stored.now.store) }
-    ensures refused { result ≡ false → model.blocks_copied
-        (take count (message_of blocks.now (nodes_at chains.now head)))
-        stored.now.store ≡ Err NoData }
+    ensures fit { result ≡ is_ok (model.blocks_copied (lent_store other.entry)
+        (take count (message_of blocks.now (nodes_at chains.now head))) stored.now.store) }
+    ensures refused { result ≡ false → model.blocks_copied (lent_store other.entry)
+        (take count (message_of blocks.now (nodes_at chains.now head))) stored.now.store ≡ Err NoData }
 {
     if stored.free_in_largest() >= count {
         return true;
     }
+    let sizes = other.unwrap_or(stored);
     let mut left = free_counts(stored);
     let mut node = head;
     for _block in 0..count {
-        let size = stored.cap(blocks[node as usize].data_number);
+        let size = sizes.cap(blocks[node as usize].data_number);
         let Some(class) = class_left(stored, &left, size) else {
             return false;
         };
@@ -91,7 +102,7 @@ fn copy_data(stored: &mut Data, source: Fields) -> Fields
     ensures taken { take_data (capacity_of stored.old.store source.data_number) stored.old.store
         ≡ Ok result.data_number }
     ensures fields { result ≡ record source { data_number = result.data_number } }
-    ensures after { (n : ℕ) → stored.new ≡ with_copy (block_of n source) stored.old result.data_number }
+    ensures after { (n : ℕ) → stored.new ≡ with_copy None (block_of n source) stored.old result.data_number }
     ensures unused { IsUnused stored.old result.data_number }
     ensures room { capacity_of stored.old.store source.data_number ≤ capacity_of stored.old.store result.data_number }
     ensures kept { IsKept stored.new }
@@ -126,9 +137,9 @@ fn copy_blocks(
     requires listed { length blocks.old ≡ length chains.now.held }
     requires placed { (n : ℕ) → n < length blocks.old → IsPlaced stored.old.store (fields_at blocks.old n) }
     requires kept { IsKept stored.old }
-    requires fit { IsTrue (is_ok (model.blocks_copied (take count (message_of blocks.old (nodes_at chains.now from)))
-        stored.old.store)) }
-    ensures after { AreCopied (take count (message_of blocks.old (nodes_at chains.now from))) (nodes_at chains.now into)
+    requires fit { IsTrue (is_ok (model.blocks_copied None
+        (take count (message_of blocks.old (nodes_at chains.now from))) stored.old.store)) }
+    ensures after { AreCopied None (take count (message_of blocks.old (nodes_at chains.now from))) (nodes_at chains.now into)
         blocks.old blocks.new stored.old stored.new }
     ensures kept { IsKept stored.new }
 {
@@ -146,14 +157,14 @@ impl Blocks {
     fn copy(&mut self, token: &Token, count: u32) -> Result<Token, Refusal>
         requires had { IsTrue (has self.old token.now) }
         requires count { (count ≡ 1) ⊎ (count ≡ token.now.blocks) }
-        ensures { Gives itself (Some token.now) (model.message_copied (take count (message_at self.old token.now.head))
-            self.old) self.old self.new result }
+        ensures { Gives itself (Some token.now) (model.message_copied None
+            (take count (message_at self.old token.now.head)) self.old) self.old self.new result }
     {
         if self.chains.free_len() < count {
             return Err(Refusal::NoMblk);
         }
         let from = token.head();
-        if !copies_fit(&self.chains, &self.blocks, &self.data, from, count) {
+        if !copies_fit(&self.chains, &self.blocks, None, &self.data, from, count) {
             return Err(Refusal::NoData);
         }
         let head = self.chains.begin_all(count);

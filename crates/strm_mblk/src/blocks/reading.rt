@@ -1,8 +1,9 @@
 //! The sizes of held messages, and their bytes.
 ghost use Rattle.std.specs.Prelude.{◌≡◌, ◌<◌, ◌-◌, ◌++◌, ℕ, IsTrue, drop, length, min, sum_by, take};
+ghost use Rattle.strm_data.specs.CountedStore.{IsKept};
 ghost use Rattle.strm_mblk.specs.Arena.{has, message_at};
 ghost use Rattle.strm_links.specs.StrandLists.{strand_at};
-ghost use Rattle.strm_mblk.specs.BlocksLayout.{IsPlaced, IsSummable, block_of, message_of};
+ghost use Rattle.strm_mblk.specs.BlocksLayout.{IsPlaced, IsReadable, IsSummable, block_of, message_of};
 ghost use Rattle.strm_mblk.specs.Block.{bytes_of, bytes_of_block, data_size_of, len_counted, size_of};
 
 use super::{Blocks, Fields};
@@ -45,8 +46,55 @@ pub(super) fn sum_of_lengths(
     sum
 }
 
+// Copies the bytes of a message block from place `at` on into `into`, as far as both reach, and returns their number.
+fn read_block(stored: &Data, fields: Fields, at: u32, into: &mut [u8]) -> usize
+    requires kept { IsKept stored.now }
+    requires placed { IsPlaced stored.now.store fields }
+    ensures count { result ≡ min (length into.old) (fields.len - at) }
+    ensures bytes { (n : ℕ) → into.new ≡ take result (drop at (bytes_of_block stored.now.store (block_of n fields)))
+        ++ drop result into.old }
+{
+    let skipped = at.min(fields.len);
+    let count = into.len().min((fields.len - skipped) as usize);
+    stored.read(
+        fields.data_number,
+        fields.offset + skipped,
+        &mut into[..count],
+    );
+    count
+}
+
+// Copies the bytes of a message from place `at` on into `into`, as far as both reach, and returns their number. Takes a
+// step and at most one slice copy for each block.
+pub(super) fn read_bytes(
+    strands: &Strands,
+    blocks: &[Fields],
+    stored: &Data,
+    head: u32,
+    at: u32,
+    into: &mut [u8],
+) -> usize
+    requires { IsReadable strands.now blocks.now stored.now head }
+    ensures count { result ≡ min (length into.old)
+        (size_of (message_of blocks.now (strand_at strands.now head)) - at) }
+    ensures bytes { into.new ≡ take result
+        (drop at (bytes_of stored.now.store (message_of blocks.now (strand_at strands.now head))))
+        ++ drop result into.old }
+{
+    let mut skip = at;
+    let mut done = 0;
+    let mut node = head;
+    for _block in 0..strands.len(head) {
+        let fields = blocks[node as usize];
+        done += read_block(stored, fields, skip, &mut into[done..]);
+        skip = skip.saturating_sub(fields.len);
+        node = strands.next(node).unwrap_or(u32::MAX);
+    }
+    done
+}
+
 impl Blocks {
-    // Does the same for a held message.
+    // Adds up the lengths of a held message's blocks, as `sum_of_lengths` does.
     fn sum_of_held(&self, token: &Token, data_alone: bool) -> u32
         requires { IsTrue (has self.now token.now) }
         ensures { result ≡ sum_by (len_counted data_alone self.now.store) (message_at self.now token.now.head) }
@@ -77,23 +125,6 @@ impl Blocks {
         self.sum_of_held(token, true)
     }
 
-    // Copies the bytes of a message block from place `at` on into `into`, as far as both reach, and returns their number.
-    fn read_block(&self, fields: Fields, at: u32, into: &mut [u8]) -> usize
-        requires { IsPlaced self.now.store fields }
-        ensures count { result ≡ min (length into.old) (fields.len - at) }
-        ensures bytes { (n : ℕ) → into.new ≡ take result (drop at (bytes_of_block self.now.store (block_of n fields)))
-            ++ drop result into.old }
-    {
-        let skipped = at.min(fields.len);
-        let count = into.len().min((fields.len - skipped) as usize);
-        self.data.read(
-            fields.data_number,
-            fields.offset + skipped,
-            &mut into[..count],
-        );
-        count
-    }
-
     /// Copies the bytes of a message from place `at` on into `into`, as far as both reach, and returns their number.
     /// Places count over all blocks. The rest of `into` stays unchanged, and nothing else changes. Takes a step and at
     /// most one slice copy for each block.
@@ -106,15 +137,13 @@ impl Blocks {
         ensures sized { length (bytes_of self.now.store (message_at self.now token.now.head))
             ≡ size_of (message_at self.now token.now.head) }
     {
-        let mut skip = at;
-        let mut done = 0;
-        let mut node = token.head();
-        for _block in 0..token.blocks() {
-            let fields = self.blocks[node as usize];
-            done += self.read_block(fields, skip, &mut into[done..]);
-            skip = skip.saturating_sub(fields.len);
-            node = self.chains.onward(node);
-        }
-        done
+        read_bytes(
+            self.chains.strands(),
+            &self.blocks,
+            &self.data,
+            token.head(),
+            at,
+            into,
+        )
     }
 }

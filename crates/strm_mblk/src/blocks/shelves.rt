@@ -1,15 +1,15 @@
 //! Shelves, numbered from 0 on: lists of messages, which the layer above uses for its queues.
-ghost use Rattle.std.specs.Prelude.{Ok, ◌≡◌, ◌<◌, ℕ, IsSome, IsTrue, Some, length, option_map, reverse};
+ghost use Rattle.std.specs.Prelude.{Ok, ◌≡◌, ◌-◌, ◌++◌, ◌<◌, ℕ, IsSome, IsTrue, Some, drop, is_some, length, min, option_map, reverse, take};
 ghost use Rattle.std.specs.Option.{ForSome};
 ghost use Rattle.strm_links.specs.Rows as rows;
 ghost use Rattle.strm_mblk.specs.Arena.{has};
-ghost use Rattle.strm_mblk.specs.Block.{kind_of, size_of};
+ghost use Rattle.strm_mblk.specs.Block.{bytes_of, kind_of, size_of};
 ghost use Rattle.strm_mblk.specs.Calls.{Puts, Takes, itself};
 ghost use Rattle.strm_mblk.specs.Given.{given_nothing};
 ghost use Rattle.strm_mblk.specs.Shelves as model;
 ghost use Rattle.strm_mblk.specs.Shelves.{head_block, heads_at, shelf_of, shelved_message, is_on};
 
-use super::reading::sum_of_lengths;
+use super::reading::{read_bytes, sum_of_lengths};
 use super::{BlockNo, Blocks};
 use crate::token::Token;
 use strm_data::MsgType;
@@ -29,6 +29,13 @@ impl Blocks {
         ensures { result ≡ rows.last (heads_at self.now shelf) }
     {
         self.chains.last(u32::from(shelf))
+    }
+
+    /// Says whether a message with this head is on a shelf. Changes nothing. Takes constant time.
+    pub fn is_shelved(&self, head: BlockNo) -> bool
+        ensures { result ≡ is_some (shelf_of self.now head) }
+    {
+        (head as usize) < self.blocks.len() && self.chains.is_shelved(head)
     }
 
     /// Returns the head of the message after this one on its shelf, or none if this is the last. Changes nothing.
@@ -101,6 +108,31 @@ impl Blocks {
         ensures { option_map (λ b. b.band) (head_block self.now head) ≡ Some result }
     {
         self.blocks[head as usize].band
+    }
+
+    /// Returns the number of blocks of a message on a shelf. Changes nothing. Takes constant time.
+    pub fn head_blocks(&self, head: BlockNo) -> u32
+        requires { IsSome (shelf_of self.now head) }
+        ensures { result ≡ length (shelved_message self.now head) }
+    {
+        self.chains.strands().len(head)
+    }
+
+    /// Copies the bytes of a message on a shelf, as [`Blocks::read`] copies those of a held message, at the same cost.
+    pub fn read_shelved(&self, head: BlockNo, at: u32, into: &mut [u8]) -> usize
+        requires { IsSome (shelf_of self.now head) }
+        ensures count { result ≡ min (length into.old) (size_of (shelved_message self.now head) - at) }
+        ensures bytes { into.new ≡ take result (drop at (bytes_of self.now.store (shelved_message self.now head)))
+            ++ drop result into.old }
+    {
+        read_bytes(
+            self.chains.strands(),
+            &self.blocks,
+            &self.data,
+            head,
+            at,
+            into,
+        )
     }
 
     /// Returns the number of bytes of a message on a shelf. Changes nothing. Takes a step for each block.

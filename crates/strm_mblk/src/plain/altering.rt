@@ -1,5 +1,5 @@
 //! Calls on one block of a held message: `block`, `write`, `settype`, `setband`.
-ghost use Rattle.std.specs.Prelude.{◌≡◌, Ok, Some, slice_get, slice_set};
+ghost use Rattle.std.specs.Prelude.{◌≡◌, Some, slice_set};
 ghost use Rattle.strm_data.specs.DataStore.{with_bytes_written};
 ghost use Rattle.strm_mblk.specs.Arena.{message_at};
 ghost use Rattle.strm_mblk.specs.BlockCalls as model;
@@ -23,11 +23,23 @@ fn banded(rt: &impl Abort, alloc: Global, band: u8, message: &[Block]) -> Messag
 }
 
 impl Arena {
-    // Block `place` of the message held at a number.
-    fn block_at(&self, head: u32, place: u32) -> Option<Block>
-        ensures { result ≡ slice_get (message_at self.now head) place }
+    fn block_found(&self, head: u32, place: u32) -> Result<Block, Refusal>
+        ensures { result ≡ model.block_found head place self.now }
     {
-        self.message_at(head).get(place as usize).copied()
+        match self.message_at(head).get(place as usize) {
+            Some(block) => Ok(*block),
+            None => Err(Refusal::NoSuchBlock),
+        }
+    }
+
+    fn own_block(&self, rt: &impl Abort, head: u32, place: u32) -> Result<Block, Refusal>
+        ensures { result ≡ model.own_block head place self.now }
+    {
+        let block = self.block_found(head, place)?;
+        if self.references_to(rt, block.data_number) > 1 {
+            return Err(Refusal::Shared);
+        }
+        Ok(block)
     }
 
     // The arena after bytes were written into the data block of block `place`, from `at` on, and `block` became that
@@ -61,11 +73,8 @@ impl Arena {
         bytes: &[u8],
         block: Block,
     ) -> Given<()>
-        ensures { result ≡ model.write_block head place bytes.now self.now (message_at self.now head) (Some block) }
+        ensures { result ≡ model.write_block head place bytes.now self.now block }
     {
-        if self.references_to(rt, block.data_number) > 1 {
-            return Err(Refusal::Shared);
-        }
         let count = u32::try_from(bytes.len()).expect(rt, "few bytes");
         let end = sum(rt, block.offset, block.len);
         if self.store().capacity_of(rt, block.data_number) < sum(rt, end, count) {
@@ -82,30 +91,17 @@ impl Arena {
     pub(crate) fn write(&self, rt: &impl Abort, head: u32, place: u32, bytes: &[u8]) -> Given<()>
         ensures { result ≡ model.write head place bytes.now self.now }
     {
-        match self.block_at(head, place) {
-            Some(block) => self.write_block(rt, head, place, bytes, block),
-            None => Err(Refusal::NoSuchBlock),
-        }
-    }
-
-    fn settype_of(&self, rt: &impl Abort, kind: MsgType, block: Block) -> Given<()>
-        ensures { result ≡ model.settype_of kind self.now (Some block) }
-    {
-        if self.references_to(rt, block.data_number) > 1 {
-            return Err(Refusal::Shared);
-        }
-        let store = self.store().twin(rt, self.alloc);
-        let store = store.with_kind(rt, self.alloc, block.data_number, kind);
-        Ok(((), self.over(rt, store)))
+        let block = self.own_block(rt, head, place)?;
+        self.write_block(rt, head, place, bytes, block)
     }
 
     pub(crate) fn settype(&self, rt: &impl Abort, head: u32, place: u32, kind: MsgType) -> Given<()>
         ensures { result ≡ model.settype head place kind self.now }
     {
-        match self.block_at(head, place) {
-            Some(block) => self.settype_of(rt, kind, block),
-            None => Err(Refusal::NoSuchBlock),
-        }
+        let block = self.own_block(rt, head, place)?;
+        let store = self.store().twin(rt, self.alloc);
+        let store = store.with_kind(rt, self.alloc, block.data_number, kind);
+        Ok(((), self.over(rt, store)))
     }
 
     pub(crate) fn setband(&self, rt: &impl Abort, head: u32, band: u8) -> Arena
@@ -116,7 +112,7 @@ impl Arena {
     }
 
     fn info_of(&self, rt: &impl Abort, block: &Block) -> BlockInfo
-        ensures { model.info_of self.now (Some block.now) ≡ Ok (result, self.now) }
+        ensures { result ≡ model.info_of self.now block.now }
     {
         let end = sum(rt, block.offset, block.len);
         let capacity = self.store().capacity_of(rt, block.data_number);
@@ -133,9 +129,6 @@ impl Arena {
     pub(crate) fn block(&self, rt: &impl Abort, head: u32, place: u32) -> Result<BlockInfo, Refusal>
         ensures { result ≡ answer_of (model.block head place self.now) }
     {
-        match self.block_at(head, place) {
-            Some(block) => Ok(self.info_of(rt, &block)),
-            None => Err(Refusal::NoSuchBlock),
-        }
+        Ok(self.info_of(rt, &self.block_found(head, place)?))
     }
 }

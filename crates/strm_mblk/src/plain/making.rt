@@ -1,5 +1,5 @@
 //! New messages: over data blocks just taken, duplicates, and copies.
-ghost use Rattle.std.specs.Prelude.{◌≡◌, ◌+◌, count_by, nat_lt, take, Ok};
+ghost use Rattle.std.specs.Prelude.{◌≡◌, ◌+◌, count_by, nat_lt, option_map, take, Ok};
 ghost use Rattle.std.specs.List.{list_any};
 ghost use Rattle.strm_data.specs.Limits.{most_references};
 ghost use Rattle.strm_mblk.specs.Arena.{references_to};
@@ -44,14 +44,16 @@ fn renumbered(rt: &impl Abort, alloc: Global, numbers: &[u32], blocks: &[Block])
 fn copied_into(
     rt: &impl Abort,
     alloc: Global,
+    other: Option<&DataStore>,
     block: &Block,
     store: DataStore,
     number: u32,
 ) -> DataStore
-    ensures { result ≡ model.store_with_copy block.now store number }
+    ensures { result ≡ model.store_with_copy (option_map (λ s. s.now) other.entry) block.now store number }
 {
-    let bytes = bytes_of_block(rt, alloc, &store, block);
-    let kind = kind_of(&store, block);
+    let source = other.unwrap_or(&store);
+    let bytes = bytes_of_block(rt, alloc, source, block);
+    let kind = kind_of(source, block);
     store
         .with_data_taken(rt, alloc, number)
         .with_kind(rt, alloc, number, kind)
@@ -61,18 +63,19 @@ fn copied_into(
 fn copies(
     rt: &impl Abort,
     alloc: Global,
+    other: Option<&DataStore>,
     blocks: &[Block],
     store: DataStore,
 ) -> Result<(Message, DataStore), Refusal>
-    ensures { result ≡ model.blocks_copied blocks.now store }
+    ensures { result ≡ model.blocks_copied (option_map (λ s. s.now) other.entry) blocks.now store }
 {
     let [block, blocks @ ..] = blocks else {
         return Ok((List::empty(alloc), store));
     };
-    let size = store.capacity_of(rt, block.data_number);
+    let size = other.unwrap_or(&store).capacity_of(rt, block.data_number);
     let data_number = store.take_data(rt, alloc, size)?;
-    let store = copied_into(rt, alloc, block, store, data_number);
-    let (others, store) = copies(rt, alloc, blocks, store)?;
+    let store = copied_into(rt, alloc, other, block, store, data_number);
+    let (others, store) = copies(rt, alloc, other, blocks, store)?;
     let copy = Block {
         data_number,
         ..*block
@@ -186,26 +189,48 @@ impl Arena {
         self.duplicated(rt, self.message_at(head))
     }
 
-    fn copied(&self, rt: &impl Abort, blocks: &[Block]) -> Given<u32>
-        ensures { result ≡ model.message_copied blocks.now self.now }
+    fn copied(&self, rt: &impl Abort, other: Option<&DataStore>, blocks: &[Block]) -> Given<u32>
+        ensures { result ≡ model.message_copied (option_map (λ s. s.now) other.entry) blocks.now self.now }
     {
         if self.free().len() < blocks.len() {
             return Err(Refusal::NoMblk);
         }
         let store = self.store().twin(rt, self.alloc);
-        let (copies, store) = copies(rt, self.alloc, blocks, store)?;
+        let (copies, store) = copies(rt, self.alloc, other, blocks, store)?;
         Ok(self.held_under(rt, copies.items(), store))
     }
 
     pub(crate) fn copyb(&self, rt: &impl Abort, head: u32) -> Given<u32>
         ensures { result ≡ model.copyb head self.now }
     {
-        self.copied(rt, first_of(self.message_at(head)))
+        self.copied(rt, None, first_of(self.message_at(head)))
     }
 
     pub(crate) fn copymsg(&self, rt: &impl Abort, head: u32) -> Given<u32>
         ensures { result ≡ model.copymsg head self.now }
     {
-        self.copied(rt, self.message_at(head))
+        self.copied(rt, None, self.message_at(head))
+    }
+
+    // Whether a class fits each of these blocks of another store.
+    fn fits_classes(&self, rt: &impl Abort, other: &DataStore, blocks: &[Block]) -> bool
+        ensures { result ≡ model.fits_classes other.now blocks.now self.now.store }
+    {
+        let [block, blocks @ ..] = blocks else {
+            return true;
+        };
+        let size = other.capacity_of(rt, block.data_number);
+        self.store().fits_a_class(size) && self.fits_classes(rt, other, blocks)
+    }
+
+    pub(crate) fn transfer(&self, rt: &impl Abort, from: &Arena, head: u32) -> Given<u32>
+        ensures { result ≡ model.transfer from.now head self.now }
+    {
+        let message = from.message_at(head);
+        if self.fits_classes(rt, from.store(), message) {
+            self.copied(rt, Some(from.store()), message)
+        } else {
+            Err(Refusal::TooLarge)
+        }
     }
 }

@@ -16,6 +16,7 @@ mod altering;
 mod asking;
 mod making;
 mod moving;
+mod transferring;
 
 // Both, the tokens of the held messages, and how often each call returned what.
 #[derive(Drop)]

@@ -3,6 +3,7 @@ ghost use Rattle.std.specs.Prelude.{◌<◌};
 
 use super::beside::Beside;
 use super::tally::Tally;
+use std::alloc::Global;
 use std::process::Abort;
 use strm_data::ClassSpec;
 
@@ -11,6 +12,12 @@ const SMALL: [ClassSpec; 3] = [
     ClassSpec { size: 8, count: 6 },
     ClassSpec { size: 16, count: 5 },
     ClassSpec { size: 32, count: 4 },
+];
+
+// Fewer, and none of 32 bytes.
+const SMALLER: [ClassSpec; 2] = [
+    ClassSpec { size: 9, count: 4 },
+    ClassSpec { size: 20, count: 4 },
 ];
 
 // Few data blocks, for many message blocks.
@@ -65,6 +72,21 @@ fn name_often(rt: &impl Abort, beside: &mut Beside) {
     beside.assert_same(rt);
 }
 
+// Makes calls on two pools, and transfers messages from one to the other. Returns the tally of the other.
+fn serve_both(rt: &impl Abort, alloc: Global, tally: Tally, draw: &mut u32) -> Tally {
+    let mut from = Beside::opened(rt, alloc, 16, &SMALL, Tally::opening(rt, alloc));
+    let mut to = Beside::opened(rt, alloc, 6, &SMALLER, tally);
+    for _call in 0..800 {
+        step(rt, &mut from, draw);
+        step(rt, &mut to, draw);
+        from.transfer(rt, &mut to, below(draw, 16));
+        from.assert_same(rt);
+        to.assert_same(rt);
+    }
+    from.end(rt, 16);
+    to.end(rt, 6)
+}
+
 #[test]
 fn long_run(rt: HostRuntime) {
     let mut draw = 1;
@@ -75,5 +97,6 @@ fn long_run(rt: HostRuntime) {
     let mut beside = Beside::opened(&rt, rt.alloc(), 300, &FEW, tally);
     name_often(&rt, &mut beside);
     serve_any(&rt, &mut beside, &mut draw, 400);
-    beside.end(&rt, 300).assert_each(&rt);
+    let tally = beside.end(&rt, 300);
+    serve_both(&rt, rt.alloc(), tally, &mut draw).assert_each(&rt);
 }

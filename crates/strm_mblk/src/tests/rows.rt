@@ -1,5 +1,6 @@
 //! Worked rows: calls, each with the result that it should return, and looks at the blocks. Rows give messages names.
 use super::bench::{Bench, made, refused};
+use super::in_place_rows::InPlace;
 use super::{Told, info};
 use crate::TokenValue;
 use std::process::Abort;
@@ -51,6 +52,8 @@ pub(super) enum Row {
     Setband(Name, u8),
     Adjmsg(Name, i32, Result<(), Refusal>),
     Pullupmsg(Name, i32, Result<(), Refusal>),
+    // A call on the bytes of a message in place.
+    InPlace(Name, InPlace),
     // Appends the second message to the first.
     Linkb(Name, Name),
     // Divides a message after its first block; the rest, if any, gets a name.
@@ -244,6 +247,10 @@ impl Served {
                 let mut message = self.at(rt, name);
                 self.bench.pullupmsg(rt, &mut message, count, answer);
                 self.name(rt, name, message);
+            }
+            Row::InPlace(name, call) => {
+                let message = self.at(rt, name);
+                self.bench.in_place(rt, message, call);
             }
             _ => self.move_on(rt, row),
         }

@@ -33,6 +33,7 @@ pub(super) enum Call {
     After,
     Before,
     Heads,
+    Transfer,
 }
 
 // What a call returned, in short. `Done` means done, something or yes; `Nothing` means none or no.
@@ -105,6 +106,10 @@ const EACH: &[(Call, Answer)] = &[
     (Call::Before, Done),
     (Call::Before, Nothing),
     (Call::Heads, Done),
+    (Call::Transfer, Done),
+    (Call::Transfer, Refused(Refusal::TooLarge)),
+    (Call::Transfer, Refused(Refusal::NoMblk)),
+    (Call::Transfer, Refused(Refusal::NoData)),
 ];
 
 impl Answer {

@@ -75,4 +75,4 @@ returns-then-run-bytes c = alters_none c.args.self.now _ c.args.token.now _ Shor
 pub returns : goal.returns
 returns c =
     let is = is_adjusted (goal.at.returns c).After-cut in
-    alters_kept c.args.self.now _ c.args.token.now _ is.done is.had (leaves_adjmsg c.args.self.now c.args.token.now.head c.args.count)
+    alters_kept c.args.self.now _ c.args.token.now _ tt is.done is.had (leaves_adjmsg c.args.self.now c.args.token.now.head c.args.count)

@@ -1,4 +1,4 @@
-use Rattle.std.proofs.Common.{refl, Some, ◌≡◌, ℕ, ◌+◌, ◌≤◌, List, true, ap, subst, sym, ◌∙◌, arith, Err, ◌<◌}
+use Rattle.std.proofs.Common.{refl, None, Some, ◌≡◌, ℕ, ◌+◌, ◌≤◌, List, true, ap, subst, sym, ◌∙◌, arith, Err, ◌<◌}
 use Rattle.std.specs.Prelude.{is_some, take}
 use Rattle.std.specs.Result.{is_ok}
 use Rattle.std.specs.Vec.{with_items}
@@ -8,11 +8,13 @@ use Rattle.strm_data.specs.declared.refusal.Refusal.TheVariants.{NoMblk}
 use Rattle.std.proofs.lemmas.Bool.{cond-true, lt-ltb}
 use Rattle.strm_mblk.specs.declared.blocks.Fields.{Fields}
 use Rattle.strm_mblk.specs.Arena.{Arena, has, message_at}
-use Rattle.strm_mblk.specs.BlockCalls.{blocks_copied, message_copied}
+use Rattle.strm_mblk.specs.Block.{Block}
+use Rattle.strm_mblk.specs.BlockCalls.{blocks_copied, fits_classes, message_copied}
 use Rattle.strm_mblk.specs.BlocksLayout.{arena_in, arena_of, message_of}
 use Rattle.strm_mblk.specs.Copying.{AreCopied}
 use Rattle.strm_mblk.specs.NodeLists.{nodes_at}
 use Rattle.strm_mblk.proofs.making.BegunBeside.{IsBeside, beside}
+use Rattle.strm_mblk.proofs.making.CopiesCounted.{block_there, fits_each}
 use Rattle.strm_mblk.proofs.making.CopiedMessage.{IsCopied, copied_all}
 use Rattle.strm_mblk.proofs.arena.Heads.{of_blocks, taken_many}
 use Rattle.strm_mblk.proofs.arena.Frame.{leaves_copied}
@@ -31,11 +33,22 @@ module _ (c : After-begin_all-head) where
       beside c.self.inside.id c.self.inside.data c.self.inside.blocks.items c.self.inside.chains c.self.invariant.filled c.args.token.now had c.args.count (of_blocks c.args.self.now (parted_inside c.self.inside c.self.invariant c.args.self.now c.self.view_is) c.args.token.now c.requires.had c.args.count c.requires.count).0 (of_blocks c.args.self.now (parted_inside c.self.inside c.self.invariant c.args.self.now c.self.view_is) c.args.token.now c.requires.had c.args.count c.requires.count).1
       (omega (arith, c.if-free_len-count.false, c.free_len.ensures)) c.begin_all-head.result c.begin_all-head.ensures.answer c.begin_all-head.new.self c.begin_all-head.ensures.after
 
+pub copies_fit-requires-clause-classed : goal.copies_fit-requires-clause-classed
+copies_fit-requires-clause-classed c =
+    let s = c.self.inside.data in
+    let v = c.self.inside.chains in
+    let fields = c.self.inside.blocks.items in
+    let filled = c.self.invariant.filled in
+    let head = c.head-from.result in
+    subst (λ fs. fits_classes s.store (take c.args.count (message_of fs (nodes_at v head))) s.store ≡ true) (sym c.deref.ensures.value)
+    (fits_each s filled.kept (take c.args.count (message_of fields (nodes_at v head))) (λ k b at.
+    let of = block_there fields v filled.parted filled.listed head c.args.count k b at in omega (arith, (filled.placed of.0 of.1).there, ap (λ (x : Block). x.data_number) of.2)))
+
 pub copy_blocks-requires-clause-into : goal.copy_blocks-requires-clause-into
-copy_blocks-requires-clause-into c = (is_beside (goal.at.copy_blocks-requires-clause-into c).After-begin_all-head).into
+copy_blocks-requires-clause-into c = (is_beside (goal.at.copy_blocks-requires-clause-into c).After-begin_all-head).into.begun
 
 pub copy_blocks-requires-clause-count : goal.copy_blocks-requires-clause-count
-copy_blocks-requires-clause-count c = (is_beside (goal.at.copy_blocks-requires-clause-count c).After-begin_all-head).many
+copy_blocks-requires-clause-count c = (is_beside (goal.at.copy_blocks-requires-clause-count c).After-begin_all-head).into.many
 
 pub copy_blocks-requires-clause-apart : goal.copy_blocks-requires-clause-apart
 copy_blocks-requires-clause-apart c n =
@@ -47,7 +60,7 @@ copy_blocks-requires-clause-fit c =
     let nodes : nodes_at c.begin_all-head.new.self c.head-from.result ≡ nodes_at c.self.inside.chains c.head-from.result =
     ap (nodes_at c.begin_all-head.new.self) c.head-from.ensures ∙ (is_beside (goal.at.copy_blocks-requires-clause-fit c).After-begin_all-head).from_is
     ∙ ap (nodes_at c.self.inside.chains) (sym c.head-from.ensures) in
-    (λ i. is_ok (blocks_copied (take c.args.count (message_of ((c.deref_mut.ensures.value ∙ sym c.deref.ensures.value) i) (nodes i))) c.self.inside.data.store))
+    (λ i. is_ok (blocks_copied None (take c.args.count (message_of ((c.deref_mut.ensures.value ∙ sym c.deref.ensures.value) i) (nodes i))) c.self.inside.data.store))
     ∙ sym c.copies_fit.ensures.fit ∙ c.if-not-copies_fit.false
 
 module _ (c : After-copy_blocks) where
@@ -69,26 +82,26 @@ module _ (c : After-copy_blocks) where
       c.begin_all-head.result c.begin_all-head.ensures.answer c.begin_all-head.new.self c.begin_all-head.ensures.after c.begin_all-head.ensures.parted
       c.copy_blocks.new.stored said c.copy_blocks.ensures.kept
       (subst (λ (p : List Fields × (ℕ × List Fields)).
-      AreCopied (take c.args.count (message_of p.0 (nodes_at c.begin_all-head.new.self p.1.0))) (nodes_at c.begin_all-head.new.self c.begin_all-head.result) p.0 p.1.1 c.self.inside.data c.copy_blocks.new.stored)
+      AreCopied None (take c.args.count (message_of p.0 (nodes_at c.begin_all-head.new.self p.1.0))) (nodes_at c.begin_all-head.new.self c.begin_all-head.result) p.0 p.1.1 c.self.inside.data c.copy_blocks.new.stored)
       (λ i. (c.deref_mut.ensures.value i, (c.head-from.ensures i, sym said_is i))) c.copy_blocks.ensures.after))
 
 pub invariant_of-self : goal.invariant_of-self
 invariant_of-self c =
-    let is = is_copied (goal.at.invariant_of-self c).After-copy_blocks in still_whole c.self.inside _ c.args.self.now c.self.invariant c.self.view_is refl is.begun.filled is.begun.shelved
+    let is = is_copied (goal.at.invariant_of-self c).After-copy_blocks in still_whole c.self.inside _ c.args.self.now c.self.invariant c.self.view_is refl is.is.begun.filled is.is.begun.shelved
 
 pub token-requires : goal.token-requires
-token-requires c = ap is_some (is_copied (goal.at.token-requires c).After-copy_blocks).begun.held
+token-requires c = ap is_some (is_copied (goal.at.token-requires c).After-copy_blocks).is.begun.held
 
 pub returns : goal.returns
 returns c =
     let at = (goal.at.returns c).After-copy_blocks in
     let is = is_copied at in
     let parted = parted_inside c.self.inside c.self.invariant c.args.self.now c.self.view_is in
-    gives c.args.self.now (now at) (Some c.args.token.now) _ c.token.result c.begin_all-head.result _ is.done c.token.ensures is.begun.held is.begun.absent is.source (leaves_copied c.args.self.now parted _)
+    gives c.args.self.now (now at) (Some c.args.token.now) _ c.token.result c.begin_all-head.result _ is.is.done c.token.ensures is.is.begun.held is.is.begun.absent is.source (leaves_copied c.args.self.now parted None _)
 
 -- ---- too few message blocks are free
 
-few_free : (c : After-free_len) → c.free_len.result < c.args.count → message_copied (take c.args.count (message_at c.args.self.now c.args.token.now.head)) c.args.self.now ≡ Err NoMblk
+few_free : (c : After-free_len) → c.free_len.result < c.args.count → message_copied None (take c.args.count (message_at c.args.self.now c.args.token.now.head)) c.args.self.now ≡ Err NoMblk
 few_free c few = grind (arith, common_steps, parted_inside, cond-true, lt-ltb, taken_many)
 
 pub returns-then-free_len-count : goal.returns-then-free_len-count

@@ -67,10 +67,10 @@ is_beside c =
     c.begin_all-head.result c.begin_all-head.ensures.answer c.begin_all-head.new.self c.begin_all-head.ensures.after
 
 pub copy_fields-requires-clause-to : goal.copy_fields-requires-clause-to
-copy_fields-requires-clause-to c = (is_beside c).into
+copy_fields-requires-clause-to c = (is_beside c).into.begun
 
 pub copy_fields-requires-clause-count : goal.copy_fields-requires-clause-count
-copy_fields-requires-clause-count c = sym (is_beside c).many
+copy_fields-requires-clause-count c = sym (is_beside c).into.many
 
 pub copy_fields-requires-clause-apart : goal.copy_fields-requires-clause-apart
 copy_fields-requires-clause-apart c k =

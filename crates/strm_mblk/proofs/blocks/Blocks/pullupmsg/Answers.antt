@@ -135,5 +135,5 @@ returns c =
     let at = (goal.at.returns c).After-set_blocks in
     let a = c.args.self.now in
     let t = c.args.token.now in
-    alters a c.drain.new.self t _ c.set_blocks.new.self (done at).done (token_now at) (ap (has c.drain.new.self) (token_now at) ∙ token_had c.drain.new.self t.head _ (done at).held)
+    alters a c.drain.new.self t _ tt c.set_blocks.new.self (done at).done (token_now at) (ap (has c.drain.new.self) (token_now at) ∙ token_had c.drain.new.self t.head _ (done at).held)
     (leaves_pullupmsg a (parted_inside c.self.inside c.self.invariant a c.self.view_is) t.head c.args.count)

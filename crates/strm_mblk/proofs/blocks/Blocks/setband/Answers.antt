@@ -1,28 +1,68 @@
-use Rattle.std.proofs.Common.{◌≡◌, ap, subst, sym, ◌∙◌, set, arith, true, refl}
+use Rattle.std.proofs.Common.{◌≡◌, ◌+◌, ◌≤◌, ℕ, true, [], ◌∷◌, get_or, Ok, Some, refl, sym, ap, ◌∙◌, subst, arith}
+use Rattle.std.specs.Prelude.{is_some, slice_get, slice_set}
 use Rattle.std.proofs.lemmas.List.{get_or_read}
-use Rattle.strm_mblk.specs.Arena.{has}
+use Rattle.std.proofs.lemmas.Option.{none-some, same_Some}
+use Rattle.strm_data.specs.DataStore.{capacity_of}
 use Rattle.strm_mblk.specs.declared.blocks.Fields.{Fields}
-use Rattle.strm_mblk.specs.BlocksLayout.{arena_in, fields_at, no_fields}
-use Rattle.strm_mblk.proofs.altering.Setband.{IsBanded, bands, head_there}
+use Rattle.strm_mblk.specs.Arena.{Arena, has, message_at, with_message}
+use Rattle.strm_mblk.specs.Block.{Block, Message}
+use Rattle.strm_mblk.specs.BlockCalls.{with_band, with_block}
+use Rattle.strm_mblk.specs.BlocksLayout.{IsPlaced, block_at, block_of, fields_at, no_fields}
+use Rattle.strm_mblk.specs.NodeLists.{nodes_at}
+use Rattle.strm_mblk.proofs.arena.Calls.{alters_kept, had_with_block}
 use Rattle.strm_mblk.proofs.arena.Frame.{leaves_setband}
-use Rattle.strm_mblk.proofs.arena.Calls.{alters_kept}
-use Rattle.strm_mblk.proofs.layout.Lawful.{still_whole}
-use Rattle.strm_mblk.proofs.blocks.Blocks.setband.Goals.{After-self-1}
+use Rattle.strm_mblk.proofs.arena.Tokens.{had_message}
+use Rattle.strm_mblk.proofs.layout.Places.{IsAt, IsHeldHead, block_some, seen_head}
+use Rattle.strm_mblk.proofs.blocks.Blocks.setband.Goals.{After-index-fields}
 use Rattle.strm_mblk.proofs.blocks.Blocks.setband.Goals as goal
-use Rattle.std.proofs.lemmas.Grind.{common_steps}
 
-is_banded : (c : After-self-1) → IsBanded c.args.self.now c.self.inside.data (set c.self.inside.blocks.items c.head.result (record c.index_mut.result.now { band = c.args.band })) c.self.inside.chains c.self.inside.id c.args.band c.args.token.now
-is_banded c =
-    let had = subst (λ a. has a c.args.token.now ≡ true) (sym c.self.view_is) c.requires in
-    let there = head_there c.self.inside.id c.self.inside.data c.self.inside.blocks.items c.self.inside.chains c.self.invariant.filled c.args.token.now had in
-    let read = get_or_read c.self.inside.blocks.items c.head.result c.index_mut.result.now (omega (arith, there, c.head.ensures)) c.index_mut.ensures.value no_fields in
-    let x_is = ap (λ (f : Fields). record f { band = c.args.band }) (read ∙ ap (fields_at c.self.inside.blocks.items) c.head.ensures) in
-    subst (λ a. IsBanded a c.self.inside.data (set c.self.inside.blocks.items c.head.result (record c.index_mut.result.now { band = c.args.band })) c.self.inside.chains c.self.inside.id c.args.band c.args.token.now) c.self.view_is
-    (subst (λ h. IsBanded (arena_in c.self.inside) c.self.inside.data (set c.self.inside.blocks.items h (record c.index_mut.result.now { band = c.args.band })) c.self.inside.chains c.self.inside.id c.args.band c.args.token.now) (sym c.head.ensures)
-    (bands c.self.inside.id c.self.inside.data c.self.inside.blocks.items c.self.inside.chains c.self.invariant.filled c.args.token.now had c.args.band (omega (arith, c.ranges.band)) (record c.index_mut.result.now { band = c.args.band }) x_is))
+-- the band of the first block alone changes
+with_band_is : (band : ℕ) (m : Message) (b : Block) → slice_get m 0 ≡ Some b → slice_set m 0 (record b { band = band }) ≡ with_band band m
+with_band_is band [] b is = absurd (none-some b is)
+with_band_is band (c ∷ bs) b is = ap (λ (d : Block). record d { band = band } ∷ bs) (sym (same_Some c b is))
 
-pub invariant_of-self : goal.invariant_of-self
-invariant_of-self c = still_whole c.self.inside _ c.args.self.now c.self.invariant c.self.view_is refl (is_banded c).filled (is_banded c).shelved
+module _ (c : After-index-fields) where
+  head : IsHeldHead c.self.inside.blocks.items c.self.inside.chains c.args.token.now.head
+  head =
+      seen_head c.self.inside.id c.self.inside.data c.self.inside.blocks.items c.self.inside.chains c.self.invariant.filled c.args.token.now.head c.args.self.now c.self.view_is
+      (ap is_some (had_message c.args.self.now c.args.token.now c.requires).1.held)
+
+  at : IsAt c.self.inside.data c.self.inside.blocks.items c.self.inside.chains c.args.self.now c.args.token.now.head 0 c.args.token.now.head (nodes_at c.self.inside.chains c.args.token.now.head)
+  at =
+      block_some c.self.inside.id c.self.inside.data c.self.inside.blocks.items c.self.inside.chains c.self.invariant.filled c.args.self.now c.self.view_is c.args.token.now.head 0
+      c.args.token.now refl c.requires c.args.token.now.head head.first
+
+  read : c.index-fields.result.now ≡ fields_at c.self.inside.blocks.items c.args.token.now.head
+  read =
+      get_or_read c.self.inside.blocks.items c.args.token.now.head c.index-fields.result.now at.there
+      (c.index-fields.ensures ∙ ap (λ n. get_or c.self.inside.blocks.items n c.index-fields.result.now) c.head-node.ensures) no_fields
+
+pub set_fields-requires : goal.set_fields-requires
+set_fields-requires c =
+    let before = (goal.at.set_fields-requires c).After-index-fields in
+    record {
+      head = c.args.token.now.head;
+      place = 0;
+      block = block_at c.self.inside.blocks.items c.args.token.now.head;
+      found = (at before).block;
+      number = sym c.head-node.ensures;
+      same = ap (λ (f : Fields). f.data_number) (read before);
+      room =
+          subst (λ (f : Fields). f.offset + f.len ≤ capacity_of c.args.self.now.store f.data_number) (sym (read before))
+          (subst (λ (a : Arena). IsPlaced a.store (fields_at c.self.inside.blocks.items c.args.token.now.head)) c.self.view_is (at before).placed).within;
+      banded = omega (arith, c.ranges.band);
+    }
 
 pub returns : goal.returns
-returns c = grind (arith, common_steps, is_banded, alters_kept, leaves_setband)
+returns c =
+    let before = (goal.at.returns c).After-index-fields in
+    let h = c.args.token.now.head in
+    let a = c.args.self.now in
+    let b = block_at c.self.inside.blocks.items h in
+    let is : c.set_fields.new.self ≡ with_block h 0 (record b { band = c.args.band }) a =
+    c.set_fields.ensures h 0 b (at before).block (sym c.head-node.ensures)
+    ∙ (λ i. with_block h 0 (record (block_of (c.head-node.ensures i) (read before i)) { band = c.args.band }) a) in
+    alters_kept a _ c.args.token.now _ tt
+    (ap (λ m. Ok (tt, with_message h m a)) (sym (with_band_is c.args.band (message_at a h) b (at before).block)) ∙ ap (λ (x : Arena). Ok (tt, x)) (sym is))
+    (subst (λ x. has x c.args.token.now ≡ true) (sym is) (had_with_block a a.store c.args.token.now 0 (record b { band = c.args.band }) c.requires))
+    (leaves_setband a h c.args.band)

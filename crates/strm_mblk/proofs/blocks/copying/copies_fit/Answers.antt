@@ -1,19 +1,20 @@
-use Rattle.std.proofs.Common.{◌≡◌, ℕ, zero, suc, ◌+◌, ◌-◌, ◌<◌, ap, refl, sym, ◌∙◌, subst, arith, List, Err, Some, length, length-set, [], ◌∷◌, map, set, get_or}
+use Rattle.std.proofs.Common.{◌≡◌, ℕ, zero, suc, ◌+◌, ◌-◌, ◌<◌, ap, refl, sym, ◌∙◌, subst, arith, true, List, Err, Option, Some, length, length-set, [], ◌∷◌, map, set, get_or}
 use Rattle.std.specs.Prelude.{drop, option_map, slice_get, take}
-use Rattle.std.proofs.lemmas.List.{length-map, length-take}
-use Rattle.std.proofs.lemmas.Option.{none-some, same_Some, slice_get-get_or, slice_get_within, slice_get-map}
+use Rattle.std.proofs.lemmas.List.{length-take}
+use Rattle.std.proofs.lemmas.List.Sums.{AllPass-from_list_all}
+use Rattle.std.proofs.lemmas.Option.{get_or_from_slice_get, slice_get_within, slice_get-map}
+use Rattle.strm_data.specs.Classes.{fits_a_class}
 use Rattle.strm_data.specs.CountedStore.{CountedStore}
 use Rattle.strm_data.specs.DataStore.{DataStore, capacity_of}
 use Rattle.strm_data.specs.declared.refusal.Refusal.TheVariants.{NoData}
-use Rattle.strm_mblk.specs.BlockCalls.{blocks_copied}
+use Rattle.strm_mblk.specs.BlockCalls.{blocks_copied, copied_from, fits_classes}
 use Rattle.strm_mblk.specs.Block.{Block}
 use Rattle.strm_mblk.specs.declared.blocks.Fields.{Fields}
 use Rattle.strm_mblk.specs.BlocksLayout.{IsPlaced, block_at, fields_at, message_of}
-use Rattle.strm_mblk.specs.Copying.{IsLeft}
+use Rattle.strm_mblk.specs.Copying.{IsLeft, lent_store}
 use Rattle.strm_mblk.specs.NodeLists.{IsNodesParted, NodeLists, nodes_at}
-use Rattle.strm_mblk.proofs.chaining.Standing.{block_room}
 use Rattle.strm_mblk.proofs.lists.Numbers.{slice_get-take}
-use Rattle.strm_mblk.proofs.making.CopiesCounted.{IsAhead, IsInside, enough_left, next_ahead, next_block, none_ahead}
+use Rattle.strm_mblk.proofs.making.CopiesCounted.{IsAhead, block_there, IsInside, enough_left, next_ahead, next_block, none_ahead}
 use Rattle.strm_mblk.proofs.blocks.copying.copies_fit.Goals.{After-class_left}
 use Rattle.strm_mblk.proofs.blocks.copying.copies_fit.Goals as goal
 use Rattle.std.proofs.lemmas.Grind.{common_steps}
@@ -25,36 +26,42 @@ lengths [] c = refl
 lengths (f ∷ fs) zero = refl
 lengths (f ∷ fs) (suc c) = lengths fs c
 
--- a block of a held message is one of those that there are
-node_room : (v : NodeLists) → IsNodesParted v → (h k n : ℕ) → slice_get (nodes_at v h) k ≡ Some n → n < length v.held
-node_room v parted h k n at = grind (arith, common_steps, none-some, block_room)
-
--- the places of the blocks lie in their data blocks
-module _ (fields : List Fields) (v : NodeLists) (s : DataStore) (h count : ℕ) (parted : IsNodesParted v) (listed : length fields ≡ length v.held) (placed : (n : ℕ) → n < length fields → IsPlaced s (fields_at fields n)) where
-  each_inside : (k : ℕ) (b : Block) → slice_get (take count (message_of fields (nodes_at v h))) k ≡ Some b → IsInside s b
+-- the places of the blocks lie in their data blocks, and a class fits each
+module _ (fields : List Fields) (v : NodeLists) (s to : DataStore) (h count : ℕ) (parted : IsNodesParted v) (listed : length fields ≡ length v.held) (placed : (n : ℕ) → n < length fields → IsPlaced s (fields_at fields n))
+    (classed : fits_classes s (take count (message_of fields (nodes_at v h))) to ≡ true) where
+  pub each_inside : (k : ℕ) (b : Block) → slice_get (take count (message_of fields (nodes_at v h))) k ≡ Some b → IsInside s b × (fits_a_class (capacity_of s b.data_number) to.classes ≡ true)
   each_inside k b at =
-      let ns = nodes_at v h in
-      let within = slice_get_within (take count (message_of fields ns)) k b at in
-      let n = get_or ns k 0 in
-      let at_n : slice_get ns k ≡ Some n = slice_get-get_or ns k 0 (omega (arith, within, length-take count (message_of fields ns), length-map ns (block_at fields))) in
-      let is : block_at fields n ≡ b =
-      same_Some _ _ (ap (option_map (block_at fields)) (sym at_n) ∙ sym (slice_get-map (block_at fields) ns k)
-      ∙ sym (slice_get-take count k (message_of fields ns) (omega (arith, within, length-take count (message_of fields ns)))) ∙ at) in
-      let there = placed n (omega (arith, listed, node_room v parted h k n at_n)) in
-      subst (IsInside s) is (there.there, there.within)
+      let bs = take count (message_of fields (nodes_at v h)) in
+      let of = block_there fields v parted listed h count k b at in
+      let there = placed of.0 of.1 in (
+        subst (IsInside s) of.2 (there.there, there.within),
+        ap (λ (x : Block). fits_a_class (capacity_of s x.data_number) to.classes) (sym (get_or_from_slice_get bs k b b at))
+            ∙ AllPass-from_list_all (λ (x : Block). fits_a_class (capacity_of s x.data_number) to.classes) bs classed k b (slice_get_within bs k b at),
+      )
 
 pub returns-then-free_in_largest-count-clause-fit : goal.returns-then-free_in_largest-count-clause-fit
 returns-then-free_in_largest-count-clause-fit c =
-    let ns = nodes_at c.args.chains.now c.args.head in
-    sym (enough_left (take c.args.count (message_of c.args.blocks.now ns)) c.args.stored.now (map length c.args.stored.now.store.free) c.requires.kept (lengths c.args.stored.now.store.free)
-    (each_inside c.args.blocks.now c.args.chains.now c.args.stored.now.store c.args.head c.args.count c.requires.parted c.requires.listed c.requires.placed)
-    (omega (arith, length-take c.args.count (message_of c.args.blocks.now ns), c.free_in_largest.ensures, c.if-free_in_largest-count.true, lengths c.args.stored.now.store.free (length c.args.stored.now.store.classes - 1))))
+    let o = lent_store c.args.other in
+    let bs = take c.args.count (message_of c.args.blocks.now (nodes_at c.args.chains.now c.args.head)) in
+    sym (enough_left o bs c.args.stored.now (map length c.args.stored.now.store.free) c.requires.kept (lengths c.args.stored.now.store.free)
+    (each_inside c.args.blocks.now c.args.chains.now (copied_from o c.args.stored.now.store) c.args.stored.now.store c.args.head c.args.count c.requires.parted c.requires.listed c.requires.placed c.requires.classed)
+    (omega (arith, length-take c.args.count (message_of c.args.blocks.now (nodes_at c.args.chains.now c.args.head)), c.free_in_largest.ensures, c.if-free_in_largest-count.true, lengths c.args.stored.now.store.free (length c.args.stored.now.store.classes - 1))))
 
 -- ---- a class for each
 
 module _ (c : After-class_left) where
+  abbrev ns : List ℕ
+  ns = nodes_at c.args.chains.now c.args.head
+
   abbrev bs : List Block
-  bs = take c.args.count (message_of c.args.blocks.now (nodes_at c.args.chains.now c.args.head))
+  bs = take c.args.count (message_of c.args.blocks.now ns)
+
+  abbrev o : Option DataStore
+  o = lent_store c.args.other
+
+  -- the store with the data blocks that are copied
+  abbrev from : DataStore
+  from = copied_from o c.args.stored.now.store
 
   abbrev b : Block
   b = block_at c.args.blocks.now c.loop-block.node
@@ -66,20 +73,19 @@ module _ (c : After-class_left) where
   next : drop c.loop-block._block bs ≡ b ∷ drop (c.loop-block._block + 1) bs
   next = next_block c.args.blocks.now (nodes_at c.args.chains.now c.args.head) c.args.count c.loop-block._block c.loop-block.node c.loop-block-test.true at
 
-  there : c.loop-block.node < length c.args.blocks.now
-  there = omega (arith, c.requires.listed, c.loop-block.invariant.at.in_range (omega (arith, c.loop-block-test.true, c.requires.count)))
-
-  inside : IsInside c.args.stored.now.store b
-  inside = let placed = c.requires.placed c.loop-block.node there in (placed.there, placed.within)
+  here : IsInside from b × (fits_a_class (capacity_of from b.data_number) c.args.stored.now.store.classes ≡ true)
+  here =
+      each_inside c.args.blocks.now c.args.chains.now from c.args.stored.now.store c.args.head c.args.count c.requires.parted c.requires.listed c.requires.placed c.requires.classed c.loop-block._block b
+      (slice_get-take c.args.count c.loop-block._block (message_of c.args.blocks.now ns) c.loop-block-test.true ∙ slice_get-map (block_at c.args.blocks.now) ns c.loop-block._block ∙ ap (option_map (block_at c.args.blocks.now)) at)
 
   -- the size that the class was looked up for
-  size_is : c.cap-size.result ≡ capacity_of c.args.stored.now.store b.data_number
-  size_is = c.cap-size.ensures.answer
+  size_is : c.cap-size.result ≡ capacity_of from b.data_number
+  size_is = grind (arith, common_steps)
 
   -- no class serves
-  refused : ((k : ℕ) → IsLeft c.cap-size.result c.args.stored.now.store.classes c.loop-block.left k → ⊥) → blocks_copied bs c.args.stored.now.store ≡ Err NoData
+  refused : ((k : ℕ) → IsLeft c.cap-size.result c.args.stored.now.store.classes c.loop-block.left k → ⊥) → blocks_copied o bs c.args.stored.now.store ≡ Err NoData
   refused none =
-      none_ahead bs c.loop-block._block c.args.stored.now c.loop-block.invariant.ahead.0 c.loop-block.left c.loop-block.invariant.ahead.1 b next inside
+      none_ahead o bs c.loop-block._block c.args.stored.now c.loop-block.invariant.ahead.0 c.loop-block.left c.loop-block.invariant.ahead.1 b next here.0 here.1
       (λ k is. none k (subst (λ n. IsLeft n c.args.stored.now.store.classes c.loop-block.left k) (sym size_is) is))
 
 pub returns-in_default-clause-fit : goal.returns-in_default-clause-fit
@@ -91,16 +97,18 @@ returns-in_default-clause-refused c _ =
 
 pub loop-block-preserved : goal.loop-block-preserved
 loop-block-preserved c =
-    let before = (goal.at.loop-block-preserved c).After-class_left in
     record {
       at = c.onward-node.ensures c.args.head c.loop-block._block c.loop-block.invariant.at;
       len = length-set c.loop-block.left c.from.result _ ∙ c.loop-block.invariant.len;
       ahead =
-          subst (λ j. (t : CountedStore) × IsAhead (bs before) (c.loop-block._block + 1) c.args.stored.now t (set c.loop-block.left j (get_or c.loop-block.left j 0 - 1))) (sym c.from.ensures)
-          (next_ahead (bs before) c.loop-block._block c.args.stored.now c.loop-block.invariant.ahead.0 c.loop-block.left c.loop-block.invariant.ahead.1 (b before) (next before) (inside before)
+          subst (λ j. (t : CountedStore) × IsAhead (o before) (bs before) (c.loop-block._block + 1) c.args.stored.now t (set c.loop-block.left j (get_or c.loop-block.left j 0 - 1))) (sym c.from.ensures)
+          (next_ahead (o before) (bs before) c.loop-block._block c.args.stored.now c.loop-block.invariant.ahead.0 c.loop-block.left c.loop-block.invariant.ahead.1 (b before) (next before) (here before).0 (here before).1
           c.in-Some.class (sized c.in-Some.class c.in-Some.ensures.found)
           (λ k below is. c.in-Some.ensures.first k below (subst (λ n. IsLeft n c.args.stored.now.store.classes c.loop-block.left k) (sym (size_is before)) is)));
     }
   where
-    sized : (k : ℕ) → IsLeft c.cap-size.result c.args.stored.now.store.classes c.loop-block.left k → IsLeft (capacity_of c.args.stored.now.store (fields_at c.args.blocks.now c.loop-block.node).data_number) c.args.stored.now.store.classes c.loop-block.left k
-    sized k = subst (λ n. IsLeft n c.args.stored.now.store.classes c.loop-block.left k) c.cap-size.ensures.answer
+    before : After-class_left
+    before = (goal.at.loop-block-preserved c).After-class_left
+
+    sized : (k : ℕ) → IsLeft c.cap-size.result c.args.stored.now.store.classes c.loop-block.left k → IsLeft (capacity_of (from before) (b before).data_number) c.args.stored.now.store.classes c.loop-block.left k
+    sized k = subst (λ n. IsLeft n c.args.stored.now.store.classes c.loop-block.left k) (size_is before)

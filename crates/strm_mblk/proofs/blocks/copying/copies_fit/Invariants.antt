@@ -3,6 +3,7 @@ use Rattle.std.specs.Prelude.{take}
 use Rattle.strm_data.specs.CountedStore.{CountedStore}
 use Rattle.strm_data.specs.Limits.{most_classes}
 use Rattle.strm_mblk.specs.BlocksLayout.{message_of}
+use Rattle.strm_mblk.specs.Copying.{lent_store}
 use Rattle.strm_mblk.specs.NodeLists.{IsReached, nodes_at}
 use Rattle.strm_mblk.proofs.making.CopiesCounted.{IsAhead}
 use Rattle.strm_mblk.proofs.blocks.copying.copies_fit.Given as goal
@@ -12,5 +13,5 @@ abbrev pub invariant-loop-block : goal.invariant-loop-block
 invariant-loop-block l = record {
   at : IsReached l.chains l.head l._block l.node;
   len : length l.left ≡ most_classes;
-  ahead : (t : CountedStore) × IsAhead (take l.count (message_of l.blocks (nodes_at l.chains l.head))) l._block l.stored t l.left;
+  ahead : (t : CountedStore) × IsAhead (lent_store l.other) (take l.count (message_of l.blocks (nodes_at l.chains l.head))) l._block l.stored t l.left;
 }

@@ -1,4 +1,4 @@
-use Rattle.std.proofs.Common.{◌≡◌, ℕ, ◌∷◌, ◌+◌, ◌<◌, ap, sym, ◌∙◌, subst, arith, List, Some, true, length, set}
+use Rattle.std.proofs.Common.{◌≡◌, ℕ, ◌∷◌, ◌+◌, ◌<◌, ap, sym, ◌∙◌, subst, arith, List, None, Some, true, length, set}
 use Rattle.std.specs.Prelude.{drop, slice_get, take}
 use Rattle.std.specs.Result.{is_ok}
 use Rattle.strm_data.specs.CountedStore.{CountedStore}
@@ -41,7 +41,7 @@ module _ (c : In-loop-block) where
   -- it says what it said before
   said : fields_at c.loop-block.blocks of ≡ fields_at c.args.blocks.now of
   said =
-      source_stays bs (nodes_at c.args.chains.now c.args.into) c.loop-block._block c.args.blocks.now c.loop-block.blocks c.args.stored.now c.loop-block.stored c.loop-block.invariant.copying of
+      source_stays None bs (nodes_at c.args.chains.now c.args.into) c.loop-block._block c.args.blocks.now c.loop-block.blocks c.args.stored.now c.loop-block.stored c.loop-block.invariant.copying of
       (omega (arith, c.requires.apart of, times_at of (nodes_at c.args.chains.now c.args.from) c.loop-block._block read_at))
 
   there : of < length c.args.blocks.now
@@ -57,7 +57,7 @@ pub copy_data-requires-clause-fits : goal.copy_data-requires-clause-fits
 copy_data-requires-clause-fits c =
     let before = (goal.at.copy_data-requires-clause-fits c).In-loop-block in
     subst (λ (f : Fields). is_ok (take_data (capacity_of c.loop-block.stored.store f.data_number) c.loop-block.stored.store) ≡ true) (sym (said before))
-    (next_fits (bs before) (nodes_at c.args.chains.now c.args.into) c.loop-block._block c.args.blocks.now c.loop-block.blocks c.args.stored.now c.loop-block.stored c.loop-block.invariant.copying
+    (next_fits None (bs before) (nodes_at c.args.chains.now c.args.into) c.loop-block._block c.args.blocks.now c.loop-block.blocks c.args.stored.now c.loop-block.stored c.loop-block.invariant.copying
     (block_at c.args.blocks.now c.loop-block.read) (next before) c.requires.fit)
 
 pub loop-block-preserved : goal.loop-block-preserved
@@ -66,20 +66,20 @@ loop-block-preserved c =
     let d = c.copy_data.result.data_number in
     let b = block_at c.args.blocks.now c.loop-block.read in
     let says : c.copy_data.result ≡ fields_of (record b { data_number = d }) = c.copy_data.ensures.fields ∙ ap (λ (f : Fields). record f { data_number = d }) (said before) in
-    let leaves : c.copy_data.new.stored ≡ with_copy b c.loop-block.stored d =
-    c.copy_data.ensures.after c.loop-block.read ∙ ap (λ (f : Fields). with_copy (block_of c.loop-block.read f) c.loop-block.stored d) (said before) in
+    let leaves : c.copy_data.new.stored ≡ with_copy None b c.loop-block.stored d =
+    c.copy_data.ensures.after c.loop-block.read ∙ ap (λ (f : Fields). with_copy None (block_of c.loop-block.read f) c.loop-block.stored d) (said before) in
     let copied =
-    next_copied (bs before) (nodes_at c.args.chains.now c.args.into) c.loop-block._block c.args.blocks.now c.loop-block.blocks c.args.stored.now c.loop-block.stored c.loop-block.invariant.copying
+    next_copied None (bs before) (nodes_at c.args.chains.now c.args.into) c.loop-block._block c.args.blocks.now c.loop-block.blocks c.args.stored.now c.loop-block.stored c.loop-block.invariant.copying
     b (next before) d c.loop-block.written
     (ap (λ (f : Fields). take_data (capacity_of c.loop-block.stored.store f.data_number) c.loop-block.stored.store) (sym (said before)) ∙ c.copy_data.ensures.taken)
     c.copy_data.ensures.unused
     (omega (arith, ap (λ (f : Fields). capacity_of c.loop-block.stored.store f.data_number) (said before), c.copy_data.ensures.room))
-    (placed before) (written_at before) in
+    (placed before).within (placed before).banded (written_at before) in
     record {
       read = c.onward-read.ensures c.args.from c.loop-block._block c.loop-block.invariant.read;
       written = c.onward-written.ensures c.args.into c.loop-block._block c.loop-block.invariant.written;
       copying =
-          subst (λ (p : Fields × CountedStore). IsCopying (bs before) (nodes_at c.args.chains.now c.args.into) (c.loop-block._block + 1) c.args.blocks.now (set c.loop-block.blocks c.loop-block.written p.0) c.args.stored.now p.1)
+          subst (λ (p : Fields × CountedStore). IsCopying None (bs before) (nodes_at c.args.chains.now c.args.into) (c.loop-block._block + 1) c.args.blocks.now (set c.loop-block.blocks c.loop-block.written p.0) c.args.stored.now p.1)
           (λ j. (sym says j, sym leaves j)) copied;
       kept = c.copy_data.ensures.kept;
     }

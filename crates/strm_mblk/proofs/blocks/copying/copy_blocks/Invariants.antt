@@ -1,4 +1,4 @@
-use Rattle.std.specs.Prelude.{take}
+use Rattle.std.specs.Prelude.{None, take}
 use Rattle.strm_data.specs.CountedStore.{IsKept}
 use Rattle.strm_mblk.specs.BlocksLayout.{message_of}
 use Rattle.strm_mblk.specs.NodeLists.{IsReached, nodes_at}
@@ -10,6 +10,6 @@ abbrev pub invariant-loop-block : goal.invariant-loop-block
 invariant-loop-block l = record {
   read : IsReached l.chains l.from l._block l.read;
   written : IsReached l.chains l.into l._block l.written;
-  copying : IsCopying (take l.count (message_of l.fn.blocks (nodes_at l.chains l.from))) (nodes_at l.chains l.into) l._block l.fn.blocks l.blocks l.fn.stored l.stored;
+  copying : IsCopying None (take l.count (message_of l.fn.blocks (nodes_at l.chains l.from))) (nodes_at l.chains l.into) l._block l.fn.blocks l.blocks l.fn.stored l.stored;
   kept : IsKept l.stored;
 }

@@ -1,0 +1,83 @@
+//! Bytes of data blocks in place, to look at or to change, and copied in and out.
+ghost use Rattle.std.specs.Prelude.{◌≡◌, ◌+◌, ◌<◌, ◌≤◌, drop, length, take};
+ghost use Rattle.std.specs.Fn.{FnOnceReturnsAtMut, FnOnceTakesAtMut};
+ghost use Rattle.strm_data.specs.CountedStore.{IsKept};
+ghost use Rattle.strm_data.specs.DataStore.{bytes_at, bytes_overwritten, capacity_of, with_bytes_written};
+ghost use Rattle.strm_data.specs.Lending.{Edits};
+
+use super::{Data, DataNo, place_of};
+
+// Lends `len` bytes of a region, from place `at` on.
+fn part_of(region: &[u8], at: usize, len: usize) -> &[u8]
+    requires { at + len ≤ length region.now }
+    ensures { result.now ≡ take len (drop at region.now) }
+{
+    &region[at..at + len]
+}
+
+// Lends `len` bytes of a region, from place `at` on, to `change`.
+fn edit_part<R, F: FnOnce(&mut [u8]) -> R>(region: &mut [u8], at: usize, len: usize, change: F) -> R
+    requires there { at + len ≤ length region.old }
+    requires callable { FnOnceTakesAtMut F.FnOnce change (take len (drop at region.old)) }
+    ensures { Edits (FnOnceReturnsAtMut F.FnOnce change) (take len (drop at region.old)) result
+        (λ bytes. region.new ≡ bytes_overwritten at bytes region.old) }
+{
+    change(&mut region[at..at + len])
+}
+
+impl Data {
+    /// Lends `len` bytes of a data block, from place `at` on. They must be within the block's capacity. Changes nothing.
+    /// Takes constant time.
+    pub fn bytes(&self, number: DataNo, at: u32, len: usize) -> &[u8]
+        requires there { number < length self.now.store.blocks }
+        requires room { at + len ≤ capacity_of self.now.store number }
+        ensures { result.now ≡ bytes_at number at len self.now.store }
+    {
+        let place = place_of(&self.classes, &self.blocks, number, at);
+        part_of(&self.regions[place.class], place.start, len)
+    }
+
+    /// Lends `len` bytes of a data block, from place `at` on, to `change`, which may change them. They must be within the
+    /// block's capacity. Calls `change` once, and returns what that returns. All other bytes, references and types
+    /// stay unchanged.
+    pub fn edit<R, F: FnOnce(&mut [u8]) -> R>(
+        &mut self,
+        number: DataNo,
+        at: u32,
+        len: usize,
+        change: F,
+    ) -> R
+        requires there { number < length self.old.store.blocks }
+        requires room { at + len ≤ capacity_of self.old.store number }
+        requires callable { FnOnceTakesAtMut F.FnOnce change (bytes_at number at len self.old.store) }
+        ensures after { Edits (FnOnceReturnsAtMut F.FnOnce change) (bytes_at number at len self.old.store) result
+            (λ bytes. self.new ≡ record self.old { store = with_bytes_written number at bytes self.old.store }) }
+        ensures kept { IsKept self.new }
+    {
+        let place = place_of(&self.classes, &self.blocks, number, at);
+        edit_part(&mut self.regions[place.class], place.start, len, change)
+    }
+
+    /// Overwrites bytes of a data block, from place `at` on, with `bytes`. They must fit into its capacity. All other
+    /// bytes, references and types stay unchanged.
+    pub fn write(&mut self, number: DataNo, at: u32, bytes: &[u8])
+        requires there { number < length self.old.store.blocks }
+        requires room { at + length bytes.now ≤ capacity_of self.old.store number }
+        ensures after { self.new ≡ record self.old { store = with_bytes_written number at bytes.now self.old.store } }
+        ensures kept { IsKept self.new }
+    {
+        self.edit(number, at, bytes.len(), |part| {
+            part.copy_from_slice(bytes);
+        });
+    }
+
+    /// Copies bytes of a data block, from place `at` on, into `into`, which they fill. They must be within the block's
+    /// capacity. Changes nothing else.
+    pub fn read(&self, number: DataNo, at: u32, into: &mut [u8])
+        requires there { number < length self.now.store.blocks }
+        requires room { at + length into.old ≤ capacity_of self.now.store number }
+        ensures { into.new ≡ bytes_at number at (length into.old) self.now.store }
+    {
+        into.copy_from_slice(self.bytes(number, at, into.len()));
+    }
+}

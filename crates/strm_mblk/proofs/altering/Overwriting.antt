@@ -1,0 +1,115 @@
+-- Bytes are written over those of a message, block by block.
+use Rattle.std.proofs.Common.{◌≡◌, ℕ, ◌+◌, ◌-◌, ◌<◌, ◌≤◌, Bool, true, false, ◌&&◌, ◌||◌, List, [], ◌∷◌, ◌++◌, length, drop, take, get_or, None, Some, refl, sym, ap, ◌∙◌, subst, inl, inr, arith, get_or-set_same, get_or-set_other}
+use Rattle.std.specs.Prelude.{◌⊎◌, count_by, min, nat_lt, slice_get}
+use Rattle.std.proofs.lemmas.Bool.{cases_eq, cases_lt, false≢true, lt-ltb}
+use Rattle.std.proofs.lemmas.List.{length-drop, set_past, take-append-drop}
+use Rattle.std.proofs.Math.Nat.{min-le_left, min-le_right}
+use Rattle.strm_data.specs.DataStore.{DataStore, data_block_at, no_data_block, with_bytes_written}
+use Rattle.strm_mblk.specs.Arena.{Arena, held_at, message_at, references_to, shelved_blocks, without_held}
+use Rattle.strm_mblk.specs.Block.{Block, Message, uses_data}
+use Rattle.strm_mblk.specs.InPlace.{bytes_within, store_overwritten, touches_shared}
+use Rattle.strm_mblk.specs.Messages.{blocks_of}
+use Rattle.strm_mblk.proofs.arena.Frame.{Leaves, held_named, leaves_data, naming_at, other_head, shelved_named}
+use Rattle.strm_mblk.proofs.arena.Moves.{out_of_held}
+use Rattle.strm_mblk.proofs.lists.Additive.{count_adds}
+use Rattle.strm_mblk.proofs.lists.ListParts.{drop_from}
+
+-- what is written is within the places of its block
+pub written_within : (offset len capacity skip n : ℕ) → offset + len ≤ capacity → offset + min skip len + min n (len - skip) ≤ capacity
+written_within offset len capacity skip n within = omega (arith, within, min-le_left skip len, min-le_right skip len, min-le_right n (len - skip))
+
+pub and_false : (b : Bool) → (b && false) ≡ false
+and_false true = refl
+and_false false = refl
+
+module _ (m : Message) (k : ℕ) (b : Block) (is : slice_get m k ≡ Some b) where
+  -- the bytes from block k on are those in it, and those behind it
+  pub touches_next : (a : Arena) (skip left : ℕ) → touches_shared a skip left (drop k m)
+      ≡ ((nat_lt 0 (bytes_within skip left b) && nat_lt 1 (references_to a b.data_number)) || touches_shared a (skip - b.len) (left - bytes_within skip left b) (drop (k + 1) m))
+  touches_next a skip left = ap (touches_shared a skip left) (drop_from m k b is)
+
+  pub overwritten_next : (s : DataStore) (skip : ℕ) (rest : List ℕ) → store_overwritten skip rest (drop k m) s
+      ≡ store_overwritten (skip - b.len) (drop (bytes_within skip (length rest) b) rest) (drop (k + 1) m)
+      (with_bytes_written b.data_number (b.offset + min skip b.len) (take (bytes_within skip (length rest) b) rest) s)
+  overwritten_next s skip rest = ap (λ bs. store_overwritten skip rest bs s) (drop_from m k b is)
+
+-- ---- data blocks that stay
+
+-- where nothing is written nothing changes
+written_nothing : (s : DataStore) (d p : ℕ) → data_block_at (with_bytes_written d p [] s) d ≡ data_block_at s d
+written_nothing s d p =
+    elim (cases_lt d (length s.blocks)) [
+      | inl there ↦ get_or-set_same s.blocks d _ no_data_block there ∙ ap (λ bytes. record (data_block_at s d) { bytes = bytes }) same
+      | inr past ↦ ap (λ xs. get_or xs d no_data_block) (set_past s.blocks d _ past)
+    ]
+  where
+    same : take p (data_block_at s d).bytes ++ drop (p + 0) (data_block_at s d).bytes ≡ (data_block_at s d).bytes
+    same =
+        let start : p + 0 ≡ p = omega arith in
+        ap (λ n. take p (data_block_at s d).bytes ++ drop n (data_block_at s d).bytes) start ∙ take-append-drop p (data_block_at s d).bytes
+
+either : (b c : Bool) → (b || c) ≡ false → (b ≡ false) × (c ≡ false)
+either true c is = absurd cc
+either false c is = (refl, is)
+
+-- none of n bytes is written if none is in an unshared data block
+none_here : (n r : ℕ) → (nat_lt 0 n && nat_lt 1 r) ≡ false → 1 < r → n ≡ 0
+none_here n r none many =
+    elim (cases_lt 0 n) [
+      | inl some ↦ absurd (false≢true (sym none ∙ ap (λ p. p && nat_lt 1 r) (lt-ltb 0 n some) ∙ lt-ltb 1 r many))
+      | inr few ↦ omega (arith, few)
+    ]
+
+-- a data block stays that no block of the message uses, or that has other references
+pub other_stays : (a : Arena) (d at : ℕ) (bytes : List ℕ) (m : Message) (s : DataStore) → touches_shared a at (length bytes) m ≡ false → (count_by (uses_data d) m ≡ 0) ⊎ (1 < references_to a d)
+    → data_block_at (store_overwritten at bytes m s) d ≡ data_block_at s d
+other_stays a d at bytes [] s none why = refl
+other_stays a d at bytes (b ∷ bs) s none why =
+    let n = bytes_within at (length bytes) b in
+    let parts = either (nat_lt 0 n && nat_lt 1 (references_to a b.data_number)) (touches_shared a (at - b.len) (length bytes - n) bs) none in
+    other_stays a d (at - b.len) (drop n bytes) bs (with_bytes_written b.data_number (b.offset + min at b.len) (take n bytes) s)
+    (ap (λ l. touches_shared a (at - b.len) l bs) (length-drop n bytes) ∙ parts.1) (behind why)
+    ∙ here n parts.0 (cases_eq b.data_number d)
+  where
+    counted : count_by (uses_data d) (b ∷ bs) ≡ count_by (uses_data d) (b ∷ []) + count_by (uses_data d) bs
+    counted = (count_adds (uses_data d)).both (b ∷ []) bs
+
+    behind : (count_by (uses_data d) (b ∷ bs) ≡ 0) ⊎ (1 < references_to a d) → (count_by (uses_data d) bs ≡ 0) ⊎ (1 < references_to a d)
+    behind (inl unused) = inl (omega (arith, unused, counted))
+    behind (inr many) = inr many
+
+    used : b.data_number ≡ d → (count_by (uses_data d) (b ∷ bs) ≡ 0) ⊎ (1 < references_to a d) → 1 < references_to a d
+    used same (inl unused) = absurd (omega (arith, unused, naming_at (b ∷ bs) 0 b refl, ap (λ e. count_by (uses_data e) (b ∷ bs)) same))
+    used same (inr many) = many
+
+    here : (n : ℕ) → (nat_lt 0 n && nat_lt 1 (references_to a b.data_number)) ≡ false → (b.data_number ≡ d) ⊎ (b.data_number ≡ d → ⊥)
+        → data_block_at (with_bytes_written b.data_number (b.offset + min at b.len) (take n bytes) s) d ≡ data_block_at s d
+    here n few (inr other) = get_or-set_other s.blocks b.data_number d _ no_data_block (λ same. other (sym same))
+    here n few (inl same) =
+        let nothing = none_here n (references_to a b.data_number) few (subst (λ e. 1 < references_to a e) (sym same) (used same why)) in
+        subst (λ e. data_block_at (with_bytes_written e (b.offset + min at b.len) (take n bytes) s) d ≡ data_block_at s d) (sym same)
+        (ap (λ k. data_block_at (with_bytes_written d (b.offset + min at b.len) (take k bytes) s) d) nothing ∙ written_nothing s d (b.offset + min at b.len))
+
+-- what a call leaves that writes over bytes of the message held at h
+module _ (a : Arena) (h : ℕ) (m : Message) (is : held_at a h ≡ Some m) (at : ℕ) (bytes : List ℕ) (none : touches_shared a at (length bytes) m ≡ false) where
+  abbrev new : Arena
+  new = record a { store = store_overwritten at bytes m a.store }
+
+  -- a data block stays that another message uses
+  stays : (d n : ℕ) → 0 < n → n + count_by (uses_data d) m ≤ references_to a d → data_block_at new.store d ≡ data_block_at a.store d
+  stays d n some within =
+      other_stays a d at bytes m a.store none
+      (elim (cases_lt 0 (count_by (uses_data d) m)) [ inl used ↦ inr (omega (arith, some, within, used)) | inr unused ↦ inl (omega (arith, unused)) ])
+
+  pub leaves_overwritten : Leaves (h ∷ []) a new
+  leaves_overwritten =
+      leaves_data a new (h ∷ []) (record { id = refl; size = refl; held = λ g other. refl }) refl
+      (λ d some. stays d (count_by (uses_data d) (shelved_blocks a)) some (omega (arith, out_of_held a h m (uses_data d) is, shelved_named (without_held h a) d)))
+      (λ g d other some.
+      stays d (count_by (uses_data d) (message_at a g)) some
+      (omega (
+        arith,
+        out_of_held a h m (uses_data d) is,
+        held_named (without_held h a) g d,
+        ap (λ o. count_by (uses_data d) (blocks_of o)) (get_or-set_other a.held h g None None (other_head g h [] other)),
+      )))
