@@ -1,14 +1,15 @@
 -- A call on a part of a pool is one on the whole.
-use Rattle.std.proofs.Common.{◌≡◌, ℕ, List, Option, Result, Ok, Err, refl, sym, ap, ◌∙◌, subst}
-use Rattle.std.specs.Prelude.{option_map}
+use Rattle.std.proofs.Common.{◌≡◌, ℕ, List, [], ◌∷◌, Option, None, Result, Ok, Err, refl, sym, ap, ◌∙◌, subst}
+use Rattle.std.specs.Prelude.{MatchResult, option_map}
 use Rattle.strm_data.specs.declared.refusal.Refusal.{Refusal}
 use Rattle.strm_mblk.specs.declared.rejected.Rejected.{Rejected}
 use Rattle.strm_mblk.specs.declared.token.TokenValue.{TokenValue}
 use Rattle.strm_mblk.specs.Arena.{Arena, token_of}
-use Rattle.strm_mblk.specs.Calls.{Alters, Flushes, Frees, Gives, Joins, LeavesBlocks, Parts, Puts, Spends, Takes, TakesAny, Unlinks, itself}
+use Rattle.strm_mblk.specs.Calls.{Alters, Flushes, Frees, Gives, Joins, LeavesBlocks, Lends, Parts, Puts, Spends, Takes, TakesAny, Transfers, Unlinks, itself}
 use Rattle.strm_mblk.specs.Frame.{LeavesShelves}
 use Rattle.strm_mblk.specs.Freeing as freeing
-use Rattle.strm_mblk.specs.Given.{Given, answer_map, answer_of, or_rejected, value_after}
+use Rattle.strm_mblk.specs.Given.{Given, answer_map, answer_of, or_rejected, value_after, without_token}
+use Rattle.strm_mblk.proofs.arena.Frame.{leaves_same}
 use Rattle.strm_queue.specs.QueuedBlocks as on
 use Rattle.strm_queue.specs.QueuedBlocks.{Agrees, QueuedBlocks, QueuesValue}
 use Rattle.strm_queue.proofs.agreeing.Agreeing.{agrees_left}
@@ -42,8 +43,8 @@ module _ {u v : PoolValue} {b : Arena} (view : u ≡ v) where
         shelves = g.shelves;
       })
 
-  pub alters_on : {s t : TokenValue} {result : Result (Unit {0}) Refusal} (call : Arena → Given Arena (Unit {0})) → Alters itself s t (call u.arena) u.arena b result → Alters arena s t (on_arena v (call v.arena)) v (with_arena u b) result
-  alters_on {s} {t} {result} call g =
+  pub alters_on : {X : Type 0} {s t : TokenValue} {result : Result X Refusal} (call : Arena → Given Arena X) → Alters itself s t (call u.arena) u.arena b result → Alters arena s t (on_arena v (call v.arena)) v (with_arena u b) result
+  alters_on {X} {s} {t} {result} call g =
       subst (λ w. Alters arena s t (on_arena w (call w.arena)) w (with_arena u b) result) view
       (record {
         after = arena_after u (call u.arena) b g.after;
@@ -106,6 +107,43 @@ module _ {u v : PoolValue} {b : Arena} (view : u ≡ v) where
 
   pub spends_on : (t : TokenValue) → Spends itself t (freeing.with_token_spent u.arena t) u.arena b → Spends arena t (with_token_spent v t) v (with_arena u b)
   spends_on t g = subst (λ w. Spends arena t (with_token_spent w t) w (with_arena u b)) view (record { after = ap (with_arena u) g.after; gone = g.gone; others = g.others; shelves = g.shelves })
+
+-- what becomes of a message that is transferred, if it is not refused
+spent_on : (u v : PoolValue) (b : Arena) (t : TokenValue) → u ≡ v → (result : Result TokenValue Rejected)
+    → MatchResult result (λ made. Spends itself t (freeing.with_token_spent u.arena t) u.arena b) (λ rejected. (rejected.token ≡ t) × (b ≡ u.arena))
+    → MatchResult result (λ made. Spends arena t (with_token_spent v t) v (with_arena u b)) (λ rejected. (rejected.token ≡ t) × (with_arena u b ≡ v))
+spent_on u v b t view (Ok made) is = spends_on view t is
+spent_on u v b t view (Err rejected) is = (is.0, ap (with_arena u) is.1 ∙ view)
+
+-- on two pools
+pub transfers_on : {u v x y : PoolValue} {b d : Arena} {t : TokenValue} {result : Result TokenValue Rejected} → u ≡ v → x ≡ y → (call : Arena → Arena → Given Arena ℕ)
+    → Transfers itself t (call u.arena x.arena) (freeing.with_token_spent u.arena t) u.arena b x.arena d result → Transfers arena t (on_arena y (call v.arena y.arena)) (with_token_spent v t) v (with_arena u b) y (with_arena x d) result
+transfers_on {u} {v} {x} {y} {b} {d} {t} {result} view other call g = record {
+  there = gives_on other (call v.arena) (subst (λ w. Gives itself None (call w.arena x.arena) x.arena d (without_token result)) view g.there);
+  here = spent_on u v b t view result g.here;
+}
+
+-- a transfer leaves the shelves of the pool that spends the token
+pub transferred_shelves : (t : TokenValue) (a b next : Arena) (result : Result TokenValue Rejected) → MatchResult result (λ made. Spends itself t next a b) (λ rejected. (rejected.token ≡ t) × (b ≡ a)) → LeavesShelves (t.head ∷ []) a b
+transferred_shelves t a b next (Ok made) is = is.shelves
+transferred_shelves t a b next (Err rejected) is = subst (LeavesShelves (t.head ∷ []) a) (sym is.1) (leaves_same a (t.head ∷ [])).shelves
+
+-- a call that lends bytes leaves the shelves
+pub lent_shelves : {X R : Type 0} (t : TokenValue) (closure : List ℕ → R → List ℕ → Type 0) (call : R → List ℕ → Given Arena X) (a b : Arena) (result : Result X Refusal) (lent : Result (List ℕ) Refusal)
+    → Lends itself t closure lent call a b result → LeavesShelves (t.head ∷ []) a b
+lent_shelves t closure call a b result (Ok bytes) g = g.1.after.shelves
+lent_shelves t closure call a b result (Err why) g = g.shelves
+
+module _ {X R : Type 0} (u v : PoolValue) (b : Arena) (view : u ≡ v) (t : TokenValue) (closure : List ℕ → R → List ℕ → Type 0) (result : Result X Refusal) where
+  -- the bytes that are lent, and what the call does then
+  lent_on : (lent : Result (List ℕ) Refusal) (call : R → List ℕ → Given Arena X) → Lends itself t closure lent call u.arena b result → Lends arena t closure lent (λ r left. on_arena u (call r left)) u (with_arena u b) result
+  lent_on (Ok bytes) call g = (g.0, record { left = g.1.left; long = g.1.long; called = g.1.called; after = alters_on {u = u} {v = u} refl (λ _. call g.0 g.1.left) g.1.after })
+  lent_on (Err why) call g = alters_on {u = u} {v = u} refl (λ _. Err why) g
+
+  pub lends_on : (lent : Arena → Result (List ℕ) Refusal) (call : R → List ℕ → Arena → Given Arena X) → Lends itself t closure (lent u.arena) (λ r left. call r left u.arena) u.arena b result
+      → Lends arena t closure (lent v.arena) (λ r left. on_arena v (call r left v.arena)) v (with_arena u b) result
+  lends_on lent call g =
+      subst (λ w. Lends arena t closure (lent w.arena) (λ r left. on_arena w (call r left w.arena)) w (with_arena u b) result) view (lent_on (lent u.arena) (λ r left. call r left u.arena) g)
 
 -- ---- on queues
 

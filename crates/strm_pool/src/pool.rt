@@ -10,6 +10,8 @@ ghost use Rattle.strm_pool.specs.Registers.{CarryId, AreOfHeld, entries_of};
 ghost use Rattle.strm_queue.specs.QueuedBlocks.{Agrees};
 
 mod blocks;
+mod in_place;
+mod looks;
 mod queues;
 mod wishes;
 

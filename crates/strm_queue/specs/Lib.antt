@@ -9,4 +9,5 @@ pub mod BandSets
 pub mod Tallies
 pub mod QueuedBlocks
 pub mod QueueCalls
+pub mod QueueLooks
 pub mod QueuesLayout

@@ -9,6 +9,7 @@ mod mark_table;
 mod marks;
 mod queue_info;
 mod queue_spec;
+mod queued_info;
 mod queues;
 mod tally;
 
@@ -18,4 +19,5 @@ pub use limits::{BANDS, MOST_QUEUES};
 pub use marks::Marks;
 pub use queue_info::QueueInfo;
 pub use queue_spec::QueueSpec;
+pub use queued_info::QueuedInfo;
 pub use queues::Queues;

@@ -18,6 +18,7 @@ mod enabling;
 mod flags;
 mod flushing;
 mod getting;
+mod looking;
 mod marking;
 mod places;
 mod putting;

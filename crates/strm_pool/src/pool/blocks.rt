@@ -4,7 +4,7 @@ ghost use Rattle.std.specs.Option.{option_map_or};
 ghost use Rattle.strm_mblk.specs.Arena.{has, message_at};
 ghost use Rattle.strm_mblk.specs.Block.{bytes_of, data_size_of, size_of};
 ghost use Rattle.strm_mblk.specs.BlockCalls as blocks;
-ghost use Rattle.strm_mblk.specs.Calls.{Alters, Frees, Gives, Joins, Parts, Spends, Unlinks};
+ghost use Rattle.strm_mblk.specs.Calls.{Alters, Frees, Gives, Joins, Parts, Spends, Transfers, Unlinks};
 ghost use Rattle.strm_mblk.specs.Given.{answer_of, given_nothing};
 ghost use Rattle.strm_mblk.specs.Trimming as trimming;
 ghost use Rattle.strm_pool.specs.Limits.{most_octets};
@@ -208,6 +208,17 @@ impl Pool {
         ensures { Spends arena token (with_token_spent self.old token) self.old self.new }
     {
         self.blocks.freemsg(token);
+    }
+
+    /// Makes a message anew in another pool, frees it here, and returns the new one's token, which is one of `other`. Returns
+    /// the token with `TooLarge`, `NoMblk`, then `NoData`. As [`Blocks::transfer`] of strm_mblk.
+    pub fn transfer(&mut self, other: &mut Pool, token: Token) -> Result<Token, Rejected>
+        requires { IsTrue (has self.old.arena token) }
+        ensures { Transfers arena token (on_arena other.old
+            (blocks.transfer self.old.arena token.head other.old.arena))
+            (with_token_spent self.old token) self.old self.new other.old other.new result }
+    {
+        self.blocks.transfer(&mut other.blocks, token)
     }
 
     // The bytes of a message from a place on, as many as a reply carries.

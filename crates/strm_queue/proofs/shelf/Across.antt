@@ -1,15 +1,22 @@
 -- A message on one shelf is the only one on all shelves with its head.
-use Rattle.std.proofs.Common.{◌≡◌, ℕ, zero, suc, ◌<◌, ◌≤◌, ◌==◌, List, [], ◌∷◌, ◌++◌, length, get_or, refl, ap, ◌∙◌, subst, arith}
-use Rattle.std.specs.Prelude.{count_by, filter, nat_lt, slice_get}
+use Rattle.std.proofs.Common.{◌≡◌, ℕ, zero, suc, Bool, true, Ok, map, ◌+◌, ◌<◌, ◌≤◌, ◌==◌, List, [], ◌∷◌, ◌++◌, length, take, drop, get_or, Option, None, Some, refl, sym, ap, ◌∙◌, subst, arith}
+use Rattle.std.proofs.lemmas.List.{take-append-drop}
+use Rattle.std.proofs.lemmas.Option.{none-some, same_Some, slice_get-map}
+use Rattle.std.specs.Prelude.{count_by, filter, is_some, nat_lt, option_map, slice_get}
+use Rattle.std.proofs.lemmas.List.Quantifiers.{position-Some}
 use Rattle.std.specs.List.{All, flat_map}
-use Rattle.std.proofs.lemmas.List.Elements.{filter-append}
-use Rattle.strm_links.specs.Rows.{IsApart}
+use Rattle.std.proofs.lemmas.List.Elements.{filter-append, filter_passes}
+use Rattle.std.proofs.lemmas.Bool.{eqb-true, false≢true}
+use Rattle.strm_links.specs.Rows.{IsApart, after, has}
 use Rattle.strm_mblk.specs.Arena.{Arena, IsParted, shelf_at}
-use Rattle.strm_mblk.specs.Block.{Message, head_of}
-use Rattle.strm_mblk.specs.Messages.{blocks_of, blocks_on}
-use Rattle.strm_mblk.specs.Shelves.{shelved_message}
+use Rattle.strm_mblk.specs.Block.{Block, Message, head_of, kind_of, size_of}
+use Rattle.strm_mblk.specs.Messages.{blocks_of, blocks_on, with_head}
+use Rattle.strm_mblk.specs.Shelves.{head_block, heads_at, is_on, shelf_of, shelved_message}
+use Rattle.strm_data.specs.declared.msg_type.MsgType.{MsgType}
+use Rattle.strm_queue.specs.QueueLooks.{head_behind, info_of_message}
 use Rattle.strm_mblk.proofs.arena.Counts.{blocks_in_adds, count_adds, times-all}
 use Rattle.strm_mblk.proofs.arena.Moves.{head_counts, number_is, one_most}
+use Rattle.strm_mblk.proofs.lists.ListParts.{drop_from}
 use Rattle.strm_mblk.proofs.shelving.Shelving.{none_begins, parted_adds}
 use Rattle.strm_mblk.proofs.arena.Stands.{heads_apart}
 use Rattle.strm_queue.proofs.shelf.OnShelf.{heads, with-at}
@@ -87,3 +94,69 @@ module _ (a : Arena) (parted : IsParted a) where
     shelved_message_at =
         ap (λ ms. blocks_of (slice_get ms 0))
         (across (head_of m) a.shelves q m parted.shelved (once_on (head_of m)) (ap (begun (head_of m)) is ∙ with-at pre post m apart_here) some_here refl)
+
+-- a list at one of its places
+pub split_there : {X : Type 0} (xs : List X) (k : ℕ) (x : X) → slice_get xs k ≡ Some x → xs ≡ take k xs ++ x ∷ drop (k + 1) xs
+split_there xs k x is = sym (take-append-drop k xs) ∙ ap (λ ys. take k xs ++ ys) (drop_from xs k x is)
+
+-- the message at a place of a shelf, by its head
+pub message_at_place : (a : Arena) → IsParted a → (q k h : ℕ) → slice_get (heads_at a q) k ≡ Some h → slice_get (shelf_at a q) k ≡ Some (shelved_message a h)
+message_at_place a parted q k h is = of_place (slice_get (shelf_at a q) k) refl
+  where
+    seen : slice_get (heads_at a q) k ≡ option_map head_of (slice_get (shelf_at a q) k)
+    seen = slice_get-map head_of (shelf_at a q) k
+
+    of_place : (o : Option Message) → slice_get (shelf_at a q) k ≡ o → o ≡ Some (shelved_message a h)
+    of_place None none = absurd (none-some h (sym (seen ∙ ap (option_map head_of) none) ∙ is))
+    of_place (Some m) some =
+        let same : head_of m ≡ h = same_Some (head_of m) h (sym (seen ∙ ap (option_map head_of) some) ∙ is) in
+        ap Some (sym (shelved_message_at a parted q (take k (shelf_at a q)) (drop (k + 1) (shelf_at a q)) m (split_there (shelf_at a q) k m some)) ∙ ap (shelved_message a) same)
+
+-- there is none where there is no head
+pub no_message_at_place : (a : Arena) (q k : ℕ) → slice_get (heads_at a q) k ≡ None → slice_get (shelf_at a q) k ≡ None
+no_message_at_place a q k is = of_place (slice_get (shelf_at a q) k) refl
+  where
+    of_place : (o : Option Message) → slice_get (shelf_at a q) k ≡ o → o ≡ None
+    of_place None none = refl
+    of_place (Some m) some = absurd (none-some (head_of m) (sym is ∙ slice_get-map head_of (shelf_at a q) k ∙ ap (option_map head_of) some))
+
+-- ---- what a message with a head is like
+
+first_passes : {X : Type 0} (p : X → Bool) (xs : List X) (m : X) → slice_get (filter p xs) 0 ≡ Some m → p m ≡ true
+first_passes {X} p xs m is = of_list (filter p xs) (filter_passes p xs) is
+  where
+    of_list : (ys : List X) → All (λ x. p x ≡ true) ys → slice_get ys 0 ≡ Some m → p m ≡ true
+    of_list [] all at = absurd (none-some m at)
+    of_list (y ∷ ys) all at = subst (λ x. p x ≡ true) (same_Some y m at) (all 0 y (omega arith))
+
+-- a message that is found by its head has it
+begins_with_head : (h : ℕ) (o : Option Message) (ms : List Message) → slice_get (filter (λ m. head_of m == h) ms) 0 ≡ o → (b : Block) (bs : Message) → blocks_of o ≡ b ∷ bs → b.number ≡ h
+begins_with_head h None ms is b bs none = absurd cc
+begins_with_head h (Some m) ms is b bs some = sym (ap head_of some) ∙ eqb-true (head_of m) h (first_passes (λ m. head_of m == h) ms m is)
+
+pub info_told : (a : Arena) (h : ℕ) (kind : MsgType) (band size blocks : ℕ) → option_map (kind_of a.store) (head_block a h) ≡ Some kind → option_map (λ (b : Block). b.band) (head_block a h) ≡ Some band
+    → size ≡ size_of (shelved_message a h) → blocks ≡ length (shelved_message a h) → info_of_message a.store (shelved_message a h) ≡ Ok (record { head = h; kind = kind; band = band; size = size; blocks = blocks })
+info_told a h kind band size blocks kinds bands sizes lengths = of_message (shelved_message a h) refl
+  where
+    of_message : (m : Message) → shelved_message a h ≡ m → info_of_message a.store m ≡ Ok (record { head = h; kind = kind; band = band; size = size; blocks = blocks })
+    of_message [] none = absurd (none-some kind (sym (ap (λ (m : Message). option_map (kind_of a.store) (slice_get m 0)) none) ∙ kinds))
+    of_message (b ∷ bs) some =
+        let number = begins_with_head h (with_head head_of h (flat_map (λ ms. ms) a.shelves)) (flat_map (λ ms. ms) a.shelves) refl b bs some in
+        let kind_is = same_Some (kind_of a.store b) kind (sym (ap (λ (m : Message). option_map (kind_of a.store) (slice_get m 0)) some) ∙ kinds) in
+        let band_is = same_Some b.band band (sym (ap (λ (m : Message). option_map (λ (c : Block). c.band) (slice_get m 0)) some) ∙ bands) in
+        let size_is = sym (sizes ∙ ap size_of some) in
+        let length_is = sym (lengths ∙ ap length some) in
+        λ i. Ok (record { head = number i; kind = kind_is i; band = band_is i; size = size_is i; blocks = length_is i })
+
+-- ---- the message behind one
+
+-- a shelf that has a message with a head has that head
+shelf_has : (a : Arena) (h q : ℕ) → shelf_of a h ≡ Some q → is_on a q h ≡ true
+shelf_has a h q is = (position-Some (λ ms. has h (map head_of ms)) a.shelves q [] is).1
+
+pub behind_told : (a : Arena) (h : ℕ) → is_some (shelf_of a h) ≡ true → (next : Option ℕ) → ((q : ℕ) → is_on a q h ≡ true → next ≡ after h (heads_at a q)) → head_behind a h (shelf_of a h) ≡ Ok next
+behind_told a h some next told = of_shelf (shelf_of a h) refl some
+  where
+    of_shelf : (o : Option ℕ) → shelf_of a h ≡ o → is_some o ≡ true → head_behind a h o ≡ Ok next
+    of_shelf None none some = absurd (false≢true some)
+    of_shelf (Some q) is some = ap Ok (sym (told q (shelf_has a h q is)))

@@ -1,9 +1,8 @@
-use Rattle.std.proofs.Common.{◌≡◌, ℕ, Option, Some, None, refl, sym, ap, ◌∙◌}
-use Rattle.std.specs.Prelude.{slice_get}
-use Rattle.strm_mblk.specs.Arena.{message_at}
+use Rattle.std.proofs.Common.{◌≡◌, ℕ, Result, Ok, Err, refl, sym, ap, ◌∙◌}
+use Rattle.strm_data.specs.declared.refusal.Refusal.{Refusal}
 use Rattle.strm_mblk.specs.Block.{Block as MessageBlock}
 use Rattle.strm_mblk.specs.BlockCalls as blocks
-use Rattle.strm_mblk.specs.Given.{value_after}
+use Rattle.strm_mblk.specs.Given.{answer_map, value_after}
 use Rattle.strm_pool.specs.declared.reply.Reply.TheVariants as replies
 use Rattle.strm_pool.specs.PoolValue.{PoolValue, on_arena}
 use Rattle.strm_pool.specs.Registers.{table_of}
@@ -14,11 +13,11 @@ use Rattle.strm_pool.proofs.pool.Pool.act_block.Goals as goal
 
 -- asking leaves the pool as it was
 block_after : (v : PoolValue) (h k : ℕ) → v ≡ value_after v (on_arena v (blocks.block h k v.arena))
-block_after v h k = at (slice_get (message_at v.arena h) k)
+block_after v h k = at (blocks.block_found h k v.arena)
   where
-    at : (o : Option MessageBlock) → v ≡ value_after v (on_arena v (blocks.info_of v.arena o))
-    at None = refl
-    at (Some b) = refl
+    at : (r : Result MessageBlock Refusal) → v ≡ value_after v (on_arena v (answer_map (λ b. (blocks.info_of v.arena b, v.arena)) r))
+    at (Ok b) = refl
+    at (Err why) = refl
 
 pub returns : goal.returns
 returns c =
