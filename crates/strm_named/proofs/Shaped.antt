@@ -8,7 +8,7 @@ use Rattle.strm_links.specs.Rows as rows
 use Rattle.strm_mblk.specs.declared.rejected.Rejected.{Rejected}
 use Rattle.strm_mblk.specs.declared.token.TokenValue.{TokenValue}
 use Rattle.strm_mblk.specs.Arena.{Arena, has, token_of}
-use Rattle.strm_mblk.specs.Calls.{Alters, Frees, Gives, Joins, Parts, Puts, Takes, TakesAny, Unlinks}
+use Rattle.strm_mblk.specs.Calls.{Alters, Frees, Gives, Joins, Lends, Parts, Puts, Takes, TakesAny, Unlinks}
 use Rattle.strm_mblk.specs.Frame.{LeavesOthers}
 use Rattle.strm_mblk.specs.Given.{Given, answer_of, given_nothing, value_after}
 use Rattle.strm_mblk.proofs.arena.Frame.{leaves_same}
@@ -19,9 +19,9 @@ use Rattle.strm_named.specs.declared.fault.Fault.{Fault}
 use Rattle.strm_named.specs.declared.fault.Fault.TheVariants.{Invalid, Refused}
 use Rattle.strm_named.specs.declared.name.Name.{Name}
 use Rattle.strm_named.specs.Fitting.{Fits, IsTokenOf, pool_with_places}
-use Rattle.strm_named.specs.NamedCalls.{Does, LeavesNames, Outcome, Shape, any_message, one_message, outcome_of, no_message, two_messages}
-use Rattle.strm_named.specs.NamedValue.{NamedValue, name_of, stamp_after, stamp_at, stamps_given}
-use Rattle.strm_named.specs.PlacesValue.{PlacesValue, answer_given, answer_spent, any_answer_given, any_given, name_given, parted_given, as_named_result, stamp_in, with_answer, with_any, with_any_answer, with_given, with_parted, with_rejected, with_token, without_token}
+use Rattle.strm_named.specs.NamedCalls.{as_named_result, asked, on_name, Does, LeavesNames, LendsNamed, Outcome, Shape, any_message, one_message, outcome_of, no_message, two_messages}
+use Rattle.strm_named.specs.NamedValue.{NamedValue, is_valid, name_of, stamp_after, stamp_at, stamps_given}
+use Rattle.strm_named.specs.PlacesValue.{PlacesValue, answer_given, answer_spent, any_answer_given, any_given, name_given, parted_given, stamp_in, with_answer, with_any, with_any_answer, with_given, with_parted, with_rejected, with_token, without_token}
 use Rattle.strm_named.proofs.Fitted.{emptied, filled, fits_moved, put_back, stands_had, within_some}
 use Rattle.strm_named.proofs.Renamed.{length-stamps_given, renames, stamps_raised}
 
@@ -147,9 +147,9 @@ module _ {p r : PoolValue} {ps qs : PlacesValue} (fits : Fits p.arena ps) where
     gives_beside f {given} {answer} is places told = subst (λ h. Called one_message (outcome_of (f h)) [] p r ps qs answer) of.head (gives_new is places told)
 
     -- a message is altered, and its token may have another number of blocks
-    pub alters : (f : ℕ → Given PoolValue (Unit {0})) {s : TokenValue} {given : Result (Unit {0}) Refusal} {answer : Result (Unit {0}) Fault} → Alters arena t s (f t.head) p r given
+    pub alters : {X : Type 0} (f : ℕ → Given PoolValue X) {s : TokenValue} {given : Result X Refusal} {answer : Result X Fault} → Alters arena t s (f t.head) p r given
         → qs ≡ with_token s (without_token n.head ps) → answer ≡ as_named_result given → Called no_message (outcome_of (f n.head)) [] p r ps qs answer
-    alters f {s} {given} {answer} is places told =
+    alters {X} f {s} {given} {answer} is places told =
         subst (λ h. Called no_message (outcome_of (f h)) [] p r ps qs answer) of.head (each (f t.head) is.after (told ∙ ap as_named_result is.answer))
       where
         head : s.head ≡ t.head
@@ -161,7 +161,7 @@ module _ {p r : PoolValue} {ps qs : PlacesValue} (fits : Fits p.arena ps) where
         moved : Moves p.arena r.arena (t ∷ []) (s ∷ [])
         moved = moves_stay head of.had is.had is.others
 
-        each : (g : Given PoolValue (Unit {0})) → r ≡ value_after p g → answer ≡ as_named_result (answer_of g) → Called no_message (outcome_of g) [] p r ps qs answer
+        each : (g : Given PoolValue X) → r ≡ value_after p g → answer ≡ as_named_result (answer_of g) → Called no_message (outcome_of g) [] p r ps qs answer
         each (Ok (x, u)) after told =
             let pool : u ≡ r = sym after in
             made p r ps qs fits no_message x (t.head ∷ []) [] moved refl (ap (λ h. h ∷ []) head) (λ h none. absurd (false≢true none)) (λ i. Ok (x, pool i)) at told
@@ -171,7 +171,7 @@ module _ {p r : PoolValue} {ps qs : PlacesValue} (fits : Fits p.arena ps) where
         }
 
     -- a message is altered, and its token has as many blocks as before
-    pub stays : (f : ℕ → Given PoolValue (Unit {0})) {given : Result (Unit {0}) Refusal} {answer : Result (Unit {0}) Fault} → Alters arena t t (f t.head) p r given → qs ≡ ps → answer ≡ as_named_result given
+    pub stays : {X : Type 0} (f : ℕ → Given PoolValue X) {given : Result X Refusal} {answer : Result X Fault} → Alters arena t t (f t.head) p r given → qs ≡ ps → answer ≡ as_named_result given
         → Called no_message (outcome_of (f n.head)) [] p r ps qs answer
     stays f is places told = alters f is (places ∙ sym (ap (λ h. with_token t (without_token h ps)) (sym of.head) ∙ put_back t fits of.had)) told
 
@@ -302,3 +302,28 @@ leaves_names {X} {v} {p} {r} ps {result} call view after answer left =
 
 pub leaves_all : {a b : Arena} → b ≡ a → LeavesOthers [] a b
 leaves_all {a} same = subst (LeavesOthers [] a) (sym same) (leaves_same a []).others
+
+-- bytes of the message of a name are lent to a closure, and it stays
+module _ {X R : Type 0} (p r : PoolValue) (ps qs : PlacesValue) (fits : Fits p.arena ps) (n : Name) (t : TokenValue) (of : IsTokenOf n p.arena t) (closure : List ℕ → R → List ℕ → Type 0)
+    (f : R → List ℕ → ℕ → Given PoolValue X) (given : Result X Refusal) (answer : Result X Fault) (places : qs ≡ ps) (told : answer ≡ as_named_result given) where
+  abbrev pub IsLent : Result (List ℕ) Refusal → Type 0
+  IsLent lent = Fits r.arena qs × LendsNamed closure (as_named_result lent) (λ x left. outcome_of (f x left n.head)) (pool_with_places p ps) (pool_with_places r qs) answer
+
+  lends_each : (lent : Result (List ℕ) Refusal) → Lends arena t closure lent (λ x left. f x left t.head) p r given → IsLent lent
+  lends_each (Ok bytes) lending =
+      let called = stays fits of (f lending.0 lending.1.left) lending.1.after places told in
+      (called.fits, (lending.0, record { left = lending.1.left; long = lending.1.long; called = lending.1.called; after = called.does }))
+  lends_each (Err why) refused =
+      let called = stays fits of {X = X} (λ h. Err why) refused places told in
+      (called.fits, called.does)
+
+  pub lends : (lent : ℕ → Result (List ℕ) Refusal) → Lends arena t closure (lent t.head) (λ x left. f x left t.head) p r given → IsLent (lent n.head)
+  lends lent is = subst (λ h. IsLent (lent h)) of.head (lends_each (lent t.head) is)
+
+-- also as the definition says it, if the name is valid
+pub lends_valid : {X R : Type 0} (closure : List ℕ → R → List ℕ → Type 0) (lent : NamedValue → Result (List ℕ) Refusal) (call : R → List ℕ → NamedValue → Given PoolValue X) (n : Name) (u v w : NamedValue) (answer : Result X Fault)
+    → u ≡ v → is_valid v n ≡ true → LendsNamed closure (as_named_result (lent u)) (λ x left. outcome_of (call x left u)) u w answer
+    → LendsNamed closure (asked v n (lent v)) (λ x left. on_name v n (call x left v)) v w answer
+lends_valid {X} closure lent call n u v w answer view valid is =
+    subst (λ (b : Bool). LendsNamed closure (if b then as_named_result (lent v) else Err Invalid) (λ x left. let o : Outcome X = if b then outcome_of (call x left v) else Err Invalid in o) v w answer) (sym valid)
+    (subst (λ x. LendsNamed closure (as_named_result (lent x)) (λ y left. outcome_of (call y left x)) x w answer) view is)

@@ -1,6 +1,7 @@
 -- Calls of a pool as calls on names. Each is defined by the pool's own call; names and stamps are added.
-use Rattle.std.specs.Prelude.{◌≡◌, ℕ, ◌&&◌, not, ◌==◌, List, [], ◌∷◌, option_map, Option, None, Some, Result, Ok, Err, IfOk, if◌then◌else◌}
+use Rattle.std.specs.Prelude.{◌≡◌, ℕ, ◌&&◌, not, ◌==◌, List, [], ◌∷◌, option_map, Option, None, Some, Result, Ok, Err, IfOk, MatchResult, if◌then◌else◌}
 use Rattle.strm_data.specs.declared.refusal.Refusal.{Refusal}
+use Rattle.strm_data.specs.Lending.{Edits}
 use Rattle.strm_mblk.specs.Given.{Given, answer_of, value_after}
 use Rattle.strm_pool.specs.PoolValue.{PoolValue}
 use Rattle.strm_named.specs.declared.fault.Fault.{Fault}
@@ -30,6 +31,20 @@ on_names v n m given = if is_valid v n && (is_valid v m && not (n.head == m.head
 -- what a question about a named message answers, if the name is valid
 abbrev pub if_valid : {X : Type 0} → NamedValue → Name → X → Result X Fault
 if_valid v n answer = if is_valid v n then Ok answer else Err Invalid
+
+-- a result of the pool, with its refusal as a fault
+abbrev pub as_named_result : {X : Type 0} → Result X Refusal → Result X Fault
+as_named_result (Ok answer) = Ok answer
+as_named_result (Err why) = Err (Refused why)
+
+-- a function of what a call returned, or the call's fault
+abbrev pub result_map : {A B : Type 0} → (A → B) → Result A Fault → Result B Fault
+result_map f (Ok given) = Ok (f given)
+result_map f (Err fault) = Err fault
+
+-- what a question about a named message answers that the pool can refuse, if the name is valid
+abbrev pub asked : {X : Type 0} → NamedValue → Name → Result X Refusal → Result X Fault
+asked v n answer = if is_valid v n then as_named_result answer else Err Invalid
 
 -- ---- what a call gives
 
@@ -80,3 +95,17 @@ pub record LeavesNames {X : Type 0} (call : Given PoolValue X) (old new : NamedV
   pub pool : new ≡ with_pool old (value_after old.pool call)
   pub answer : result ≡ answer_of call
   pub names : KeepsNames old new
+
+-- A call that lends bytes of a named message to a closure, or is refused. `lent` are the bytes. `outcome` is what the call gives if the
+-- closure returns r and leaves these bytes, as many as before.
+abbrev pub LendsNamed : {X R : Type 0} → (List ℕ → R → List ℕ → Type 0) → Result (List ℕ) Fault → (R → List ℕ → Outcome X) → NamedValue → NamedValue → Result X Fault
+    → Type 0
+LendsNamed {X} {R} closure lent outcome old new answer = MatchResult lent
+    (λ bytes. (r : R) × Edits closure bytes r (λ left. Does no_message (outcome r left) [] old new answer))
+    (λ fault. let refused : Outcome X = Err fault in Does no_message refused [] old new answer)
+
+-- A call that makes the message of name n anew in another named pool, and spends n here. `outcome` is what the pool's own call gives there,
+-- and `freed` what freeing the message gives here. A refused call changes nothing.
+pub record TransfersNamed (n : Name) (outcome : Outcome ℕ) (freed : Outcome (Unit {0})) (old new other_old other_new : NamedValue) (answer : Result Name Fault) : Type 0 where
+  pub there : Does one_message outcome [] other_old other_new answer
+  pub here : MatchResult answer (λ made. Does no_message freed (n.head ∷ []) old new (Ok tt)) (λ fault. new ≡ old)

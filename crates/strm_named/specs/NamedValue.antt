@@ -1,5 +1,5 @@
 -- A named pool as a value: a pool and stamps, and which names are valid.
-use Rattle.std.specs.Prelude.{◌≡◌, ℕ, ◌+◌, ◌%◌, ◌^◌, Bool, true, false, ◌&&◌, ◌==◌, List, [], ◌∷◌, is_some, replicate, Result, Ok, Err, None, slice_index_or, slice_set}
+use Rattle.std.specs.Prelude.{◌≡◌, ℕ, ◌+◌, ◌%◌, ◌^◌, Bool, true, false, ◌&&◌, ◌==◌, List, [], ◌∷◌, is_some, option_map, replicate, Result, Ok, Err, Option, None, slice_index_or, slice_set}
 use Rattle.strm_links.specs.Rows as rows
 use Rattle.strm_mblk.specs.Arena.{held_at}
 use Rattle.strm_pool.specs.declared.config.Config.{Config}
@@ -20,6 +20,10 @@ stamp_at v h = slice_index_or v.stamps h 0
 -- the name of the last message that was given and begins with block h
 abbrev pub name_of : NamedValue → ℕ → Name
 name_of v h = record { pool = v.pool.arena.id; head = h; stamp = stamp_at v h }
+
+-- the name of the message held at h, if one is
+abbrev pub name_at : NamedValue → ℕ → Option Name
+name_at v h = option_map (λ m. name_of v h) (held_at v.pool.arena h)
 
 -- A name is valid if it has the pool's id, a message is held at its head, and its stamp is the last one there.
 abbrev pub is_valid : NamedValue → Name → Bool

@@ -88,8 +88,3 @@ with_rejected (Err rejected) p = with_token rejected.token p
 abbrev pub answer_spent : Result (Unit {0}) Rejected → Result (Unit {0}) Fault
 answer_spent (Ok done) = Ok done
 answer_spent (Err rejected) = Err (Refused rejected.why)
-
--- the pool's result as a result of the named pool
-abbrev pub as_named_result : {X : Type 0} → Result X Refusal → Result X Fault
-as_named_result (Ok answer) = Ok answer
-as_named_result (Err why) = Err (Refused why)

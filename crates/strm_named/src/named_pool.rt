@@ -1,9 +1,10 @@
 //! The pool with names: what it is made of, and what it says of names, queues and blocks.
 ghost use Rattle.std.specs.Prelude.{◌≡◌, ◌&&◌, IfOk, length, not, ◌==◌};
-ghost use Rattle.strm_named.specs.NamedValue.{HasNoNames, OpensNamed, is_valid};
+ghost use Rattle.strm_named.specs.NamedValue.{HasNoNames, OpensNamed, is_valid, name_at};
 ghost use Rattle.strm_pool.specs.Lawful.{IsLawful};
 
 mod blocks;
+mod in_place;
 mod making;
 mod queues;
 mod wishes;
@@ -74,6 +75,15 @@ impl NamedPool {
         ensures { result ≡ is_valid self.now name }
     {
         self.places.has(name)
+    }
+
+    /// Returns the name of the message that is held at a head, or none if no message is held there; a queued message is not
+    /// held. Changes nothing. Takes constant time. So a program that lost a name finds it again: it asks with the number of each
+    /// message block in turn.
+    pub fn name_at(&self, head: u32) -> Option<Name>
+        ensures { result ≡ name_at self.now head }
+    {
+        self.places.name_at(head)
     }
 
     // Whether two names are valid, and of different messages.

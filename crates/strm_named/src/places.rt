@@ -1,5 +1,5 @@
 //! Where a named pool keeps the tokens of held messages, and the stamps of their names.
-ghost use Rattle.std.specs.Prelude.{◌≡◌, IfOk, IsSome, None, Some, replicate, slice_set};
+ghost use Rattle.std.specs.Prelude.{◌≡◌, IfOk, IsSome, None, Some, option_map, replicate, slice_set};
 ghost use Rattle.strm_named.specs.PlacesValue.{answer_given, answer_spent, any_answer_given, any_given, is_named, name_given, parted_given, stamp_in, token_in, with_answer, with_any, with_any_answer, with_given, with_parted, with_rejected, with_token, without_token};
 ghost use Rattle.strm_named.specs.NamedValue.{stamp_after};
 
@@ -73,6 +73,24 @@ impl Places {
         match self.slots[head as usize].token() {
             Some(token) => token,
             None => unreachable!(),
+        }
+    }
+
+    // The name of the message that begins with a block, if its place has a token.
+    pub(crate) fn name_at(&self, head: u32) -> Option<Name>
+        ensures { result ≡ option_map (λ t. record {
+          pool = t.pool;
+          head = head;
+          stamp = stamp_in self.now head;
+        }) (token_in self.now head) }
+    {
+        match self.slots.get(head as usize)?.token() {
+            Some(token) => Some(Name {
+                pool: token.pool(),
+                head,
+                stamp: self.stamps[head as usize],
+            }),
+            None => None,
         }
     }
 

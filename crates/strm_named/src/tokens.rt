@@ -1,8 +1,9 @@
 //! From valid names to tokens, and from results of the pool to those of the named pool.
 ghost use Rattle.std.specs.Prelude.{◌≡◌, ◌≢◌, ◌&&◌, IsTrue, not, ◌==◌};
 ghost use Rattle.strm_named.specs.Fitting.{Fits, IsTokenOf, pool_with_places};
+ghost use Rattle.strm_named.specs.NamedCalls.{as_named_result};
 ghost use Rattle.strm_named.specs.NamedValue.{is_valid};
-ghost use Rattle.strm_named.specs.PlacesValue.{as_named_result, without_token};
+ghost use Rattle.strm_named.specs.PlacesValue.{without_token};
 
 use crate::fault::Fault;
 use crate::name::Name;

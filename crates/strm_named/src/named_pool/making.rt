@@ -3,13 +3,14 @@ ghost use Rattle.std.specs.Prelude.{[], ◌∷◌, Ok};
 ghost use Rattle.strm_mblk.specs.BlockCalls as blocks;
 ghost use Rattle.strm_mblk.specs.Freeing as freeing;
 ghost use Rattle.strm_mblk.specs.Given.{given_nothing};
-ghost use Rattle.strm_named.specs.NamedCalls.{Does, any_message, on_name, one_message, outcome_of, no_message};
+ghost use Rattle.strm_named.specs.NamedCalls.{Does, TransfersNamed, any_message, on_name, one_message, outcome_of, no_message};
 ghost use Rattle.strm_pool.specs.PoolValue.{on_arena, with_arena};
 
 use super::NamedPool;
 use crate::fault::Fault;
 use crate::name::Name;
 use crate::tokens::{lent, taken};
+use strm_pool::Rejected;
 
 impl NamedPool {
     /// Makes a message of one block for `size` bytes, and returns its name. Refused as `TooLarge`, `NoMblk`, then `NoData`. As
@@ -100,5 +101,27 @@ impl NamedPool {
         let token = taken(&self.pool, &mut self.places, name);
         self.pool.freemsg(token);
         Ok(())
+    }
+
+    /// Makes a message anew in another named pool, frees it here, and spends its name. Returns the new message's name, which is
+    /// one of `other`. Refused as `Invalid`, `TooLarge`, `NoMblk`, then `NoData`; nothing changes in either pool then. As
+    /// [`Blocks::transfer`] of strm_mblk.
+    pub fn transfer(&mut self, other: &mut NamedPool, name: Name) -> Result<Name, Fault>
+        ensures { TransfersNamed name (on_name self.old name (on_arena other.old.pool
+            (blocks.transfer self.old.pool.arena name.head other.old.pool.arena)))
+            (outcome_of (given_nothing (with_arena self.old.pool (freeing.freemsg name.head self.old.pool.arena))))
+            self.old self.new other.old other.new result }
+    {
+        if !self.has(name) {
+            return Err(Fault::Invalid);
+        }
+        let token = taken(&self.pool, &mut self.places, name);
+        match self.pool.transfer(&mut other.pool, token) {
+            Ok(made) => Ok(other.places.give(made)),
+            Err(Rejected { why, token }) => {
+                self.places.hold(token);
+                Err(Fault::Refused(why))
+            }
+        }
     }
 }
