@@ -1,2 +1,4 @@
 pub mod Moving
 pub mod Looping
+mod Rewriting
+mod Hopping

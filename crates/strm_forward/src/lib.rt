@@ -1,8 +1,11 @@
-//! A service procedure over a pool: it forwards messages from one queue to another under flow control.
+//! What a STREAMS module does with messages, over a pool: a service procedure that forwards them under flow control, and a
+//! router's check and rewrite of their headers, in place.
 #![tactic(auto)]
 
+mod header;
 mod service;
 
+pub use header::{HeaderFault, Outcome, age_header, hop};
 pub use service::forward;
 
 #[cfg(test)]

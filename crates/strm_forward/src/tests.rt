@@ -1,3 +1,5 @@
+mod header;
+
 ghost use Rattle.std.specs.Prelude.{IsTrue};
 ghost use Rattle.strm_mblk.specs.Arena.{has};
 
@@ -13,7 +15,7 @@ use strm_pool::{
 // Opens a pool with two queues; queue 1 is next of queue 0.
 fn opened(alloc: Global) -> Result<Pool, NewFault> {
     let mut classes = ArrayVec::new();
-    classes.push(ClassSpec { size: 16, count: 8 });
+    classes.push(ClassSpec { size: 64, count: 8 });
     let mut queues = ArrayVec::new();
     queues.push(queue(100, 50, Some(1)));
     queues.push(queue(10, 4, None));
