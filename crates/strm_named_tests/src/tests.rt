@@ -6,8 +6,10 @@ use strm_named::{Fault, Name, NamedPool};
 use strm_pool::{ClassSpec, ClassSpecs, Config, NewFault, QueueSpec, QueueSpecs, Refusal, Which};
 
 mod blocks;
+mod in_place;
 mod queues;
 mod spent;
+mod transfers;
 
 // A configuration with this id and number of message blocks, eight data blocks of 16 bytes, and two queues: 1 is next of 0.
 fn config(id: u32, mblks: u32) -> Config {

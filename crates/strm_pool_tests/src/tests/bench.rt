@@ -1,8 +1,11 @@
 //! A bench: a pool with its own registers. Each method makes calls, and compares what they return.
+use super::in_place::{InPlace, made_in_place, uncounted, write_over};
 use super::{assert_reply, classes, opened, queues, register};
 use std::alloc::Global;
 use std::process::Abort;
-use strm_pool::{Call, Pool, Refusal, Reg, Regs, Rejected, Reply, Token};
+use strm_pool::{
+    BlockInfo, BlockPlace, Call, MsgType, Pool, Refusal, Reg, Regs, Rejected, Reply, Token,
+};
 
 // A pool and its registers.
 pub(super) struct Bench {
@@ -38,6 +41,11 @@ impl Bench {
         }
     }
 
+    // The pool, to look at.
+    pub(super) fn pool(&self) -> &Pool {
+        &self.pool
+    }
+
     pub(super) fn regs(&mut self) -> &mut Regs {
         &mut self.regs
     }
@@ -65,6 +73,65 @@ impl Bench {
             assert_reply(rt, call, &given, &Reply::Done);
         }
         self.assert_heads(rt, heads);
+    }
+
+    // Makes calls in place on the message of a register, and compares each answer.
+    pub(super) fn change(
+        &mut self,
+        rt: &impl Abort,
+        reg: Reg,
+        rows: &[(InPlace<'_>, Result<u32, Refusal>)],
+    ) {
+        let token = self.taken(rt, reg);
+        for (call, answer) in rows {
+            assert!(rt; self.pool.has(&token));
+            let given = made_in_place!(self.pool, &token, *call);
+            assert!(rt; given == *answer, "{call:?} {given:?}");
+        }
+        self.hold(rt, reg, token);
+    }
+
+    // The message of a register has blocks with these places and bytes, and no other.
+    pub(super) fn assert_blocks(
+        &mut self,
+        rt: &impl Abort,
+        reg: Reg,
+        blocks: &[(BlockPlace, &[u8])],
+    ) {
+        let token = self.taken(rt, reg);
+        assert!(rt; self.pool.has(&token));
+        for place in 0..=token.blocks() {
+            let wanted = blocks
+                .get(place as usize)
+                .copied()
+                .ok_or(Refusal::NoSuchBlock);
+            let given = match (
+                self.pool.place(&token, place),
+                self.pool.bytes(&token, place),
+            ) {
+                (Ok(place), Ok(bytes)) => Ok((place, bytes)),
+                (Err(why), _) | (_, Err(why)) => Err(why),
+            };
+            assert!(rt; given == wanted, "{given:?}");
+        }
+        self.hold(rt, reg, token);
+    }
+
+    // What `walk` leaves in place of these two blocks, from a block of a register's message on.
+    pub(super) fn walked(
+        &mut self,
+        rt: &impl Abort,
+        reg: Reg,
+        from: u32,
+        blocks: [BlockInfo; 2],
+    ) -> [BlockInfo; 2] {
+        let token = self.taken(rt, reg);
+        assert!(rt; self.pool.has(&token));
+        let mut infos = blocks;
+        let count = self.pool.walk(&token, from, &mut infos);
+        assert!(rt; count == token.blocks().saturating_sub(from).min(2) as usize);
+        self.hold(rt, reg, token);
+        infos
     }
 
     // The first registers have messages with these heads.
@@ -121,6 +188,32 @@ impl Bench {
             self.pool.freemsg(token);
             panic!(rt; "a taken register");
         }
+    }
+
+    // The type and the band of a block of a register's message.
+    pub(super) fn assert_told(
+        &mut self,
+        rt: &impl Abort,
+        reg: Reg,
+        place: u32,
+        wanted: (MsgType, u8),
+    ) {
+        let token = self.taken(rt, reg);
+        assert!(rt; self.pool.has(&token));
+        let given = self.pool.block(&token, place);
+        assert!(rt; given.map(|block| (block.kind, block.band)) == Ok(wanted));
+        self.hold(rt, reg, token);
+    }
+
+    // Transfers a message to another bench's pool.
+    pub(super) fn moved(
+        &mut self,
+        rt: &impl Abort,
+        other: &mut Bench,
+        token: Token,
+    ) -> Result<Token, Rejected> {
+        assert!(rt; self.pool.has(&token));
+        self.pool.transfer(&mut other.pool, token)
     }
 
     pub(super) fn free(&mut self, token: Token) {

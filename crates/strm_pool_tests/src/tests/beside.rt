@@ -1,5 +1,8 @@
 //! Compares a pool with the second: after each call both have given the same reply, and have the same messages and marks.
+use super::in_place::{InPlace, made_in_place, uncounted, write_over};
+use super::looks::{Look, look_at_message, look_at_queues};
 use super::second::{QUEUES, REGISTERS, Second};
+use super::tally::Tally;
 use super::{assert_reply, register};
 use std::process::Abort;
 use strm_mblk::Blocks;
@@ -109,6 +112,15 @@ fn assert_queues(rt: &impl Abort, pool: &Pool, second: &Second) {
     }
 }
 
+// Both have the same messages, counts and marks.
+fn assert_both(rt: &impl Abort, pool: &Pool, regs: &mut Regs, second: &mut Second) {
+    let census = Reply::Census(pool.census());
+    assert_reply(rt, &Call::Census, &census, &second.serve(rt, &Call::Census));
+    assert_places(rt, pool, regs, second);
+    assert_counts(rt, pool, second);
+    assert_queues(rt, pool, second);
+}
+
 // Makes a call on both, on the pool by a copy of the call, and returns a copy of the reply.
 pub(super) fn serve(
     rt: &impl Abort,
@@ -120,12 +132,69 @@ pub(super) fn serve(
     assert!(rt; pool.owns(regs));
     let reply = pool.apply(regs, &call.copy());
     assert_reply(rt, call, &reply, &second.serve(rt, call));
-    let census = Reply::Census(pool.census());
-    assert_reply(rt, &Call::Census, &census, &second.serve(rt, &Call::Census));
-    assert_places(rt, pool, regs, second);
-    assert_counts(rt, pool, second);
-    assert_queues(rt, pool, second);
+    assert_both(rt, pool, regs, second);
     let copy = reply.copy();
     assert_reply(rt, call, &copy, &reply);
     copy
+}
+
+// Makes a call in place on a message of both, and returns its answer.
+fn change_message(
+    rt: &impl Abort,
+    pool: &mut Pool,
+    second: &mut Second,
+    messages: (&Token, &Token),
+    call: InPlace<'_>,
+) -> Result<u32, Refusal> {
+    let (token, other) = messages;
+    assert!(rt; pool.has(token));
+    let given = made_in_place!(pool, token, call);
+    assert!(rt;
+        given == second.change(rt, other, call),
+        "{call:?} {given:?}"
+    );
+    given
+}
+
+// Makes a call in place on both, if the register has a message, and returns its answer.
+pub(super) fn change(
+    rt: &impl Abort,
+    pool: &mut Pool,
+    regs: &mut Regs,
+    second: &mut Second,
+    reg: Reg,
+    call: InPlace<'_>,
+) -> Option<Result<u32, Refusal>> {
+    let mut answer = None;
+    if let Some(token) = regs.take(reg) {
+        if let Some(other) = second.places().take(reg) {
+            answer = Some(change_message(rt, pool, second, (&token, &other), call));
+            put_back(rt, second.places(), reg, other);
+        }
+        put_back(rt, regs, reg, token);
+    }
+    assert_both(rt, pool, regs, second);
+    answer
+}
+
+// Looks at a message and at queues of both, which changes nothing, and counts each look.
+pub(super) fn look(
+    rt: &impl Abort,
+    tally: &mut Tally,
+    pool: &Pool,
+    regs: &mut Regs,
+    second: &mut Second,
+    look: Look,
+) {
+    let Look { reg, place, .. } = look;
+    look_at_queues(rt, tally, pool, second, look);
+    if let Some(token) = regs.take(reg) {
+        if let Some(other) = second.places().take(reg) {
+            let plain = second.plain(rt, &other);
+            look_at_message(rt, tally, pool, &token, &plain, place);
+            put_back(rt, second.places(), reg, other);
+        }
+        put_back(rt, regs, reg, token);
+    }
+    assert_both(rt, pool, regs, second);
 }

@@ -3,15 +3,17 @@ ghost use Rattle.std.specs.Prelude.{◌<◌, ◌≤◌, IsTrue};
 ghost use Rattle.strm_data.specs.Classes.{are_lawful};
 ghost use Rattle.strm_mblk.specs.Limits.{most_message_blocks};
 
-use super::beside::serve;
+use super::beside::{change, look, serve};
 use super::flow::SPECS;
+use super::in_place::{InPlace, name_of};
+use super::looks::Look;
 use super::second::{REGISTERS, Second};
-use super::tally::Tally;
+use super::tally::{Answer, Tally};
 use super::{octets, opened, reg};
 use arrayvec::ArrayVec;
 use std::alloc::Global;
 use std::process::Abort;
-use strm_pool::{Call, ClassSpec, ClassSpecs, Flush, MsgType, Pool, QueueSpecs, Reg, Regs};
+use strm_pool::{Call, ClassSpec, ClassSpecs, Flush, MsgType, Octets, Pool, QueueSpecs, Reg, Regs};
 
 // Few data blocks of each size, so that random calls meet every refusal but that of 255 references.
 const SMALL: [ClassSpec; 3] = [
@@ -48,14 +50,14 @@ fn any_reg(rt: &impl Abort, draw: &mut u32) -> Reg {
     Reg::new(below(draw, u32::from(REGISTERS)) as u8).expect(rt, "a letter")
 }
 
-// A random `write` of up to 12 bytes.
-fn any_write(rt: &impl Abort, draw: &mut u32, reg: Reg, place: u32) -> Call {
+// Up to 12 random bytes.
+fn any_bytes(rt: &impl Abort, draw: &mut u32) -> Octets {
     let mut bytes = [0; 12];
     for byte in bytes.iter_mut() {
         *byte = below(draw, 256) as u8;
     }
     let count = below(draw, 13) as usize;
-    Call::Write(reg, place, octets(rt, &bytes[..count]))
+    octets(rt, &bytes[..count])
 }
 
 // A random call that makes a message.
@@ -74,7 +76,7 @@ fn any_new(draw: &mut u32, from: Reg, into: Reg) -> Call {
 fn any_alteration(rt: &impl Abort, draw: &mut u32, reg: Reg) -> Call {
     let place = below(draw, 9) / 6;
     match below(draw, 16) {
-        0..8 => any_write(rt, draw, reg, place),
+        0..8 => Call::Write(reg, place, any_bytes(rt, draw)),
         8 => Call::Settype(reg, place, KINDS[below(draw, 4) as usize]),
         9..11 => Call::Setband(reg, below(draw, 3) as u8),
         11..13 => Call::Adjmsg(reg, (below(draw, 16) as i32).wrapping_sub(8)),
@@ -163,6 +165,31 @@ fn any_call(rt: &impl Abort, draw: &mut u32, wished: u32) -> Call {
     }
 }
 
+// A random call in place, with these bytes.
+fn any_in_place<'a>(draw: &mut u32, bytes: &'a [u8]) -> InPlace<'a> {
+    let place = below(draw, 9) / 6;
+    match below(draw, 14) {
+        0..2 => InPlace::Edit(place, bytes),
+        2..4 => InPlace::Fill(place, bytes, below(draw, 16) as usize),
+        4..6 => InPlace::Advance(place, below(draw, 8)),
+        6..9 => InPlace::Reserve(place, below(draw, 20)),
+        9..12 => InPlace::Prepend(bytes),
+        _ => InPlace::Overwrite(below(draw, 12), bytes),
+    }
+}
+
+// Where a random look goes. Queues are drawn as in `any_control`.
+fn any_look(rt: &impl Abort, draw: &mut u32) -> Look {
+    Look {
+        reg: any_reg(rt, draw),
+        queue: (below(draw, 13) / 4) as u8,
+        place: below(draw, 3),
+        head: below(draw, 18),
+        at: below(draw, 8),
+        room: below(draw, 20) as usize,
+    }
+}
+
 impl Both {
     // Opens a pool and a second, with these classes and three queues.
     fn opened(rt: &impl Abort, alloc: Global, mblks: u32, classes: &[ClassSpec]) -> Both
@@ -187,6 +214,32 @@ impl Both {
         tally.count(rt, call, &reply);
     }
 
+    // Makes a call in place on both, and counts it.
+    fn change(&mut self, rt: &impl Abort, tally: &mut Tally, reg: Reg, call: InPlace<'_>) {
+        let Both { pool, regs, second } = self;
+        if let Some(answer) = change(rt, pool, regs, second, reg, call) {
+            tally.count_named(rt, name_of(call), Answer::of(&answer));
+        }
+    }
+
+    // Makes a random call on both.
+    fn serve_any(&mut self, rt: &impl Abort, tally: &mut Tally, draw: &mut u32) {
+        match below(draw, 15) {
+            0..2 => {
+                let (reg, bytes) = (any_reg(rt, draw), any_bytes(rt, draw));
+                self.change(rt, tally, reg, any_in_place(draw, bytes.items()));
+            }
+            2 => {
+                let Both { pool, regs, second } = self;
+                look(rt, tally, pool, regs, second, any_look(rt, draw));
+            }
+            _ => {
+                let call = any_call(rt, draw, self.second.wished());
+                self.serve(rt, tally, &call);
+            }
+        }
+    }
+
     // Frees all messages that are not on queues.
     fn end(self, rt: &impl Abort) {
         let Both {
@@ -202,10 +255,9 @@ impl Both {
 
 // Makes this number of random calls.
 fn serve_any(rt: &impl Abort, both: &mut Both, tally: &mut Tally, calls: u32) {
-    let mut draw = 1;
+    let mut draw = 3;
     for _call in 0..calls {
-        let call = any_call(rt, &mut draw, both.second.wished());
-        both.serve(rt, tally, &call);
+        both.serve_any(rt, tally, &mut draw);
     }
 }
 

@@ -5,6 +5,8 @@ ghost use Rattle.strm_data.specs.Classes.{are_lawful};
 ghost use Rattle.strm_mblk.specs.Limits.{most_message_blocks};
 
 use super::flow::{Flow, SPECS, target, waker};
+use super::in_place::{InPlace, made_in_place, uncounted, write_over};
+use super::plain::Plain;
 use super::register;
 use arrayvec::ArrayVec;
 use std::alloc::Global;
@@ -12,7 +14,7 @@ use std::process::Abort;
 use strm_mblk::Blocks;
 use strm_pool::{
     BandInfo, Call, Census, ClassSpec, Flush, MOST_OCTETS, MOST_REGISTERS, MsgType, Octets, Pool,
-    QueueInfo, Refusal, Reg, Regs, Rejected, Reply, Token,
+    QueueInfo, QueueSpec, QueuedInfo, Refusal, Reg, Regs, Rejected, Reply, Token,
 };
 
 // The number of queues.
@@ -756,6 +758,113 @@ impl Second {
             Call::Unbufcall(id) => self.unbufcall(id),
             Call::Ready => self.ready(),
             Call::Census => self.census(rt),
+        }
+    }
+
+    // The message of a token as plain lists.
+    pub(super) fn plain(&self, rt: &impl Abort, token: &Token) -> Plain {
+        Plain::of(rt, &self.blocks, token)
+    }
+
+    // Makes a call in place on a message, and on plain lists of it. Both return the same, and leave the same lists.
+    pub(super) fn change(
+        &mut self,
+        rt: &impl Abort,
+        token: &Token,
+        call: InPlace<'_>,
+    ) -> Result<u32, Refusal> {
+        let mut plain = self.plain(rt, token);
+        let wanted = plain.serve(rt, call);
+        assert!(rt; self.blocks.has(token));
+        let given = made_in_place!(self.blocks, token, call);
+        assert!(rt; given == wanted, "{call:?} {given:?}");
+        assert!(rt; self.plain(rt, token) == plain, "{call:?}");
+        given
+    }
+
+    // The message at a place of a queue.
+    fn entry_at(&self, queue: u8, place: u32) -> Result<Entry, Refusal> {
+        match self.queues.get(usize::from(queue)) {
+            Some(entries) => entries
+                .get(place as usize)
+                .copied()
+                .ok_or(Refusal::NoSuchPlace),
+            None => Err(Refusal::NoSuchQueue),
+        }
+    }
+
+    // The head of a message on a queue.
+    fn head_of(&self, entry: Entry) -> Option<u32> {
+        let (head, _) = self.places.entry(entry.place)?;
+        Some(head)
+    }
+
+    // What `queue_spec` returns.
+    pub(super) fn queue_spec(&self, queue: u8) -> Result<QueueSpec, Refusal> {
+        SPECS
+            .get(usize::from(queue))
+            .copied()
+            .ok_or(Refusal::NoSuchQueue)
+    }
+
+    // What `first_queued` returns.
+    pub(super) fn first_queued(&self, queue: u8) -> Result<Option<u32>, Refusal> {
+        match self.entry_at(queue, 0) {
+            Ok(first) => Ok(self.head_of(first)),
+            Err(Refusal::NoSuchPlace) => Ok(None),
+            Err(why) => Err(why),
+        }
+    }
+
+    // What `queued_after` returns.
+    pub(super) fn queued_after(&self, head: u32) -> Result<Option<u32>, Refusal> {
+        for queue in 0..QUEUES as u8 {
+            for place in 0..self.queue_len(queue).unwrap_or(0) {
+                let entry = self.entry_at(queue, place)?;
+                if self.head_of(entry) == Some(head) {
+                    return match self.entry_at(queue, place.saturating_add(1)) {
+                        Ok(next) => Ok(self.head_of(next)),
+                        Err(_) => Ok(None),
+                    };
+                }
+            }
+        }
+        Err(Refusal::NoSuchPlace)
+    }
+
+    // What `queued_at` returns.
+    pub(super) fn queued_at(
+        &mut self,
+        rt: &impl Abort,
+        queue: u8,
+        place: u32,
+    ) -> Result<QueuedInfo, Refusal> {
+        let entry = self.entry_at(queue, place)?;
+        let (head, blocks) = self.places.entry(entry.place).expect(rt, "a message");
+        match self.serve(rt, &Call::Block(entry.place, 0)) {
+            Reply::Block(first) => Ok(QueuedInfo {
+                head,
+                kind: first.kind,
+                band: first.band,
+                size: entry.bytes,
+                blocks,
+            }),
+            _ => panic!(rt; "no block"),
+        }
+    }
+
+    // The bytes that `read_queued` reads, if there is room for as many as a reply carries.
+    pub(super) fn read_queued(
+        &mut self,
+        rt: &impl Abort,
+        queue: u8,
+        place: u32,
+        at: u32,
+    ) -> Result<Octets, Refusal> {
+        let entry = self.entry_at(queue, place)?;
+        match self.serve(rt, &Call::Read(entry.place, at)) {
+            Reply::Bytes(bytes) => Ok(bytes),
+            _ => panic!(rt; "no bytes"),
         }
     }
 

@@ -11,7 +11,7 @@ use strm_pool::{Call, Refusal, Reply, calls};
 // The kinds of replies. `Done` includes every value; `Nothing` includes `No` and a `read` of no bytes; `Empty` and `Taken`
 // are about registers.
 #[derive(Clone, Copy, Debug, PartialEq, Eq)]
-enum Answer {
+pub(super) enum Answer {
     Done,
     Nothing,
     Empty,
@@ -64,6 +64,21 @@ const EACH: &[(&str, &[Answer], &[Refusal])] = &[
     ("Unbufcall", &[Done], &[NotPending]),
     ("Ready", &[Done, Nothing], &[]),
     ("Census", &[Done], &[]),
+    // Calls in place and looks, which have no `Call`.
+    ("bytes", &[Done], &[NoSuchBlock]),
+    ("place", &[Done], &[NoSuchBlock]),
+    ("walk", &[Done, Nothing], &[]),
+    ("edit", &[Done], &[NoSuchBlock, Shared]),
+    ("fill", &[Done], &[NoSuchBlock, Shared]),
+    ("advance", &[Done], &[NoSuchBlock, Shared, NoRoom]),
+    ("reserve", &[Done], &[NoSuchBlock, Shared, NoRoom]),
+    ("prepend", &[Done], &[Shared, NoRoom]),
+    ("overwrite", &[Done], &[Short, Shared]),
+    ("queue_spec", &[Done], &[NoSuchQueue]),
+    ("first_queued", &[Done, Nothing], &[NoSuchQueue]),
+    ("queued_after", &[Done, Nothing], &[NoSuchPlace]),
+    ("queued_at", &[Done], &[NoSuchQueue, NoSuchPlace]),
+    ("read_queued", &[Done], &[NoSuchQueue, NoSuchPlace]),
 ];
 
 // The name of a call, and the names of all.
@@ -77,6 +92,16 @@ macro_rules! named {
 
 macro_rules! names {
     ($($name:ident $(($($fields:tt)+))?: $act:ident $regs:tt;)+) => { [$(stringify!($name)),+] };
+}
+
+impl Answer {
+    // The answer of a call in place, or of a look.
+    pub(super) fn of<T>(answer: &Result<T, Refusal>) -> Answer {
+        match answer {
+            Ok(_) => Done,
+            Err(why) => Refused(*why),
+        }
+    }
 }
 
 fn answer_of(reply: &Reply) -> Answer {
@@ -135,10 +160,13 @@ impl Tally {
         Tally { times }
     }
 
-    // Counts a call and its reply. An answer that the call does not have in `EACH` fails the test.
+    // Counts a call and its reply.
     pub(super) fn count(&mut self, rt: &impl Abort, call: &Call, reply: &Reply) {
-        let name = calls!(named call;);
-        let came = answer_of(reply);
+        self.count_named(rt, calls!(named call;), answer_of(reply));
+    }
+
+    // Counts a call by its name. An answer that the call does not have in `EACH` fails the test.
+    pub(super) fn count_named(&mut self, rt: &impl Abort, name: &str, came: Answer) {
         for (row, (listed, answers, refusals)) in EACH.iter().enumerate() {
             if *listed == name {
                 let place = place_of(answers, refusals, came).expect(rt, "an answer of the call");
