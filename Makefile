@@ -22,7 +22,7 @@ LOG := build/proving.log
 # Stops make with one line if there is no `rt`.
 NEEDS_RT = $(if $(shell command -v rt 2>/dev/null),,$(error Rattle's command rt is not on PATH, and README.md says which is wanted))
 
-.PHONY: run test cases planted lint soak field view-test pictures bench bench-lines bench-library bench-census bench-c strm install install-pages lib install-lib vendor
+.PHONY: run test cases planted lint soak field view-test pictures bench bench-lines bench-library bench-census bench-header bench-c strm install install-pages lib install-lib vendor
 
 # Runs examples/first_run.strm on the proved program.
 run: $(BUILT)
@@ -64,8 +64,9 @@ view-test:
 pictures:
 	@for picture in docs/pictures/*.svg; do tools/strm_view $$(sed -n 's:^<desc>\(.*\)</desc>$$:\1:p' $$picture) --output $$picture || exit 1; done
 
-# Prints what a line, a call of the libraries, a look at the census and a call from C cost. OPTIONS are those of all four, as --write for docs/.
-bench: bench-lines bench-library bench-census bench-c
+# Prints what a line, a call of the libraries, a look at the census, a header and a call from C cost. OPTIONS are those of all, as --write for
+# docs/.
+bench: bench-lines bench-library bench-census bench-header bench-c
 
 # Prints what a line and a call of each word cost. OPTIONS are those of bench/run.py, as --instructions, or --write for docs/.
 bench-lines: $(BUILT)
@@ -80,6 +81,11 @@ bench-library: $(ROUNDS)
 bench-census: $(BUILT)
 	$(NEEDS_RT)
 	@python3 bench/census.py $(OPTIONS)
+
+# Prints what a header that is rewritten in place costs, beside plain Rust. OPTIONS are those of bench/header.py.
+bench-header: $(BUILT)
+	$(NEEDS_RT)
+	@python3 bench/header.py $(OPTIONS)
 
 # Prints what calls of strm.h cost, beside the calls that they make and those of a pool in C. OPTIONS are those of bench/c.py, as --write for
 # docs/.

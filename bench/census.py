@@ -28,6 +28,11 @@ def libraries(crates, name):
     return found
 
 
+def all_libraries(crates, uses):
+    """The libraries of the repository among these, and all that they use."""
+    return set().union(*(libraries(crates, name) for name in uses if name in crates))
+
+
 def listed(tree):
     """The libraries that each crate uses, by crates.txt of a tree."""
     with open(os.path.join(tree, "crates.txt")) as text:
@@ -41,26 +46,25 @@ def fresh_copy(source, to):
     shutil.copytree(source, to, ignore=shutil.ignore_patterns("incremental", "must-fail"))
 
 
-def tree_of_work(room):
-    """A copy of the crates as they are now, with the libraries that were built of them."""
+def tree_of_work(room, uses):
+    """A copy of the crates that these use, as they are now, with the libraries that were built of them."""
     tree = os.path.join(room, "now")
     os.makedirs(os.path.join(tree, "crates"), exist_ok=True)
-    for name in libraries(listed(TOP), "strm_shared"):
+    for name in all_libraries(listed(TOP), uses):
         fresh_copy(os.path.join(TOP, "crates", name), os.path.join(tree, "crates", name))
     for name in ("crates.txt", "HANDLES"):
         shutil.copy(os.path.join(TOP, name), tree)
     return tree
 
 
-def add_program(tree):
-    """Adds the crate of the program to a tree. crates.txt then has that crate and those that it needs, no others."""
+def add_program(tree, crate, uses, given):
+    """Adds the crate of a program, which is in a folder, to a tree. crates.txt then has that crate and those that it needs, no others."""
     crates = listed(tree)
-    kept = libraries(crates, "strm_shared")
+    kept = {**{name: crates[name] for name in all_libraries(crates, uses)}, crate: uses}
     with open(os.path.join(tree, "crates.txt"), "w") as text:
-        text.writelines(f"{name}: {' '.join(uses)}\n" for name, uses in {**crates, CRATE: USES}.items() if name in kept or name == CRATE)
-    given = os.path.join(HERE, "census", "look")
+        text.writelines(f"{name}: {' '.join(below)}\n" for name, below in kept.items())
     for part in os.listdir(given):
-        to = os.path.join(tree, "crates", CRATE, part)
+        to = os.path.join(tree, "crates", crate, part)
         shutil.rmtree(to, ignore_errors=True)
         shutil.copytree(os.path.join(given, part), to, copy_function=lambda file, name: shutil.copy(file, name.removesuffix(".txt")))
 
@@ -126,12 +130,10 @@ def look_costs(plain, look, rounds):
 
 
 def table(looks):
-    """The table, in markdown. The last line compares its first two rows."""
+    """The table, in markdown."""
     yield from ("| A look | Instructions | ns, processor | ns, elapsed | Calls served during a look |", "|---|---|---|---|---|")
     for name, counted, had, went, served in looks:
         yield f"| {name} | {'' if counted is None else f'{counted:,.1f}'} | {had:,.2f} | {went:,.2f} | {served:,.4f} |"
-    plain, alone = (had for _, _, had, _, _ in looks[:2])
-    yield from ("", f"Without workers `census_now` takes {alone / plain:.2f} times as much processor time as the C function.")
 
 
 def main():
@@ -143,8 +145,8 @@ def main():
     given = words.parse_args()
     if not shutil.which("valgrind"):
         sys.exit("valgrind is not installed")
-    now = tree_of_work(given.room)
-    add_program(now)
+    now = tree_of_work(given.room, USES)
+    add_program(now, CRATE, USES, os.path.join(HERE, "census", "look"))
     lines = list(table(list(look_costs(compiled(given.room), proved(now, CRATE), given.rounds))))
     print("\n".join(lines))
     if given.write:

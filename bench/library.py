@@ -63,8 +63,42 @@ ROWS = {
     "qenable": Row("`qenable`, `next_service`", "", 2),
     "bufcall": Row("`bufcall`, `take_ready`", "", 2),
 }
-# What a round adds to the sum where that is not 1, by the number of message blocks.
-TOLD = {"open": lambda blocks: blocks, "census": lambda blocks: blocks, "size": lambda _: 256, "read": lambda _: 64, "block": lambda _: 64, "qsize": lambda _: 0}
+# The rows of calls on bytes in place and of looks at queues, beside older ways: the name, what a round does, and for which sizes: numbers of
+# bytes of a message, of its blocks, or places.
+BYTES = (64, 1_500)
+BESIDE = [
+    ("bytes", "`bytes`", BYTES),
+    ("edit", "`edit` of one byte", BYTES),
+    ("overwrite_byte", "`overwrite` of one byte", BYTES),
+    ("rebuild", "`read`, `allocb`, `write`, `freemsg`, to change one byte", BYTES),
+    ("overwrite", "`overwrite` of all", BYTES),
+    ("fill", "`adjmsg`, `fill` of all", BYTES),
+    ("advance", "`adjmsg`, `advance` over all", BYTES),
+    ("prepend", "`adjmsg`, `prepend` of all", BYTES),
+    ("read_all", "`read` of all", BYTES),
+    ("read_queued", "`read_queued` of all", BYTES),
+    ("reserve", "`reserve`", (64,)),
+    ("place", "`place`", (64,)),
+    ("walk", "`walk` of one block", (1,)),
+    ("walk", "`walk` of 64 blocks", (64,)),
+    ("each_block", "`block` for each of 64", (64,)),
+    ("first_queued", "`first_queued`", (64,)),
+    ("queued_after", "`queued_after`", (64,)),
+    ("queued_at", "`queued_at`, the first", (0,)),
+    ("queued_at", "`queued_at`, the 100th", (99,)),
+    ("queue_spec", "`queue_spec`", (64,)),
+    ("transfer", "`transfer` to another pool, and back", BYTES),
+]
+# What a round adds to the sum where that is not 1.
+TOLD = {
+    "open": lambda measure: measure.blocks,
+    "census": lambda measure: measure.blocks,
+    "size": lambda _: 256,
+    "read": lambda _: 64,
+    "block": lambda _: 64,
+    "qsize": lambda _: 0,
+    **dict.fromkeys(("bytes", "place", "walk", "each_block", "read_queued"), lambda measure: measure.size),
+}
 # A look at the census without the lock, measured in the form `serve` alone.
 LOOK = "look"
 # The function that is one served call, and the forms in which it is measured.
@@ -72,16 +106,17 @@ SERVED, SERVING = "serve_call", {"without a trace": "serve", "with a trace": "tr
 
 
 class Measure(NamedTuple):
-    """A row in a form, over a pool of this number of message blocks."""
+    """A row in a form, over a pool of this number of message blocks, for a size if it has one."""
 
     form: str
     row: str
     blocks: int
     within: str = ""
+    size: int = 64
 
     def line(self, times):
         """The line that asks for this number of rounds."""
-        return f"{self.form} {self.row} {self.blocks} {times}"
+        return f"{self.form} {self.row} {self.blocks} {times} {self.size}"
 
     def calls(self):
         """How many calls a round makes, or 1 in the form `direct`, which counts rounds."""
@@ -91,7 +126,7 @@ class Measure(NamedTuple):
         """Exits if a call was not done, so that nothing else is measured."""
         if self.row == LOOK:
             return
-        each = TOLD.get(self.row, lambda _: 1)(self.blocks) if self.form == "direct" else self.calls()
+        each = TOLD.get(self.row, lambda _: 1)(self) if self.form == "direct" else self.calls()
         if answer != times * each:
             sys.exit(f"{self.line(times)}: {answer}, not {times * each}")
 
@@ -143,7 +178,7 @@ def wanted():
     registers = [Measure(form, row, MIDDLE) for row, told in ROWS.items() if told.calls for form in ("apply", "serve")]
     looks = [Measure("serve", LOOK, blocks) for blocks in POOLS]
     alone = [Measure(form, "allocb", MIDDLE, within) for form in SERVING.values() for within in ("", SERVED)]
-    return list(dict.fromkeys([*direct, *registers, *looks, *alone]))
+    return list(dict.fromkeys([*direct, *registers, *looks, *alone, *(measure for _, measures in beside_shown() for measure in measures)]))
 
 
 def rows_shown():
@@ -154,18 +189,29 @@ def rows_shown():
     yield "`census_now`", [Measure("serve", LOOK, blocks) for blocks in POOLS], []
 
 
+def beside_shown():
+    """Each row of calls in place and looks at queues by what is shown of it: its measures for each size."""
+    for row, shown, sizes in BESIDE:
+        yield shown, [Measure("direct", row, MIDDLE, size=size) for size in sizes]
+
+
+def table_line(cells):
+    """A line of a table in markdown, without the empty cells at its end."""
+    return f"| {' | '.join(cells).rstrip('| ')} |"
+
+
 def rows_table(counts, times, before):
     """Each round over the pool of the middle size, in each form that it has, in markdown."""
-    head = ["A round", "Plain", "Direct", "ns", "`apply_into`", "`serve_into`", "ns", *(["before", "`apply_into`", "`serve_into`"] if before else [])]
+    head = ["A round", "Plain", "Direct", "ns", "`apply_into`", "`serve_into`, ns", *(["before", "`apply_into`"] if before else [])]
     yield from (f"| {' | '.join(head)} |", "|---" * len(head) + "|")
     for shown, over, registers in rows_shown():
         middle = over[POOLS.index(MIDDLE)]
         cells = [shown, ROWS[middle.row].beside if middle.row in ROWS else "", f"{counts[middle]:,.0f}"]
         cells.append("" if middle.within else f"{times[middle]:,.1f}")
-        cells += [*(f"{counts[measure]:,.0f}" for measure in registers), f"{times[registers[1]]:,.1f}"] if registers else ["", "", ""]
+        cells += [f"{counts[registers[0]]:,.0f}", f"{times[registers[1]]:,.1f}"] if registers else ["", ""]
         if before:
-            cells += [f"{before[middle]:,.0f}", *([f"{before[measure]:,.0f}" for measure in registers] or ["", ""])]
-        yield f"| {' | '.join(cells)} |"
+            cells += [f"{before[measure]:,.0f}" for measure in (middle, *registers[:1])]
+        yield table_line(cells)
 
 
 def other_pools(counts):
@@ -176,6 +222,15 @@ def other_pools(counts):
         if len({f"{counts[measure]:,.0f}" for measure in over}) > 1:
             apart.append(f"{shown} ({' and '.join(f'{counts[measure]:,.0f}' for measure in over if measure.blocks != MIDDLE)})")
     return textwrap.wrap(f"{same}, except: {', '.join(apart)}." if apart else f"{same}.", 100)
+
+
+def beside_table(counts, times):
+    """Each call in place or look at a queue, in markdown."""
+    head = ["A round", *(word for size in BYTES for word in (f"{size:,} bytes", "ns"))]
+    yield from (f"| {' | '.join(head)} |", "|---" * len(head) + "|")
+    for shown, measures in beside_shown():
+        cells = [cell for measure in measures for cell in (f"{counts[measure]:,.0f}", f"{times[measure]:,.1f}")]
+        yield table_line([shown, *cells])
 
 
 def served_table(counts, times, before):
@@ -192,6 +247,7 @@ def tables(counts, times, before):
     """All tables, in markdown."""
     yield from (f"Instructions of a round in a pool of {MIDDLE:,} message blocks, and nanoseconds of processor time:", "", *rows_table(counts, times, before))
     yield from ("", *other_pools(counts))
+    yield from ("", "The same, of a message of one block with this number of bytes, or of queue 0:", "", *beside_table(counts, times))
     yield from ("", "A served call, when `allocb b 64` and `freemsg b` are served in turn:", "", *served_table(counts, times, before))
 
 

@@ -18,9 +18,7 @@ from script import RANKED, WORDS, drawn
 
 SIZES = (1_000, 10_000, 100_000, 1_000_000)
 POOLS = (16, 255, 4_095, MESSAGE_BLOCKS)
-# The size that the plot has and the tables leave out.
-PLOTTED = 255
-QUEUED = (16, 4_000, 12_000)
+QUEUED = (16, 12_000)
 DOCS = os.path.join(os.path.dirname(os.path.abspath(__file__)), "..", "docs")
 BEGIN, END = "<!-- bench: begin -->\n", "<!-- bench: end -->\n"
 # Runs a program, then prints its peak memory in KiB. Without a shell in between, Python's own peak would be the least.
@@ -187,15 +185,13 @@ def ranked_costs(meter):
 
 
 def call_table(sizes, costs):
-    """The cost of each round of lines for each size, in markdown."""
+    """The cost of each round of lines for the least size and the greatest, in markdown."""
     shown = {name: name.upper() for name in ("round", "kind", "band", *numbers(16))}
     shown["emptied"] = "(flushband 0 BAND all); "
-    shown_sizes = [size for size in sizes if size != PLOTTED]
-    yield from (f"| Word | Lines | {' | '.join(f'{size:,}' for size in shown_sizes)} |", "|---" * (2 + len(shown_sizes)) + "|")
-    for words, lines, each in costs:
+    yield from (f"| Lines | {sizes[0]:,} | {sizes[-1]:,} |", "|---|---|---|")
+    for _, lines, each in costs:
         code = ", ".join(f"`{line}`" for line in lines.format(**shown).split("; "))
-        named = ", ".join(f"`{word}`" for word in words)
-        yield f"| {named} | {code} | {' | '.join(f'{cost:,.0f}' for size, cost in zip(sizes, each) if size != PLOTTED)} |"
+        yield f"| {code} | {each[0]:,.0f} | {each[-1]:,.0f} |"
 
 
 def tables(meter, by_line, by_call, by_rank):

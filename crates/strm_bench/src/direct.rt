@@ -1,9 +1,13 @@
 //! Rounds of calls on a pool, with tokens, and on queues.
 use crate::config::{configured, opened};
 use crate::held::Held;
+use crate::in_place::{in_place, look_in_place};
 use crate::looks::{see_message, see_pool};
+use crate::messages::USUAL;
 use crate::order::Order;
+use crate::queue_looks::see_queued;
 use crate::row::{Group, Row};
+use crate::transfers::transfer;
 use crate::{messages, queues};
 use std::alloc::Global;
 use strm_pool::Pool;
@@ -74,6 +78,51 @@ fn on_message(pool: Pool, row: Row, times: u64) -> u64 {
     told
 }
 
+// The number of the message's blocks for a round in place, and of the bytes of each.
+fn shape(row: Row, size: u16) -> (u16, u16) {
+    match row {
+        Row::Walk | Row::EachBlock => (size, USUAL),
+        Row::Reserve => (1, 0),
+        _ => (1, size),
+    }
+}
+
+// Makes the message before the rounds in place, and frees it afterwards. This function and the next are not inlined: otherwise
+// the compiler would inline less in the rounds of other rows.
+#[inline(never)]
+fn on_sized_message(pool: Pool, order: Order) -> u64 {
+    let (blocks, size) = shape(order.row, order.size);
+    let Some(mut held) = Held::sized(pool, blocks, size) else {
+        return 0;
+    };
+    let told = match order.row {
+        Row::Bytes | Row::Place | Row::Walk | Row::EachBlock => {
+            look_in_place(&held, order.row, order.times)
+        }
+        _ => in_place(&mut held, order.row, order.size, order.times),
+    };
+    held.end();
+    told
+}
+
+// Puts the messages on a queue before the rounds.
+#[inline(never)]
+fn on_queue(pool: Pool, order: Order) -> u64 {
+    let mut pool = pool;
+    queues::line_up(&mut pool, order.size);
+    see_queued(&pool, order.row, order.size, order.times)
+}
+
+// Opens the other pool before the rounds.
+#[inline(never)]
+fn to_another(alloc: Global, pool: Pool, order: Order) -> u64 {
+    let mut pool = pool;
+    match opened(alloc, order.blocks) {
+        Some(mut other) => transfer(&mut pool, &mut other, order.size, order.times),
+        None => 0,
+    }
+}
+
 /// Runs the rounds on a new pool, and returns their sum.
 pub(crate) fn direct_rounds(alloc: Global, order: Order) -> u64 {
     if let Row::Open = order.row {
@@ -86,6 +135,9 @@ pub(crate) fn direct_rounds(alloc: Global, order: Order) -> u64 {
         Group::Messages => message_rounds(&mut pool, order.row, order.times),
         Group::Looks => see_pool(&pool, order.row, order.times),
         Group::Held => on_message(pool, order.row, order.times),
+        Group::InPlace => on_sized_message(pool, order),
+        Group::QueueLooks => on_queue(pool, order),
+        Group::Pools => to_another(alloc, pool, order),
         Group::Queues => queue_rounds(&mut pool, order.row, order.blocks, order.times),
     }
 }

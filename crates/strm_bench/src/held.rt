@@ -2,10 +2,10 @@
 ghost use Rattle.std.specs.Prelude.{IsTrue};
 ghost use Rattle.strm_mblk.specs.Arena.{has};
 
-use crate::messages::four;
+use crate::messages::{bytes_of, four, one};
 use strm_pool::{MsgType, Pool, Token};
 
-/// A pool, and the token of a message of four blocks.
+/// A pool, and the token of a message.
 pub(crate) struct Held {
     pub(crate) pool: Pool,
     pub(crate) token: Token,
@@ -26,11 +26,31 @@ fn alter_band(held: &mut Held, told: &mut u64) {
 }
 
 impl Held {
-    /// Makes the message.
+    /// Makes a message of four blocks.
     pub(crate) fn of(pool: Pool) -> Option<Held> {
         let mut pool = pool;
         let token = four(&mut pool)?;
         Some(Held { pool, token })
+    }
+
+    /// Makes a message of this number of blocks, each with this number of bytes.
+    pub(crate) fn sized(pool: Pool, blocks: u16, size: u16) -> Option<Held> {
+        let mut pool = pool;
+        let token = one(&mut pool, size)?;
+        let mut held = Held { pool, token };
+        for _ in 1..blocks {
+            held.grow(size);
+        }
+        Some(held)
+    }
+
+    // Appends a block with this number of bytes.
+    fn grow(&mut self, size: u16) {
+        let Ok(other) = self.pool.allocb(u32::from(size)) else {
+            return;
+        };
+        let _ = self.pool.write(&other, 0, bytes_of(size));
+        self.pool.linkb(&mut self.token, other);
     }
 
     /// Frees the message, and drops the pool.
@@ -64,6 +84,7 @@ impl Held {
     }
 
     /// `unlinkb`, `linkb`.
+    #[inline(always)]
     pub(crate) fn unlinkb(&mut self, times: u64) -> u64 {
         let mut told = 0u64;
         for _ in 0..times {

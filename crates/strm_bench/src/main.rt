@@ -9,12 +9,15 @@ mod calls;
 mod config;
 mod direct;
 mod held;
+mod in_place;
 mod looks;
 mod messages;
 mod order;
+mod queue_looks;
 mod queues;
 mod row;
 mod served;
+mod transfers;
 
 use applied::applied_rounds;
 use config::{opened, start};

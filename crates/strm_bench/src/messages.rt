@@ -1,5 +1,6 @@
-//! Rounds of calls on messages that each round makes and frees.
-ghost use Rattle.std.specs.Prelude.{IfSome, IsTrue};
+//! Rounds of calls on messages that each round makes and frees. Some are inlined always: otherwise the compiler would inline less in
+//! each of them, the more rows there are.
+ghost use Rattle.std.specs.Prelude.{◌≤◌, IfSome, IsTrue, length};
 ghost use Rattle.strm_mblk.specs.Arena.{has};
 
 use strm_pool::{Pool, Refusal, Token};
@@ -7,8 +8,32 @@ use strm_pool::{Pool, Refusal, Token};
 /// The size of a message's blocks, in bytes.
 pub(crate) const SIZE: u32 = 64;
 
+/// The same, where a line of input may have another.
+pub(crate) const USUAL: u16 = 64;
+
 /// The bytes of each block.
 pub(crate) const BYTES: [u8; 64] = [90; 64];
+
+// The most bytes that a block gets.
+const LONG: [u8; 1_500] = [90; 1_500];
+
+/// Returns this number of bytes, or 1,500 if it is greater.
+pub(crate) fn bytes_of(size: u16) -> &'static [u8]
+    ensures { length result.now ≤ 1500 }
+{
+    &LONG[..LONG.len().min(usize::from(size))]
+}
+
+/// Makes a message of one block with this number of bytes, 1,500 at most.
+pub(crate) fn one(pool: &mut Pool, size: u16) -> Option<Token>
+    ensures { IfSome result (λ token. IsTrue (has pool.new.arena token)) }
+{
+    let Ok(token) = pool.allocb(u32::from(size)) else {
+        return None;
+    };
+    let _ = pool.write(&token, 0, bytes_of(size));
+    Some(token)
+}
 
 // Appends a new block with bytes to a message, if a block is free.
 fn grow(pool: &mut Pool, token: &mut Token)
@@ -49,6 +74,7 @@ fn free_both(pool: &mut Pool, token: Token, copy: Result<Token, Refusal>) -> boo
 }
 
 /// `allocb`, `freemsg`.
+#[inline(always)]
 pub(crate) fn allocb(pool: &mut Pool, times: u64) -> u64 {
     let mut told = 0u64;
     for _ in 0..times {
@@ -61,6 +87,7 @@ pub(crate) fn allocb(pool: &mut Pool, times: u64) -> u64 {
 }
 
 /// `allocb`, `dupb`, then `freemsg` of both.
+#[inline(always)]
 pub(crate) fn dupb(pool: &mut Pool, times: u64) -> u64 {
     let mut told = 0u64;
     for _ in 0..times {
@@ -73,6 +100,7 @@ pub(crate) fn dupb(pool: &mut Pool, times: u64) -> u64 {
 }
 
 /// `allocb`, `dupmsg`, then `freemsg` of both.
+#[inline(always)]
 pub(crate) fn dupmsg(pool: &mut Pool, times: u64) -> u64 {
     let mut told = 0u64;
     for _ in 0..times {
@@ -85,6 +113,7 @@ pub(crate) fn dupmsg(pool: &mut Pool, times: u64) -> u64 {
 }
 
 /// `allocb`, `write` of 64 bytes, `freemsg`.
+#[inline(always)]
 pub(crate) fn write(pool: &mut Pool, times: u64) -> u64 {
     let mut told = 0u64;
     for _ in 0..times {

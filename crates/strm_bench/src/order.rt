@@ -1,14 +1,16 @@
-//! What a line of standard input asks for: a form, a row, and two numbers.
+//! What a line of standard input asks for: a form, a row, and two or three numbers.
+use crate::messages::USUAL;
 use crate::row::{Form, Row};
 use strm_shared::{MOST_TRACE, Trace};
 
-/// A row in a form, the number of message blocks, and the number of rounds.
+/// A row in a form, the number of message blocks, the number of rounds, and the size that README.md names for some rows.
 #[derive(Clone, Copy)]
 pub(crate) struct Order {
     pub(crate) form: Form,
     pub(crate) row: Row,
     pub(crate) blocks: u32,
     pub(crate) times: u64,
+    pub(crate) size: u16,
 }
 
 impl Order {
@@ -19,11 +21,16 @@ impl Order {
         let row = Row::named(words.next()?)?;
         let blocks = words.next()?.parse::<u32>().ok()?;
         let times = words.next()?.parse::<u64>().ok()?;
+        let size = match words.next() {
+            Some(word) => word.parse::<u16>().ok()?,
+            None => USUAL,
+        };
         Some(Order {
             form,
             row,
             blocks,
             times,
+            size,
         })
     }
 

@@ -3,7 +3,7 @@ ghost use Rattle.std.specs.Prelude.{IfSome, IsTrue};
 ghost use Rattle.strm_mblk.specs.Arena.{has};
 
 use crate::config::{CHAIN, NARROW};
-use crate::messages::{BYTES, SIZE};
+use crate::messages::{BYTES, SIZE, one};
 use strm_pool::{Flush, MsgType, Pool, Rejected, Token};
 
 // The number of ranks that messages get: bands 0 to 15, and high priority.
@@ -14,8 +14,8 @@ const MANY: u32 = 1_000;
 
 const BESIDE: u32 = 3_900;
 
-// The number of messages that one flush frees.
-const FLUSHED: u32 = 100;
+// The number of messages that one flush frees, or that are after the first one on a queue.
+const HUNDRED: u32 = 100;
 
 /// Puts a message on a queue by `putq`, and says whether it is there. A refused message is freed.
 pub(crate) fn put(pool: &mut Pool, queue: u8, token: Token) -> bool
@@ -89,6 +89,16 @@ fn fill(pool: &mut Pool, count: u32) {
 fn fill_beside(pool: &mut Pool, count: u32) {
     for number in 0..count {
         let _ = post(pool, 0, (number % 2 * 2) as u8);
+    }
+}
+
+/// Puts a message with this number of bytes first on queue 0, and a hundred of 64 bytes after it.
+pub(crate) fn line_up(pool: &mut Pool, size: u16) {
+    if let Some(token) = one(pool, size) {
+        let _ = put(pool, 0, token);
+    }
+    for _ in 0..HUNDRED {
+        let _ = post(pool, 0, 0);
     }
 }
 
@@ -202,10 +212,10 @@ fn flush_hundred(pool: &mut Pool) -> bool {
 
 /// Puts a hundred messages of band 1 among others, and flushes them.
 pub(crate) fn flushband(pool: &mut Pool, blocks: u32, times: u64) -> u64 {
-    fill_beside(pool, BESIDE.min(blocks.saturating_sub(FLUSHED + 10)));
+    fill_beside(pool, BESIDE.min(blocks.saturating_sub(HUNDRED + 10)));
     let mut told = 0u64;
     for _ in 0..times {
-        for _ in 0..FLUSHED {
+        for _ in 0..HUNDRED {
             let _ = post(pool, 0, 1);
         }
         told = told.wrapping_add(u64::from(flush_hundred(pool)));

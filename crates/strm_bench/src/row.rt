@@ -49,6 +49,25 @@ pub(crate) enum Row {
     Qenable,
     Bufcall,
     Look,
+    Bytes,
+    ReadAll,
+    Edit,
+    OverwriteByte,
+    Rebuild,
+    Overwrite,
+    Fill,
+    Advance,
+    Prepend,
+    Reserve,
+    Place,
+    Walk,
+    EachBlock,
+    FirstQueued,
+    QueuedAfter,
+    QueuedAt,
+    ReadQueued,
+    QueueSpec,
+    Transfer,
 }
 
 /// What the calls of a row are made on, in the form `Direct`.
@@ -60,12 +79,18 @@ pub(crate) enum Group {
     Looks,
     /// A message that stays held.
     Held,
+    /// The bytes of a message, in place.
+    InPlace,
     /// Queues.
     Queues,
+    /// A queue that has messages, which does not change.
+    QueueLooks,
+    /// A message that goes to another pool.
+    Pools,
 }
 
 // Each row, with its name.
-const ROWS: [(&str, Row); 33] = [
+const ROWS: [(&str, Row); 52] = [
     ("open", Row::Open),
     ("allocb", Row::Allocb),
     ("dupb", Row::Dupb),
@@ -99,6 +124,25 @@ const ROWS: [(&str, Row); 33] = [
     ("qenable", Row::Qenable),
     ("bufcall", Row::Bufcall),
     ("look", Row::Look),
+    ("bytes", Row::Bytes),
+    ("read_all", Row::ReadAll),
+    ("edit", Row::Edit),
+    ("overwrite_byte", Row::OverwriteByte),
+    ("rebuild", Row::Rebuild),
+    ("overwrite", Row::Overwrite),
+    ("fill", Row::Fill),
+    ("advance", Row::Advance),
+    ("prepend", Row::Prepend),
+    ("reserve", Row::Reserve),
+    ("place", Row::Place),
+    ("walk", Row::Walk),
+    ("each_block", Row::EachBlock),
+    ("first_queued", Row::FirstQueued),
+    ("queued_after", Row::QueuedAfter),
+    ("queued_at", Row::QueuedAt),
+    ("read_queued", Row::ReadQueued),
+    ("queue_spec", Row::QueueSpec),
+    ("transfer", Row::Transfer),
 ];
 
 impl Form {
@@ -145,6 +189,25 @@ impl Row {
             | Row::Size
             | Row::Read
             | Row::Block => Group::Held,
+            Row::Bytes
+            | Row::Place
+            | Row::Walk
+            | Row::EachBlock
+            | Row::ReadAll
+            | Row::Edit
+            | Row::OverwriteByte
+            | Row::Rebuild
+            | Row::Overwrite
+            | Row::Fill
+            | Row::Advance
+            | Row::Prepend
+            | Row::Reserve => Group::InPlace,
+            Row::FirstQueued
+            | Row::QueuedAfter
+            | Row::QueuedAt
+            | Row::ReadQueued
+            | Row::QueueSpec => Group::QueueLooks,
+            Row::Transfer => Group::Pools,
             _ => Group::Queues,
         }
     }
