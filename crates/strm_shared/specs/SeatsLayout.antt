@@ -69,8 +69,8 @@ pub record IsShownBy (z : TableId) (o : Pair) (h : History) (d : Known) (p : Pai
   pub last : last_pair h.pairs ≡ p
   pub known : IsOf o.0 h (with_pair p d)
 
--- A desk of a pool with this id and number of desks, as the history says: the pairs that it saw are of the history, it was
--- served exactly the entries of its number, and its registers are the table of its number.
+-- A desk of a pool with this id and number of desks, as the history says. The pairs that it saw are of the history. It was
+-- served exactly the entries of its number. Its registers are the table of its number.
 pub record IsDeskOfHistory (id desks first : ℕ) (h : History) (d : DeskValue) : Type 0 where
   pub desk : IsDeskOf id desks d
   pub pairs : All (Contains h.pairs) d.pairs
