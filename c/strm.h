@@ -127,8 +127,8 @@ enum {
 	STRM_REF_MAX = 4,		/* a data block would have more than STRM_MOST_NAMES references */
 	STRM_NO_SUCH_BLOCK = 5,		/* the message has no such block */
 	STRM_SHARED = 6,		/* the data block has more than one reference */
-	STRM_NO_ROOM = 7,		/* the bytes do not fit after the write place */
-	STRM_SHORT = 8,			/* the message has too few bytes of one type */
+	STRM_NO_ROOM = 7,		/* the bytes do not fit in the data block */
+	STRM_SHORT = 8,			/* the message has too few bytes, or too few of one type */
 	STRM_NO_SUCH_PLACE = 9,		/* the queue has no such place */
 	STRM_BAD_ORDER = 10,		/* the ranks would rise from front to back */
 	STRM_NO_SUCH_QUEUE = 11,	/* there is no such queue */

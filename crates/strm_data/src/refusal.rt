@@ -11,33 +11,37 @@ use thiserror::Error;
 /// this project's own choice.
 #[derive(Clone, Copy, Debug, PartialEq, Eq, Error)]
 pub enum Refusal {
-    /// `allocb`, `bufcall` or `pullupmsg` asks for more bytes than a data block of the largest class has.
+    /// `allocb`, `bufcall` or `pullupmsg` asks for more bytes than a data block of the largest class has. Or `transfer`
+    /// would copy a data block that is larger than the other pool's largest class.
     #[error("the size is above the largest class")]
     TooLarge = 1,
-    /// `allocb`, `dupb`, `dupmsg`, `copyb` or `copymsg` needs more message blocks than are free.
+    /// `allocb`, `dupb`, `dupmsg`, `copyb`, `copymsg` or `transfer` needs more message blocks than are free.
     #[error("fewer message blocks are free than the call needs")]
     NoMblk = 2,
-    /// `allocb`, `copyb`, `copymsg` or `pullupmsg` finds no free data block that is large enough.
+    /// `allocb`, `copyb`, `copymsg`, `transfer` or `pullupmsg` finds no free data block that is large enough.
     #[error("no data block is free of a class that fits")]
     NoData = 3,
     /// `dupb` or `dupmsg` would give a data block more than `MOST_REFERENCES` references.
     #[error("too many message blocks would refer to one data block")]
     RefMax = 4,
-    /// `write`, `settype`, `block` or `rmvb` names a block that the message does not have. Blocks count from 0.
+    /// A call names a block that the message does not have. Blocks count from 0.
     #[error("the message has no such block")]
     NoSuchBlock = 5,
-    /// `write` or `settype` would change a data block that another message block refers to.
+    /// `write`, `settype` or a call that changes bytes in place would change a data block that another message block
+    /// refers to.
     #[error("more than one message block refers to the data block")]
     Shared = 6,
-    /// `write` has more bytes than fit after the write place.
-    #[error("the bytes do not fit after the write place")]
+    /// `write` or `advance` has more bytes than fit after the write place, `prepend` more than fit before the read place.
+    /// Or `reserve` asks for more bytes than the data block has, or for a block that has bytes already.
+    #[error("the bytes do not fit in the data block")]
     NoRoom = 7,
     /// `adjmsg` would remove more bytes than the blocks at that end have: at the head the leading blocks of the first
     /// block's type, at the tail the trailing blocks of the last block's type. Or `pullupmsg` asks for more bytes than
-    /// the leading blocks have, or its count is below -1.
-    #[error("the message has too few bytes of one type")]
+    /// the leading blocks have, or its count is below -1. Or `overwrite` would go past the message's last byte.
+    #[error("the message has too few bytes, or too few of one type")]
     Short = 8,
-    /// `insq` names a place after the queue's end, or `rmvq` a place without a message. Places count from 0.
+    /// `insq` names a place after the queue's end, or `rmvq` or a look at a queue a place without a message. Places count
+    /// from 0.
     #[error("the queue has no such place")]
     NoSuchPlace = 9,
     /// `insq` would put a message before one of a greater rank, or after one of a lesser rank.

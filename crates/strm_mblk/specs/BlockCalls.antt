@@ -96,7 +96,7 @@ copymsg h a = message_copied None (message_at a h) a
 abbrev pub fits_classes : DataStore → List Block → DataStore → Bool
 fits_classes other bs s = list_all (λ b. fits_a_class (capacity_of other b.data_number) s.classes) bs
 
--- copies all blocks of the message held at h in another pool's arena, `from`
+-- copies all blocks of the message held at h in another pool's arena, `from`; there the call frees that message
 abbrev pub transfer : Arena → ℕ → Arena → Given Arena ℕ
 transfer from h a =
     if fits_classes from.store (message_at from h) a.store then message_copied (Some from.store) (message_at from h) a

@@ -124,7 +124,8 @@ impl Blocks {
     }
 
     /// Makes a message anew in another pool, as `copymsg` makes one in its own, and frees it here, as `freemsg` does. Returns
-    /// the new message's token, which is one of `other`. All blocks are made or none.
+    /// the new message's token, which is one of `other`. All blocks are made or none. Each gets a data block of its own, also
+    /// if several shared one. Bytes before a read place or after a write place are not copied.
     ///
     /// Returns the token with `TooLarge` if a data block has a larger capacity than the largest class of `other`. Then with
     /// `NoMblk` if fewer message blocks are free there than the message has, and with `NoData` if the free data blocks there

@@ -104,8 +104,8 @@ impl NamedPool {
     }
 
     /// Makes a message anew in another named pool, frees it here, and spends its name. Returns the new message's name, which is
-    /// one of `other`. Refused as `Invalid`, `TooLarge`, `NoMblk`, then `NoData`; nothing changes in either pool then. As
-    /// [`Blocks::transfer`] of strm_mblk.
+    /// one of `other`. The pools should have different ids, so that no name is valid in both. Refused as `Invalid`, `TooLarge`,
+    /// `NoMblk`, then `NoData`; nothing changes in either pool then. As [`Blocks::transfer`] of strm_mblk.
     pub fn transfer(&mut self, other: &mut NamedPool, name: Name) -> Result<Name, Fault>
         ensures { TransfersNamed name (on_name self.old name (on_arena other.old.pool
             (blocks.transfer self.old.pool.arena name.head other.old.pool.arena)))
