@@ -10,6 +10,41 @@ use strm_script::MOST_SCRIPT_BYTES;
 // The greatest number of bytes of the input, if no word says otherwise.
 const DEFAULT_MAX: u32 = 1_048_576;
 
+// The usage line: no word names the script, which is standard input.
+const USAGE_LINE: &str = "strm [OPTIONS] <SCRIPT";
+
+// What the help says after the options.
+const AFTER_OPTIONS: &str = "\
+SCRIPT has these lines, in this order:
+  pool ID MBLKS                   once: any id, the number of message blocks
+  class SIZE COUNT                1 to 8 times: COUNT data blocks of SIZE bytes
+  queue HIWAT LOWAT SERVICE NEXT  1 to 16 times: water marks, s or n, next or -
+  bufcalls WISHES ID              once: wishes that may wait, and the first id
+  worker                          1 to 16 times: a thread; its commands follow
+
+Example:
+  $ printf '%s\\n' 'pool 1 8' 'class 16 4' 'queue 10 4 s -' 'bufcalls 0 1' \\
+      worker 'allocb a 3' 'write a 0 616263' 'putq 0 a' | strm
+  0:6 ok
+  0:7 ok
+  0:8 ok
+  blocks free=7 queued=1 held=0 total=8
+  data size=16 free=3 total=4
+  queue 0 msgs=1 bytes=3 read=1 noenable=0 enabled=1
+  band 0 bytes=3 full=0 wanted=0
+  run 0
+  wishes -
+
+Exit status:
+  0   done, or help was asked for
+  1   reading or writing failed, or SCRIPT has more than N bytes
+  2   SCRIPT has a fault: standard error names its line and kind
+  3   out of memory, or of threads for workers
+  4   the shared pool refused a command; this never happens
+  64  the options are wrong
+
+The manual strm(1) explains commands, replies, the report and all faults.";
+
 /// What the command line asks for.
 #[derive(Clone, Copy, Debug, PartialEq, Eq)]
 pub struct Options {
@@ -26,16 +61,18 @@ pub fn options_of(alloc: Global, words: &[String]) -> Result<Options, Error>
 {
     let serial = Arg::new(alloc, "serial")
         .long("serial")
-        .help("Serve all lines on one thread, worker by worker")
+        .help("Execute the sections one after another, on one thread")
         .action(ArgAction::SetTrue);
     let max = Arg::new(alloc, "max")
         .long("max")
         .value_name("N")
-        .help("Take at most N bytes of input, 1 to 16777216 [default: 1048576]")
+        .help("Read at most N bytes, 1 to 16777216 [default: 1048576]")
         .value_parser(value_parser!(u32).range(1..=i64::from(MOST_SCRIPT_BYTES)));
     let command = Command::new(alloc, "strm")
         .bin_name("strm")?
-        .about("Serves a script of STREAMS calls, from standard input to standard output")
+        .about("Executes a script of STREAMS calls from standard input, and prints each reply")
+        .override_usage(USAGE_LINE)
+        .after_help(AFTER_OPTIONS)
         .arg(serial)?
         .arg(max)?;
     let matches = command.try_get_matches_from(words)?;
