@@ -7,11 +7,13 @@ import subprocess
 import sys
 import tempfile
 
-from limits import MESSAGE_BLOCKS
 from programs import Running, collected, medians, rewrite
 
 HERE = os.path.dirname(os.path.abspath(__file__))
 TOP = os.path.dirname(HERE)
+sys.path.append(os.path.join(TOP, "tools"))
+from strm_tools.limits import MESSAGE_BLOCKS
+
 # The program's crate, and the libraries that it uses.
 CRATE, USES = "bench_look", ["arrayvec", "strm_pool", "strm_shared"]
 # How many looks one line asks for, to count instructions and to take time.

@@ -8,8 +8,10 @@ import textwrap
 from concurrent.futures import ThreadPoolExecutor
 from typing import NamedTuple
 
-from limits import MESSAGE_BLOCKS
 from programs import Running, collected, medians, rewrite
+
+sys.path.append(os.path.join(os.path.dirname(os.path.abspath(__file__)), "..", "tools"))
+from strm_tools.limits import MESSAGE_BLOCKS
 
 POOLS = (255, 4_095, MESSAGE_BLOCKS)
 # The pool over which time is taken, and forms are compared.

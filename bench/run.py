@@ -13,8 +13,9 @@ import tempfile
 from functools import partial
 from itertools import count, islice
 
-from limits import DATA_BLOCK_BYTES, DATA_BLOCKS, MESSAGE_BLOCKS, SCRIPT_BYTES, WISHES
 from script import RANKED, WORDS, drawn
+
+from strm_tools.limits import DATA_BLOCK_BYTES, DATA_BLOCKS, MESSAGE_BLOCKS, SCRIPT_BYTES, WISHES
 
 SIZES = (1_000, 10_000, 100_000, 1_000_000)
 POOLS = (16, 255, 4_095, MESSAGE_BLOCKS)

@@ -8,8 +8,8 @@ from typing import NamedTuple
 from shim import Answer
 
 TOP = os.path.dirname(os.path.dirname(os.path.dirname(os.path.abspath(__file__))))
-sys.path.insert(0, os.path.join(TOP, "tests", "making"))
-from judge import Wrong, judge, judge_beginning
+sys.path[:0] = [os.path.join(TOP, "tests", "making"), os.path.join(TOP, "tools")]
+from strm_tools.judge import Wrong, judge, judge_beginning
 
 # Where a write takes only a part of a text, it is one of about so many.
 PARTS = 7

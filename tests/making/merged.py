@@ -1,9 +1,9 @@
 """Draws scripts of several sections on few blocks, few queues and small marks, has workers serve them, and judges what comes."""
 import subprocess
 
-from judge import Wrong, judge
+from strm_tools.judge import Wrong, judge
 from mixed import drawn
-from model import WORDS, Model, Pool
+from strm_tools.model import WORDS, Model, Pool
 from served import numbered
 
 # How many bytes a script may have, and how many seconds a run, whose status is 124 where it takes longer.

@@ -1,5 +1,5 @@
 """Draws lines of all words, and answers them by the model."""
-from model import HIGH_PRIORITY, ORDINARY, WORDS, Model, rank
+from strm_tools.model import HIGH_PRIORITY, ORDINARY, WORDS, Model, rank
 from served import write_served
 
 REGISTERS = "abcdefghijklmz"

@@ -1,71 +1,143 @@
-"""Reads pages of tools/strm_view again: the run that stands in one, and the report of the pool at a frame of it."""
+"""Reads pages of tools/strm-view again: the rows of the list, the pool at each frame, the bytes of blocks, and tracks."""
+import html
 import json
 import re
-from collections import Counter
+from itertools import accumulate
+from typing import NamedTuple
 
-ELEMENT = re.compile(r'<script id="run" type="application/json">(.*?)</script>', re.DOTALL)
+ELEMENT = re.compile(r'<script (?:class="(\w+)" )?(?:id="(\w+)" )?(?:data-name="([^"]*)" )?type="[\w/]+">(.*?)</script>', re.DOTALL)
+LINE = re.compile(r"(\d+):(\d+) ([^\t]*)(?:\t([^\t]*))?(?:\t(.*))?")
+DATA, RUN, WISHES, FIRST_QUEUE = range(4)
+BYTES = -1
 
 
-def run_in(page):
-    """What a page's program draws."""
-    return json.loads(ELEMENT.search(page)[1])
+class Line(NamedTuple):
+    """A row of an executed line."""
+
+    worker: int
+    number: int
+    command: str
+    reply: str
+    events: list
 
 
-def parts_of(told):
-    """The lists of the pool as it opens, and behind each line. They are the same objects, which change."""
-    parts = {name: list(items) for name, items in told["opening"].items()}
-    yield parts
-    for *_, changes in told["lines"]:
-        for name, place, gone, *items in changes:
-            parts.setdefault(name, [])[place : place + gone] = items
+class Page:
+    """A page: its rows, and what its program reads."""
+
+    def __init__(self, text):
+        elements = ELEMENT.findall(text)
+        self.run = json.loads(next(content for _, name, _, content in elements if name == "run"))
+        self.row_chunks = [content.split("\n") if content else [] for kind, *_, content in elements if kind == "rows"]
+        self.states = [json.loads(content) for kind, *_, content in elements if kind == "states"]
+        self.tracks = {name: json.loads(content) for kind, _, name, content in elements if kind == "track"}
+        self.rows = [row for chunk in self.row_chunks for row in chunk]
+        self.lines = [line_of(row) for row in self.rows if row[0] not in "#=>"]
+
+    def comments(self):
+        """The rows that are of no executed line, as in the script; a queue has its number after a tab."""
+        return [html.unescape(row.lstrip("=")) for row in self.rows if row[0] in "#="]
+
+    def frames(self):
+        """The parts of the pool as it opens, and after each line. They are the same objects, which change."""
+        parts = {int(part): items for part, items in self.states[0][0].items()}
         yield parts
+        for opening, lines in self.states:
+            if parts_that_count(parts) != parts_that_count({int(part): items for part, items in opening.items()}):
+                raise ValueError(f"a chunk begins with {opening}, and the one before ends with {parts}")
+            for changes in lines:
+                for part, place, gone, *items in (change for change in changes if change[0] != BYTES):
+                    parts.setdefault(part, [])[place : place + gone] = items
+                yield parts
+
+    def changes(self):
+        """The changes of each line, by its frame."""
+        return dict(enumerate((changes for _, lines in self.states for changes in lines), 1))
+
+    def frames_of(self, name):
+        """The frames of a track."""
+        return list(accumulate(self.tracks.get(name, [])))
+
+    def values_of(self, name):
+        """The value of a track's number at each frame."""
+        first, *steps = self.tracks[name]
+        changes = dict(zip(accumulate(steps[::2]), steps[1::2]))
+        return list(accumulate([first, *(changes.get(frame, 0) for frame in range(1, len(self.lines) + 1))]))
+
+    # ---- Parts -----------------------------------------------------------------------------------------------------------------
+
+    def flags(self, parts, number):
+        return parts[FIRST_QUEUE + 2 * number]
+
+    def messages(self, parts, number):
+        return parts[FIRST_QUEUE + 2 * number + 1]
+
+    def registers(self, parts, worker):
+        """The messages of a worker's registers, by letter."""
+        first = FIRST_QUEUE + 2 * len(self.run["queues"]) + 26 * worker
+        return {chr(ord("a") + at): parts[first + at] for at in range(26) if parts.get(first + at)}
 
 
-def of_kind(parts, kind):
-    return [items for name, items in parts.items() if name.split(" ")[0] == kind]
+def line_of(row):
+    worker, number, command, reply, events = LINE.fullmatch(row).groups()
+    return Line(int(worker), int(number), command, reply or "ok", (events or "").split())
 
 
-def census_of(told, parts):
-    queued = sum(len(message) for messages in of_kind(parts, "messages") for message in messages)
-    held = sum(map(len, of_kind(parts, "register")))
-    return told["mblks"] - queued - held, queued, held
+def parts_that_count(parts):
+    return {part: items for part, items in parts.items() if items}
+
+
+def octets_of(page, number, begin, end):
+    """The bytes of a number from one place to another."""
+    if number == 0 or begin == end:
+        return bytes(end - begin)
+    made = next((change[1:] for change in page.changes()[number] if change[0] == BYTES), [0, 0])
+    if made and isinstance(made[0], list):
+        return b"".join(octets_of(page, *piece) for piece in made)[begin:end]
+    before, at = made
+    own = bytes.fromhex(page.lines[number - 1].command.split(" ")[3].replace("-", ""))
+    return (octets_of(page, before, 0, at) + own)[begin:end]
+
+
+# ---- The report ------------------------------------------------------------------------------------------------------------------
 
 
 def length(message):
-    return sum(write - read for _, _, _, read, write, _ in message)
+    return sum(block[5] - block[4] for block in message)
 
 
-def band_of(told, message):
-    """The band that a message counts with."""
-    _, _, kind, _, _, band = message[0]
-    return 0 if kind >= told["ordinary"] else band
+def census_of(page, parts):
+    queued = sum(len(message) for number in range(len(page.run["queues"])) for message in page.messages(parts, number))
+    held = sum(len(message) for worker in range(page.run["workers"]) for message in page.registers(parts, worker).values())
+    return page.run["mblks"] - queued - held, queued, held
 
 
-def bands_of(told, number, parts):
-    read, noenable, wanted, own = parts[f"flags {number}"]
+def bands_of(page, parts, number):
+    """The lines of the report on the bands of a queue."""
+    *_, wanted, own = page.flags(parts, number)
     marks = {band: (high, low) for band, high, low in own}
-    counts = Counter()
-    for message in parts.get(f"messages {number}", []):
-        counts[band_of(told, message)] += length(message)
-    for band in sorted(counts, reverse=True):
-        high, _ = marks.get(band, told["queues"][number][:2])
-        if counts[band] > 0:
-            yield f"band {band} bytes={counts[band]} full={int(counts[band] >= high)} wanted={int(band in wanted)}"
+    counts = {}
+    for message in page.messages(parts, number):
+        band = 0 if message[0][3] >= page.run["ordinary"] else message[0][6]
+        counts[band] = counts.get(band, 0) + length(message)
+    for band, count in sorted(counts.items(), reverse=True):
+        high, _ = marks.get(band, page.run["queues"][number][:2])
+        if count > 0:
+            yield f"band {band} bytes={count} full={int(count >= high)} wanted={int(band in wanted)}"
 
 
-def report_of(told, parts):
+def report_of(page, parts):
     """The report that strm would print."""
-    lines = ["blocks free={} queued={} held={} total={}".format(*census_of(told, parts), told["mblks"])]
-    for (size, total), free in zip(told["classes"], parts["data"]):
+    lines = ["blocks free={} queued={} held={} total={}".format(*census_of(page, parts), page.run["mblks"])]
+    for (size, total), free in zip(page.run["classes"], parts[DATA]):
         lines.append(f"data size={size} free={free} total={total}")
-    for number in range(len(told["queues"])):
-        messages = parts.get(f"messages {number}", [])
-        read, noenable, *_ = parts[f"flags {number}"]
+    for number in range(len(page.run["queues"])):
+        messages = page.messages(parts, number)
+        read, noenable, *_ = page.flags(parts, number)
         lines.append(
             f"queue {number} msgs={len(messages)} bytes={sum(map(length, messages))} read={read} noenable={noenable}"
-            f" enabled={int(number in parts['run'])}"
+            f" enabled={int(number in parts[RUN])}"
         )
-        lines += bands_of(told, number, parts)
-    lines.append(f"run {' '.join(map(str, parts['run'])) or '-'}")
-    lines.append(f"wishes {' '.join(f'{own}:{size}' for own, size in parts['wishes']) or '-'}")
+        lines += bands_of(page, parts, number)
+    lines.append(f"run {' '.join(map(str, parts[RUN])) or '-'}")
+    lines.append(f"wishes {' '.join(f'{own}:{size}' for own, size in parts[WISHES]) or '-'}")
     return lines

@@ -21,6 +21,20 @@ def sixteen_queues():
     return lines + ["bufcall 300", "bufcall 256", "bufcall 16", "adjmsg a 2", "copymsg a m", "census"]
 
 
+def labelled_queues():
+    """The same as two streams of four modules, each with a queue that writes and one that reads."""
+    lines = sixteen_queues()
+    labels = []
+    for stream, first in (("A", 0), ("B", 8)):
+        for place, name in enumerate(("head", "ldterm", "ppp_async", "serial_driver")):
+            down, up = first + place, first + 7 - place
+            labels += [f"#: module {name}_{stream} {down} {up}", f"#: queue {down} {name} write, stream {stream}", f"#: queue {up} {name} read, stream {stream}"]
+    callers = ["#: caller head of stream A", "#: caller a caller with quite a long name, of 40"]
+    marked = [line for at, own in enumerate(lines) for line in ([callers[at // 40 % 2], own] if at > 30 and at % 40 == 0 else [own])]
+    place = marked.index("worker")
+    return marked[:place] + labels + marked[place:]
+
+
 def two_hundred_blocks():
     """48 messages of two blocks and their duplicates, on two queues, and eight messages in registers."""
     lines = ["pool 1 220", "class 16 120", "class 64 60", "queue 400 100 s 1", "queue 200 50 s -", "bufcalls 2 1", "worker"]

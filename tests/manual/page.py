@@ -96,9 +96,9 @@ def arguments():
     return {name: kind for names, kind in kinds for name in names}
 
 
-def lines_of_script():
-    """The first words of a script's lines, each with the names of its arguments."""
-    heads = [item.head for name in ("SCRIPT", "COMMANDS") for item in items(section(name))]
+def lines_of_script(names=("SCRIPT", "COMMANDS")):
+    """The first words of a script's lines that these sections explain, each with the names of its arguments."""
+    heads = [item.head for name in names for item in items(section(name))]
     return {marked("Ic", [head])[0]: marked("Ar", [head]) for head in heads}
 
 

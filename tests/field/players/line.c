@@ -109,7 +109,7 @@ static struct qinit terminal_write = {.qi_putp = put_at_terminal, .qi_srvp = ser
 static void make_write_side(struct part *parts[], int count)
 {
     for (int k = 0; k < count; k++) {
-        parts[k]->write = new_queue(parts[k]->write_side, 0);
+        parts[k]->write = new_queue(parts[k]->write_side, 0, parts[k]->name);
         if (k > 0)
             parts[k - 1]->write->q_next = parts[k]->write;
     }
@@ -118,7 +118,7 @@ static void make_write_side(struct part *parts[], int count)
 static void make_read_side(struct part *parts[], int count)
 {
     for (int k = count - 1; k >= 0; k--) {
-        parts[k]->read = new_queue(parts[k]->read_side, QREADR);
+        parts[k]->read = new_queue(parts[k]->read_side, QREADR, parts[k]->name);
         parts[k]->read->q_other = parts[k]->write;
         parts[k]->write->q_other = parts[k]->read;
         if (k < count - 1)
@@ -126,8 +126,9 @@ static void make_read_side(struct part *parts[], int count)
     }
 }
 
-static void set_sides(struct part *part, struct qinit *read_side, struct qinit *write_side)
+static void set_part(struct part *part, const char *name, struct qinit *read_side, struct qinit *write_side)
 {
+    part->name = name;
     part->read_side = read_side;
     part->write_side = write_side;
 }
@@ -137,14 +138,14 @@ void make_streams(void)
 {
     struct part *control_parts[] = {&control_head, &control}, *network_parts[] = {&network_head, &network};
     struct part *line_parts[] = {&lower, &compressor, &framer, &terminal};
-    set_sides(&control_head, &head_read, &head_write);
-    set_sides(&network_head, &head_read, &head_write);
-    set_sides(&control, pppinfo.st_rdinit, pppinfo.st_wrinit);
-    set_sides(&network, pppinfo.st_rdinit, pppinfo.st_wrinit);
-    set_sides(&lower, pppinfo.st_muxrinit, pppinfo.st_muxwinit);
-    set_sides(&compressor, pcmpinfo.st_rdinit, pcmpinfo.st_wrinit);
-    set_sides(&framer, phdlinfo.st_rdinit, phdlinfo.st_wrinit);
-    set_sides(&terminal, &terminal_read, &terminal_write);
+    set_part(&control_head, "head/control", &head_read, &head_write);
+    set_part(&network_head, "head/network", &head_read, &head_write);
+    set_part(&control, "ppp/control", pppinfo.st_rdinit, pppinfo.st_wrinit);
+    set_part(&network, "ppp/network", pppinfo.st_rdinit, pppinfo.st_wrinit);
+    set_part(&lower, "ppp/line", pppinfo.st_muxrinit, pppinfo.st_muxwinit);
+    set_part(&compressor, "ppp_comp", pcmpinfo.st_rdinit, pcmpinfo.st_wrinit);
+    set_part(&framer, "ppp_ahdlc", phdlinfo.st_rdinit, phdlinfo.st_wrinit);
+    set_part(&terminal, "terminal", &terminal_read, &terminal_write);
     make_write_side(control_parts, 2);
     make_write_side(network_parts, 2);
     make_write_side(line_parts, 4);
@@ -156,26 +157,26 @@ void make_streams(void)
 void open_part(struct part *part, int flag)
 {
     dev_t device = 0;
-    const char *before = enter(part->read);
+    struct caller before = enter(part->read, "open");
     part->read_side->qi_qopen(part->read, &device, 0, flag, NULL);
     leave(before);
 }
 
 void close_part(struct part *part)
 {
-    const char *before = enter(part->read);
+    struct caller before = enter(part->read, "close");
     part->read_side->qi_qclose(part->read, 0, NULL);
     leave(before);
 }
 
 void serve_next(void)
 {
+    struct caller before = enter(NULL, "scheduler");
     queue_t *q = next_service();
-    const char *before;
-    if (!q)
-        return;
-    before = enter(q);
-    q->q_qinfo->qi_srvp(q);
+    if (q) {
+        enter(q, "service");
+        q->q_qinfo->qi_srvp(q);
+    }
     leave(before);
 }
 

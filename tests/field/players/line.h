@@ -9,6 +9,7 @@
 
 /* A module, a driver or an end of a stream, with its two queues. */
 struct part {
+    const char *name;
     struct qinit *read_side, *write_side;
     queue_t *read, *write;
 };

@@ -26,6 +26,9 @@ static struct pbuf *held[REGISTERS];
 /* Where new pbufs come from: chains of the pool of pbufs, or single ones from the heap. */
 static pbuf_type source;
 
+/* What the lines of the script are for: the name of lwIP's function, or `player` for a look at memory. */
+static const char *caller;
+
 /* Lines of the script */
 
 static char name(int place)
@@ -36,7 +39,7 @@ static char name(int place)
 static void tell(const char *reply, const char *format, ...)
 {
     va_list values;
-    printf(". lwip ");
+    printf(". %s ", caller);
     va_start(values, format);
     vprintf(format, values);
     va_end(values);
@@ -227,6 +230,7 @@ static void allocate(int place)
     static u8_t bytes[MOST_BYTES];
     int size = draw_size(), free_before = free_in(memp_pools[last_class()]);
     struct pbuf *p = pbuf_alloc(PBUF_RAW, size, source);
+    caller = "pbuf_alloc";
     draw_bytes(bytes, size);
     if (p)
         pbuf_take(p, bytes, size);
@@ -420,6 +424,7 @@ static void look_around(void)
 {
     char reply[64];
     int size = draw_size() % (greatest() + 1);
+    caller = "player";
     tell(is_there_room(size) ? "yes" : "no", "testb %d", size);
     sprintf(reply, "census %d 0 %d", BLOCKS - blocks_held(), blocks_held());
     tell(reply, "census");
@@ -430,9 +435,11 @@ static void look_around(void)
 static const struct {
     void (*act)(int place);
     int often;
+    const char *caller;
 } on_one[] = {
-    {release, 10}, {dechain, 3}, {remove_header, 6}, {free_header, 2}, {shrink, 3}, {overwrite, 4},
-    {coalesce, 6}, {look_at_block, 12}, {look_at_bytes, 12}, {look_at_size, 6},
+    {release, 10, "pbuf_free"}, {dechain, 3, "pbuf_dechain"}, {remove_header, 6, "pbuf_remove_header"},
+    {free_header, 2, "pbuf_free_header"}, {shrink, 3, "pbuf_realloc"}, {overwrite, 4, "pbuf_take_at"}, {coalesce, 6, "pbuf_coalesce"},
+    {look_at_block, 12, "player"}, {look_at_bytes, 12, "pbuf_copy_partial"}, {look_at_size, 6, "player"},
 };
 
 static void act_on_one(int place)
@@ -440,6 +447,7 @@ static void act_on_one(int place)
     int drawn = below(64), k = 0;
     while (drawn >= on_one[k].often)
         drawn -= on_one[k++].often;
+    caller = on_one[k].caller;
     on_one[k].act(place);
 }
 
@@ -447,16 +455,20 @@ static void act_on_two(int place, int other, int free)
 {
     switch (below(5)) {
     case 0:
+        caller = "pbuf_cat";
         concatenate(place, other);
         break;
     case 1:
+        caller = "pbuf_chain";
         chain(place, other);
         break;
     case 2:
+        caller = "pbuf_clone";
         if (free >= 0)
             clone(place, free);
         break;
     default:
+        caller = "pbuf_ref";
         if (free >= 0)
             refer(place, free);
     }

@@ -325,26 +325,33 @@ static void stop_or_go(void)
         qenable(terminal.write);
 }
 
+/* An action: how often it is drawn, and as whom it makes calls. */
+#define ACTION(name, often) {name, often, "player " #name}
 static const struct {
     void (*act)(void);
     int often;
+    const char *caller;
 } actions[] = {
-    {write_control, 12}, {write_network, 18}, {write_many, 2}, {receive, 40}, {serve_some, 24}, {read_control, 4}, {read_network, 4},
-    {read_all, 2}, {let_one_go, 3}, {stop_or_go, 2}, {set_flags, 2}, {set_maps, 1}, {set_sizes, 1}, {set_mode, 1}, {ask, 3},
-    {change_state, 2}, {bind_network, 2}, {begin_compression, 1}, {use_compression, 3}, {reset_header_compression, 1}, {flush, 1},
-    {hang_up, 1}, {look_around, 1},
+    ACTION(write_control, 12), ACTION(write_network, 18), ACTION(write_many, 2), ACTION(receive, 40), ACTION(serve_some, 24),
+    ACTION(read_control, 4), ACTION(read_network, 4), ACTION(read_all, 2), ACTION(let_one_go, 3), ACTION(stop_or_go, 2),
+    ACTION(set_flags, 2), ACTION(set_maps, 1), ACTION(set_sizes, 1), ACTION(set_mode, 1), ACTION(ask, 3), ACTION(change_state, 2),
+    ACTION(bind_network, 2), ACTION(begin_compression, 1), ACTION(use_compression, 3), ACTION(reset_header_compression, 1),
+    ACTION(flush, 1), ACTION(hang_up, 1), ACTION(look_around, 1),
 };
 
 static void act(void)
 {
     int sum = 0, k = 0, drawn;
+    struct caller before;
     for (size_t i = 0; i < sizeof actions / sizeof *actions; i++)
         sum += actions[i].often;
     for (drawn = below(sum); drawn >= actions[k].often; k++)
         drawn -= actions[k].often;
+    before = enter(NULL, actions[k].caller);
     actions[k].act();
     if (once_in(400))
         relink();
+    leave(before);
 }
 
 static void begin(void)

@@ -28,7 +28,8 @@ void release_all(mblk_t *mp);
 
 /* queues.c */
 extern queue_t queues[MOST_QUEUES];
-queue_t *new_queue(struct qinit *what, int flag);
+queue_t *new_queue(struct qinit *what, int flag, const char *name);
+const char *side_of(const queue_t *q);
 int queue_count(void);
 int messages_on(const queue_t *q);
 size_t bytes_on(const queue_t *q);
@@ -41,9 +42,14 @@ queue_t *next_service(void);
  * %d, %l and %s are an int, a long and a text. */
 void begin_call(void);
 void end_call(const char *reply, const char *format, ...);
-/* From here on a procedure of the queue's module runs. Returns the name of the module that ran before, for leave. */
-const char *enter(const queue_t *q);
-void leave(const char *before);
+/* Who makes calls: a procedure of the queue's module or, without a queue, what does. */
+struct caller {
+    const queue_t *q;
+    const char *procedure;
+};
+/* From here on this caller makes the calls. Returns the one before, for leave. */
+struct caller enter(const queue_t *q, const char *procedure);
+void leave(struct caller before);
 const char *type_name(int type);
 
 /* looks.c */

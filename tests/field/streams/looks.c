@@ -7,6 +7,16 @@
 /* The most bytes of a reply. */
 #define PIECE 64
 
+/* Prints a label of each queue, and of each pair of them. */
+static void tell_labels(void)
+{
+    for (const queue_t *q = queues; q < queues + queue_count(); q++)
+        printf("#: queue %d %s %s\n", q->q_number, q->q_name, side_of(q));
+    for (const queue_t *q = queues; q < queues + queue_count(); q++)
+        if (!(q->q_flag & QREADR))
+            printf("#: module %s %d %d\n", q->q_name, q->q_number, OTHERQ(q)->q_number);
+}
+
 void tell_header(void)
 {
     const struct pool *pool = opened_pool();
@@ -21,6 +31,7 @@ void tell_header(void)
             puts("-");
     }
     puts("h bufcalls 0 1");
+    tell_labels();
     for (int k = 0; data_at(k); k++)
         printf("c %d %ld\n", k, data_at(k)->db_lim - data_at(k)->db_base);
 }

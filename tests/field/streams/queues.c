@@ -9,10 +9,11 @@ static queue_t *run_first, *run_last;
 
 /* Streams: pairs of queues */
 
-queue_t *new_queue(struct qinit *what, int flag)
+queue_t *new_queue(struct qinit *what, int flag, const char *name)
 {
     queue_t *q = &queues[used];
     q->q_number = used++;
+    q->q_name = name;
     q->q_qinfo = what;
     q->q_flag = flag | QWANTR;
     for (int band = 0; band < BANDS; band++) {
@@ -25,6 +26,11 @@ queue_t *new_queue(struct qinit *what, int flag)
 int queue_count(void)
 {
     return used;
+}
+
+const char *side_of(const queue_t *q)
+{
+    return q->q_flag & QREADR ? "read" : "write";
 }
 
 size_t bytes_on(const queue_t *q)
@@ -269,7 +275,7 @@ int qsize(queue_t *q)
 
 void put_to(queue_t *q, mblk_t *mp)
 {
-    const char *before = enter(q);
+    struct caller before = enter(q, "put");
     q->q_qinfo->qi_putp(q, mp);
     leave(before);
 }

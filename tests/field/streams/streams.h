@@ -55,7 +55,7 @@ enum {
 };
 #define queclass(mp) ((mp)->b_datap->db_type >= QPCTL ? QPCTL : QNORM)
 
-/* A queue, and what a module says of both its queues. */
+/* A queue, and what a module says of both its queues. Modules do not use q_name, which is the same for both. */
 typedef struct queue queue_t;
 struct module_info {
     u_short mi_idnum;
@@ -87,6 +87,7 @@ struct queue {
     queue_t *q_next, *q_other, *q_link;
     void *q_ptr;
     int q_flag, q_number;
+    const char *q_name;
     struct band q_band[BANDS];
 };
 #define QREADR 1

@@ -1,16 +1,4 @@
-/* Prints what happens to message blocks. A player's trace has these lines:
- *
- *     h LINE                                       a line of the script's header (looks.c).
- *     c DATA BYTES                                 the number of bytes of a data block (looks.c).
- *     b DATA PLACE BYTES                           bytes of a data block that changed, in hexadecimal.
- *     ~ BLOCK NEXT DATA READ WRITE TYPE BAND       a held message block that was changed by pointers.
- *     ! WHO CALL | REPLY                           a call. <N is the message that begins with block N, which the call takes. >N is one
- *                                                  that it gives, and > is none.
- *     = BLOCK NEXT DATA READ WRITE TYPE BAND       a block that the call changed, or that is held since.
- *     - BLOCK                                      a block that is held no longer.
- *     . WHO LINE | REPLY                           a line of the script as it is (lwip.c).
- *     r LINE                                       a line of the report (looks.c).
- */
+/* Prints what happens to message blocks, as lines of a trace: man/strm-record.1 explains them. looks.c prints its beginning and its end. */
 #include "field.h"
 
 #include <stdarg.h>
@@ -18,7 +6,11 @@
 #include <stdlib.h>
 #include <string.h>
 
-static const char *who = "ends";
+#define MOST_OF_LABEL 41
+
+/* The caller, and the label that was printed last of one. */
+static struct caller caller = {NULL, "player"};
+static char told_label[MOST_OF_LABEL];
 
 #define NAMED(type) [type] = #type
 static const char *const type_names[256] = {
@@ -41,17 +33,6 @@ const char *type_name(int type)
     return type_names[type];
 }
 
-const char *enter(const queue_t *q)
-{
-    const char *before = who;
-    who = q->q_qinfo->qi_minfo->mi_idname;
-    return before;
-}
-
-void leave(const char *before)
-{
-    who = before;
-}
 
 /* What a line has of a block, as it is now. */
 static struct told now(const mblk_t *mp)
@@ -116,15 +97,46 @@ static void check_alone(const mblk_t *mp)
         give_up("a module has changed a data block that several blocks name", mp->b_datap->db_number);
 }
 
+/* Prints the label of the caller, if it is another one than before. */
+static void tell_caller(void)
+{
+    char label[MOST_OF_LABEL];
+    const queue_t *q = caller.q;
+    if (q)
+        snprintf(label, sizeof label, "%s %s %s", q->q_name, side_of(q), caller.procedure);
+    else
+        snprintf(label, sizeof label, "%s", caller.procedure);
+    if (strcmp(label, told_label) != 0)
+        printf("#: caller %s\n", label);
+    strcpy(told_label, label);
+}
+
 void begin_call(void)
 {
     for (int k = 0; block_at(k); k++) {
         mblk_t *mp = block_at(k);
         if (mp->b_place == HELD && is_changed(mp)) {
             check_alone(mp);
+            tell_caller();
             tell_block('~', mp);
         }
     }
+}
+
+/* The caller before has changed what it has changed, which is printed as its own. */
+struct caller enter(const queue_t *q, const char *procedure)
+{
+    struct caller before = caller;
+    begin_call();
+    caller.q = q;
+    caller.procedure = procedure;
+    return before;
+}
+
+void leave(struct caller before)
+{
+    begin_call();
+    caller = before;
 }
 
 /* Prints that a block is held no longer. It follows no other block then, whatever a pointer says. */
@@ -170,7 +182,8 @@ static void tell_call(const char *format, va_list *values)
 void end_call(const char *reply, const char *format, ...)
 {
     va_list values;
-    printf("! %s ", who);
+    tell_caller();
+    printf("! %s ", caller.q ? caller.q->q_qinfo->qi_minfo->mi_idname : "ends");
     va_start(values, format);
     tell_call(format, &values);
     va_end(values);

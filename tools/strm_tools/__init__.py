@@ -1,0 +1,1 @@
+"""What the tools beside strm share, on Python's standard library alone."""

@@ -1,0 +1,162 @@
+"""What strm-check reports of a script: its faults, each with what was expected, and notes that help."""
+import io
+import re
+from typing import NamedTuple
+
+from strm_tools.faults import AFTER, FORMS, HEADER, MOST, STAGE, Reading, config_faults, line_kind, misfit
+from strm_tools.hints import config_hints, hints
+from strm_tools.labels import form_of
+from strm_tools.limits import SCRIPT_BYTES
+from strm_tools.shown import shown
+from strm_tools.words import MEANINGS, WORDS, whole_form
+
+# How many bytes of a script strm reads if `--max` does not say otherwise.
+BYTES_BY_DEFAULT = 1_048_576
+# Where a line is, by the line before it.
+PLACES = {
+    "nothing": "at the beginning",
+    **{kind: f"after a {kind} line" for kind in HEADER},
+    "command": "after a command",
+}
+LABEL_FORMS = {"queue": "#: queue Q LABEL", "module": "#: module LABEL Q..", "caller": "#: caller LABEL"}
+
+
+class Finding(NamedTuple):
+    """A line of the report: a fault or a note. If its number is 0, it is of the whole script."""
+
+    number: int
+    kind: str
+    words: str
+
+    def is_fault(self):
+        return self.kind != "note"
+
+    def line(self, name):
+        place = f"{name}:{self.number}" if self.number else name
+        return f"{place}: {self.kind}: {self.words}\n"
+
+
+def names_of(first):
+    """What the manual calls the words after this first word."""
+    return WORDS[first].form.split()
+
+
+def allowed(before):
+    """The lines that may follow such a line, in words."""
+    return " or ".join("a command" if kind == "command" else kind for kind in AFTER[before])
+
+
+def unknown(fault, words):
+    return f"word 1 is {shown(words[0])}; expected {allowed(fault.before)}"
+
+
+def order(fault, words):
+    return f"word 1 is {shown(words[0])} {PLACES[fault.before]}; expected {allowed(fault.before)}"
+
+
+def toomany(fault, words):
+    kind = line_kind(words[0])
+    return f"this is {kind} line {fault.count + 1}; expected at most {MOST[kind]}"
+
+
+def shape(_, words):
+    names = names_of(words[0])
+    counts = f"{whole_form(words[0])}: {1 + len(names)} word{'s' if names else ''}, here {len(words)}"
+    if len(words) <= len(names):
+        return f"{counts}; {names[len(words) - 1]} is missing"
+    place = words.index("") if "" in words else 1 + len(names)
+    return f"{counts}; word {place + 1} is {shown(words[place])}"
+
+
+def wrong_word(_, words):
+    first, *rest = words
+    place = misfit(first, rest)
+    item = FORMS[first][place - 1]
+    return f"word {place + 1} is {shown(words[place])}; expected {names_of(first)[place - 1]}: {MEANINGS[item]}"
+
+
+def cut(fault, _):
+    return f"the last line is {shown(fault.line)}; expected a line feed at its end"
+
+
+def missing(fault, _):
+    *kinds, last = (kind for kind in HEADER if STAGE[kind] > STAGE[fault.before])
+    lines = f"{', '.join(kinds)} and {last} lines" if kinds else f"a {last} line"
+    if fault.number == 1:
+        return f"the script is empty; expected {lines}"
+    place = "" if fault.before == "nothing" else f" {PLACES[fault.before]}"
+    return f"the script ends{place}; expected {lines}"
+
+
+EXPLAINED = {
+    "unknown": unknown,
+    "order": order,
+    "toomany": toomany,
+    "shape": shape,
+    **dict.fromkeys(["number", "register", "word", "hex"], wrong_word),
+    "cut": cut,
+    "missing": missing,
+}
+
+
+def of_line(fault, script):
+    """A fault of a line, and its notes."""
+    yield Finding(fault.number, fault.kind, EXPLAINED[fault.kind](fault, fault.line.split(" ")))
+    for hint in hints(fault, script):
+        yield Finding(fault.number, "note", hint)
+
+
+def of_config(fault):
+    """A fault of the pool that the header describes, and its notes."""
+    yield Finding(fault.number, f"bad config: {fault.which}", fault.why)
+    for hint in config_hints(fault):
+        yield Finding(fault.number, "note", hint)
+
+
+def queues_of(form, found):
+    """The queues that a label names."""
+    if form == "caller":
+        return []
+    return [int(found["queue"])] if form == "queue" else [int(queue) for queue in found["queues"].split()]
+
+
+def label_note(line, queues):
+    """What is wrong with a comment that begins as a label does, or None. `queues` is the number of queues."""
+    labelled = form_of(line)
+    if labelled is None:
+        word = "".join(line.split(" ")[1:2])
+        return f"this comment begins with #: but is no label; expected {LABEL_FORMS.get(word) or ' or '.join(LABEL_FORMS.values())}"
+    above = [queue for queue in queues_of(*labelled) if queue >= queues]
+    return f"the label names queue {above[0]}; expected at most {queues - 1}" if above else None
+
+
+def of_labels(script, queues):
+    """Notes on comments that begin as labels do."""
+    number, end = 1, 0
+    for found in re.finditer(rb"^#:[^\n]*", script, re.MULTILINE):
+        number += script.count(b"\n", end, found.start())
+        end = found.start()
+        note = label_note(found[0].decode("utf-8", "replace"), queues)
+        if note:
+            yield Finding(number, "note", note)
+
+
+def too_long(most):
+    """What is found in a script of more bytes than it may have, which is not read any further."""
+    more = ", the most that strm reads" if most == SCRIPT_BYTES else f"; give strm and strm-check a greater --max, up to {SCRIPT_BYTES}"
+    return [Finding(0, "input too long", f"more than {most} bytes{more}")]
+
+
+def findings(script, every):
+    """What is found in a script, given as bytes: the first fault with its notes, or every fault. Notes on labels follow if every fault is
+    asked for, or if there is none."""
+    reading = Reading()
+    for fault in reading.faults(io.TextIOWrapper(io.BytesIO(script), encoding="latin-1", newline="\n")):
+        yield from of_line(fault, script)
+        if not every:
+            return
+    for fault in config_faults(reading.header):
+        yield from of_config(fault)
+        if not every:
+            return
+    yield from of_labels(script, reading.queues())

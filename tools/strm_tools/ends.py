@@ -1,0 +1,99 @@
+"""How a tool reads its files, writes its result, and ends: with one line that begins with the tool's name, and a status.
+
+Status 1 means that an input is wrong, 2 that an argument is wrong, a file can't be read or written, or memory is out. Two ends need no
+line: a tool that is interrupted ends by this signal, which shells show as 130; and 141 means that nobody reads its output any more.
+Output that a tool prints itself is checked as it ends."""
+import atexit
+import functools
+import os
+import sys
+
+NAME = os.path.basename(sys.argv[0])
+# Standard streams by number, since Python has no object for one that is closed.
+STANDARD_INPUT = 0
+STANDARD_OUTPUT = 1
+# Of a long line on standard error, how many characters are shown of its beginning and of its end.
+SHOWN = 600, 200
+
+
+def one_line(text):
+    """A text as one line: a character that can't be printed is escaped, and the middle of a long text is left out."""
+    begin, end = SHOWN
+    if len(text) > begin + end:
+        text = f"{text[:begin]} ... {text[-end:]}"
+    return "".join(char if char.isprintable() else char.encode("unicode_escape").decode() for char in text)
+
+
+@functools.lru_cache(maxsize=None)
+def complain(why):
+    """Prints a line on standard error, if that is open, and the same line only once."""
+    if sys.stderr is not None:
+        try:
+            print(f"{NAME}: {one_line(why)}", file=sys.stderr, flush=True)
+        except OSError:
+            pass
+
+
+def end(status, why):
+    """Ends the program with a line on standard error."""
+    complain(str(why))
+    sys.exit(status)
+
+
+def end_for(name, why, leave=sys.exit):
+    """Ends the program because a file of this name can't be read or written."""
+    if isinstance(why, BrokenPipeError):
+        leave(141)
+    complain(f"{name}: {why.strerror}")
+    leave(2)
+
+
+def read_bytes(path, most=-1):
+    """The bytes of a file, or of standard input for `-`, or the first `most` of them."""
+    try:
+        with open(os.dup(STANDARD_INPUT) if path == "-" else path, "rb") as file:
+            return file.read(most)
+    except OSError as why:
+        end_for("standard input" if path == "-" else path, why)
+
+
+def read(path):
+    """The text of a file, or of standard input for `-`. A byte that is no UTF-8 is replaced; no line end is changed."""
+    return read_bytes(path).decode("utf-8", "replace")
+
+
+def write_pieces(pieces, path=None):
+    """Writes texts one after another to a file, or to standard output if there is none."""
+    try:
+        with open(os.dup(STANDARD_OUTPUT) if path is None else path, "wb") as file:
+            for piece in pieces:
+                file.write(piece.encode("utf-8", "replace"))
+    except OSError as why:
+        end_for("standard output" if path is None else path, why)
+
+
+def write(text, path=None):
+    """Writes a text to a file, or to standard output if there is none."""
+    write_pieces([text], path)
+
+
+@atexit.register
+def flush_output():
+    """Ends the program if what it printed can't be written."""
+    try:
+        if sys.stdout is not None and not sys.stdout.closed:
+            sys.stdout.flush()
+    except OSError as why:
+        end_for("standard output", why, os._exit)
+
+
+def end_uncaught(kind, why, trace):
+    """Says nothing of an interrupt, after which Python ends by this signal, and one line if memory is out."""
+    if issubclass(kind, MemoryError):
+        complain("out of memory")
+        os._exit(2)
+    if not issubclass(kind, KeyboardInterrupt):
+        sys.__excepthook__(kind, why, trace)
+
+
+sys.excepthook = end_uncaught

@@ -1,0 +1,323 @@
+"""Hints: what may have caused a fault of a script. Each says what is so, and applies only to the fault at hand."""
+import functools
+import itertools
+import re
+import unicodedata
+from typing import NamedTuple
+
+from strm_tools.faults import AFTER, BYTE_ORDER_MARK, FITS, FORMS, GREATEST, MOST, STAGE, bare_of, has_form, line_kind, misfit
+from strm_tools.model import HIGH_PRIORITY, ORDINARY
+from strm_tools.shown import octets, shown
+from strm_tools.streams import FLUSHES, NO_TYPE, command_for
+
+# How a file in UTF-16 begins.
+UTF_16 = ("\xff\xfe", "\xfe\xff")
+TYPES = (*ORDINARY, *HIGH_PRIORITY)
+# Longer words are none that somebody mistyped.
+LONGEST_WORD = 16
+
+
+class Faulty(NamedTuple):
+    """A line with a fault, as hints see it."""
+
+    number: int
+    kind: str
+    line: str
+    before: str
+    # The words of the line, and the place of the wrong one from 0, or None if it is not one word.
+    words: list
+    place: int
+    script: bytes
+
+    def word(self):
+        """The wrong word, or nothing."""
+        return self.words[self.place] if self.place is not None and self.place < len(self.words) else ""
+
+    def item(self):
+        """What the wrong word, which is not the first, should be."""
+        return FORMS[self.words[0]][self.place - 1]
+
+    def text(self):
+        """Where the cause of the fault is: the wrong word, or the whole line if the number of words is wrong."""
+        return self.line if self.kind == "shape" else self.word()
+
+    def has_empty(self):
+        """Whether an empty word may be the cause."""
+        return "" in self.words if self.kind == "shape" else not self.word()
+
+
+def place_of(fault, words):
+    """The place of the wrong word of a line, from 0, or None."""
+    if fault.kind in ("shape", "cut", "missing"):
+        return None
+    return 0 if fault.kind in ("unknown", "order", "toomany") else misfit(words[0], words[1:])
+
+
+def fits(line, before):
+    """Whether a line has no fault after such a line."""
+    first = line.split(" ")[0]
+    return first in FORMS and line_kind(first) in AFTER[before] and bool(has_form(first)(line))
+
+
+def encoding(faulty):
+    if faulty.number == 1 and faulty.line.startswith(BYTE_ORDER_MARK):
+        yield "a byte order mark begins the file; save the file without it"
+    elif faulty.number == 1 and faulty.line.startswith(UTF_16):
+        yield "the file is UTF-16; save it as UTF-8 without a byte order mark"
+    elif "\0" in faulty.text():
+        yield "the line has bytes 00, as a binary file has, or one in UTF-16"
+
+
+def carriage_return(faulty):
+    is_last = faulty.place == len(faulty.words) - 1
+    if faulty.line.endswith("\r") and (is_last or faulty.words[-1] == "\r"):
+        yield "a carriage return ends the line; save the file with line feeds alone"
+
+
+def tabs(faulty):
+    if "\t" in faulty.text():
+        yield "a tab is part of a word; put one space between words"
+
+
+def is_word_before_comment(faulty):
+    """Whether the wrong word would be right without a # in it and what follows."""
+    word, mark, _ = faulty.word().partition("#")
+    if not mark:
+        return False
+    return word in FORMS if faulty.place == 0 else bool(FITS[faulty.item()][0](word))
+
+
+def comment(faulty):
+    first = faulty.words[0]
+    bare = faulty.line.lstrip(" \t")
+    if faulty.kind == "unknown" and bare.startswith("#"):
+        yield "a comment has # at the very beginning of its line"
+    elif faulty.kind == "unknown" and first.startswith(("//", "/*", "--", ";", "%")):
+        yield "a comment begins with #"
+    elif is_word_before_comment(faulty) or " #" in f" {faulty.text()}":
+        yield "a comment is a line of its own; here # and what follows are words"
+
+
+def spaces(faulty):
+    line = faulty.line
+    if not faulty.has_empty():
+        return
+    if not line.strip(" "):
+        yield "the line has only spaces; remove them"
+    elif line[0] == " " and not line.lstrip().startswith("#"):
+        yield "a line begins with its first word, without spaces before it"
+    elif line[0] != " ":
+        text = line.rstrip(" ")
+        inner = re.search("  +", text)
+        if inner:
+            yield f"{len(inner[0])} spaces are before {shown(text[inner.end() :].split(' ')[0])}; put one"
+        count = len(line) - len(text)
+        if count:
+            yield "a space ends the line; remove it" if count == 1 else f"{count} spaces end the line; remove them"
+
+
+def not_ascii(faulty):
+    found = re.search("[\x80-\xff]+", faulty.text())
+    if not found or faulty.number == 1 and faulty.line.startswith((BYTE_ORDER_MARK, *UTF_16)):
+        return
+    char = octets(found[0][:4]).decode("utf-8", "surrogateescape")[0]
+    if "\udc80" <= char <= "\udcff":
+        yield f"byte {ord(found[0][0]):02x} is not ASCII"
+    else:
+        yield f"U+{ord(char):04X}, {unicodedata.name(char, 'without a name')}, is not ASCII"
+
+
+def punctuation(faulty):
+    if not re.search("[(),;]", faulty.line):
+        return
+    bare = " ".join(re.findall(r"[^\s(),;]+", faulty.line))
+    if fits(bare, faulty.before):
+        yield f"without ( ) , ; it has the right form: {bare}"
+    elif faulty.kind == "unknown" and faulty.word().split("(")[0] in FORMS and "(" in faulty.word():
+        yield "words follow each other after single spaces, without ( ) , ;"
+
+
+def another_order(faulty):
+    if faulty.kind == "number" and faulty.word().isdigit():
+        return
+    first, *rest = faulty.words
+    orders = (f"{first} {' '.join(order)}" for order in itertools.permutations(rest))
+    right = next((line for line in orders if has_form(first)(line)), None)
+    if right:
+        yield f"in another order the words have the right form: {right}"
+
+
+def distance(one, other):
+    """How many letters are to be replaced, inserted, removed, or swapped with the next, to make one word of the other."""
+    rows = [list(range(len(other) + 1))]
+    for i, letter in enumerate(one, 1):
+        row = [i]
+        for j, another in enumerate(other, 1):
+            costs = [rows[-1][j] + 1, row[-1] + 1, rows[-1][j - 1] + (letter != another)]
+            if i > 1 and j > 1 and letter == other[j - 2] and one[i - 2] == another:
+                costs.append(rows[-2][j - 2] + 1)
+            row.append(min(costs))
+        rows.append(row)
+    return rows[-1][-1]
+
+
+@functools.lru_cache(maxsize=4096)
+def nearest(word, known):
+    """Those of the known words that are nearest to a word and near enough to be meant."""
+    if not 2 <= len(word) <= LONGEST_WORD:
+        return []
+    near = [(distance(word, other), other) for other in known if abs(len(word) - len(other)) <= 2]
+    least = min(near, default=(LONGEST_WORD, ""))[0]
+    return [other for count, other in near if count == least] if least <= (1 if len(word) < 5 else 2) else []
+
+
+def nearest_hint(word, known):
+    near = nearest(word, known)
+    if near:
+        yield f"the nearest {'word is' if len(near) == 1 else 'words are'} {', '.join(near)}"
+
+
+def first_word(faulty):
+    """What a first word may mean that is none."""
+    word = bare_of(faulty.word())
+    known = next(filter(None, (command_for(name, FORMS) for name in (word, word.lower(), word.upper()))), None)
+    if word.lower() in FORMS:
+        if word not in FORMS:
+            yield f"words are in small letters: write {word.lower()}"
+    elif known:
+        yield known
+    else:
+        here = tuple(first for first in FORMS if line_kind(first) in AFTER[faulty.before])
+        yield from list(nearest_hint(word, here)) or nearest_hint(word, tuple(FORMS))
+
+
+def line_of_first(script, kind):
+    """The number of the first line of a script with this first word, or None."""
+    found = re.search(rb"^" + kind.encode() + rb"(?=[ \n])", script, re.MULTILINE)
+    return found and script.count(b"\n", 0, found.start()) + 1
+
+
+def order(faulty):
+    """Which line of the header is missing, or where it is."""
+    first = faulty.words[0]
+    kind, before = line_kind(first), faulty.before
+    here = functools.partial(line_of_first, faulty.script)
+    if first == "bufcall" and before == "queue":
+        yield "the line of the header is bufcalls WISHES ID"
+    elif first == "bufcalls" and STAGE[before] == STAGE["worker"]:
+        yield "the command is bufcall SIZE"
+    elif STAGE[kind] > STAGE[before]:
+        for skipped in AFTER:
+            if STAGE[before] < STAGE[skipped] < STAGE[kind] or skipped == "worker" and kind == "command":
+                line = here(skipped)
+                yield f"a {skipped} line belongs before it: " + (f"the first is line {line}" if line else "there is none")
+    elif STAGE[before] == STAGE["worker"]:
+        yield f"the header ends before the first worker line, line {here('worker')}"
+    elif kind in MOST:
+        follower = AFTER[kind][-1]
+        yield f"{kind} lines belong before the first {follower} line, line {here(follower)}"
+    elif here(kind) < faulty.number:
+        yield f"a script has one {kind} line, here line {here(kind)}"
+    else:
+        yield f"the {kind} line belongs before the first {AFTER[kind][-1]} line"
+
+
+def number(faulty):
+    word, item = faulty.word(), faulty.item()
+    found = re.fullmatch("([-+]?)([0-9]+)", word)
+    if found:
+        sign, digits = found.groups()
+        value = digits.lstrip("0") or "0"
+        signed = item == "count" and sign == "-"
+        if sign == "+":
+            yield "a number has no +"
+        elif sign == "-" and (value == "0" or not signed):
+            yield "0 has no sign" if value == "0" else "a negative number can't be here"
+        is_long = len(value) > 10
+        if digits != value:
+            yield "a number has no leading zeros" + ("" if is_long else f": write {sign if signed and value != '0' else ''}{value}")
+        if signed and (is_long or int(value) > 2**31):
+            yield "the least number here is -2147483648"
+        elif sign != "-" and (is_long or int(value) > GREATEST[item]):
+            yield f"the greatest number here is {GREATEST[item]}"
+    elif re.fullmatch("0[xX][0-9a-fA-F]{1,8}", word):
+        yield f"a number is decimal: write {int(word, 16)}"
+    elif re.fullmatch("[0-9]{1,3}([,._'][0-9]{3}){1,3}", word):
+        yield f"a number has no separators: write {re.sub('[^0-9]', '', word)}"
+
+
+def register(faulty):
+    word = faulty.word()
+    if re.fullmatch("[A-Z]", word):
+        yield f"a register is a small letter: write {word.lower()}"
+    elif re.fullmatch("[A-Za-z][A-Za-z0-9]+", word):
+        yield "a register is one letter"
+
+
+def named_word(faulty):
+    word, item = bare_of(faulty.word()), faulty.item()
+    known = {"kind": TYPES, "flag": ("all", "data"), "service": ()}[item]
+    if word in known:
+        return
+    if word in NO_TYPE and item == "kind":
+        yield f"strm has no {word}; docs/FROM-STREAMS.md says what to use instead"
+    elif word in FLUSHES and item == "flag":
+        yield f"instead of {word} write {FLUSHES[word]}"
+    elif item == "kind" and {word.upper(), f"M_{word.upper()}", word.upper()[5:]} & set(TYPES):
+        right = next(kind for kind in (word.upper(), f"M_{word.upper()}", word.upper()[5:]) if kind in TYPES)
+        yield f"the type's name is {right}"
+    elif item != "kind" and word.lower() in ("all", "data", "s", "n"):
+        yield f"words are in small letters: write {word.lower()}"
+    else:
+        yield from nearest_hint(word, known)
+
+
+def octets_word(faulty):
+    word = faulty.word()
+    digits = word[2:] if word[:2] in ("0x", "0X") else word
+    wrong = re.search("[^0-9a-fA-F]", digits)
+    if digits is not word:
+        yield "digits follow without 0x"
+    if wrong and wrong[0].isprintable() and wrong[0].isascii():
+        yield f"{shown(wrong[0])}, at place {wrong.start() + 1 + len(word) - len(digits)} of the word, is no digit"
+    if wrong or not digits:
+        return
+    if digits != digits.lower():
+        yield "digits above 9 are small letters, a to f"
+    if len(digits) % 2:
+        yield f"{len(digits)} is an odd number of digits; each byte has two"
+    if len(digits) > 128:
+        yield f"{(len(digits) + 1) // 2} bytes are too many; one write appends at most 64"
+
+
+def cut(faulty):
+    begin = next((line for line in faulty.line.split("\r") if line and not line.startswith("#")), None)
+    if b"\n" not in faulty.script and "\r" in faulty.line and (begin is None or fits(begin, "nothing")):
+        yield "carriage returns end the lines; save the file with line feeds"
+
+
+# The hints for each kind of fault.
+OF_BYTES = (encoding, carriage_return, tabs, comment, spaces, not_ascii)
+HINTS = {
+    "unknown": (*OF_BYTES, punctuation, first_word),
+    "order": (order,),
+    "shape": (*OF_BYTES, punctuation),
+    "number": (*OF_BYTES, number, punctuation, another_order),
+    "register": (*OF_BYTES, register, punctuation, another_order),
+    "word": (*OF_BYTES, named_word, another_order),
+    "hex": (*OF_BYTES, octets_word),
+    "cut": (encoding, cut),
+}
+
+
+def hints(fault, script):
+    """The hints for a fault of a line."""
+    words = fault.line.split(" ")
+    faulty = Faulty(fault.number, fault.kind, fault.line, fault.before, words, place_of(fault, words), script)
+    return [hint for hints_of in HINTS.get(fault.kind, ()) for hint in hints_of(faulty)]
+
+
+def config_hints(fault):
+    """The hints for a fault of the pool that a header describes."""
+    if fault.which == "Marks" and fault.why.endswith("the high one, 0"):
+        yield "no low water mark is below 0; with the marks 1 and 0 a band is full from its first byte on"

@@ -1,0 +1,554 @@
+"""A plain model of a pool, with the reply to each call and the report."""
+from collections import Counter
+from typing import NamedTuple
+
+ORDINARY = "M_DATA M_PROTO M_BREAK M_PASSFP M_SIG M_DELAY M_CTL M_IOCTL M_SETOPTS".split()
+HIGH_PRIORITY = (
+    "M_IOCACK M_IOCNAK M_PCPROTO M_PCSIG M_READ M_FLUSH M_STOP M_START M_HANGUP M_ERROR M_COPYIN M_COPYOUT M_IOCDATA"
+).split()
+CARRY_DATA = "M_DATA M_PROTO M_PCPROTO M_DELAY".split()
+# Each word: the items after it, and how often mixed.py draws it for one `census`. The methods of `Model` fill this in.
+WORDS = {}
+
+
+def word(items, often):
+    """Adds the method below to `WORDS`."""
+
+    def added(method):
+        WORDS[method.__name__] = items, often
+        return method
+
+    return added
+
+
+class Refused(Exception):
+    """A call's own refusal, by number and name. Nothing has changed."""
+
+
+class Pool(NamedTuple):
+    """What a pool is made with."""
+
+    mblks: int
+    # Size and number of each class.
+    classes: list
+    # High and low water mark of each queue, whether there is a service procedure, and the next queue.
+    queues: list
+    # How many wishes may be recorded, and the id of the first.
+    bufcalls: int
+    first_id: int
+
+    def header(self):
+        lines = [f"pool 1 {self.mblks}"]
+        lines += [f"class {size} {count}" for size, count in self.classes]
+        lines += [f"queue {high} {low} {service} {following}" for high, low, service, following in self.queues]
+        return lines + [f"bufcalls {self.bufcalls} {self.first_id}"]
+
+    def greatest(self):
+        return self.classes[-1][0]
+
+
+class Data:
+    """A data block in use: its class, by place, its type, how many blocks name it, and its bytes."""
+
+    def __init__(self, place, size):
+        self.place = place
+        self.kind = "M_DATA"
+        self.names = 1
+        self.octets = bytearray(size)
+
+
+class Block:
+    """A message block: the data block that it names, its read place and write place in it, and its band."""
+
+    def __init__(self, data, read=0, write=0, band=0):
+        self.data = data
+        self.read = read
+        self.write = write
+        self.band = band
+
+    def length(self):
+        return self.write - self.read
+
+    def room(self):
+        return len(self.data.octets) - self.write
+
+    def octets(self):
+        return self.data.octets[self.read : self.write]
+
+    def duplicate(self):
+        self.data.names += 1
+        return Block(self.data, self.read, self.write, self.band)
+
+    def copy(self, data):
+        data.kind = self.data.kind
+        data.octets[self.read : self.write] = self.octets()
+        return Block(data, self.read, self.write, self.band)
+
+
+def total(blocks):
+    return sum(block.length() for block in blocks)
+
+
+def octets_of(blocks):
+    return b"".join(block.octets() for block in blocks)
+
+
+def run_of(blocks):
+    """The first blocks, as far as they have the type of the very first."""
+    others = [k for k, block in enumerate(blocks) if block.data.kind != blocks[0].data.kind]
+    return blocks[: others[0]] if others else blocks
+
+
+def rank(message):
+    return 256 if message[0].data.kind in HIGH_PRIORITY else message[0].band
+
+
+def ranks_of(band):
+    return [0, 256] if band == 0 else [band]
+
+
+class Queue:
+    """A queue: what it was made with, the water marks of bands that have their own, its messages, its two marks, and its
+    wanted bands."""
+
+    def __init__(self, high, low, service, following):
+        self.high = high
+        self.low = low
+        self.has_service = service == "s"
+        self.next = following
+        self.marks = {}
+        self.messages = []
+        self.wants_to_read = True
+        self.enabling_is_off = False
+        self.wanted = set()
+
+    def bytes_in(self, band):
+        return sum(total(message) for message in self.messages if rank(message) in ranks_of(band))
+
+    def bytes_of_bands(self):
+        """The bytes of each band that has a message."""
+        counts = Counter()
+        for message in self.messages:
+            counts[rank(message) % 256] += total(message)
+        return counts
+
+    def marks_of(self, band):
+        return self.marks.get(band, (self.high, self.low))
+
+    def is_full(self, band):
+        return self.bytes_in(band) >= self.marks_of(band)[0]
+
+    def has_room(self, band):
+        return self.bytes_in(band) <= self.marks_of(band)[1]
+
+
+class Model:
+    """A pool and the registers of workers, of which one is served at a time. A message is a list of blocks.
+
+    Each word has a method, which `answer` calls if its queue exists, its sources hold messages and its
+    destination holds none. The method returns the reply, or None for `ok`."""
+
+    def __init__(self, pool):
+        self.pool = pool
+        self.data = [count for _, count in pool.classes]
+        self.queues = [Queue(*spec) for spec in pool.queues]
+        self.run = []
+        self.wishes = []
+        self.next_id = pool.first_id
+        self.workers = []
+
+    def begin(self):
+        """Another worker is served, on registers of its own."""
+        self.held = {}
+        self.workers.append(self.held)
+
+    def turn_to(self, worker):
+        """This worker is served on."""
+        self.held = self.workers[worker]
+
+    def answer(self, command, items, values):
+        """The reply to a line: what refuses it first, or what its word returns. Items say what the values are."""
+        sources = [value for item, value in zip(items, values) if item == "from"]
+        if "queue" in items and values[items.index("queue")] >= len(self.queues):
+            return "refused 11 NoSuchQueue"
+        if not all(map(self.held.__contains__, sources)) or len(set(sources)) < len(sources):
+            return "empty"
+        if "to" in items and values[items.index("to")] in self.held:
+            return "taken"
+        try:
+            return getattr(self, command)(*values) or "ok"
+        except Refused as refusal:
+            return f"refused {refusal}"
+
+    def counts(self):
+        queued = sum(sum(map(len, queue.messages)) for queue in self.queues)
+        held = sum(sum(map(len, registers.values())) for registers in self.workers if registers)
+        return self.pool.mblks - queued - held, queued, held
+
+    def take(self, free, size):
+        """The data block that is found; `free`, how many each class has, then has one less."""
+        if size > self.pool.greatest():
+            raise Refused("1 TooLarge")
+        for place, (most, _) in enumerate(self.pool.classes):
+            if size <= most and free[place] > 0:
+                free[place] -= 1
+                return Data(place, most)
+        raise Refused("3 NoData")
+
+    def need(self, count):
+        if self.counts()[0] < count:
+            raise Refused("2 NoMblk")
+
+    def block_at(self, register, k):
+        if k >= len(self.held[register]):
+            raise Refused("5 NoSuchBlock")
+        return self.held[register][k]
+
+    def own_block_at(self, register, k):
+        block = self.block_at(register, k)
+        if block.data.names > 1:
+            raise Refused("6 Shared")
+        return block
+
+    def release(self, data):
+        data.names -= 1
+        if data.names == 0:
+            self.data[data.place] += 1
+
+    def leave(self, register, rest):
+        if rest:
+            self.held[register] = rest
+        else:
+            del self.held[register]
+
+    @word("to size", 10)
+    def allocb(self, to, size):
+        if size > self.pool.greatest():
+            raise Refused("1 TooLarge")
+        self.need(1)
+        self.held[to] = [Block(self.take(self.data, size))]
+
+    def fits(self, size):
+        classes = zip(self.pool.classes, self.data)
+        return self.counts()[0] > 0 and any(size <= most and free > 0 for (most, _), free in classes)
+
+    @word("size", 1)
+    def testb(self, size):
+        return "yes" if self.fits(size) else "no"
+
+    def duplicates(self, blocks):
+        self.need(len(blocks))
+        for block in blocks:
+            if block.data.names + sum(other.data is block.data for other in blocks) > 255:
+                raise Refused("4 RefMax")
+        return [block.duplicate() for block in blocks]
+
+    @word("from to", 2)
+    def dupb(self, source, to):
+        self.held[to] = self.duplicates(self.held[source][:1])
+
+    @word("from to", 2)
+    def dupmsg(self, source, to):
+        self.held[to] = self.duplicates(self.held[source])
+
+    def copies(self, blocks):
+        self.need(len(blocks))
+        free = list(self.data)
+        taken = [self.take(free, len(block.data.octets)) for block in blocks]
+        self.data = free
+        return [block.copy(data) for block, data in zip(blocks, taken)]
+
+    @word("from to", 1)
+    def copyb(self, source, to):
+        self.held[to] = self.copies(self.held[source][:1])
+
+    @word("from to", 2)
+    def copymsg(self, source, to):
+        self.held[to] = self.copies(self.held[source])
+
+    @word("from block octets", 16)
+    def write(self, source, k, octets):
+        block = self.own_block_at(source, k)
+        if len(octets) > block.room():
+            raise Refused("7 NoRoom")
+        block.data.octets[block.write : block.write + len(octets)] = octets
+        block.write += len(octets)
+
+    @word("from block kind", 4)
+    def settype(self, source, k, kind):
+        self.own_block_at(source, k).data.kind = kind
+
+    @word("from band", 3)
+    def setband(self, source, band):
+        self.held[source][0].band = band
+
+    @word("from from", 5)
+    def linkb(self, source, tail):
+        self.held[source] += self.held.pop(tail)
+
+    @word("from to", 2)
+    def unlinkb(self, source, to):
+        first, *rest = self.held[source]
+        if not rest:
+            return "none"
+        self.held[source] = [first]
+        self.held[to] = rest
+
+    @word("from block to", 2)
+    def rmvb(self, source, k, to):
+        block = self.block_at(source, k)
+        self.leave(source, self.held[source][:k] + self.held[source][k + 1 :])
+        self.held[to] = [block]
+
+    @word("from count", 4)
+    def adjmsg(self, source, count):
+        run = run_of(self.held[source] if count > 0 else self.held[source][::-1])
+        left = abs(count)
+        if left > total(run):
+            raise Refused("8 Short")
+        for block in run:
+            cut = min(left, block.length())
+            left -= cut
+            if count > 0:
+                block.read += cut
+            else:
+                block.write -= cut
+
+    @word("from count", 5)
+    def pullupmsg(self, source, count):
+        message = self.held[source]
+        run = run_of(message)
+        if count < -1 or count > total(run):
+            raise Refused("8 Short")
+        if count == -1:
+            count = total(run)
+        first = message[0]
+        left = count - first.length()
+        if left <= 0:
+            return
+        data = self.take(self.data, count)
+        data.kind = first.data.kind
+        data.octets[:count] = octets_of(run)[:count]
+        self.release(first.data)
+        first.data, first.read, first.write = data, 0, count
+        while left > 0:
+            cut = min(left, message[1].length())
+            left -= cut
+            message[1].read += cut
+            if message[1].length() == 0:
+                self.release(message.pop(1).data)
+
+    @word("from", 1)
+    def msgdsize(self, source):
+        return f"size {total(block for block in self.held[source] if block.data.kind == 'M_DATA')}"
+
+    @word("from", 1)
+    def size(self, source):
+        return f"size {total(self.held[source])}"
+
+    @word("from at", 3)
+    def read(self, source, at):
+        return f"bytes {octets_of(self.held[source])[at : at + 64].hex() or '-'}"
+
+    @word("from block", 4)
+    def block(self, source, k):
+        block = self.block_at(source, k)
+        return (
+            f"block {block.data.kind} len={block.length()} band={block.band} room={block.room()}"
+            f" names={block.data.names}"
+        )
+
+    @word("from", 2)
+    def freeb(self, source):
+        first, *rest = self.held[source]
+        self.release(first.data)
+        self.leave(source, rest)
+
+    @word("from", 3)
+    def freemsg(self, source):
+        for block in self.held.pop(source):
+            self.release(block.data)
+
+    def place(self, number, k, source):
+        message = self.held.pop(source)
+        if message[0].data.kind in HIGH_PRIORITY:
+            message[0].band = 0
+        self.queues[number].messages.insert(k, message)
+
+    def enable(self, number):
+        if self.queues[number].has_service and number not in self.run:
+            self.run.append(number)
+
+    def enable_behind(self, number):
+        """Enables the nearest queue behind that has a service procedure."""
+        for k, queue in enumerate(self.queues):
+            if queue.next == number:
+                if queue.has_service:
+                    self.enable(k)
+                else:
+                    self.enable_behind(k)
+
+    def settle(self, number):
+        queue = self.queues[number]
+        settled = {band for band in queue.wanted if queue.has_room(band)}
+        queue.wanted -= settled
+        if settled:
+            self.enable_behind(number)
+
+    @word("queue from", 6)
+    def putq(self, number, source):
+        queue = self.queues[number]
+        own = rank(self.held[source])
+        self.place(number, sum(rank(message) >= own for message in queue.messages), source)
+        if own == 256 or not queue.enabling_is_off and (queue.wants_to_read or own > 0):
+            self.enable(number)
+
+    @word("queue from", 2)
+    def putbq(self, number, source):
+        queue = self.queues[number]
+        own = rank(self.held[source])
+        self.place(number, sum(rank(message) > own for message in queue.messages), source)
+        if own == 256 or not queue.enabling_is_off and queue.wants_to_read:
+            self.enable(number)
+
+    @word("queue place from", 3)
+    def insq(self, number, k, source):
+        queue = self.queues[number]
+        messages = queue.messages
+        if k > len(messages):
+            raise Refused("9 NoSuchPlace")
+        own = rank(self.held[source])
+        ranks = [rank(message) for message in messages]
+        if min(ranks[:k], default=own) < own or max(ranks[k:], default=own) > own:
+            raise Refused("10 BadOrder")
+        self.place(number, k, source)
+        if not queue.enabling_is_off and queue.wants_to_read:
+            self.enable(number)
+
+    @word("queue to", 6)
+    def getq(self, number, to):
+        queue = self.queues[number]
+        queue.wants_to_read = not queue.messages
+        if not queue.messages:
+            return "none"
+        self.held[to] = queue.messages.pop(0)
+        self.settle(number)
+
+    @word("queue place to", 3)
+    def rmvq(self, number, k, to):
+        messages = self.queues[number].messages
+        if k >= len(messages):
+            raise Refused("9 NoSuchPlace")
+        self.held[to] = messages.pop(k)
+        self.settle(number)
+
+    def flush(self, number, ranks, flag):
+        queue = self.queues[number]
+        kept = []
+        for message in queue.messages:
+            if rank(message) in ranks and (flag == "all" or message[0].data.kind in CARRY_DATA):
+                for block in message:
+                    self.release(block.data)
+            else:
+                kept.append(message)
+        queue.messages = kept
+        self.settle(number)
+
+    @word("queue flag", 2)
+    def flushq(self, number, flag):
+        self.flush(number, range(257), flag)
+
+    @word("queue band flag", 2)
+    def flushband(self, number, band, flag):
+        self.flush(number, ranks_of(band), flag)
+
+    @word("queue band", 10)
+    def bcanput(self, number, band):
+        queue = self.queues[number]
+        while not queue.has_service and queue.next != "-":
+            queue = self.queues[queue.next]
+        if not queue.is_full(band):
+            return "yes"
+        queue.wanted.add(band)
+        return "no"
+
+    @word("queue marked high low", 8)
+    def strqset(self, number, band, high, low):
+        if low >= high:
+            raise Refused("20 BadMarks")
+        self.queues[number].marks[band] = high, low
+        self.settle(number)
+
+    @word("queue marked", 2)
+    def strqget(self, number, band):
+        return "marks {} {}".format(*self.queues[number].marks_of(band))
+
+    @word("queue", 1)
+    def qsize(self, number):
+        return f"size {len(self.queues[number].messages)}"
+
+    @word("queue", 1)
+    def qenable(self, number):
+        self.enable(number)
+
+    @word("queue", 1)
+    def noenable(self, number):
+        self.queues[number].enabling_is_off = True
+
+    @word("queue", 2)
+    def enableok(self, number):
+        self.queues[number].enabling_is_off = False
+
+    @word("", 2)
+    def service(self):
+        return f"queue {self.run.pop(0)}" if self.run else "none"
+
+    @word("size", 4)
+    def bufcall(self, size):
+        if size > self.pool.greatest():
+            raise Refused("1 TooLarge")
+        if len(self.wishes) == self.pool.bufcalls:
+            raise Refused("12 Full")
+        if self.next_id > 4_294_967_295:
+            raise Refused("13 IdsSpent")
+        self.wishes.append((self.next_id, size))
+        self.next_id += 1
+        return f"id {self.wishes[-1][0]}"
+
+    @word("id", 2)
+    def unbufcall(self, own):
+        kept = [wish for wish in self.wishes if wish[0] != own]
+        if kept == self.wishes:
+            raise Refused("14 NotPending")
+        self.wishes = kept
+
+    @word("", 3)
+    def ready(self):
+        for wish in self.wishes:
+            if self.fits(wish[1]):
+                self.wishes.remove(wish)
+                return "ready {} {}".format(*wish)
+        return "none"
+
+    @word("", 1)
+    def census(self):
+        return "census {} {} {}".format(*self.counts())
+
+    def report(self):
+        lines = ["blocks free={} queued={} held={} total={}".format(*self.counts(), self.pool.mblks)]
+        for (size, count), free in zip(self.pool.classes, self.data):
+            lines.append(f"data size={size} free={free} total={count}")
+        for number, queue in enumerate(self.queues):
+            lines.append(
+                f"queue {number} msgs={len(queue.messages)} bytes={sum(map(total, queue.messages))}"
+                f" read={int(queue.wants_to_read)} noenable={int(queue.enabling_is_off)}"
+                f" enabled={int(number in self.run)}"
+            )
+            for band, count in sorted(queue.bytes_of_bands().items(), reverse=True):
+                if count > 0:
+                    lines.append(
+                        f"band {band} bytes={count} full={int(queue.is_full(band))} wanted={int(band in queue.wanted)}"
+                    )
+        lines.append(f"run {' '.join(map(str, self.run)) or '-'}")
+        lines.append(f"wishes {' '.join(f'{own}:{size}' for own, size in self.wishes) or '-'}")
+        return lines

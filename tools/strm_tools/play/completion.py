@@ -1,0 +1,90 @@
+"""What may come next on a line: words of commands, registers, queues, types, and files."""
+import glob
+import os
+
+from strm_tools.model import HIGH_PRIORITY, ORDINARY, WORDS
+
+REGISTERS = "abcdefghijklmnopqrstuvwxyz"
+# The words of an item that are always the same.
+WORDS_OF = {
+    "kind": [*ORDINARY, *HIGH_PRIORITY],
+    "flag": ["all", "data"],
+    "count": ["-1"],
+    "octets": ["-"],
+    "at": ["0"],
+    "switch": ["on", "off"],
+    "off": ["off"],
+}
+
+
+def files(begin):
+    """The files and folders whose path begins so."""
+    found = glob.glob(glob.escape(os.path.expanduser(begin)) + "*")
+    return [path + ("/" if os.path.isdir(path) else " ") for path in sorted(found)]
+
+
+def blocks(play, before):
+    """The places of the blocks of the message that a line names."""
+    return map(str, range(len(play.model.workers[play.turn].get(before[0], []))))
+
+
+def queues(play, before):
+    """The queue that a line names, if there is one."""
+    return play.model.queues[int(before[0]) :][:1] if before[0].isdigit() else []
+
+
+def bands(play, before):
+    """Band 0, and the bands of the queue that a line names that have messages, own marks or a sender that waits. For a message,
+    some bands."""
+    if before[0] in REGISTERS:
+        return ["0", "1", "2"]
+    found = {0}
+    for queue in queues(play, before):
+        found |= {*queue.bytes_of_bands(), *queue.marks, *queue.wanted}
+    return map(str, sorted(found))
+
+
+def places(play, before):
+    """The places of the messages on the queue that a line names, and the one after them."""
+    return [str(place) for queue in queues(play, before) for place in range(len(queue.messages) + 1)]
+
+
+def fitting(play, item, before):
+    """The words that fit an item of a command, after the words before it."""
+    held = play.model.workers[play.turn]
+    if item == "from":
+        return sorted(held)
+    if item == "to":
+        return [name for name in REGISTERS if name not in held]
+    if item == "queue":
+        return map(str, range(len(play.model.queues)))
+    if item in ("band", "marked"):
+        return bands(play, before)
+    if item == "block":
+        return blocks(play, before)
+    if item == "place":
+        return places(play, before)
+    if item == "size":
+        return [str(size) for size, _ in play.model.pool.classes]
+    if item == "id":
+        return [str(own) for own, _ in play.model.wishes]
+    return WORDS_OF.get(item, [])
+
+
+def completed(play, commands, before, begin):
+    """The words that begin so and may come after the words before. `commands` has the items of each command of the session."""
+    if not before:
+        words = [*WORDS, "worker", *commands]
+    else:
+        word, *rest = before
+        items = (WORDS[word][0] if word in WORDS else commands.get(word, "")).split()
+        item = items[len(rest)] if len(rest) < len(items) else ""
+        if item == "file":
+            return files(begin)
+        if item == "word":
+            words = [*WORDS, "pool", "class", "queue", "bufcalls", "worker", *commands]
+        elif item == "worker":
+            words = map(str, range(len(play.sections)))
+        else:
+            words = fitting(play, item, rest)
+    return [f"{word} " for word in words if word.startswith(begin)]

@@ -1,0 +1,81 @@
+"""A session from its first line to its last, with interrupts and a closed output."""
+import sys
+
+from strm_tools.ends import end
+from strm_tools.play import proved
+from strm_tools.play.face import Face
+from strm_tools.play.session import Session, changes_of
+from strm_tools.play.shell import DEFAULT, Ended, Shell
+from strm_tools.script import Wrong
+
+
+def program_of(named, session, face):
+    """The program that answers a session: the named one, which has to work, or one that is found, or None."""
+    program = named or proved.find()
+    if program is None:
+        face.say("There is no built strm, so the plain model replies.")
+        return None
+    try:
+        proved.text_of(program, session.pool_alone())
+        return program
+    except Wrong as why:
+        if named:
+            end(2, why)
+        face.say(f"{why}, so the plain model replies.")
+        return None
+
+
+def begin(words, face):
+    """The session that a script, or without one a small pool, begins."""
+    script = DEFAULT
+    try:
+        if words.script is not None:
+            script = face.read(words.script)
+    except Wrong as why:
+        end(2, f"{words.script}: {why}")
+    try:
+        return Session(changes_of(script))
+    except Wrong as why:
+        end(1, why)
+
+
+def go_on(shell, face):
+    """Takes lines until the end."""
+    while True:
+        try:
+            sys.stdout.flush()
+            line = face.line(shell.prompt())
+            if line is None:
+                return
+            shell.take(line)
+        except Ended:
+            return
+        except KeyboardInterrupt:
+            if not face.is_terminal:
+                raise
+            face.say("")
+            shell.interrupted()
+
+
+def hold_session(words):
+    """Holds a session by the words of the command line."""
+    face = Face()
+    session = begin(words, face)
+    program = program_of(words.strm, session, face)
+    shell = Shell(session, program, face)
+    face.complete_by(shell.complete)
+    shell.greet(words.script)
+    go_on(shell, face)
+    sys.stdout.flush()
+
+
+def talk(words):
+    """Holds a session. A reader of its output that leaves ends it."""
+    try:
+        hold_session(words)
+    except KeyboardInterrupt:
+        sys.exit(130)
+    except BrokenPipeError:
+        pass
+    except OSError as why:
+        end(2, f"standard output: {why.strerror}")

@@ -1,0 +1,40 @@
+"""The proved program strm: where it is, and what it replies to the lines of a session."""
+import os
+import shutil
+import subprocess
+import sys
+
+from strm_tools.limits import SCRIPT_BYTES
+from strm_tools.script import Wrong
+
+SECONDS = 60
+TOP = os.path.dirname(os.path.dirname(os.path.dirname(os.path.dirname(os.path.realpath(__file__)))))
+
+
+def find():
+    """The program in build/ of the repository, or else the one beside this tool, or else the one on PATH, or None."""
+    beside = os.path.join(os.path.dirname(os.path.abspath(sys.argv[0])), "strm")
+    near = [path for path in (os.path.join(TOP, "build", "strm"), beside) if os.path.isfile(path) and os.access(path, os.X_OK)]
+    return near[0] if near else shutil.which("strm")
+
+
+def text_of(program, script):
+    """What the program prints for a script. Raises `Wrong` if it does not execute it."""
+    command = [program, "--serial", "--max", str(SCRIPT_BYTES)]
+    given = script.encode("utf-8", "surrogateescape")
+    try:
+        ran = subprocess.run(command, input=given, stdout=subprocess.PIPE, stderr=subprocess.PIPE, timeout=SECONDS)
+    except OSError as why:
+        raise Wrong(f"{program}: {why.strerror}")
+    except subprocess.TimeoutExpired:
+        raise Wrong(f"{program}: no reply in {SECONDS} seconds")
+    if ran.returncode != 0:
+        said = ran.stderr.decode("utf-8", "replace").strip() or "it says nothing"
+        raise Wrong(f"{program}: status {ran.returncode}: {said}")
+    return ran.stdout.decode("utf-8", "replace")
+
+
+def difference(text, wanted):
+    """The first line in which a text differs from the wanted one, as both have it."""
+    lines = zip([*text.split("\n"), ""], [*wanted.split("\n"), ""])
+    return next(((line, other) for line, other in lines if line != other), (text, wanted))

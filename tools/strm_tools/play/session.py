@@ -1,0 +1,320 @@
+"""A session: the script so far, the order in which its lines were executed, and what takes back and repeats each change.
+
+Each section of the script has lines that were executed, and after them lines that wait. A comment is a line too, and is passed
+over with the command after it."""
+import random
+import weakref
+from itertools import takewhile
+from typing import NamedTuple
+
+from strm_tools.faults import require_right
+from strm_tools.model import WORDS, Model
+from strm_tools.play.letters import Letters
+from strm_tools.play.state import rows_of
+from strm_tools.script import script_of, value_of
+
+
+def text_of(lines):
+    """A text of these lines."""
+    return "\n".join([*lines, ""])
+
+
+def is_command(text):
+    return bool(text) and not text.startswith("#")
+
+
+class Executed(NamedTuple):
+    """A line that was executed: its worker, its text and its reply. In one section of all workers it has another text, or None if
+    there are too few letters for their registers, and another line of replies."""
+
+    worker: int
+    text: str
+    reply: str
+    in_one_section: str
+    told: str
+
+
+class Section:
+    """The lines of a worker, of which the first were executed."""
+
+    def __init__(self):
+        self.lines = []
+        self.done = 0
+
+    def waiting(self):
+        return sum(map(is_command, self.lines[self.done :]))
+
+    def comments(self):
+        """The comments before the next command that waits."""
+        return list(filter(None, takewhile(lambda text: not is_command(text), self.lines[self.done :])))
+
+    def commands(self):
+        """The places of the commands that were executed."""
+        return [at for at, text in enumerate(self.lines[: self.done]) if is_command(text)]
+
+
+class Play:
+    """A pool since it was opened. The methods from `add` to `rewind` are changes: a session takes one back by playing those before
+    it again."""
+
+    def __init__(self, header):
+        self.header = header
+        self.pool = script_of(text_of(header))[0]
+        self.sections = [Section()]
+        # The worker whose lines are entered, and whether they wait.
+        self.turn = 0
+        self.holds = False
+        # The comments that may be labels.
+        self.labels = [line for line in header if line.startswith("#:")]
+        self.clear()
+
+    def clear(self):
+        """Nothing is executed yet."""
+        self.model = Model(self.pool)
+        for _ in self.sections:
+            self.model.begin()
+        self.letters = Letters()
+        self.executed = []
+        # The number of each data block in use, and how many were taken so far.
+        self.numbers = weakref.WeakKeyDictionary()
+        self.taken = 0
+
+    def add(self, worker, text):
+        """Executes a line of a worker, before its waiting lines."""
+        section = self.sections[worker]
+        self.enter(worker, section.done, text)
+        self.pass_over(worker)
+
+    def wait(self, worker, text):
+        """A line of a worker waits."""
+        self.enter(worker, len(self.sections[worker].lines), text)
+
+    def serve(self, workers):
+        """Executes a waiting line of each of these workers, in this order."""
+        for worker in workers:
+            section = self.sections[worker]
+            while not is_command(section.lines[section.done]):
+                section.done += 1
+            self.pass_over(worker)
+
+    def run(self, workers):
+        """Executes all waiting lines, in the order of these workers. Then no line waits any more."""
+        self.serve(workers)
+        self.holds = False
+
+    def begin(self):
+        """Another section begins."""
+        self.sections.append(Section())
+        self.model.begin()
+        self.turn = len(self.sections) - 1
+
+    def turn_to(self, worker):
+        """The lines that are entered are those of this worker."""
+        self.turn = worker
+
+    def hold(self, holds):
+        """The lines that are entered wait, or do not."""
+        self.holds = holds
+
+    def rewind(self):
+        """All lines wait again."""
+        for section in self.sections:
+            section.done = 0
+        self.clear()
+
+    def enter(self, worker, place, text):
+        """A section has another line at this place."""
+        self.sections[worker].lines.insert(place, text)
+        if text.startswith("#:"):
+            self.labels.append(text)
+
+    def pass_over(self, worker):
+        """Executes the next line of a worker, if it is a command."""
+        section = self.sections[worker]
+        text = section.lines[section.done]
+        section.done += 1
+        if is_command(text):
+            self.execute(worker, text)
+
+    def execute(self, worker, text):
+        word, items, values = parted(text)
+        self.model.turn_to(worker)
+        in_one_section = self.letters.renamed(self.model, worker, text)
+        reply = self.model.answer(word, items, values)
+        for item, value in zip(items, values):
+            for block in self.model.held.get(value, []) if item in ("from", "to") else []:
+                if block.data not in self.numbers:
+                    self.taken += 1
+                    self.numbers[block.data] = self.taken
+        told = f"0:{len(self.header) + 2 + len(self.executed)} {reply}"
+        self.executed.append(Executed(worker, text, reply, in_one_section, told))
+
+    def waiting(self):
+        """The workers that have a waiting line."""
+        return [worker for worker, section in enumerate(self.sections) if section.waiting()]
+
+    def first_line(self, worker):
+        """The number in the script of the first line of a section."""
+        return len(self.header) + 2 + sum(1 + len(section.lines) for section in self.sections[:worker])
+
+    def script(self):
+        """The script so far, with its waiting lines."""
+        lines = list(self.header)
+        for section in self.sections:
+            lines += ["worker", *section.lines]
+        return text_of(lines)
+
+    def rows(self):
+        """What was executed, in this order: worker and number in the script, text, reply."""
+        places = [iter(section.commands()) for section in self.sections]
+        first = [self.first_line(worker) for worker in range(len(self.sections))]
+        for line in self.executed:
+            yield f"{line.worker}:{first[line.worker] + next(places[line.worker])}", line.text, line.reply
+
+    def rows_of_section(self, worker):
+        """The commands of a section: number in the script, text, and reply or None if it waits."""
+        replies = iter([line.reply for line in self.executed if line.worker == worker])
+        first = self.first_line(worker)
+        for at, text in enumerate(self.sections[worker].lines):
+            if is_command(text):
+                yield f"{worker}:{first + at}", text, next(replies, None)
+
+    def text(self):
+        """What strm prints for the script if it executes the lines in this order."""
+        return text_of([*(f"{at} {reply}" for at, _, reply in self.rows()), *self.model.report()])
+
+    def place(self):
+        """The number in the script of the line that is entered next, with its worker."""
+        section = self.sections[self.turn]
+        return f"{self.turn}:{self.first_line(self.turn) + (len(section.lines) if self.holds else section.done)}"
+
+    def one_section(self):
+        """A script of one section that executes the lines in this order, and its text; None if there are too few letters."""
+        lines = [line.in_one_section for line in self.executed]
+        if None in lines:
+            return None
+        return text_of([*self.header, "worker", *lines]), text_of([*(line.told for line in self.executed), *self.model.report()])
+
+
+def parted(text):
+    """The word of a command, its items and its values."""
+    word, *rest = text.split(" ")
+    items = WORDS[word][0].split()
+    return word, items, [value_of(*pair) for pair in zip(items, rest)]
+
+
+def draw(workers, seed, step):
+    """The worker that a seed draws at this step, out of those that have a waiting line."""
+    return workers[int(random.Random(f"{seed} {step}").random() * len(workers))]
+
+
+def drawn_order(play, seed):
+    """The workers of all waiting lines in an order that a seed draws."""
+    left = [section.waiting() for section in play.sections]
+    order = []
+    while any(left):
+        waiting = [worker for worker, count in enumerate(left) if count > 0]
+        order.append(draw(waiting, seed, len(play.executed) + len(order)))
+        left[order[-1]] -= 1
+    return order
+
+
+class Change(NamedTuple):
+    """What a line of the session did: the method of `Play`, what it was given, and what to call the change."""
+
+    method: str
+    given: tuple
+    named: str
+
+
+def opening(header):
+    """The change that opens a pool."""
+    return Change("open", (header,), "another pool")
+
+
+def changes_of(script):
+    """The changes that open the pool of a script and execute its lines, section by section. Raises `Wrong` for a fault."""
+    require_right(script)
+    lines = script[:-1].split("\n")
+    begin = lines.index("worker")
+    worker = 0
+    yield opening(lines[:begin])
+    for line in lines[begin + 1 :]:
+        if line == "worker":
+            worker += 1
+            yield Change("begin", (), "worker")
+        else:
+            yield Change("add", (worker, line), line)
+
+
+class Session:
+    """The changes so far, of which the first opens a pool, and those that were taken back."""
+
+    def __init__(self, changes):
+        self.changes = list(changes)
+        self.undone = []
+        self.play_again()
+
+    def play_again(self):
+        """Plays all changes since the pool was opened."""
+        begin = max(at for at, change in enumerate(self.changes) if change.method == "open")
+        self.play = Play(*self.changes[begin].given)
+        self.before = rows_of(self.play)
+        for at, change in enumerate(self.changes[begin + 1 :], begin + 2):
+            self.make(change, at == len(self.changes))
+
+    def make(self, change, is_last=True):
+        """Makes a change, and keeps what was drawn before the last."""
+        if is_last:
+            self.before = rows_of(self.play)
+        getattr(self.play, change.method)(*change.given)
+
+    def do(self, method, *given, named):
+        """Makes a change that can be taken back."""
+        change = Change(method, given, named)
+        self.make(change)
+        self.changes.append(change)
+        self.undone.clear()
+
+    def open(self, changes):
+        """Opens another pool, and executes its script."""
+        self.changes += changes
+        self.undone.clear()
+        self.play_again()
+
+    def undo(self, count):
+        """Takes back this many changes, and returns those that it took back."""
+        left, taken = list(self.changes), []
+        while count > 0 and len(left) > 1:
+            change = left.pop()
+            taken.append(change)
+            count -= change.named != ""
+        self.changes = left
+        self.undone += taken
+        self.play_again()
+        return taken
+
+    def redo(self, count):
+        """Makes this many changes again that were taken back, and returns them."""
+        made = []
+        while count > 0 and self.undone:
+            change = self.undone.pop()
+            made.append(change)
+            count -= change.named != ""
+        self.changes += made
+        self.play_again()
+        return made
+
+    def pool_alone(self):
+        """A script that only opens the pool."""
+        return text_of([*self.play.header, "worker"])
+
+    def model_before(self, place):
+        """The model before the executed line at a place, which is counted from 0."""
+        play = Play(self.play.header)
+        for _ in self.play.sections[1:]:
+            play.begin()
+        for line in self.play.executed[:place]:
+            play.execute(line.worker, line.text)
+        play.model.turn_to(self.play.executed[place].worker)
+        return play.model

@@ -1,0 +1,163 @@
+"""The state of a pool as rows of words, and as text in which each word that a line changed has a star before it.
+
+A row has a key. Its words are compared one by one with those that had the same key before."""
+from itertools import zip_longest
+from typing import NamedTuple
+
+from strm_tools.labels import labels_of
+from strm_tools.model import rank
+
+BAR = 12
+# The most bytes of a block that are drawn.
+BYTES = 8
+# The most messages that are drawn at the front of a queue, and those at its back if there are more.
+FRONT, BACK = 12, 3
+
+
+class Row(NamedTuple):
+    """A line of the state."""
+
+    label: str
+    words: list
+    # The bar of a band.
+    tail: str = ""
+    # The message of the row. It is kept, so that no later message has the same identity.
+    message: object = None
+
+
+def shown(octets):
+    """The first bytes of a block."""
+    return (octets[:BYTES].hex() or "-") + (".." if len(octets) > BYTES else "")
+
+
+def words_of(play, message):
+    """The words of a message: its band or its priority, and as many for each block."""
+    words = ["high" if rank(message) == 256 else f"band={message[0].band}"]
+    for block in message:
+        shared = f" x{block.data.names}" if block.data.names > 1 else ""
+        words += ["+", block.data.kind, f"len={block.length()}", f"room={block.room()}"]
+        words += [f"d{play.numbers[block.data]}{shared}", shown(block.octets())]
+    del words[1]
+    return words
+
+
+def bar(count, high, low):
+    """The bytes of a band as a bar up to its high water mark, in which `|` is the low one."""
+    filled = min(BAR, -(-count * BAR // high))
+    cells = "#" * filled + "." * (BAR - filled)
+    place = low * BAR // high
+    return f"[{cells[:place]}|{cells[place:]}]"
+
+
+def along_lines(pool):
+    """The queues along their lines: each queue that no other leads to, and those after it."""
+    led_to = {following for *_, following in pool.queues}
+    for first in range(len(pool.queues)):
+        number = "-" if first in led_to else first
+        while number != "-":
+            yield number
+            number = pool.queues[number][3]
+
+
+def rows_of_queue(play, number, label, bands_before):
+    """The rows of a queue, its bands and its messages, front to back."""
+    queue = play.model.queues[number]
+    counts = queue.bytes_of_bands()
+    words = [] if queue.next == "-" else [f"-> {queue.next}"]
+    words += ["service" if queue.has_service else "no service"]
+    words += [f"msgs={len(queue.messages)}", f"bytes={sum(counts.values())}", f"read={int(queue.wants_to_read)}"]
+    words += [f"noenable={int(queue.enabling_is_off)}", f"enabled={int(number in play.model.run)}"]
+    yield ("queue", number), Row(label, words)
+    with_bytes = [band for band, count in counts.items() if count > 0]
+    for band in sorted({*with_bytes, *queue.wanted, *queue.marks, *bands_before}, reverse=True):
+        count, (high, low) = counts[band], queue.marks_of(band)
+        words = [f"bytes={count}", f"high={high}", f"low={low}"]
+        words += [f"full={int(count >= high)}", f"wanted={int(band in queue.wanted)}"]
+        yield ("band", number, band), Row(f"  band {band}", words, bar(count, high, low))
+    for place, message in enumerate(queue.messages):
+        yield ("message", number, id(message)), Row(f"  {place}", words_of(play, message), message=message)
+
+
+def rows_of_worker(play, worker, names_before):
+    """The rows of a worker, and of its registers that hold a message or held one before."""
+    held = play.model.workers[worker]
+    section = play.sections[worker]
+    waiting = [f"waiting={section.waiting()}"] if len(play.sections) > 1 or section.waiting() else []
+    yield ("worker", worker), Row(f"worker {worker}", [f"held={len(held)}", *waiting])
+    for name in sorted({*held, *names_before}):
+        yield ("register", worker, name), Row(f"  {name}", words_of(play, held[name]) if name in held else ["empty"])
+
+
+def rows_of(play, before=None):
+    """The state as rows by key, with a row too for each band and register that has one in the state before."""
+    model = play.model
+    labels = labels_of("\n".join(play.labels)).queues
+    kept = {}
+    for kind, *place, last in filter(lambda key: key[0] in ("band", "register"), before or {}):
+        kept.setdefault((kind, *place), []).append(last)
+    free, queued, held = model.counts()
+    rows = {("blocks",): Row("blocks", [f"free={free}", f"queued={queued}", f"held={held}", f"total={model.pool.mblks}"])}
+    for (size, count), left in zip(model.pool.classes, model.data):
+        rows["data", size] = Row(f"data {size}", [f"free={left}", f"total={count}"])
+    rows[("run",)] = Row("run list", [" ".join(map(str, model.run)) or "-"])
+    rows[("wishes",)] = Row("wishes", [" ".join(f"{own}:{size}" for own, size in model.wishes) or "-"])
+    for number in along_lines(model.pool):
+        label = f"queue {number}" + (f" ({labels[number]})" if number in labels else "")
+        rows.update(rows_of_queue(play, number, label, kept.get(("band", number), [])))
+    for worker in range(len(play.sections)):
+        rows.update(rows_of_worker(play, worker, kept.get(("register", worker), [])))
+    return rows
+
+
+def messages_left_out(rows):
+    """The keys of the messages in the middle of each long queue, which are not drawn."""
+    queues = {}
+    for key in rows:
+        if key[0] == "message":
+            queues.setdefault(key[1], []).append(key)
+    return [keys[FRONT:-BACK] for keys in queues.values() if len(keys) > FRONT + BACK + 1]
+
+
+def lines_of_row(label, pieces, width):
+    """A row in as many lines as a window of this width needs. Pieces are texts with their colour."""
+    indent = min(12, width // 4)
+    line, length = [(f"{label[:width - 1]:<{indent}}", "")], max(indent, len(label[: width - 1]))
+    for text, colour in pieces:
+        if length + 1 + len(text) > width and length > indent:
+            yield line
+            line, length = [(" " * indent, "")], indent
+        line += [(" ", ""), (text, colour)]
+        length += 1 + len(text)
+    yield line
+
+
+def pieces_of(row, old):
+    """The words of a row as texts with their colour. A changed word has a star before it."""
+    for word, other in zip_longest(row.words, (old or row).words):
+        is_changed = word != other
+        colour = {"full=1": "red", "wanted=1": "yellow"}.get(word, "bold" if is_changed else "")
+        for at, part in enumerate((word or "").split(" ") if word else []):
+            yield ("*" if is_changed and at == 0 else "") + part, colour
+    if row.tail:
+        yield row.tail, ""
+
+
+def is_changed(play, before):
+    """Whether a state differs from the one before."""
+    now = rows_of(play)
+    return now.keys() != before.keys() or any(row.words != before[key].words for key, row in now.items())
+
+
+def drawn(play, before, width):
+    """The lines of the state for a window of this width, each as texts with their colour."""
+    rows = rows_of(play, before)
+    hidden = messages_left_out(rows)
+    first = {keys[0]: len(keys) for keys in hidden}
+    skipped = {key for keys in hidden for key in keys}
+    for key, row in rows.items():
+        if key in first:
+            yield [(f"   .. {first[key]} more messages", "")]
+        if key not in skipped:
+            old = before.get(key)
+            star = "*" if old is None or len(old.words) != len(row.words) else " "
+            yield from lines_of_row(star + row.label, pieces_of(row, old), width)

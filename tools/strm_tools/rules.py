@@ -1,0 +1,282 @@
+"""Why a line is refused, and why it enables a queue or not, in one sentence with the numbers of the pool.
+
+docs/MODEL.md has a table of the same sentences. A name in braces is a number there, such as Q, the queue."""
+import copy
+from typing import NamedTuple
+
+from strm_tools.model import Refused, rank, run_of, total
+
+# The most references of a data block, and the last id of a wish.
+REFERENCES = 255
+LAST_ID = 4_294_967_295
+
+
+class Rule(NamedTuple):
+    """What a rule decides, its sentence, and the section of docs/MODEL.md that it belongs to."""
+
+    decides: str
+    sentence: str
+    section: str
+
+
+DATA, MESSAGES, QUEUES, FLOW, ENABLING, POOL, STEPS = (
+    "Data blocks",
+    "Messages",
+    "Queues",
+    "Flow control",
+    "Enabling",
+    "A pool",
+    "Registers and steps",
+)
+RULES = {
+    "no_queue": Rule("NoSuchQueue", "There is no queue {Q}: the pool has {N}, numbered from 0.", STEPS),
+    "empty": Rule("empty", "Register {R} holds no message.", STEPS),
+    "twice": Rule("empty", "`linkb` needs two registers, not {R} twice.", STEPS),
+    "taken": Rule("taken", "Register {R} already holds a message.", STEPS),
+    "too_large": Rule("TooLarge", "The call needs {S} bytes, and the largest size class has {M}.", DATA),
+    "no_blocks": Rule("NoMblk", "The call needs more message blocks, {N}, than are free, {F}.", MESSAGES),
+    "no_data": Rule("NoData", "No data block of size {S} or more is left.", DATA),
+    "references": Rule("RefMax", "A data block would get {N} references, above {M}.", DATA),
+    "no_block": Rule("NoSuchBlock", "The message has no block {K}: it has {N}, numbered from 0.", MESSAGES),
+    "shared": Rule("Shared", "Block {K} shares its data block, which has {N} references.", MESSAGES),
+    "no_room": Rule("NoRoom", "The room of block {K} is {F}, and the call needs {N}.", MESSAGES),
+    "short": Rule("Short", "The {END} blocks of one type have too few bytes, {F}, for {N}.", MESSAGES),
+    "below": Rule("Short", "`pullupmsg` needs -1 or a number of bytes, not {N}.", MESSAGES),
+    "no_place": Rule("NoSuchPlace", "Queue {Q} has no place {K}: the number of its messages is {N}.", QUEUES),
+    "order": Rule("BadOrder", "Ranks would rise at place {K}, from {A} to {B}.", QUEUES),
+    "marks": Rule("BadMarks", "The low water mark, {L}, is not below the high one, {H}.", QUEUES),
+    "wishes": Rule("Full", "The pool records no more wishes than {N} at a time.", POOL),
+    "ids": Rule("IdsSpent", "The last id, {M}, is given.", POOL),
+    "no_wish": Rule("NotPending", "No recorded wish has the id {I}.", POOL),
+    "full": Rule("no", "Band {B} of queue {Q}, the target, is full: its bytes, {N}, reach its high water mark, {H}.", FLOW),
+    "nothing": Rule("none", "Queue {Q} is empty, so `getq` sets its want-to-read mark.", ENABLING),
+    "no_service": Rule("not enabled", "Queue {Q} has no service procedure, so nothing enables it.", ENABLING),
+    "already": Rule("not enabled", "Queue {Q} is on the run list already.", ENABLING),
+    "high": Rule("enabled", "`putq` and `putbq` of a high priority message enable queue {Q} in any case.", ENABLING),
+    "off": Rule("not enabled", "Enabling of queue {Q} by messages is off.", ENABLING),
+    "reads": Rule("enabled", "The want-to-read mark of queue {Q} is set, so the message enables it.", ENABLING),
+    "band": Rule("enabled", "`putq` of a message in band {B}, above 0, enables queue {Q}.", ENABLING),
+    "reads_not": Rule(
+        "not enabled",
+        "The last `getq` of queue {Q} found a message and cleared the want-to-read mark.",
+        ENABLING,
+    ),
+    "by_call": Rule("enabled", "`qenable` enables queue {Q}, even if enabling is off.", ENABLING),
+    "switches": Rule("not enabled", "`noenable` and `enableok` enable no queue themselves.", ENABLING),
+    "drained": Rule(
+        "enabled",
+        "Band {B} of queue {Q} was wanted and its bytes, {N}, are at most its low water mark, {L}, so its waker, queue {W}, is enabled.",
+        FLOW,
+    ),
+    "no_waker": Rule("not enabled", "Band {B} of queue {Q} is wanted no longer, but no queue is its waker.", FLOW),
+    "waker_runs": Rule(
+        "not enabled",
+        "Band {B} is wanted no longer; the waker, queue {W}, is on the run list already.",
+        FLOW,
+    ),
+    "stays": Rule(
+        "not enabled",
+        "Band {B} of queue {Q} stays wanted: its bytes, {N}, are above its low water mark, {L}.",
+        FLOW,
+    ),
+    "not_wanted": Rule("not enabled", "No band of queue {Q} is wanted.", FLOW),
+}
+# What a rule decides, if it is no reply.
+EFFECTS = ("enabled", "not enabled")
+PUTS = ("putq", "putbq", "insq")
+SETTLES = ("getq", "rmvq", "flushq", "flushband", "strqset")
+SWITCHES = ("noenable", "enableok")
+
+
+class Found(NamedTuple):
+    """A rule, and the numbers of the pool where it decided."""
+
+    rule: Rule
+    numbers: dict
+
+    def text(self):
+        return self.rule.sentence.format(**self.numbers)
+
+
+def found(name, **numbers):
+    return Found(RULES[name], numbers)
+
+
+def explains(word, reply):
+    """Whether a rule explains the reply to a line, or what the line enables."""
+    name = reply.partition(" ")[0]
+    return name in ("refused", "empty", "taken", "no") or word in (*PUTS, *SETTLES, *SWITCHES, "qenable")
+
+
+def why(model, word, items, values):
+    """The rule that decides a line that `explains` names, and that the model has not answered yet."""
+    after = copy.deepcopy(model)
+    reply = after.answer(word, items, values)
+    name = reply.split(" ")[-1]
+    if name in STEP_RULES:
+        return STEP_RULES[name](model, items, values)
+    if reply.startswith("refused ") or name in ("no", "none"):
+        return REPLY_RULES[name](model, word, *values)
+    if word in PUTS:
+        return why_put(model, word, values[0], values[-1])
+    if word in SETTLES:
+        return why_settled(model, after, values[0])
+    return found("switches") if word in SWITCHES else can_enable(model, values[0]) or found("by_call", Q=values[0])
+
+
+# ---- What is checked of every call -----------------------------------------------------------------------------------
+
+
+def why_empty(model, items, values):
+    sources = [value for item, value in zip(items, values) if item == "from"]
+    missing = [source for source in sources if source not in model.held]
+    return found("empty", R=missing[0]) if missing else found("twice", R=sources[0])
+
+
+STEP_RULES = {
+    "NoSuchQueue": lambda model, items, values: found("no_queue", N=len(model.queues), Q=values[items.index("queue")]),
+    "empty": why_empty,
+    "taken": lambda model, items, values: found("taken", R=values[items.index("to")]),
+}
+
+
+# ---- A call's own refusals, and the replies `no`, and `none` to getq -------------------------------------------------
+
+
+def size_wanted(model, word, *values):
+    """The bytes of the data block that a call takes, or of the first that it does not find."""
+    if word in ("copyb", "copymsg"):
+        free = list(model.data)
+        for block in model.held[values[0]][: 1 if word == "copyb" else None]:
+            try:
+                model.take(free, len(block.data.octets))
+            except Refused:
+                return len(block.data.octets)
+    if word == "pullupmsg":
+        return total(run_of(model.held[values[0]])) if values[1] == -1 else values[1]
+    return values[-1]
+
+
+def blocks_wanted(model, word, *values):
+    """How many message blocks a call needs."""
+    return len(model.held[values[0]]) if word in ("dupmsg", "copymsg") else 1
+
+
+def why_many_references(model, word, source, _to):
+    blocks = model.held[source][: 1 if word == "dupb" else None]
+    most = max(block.data.names + sum(other.data is block.data for other in blocks) for block in blocks)
+    return found("references", N=most, M=REFERENCES)
+
+
+def why_short(model, word, source, count):
+    if word == "pullupmsg" and count < -1:
+        return found("below", N=count)
+    at_end = word == "adjmsg" and count < 0
+    message = model.held[source]
+    run = run_of(message[::-1] if at_end else message)
+    return found("short", END="last" if at_end else "first", F=total(run), N=abs(count))
+
+
+def why_bad_order(model, _word, number, k, source):
+    own = rank(model.held[source])
+    ranks = [rank(message) for message in model.queues[number].messages]
+    below = [other for other in ranks[:k] if other < own]
+    first, then = (below[0], own) if below else (own, max(ranks[k:]))
+    return found("order", K=k, A=first, B=then)
+
+
+def why_no_place(model, _word, number, k, _register):
+    return found("no_place", Q=number, N=len(model.queues[number].messages), K=k)
+
+
+def why_not_allocated(model, word, size):
+    """Why `testb` says no."""
+    if size > model.pool.greatest():
+        return REPLY_RULES["TooLarge"](model, word, size)
+    return REPLY_RULES["NoMblk" if model.counts()[0] == 0 else "NoData"](model, word, size)
+
+
+def target(model, number):
+    queue = model.queues[number]
+    return number if queue.has_service or queue.next == "-" else target(model, queue.next)
+
+
+def why_no(model, word, *values):
+    if word == "testb":
+        return why_not_allocated(model, word, *values)
+    number, band = values
+    number = target(model, number)
+    queue = model.queues[number]
+    return found("full", B=band, Q=number, N=queue.bytes_in(band), H=queue.marks_of(band)[0])
+
+
+def block_of(model, source, k):
+    return model.held[source][k]
+
+
+REPLY_RULES = {
+    "TooLarge": lambda model, *line: found("too_large", S=size_wanted(model, *line), M=model.pool.greatest()),
+    "NoMblk": lambda model, *line: found("no_blocks", N=blocks_wanted(model, *line), F=model.counts()[0]),
+    "NoData": lambda model, *line: found("no_data", S=size_wanted(model, *line)),
+    "RefMax": why_many_references,
+    "NoSuchBlock": lambda model, _, source, k, *more: found("no_block", N=len(model.held[source]), K=k),
+    "Shared": lambda model, _, source, k, *more: found("shared", K=k, N=block_of(model, source, k).data.names),
+    "NoRoom": lambda model, _, source, k, octets: found("no_room", K=k, F=block_of(model, source, k).room(), N=len(octets)),
+    "Short": why_short,
+    "NoSuchPlace": why_no_place,
+    "BadOrder": why_bad_order,
+    "Full": lambda model, *line: found("wishes", N=len(model.wishes)),
+    "IdsSpent": lambda model, *line: found("ids", M=LAST_ID),
+    "NotPending": lambda model, _, own: found("no_wish", I=own),
+    "BadMarks": lambda model, _, number, band, high, low: found("marks", L=low, H=high),
+    "no": why_no,
+    "none": lambda model, _, number, to: found("nothing", Q=number),
+}
+
+
+# ---- Enabling --------------------------------------------------------------------------------------------------------
+
+
+def can_enable(model, number):
+    """Why no call enables a queue now, or None."""
+    if not model.queues[number].has_service:
+        return found("no_service", Q=number)
+    return found("already", Q=number) if number in model.run else None
+
+
+def why_put(model, word, number, source):
+    """Why a message that is put enables its queue, or does not."""
+    queue = model.queues[number]
+    own = rank(model.held[source])
+    unable = can_enable(model, number)
+    if unable:
+        return unable
+    if own == 256 and word != "insq":
+        return found("high", Q=number)
+    if queue.enabling_is_off:
+        return found("off", Q=number)
+    if queue.wants_to_read:
+        return found("reads", Q=number)
+    return found("band", B=own, Q=number) if own > 0 and word == "putq" else found("reads_not", Q=number)
+
+
+def waker_of(model, number):
+    """The nearest queue behind that has a service procedure, or None."""
+    behind = [k for k, queue in enumerate(model.queues) if queue.next == number]
+    return None if not behind else behind[0] if model.queues[behind[0]].has_service else waker_of(model, behind[0])
+
+
+def why_settled(model, after, number):
+    """Why a call that settles a queue enables the queue's waker, or does not."""
+    wanted = sorted(model.queues[number].wanted)
+    if not wanted:
+        return found("not_wanted", Q=number)
+    queue = after.queues[number]
+    cleared = [band for band in wanted if band not in queue.wanted]
+    band = (cleared or wanted)[0]
+    numbers = {"B": band, "Q": number, "N": queue.bytes_in(band), "L": queue.marks_of(band)[1], "W": waker_of(model, number)}
+    if not cleared:
+        return found("stays", **numbers)
+    if numbers["W"] is None:
+        return found("no_waker", **numbers)
+    return found("waker_runs" if numbers["W"] in model.run else "drained", **numbers)

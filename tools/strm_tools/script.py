@@ -1,0 +1,75 @@
+"""A script without faults, as values: the pool that it describes, and its commands."""
+import functools
+from array import array
+
+from strm_tools.model import WORDS, Pool
+
+
+class Wrong(Exception):
+    """Why a script is wrong, or a text is not one of its script."""
+
+
+ITEMS = {word: items.split() for word, (items, _) in WORDS.items()}
+
+
+def value_of(item, text):
+    """What a word of a command line stands for."""
+    if item == "octets":
+        return bytes.fromhex("" if text == "-" else text)
+    return text if item in ("from", "to", "kind", "flag") else int(text)
+
+
+class Section:
+    """The commands of a section: number, word, items, values. Each is read when it is asked for, so that a long section takes
+    little memory."""
+
+    def __init__(self, lines):
+        self.lines = lines
+        self.numbers = array("L")
+
+    def __len__(self):
+        return len(self.numbers)
+
+    def __getitem__(self, place):
+        number = self.numbers[place]
+        word, *rest = self.lines[number - 1].split(" ")
+        items = ITEMS[word]
+        return number, word, items, [value_of(*pair) for pair in zip(items, rest)]
+
+
+def lazily(script):
+    """The pool of a script without faults, and its sections."""
+    header = {"pool": [], "class": [], "queue": [], "bufcalls": []}
+    lines = script.split("\n")
+    sections = []
+    for number, line in enumerate(lines, 1):
+        word, _, rest = line.partition(" ")
+        if word in header:
+            header[word].append(rest.split(" "))
+        elif line == "worker":
+            sections.append(Section(lines))
+        elif word in ITEMS:
+            sections[-1].numbers.append(number)
+    return pool_of(header), sections
+
+
+# A script that is judged again and again is read once.
+@functools.lru_cache(maxsize=1)
+def script_of(script):
+    """The pool of a script without faults, and the commands of each section, which are lists."""
+    pool, sections = lazily(script)
+    return pool, [list(section) for section in sections]
+
+
+def pool_of(header):
+    """The pool that the lines of a header describe."""
+    return Pool(
+        mblks=int(header["pool"][0][1]),
+        classes=[(int(size), int(count)) for size, count in header["class"]],
+        queues=[
+            (int(high), int(low), service, following if following == "-" else int(following))
+            for high, low, service, following in header["queue"]
+        ],
+        bufcalls=int(header["bufcalls"][0][0]),
+        first_id=int(header["bufcalls"][0][1]),
+    )

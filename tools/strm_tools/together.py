@@ -1,0 +1,78 @@
+"""Writes several files: all of them or, where one can't be written, none."""
+import os
+import stat
+
+from strm_tools.ends import STANDARD_OUTPUT, end
+
+
+class Target:
+    """A file to write. Its text goes into a new file beside it, which then takes its name."""
+
+    def __init__(self, path, text):
+        self.path = path
+        self.octets = text.encode("utf-8", "replace")
+        self.file = os.path.realpath(path)
+        self.new = f"{self.file}.{os.getpid()}.new"
+        self.old = f"{self.file}.{os.getpid()}.old"
+        self.was_there = os.path.lexists(self.file)
+        self.is_put = False
+
+    def is_device(self):
+        """Whether it is standard output, a device or a pipe, which no file can replace."""
+        if self.path == "-":
+            return True
+        return os.path.exists(self.path) and not os.path.isdir(self.path) and not stat.S_ISREG(os.stat(self.path).st_mode)
+
+    def place(self):
+        """Where the text goes at first."""
+        if self.path == "-":
+            return os.dup(STANDARD_OUTPUT)
+        return self.path if self.is_device() else self.new
+
+    def prepare(self):
+        """Writes the text, but for a device into the new file. A file that is there already also gets a second name."""
+        with open(self.place(), "wb") as file:
+            file.write(self.octets)
+        if self.was_there and not self.is_device():
+            # A folder can't be opened so, nor a file that is read only.
+            os.close(os.open(self.file, os.O_WRONLY))
+            os.chmod(self.new, stat.S_IMODE(os.stat(self.file).st_mode))
+            os.link(self.file, self.old)
+
+    def put(self):
+        """Gives the new file the name of the file."""
+        if not self.is_device():
+            os.replace(self.new, self.file)
+            self.is_put = True
+
+    def take_back(self):
+        """Leaves the file as it was before."""
+        if self.is_put and self.was_there:
+            os.replace(self.old, self.file)
+        elif self.is_put:
+            os.remove(self.file)
+
+    def clear(self):
+        """Removes what is beside the file."""
+        for path in (self.new, self.old):
+            if os.path.lexists(path):
+                os.remove(path)
+
+
+def write_together(texts):
+    """Writes texts into files, by path. The path `-` is standard output."""
+    targets = [Target(path, text) for path, text in texts.items()]
+    try:
+        for target in targets:
+            target.prepare()
+        for target in targets:
+            target.put()
+    except BaseException as why:
+        for other in targets:
+            other.take_back()
+        if isinstance(why, OSError):
+            end(2, f"{'standard output' if target.path == '-' else target.path}: {why.strerror}")
+        raise
+    finally:
+        for target in targets:
+            target.clear()

@@ -1,0 +1,192 @@
+"""The lines of a driver's trace, one by one. strm-record(1) explains their forms."""
+import re
+from typing import List, NamedTuple, Optional
+
+from strm_tools.faults import FITS, FORMS, HEADER, number
+from strm_tools.labels import form_of
+from strm_tools.model import HIGH_PRIORITY, ORDINARY, WORDS
+
+# The form of each line, by its first word.
+LINES = {
+    "h": "h LINE",
+    "c": "c DATA SIZE",
+    "b": "b DATA PLACE HEX",
+    "~": "~ BLOCK NEXT DATA READ WRITE TYPE BAND",
+    "!": "! WHO CALL | REPLY",
+    "=": "= BLOCK NEXT DATA READ WRITE TYPE BAND",
+    "-": "- BLOCK",
+    ".": ". WHO COMMAND | REPLY",
+    "r": "r LINE",
+    "#": "# TEXT",
+}
+# What the words of a command or of a header's line are called, and what each has to be.
+NUMBER = "a number from 0 to 4294967295"
+ITEMS = {
+    **dict.fromkeys(["size", "block", "at", "place", "id", "high", "low"], NUMBER),
+    **dict.fromkeys(["from", "to"], "a register, a to z"),
+    **dict.fromkeys(["band", "marked"], "a band from 0 to 255"),
+    "queue": "a queue from 0 to 255",
+    "count": "a number from -2147483648 to 2147483647",
+    "octets": "two hexadecimal digits for each of 1 to 64 bytes, or -",
+    "kind": "a type such as M_DATA",
+    "flag": "all or data",
+    "service": "s or n",
+    "next": "a queue from 0 to 255, or -",
+}
+NAMES = {
+    **{item: item.upper() for item in ("size", "at", "id", "service", "next")},
+    **dict.fromkeys(["block", "place"], "K"),
+    **dict.fromkeys(["band", "marked"], "B"),
+    **{"queue": "Q", "high": "HIWAT", "low": "LOWAT", "count": "N", "octets": "HEX", "kind": "TYPE", "flag": "WHAT"},
+}
+NAMES_OF_HEADER = {"pool": "ID MBLKS", "class": "SIZE COUNT", "bufcalls": "WISHES ID"}
+# The same of messages, in a call, where they have no registers yet.
+MESSAGES = {"from": "a message that the call takes", "to": "a message that the call returns, or > for none"}
+NAMES_OF_MESSAGES = {"from": "<N", "to": ">N"}
+REPLY = re.compile(
+    "(ok|yes|no|none|empty|taken|(size|queue|id) [0-9]+|(marks|ready) [0-9]+ [0-9]+|census( [0-9]+){3}|refused [0-9]+ [A-Za-z]+"
+    "|bytes (-|([0-9a-f]{2})+)|block M_[A-Z]+ len=[0-9]+ band=[0-9]+ room=[0-9]+ names=[0-9]+)"
+)
+MOST_QUOTED = 80
+MOST_NUMBER = 2**31 - 1
+is_number = number(MOST_NUMBER)
+
+
+class Bad(Exception):
+    """Why a trace is wrong, and the number of the line that is, if it is another than the last one."""
+
+    def __init__(self, why, line=None):
+        super().__init__(why)
+        self.line = line
+
+
+class Block(NamedTuple):
+    """A message block without the one that follows it: its data block, which has the type, its places there, and its band."""
+
+    data: int
+    read: int
+    write: int
+    kind: str
+    band: int
+
+
+class Told(NamedTuple):
+    """What a line says of a block: its number, the number of the block that follows it, if any, and the rest."""
+
+    number: int
+    next: Optional[int]
+    block: Block
+
+
+class Call(NamedTuple):
+    """A call, or a command, as a line has it: who made it, its word, what each further word is, these words, and the reply."""
+
+    who: str
+    word: str
+    items: List[str]
+    words: List[str]
+    reply: str
+
+
+def shortened(text):
+    """A text, not longer than people read."""
+    return text if len(text) <= MOST_QUOTED else text[:MOST_QUOTED] + ".."
+
+
+def quoted(text):
+    return shortened(repr(text))
+
+
+def words_in(mark, text):
+    """The words of a line behind its first one, as many as its form has."""
+    words, wanted = text.split(" "), LINES[mark].split(" ")[1:]
+    if len(words) != len(wanted):
+        raise Bad(f"{LINES[mark]}: {len(wanted) + 1} words, here {len(words) + 1}")
+    return dict(zip(wanted, words))
+
+
+def number_in(words, name):
+    if not is_number(words[name]):
+        raise Bad(f"{name} is a number from 0 to {MOST_NUMBER}, here {quoted(words[name])}")
+    return int(words[name])
+
+
+def block_number(text):
+    return number_in(words_in("-", text), "BLOCK")
+
+
+def capacity(text):
+    """The number of a data block, and its size."""
+    words = words_in("c", text)
+    return number_in(words, "DATA"), number_in(words, "SIZE")
+
+
+def new_bytes(text):
+    """The number of a data block, a place in it, and the bytes from there on."""
+    words = words_in("b", text)
+    if not re.fullmatch("([0-9a-f]{2})+", words["HEX"]):
+        raise Bad(f"HEX is two hexadecimal digits for each byte, here {quoted(words['HEX'])}")
+    return number_in(words, "DATA"), number_in(words, "PLACE"), bytes.fromhex(words["HEX"])
+
+
+def told_block(mark, text):
+    """What a line says of a block."""
+    words = words_in(mark, text)
+    if words["TYPE"] not in ORDINARY + HIGH_PRIORITY:
+        raise Bad(f"TYPE is a type such as M_DATA, here {quoted(words['TYPE'])}")
+    if number_in(words, "BAND") > 255:
+        raise Bad(f"BAND is a band from 0 to 255, here {words['BAND']}")
+    data, read, write, band = (number_in(words, name) for name in ("DATA", "READ", "WRITE", "BAND"))
+    following = None if words["NEXT"] == "-1" else number_in(words, "NEXT")
+    return Told(number_in(words, "BLOCK"), following, Block(data, read, write, words["TYPE"], band))
+
+
+def is_message(item, word):
+    return re.fullmatch("<[0-9]+" if item == "from" else ">[0-9]*", word) and is_number(word[1:] or "0")
+
+
+def names_of(first, is_call):
+    """What the words are called that come after the first one of a line of a script, or of a call."""
+    if first in NAMES_OF_HEADER:
+        return NAMES_OF_HEADER[first].split()
+    registers = iter("RS")
+    return [NAMES.get(item) or (NAMES_OF_MESSAGES[item] if is_call else next(registers)) for item in FORMS[first]]
+
+
+def require_words(first, rest, is_call=False):
+    """Raises `Bad` unless these are the words of a line of a script that begins with the first one, or of such a call."""
+    items = FORMS[first]
+    names = names_of(first, is_call)
+    form = " ".join([first, *names])
+    if len(items) != len(rest):
+        raise Bad(f"{form}: {len(items) + 1} words, here {len(rest) + 1}")
+    for item, name, word in zip(items, names, rest):
+        is_message_here = is_call and item in MESSAGES
+        if not (is_message(item, word) if is_message_here else FITS[item][0](word)):
+            raise Bad(f"{form}: {name} is {MESSAGES[item] if is_message_here else ITEMS[item]}, here {quoted(word)}")
+
+
+def header_line(text):
+    """The first word of a line of a header."""
+    first, *rest = text.split(" ")
+    if first not in HEADER or first == "worker":
+        raise Bad(f"a header has the lines pool, class, queue and bufcalls, and not {quoted(first)}")
+    require_words(first, rest)
+    return first
+
+
+def call_in(mark, text):
+    """The call of a line `!`, or the command of a line `.`."""
+    told, bar, reply = text.partition(" | ")
+    who, _, call = told.partition(" ")
+    if not (bar and who and call and reply):
+        raise Bad(f"expected {LINES[mark]!r}")
+    if not form_of(f"#: caller {who}"):
+        raise Bad(f"WHO has 1 to 40 characters, here {len(who)}")
+    if not REPLY.fullmatch(reply):
+        raise Bad(f"expected a reply of strm, here {quoted(reply)}")
+    word, *words = call.split(" ")
+    if word not in WORDS:
+        raise Bad(f"strm has no command {quoted(word)}")
+    require_words(word, words, is_call=mark == "!")
+    return Call(who, word, FORMS[word], words, reply)

@@ -1,0 +1,102 @@
+// The list of lines. Only rows in view are in the page, so that long runs cost nothing.
+
+const ROW_HEIGHT = 22;
+// Browsers do not make an element of any height. In a longer list, a point of the scroll bar means more rows.
+const MOST_HEIGHT = 8_000_000;
+const list = byId("list");
+const listRows = byId("list-rows");
+const fullHeight = ROW_COUNT * ROW_HEIGHT;
+const shownHeight = Math.min(fullHeight, MOST_HEIGHT);
+listRows.style.height = `${shownHeight}px`;
+
+// How far the rows move for each point of the scroll bar.
+const scrollScale = () => (fullHeight === shownHeight ? 1 : (fullHeight - sizes.list) / (shownHeight - sizes.list));
+
+// ---- Rows --------------------------------------------------------------------------------------------------------------------------
+
+const isRefused = ({reply}) => /^(refused|empty|taken)/.test(reply);
+
+// What a line made happen, in a few words.
+function tagOf(event) {
+    const [queue, band] = event.slice(1).split(".");
+    if (event[0] === "F") return `${labelOf(queue)} band ${band} full`;
+    return `${event[0] === "B" ? "back-enables" : "enables"} ${labelOf(queue)}`;
+}
+
+// What a row shows: a kind and a text for each of its cells.
+function cellsOfRow(row) {
+    if (row.kind === "comment") return [["comment", row.text]];
+    if (row.kind === "header") return [["header", row.text], ...(row.queue ? [["label", labelOf(row.queue)]] : [])];
+    if (row.kind === "opening") return [["frame", "0"], ["command", "the pool opens"]];
+    const cells = [
+        ["frame", row.frame],
+        ["place", `${row.worker}:${row.number}`],
+        ["caller", callerOf(row)],
+        ["command", row.command],
+        [isRefused(row) ? "reply refused" : "reply", row.reply],
+        ...row.events.map((event) => [`tag ${event[0]}`, tagOf(event)]),
+        ["label", labelIn(row)],
+    ];
+    return cells.filter(([, text]) => text !== "");
+}
+
+function rowNode(place) {
+    const row = rowAt(place);
+    const cells = cellsOfRow(row);
+    const node = made("div", "", {className: `row ${row.kind}`, title: cells.map(([, text]) => text).join("  ")});
+    node.append(...cells.map(([kind, text]) => made("span", text, {className: kind})));
+    const attributes = {role: "option", "aria-posinset": place + 1, "aria-setsize": ROW_COUNT, "aria-selected": false};
+    for (const [name, value] of Object.entries(attributes)) node.setAttribute(name, value);
+    if (row.frame !== undefined) node.dataset.frame = row.frame;
+    return node;
+}
+
+// ---- What is in view -----------------------------------------------------------------------------------------------------------------
+
+// The rows in the page by their place in the list, and the marked ones.
+const shownRows = new Map();
+const markedRows = {selected: undefined, found: undefined};
+
+// Puts the rows that are in view into the page. Those that are there already stay as they are.
+function drawList() {
+    const top = list.scrollTop * scrollScale();
+    const first = Math.max(0, Math.floor(top / ROW_HEIGHT) - 5);
+    const last = Math.min(ROW_COUNT, first + Math.ceil(sizes.list / ROW_HEIGHT) + 10);
+    for (const [place, node] of shownRows) {
+        if (place >= first && place < last) continue;
+        node.remove();
+        shownRows.delete(place);
+    }
+    let following = null;
+    for (let place = last - 1; place >= first; place--) {
+        if (!shownRows.has(place)) shownRows.set(place, listRows.insertBefore(rowNode(place), following));
+        following = shownRows.get(place);
+    }
+    listRows.style.paddingTop = `${list.scrollTop - (top - first * ROW_HEIGHT)}px`;
+    markRows();
+}
+
+// Marks the current line, and the row that was found.
+function markRows() {
+    const [selected, found] = [shownRows.get(rowOf(current)), shownRows.get(foundRow)];
+    if (markedRows.selected) Object.assign(markedRows.selected, {id: "", ariaSelected: "false"});
+    if (selected) Object.assign(selected, {id: "current-row", ariaSelected: "true"});
+    markedRows.found?.classList.remove("found");
+    found?.classList.add("found");
+    Object.assign(markedRows, {selected, found});
+}
+
+// Brings a row into view, in the middle if it is out of view.
+function showInList(place) {
+    const top = place * ROW_HEIGHT;
+    const seen = list.scrollTop * scrollScale();
+    const isInView = top >= seen + ROW_HEIGHT && top + 2 * ROW_HEIGHT <= seen + sizes.list;
+    if (!isInView) list.scrollTop = (top - sizes.list / 2) / scrollScale();
+    drawList();
+}
+
+list.onscroll = drawList;
+list.onclick = (event) => {
+    const row = event.target.closest("[data-frame]");
+    if (row) show(Number(row.dataset.frame));
+};

@@ -1,0 +1,87 @@
+"""The page of a run: one file, with its style, its program and the run."""
+import html
+import os
+import re
+
+from strm_tools.judge import Wrong
+from strm_tools.labels import labels_of
+from strm_tools.model import ORDINARY
+from strm_tools.view.chunks import Chunks, compact
+from strm_tools.view.film import KINDS, Film
+
+FOLDER = os.path.dirname(os.path.abspath(__file__))
+# The page's program, in the order of its parts.
+PROGRAM = ["run", "pool", "marks", "changes", "pieces", "panels", "picture", "block", "list", "chart", "find", "controls"]
+MOST_BYTES = 250_000_000
+CHUNK = '<script class="rows" type="text/plain">{}</script>\n<script class="states" type="text/plain">{}</script>\n'
+
+
+def source(name):
+    with open(os.path.join(FOLDER, name), encoding="utf-8") as file:
+        return file.read()
+
+
+def summary(script, film, chunks):
+    """What the page's program needs of a whole run: how the pool was made, labels, chunks, and what to keep room for."""
+    pool = film.model.pool
+    labels = labels_of(script)
+    return {
+        "mblks": pool.mblks,
+        "classes": pool.classes,
+        "queues": pool.queues,
+        "workers": len(film.sections),
+        "kinds": KINDS,
+        "ordinary": len(ORDINARY),
+        "lines": list(chunks.lines),
+        "rows": list(chunks.rows),
+        "labels": labels.queues,
+        "modules": list(labels.modules.items()),
+        "callers": labels.callers,
+        "bands": [sorted(queue.bands, reverse=True) for queue in film.queues],
+        "registers": ["".join(sorted(film.used_registers[worker])) for worker in range(len(film.sections))],
+        "most": {
+            "inUse": film.most_in_use,
+            "run": film.most_run,
+            "wishes": film.most_wishes,
+            "bands": [queue.most_bands for queue in film.queues],
+            "queues": [queue.most_blocks for queue in film.queues],
+            "workers": film.most_held,
+        },
+    }
+
+
+class Writer:
+    """Writes the parts of a page to a file. Raises `Wrong` if the page becomes too large."""
+
+    def __init__(self, file):
+        self.file = file
+        self.bytes = 0
+
+    def write(self, part):
+        self.file.write(part)
+        self.bytes += len(part)
+        if self.bytes > MOST_BYTES:
+            raise Wrong(f"the page would have more than {MOST_BYTES:,} bytes, which is the most that a page may have")
+
+
+def write_page(file, title, script, text=None):
+    """Writes the page of a run to a file, and returns the replay. Raises `Wrong` if the text is not one of the script, or the page
+    becomes too large; then what the file has is no page."""
+    write = Writer(file).write
+    head, rest = source("page.html").replace("<!-- help -->", source("help.html")).split("<!-- run -->")
+    write(filled(head, title=html.escape(title), style=source("page.css")))
+    film = Film(script, lambda line: chunks.add(line))
+    chunks = Chunks(film.script, film.state, lambda rows, states: write(CHUNK.format(rows, states)))
+    film.play(text)
+    chunks.finish()
+    for name, track in film.tracks.tracks.items():
+        write(f'<script class="track" data-name="{name}" type="text/plain">[{",".join(map(str, track))}]</script>\n')
+    run = compact(summary(script, film, chunks)).replace("<", "\\u003c")
+    write(f'<script id="run" type="application/json">{run}</script>\n')
+    write(filled(rest, program="\n".join(source(f"{name}.js") for name in PROGRAM)))
+    return film
+
+
+def filled(text, **parts):
+    """A text with the named parts at their places."""
+    return re.sub(r"<!-- (\w+) -->", lambda place: parts[place[1]], text)

@@ -1,0 +1,210 @@
+// The picture of a pool: where its panels are, and the arrows between queues. Nothing moves from frame to frame, unless all blocks are shown.
+
+const GAP = 12;
+// The room at the left of queues for arrows that pass others, and between queues for those that don't.
+const GUTTER = 26;
+const BETWEEN_QUEUES = 26;
+// The least width of a column.
+const COLUMN = Math.max(...run.most.queues, 1) > 60 ? 560 : 330;
+
+// ---- Streams -----------------------------------------------------------------------------------------------------------------------
+
+// The queues along each line, from one that no queue leads to.
+function linesOfQueues() {
+    const led = new Set(run.queues.map(([, , , next]) => next));
+    const follow = (queue) => [queue, ...(run.queues[queue][3] === "-" ? [] : follow(run.queues[queue][3]))];
+    return run.queues.flatMap((_, queue) => (led.has(queue) ? [] : [follow(queue)]));
+}
+
+// The queues of each module, with its label. Other queues are by themselves.
+function groupsOfQueues() {
+    const taken = new Set();
+    const groups = run.modules.map(([label, queues]) => {
+        const own = queues.filter((queue) => queue < run.queues.length && !taken.has(queue));
+        own.forEach((queue) => taken.add(queue));
+        return {label, queues: own};
+    });
+    const single = run.queues.flatMap((_, queue) => (taken.has(queue) ? [] : [{label: "", queues: [queue]}]));
+    return [...groups, ...single].filter(({queues}) => queues.length > 0).sort((one, other) => Math.min(...one.queues) - Math.min(...other.queues));
+}
+
+const GROUPS = groupsOfQueues();
+
+// Streams: lines of queues that modules join. Each has its lines, and its groups in order.
+function streamsOfQueues() {
+    const streams = linesOfQueues().map((line) => ({lines: [line]}));
+    for (const {queues} of GROUPS) {
+        const [first, ...others] = streams.filter(({lines}) => lines.some((line) => line.some((queue) => queues.includes(queue))));
+        for (const other of others) first.lines.push(...streams.splice(streams.indexOf(other), 1)[0].lines);
+    }
+    return streams.map(({lines}) => ({lines, groups: GROUPS.filter(({queues}) => lines.flat().includes(queues[0]))}));
+}
+
+const STREAMS = streamsOfQueues();
+
+// ---- Arrows ------------------------------------------------------------------------------------------------------------------------
+
+// The points of an arrow between two panels: straight if they are neighbours in a column, otherwise along the gutter of the second.
+function routeOf(one, other, offset) {
+    const x = one.x + 30 + offset * 70;
+    if (one.x === other.x && Math.abs(other.at - one.at) === 1) return other.y > one.y ? [[x, one.y + one.height], [x, other.y]] : [[x, one.y], [x, other.y + other.height]];
+    const gutter = other.x - 9 - offset * 9;
+    const [begin, end] = [one.y + 18 + offset * 12, other.y + 18 + offset * 12];
+    if (one.x === other.x) return [[one.x, begin], [gutter, begin], [gutter, end], [other.x, end]];
+    const above = one.y - 9 + offset * 4;
+    return [[one.x + 20, one.y], [one.x + 20, above], [gutter, above], [gutter, end], [other.x, end]];
+}
+
+// An arrow of a kind from one queue to another. It has room for its label between panels; another one has it beside, if it is lit.
+function arrow(from, to, places, kind, offset, label) {
+    const route = routeOf(places.get(from), places.get(to), offset);
+    const isShort = route.length === 2;
+    const [[x, y], [, end]] = route.slice(isShort ? 0 : -3);
+    const text = isShort ? {x: x + 6, y: (y + end) / 2 + 4} : {transform: `translate(${x - 5} ${(y + end) / 2}) rotate(-90)`, "text-anchor": "middle"};
+    const path = element("path", {d: `M${route.map((point) => point.join(" ")).join("L")}`, "marker-end": "url(#head)"});
+    return element("g", {class: `arrow ${kind}${isShort ? "" : " long"}`, "data-arrow": `${from} ${to}`}, path, element("text", text, label));
+}
+
+// The arrows of a stream: to the next queue, and from each queue to the one that is enabled once this one has room again.
+function arrowsOf(lines, places) {
+    return lines.flat().flatMap((queue) => {
+        const next = run.queues[queue][3];
+        const waker = wakerOf(queue);
+        return [
+            ...(next === "-" ? [] : [arrow(queue, next, places, "next", 0, "next")]),
+            ...(waker < 0 ? [] : [arrow(queue, waker, places, "back", 1, "back-enables")]),
+        ];
+    });
+}
+
+// Lights the arrows of the queues that a line back-enabled.
+function lightArrows(line) {
+    const lit = line.events.filter((event) => event.startsWith("B")).map((event) => `${line.command.split(" ")[1]} ${event.slice(1)}`);
+    for (const node of document.querySelectorAll("#picture .back")) node.classList.toggle("lit", lit.includes(node.dataset.arrow));
+}
+
+// ---- Places ------------------------------------------------------------------------------------------------------------------------
+
+const lineOf = (lines, queue) => lines.findIndex((line) => line.includes(queue));
+const BOX = 8;
+const isInModule = (queue) => GROUPS.some(({label, queues}) => label && queues.includes(queue));
+const widthOfQueue = (queue, width) => width - GUTTER - (isInModule(queue) ? BOX : 0);
+
+// Notes the places of a group of queues, side by side, or one below the other if there is no room. Returns where it ends.
+function placeGroup({label, queues}, lines, columns, width, top, pieces, places) {
+    const ordered = [...queues].sort((one, other) => lineOf(lines, one) - lineOf(lines, other) || one - other);
+    const tops = new Array(columns).fill(top + (label ? 26 : 0));
+    ordered.forEach((queue, place) => {
+        const column = lines.length <= columns ? lineOf(lines, queue) : place % columns;
+        const {width: wide, height} = pieces.get(`queue ${queue}`);
+        const x = column * (width + GAP) + GUTTER;
+        const at = [...places.values()].filter((other) => other.x === x).length;
+        places.set(queue, {x, y: tops[column], width: wide, height, at});
+        tops[column] += height + BETWEEN_QUEUES;
+    });
+    return Math.max(...tops) - BETWEEN_QUEUES + (label ? BOX : 0);
+}
+
+// The box around the queues of a module.
+function groupBox({label, queues}, places, top, bottom, width) {
+    const lefts = queues.map((queue) => places.get(queue).x);
+    const x = Math.min(...lefts) - BOX;
+    const wide = Math.max(...lefts) + width - GUTTER - x;
+    const title = element("text", {class: "title", x: x + wide - 8, y: top + 17, "text-anchor": "end"}, `module ${label}`);
+    return element("g", {class: "module"}, element("rect", {x, y: top, width: wide, height: bottom - top, rx: 6}), title);
+}
+
+// The panels of a stream, with its arrows, in so many columns.
+function streamPiece({lines, groups}, columns, width, pieces) {
+    const places = new Map();
+    const boxes = [];
+    let top = 0;
+    for (const group of groups) {
+        const bottom = placeGroup(group, lines, columns, width, top, pieces, places);
+        if (group.label) boxes.push(groupBox(group, places, top, bottom, width));
+        top = bottom + BETWEEN_QUEUES;
+    }
+    const panels = Array.from(places, ([queue, {x, y}]) => moved(pieces.get(`queue ${queue}`), x, y));
+    const drawn = element("g", {class: "stream"}, ...boxes, ...panels, ...arrowsOf(lines, places));
+    return {width: columns * (width + GAP) - GAP, height: top - BETWEEN_QUEUES, drawn, places};
+}
+
+// The first place for a piece over so many columns, among some columns, as far up as there is one.
+function placeFor(heights, {span, begin = 0, end = heights.length}) {
+    const columns = heights.map((_, column) => column).filter((column) => column >= begin && column + span <= end);
+    const tops = columns.map((column) => Math.max(...heights.slice(column, column + span)));
+    const top = Math.min(...tops);
+    return {column: columns[tops.indexOf(top)], top};
+}
+
+// ---- Drawing -----------------------------------------------------------------------------------------------------------------------
+
+// Pieces in the order in which they are placed, each with how many columns it needs, and among which. The first column is for the pool
+// and worker 0, if the streams have enough room beside it.
+function inOrder(pieces, columns, width) {
+    const streams = STREAMS.map((stream) => {
+        const span = Math.min(columns, stream.lines.length);
+        return {span, piece: streamPiece(stream, span, width, pieces)};
+    });
+    const keys = ["pool", ...Array.from({length: run.workers}, (_, worker) => `worker ${worker}`)];
+    const [pool, first, ...others] = keys.map((key) => ({span: 1, piece: pieces.get(key)}));
+    if (columns === 1) return [pool, ...streams, first, ...others];
+    if (streams.some(({span}) => span === columns)) return [pool, first, ...streams, ...others];
+    if (streams.length > 3 * (columns - 1)) return [pool, ...streams, first, ...others];
+    return [{...pool, end: 1}, {...first, end: 1}, ...streams.map((stream) => ({...stream, begin: 1})), ...others];
+}
+
+// The pool, the streams and the workers in columns.
+function placeAll(pieces, columns, width) {
+    const heights = new Array(columns).fill(0);
+    const drawn = inOrder(pieces, columns, width).map(({piece, ...among}) => {
+        const {column, top} = placeFor(heights, among);
+        heights.fill(top + piece.height + GAP, column, column + among.span);
+        for (const [queue, {y, height}] of piece.places ?? []) drawnPicture.queues.set(queue, {top: top + y, bottom: top + y + height});
+        return moved(piece, column * (width + GAP), top);
+    });
+    byId("picture").replaceChildren(definitions(), ...drawn);
+    byId("picture").setAttribute("height", Math.max(...heights) - GAP);
+}
+
+// What is in the picture: the sizes of all panels, their nodes, and where queues are.
+const drawnPicture = {sizes: "", nodes: new Map(), queues: new Map()};
+
+// Draws the pool at a frame. If all panels have the size that they had, only those are replaced that show something else.
+function draw(frame, pool, marks, chosen) {
+    const columns = Math.max(1, Math.floor((sizes.picture + GAP) / (COLUMN + GAP)));
+    const width = (sizes.picture - GAP * (columns - 1)) / columns;
+    const drawing = {marks, references: pool.references, chosen, showsAll: byId("all").checked};
+    const pieces = new Map(panelsOf(pool, bandsShown(pool)).map((panel) => {
+        const [kind, number] = panel.key.split(" ");
+        return [panel.key, pieceOf(panel, drawing, kind === "queue" ? widthOfQueue(Number(number), width) : width)];
+    }));
+    const all = JSON.stringify([columns, width, ...Array.from(pieces.values(), ({width: wide, height}) => [wide, height])]);
+    if (all === drawnPicture.sizes) replacePanels(pieces);
+    else placeAll(pieces, columns, width);
+    drawnPicture.sizes = all;
+    drawnPicture.nodes = new Map(Array.from(pieces, ([key, {drawn}]) => [key, drawn]));
+    lightArrows(lineAt(frame));
+    showChanged(lineAt(frame), marks);
+    byId("picture").setAttribute("aria-label", `The pool at frame ${frame}`);
+}
+
+// Scrolls to a queue that the line enabled or changed, unless one is in view.
+function showChanged({events}, marks) {
+    const enabled = events.filter((event) => event.startsWith("B")).map((event) => Number(event.slice(1)));
+    const changed = run.queues.map((_, queue) => queue).filter((queue) => marks.has(`queue ${queue}`));
+    const places = (enabled.length > 0 ? enabled : changed).map((queue) => drawnPicture.queues.get(queue));
+    if (places.length === 0) return;
+    const begin = byId("pool").getBoundingClientRect().top - byId("picture").getBoundingClientRect().top;
+    const isInView = ({top, bottom}) => top >= begin && Math.min(bottom, top + sizes.pool) <= begin + sizes.pool;
+    if (!places.some(isInView)) byId("pool").scrollTop += places[0].top - begin - 2 * GAP;
+}
+
+function replacePanels(pieces) {
+    for (const [key, {drawn}] of pieces) {
+        const old = drawnPicture.nodes.get(key);
+        if (old === drawn) continue;
+        drawn.setAttribute("transform", old.getAttribute("transform"));
+        old.replaceWith(drawn);
+    }
+}
