@@ -1,5 +1,9 @@
-# Builds, runs, tests and installs the program strm and the library for C. Both need Rattle's command `rt` on PATH, and Python 3. The library
-# also needs `cc` and `ar`. docs/GATE.md says what the tests need.
+# Builds, runs, tests and installs the program strm, the library for C, and the tools in Python. Rattle's command `rt` builds the program and the
+# library; it needs Python 3, and for the library also `cc` and `ar`. docs/GATE.md says what the tests need.
+#
+# Without `rt`, which comes in the toolchain's kit (README.md): the archive and the Debian package of a release have the program and the
+# library, built (docs/PACKAGE.md). The tools need Python 3.8 or later alone, and `make install-tools` installs them. The rules lint,
+# install-pages, view-test, pictures and vendor need no `rt` either.
 
 SHELL := bash
 .SHELLFLAGS := -o pipefail -c
@@ -8,7 +12,14 @@ PREFIX ?= /usr/local
 SHARE := $(DESTDIR)$(PREFIX)/share
 # The crate that `make vendor` copies into the repository at TO, with the crates that it uses.
 CRATE ?= strm_pool
-# The version, which the installed manual names.
+# The script that `make try` executes.
+SCRIPT ?= examples/first_run.strm
+# Where `make dist` puts what it builds.
+DIST ?= dist
+# The prefix that the installed strm.pc names, and where zsh finds functions below share.
+PC_PREFIX ?= $(PREFIX)
+ZSH ?= zsh/site-functions
+# The version, which the installed manuals name.
 VERSION := $(shell cat VERSION)
 BUILT := crates/strm_driver/out/strm_driver
 # The program that measures rounds of calls, for bench-library and bench-c.
@@ -19,14 +30,24 @@ PROVED := crates/strm_c/out/libstrm_c.a
 # The output of `rt` when it last proved and built the program.
 LOG := build/proving.log
 
-# Stops make with one line if there is no `rt`.
-NEEDS_RT = $(if $(shell command -v rt 2>/dev/null),,$(error Rattle's command rt is not on PATH, and README.md says which is wanted))
+# The tools that are installed, and the files of the package that they share.
+TOOLS := $(notdir $(wildcard tools/strm-*))
+MODULES := $(shell cd tools && find strm_tools -name __pycache__ -prune -o -type f -print)
 
-.PHONY: run test cases planted lint soak field view-test pictures bench bench-lines bench-library bench-census bench-header bench-c strm install install-pages lib install-lib vendor
+# Stops make with one line if there is no `rt`.
+NEEDS_RT = $(if $(shell command -v rt 2>/dev/null),,$(error no rt on PATH, so nothing is proved or built; the archive of a release has strm and libstrm.a, and make install-tools installs the tools that need Python alone (README.md, "Without rt")))
+
+.PHONY: run try test cases planted lint soak field view-test pictures bench bench-lines bench-library bench-census bench-header bench-c strm install install-pages install-tools install-docs lib install-lib dist vendor
 
 # Runs examples/first_run.strm on the proved program.
 run: $(BUILT)
 	@$(BUILT) --serial <examples/first_run.strm
+
+# Executes SCRIPT, by default examples/first_run.strm, on the program without proving it. Of what `rt` says this shows only a failure.
+try:
+	$(NEEDS_RT)
+	@echo "nothing is proved here: strm is built without its proofs, which takes one to two minutes, and executes $(SCRIPT)" >&2
+	@{ cd crates/strm_driver && rt try -- --serial 2>&1 >&3 | { grep -vE '^(checked|races): |^run=' >&2 || true; }; } 3>&1 <"$(SCRIPT)"
 
 # The whole gate: all proofs, the edits that must be refused, the tests and cases.
 test:
@@ -51,18 +72,19 @@ soak: $(BUILT)
 	@tests/soak $(OPTIONS) $(BUILT)
 
 # Executes recorded calls of ppp's STREAMS modules and lwIP's buffers, whose sources it fetches from Debian (tests/field). OPTIONS are those
-# of tests/field/run, as --scripts N.
+# of tests/field/run, as --scripts N. With KEEP=DIR, that folder gets the recordings and their pages.
 field: $(BUILT)
-	@tests/field/run $(OPTIONS) $(BUILT)
+	@tests/field/run $(if $(KEEP),--keep $(KEEP)) $(OPTIONS) $(BUILT)
 
-# Moves through pages of tools/strm_view in Chromium, and puts pictures of some into build/view. It needs no `rt`. If there is no
-# Chromium, it installs one if apt-get may.
+# Moves through pages of tools/strm-view in Chromium, measures how fast a page of 100,000 lines is, and puts pictures of some pages into
+# build/view. It needs no `rt`. If there is no Chromium, it installs one if apt-get may.
 view-test:
 	@tests/view_in_browser build/view
 
-# Draws the pictures in docs/ again, each with the arguments that it contains. It needs Chromium, as view-test does.
+# Draws the pictures in docs/ again, each with the arguments that it contains, and makes the example page. It needs Chromium.
 pictures:
-	@for picture in docs/pictures/*.svg; do tools/strm_view $$(sed -n 's:^<desc>\(.*\)</desc>$$:\1:p' $$picture) --output $$picture || exit 1; done
+	@tools/strm-view examples/recorded/ppp.strm examples/recorded/ppp.text --output docs/example.html
+	@for picture in docs/pictures/*.svg; do tools/strm-view $$(sed -n 's:^<desc>\(.*\)</desc>$$:\1:p' $$picture) --output $$picture || exit 1; done
 
 # Prints what a line, a call of the libraries, a look at the census, a header and a call from C cost. OPTIONS are those of all, as --write for
 # docs/.
@@ -98,15 +120,31 @@ strm: build/strm
 build/strm: $(BUILT)
 	@install -D -m 755 $(BUILT) build/strm
 
-# Installs the proved program as PREFIX/bin/strm, the pages, and the library for C.
-install: $(BUILT) install-pages install-lib
+# Installs the proved program as PREFIX/bin/strm, the library for C, the tools, the manuals and the examples.
+install: $(BUILT) install-pages install-tools install-docs install-lib
 	install -D -m 755 $(BUILT) $(DESTDIR)$(PREFIX)/bin/strm
 
-# Installs the manual and the completions of bash and zsh, for which nothing is built.
+# Installs the manuals of section 1 and the completions of bash and zsh, for which nothing is built. The completions of strm are also those of
+# the tools.
 install-pages:
-	sed 's/@VERSION@/$(VERSION)/' man/strm.1 | install -D -m 644 /dev/stdin $(SHARE)/man/man1/strm.1
+	for page in man/*.1; do sed 's/@VERSION@/$(VERSION)/' $$page | install -D -m 644 /dev/stdin $(SHARE)/man/$${page/man/man1} || exit; done
 	install -D -m 644 completions/strm.bash $(SHARE)/bash-completion/completions/strm
-	install -D -m 644 completions/_strm $(SHARE)/zsh/site-functions/_strm
+	install -D -m 644 completions/_strm $(SHARE)/$(ZSH)/_strm
+	for tool in $(TOOLS); do ln -sf strm $(SHARE)/bash-completion/completions/$$tool || exit; done
+
+# Installs the tools, which need Python alone, in PREFIX/share/strm with links in PREFIX/bin, and their manuals.
+install-tools: install-pages
+	rm -rf $(SHARE)/strm/strm_tools
+	for file in $(MODULES); do install -D -m 644 tools/$$file $(SHARE)/strm/$$file || exit; done
+	install -d $(DESTDIR)$(PREFIX)/bin
+	for tool in $(TOOLS); do install -m 755 tools/$$tool $(SHARE)/strm && ln -sf ../share/strm/$$tool $(DESTDIR)$(PREFIX)/bin/$$tool || exit; done
+
+# Installs the examples, the licence, and what README.md is for users of what is installed.
+install-docs:
+	for file in $$(find examples -type f); do install -D -m 644 $$file $(SHARE)/doc/strm/$$file || exit; done
+	install -m 644 LICENSE $(SHARE)/doc/strm/LICENSE
+	install -m 644 docs/PACKAGE.md $(SHARE)/doc/strm/README.md
+	install -m 644 docs/MODEL.md $(SHARE)/doc/strm/MODEL.md
 
 # Puts the static library for C at build/libstrm.a, and its pkg-config file at build/strm.pc.
 lib: build/libstrm.a build/strm.pc
@@ -117,22 +155,31 @@ build/libstrm.a: $(PROVED) c/strm.c c/strm_c.h c/strm.h
 	@mkdir -p build
 	$(CC) -std=c89 -O2 -fPIC -Wall -Wextra -pedantic -Ic -c c/strm.c -o build/strm.o
 	cp $(PROVED) build/libstrm.a
-	cd build && $(AR) x "$$(dirname "$$(rt doc)")/c/liblibc_c.a" heap.pic.o && $(AR) r libstrm.a strm.o heap.pic.o
+	cd build && $(AR) x "$$(dirname "$$(rt doc)")/c/liblibc_c.a" heap.pic.o && $(AR) rD libstrm.a strm.o heap.pic.o
+
+# Writes strm.pc from its form, to standard output.
+PC = sed 's:@PREFIX@:$(PC_PREFIX):; s/@VERSION@/$(VERSION)/' c/strm.pc.in
 
 build/strm.pc: c/strm.pc.in VERSION FORCE
 	@mkdir -p build
-	@sed 's:@PREFIX@:$(PREFIX):; s/@VERSION@/$(VERSION)/' c/strm.pc.in >build/strm.pc
+	@$(PC) >build/strm.pc
 
 .PHONY: FORCE
 FORCE:
 
 # Installs the static library with its header, its pkg-config file and its pages of section 3.
-install-lib: lib
+install-lib: build/libstrm.a
 	install -D -m 644 build/libstrm.a $(DESTDIR)$(PREFIX)/lib/libstrm.a
-	install -D -m 644 build/strm.pc $(DESTDIR)$(PREFIX)/lib/pkgconfig/strm.pc
+	$(PC) | install -D -m 644 /dev/stdin $(DESTDIR)$(PREFIX)/lib/pkgconfig/strm.pc
 	install -D -m 644 c/strm.h $(DESTDIR)$(PREFIX)/include/strm.h
 	install -d $(SHARE)/man/man3
 	tools/c_pages $(SHARE)/man/man3
+
+# Builds what a release hands out, in the folder DIST: an archive, a Debian package, and PROOF with their sums. GATE names a log of the gate, whose
+# last line goes into PROOF. It refuses uncommitted changes unless DIRTY is yes, and then PROOF says that there are some.
+dist:
+	$(NEEDS_RT)
+	@GATE="$(GATE)" DIRTY="$(DIRTY)" tools/dist "$(DIST)"
 
 # Copies CRATE and the crates that it uses into the repository whose top is TO. It needs no `rt`. If it refuses, it writes nothing.
 vendor:
@@ -141,14 +188,12 @@ vendor:
 # Only a proved library is built.
 $(PROVED): $(SOURCES)
 	$(NEEDS_RT)
-	@cd crates/strm_c && rt lib
+	@tools/prove strm_c build/proving_library.log rt lib
 
 # Only a proved program is built. `rt run` keeps its work, and runs the program once.
 $(BUILT): $(SOURCES)
 	$(NEEDS_RT)
-	@echo "proving and building strm: 30 to 50 minutes of processor time at first, and seconds to minutes after a change; what is said of it goes to $(LOG)" >&2
-	@mkdir -p $(dir $(LOG))
-	@cd crates/strm_driver && rt run -- --help </dev/null 2>&1 | tee $(CURDIR)/$(LOG) | awk '/^crate /{ name = $$2 } /^logic=proved/{ print name, "proved"; fflush() }' >&2 || { echo "not proved, for the reason in $(LOG)" >&2; exit 1; }
+	@tools/prove strm_driver $(LOG) rt run -- --help
 	@touch $(BUILT)
 
 # This program is proved after strm, with which it shares libraries.
