@@ -1,7 +1,8 @@
 /*
  * The border between C and the crate strm_c, which takes references and slices. The functions here reject what those cannot be:
- * null pointers, lengths that no object has, and one place for two answers. The crate checks everything else. Whether the handle
- * is open is checked here too, because that answer comes first.
+ * null pointers, lengths that no object has, and one place for two answers. The crate checks everything else. A function that
+ * rejects an argument checks whether the handle is open too, because that answer comes first. strm_c_close would clear a handle
+ * that is not open. Calls that need no pool are here alone: they compare names, and return a text that the crate could only copy.
  */
 #include "strm_c.h"
 
@@ -11,12 +12,63 @@
 /* Used for every buffer of length 0, since a slice needs an address. It is neither read nor written. */
 static uint8_t nothing;
 
-/* STRM_NOT_OPEN if the handle is not open, else STRM_BAD_ARGUMENT if an argument does not fit, else STRM_OK. */
-static int fault_of(const struct strm_pool *pool, int fits)
+/* The text of each code, as the crate has it. tests/c/each.c compares them. */
+static const struct {
+	int code;
+	const char *text;
+} texts[] = {
+	{ STRM_OK, "done" },
+	{ STRM_TOO_LARGE, "the size is above the largest class" },
+	{ STRM_NO_MBLK, "fewer message blocks are free than the call needs" },
+	{ STRM_NO_DATA, "no data block is free of a class that fits" },
+	{ STRM_REF_MAX, "more than 255 message blocks would refer to a data block" },
+	{ STRM_NO_SUCH_BLOCK, "the message has no such block" },
+	{ STRM_SHARED, "more than one message block refers to the data block" },
+	{ STRM_NO_ROOM, "the bytes do not fit in the data block" },
+	{ STRM_SHORT, "the message has too few bytes, or too few of one type" },
+	{ STRM_NO_SUCH_PLACE, "the queue has no such place" },
+	{ STRM_BAD_ORDER, "the ranks would rise from front to back" },
+	{ STRM_NO_SUCH_QUEUE, "there is no such queue" },
+	{ STRM_FULL, "no more wishes can be recorded" },
+	{ STRM_IDS_SPENT, "the last id was given" },
+	{ STRM_NOT_PENDING, "no wish has this id" },
+	{ STRM_BAD_MARKS, "the low water mark is not below the high one" },
+	{ STRM_NONE, "done, and there is nothing to give" },
+	{ STRM_INVALID, "a name is not valid" },
+	{ STRM_NOT_OPEN, "the handle is not open" },
+	{ STRM_BAD_ARGUMENT, "a pointer is null, or a number is out of range" },
+	{ STRM_IS_OPEN, "the handle is open already" },
+	{ STRM_NO_MEMORY, "there is not enough memory" },
+	{ STRM_BAD_MBLKS, "message blocks are not 1 to 16383" },
+	{ STRM_BAD_CLASSES, "there is no size class" },
+	{ STRM_BAD_CLASS_SIZE, "sizes do not rise, or are not 1 to 4096" },
+	{ STRM_BAD_CLASS_TOTAL, "a class has no data block, or all have more than 16383" },
+	{ STRM_BAD_QUEUES, "there is no queue" },
+	{ STRM_BAD_QUEUE_MARKS, "a queue's low water mark is not below the high one" },
+	{ STRM_BAD_NEXT, "a next queue is not there, has no greater number, or is named twice" },
+	{ STRM_BAD_BUFCALLS, "there are more than 64 wishes" },
+	{ STRM_BAD_FIRST_ID, "the first id is 0" }
+};
+
+static int is_open(const struct strm_pool *pool)
 {
-	if (!strm_is_open(pool))
-		return STRM_NOT_OPEN;
-	return fits ? STRM_OK : STRM_BAD_ARGUMENT;
+	return pool != NULL && pool->state == STRM_POOL_OPEN;
+}
+
+/* What a call returns if its handle is null or an argument does not fit. */
+static int fault_of(const struct strm_pool *pool)
+{
+	return is_open(pool) ? STRM_BAD_ARGUMENT : STRM_NOT_OPEN;
+}
+
+/* A code, after which a call that left no message has set its rest to the name of none. */
+static int with_rest(int code, struct strm_msg *rest)
+{
+	static const struct strm_msg none = { 0, 0, 0 };
+
+	if (code == STRM_NONE)
+		*rest = none;
+	return code;
 }
 
 /* Whether a pointer and a length can be a buffer. */
@@ -35,7 +87,7 @@ static size_t ended(char *text, size_t length, size_t whole)
 
 int strm_is_open(const struct strm_pool *pool)
 {
-	return pool != NULL && pool->state == STRM_POOL_OPEN;
+	return is_open(pool);
 }
 
 int strm_open(struct strm_pool *pool, const struct strm_config *config)
@@ -46,7 +98,7 @@ int strm_open(struct strm_pool *pool, const struct strm_config *config)
 
 	if (pool == NULL)
 		return STRM_NOT_OPEN;
-	if (strm_is_open(pool))
+	if (is_open(pool))
 		return STRM_IS_OPEN;
 	if (config == NULL || config->class_count > STRM_MOST_CLASSES || config->queue_count > STRM_MOST_QUEUES
 	    || !is_buffer(config->classes, config->class_count) || !is_buffer(config->queues, config->queue_count))
@@ -58,31 +110,63 @@ int strm_open(struct strm_pool *pool, const struct strm_config *config)
 
 int strm_close(struct strm_pool *pool)
 {
-	return strm_is_open(pool) ? strm_c_close(pool) : STRM_NOT_OPEN;
+	return is_open(pool) ? strm_c_close(pool) : STRM_NOT_OPEN;
 }
 
 /* Defines the call of a row of STRM_CALLS. */
 #define DEFINE(call, parameters, arguments, fits) \
 	int strm_##call parameters \
 	{ \
-		int fault = fault_of(pool, fits); \
-\
-		return fault != STRM_OK ? fault : strm_c_##call arguments; \
+		return pool != NULL && (fits) ? strm_c_##call arguments : fault_of(pool); \
 	}
 STRM_CALLS(DEFINE)
 
+int strm_freeb(struct strm_pool *pool, struct strm_msg msg, struct strm_msg *rest)
+{
+	if (pool == NULL || rest == NULL)
+		return fault_of(pool);
+	return with_rest(strm_c_freeb(pool, msg, rest), rest);
+}
+
+int strm_unlinkb(struct strm_pool *pool, struct strm_msg msg, struct strm_msg *rest)
+{
+	if (pool == NULL || rest == NULL)
+		return fault_of(pool);
+	return with_rest(strm_c_unlinkb(pool, msg, rest), rest);
+}
+
 int strm_write(struct strm_pool *pool, struct strm_msg msg, uint32_t place, const void *bytes, size_t length)
 {
-	int fault = fault_of(pool, is_buffer(bytes, length));
-
-	return fault != STRM_OK ? fault : strm_c_write(pool, msg, place, length == 0 ? &nothing : (const uint8_t *)bytes, length);
+	if (pool == NULL || !is_buffer(bytes, length))
+		return fault_of(pool);
+	return strm_c_write(pool, msg, place, length == 0 ? &nothing : (const uint8_t *)bytes, length);
 }
 
 int strm_read(struct strm_pool *pool, struct strm_msg msg, uint32_t at, void *into, size_t length, size_t *count)
 {
-	int fault = fault_of(pool, is_buffer(into, length) && count != NULL && (length == 0 || into != (void *)count));
+	if (pool == NULL || !is_buffer(into, length) || count == NULL || (length != 0 && into == (void *)count))
+		return fault_of(pool);
+	return strm_c_read(pool, msg, at, length == 0 ? &nothing : (uint8_t *)into, length, count);
+}
 
-	return fault != STRM_OK ? fault : strm_c_read(pool, msg, at, length == 0 ? &nothing : (uint8_t *)into, length, count);
+int strm_same_msg(struct strm_msg a, struct strm_msg b)
+{
+	return a.pool == b.pool && a.head == b.head && a.stamp == b.stamp;
+}
+
+int strm_is_no_msg(struct strm_msg msg)
+{
+	return msg.pool == 0 && msg.head == 0 && msg.stamp == 0;
+}
+
+const char *strm_error(int code)
+{
+	size_t place;
+
+	for (place = 0; place < sizeof texts / sizeof texts[0]; place++)
+		if (texts[place].code == code)
+			return texts[place].text;
+	return "no such code";
 }
 
 size_t strm_text(int code, char *text, size_t length)

@@ -43,8 +43,17 @@
  *
  * A call that can fail returns a code, and stores its results through pointers. STRM_OK is 0. Codes
  * above 0 are refusals of the pool, numbered as by the program strm. Codes below 0 are of this
- * header. If several codes apply, a call returns the first in this list (strm_open has its own
- * order):
+ * header. One of these, STRM_NONE, is no failure: the call was done, and there is nothing to return.
+ * So neither `code < 0` nor `code > 0` finds the failures. `STRM_FAILED(code)` does: it is false for
+ * STRM_OK and STRM_NONE, and true for any other code.
+ *
+ *     code = strm_getq(&pool, 0, &msg);
+ *     if (STRM_FAILED(code))
+ *         fprintf(stderr, "%s\n", strm_error(code));
+ *     else if (code == STRM_NONE)
+ *         puts("the queue is empty");
+ *
+ * If several codes apply, a call returns the first in this list (strm_open has its own order):
  *
  *   1. STRM_NOT_OPEN: the handle is null, was never opened, or was closed.
  *   2. STRM_BAD_ARGUMENT: a pointer is null, except one to a buffer of length 0. Or a parameter
@@ -55,9 +64,10 @@
  *   4. STRM_NO_SUCH_QUEUE: the call names a queue that the pool does not have.
  *   5. The refusals that the call's comment lists, in that order.
  *
- * STRM_NONE is no failure: the call was done, there is nothing to return, and nothing is stored
- * through pointers. After any code but STRM_OK and STRM_NONE, the pool, names, and what pointers
- * lead to are unchanged.
+ * With STRM_NONE nothing is stored through pointers, except that strm_freeb and strm_unlinkb set
+ * *rest to STRM_NO_MSG. So *rest is STRM_NO_MSG whenever one of these two or strm_rmvb leaves
+ * nothing. After any code but STRM_OK and STRM_NONE, the pool, names, and what pointers lead to are
+ * unchanged.
  *
  * A call takes constant time, plus time for each block, message or byte that it goes over.
  *
@@ -69,8 +79,8 @@
  * strm_rmvb, strm_putq, strm_putbq, strm_insq, as the tail of strm_linkb, or by closing the pool.
  *
  * A pool never returns a name twice. So a caller that frees twice, links twice, or uses a message
- * that is on a queue gets STRM_INVALID. Any bits may be passed as a name. Names may be copied,
- * kept, and compared by their three fields.
+ * that is on a queue gets STRM_INVALID. Any bits may be passed as a name. Names may be copied, kept,
+ * and compared by strm_same_msg. STRM_NO_MSG, all zeros, is the name of no message, and never valid.
  *
  * Stamps start again after 2^64 messages that began with the same block. Two pools opened with the
  * same id, together or one after the other, can't tell their names apart: give different ids to
@@ -83,18 +93,47 @@
  *
  * The library does not check these rules; breaking one is undefined behaviour.
  *
- *   - A pointer that is not null leads to as many objects as the call says. Nothing else uses these
- *     objects during the call, and what the call writes overlaps nothing else that it is given.
- *   - A handle is passed to one call at a time. Threads that share a pool hold a lock of their own
- *     during each call, even one that only looks. No call is made from a signal handler, nor on a
- *     pool of the parent in a forked child of a process with threads. An interrupt handler makes
- *     calls only while no other call runs.
+ *   - A pointer that is not null leads to as many objects as the call says. During the call nothing
+ *     else writes to these objects. Where the call writes, nothing else reads, and what it writes
+ *     overlaps nothing else that it is given.
+ *   - A call may write to its handle, even one that only looks. So a handle is passed to one call at
+ *     a time. Threads that share a pool hold a lock of their own during each call.
+ *   - No call is made from a signal handler. An interrupt handler makes calls only while no other
+ *     call runs.
+ *   - A call runs to its end. No signal handler leaves it by siglongjmp, and no thread in it is
+ *     cancelled.
+ *   - A handle is not in memory that processes share.
+ *   - After a fork, only one of the two processes uses the pool, and not the child of a process with
+ *     threads.
  *   - A handle is zeroed, or set to STRM_POOL_INIT, before its first call. A handle whose field
  *     `state` is STRM_POOL_OPEN counts as open, even if by chance; any other is not open.
  *   - An open handle may be moved, but not used at two places: the library can't tell a copy from
  *     the handle. The caller does not write to its fields.
  *   - malloc, realloc and free are of one allocator. It aligns what it returns for any object that
  *     fits.
+ *   - Memory that malloc returned is there. A system that promises more memory than it has
+ *     (overcommit) may end the process instead.
+ *
+ *
+ * Versions
+ *
+ * STRM_VERSION_NUMBER is the version of this header as a number, for #if: version 1.2.3 is 1002003.
+ * A program linked with one libstrm.so runs with each later one of the same soname.
+ *
+ *   - Structs grow only at their end. In a struct that the caller fills, 0 in a new field means what
+ *     was done before. So fill structs by names of fields (designated initialisers), or set them to
+ *     zeros first.
+ *   - The sizes of struct strm_pool and struct strm_msg stay.
+ *   - If a struct grows, each call that uses it gets a new symbol version. Programs that were linked
+ *     before get the old one, and the old struct.
+ *   - libstrm.a has no versions of symbols: compile with the header that is beside it.
+ *
+ *
+ * C++
+ *
+ * In C++ the calls strm_census, strm_class_info, strm_queue_info and strm_band_info are macros,
+ * because structs have these names too. So `strm_census c;` declares a variable. The addresses of
+ * these functions are `&strm_census_` and so on.
  *
  *
  * As in STREAMS, and not
@@ -114,8 +153,9 @@
 extern "C" {
 #endif
 
-/* The version of this header. */
+/* The version of this header, as a text and as a number. */
 #define STRM_VERSION "0.1.0"
+#define STRM_VERSION_NUMBER 1000
 
 enum {
 	STRM_OK = 0,			/* done */
@@ -157,6 +197,13 @@ enum {
 	STRM_BAD_FIRST_ID = -19		/* the first id is 0 */
 };
 
+/* True if a code is that of a failure, which is any but STRM_OK and STRM_NONE. */
+#ifdef __cplusplus
+#define STRM_FAILED(code) (static_cast<unsigned>(code) + 1u > 1u)
+#else
+#define STRM_FAILED(code) ((unsigned)(code) + 1u > 1u)
+#endif
+
 /* Limits. */
 #define STRM_MOST_MBLKS 16383		/* message blocks of a pool */
 #define STRM_MOST_CLASSES 8		/* size classes */
@@ -197,7 +244,18 @@ struct strm_msg {
 	uint32_t head;			/* the number of its first block */
 	uint64_t stamp;			/* how many messages began with that block, this one included */
 };
-#define STRM_NO_MSG { 0, 0, 0 }		/* the name of no message, as an initialiser */
+
+/*
+ * The name of no message. It is a value, for initialisers, assignments and arguments; in C89 it is an
+ * initialiser only. In C, a static variable needs no initialiser to be STRM_NO_MSG.
+ */
+#if defined(__cplusplus)
+#define STRM_NO_MSG strm_msg()
+#elif defined(__STDC_VERSION__) && __STDC_VERSION__ >= 199901L
+#define STRM_NO_MSG ((struct strm_msg){ 0, 0, 0 })
+#else
+#define STRM_NO_MSG { 0, 0, 0 }
+#endif
 
 /* A size class of a configuration. */
 struct strm_class_spec {
@@ -273,13 +331,25 @@ struct strm_wish {
 	uint32_t size;			/* bytes that its data block has to have */
 };
 
+#ifdef __cplusplus
+/* These four calls have names of structs, which a function would hide in C++. Their symbols are those of C. */
+int strm_census_(struct strm_pool *pool, struct strm_census *census) __asm__("strm_census");
+int strm_class_info_(struct strm_pool *pool, uint32_t place, struct strm_class_info *info) __asm__("strm_class_info");
+int strm_queue_info_(struct strm_pool *pool, uint32_t queue, struct strm_queue_info *info) __asm__("strm_queue_info");
+int strm_band_info_(struct strm_pool *pool, uint32_t queue, uint32_t band, struct strm_band_info *info) __asm__("strm_band_info");
+#define strm_census(pool, census) strm_census_(pool, census)
+#define strm_class_info(pool, place, info) strm_class_info_(pool, place, info)
+#define strm_queue_info(pool, queue, info) strm_queue_info_(pool, queue, info)
+#define strm_band_info(pool, queue, band, info) strm_band_info_(pool, queue, band, info)
+#endif
+
 /* ---- opening and closing: strm_open(3) */
 
 /*
  * Opens a pool, with all blocks free and all queues empty. It allocates all memory, 68 MB for the
- * largest pool, and copies the configuration. The fields `classes` and `queues` may be null if
- * their count is 0. A count of 0 is refused as STRM_BAD_CLASSES or STRM_BAD_QUEUES, a count above
- * its limit as STRM_BAD_ARGUMENT.
+ * largest pool, and copies the configuration. It uses 11 KB of stack, far more than other calls. The
+ * fields `classes` and `queues` may be null if their count is 0. A count of 0 is refused as
+ * STRM_BAD_CLASSES or STRM_BAD_QUEUES, a count above its limit as STRM_BAD_ARGUMENT.
  * Refused as STRM_NOT_OPEN for a null handle, STRM_IS_OPEN, STRM_BAD_ARGUMENT, the first fault from
  * STRM_BAD_MBLKS to STRM_BAD_FIRST_ID, or STRM_NO_MEMORY, in this order. If strm_open fails, an
  * open handle is unchanged, and any other stays closed.
@@ -342,8 +412,8 @@ int strm_copymsg(struct strm_pool *pool, struct strm_msg msg, struct strm_msg *c
 
 /*
  * Frees the first block of a message, and its data block if no other block refers to that. The
- * other blocks become the message *rest; if there are none, returns STRM_NONE. `msg` is no longer
- * valid.
+ * other blocks become the message *rest; if there are none, *rest is STRM_NO_MSG, and the call
+ * returns STRM_NONE. `msg` is no longer valid.
  * Differs from STREAMS: b_cont need not be saved before.
  */
 int strm_freeb(struct strm_pool *pool, struct strm_msg msg, struct strm_msg *rest);
@@ -399,6 +469,14 @@ int strm_block(struct strm_pool *pool, struct strm_msg msg, uint32_t place, stru
 /* Sets *yes to 1 if the name is valid, else to 0. It never returns STRM_INVALID. Not in STREAMS. */
 int strm_has(struct strm_pool *pool, struct strm_msg msg, uint32_t *yes);
 
+/* ---- names compared: strm_same_msg(3) */
+
+/* Returns 1 if two names have the same fields, else 0. Not in STREAMS. */
+int strm_same_msg(struct strm_msg a, struct strm_msg b);
+
+/* Returns 1 if a name is STRM_NO_MSG, else 0. Not in STREAMS. */
+int strm_is_no_msg(struct strm_msg msg);
+
 /* ---- messages joined, parted and trimmed: strm_linkb(3) */
 
 /*
@@ -411,14 +489,15 @@ int strm_linkb(struct strm_pool *pool, struct strm_msg msg, struct strm_msg tail
 
 /*
  * Leaves only the first block in a message. The other blocks become the message *rest; if there are
- * none, returns STRM_NONE.
+ * none, *rest is STRM_NO_MSG, and the call returns STRM_NONE.
  * As in STREAMS.
  */
 int strm_unlinkb(struct strm_pool *pool, struct strm_msg msg, struct strm_msg *rest);
 
 /*
  * Takes the block numbered `place` out of a message. That block becomes the message *block, and the
- * others become *rest, all zeros (STRM_NO_MSG) if there are none. `msg` is no longer valid.
+ * others become *rest. If there are none, *rest is STRM_NO_MSG, and the call still returns STRM_OK.
+ * `msg` is no longer valid.
  * Refused as STRM_NO_SUCH_BLOCK.
  * Differs from STREAMS: you pass a place.
  */
@@ -612,10 +691,15 @@ int strm_band_info(struct strm_pool *pool, uint32_t queue, uint32_t band, struct
 /* ---- texts: strm_text(3) */
 
 /*
- * Copies the text of a code, or "no such code" for another number: as much as fits into `length`
- * bytes, with a 0 at the end unless `length` is 0. Returns the length of the whole text without the
- * 0. If `text` is null and `length` is not 0, or `length` is above SIZE_MAX / 2, returns 0 and
- * writes nothing.
+ * Returns the text of a code, or "no such code" for another number. It stays as long as the library
+ * is loaded.
+ */
+const char *strm_error(int code);
+
+/*
+ * Copies the text that strm_error returns: as much as fits into `length` bytes, with a 0 at the end
+ * unless `length` is 0. Returns the length of the whole text without the 0. If `text` is null and
+ * `length` is not 0, or `length` is above SIZE_MAX / 2, returns 0 and writes nothing.
  */
 size_t strm_text(int code, char *text, size_t length);
 

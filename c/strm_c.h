@@ -19,7 +19,6 @@
 	CALL(dupmsg, (struct strm_pool *pool, struct strm_msg msg, struct strm_msg *copy), (pool, msg, copy), copy != NULL) \
 	CALL(copyb, (struct strm_pool *pool, struct strm_msg msg, struct strm_msg *copy), (pool, msg, copy), copy != NULL) \
 	CALL(copymsg, (struct strm_pool *pool, struct strm_msg msg, struct strm_msg *copy), (pool, msg, copy), copy != NULL) \
-	CALL(freeb, (struct strm_pool *pool, struct strm_msg msg, struct strm_msg *rest), (pool, msg, rest), rest != NULL) \
 	CALL(freemsg, (struct strm_pool *pool, struct strm_msg msg), (pool, msg), 1) \
 	CALL(settype, (struct strm_pool *pool, struct strm_msg msg, uint32_t place, uint32_t type), (pool, msg, place, type), 1) \
 	CALL(setband, (struct strm_pool *pool, struct strm_msg msg, uint32_t band), (pool, msg, band), 1) \
@@ -29,7 +28,6 @@
 		(pool, msg, place, block), block != NULL) \
 	CALL(has, (struct strm_pool *pool, struct strm_msg msg, uint32_t *yes), (pool, msg, yes), yes != NULL) \
 	CALL(linkb, (struct strm_pool *pool, struct strm_msg msg, struct strm_msg tail), (pool, msg, tail), 1) \
-	CALL(unlinkb, (struct strm_pool *pool, struct strm_msg msg, struct strm_msg *rest), (pool, msg, rest), rest != NULL) \
 	CALL(rmvb, (struct strm_pool *pool, struct strm_msg msg, uint32_t place, struct strm_msg *block, struct strm_msg *rest), \
 		(pool, msg, place, block, rest), block != NULL && rest != NULL && block != rest) \
 	CALL(adjmsg, (struct strm_pool *pool, struct strm_msg msg, int32_t count), (pool, msg, count), 1) \
@@ -75,6 +73,8 @@ STRM_CALLS(STRM_DECLARE)
 int32_t strm_c_open(struct strm_pool *pool, uint32_t id, uint32_t mblks, const struct strm_class_spec *classes, size_t class_count,
 	const struct strm_queue_spec *queues, size_t queue_count, uint32_t bufcalls, uint32_t first_id);
 int32_t strm_c_close(struct strm_pool *pool);
+int32_t strm_c_freeb(struct strm_pool *pool, struct strm_msg msg, struct strm_msg *rest);
+int32_t strm_c_unlinkb(struct strm_pool *pool, struct strm_msg msg, struct strm_msg *rest);
 int32_t strm_c_write(struct strm_pool *pool, struct strm_msg msg, uint32_t place, const uint8_t *bytes, size_t length);
 int32_t strm_c_read(struct strm_pool *pool, struct strm_msg msg, uint32_t at, uint8_t *into, size_t length, size_t *count);
 

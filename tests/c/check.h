@@ -25,6 +25,7 @@ int has_bytes(struct strm_pool *pool, struct strm_msg msg, const char *bytes);
 /* A message of one block with these bytes. */
 struct strm_msg message(struct strm_pool *pool, const char *bytes);
 
+/* Whether two names are the same; strm_same_msg is tested itself. */
 int same_name(struct strm_msg a, struct strm_msg b);
 
 /* Prints 'N passed, M failed', and returns the exit status. */

@@ -1,6 +1,8 @@
 /* Each call of strm.h with each of its answers, and what it leaves. The last line is 'N passed, M failed'. */
 #include "check.h"
 
+#include <limits.h>
+
 /* The next of queue 0 is queue 1, which has no service procedure, and the next of that is queue 2. */
 static const struct strm_class_spec classes[] = { { 16, 6 }, { 64, 2 } };
 static const struct strm_queue_spec queues[] = { { 10, 4, 1, 1 }, { 10, 4, 0, 2 }, { 10, 4, 1, STRM_NO_QUEUE } };
@@ -287,15 +289,16 @@ static void test_copies(void)
 static void test_freeing(void)
 {
 	struct strm_pool pool = opened(4);
-	struct strm_msg a = message(&pool, "a"), b = message(&pool, "b"), rest = STRM_NO_MSG, kept = STRM_NO_MSG;
+	struct strm_msg a = message(&pool, "a"), b = message(&pool, "b"), rest = STRM_NO_MSG, none = STRM_NO_MSG;
 
 	ANSWERS(strm_linkb(&pool, a, b), STRM_OK);
 	ANSWERS(strm_freeb(&pool, a, &rest), STRM_OK);
 	CHECK(rest.head == b.head && rest.stamp == b.stamp + 1);
 	CHECK(has_bytes(&pool, rest, "b"));
 	CENSUS(&pool, 3, 0, 1);
-	ANSWERS(strm_freeb(&pool, rest, &kept), STRM_NONE);
-	CHECK(kept.stamp == 0);
+	/* the name that is passed may be where the rest goes */
+	ANSWERS(strm_freeb(&pool, rest, &rest), STRM_NONE);
+	CHECK(same_name(rest, none));
 	CENSUS(&pool, 4, 0, 0);
 	a = message(&pool, "a");
 	ANSWERS(strm_freemsg(&pool, a), STRM_OK);
@@ -373,6 +376,7 @@ static void test_joining(void)
 {
 	struct strm_pool pool = opened(6);
 	struct strm_msg a = message(&pool, "ab"), b = message(&pool, "cd"), c = message(&pool, "ef"), block, rest = STRM_NO_MSG;
+	struct strm_msg none = STRM_NO_MSG;
 
 	ANSWERS(strm_linkb(&pool, a, b), STRM_OK);
 	ANSWERS(strm_linkb(&pool, a, c), STRM_OK);
@@ -381,7 +385,7 @@ static void test_joining(void)
 	CHECK(has_bytes(&pool, a, "ab") && has_bytes(&pool, rest, "cdef"));
 	CHECK(rest.head == b.head && rest.stamp == b.stamp + 1);
 	ANSWERS(strm_unlinkb(&pool, a, &c), STRM_NONE);
-	CHECK(has_bytes(&pool, a, "ab"));
+	CHECK(has_bytes(&pool, a, "ab") && same_name(c, none));
 	ANSWERS(strm_linkb(&pool, a, rest), STRM_OK);
 	ANSWERS(strm_rmvb(&pool, a, 3, &block, &rest), STRM_NO_SUCH_BLOCK);
 	CHECK(has_bytes(&pool, a, "abcdef"));
@@ -391,7 +395,7 @@ static void test_joining(void)
 	ANSWERS(strm_rmvb(&pool, rest, 0, &a, &b), STRM_OK);
 	CHECK(has_bytes(&pool, a, "ab") && has_bytes(&pool, b, "ef"));
 	ANSWERS(strm_rmvb(&pool, a, 0, &c, &rest), STRM_OK);
-	CHECK(has_bytes(&pool, c, "ab") && rest.pool == 0 && rest.head == 0 && rest.stamp == 0);
+	CHECK(has_bytes(&pool, c, "ab") && same_name(rest, none));
 	CENSUS(&pool, 3, 0, 3);
 	ANSWERS(strm_close(&pool), STRM_OK);
 }
@@ -596,6 +600,94 @@ static void test_enabling(void)
 	ANSWERS(strm_close(&pool), STRM_OK);
 }
 
+/* ---- names, codes, versions */
+
+static void test_names(void)
+{
+	struct strm_pool pool = opened(4);
+	struct strm_msg a = message(&pool, "a"), other, none = STRM_NO_MSG;
+
+	CHECK(none.pool == 0 && none.head == 0 && none.stamp == 0);
+	CHECK(strm_same_msg(a, a) == 1 && strm_is_no_msg(a) == 0);
+	other = a;
+	other.pool += 1;
+	CHECK(strm_same_msg(a, other) == 0 && strm_same_msg(other, a) == 0);
+	other = a;
+	other.head += 1;
+	CHECK(strm_same_msg(a, other) == 0 && strm_same_msg(other, a) == 0);
+	other = a;
+	other.stamp += (uint64_t)1 << 32;
+	CHECK(strm_same_msg(a, other) == 0 && strm_same_msg(other, a) == 0);
+	CHECK(strm_is_no_msg(none) == 1 && strm_same_msg(none, none) == 1);
+	other = none;
+	other.pool = 1;
+	CHECK(strm_is_no_msg(other) == 0);
+	other = none;
+	other.head = 1;
+	CHECK(strm_is_no_msg(other) == 0);
+	other = none;
+	other.stamp = (uint64_t)1 << 32;
+	CHECK(strm_is_no_msg(other) == 0);
+#if defined(__cplusplus) || (defined(__STDC_VERSION__) && __STDC_VERSION__ >= 199901L)
+	/* a value, too */
+	other = STRM_NO_MSG;
+	CHECK(same_name(other, none) && strm_is_no_msg(STRM_NO_MSG) == 1 && strm_same_msg(STRM_NO_MSG, none) == 1);
+	other = strm_is_no_msg(a) ? a : STRM_NO_MSG;
+	CHECK(same_name(other, none));
+#endif
+	ANSWERS(strm_close(&pool), STRM_OK);
+}
+
+static void test_failed(void)
+{
+	int code, calls = 0;
+
+	for (code = -40; code <= 40; code++)
+		CHECK(!STRM_FAILED(code) == (code == STRM_OK || code == STRM_NONE));
+	CHECK(STRM_FAILED(INT_MIN) && STRM_FAILED(INT_MAX));
+	/* the code may be a call, which is made once */
+	CHECK(!STRM_FAILED(calls++) && calls == 1);
+}
+
+static void test_version(void)
+{
+	int first, second, third;
+
+	CHECK(sscanf(STRM_VERSION, "%d.%d.%d", &first, &second, &third) == 3);
+	CHECK(STRM_VERSION_NUMBER == first * 1000000 + second * 1000 + third);
+}
+
+/* The sizes that programs of one soname agree on. tests/exports compares the fields. */
+static void test_sizes(void)
+{
+	CHECK(sizeof(struct strm_pool) == 16 && sizeof(struct strm_msg) == 16);
+	CHECK(sizeof(struct strm_config) == 48 && sizeof(struct strm_class_spec) == 8 && sizeof(struct strm_queue_spec) == 16);
+	CHECK(sizeof(struct strm_census) == 12 && sizeof(struct strm_class_info) == 12 && sizeof(struct strm_block_info) == 20);
+	CHECK(sizeof(struct strm_queue_info) == 20 && sizeof(struct strm_band_info) == 12);
+	CHECK(sizeof(struct strm_marks) == 8 && sizeof(struct strm_wish) == 8);
+}
+
+#ifdef __cplusplus
+/* In C++ a struct needs no `struct`, not even one whose name a call has. */
+static void test_without_struct(void)
+{
+	strm_pool pool = opened(4);
+	strm_census census;
+	strm_class_info info;
+	strm_queue_info queue;
+	strm_band_info band;
+	int (*take)(strm_pool *, strm_census *) = &strm_census_;
+
+	ANSWERS(strm_census(&pool, &census), STRM_OK);
+	ANSWERS(take(&pool, &census), STRM_OK);
+	ANSWERS(strm_class_info(&pool, 0, &info), STRM_OK);
+	ANSWERS(strm_queue_info(&pool, 0, &queue), STRM_OK);
+	ANSWERS(strm_band_info(&pool, 0, 0, &band), STRM_OK);
+	CHECK(census.free == 4 && info.size == 16 && queue.msgs == 0 && band.bytes == 0);
+	ANSWERS(strm_close(&pool), STRM_OK);
+}
+#endif
+
 /* ---- wishes, what there is, texts */
 
 static void test_wishes(void)
@@ -677,9 +769,11 @@ static void test_texts(void)
 		size_t whole = strm_text(code, NULL, 0);
 
 		CHECK(whole > 0 && whole < sizeof text && strm_text(code, text, sizeof text) == whole && strlen(text) == whole);
+		CHECK(strcmp(strm_error(code), text) == 0);
 		whole = strm_name(code, NULL, 0);
 		CHECK(strm_name(code, text, sizeof text) == whole && strlen(text) == whole);
 	}
+	CHECK(strcmp(strm_error(INT_MIN), "no such code") == 0 && strcmp(strm_error(INT_MAX), "no such code") == 0);
 	CHECK(strm_text(15, text, sizeof text) == 12 && strcmp(text, "no such code") == 0);
 	CHECK(strm_name(15, text, sizeof text) == 0 && text[0] == 0);
 	text[3] = text[4] = '.';
@@ -707,6 +801,13 @@ int main(void)
 	test_flush();
 	test_flow_control();
 	test_enabling();
+	test_names();
+	test_failed();
+	test_version();
+	test_sizes();
+#ifdef __cplusplus
+	test_without_struct();
+#endif
 	test_wishes();
 	test_classes();
 	test_texts();

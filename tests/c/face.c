@@ -45,6 +45,13 @@ static struct reply given(struct face *face, int code, int reg, const struct str
 	return reply_of(DONE);
 }
 
+/* A call that left nothing must say so, by the name of no message. */
+static void left_nothing(struct face *face, const struct strm_msg *rest)
+{
+	if (!strm_is_no_msg(*rest))
+		face->broken = 1;
+}
+
 /* Empties a register whose message was handed over. */
 static struct reply spent(struct face *face, int code, int reg)
 {
@@ -98,8 +105,7 @@ static struct reply first_freed(struct face *face, const struct call *call)
 	memset(&rest, UNTOUCHED, sizeof rest);
 	code = strm_freeb(&face->pool, face->registers[call->x], &rest);
 	if (code == STRM_NONE) {
-		if (!is_untouched(&rest, sizeof rest))
-			face->broken = 1;
+		left_nothing(face, &rest);
 		face->holds[call->x] = 0;
 		return reply_of(DONE);
 	}
@@ -189,7 +195,13 @@ static struct reply apply_giving(struct face *face, const struct call *call, str
 	case DUPMSG: code = strm_dupmsg(pool, x, &name); break;
 	case COPYB: code = strm_copyb(pool, x, &name); break;
 	case COPYMSG: code = strm_copymsg(pool, x, &name); break;
-	case UNLINKB: code = strm_unlinkb(pool, x, &name); break;
+	case UNLINKB:
+		code = strm_unlinkb(pool, x, &name);
+		if (code == STRM_NONE) {
+			left_nothing(face, &name);
+			return coded(face, code);
+		}
+		break;
 	case GETQ: code = strm_getq(pool, call->queue, &name); break;
 	default: code = strm_rmvq(pool, call->queue, call->place, &name); break;
 	}

@@ -95,13 +95,15 @@ static struct scene scene_of(uint32_t id)
 static void try_name(struct scene *scene, struct strm_msg bad)
 {
 	struct strm_pool *pool = &scene->pool;
-	struct strm_msg out = STRM_NO_MSG, rest = STRM_NO_MSG;
+	struct strm_msg out, rest, untouched;
 	struct strm_block_info block;
 	struct seen before, after;
 	uint32_t number = 77;
 	size_t count = 77;
 	char room[4];
 
+	memset(&untouched, 0xA5, sizeof untouched);
+	out = rest = untouched;
 	look(pool, &scene->held, 1, &before);
 	CHECK(before.count <= MOST_SEEN);
 	ANSWERS(strm_has(pool, bad, &number), STRM_OK);
@@ -132,7 +134,7 @@ static void try_name(struct scene *scene, struct strm_msg bad)
 	ANSWERS(strm_insq(pool, 0, 0, bad), STRM_INVALID);
 	/* a name comes before a missing queue */
 	ANSWERS(strm_putq(pool, 2, bad), STRM_INVALID);
-	CHECK(out.stamp == 0 && rest.stamp == 0 && number == 77 && count == 77);
+	CHECK(same_name(out, untouched) && same_name(rest, untouched) && number == 77 && count == 77);
 	look(pool, &scene->held, 1, &after);
 	CHECK(memcmp(&before, &after, sizeof before) == 0);
 	CHECK(has_bytes(pool, scene->held, "held"));

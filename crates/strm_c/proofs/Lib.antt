@@ -2,5 +2,4 @@ pub mod Machine
 pub mod Steps
 pub mod Meaning
 pub mod AsBox
-pub mod Exported
 pub mod Words

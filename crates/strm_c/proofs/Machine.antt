@@ -1,6 +1,6 @@
 -- Words of the machine and its logic, for the proofs by hand of this crate.
 pub use mir.Syntax.{Fn, Body, place, copy, assign, rv_opd, seq, return, Args, Dict, a_type, dcons, dnil}
-pub use mir.Val.{Val, vint, vptr, has_ty, WT, vstruct, of_list}
+pub use mir.Val.{Val, vptr, has_ty, WT, vstruct, of_list}
 pub use mir.MapTy.{inst_fn}
 pub use mir.Raw.{raw as bare}
 pub use base.Logic.{SProp, emp, id⊢, never, fst∗, ent}

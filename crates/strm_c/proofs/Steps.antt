@@ -1,5 +1,5 @@
 -- Steps of a walk through code, for the proofs by hand of this crate.
-pub use types.Kit.{‵, raw, ◌⊛◌, ◌$◌, ◌∵◌, !, qed, by, move, drop, use0, use1, split, fjoin, feq_i, prop, regoal, rewrite, fsplit, use2, feq_l, flt_i, Item, at_ret, some, later, join, split3, pick, suffices, await, done, fpick}
+pub use types.Kit.{‵, raw, ◌⊛◌, ◌$◌, ◌∵◌, !, qed, by, move, drop, use0, use1, split, fjoin, feq_i, prop, regoal, rewrite, fsplit, feq_l, Item, at_ret, some, later, join, split3, pick, suffices, await, done, fpick}
 pub use types.Logic.{sem, Logic}
 pub use types.Part.{agg, whole, sub}
 pub use types.Run.{lit, no_more, and_then, returns, enter, stop, fld, of_opd, first, blocks, exec}

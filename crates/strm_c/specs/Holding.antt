@@ -1,7 +1,7 @@
--- What a handle owns in memory: the box of its pool, if it is open. No public clause cites this module.
-use Rattle.std.specs.Prelude.{ℕ, Bool, ◌==◌, Option, None, Some, is_some}
+-- What a handle and its pointer own in memory. No clause of an export cites this module.
+use Rattle.std.specs.Prelude.{ℕ, Bool, ◌==◌, Option, None, Some}
 use Rattle.std.specs.Coded.{coded_option}
-use base.Fml.{Fml, ftrue, feq, fsep}
+use base.Fml.{Fml, ftrue}
 use base.Stored.{Coded}
 use denote.RawPtr.{Ptr}
 use Rattle.std.specs.Box.Ownership.{box_owns}
@@ -21,13 +21,10 @@ is_open state = state == open_state
 abbrev pub heap : Global
 heap = record { memory = record { seal = tt } }
 
+-- what a pointer owns: the box of its pool, if it has one
 abbrev pub held : Ptr → Option the_row.Denot → Fml
-held at None = ftrue
-held at (Some v) = box_owns (ghosts.dealloc_token heap) the_row at v
-
--- a handle owns the box at this place exactly if its state is that of an open one
-abbrev pub owned : Ptr → ℕ → Option the_row.Denot → Fml
-owned at state v = fsep (feq Bool (is_open state) (is_some v)) (held at v)
+held raw None = ftrue
+held raw (Some v) = box_owns (ghosts.dealloc_token heap) the_row raw v
 
 abbrev pub coded : Coded (Option the_row.Denot)
 coded = coded_option the_row.coded

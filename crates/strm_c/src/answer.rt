@@ -14,33 +14,6 @@ const NO_NAME: Name = Name {
     stamp: 0,
 };
 
-// Takes the pool out of a handle, for the rest of a function that returns a code. If the handle is not open, the function
-// returns `NotOpen`.
-macro_rules! opened {
-    ($alloc:expr, $pool:expr) => {{
-        let Some(named) = $pool.take($alloc) else {
-            return Code::NotOpen.number();
-        };
-        named
-    }};
-}
-
-pub(crate) use opened;
-
-// What a number from C means, in a function that has taken the pool out of its handle. If it means nothing, the function
-// returns `BadArgument`.
-macro_rules! ranged {
-    ($meaning:expr, $pool:expr, $named:expr) => {{
-        let Some(meaning) = $meaning else {
-            $pool.hold($named);
-            return Code::BadArgument.number();
-        };
-        meaning
-    }};
-}
-
-pub(crate) use ranged;
-
 // An answer with a code for its fault.
 pub(crate) fn coded<T>(answer: Result<T, Fault>) -> Result<T, Code>
     ensures { result ≡ answer_of_result Ok answer }

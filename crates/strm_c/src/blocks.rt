@@ -11,37 +11,30 @@ ghost use Rattle.strm_c.specs.Codes.{answer_of_result};
 ghost use Rattle.strm_c.specs.Exports.{Asks, CallsNamed, Ranged, bytes_read};
 ghost use Rattle.strm_c.specs.InC.{band_of, block_in_c, flag, type_of};
 
-use crate::answer::{coded, number, opened, put, ranged};
+use crate::answer::{coded, number, put};
 use crate::code::Code;
 use crate::handle::StrmPool;
 use crate::layout::StrmBlockInfo;
 use crate::numbers::{band_of, type_of};
-use std::alloc::Global;
 use strm_named::Name;
 
 /// Puts bytes at the write place of a block. As [`NamedPool::write`] of strm_named.
 #[unsafe(no_mangle)]
-pub extern "C" fn strm_c_write(
-    alloc: Global,
-    pool: &mut StrmPool,
-    msg: Name,
-    place: u32,
-    bytes: &[u8],
-) -> i32
+pub extern "C" fn strm_c_write(pool: &mut StrmPool, msg: Name, place: u32, bytes: &[u8]) -> i32
     ensures { CallsNamed no_message Ok (λ v. on_name v msg
         (on_arena v.pool (blocks.write msg.head place bytes.now v.pool.arena)))
-        [] pool.old.named pool.new.named result tt tt }
+        [] pool.old.at.named pool.new.at.named result tt tt }
 {
-    let mut named = opened!(alloc, pool);
+    let Some(named) = pool.named_mut() else {
+        return Code::NotOpen.number();
+    };
     let answer = named.write(msg, place, bytes);
-    pool.hold(named);
     number(coded(answer))
 }
 
 /// Copies bytes of a message into a buffer, and stores their number in `count`. As [`NamedPool::read`] of strm_named.
 #[unsafe(no_mangle)]
 pub extern "C" fn strm_c_read(
-    alloc: Global,
     pool: &mut StrmPool,
     msg: Name,
     at: u32,
@@ -50,83 +43,80 @@ pub extern "C" fn strm_c_read(
 ) -> i32
     ensures count { Asks (λ v. answer_of_result Ok (if_valid v msg
         (min (length into.old) (size_of (message_at v.pool.arena msg.head) - at))))
-        pool.old.named pool.new.named result count.old count.new }
-    ensures bytes { into.new ≡ bytes_read pool.old.named msg at into.old }
+        pool.old.at.named pool.new.at.named result count.old count.new }
+    ensures bytes { into.new ≡ bytes_read pool.old.at.named msg at into.old }
 {
-    let named = opened!(alloc, pool);
+    let Some(named) = pool.named_mut() else {
+        return Code::NotOpen.number();
+    };
     let answer = named.read(msg, at, into);
-    pool.hold(named);
     put(coded(answer), count)
 }
 
 /// Gives the data block of a block a type. As [`NamedPool::settype`] of strm_named. A number of no type is a `BadArgument`.
 #[unsafe(no_mangle)]
-pub extern "C" fn strm_c_settype(
-    alloc: Global,
-    pool: &mut StrmPool,
-    msg: Name,
-    place: u32,
-    kind: u32,
-) -> i32
+pub extern "C" fn strm_c_settype(pool: &mut StrmPool, msg: Name, place: u32, kind: u32) -> i32
     ensures { Ranged (type_of kind) (λ t. CallsNamed no_message Ok
         (λ v. on_name v msg (on_arena v.pool (blocks.settype msg.head place t v.pool.arena))) [])
-        pool.old.named pool.new.named result tt tt }
+        pool.old.at.named pool.new.at.named result tt tt }
 {
-    let mut named = opened!(alloc, pool);
-    let kind = ranged!(type_of(kind), pool, named);
+    let Some(named) = pool.named_mut() else {
+        return Code::NotOpen.number();
+    };
+    let Some(kind) = type_of(kind) else {
+        return Code::BadArgument.number();
+    };
     let answer = named.settype(msg, place, kind);
-    pool.hold(named);
     number(coded(answer))
 }
 
 /// Gives a message's first block a band. As [`NamedPool::setband`] of strm_named. A band above 255 is a `BadArgument`.
 #[unsafe(no_mangle)]
-pub extern "C" fn strm_c_setband(alloc: Global, pool: &mut StrmPool, msg: Name, band: u32) -> i32
+pub extern "C" fn strm_c_setband(pool: &mut StrmPool, msg: Name, band: u32) -> i32
     ensures { Ranged (band_of band) (λ b. CallsNamed no_message Ok
         (λ v. on_name v msg (given_nothing (with_arena v.pool (blocks.setband msg.head b v.pool.arena)))) [])
-        pool.old.named pool.new.named result tt tt }
+        pool.old.at.named pool.new.at.named result tt tt }
 {
-    let mut named = opened!(alloc, pool);
-    let band = ranged!(band_of(band), pool, named);
+    let Some(named) = pool.named_mut() else {
+        return Code::NotOpen.number();
+    };
+    let Some(band) = band_of(band) else {
+        return Code::BadArgument.number();
+    };
     let answer = named.setband(msg, band);
-    pool.hold(named);
     number(coded(answer))
 }
 
 /// Stores the number of a message's bytes in `bytes`. As [`NamedPool::size`] of strm_named.
 #[unsafe(no_mangle)]
-pub extern "C" fn strm_c_size(alloc: Global, pool: &mut StrmPool, msg: Name, bytes: &mut u32) -> i32
+pub extern "C" fn strm_c_size(pool: &mut StrmPool, msg: Name, bytes: &mut u32) -> i32
     ensures { Asks (λ v. answer_of_result Ok (if_valid v msg (size_of (message_at v.pool.arena msg.head))))
-        pool.old.named pool.new.named result bytes.old bytes.new }
+        pool.old.at.named pool.new.at.named result bytes.old bytes.new }
 {
-    let named = opened!(alloc, pool);
+    let Some(named) = pool.named_mut() else {
+        return Code::NotOpen.number();
+    };
     let answer = named.size(msg);
-    pool.hold(named);
     put(coded(answer), bytes)
 }
 
 /// Stores the number of a message's bytes in M_DATA blocks in `bytes`. As [`NamedPool::msgdsize`] of strm_named.
 #[unsafe(no_mangle)]
-pub extern "C" fn strm_c_msgdsize(
-    alloc: Global,
-    pool: &mut StrmPool,
-    msg: Name,
-    bytes: &mut u32,
-) -> i32
+pub extern "C" fn strm_c_msgdsize(pool: &mut StrmPool, msg: Name, bytes: &mut u32) -> i32
     ensures { Asks (λ v. answer_of_result Ok (if_valid v msg
         (data_size_of v.pool.arena.store (message_at v.pool.arena msg.head))))
-        pool.old.named pool.new.named result bytes.old bytes.new }
+        pool.old.at.named pool.new.at.named result bytes.old bytes.new }
 {
-    let named = opened!(alloc, pool);
+    let Some(named) = pool.named_mut() else {
+        return Code::NotOpen.number();
+    };
     let answer = named.msgdsize(msg);
-    pool.hold(named);
     put(coded(answer), bytes)
 }
 
 /// Stores what a block is like in `block`. As [`NamedPool::block`] of strm_named.
 #[unsafe(no_mangle)]
 pub extern "C" fn strm_c_block(
-    alloc: Global,
     pool: &mut StrmPool,
     msg: Name,
     place: u32,
@@ -134,21 +124,23 @@ pub extern "C" fn strm_c_block(
 ) -> i32
     ensures { Asks (λ v. answer_of_result (λ b. Ok (block_in_c b))
         (answer_told no_message v (on_name v msg (on_arena v.pool (blocks.block msg.head place v.pool.arena)))))
-        pool.old.named pool.new.named result block.old block.new }
+        pool.old.at.named pool.new.at.named result block.old block.new }
 {
-    let named = opened!(alloc, pool);
+    let Some(named) = pool.named_mut() else {
+        return Code::NotOpen.number();
+    };
     let answer = named.block(msg, place);
-    pool.hold(named);
     put(coded(answer).map(StrmBlockInfo::of), block)
 }
 
 /// Stores 1 in `yes` if a name is valid, otherwise 0. As [`NamedPool::has`] of strm_named.
 #[unsafe(no_mangle)]
-pub extern "C" fn strm_c_has(alloc: Global, pool: &mut StrmPool, msg: Name, yes: &mut u32) -> i32
-    ensures { Asks (λ v. Ok (flag (is_valid v msg))) pool.old.named pool.new.named result yes.old yes.new }
+pub extern "C" fn strm_c_has(pool: &mut StrmPool, msg: Name, yes: &mut u32) -> i32
+    ensures { Asks (λ v. Ok (flag (is_valid v msg))) pool.old.at.named pool.new.at.named result yes.old yes.new }
 {
-    let named = opened!(alloc, pool);
+    let Some(named) = pool.named_mut() else {
+        return Code::NotOpen.number();
+    };
     let answer = named.has(msg);
-    pool.hold(named);
     put(Ok(u32::from(answer)), yes)
 }

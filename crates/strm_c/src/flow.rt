@@ -7,38 +7,33 @@ ghost use Rattle.strm_c.specs.Codes.{any_or_nothing, answer_of_refusable};
 ghost use Rattle.strm_c.specs.Exports.{Asks, DoesOnPool, Ranged, Takes};
 ghost use Rattle.strm_c.specs.InC.{band_of, flag, marks_in_c, capped_number};
 
-use crate::answer::{coded_refusal, number, opened, present, put, ranged};
+use crate::answer::{coded_refusal, number, present, put};
 use crate::code::Code;
 use crate::handle::StrmPool;
 use crate::layout::StrmMarks;
 use crate::numbers::{band_of, capped_number};
-use std::alloc::Global;
 
 /// Stores 1 in `yes` if a band has room at the target of a queue, otherwise 0. As [`NamedPool::bcanput`] of strm_named. A band
 /// above 255 is a `BadArgument`.
 #[unsafe(no_mangle)]
-pub extern "C" fn strm_c_bcanput(
-    alloc: Global,
-    pool: &mut StrmPool,
-    queue: u32,
-    band: u32,
-    yes: &mut u32,
-) -> i32
+pub extern "C" fn strm_c_bcanput(pool: &mut StrmPool, queue: u32, band: u32, yes: &mut u32) -> i32
     ensures { Ranged (band_of band) (λ b. DoesOnPool (λ y. Ok (flag y))
         (λ p. on_queues p (queues.bcanput (capped_number queue) b (queued_blocks_of p))))
-        pool.old.named pool.new.named result yes.old yes.new }
+        pool.old.at.named pool.new.at.named result yes.old yes.new }
 {
-    let mut named = opened!(alloc, pool);
-    let band = ranged!(band_of(band), pool, named);
+    let Some(named) = pool.named_mut() else {
+        return Code::NotOpen.number();
+    };
+    let Some(band) = band_of(band) else {
+        return Code::BadArgument.number();
+    };
     let answer = named.bcanput(capped_number(queue), band);
-    pool.hold(named);
     put(coded_refusal(answer).map(u32::from), yes)
 }
 
 /// Sets both water marks of a band. As [`NamedPool::strqset`] of strm_named. A band above 255 is a `BadArgument`.
 #[unsafe(no_mangle)]
 pub extern "C" fn strm_c_strqset(
-    alloc: Global,
     pool: &mut StrmPool,
     queue: u32,
     band: u32,
@@ -47,19 +42,21 @@ pub extern "C" fn strm_c_strqset(
 ) -> i32
     ensures { Ranged (band_of band) (λ b. DoesOnPool Ok
         (λ p. on_queues p (queues.strqset (capped_number queue) b hiwat lowat (queued_blocks_of p))))
-        pool.old.named pool.new.named result tt tt }
+        pool.old.at.named pool.new.at.named result tt tt }
 {
-    let mut named = opened!(alloc, pool);
-    let band = ranged!(band_of(band), pool, named);
+    let Some(named) = pool.named_mut() else {
+        return Code::NotOpen.number();
+    };
+    let Some(band) = band_of(band) else {
+        return Code::BadArgument.number();
+    };
     let answer = named.strqset(capped_number(queue), band, hiwat, lowat);
-    pool.hold(named);
     number(coded_refusal(answer))
 }
 
 /// Stores the water marks of a band in `marks`. As [`Pool::strqget`] of strm_pool. A band above 255 is a `BadArgument`.
 #[unsafe(no_mangle)]
 pub extern "C" fn strm_c_strqget(
-    alloc: Global,
     pool: &mut StrmPool,
     queue: u32,
     band: u32,
@@ -68,83 +65,86 @@ pub extern "C" fn strm_c_strqget(
     ensures { Ranged (band_of band) (λ b. Asks
         (λ v. answer_of_refusable (λ m. Ok (marks_in_c m))
         (answer_of (queues.strqget (capped_number queue) b (queued_blocks_of v.pool)))))
-        pool.old.named pool.new.named result marks.old marks.new }
+        pool.old.at.named pool.new.at.named result marks.old marks.new }
 {
-    let named = opened!(alloc, pool);
-    let band = ranged!(band_of(band), pool, named);
+    let Some(named) = pool.named_mut() else {
+        return Code::NotOpen.number();
+    };
+    let Some(band) = band_of(band) else {
+        return Code::BadArgument.number();
+    };
     let answer = named.pool().strqget(capped_number(queue), band);
-    pool.hold(named);
     put(coded_refusal(answer).map(StrmMarks::of), marks)
 }
 
 /// Puts a queue at the end of the run list, unless it is on the list or has no service procedure. As [`NamedPool::qenable`] of
 /// strm_named.
 #[unsafe(no_mangle)]
-pub extern "C" fn strm_c_qenable(alloc: Global, pool: &mut StrmPool, queue: u32) -> i32
+pub extern "C" fn strm_c_qenable(pool: &mut StrmPool, queue: u32) -> i32
     ensures { DoesOnPool Ok (λ p. on_queues p (queues.qenable (capped_number queue) (queued_blocks_of p)))
-        pool.old.named pool.new.named result tt tt }
+        pool.old.at.named pool.new.at.named result tt tt }
 {
-    let mut named = opened!(alloc, pool);
+    let Some(named) = pool.named_mut() else {
+        return Code::NotOpen.number();
+    };
     let answer = named.qenable(capped_number(queue));
-    pool.hold(named);
     number(coded_refusal(answer))
 }
 
 /// Switches enabling of a queue off. As [`NamedPool::noenable`] of strm_named.
 #[unsafe(no_mangle)]
-pub extern "C" fn strm_c_noenable(alloc: Global, pool: &mut StrmPool, queue: u32) -> i32
+pub extern "C" fn strm_c_noenable(pool: &mut StrmPool, queue: u32) -> i32
     ensures { DoesOnPool Ok (λ p. on_queues p (queues.noenable (capped_number queue) (queued_blocks_of p)))
-        pool.old.named pool.new.named result tt tt }
+        pool.old.at.named pool.new.at.named result tt tt }
 {
-    let mut named = opened!(alloc, pool);
+    let Some(named) = pool.named_mut() else {
+        return Code::NotOpen.number();
+    };
     let answer = named.noenable(capped_number(queue));
-    pool.hold(named);
     number(coded_refusal(answer))
 }
 
 /// Switches enabling of a queue on again. As [`NamedPool::enableok`] of strm_named.
 #[unsafe(no_mangle)]
-pub extern "C" fn strm_c_enableok(alloc: Global, pool: &mut StrmPool, queue: u32) -> i32
+pub extern "C" fn strm_c_enableok(pool: &mut StrmPool, queue: u32) -> i32
     ensures { DoesOnPool Ok (λ p. on_queues p (queues.enableok (capped_number queue) (queued_blocks_of p)))
-        pool.old.named pool.new.named result tt tt }
+        pool.old.at.named pool.new.at.named result tt tt }
 {
-    let mut named = opened!(alloc, pool);
+    let Some(named) = pool.named_mut() else {
+        return Code::NotOpen.number();
+    };
     let answer = named.enableok(capped_number(queue));
-    pool.hold(named);
     number(coded_refusal(answer))
 }
 
 /// Takes the first queue off the run list, and stores its number in `queue`. As [`NamedPool::next_service`] of strm_named.
 /// Returns `Nothing` if the list is empty.
 #[unsafe(no_mangle)]
-pub extern "C" fn strm_c_next_service(alloc: Global, pool: &mut StrmPool, queue: &mut u32) -> i32
+pub extern "C" fn strm_c_next_service(pool: &mut StrmPool, queue: &mut u32) -> i32
     ensures { Takes any_or_nothing (λ p. (
       (queues.next_service (queued_blocks_of p)).0,
       with_queued p
           (queues.next_service (queued_blocks_of p)).1,
     ))
-        pool.old.named pool.new.named result queue.old queue.new }
+        pool.old.at.named pool.new.at.named result queue.old queue.new }
 {
-    let mut named = opened!(alloc, pool);
+    let Some(named) = pool.named_mut() else {
+        return Code::NotOpen.number();
+    };
     let answer = named.next_service();
-    pool.hold(named);
     put(present(answer).map(u32::from), queue)
 }
 
 /// Stores the number of the queue at a place of the run list in `queue`. As [`Pool::run_at`] of strm_pool. Returns
 /// `Nothing` if the list is shorter.
 #[unsafe(no_mangle)]
-pub extern "C" fn strm_c_run_at(
-    alloc: Global,
-    pool: &mut StrmPool,
-    place: u32,
-    queue: &mut u32,
-) -> i32
+pub extern "C" fn strm_c_run_at(pool: &mut StrmPool, place: u32, queue: &mut u32) -> i32
     ensures { Asks (λ v. any_or_nothing (queues.run_at place (queued_blocks_of v.pool)))
-        pool.old.named pool.new.named result queue.old queue.new }
+        pool.old.at.named pool.new.at.named result queue.old queue.new }
 {
-    let named = opened!(alloc, pool);
+    let Some(named) = pool.named_mut() else {
+        return Code::NotOpen.number();
+    };
     let answer = named.pool().run_at(place);
-    pool.hold(named);
     put(present(answer).map(u32::from), queue)
 }

@@ -1,11 +1,13 @@
 //! The handle of a pool, which is a variable of a program in C.
-ghost use Rattle.std.specs.Prelude.{◌≡◌, None, Option, Some, IsSome, is_some, option_map};
-ghost use Rattle.strm_named.specs.declared.named_pool.NamedPool.{NamedPool};
-ghost use Rattle.strm_c.specs.Holding.{coded, is_open, owned};
+ghost use Rattle.std.specs.Prelude.{◌≡◌, None, Some, is_some, option_map};
+ghost use Rattle.std.specs.Borrow.{sem};
+ghost use Rattle.std.specs.Option.{option_copied_mut};
+ghost use Rattle.strm_c.specs.Holding.{is_open};
 
 use crate::parts::Parts;
+use crate::pointer::PoolPointer;
 use std::alloc::Global;
-use std::marker::Model;
+use std::marker::Send;
 use std::mem::replace;
 use strm_named::NamedPool;
 
@@ -17,81 +19,71 @@ const OPEN: usize = 0x5354_524D;
 #[repr(C)]
 #[derive(Drop)]
 pub struct StrmPool {
-    at: *mut u8,
+    /// Owns the pool if the handle is open, otherwise nothing.
+    pub at: PoolPointer,
     state: usize,
-    pub ghost named: { Option NamedPool } by { coded },
-}
-
-impl Model for StrmPool {
-    ghost also_owns = { λ h. owned h.at h.state h.named };
+    ghost opened: { is_open state ≡ is_some at.named },
 }
 
 impl StrmPool {
+    ghost use Rattle.strm_c.specs.Lending.{LendsFromHandle};
+
     // A handle that is not open.
     fn closed() -> StrmPool
-        ensures { result.named ≡ None }
+        ensures { result.at.named ≡ None }
     {
         StrmPool {
-            at: std::ptr::null_mut(),
+            at: PoolPointer::none(),
             state: 0,
         }
     }
 
-    // An open handle, which owns the box of these parts.
-    fn of(parts: Parts<NamedPool, Global>) -> StrmPool
-        ensures { result.named ≡ Some parts.value }
+    /// The pool, if the handle is open. It stays where it is.
+    pub fn named_mut(&mut self) -> Option<&mut NamedPool>
+        ensures* writes_back { sem 𝓛 (LendsFromHandle self.entry result) }
+        ensures value { option_copied_mut result ≡ self.old.at.named }
     {
-        let Parts { ptr, alloc: _ } = parts;
-        StrmPool {
-            at: ptr as *mut u8,
-            state: OPEN,
-        }
-    }
-
-    // The handle's state, and the handle.
-    fn with_state(self) -> (usize, StrmPool)
-        ensures { (is_open result.0 ≡ is_some self.named) × (result.1 ≡ self) }
-    {
-        let StrmPool { at, state } = self;
-        (state, StrmPool { at, state })
-    }
-
-    // The parts of the box that the handle owns.
-    fn into_parts(self, alloc: Global) -> Parts<NamedPool, Global>
-        requires { IsSome self.named }
-        ensures { Some result.value ≡ self.named }
-    {
-        let StrmPool { at, state: _ } = self;
-        Parts {
-            ptr: at as *mut NamedPool,
-            alloc,
-        }
-    }
-
-    // The box that the handle owns, if it is open.
-    fn into_box(self, alloc: Global) -> Option<Box<NamedPool>>
-        ensures { option_map (λ b. b.value) result ≡ self.named }
-    {
-        let (state, handle) = self.with_state();
-        if state == OPEN {
-            Some(handle.into_parts(alloc).into_box())
+        if self.state == OPEN {
+            Some(self.at.named_mut())
         } else {
             None
         }
     }
 
+    /// Law: a handle can go to another thread. Returns it.
+    pub fn can_be_sent(self) -> StrmPool
+        ensures { result ≡ self }
+    {
+        sendable(self)
+    }
+
     /// Takes the pool out and closes the handle, if it is open.
     pub fn take(&mut self, alloc: Global) -> Option<Box<NamedPool>>
-        ensures taken { option_map (λ b. b.value) result ≡ self.old.named }
-        ensures closed { self.new.named ≡ None }
+        ensures taken { option_map (λ b. b.value) result ≡ self.old.at.named }
+        ensures closed { self.new.at.named ≡ None }
     {
-        replace(self, StrmPool::closed()).into_box(alloc)
+        let StrmPool { at, state } = replace(self, StrmPool::closed());
+        if state == OPEN {
+            Some(at.into_parts(alloc).into_box())
+        } else {
+            None
+        }
     }
 
     /// Makes the handle open, with this pool. A pool that it had before is forgotten, and its memory is lost.
     pub fn hold(&mut self, named: Box<NamedPool>)
-        ensures { self.new.named ≡ Some named.value }
+        ensures { self.new.at.named ≡ Some named.value }
     {
-        *self = StrmPool::of(Parts::of(named));
+        *self = StrmPool {
+            at: PoolPointer::of(Parts::of(named)),
+            state: OPEN,
+        };
     }
+}
+
+// A value that can go to another thread.
+fn sendable<T: Send>(value: T) -> T
+    ensures { result ≡ value }
+{
+    value
 }

@@ -9,41 +9,37 @@ ghost use Rattle.strm_c.specs.Codes.{any_or_nothing};
 ghost use Rattle.strm_c.specs.Exports.{CallsNamed};
 ghost use Rattle.strm_c.specs.InC.{both};
 
-use crate::answer::{coded, coded_any, coded_both, number, opened, put};
+use crate::answer::{coded, coded_any, coded_both, number, put};
 use crate::code::Code;
 use crate::handle::StrmPool;
-use std::alloc::Global;
 use strm_named::Name;
 
 /// Appends a message to another. As [`NamedPool::linkb`] of strm_named.
 #[unsafe(no_mangle)]
-pub extern "C" fn strm_c_linkb(alloc: Global, pool: &mut StrmPool, msg: Name, tail: Name) -> i32
+pub extern "C" fn strm_c_linkb(pool: &mut StrmPool, msg: Name, tail: Name) -> i32
     ensures { CallsNamed no_message Ok (λ v. on_names v msg tail
         (given_nothing (with_arena v.pool (blocks.linkb msg.head tail.head v.pool.arena)))) (tail.head ∷ [])
-        pool.old.named pool.new.named result tt tt }
+        pool.old.at.named pool.new.at.named result tt tt }
 {
-    let mut named = opened!(alloc, pool);
+    let Some(named) = pool.named_mut() else {
+        return Code::NotOpen.number();
+    };
     let answer = named.linkb(msg, tail);
-    pool.hold(named);
     number(coded(answer))
 }
 
 /// Makes the blocks after the first a message, and stores its name in `rest`. As [`NamedPool::unlinkb`] of strm_named. Returns
 /// `Nothing` if there are no such blocks.
 #[unsafe(no_mangle)]
-pub extern "C" fn strm_c_unlinkb(
-    alloc: Global,
-    pool: &mut StrmPool,
-    msg: Name,
-    rest: &mut Name,
-) -> i32
+pub extern "C" fn strm_c_unlinkb(pool: &mut StrmPool, msg: Name, rest: &mut Name) -> i32
     ensures { CallsNamed any_message any_or_nothing
         (λ v. on_name v msg (on_arena v.pool (Ok (blocks.unlinkb msg.head v.pool.arena)))) []
-        pool.old.named pool.new.named result rest.old rest.new }
+        pool.old.at.named pool.new.at.named result rest.old rest.new }
 {
-    let mut named = opened!(alloc, pool);
+    let Some(named) = pool.named_mut() else {
+        return Code::NotOpen.number();
+    };
     let answer = named.unlinkb(msg);
-    pool.hold(named);
     put(coded_any(answer), rest)
 }
 
@@ -51,7 +47,6 @@ pub extern "C" fn strm_c_unlinkb(
 /// if there are none. As [`NamedPool::rmvb`] of strm_named.
 #[unsafe(no_mangle)]
 pub extern "C" fn strm_c_rmvb(
-    alloc: Global,
     pool: &mut StrmPool,
     msg: Name,
     place: u32,
@@ -60,40 +55,45 @@ pub extern "C" fn strm_c_rmvb(
 ) -> i32
     ensures { CallsNamed two_messages both (λ v. on_name v msg
         (on_arena v.pool (blocks.rmvb msg.head place v.pool.arena)))
-        (msg.head ∷ []) pool.old.named pool.new.named result (block.old, rest.old) (block.new, rest.new) }
+        (msg.head ∷ []) pool.old.at.named pool.new.at.named result (block.old, rest.old) (block.new, rest.new) }
 {
-    let mut named = opened!(alloc, pool);
-    let answer = named.rmvb(msg, place);
-    pool.hold(named);
-    let mut parts = (*block, *rest);
-    let number = put(coded_both(answer), &mut parts);
-    *block = parts.0;
-    *rest = parts.1;
-    number
+    let Some(named) = pool.named_mut() else {
+        return Code::NotOpen.number();
+    };
+    match coded_both(named.rmvb(msg, place)) {
+        Ok((first, others)) => {
+            *block = first;
+            *rest = others;
+            0
+        }
+        Err(code) => code.number(),
+    }
 }
 
 /// Removes bytes at the head or the tail of a message. As [`NamedPool::adjmsg`] of strm_named.
 #[unsafe(no_mangle)]
-pub extern "C" fn strm_c_adjmsg(alloc: Global, pool: &mut StrmPool, msg: Name, count: i32) -> i32
+pub extern "C" fn strm_c_adjmsg(pool: &mut StrmPool, msg: Name, count: i32) -> i32
     ensures { CallsNamed no_message Ok (λ v. on_name v msg
         (on_arena v.pool (trimming.adjmsg msg.head count v.pool.arena))) []
-        pool.old.named pool.new.named result tt tt }
+        pool.old.at.named pool.new.at.named result tt tt }
 {
-    let mut named = opened!(alloc, pool);
+    let Some(named) = pool.named_mut() else {
+        return Code::NotOpen.number();
+    };
     let answer = named.adjmsg(msg, count);
-    pool.hold(named);
     number(coded(answer))
 }
 
 /// Brings bytes of a message into its first block. As [`NamedPool::pullupmsg`] of strm_named.
 #[unsafe(no_mangle)]
-pub extern "C" fn strm_c_pullupmsg(alloc: Global, pool: &mut StrmPool, msg: Name, count: i32) -> i32
+pub extern "C" fn strm_c_pullupmsg(pool: &mut StrmPool, msg: Name, count: i32) -> i32
     ensures { CallsNamed no_message Ok (λ v. on_name v msg
         (on_arena v.pool (trimming.pullupmsg msg.head count v.pool.arena))) []
-        pool.old.named pool.new.named result tt tt }
+        pool.old.at.named pool.new.at.named result tt tt }
 {
-    let mut named = opened!(alloc, pool);
+    let Some(named) = pool.named_mut() else {
+        return Code::NotOpen.number();
+    };
     let answer = named.pullupmsg(msg, count);
-    pool.hold(named);
     number(coded(answer))
 }

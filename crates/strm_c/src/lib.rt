@@ -17,6 +17,7 @@ mod making;
 mod numbers;
 mod opening;
 mod parts;
+mod pointer;
 mod queues;
 mod telling;
 mod texts;
@@ -29,3 +30,4 @@ pub use layout::{
     StrmQueueInfo, StrmQueueSpec, StrmWish,
 };
 pub use parts::Parts;
+pub use pointer::PoolPointer;

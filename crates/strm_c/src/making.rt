@@ -9,132 +9,114 @@ ghost use Rattle.strm_c.specs.Codes.{any_or_nothing};
 ghost use Rattle.strm_c.specs.Exports.{Asks, CallsNamed};
 ghost use Rattle.strm_c.specs.InC.{flag};
 
-use crate::answer::{coded, coded_any, number, opened, put};
+use crate::answer::{coded, coded_any, number, put};
 use crate::code::Code;
 use crate::handle::StrmPool;
-use std::alloc::Global;
 use strm_named::Name;
 
 /// Makes a message for a size, and stores its name in `msg`. As [`NamedPool::allocb`] of strm_named.
 #[unsafe(no_mangle)]
-pub extern "C" fn strm_c_allocb(
-    alloc: Global,
-    pool: &mut StrmPool,
-    size: u32,
-    msg: &mut Name,
-) -> i32
+pub extern "C" fn strm_c_allocb(pool: &mut StrmPool, size: u32, msg: &mut Name) -> i32
     ensures { CallsNamed one_message Ok (λ v. outcome_of (on_arena v.pool (blocks.allocb size v.pool.arena))) []
-        pool.old.named pool.new.named result msg.old msg.new }
+        pool.old.at.named pool.new.at.named result msg.old msg.new }
 {
-    let mut named = opened!(alloc, pool);
+    let Some(named) = pool.named_mut() else {
+        return Code::NotOpen.number();
+    };
     let answer = named.allocb(size);
-    pool.hold(named);
     put(coded(answer), msg)
 }
 
 /// Stores 1 in `yes` if `allocb` would succeed now, otherwise 0. As [`Pool::testb`] of strm_pool.
 #[unsafe(no_mangle)]
-pub extern "C" fn strm_c_testb(alloc: Global, pool: &mut StrmPool, size: u32, yes: &mut u32) -> i32
+pub extern "C" fn strm_c_testb(pool: &mut StrmPool, size: u32, yes: &mut u32) -> i32
     ensures { Asks (λ v. Ok (flag (blocks.testb size v.pool.arena)))
-        pool.old.named pool.new.named result yes.old yes.new }
+        pool.old.at.named pool.new.at.named result yes.old yes.new }
 {
-    let named = opened!(alloc, pool);
+    let Some(named) = pool.named_mut() else {
+        return Code::NotOpen.number();
+    };
     let answer = named.pool().testb(size);
-    pool.hold(named);
     put(Ok(u32::from(answer)), yes)
 }
 
 /// Duplicates a message's first block, and stores the duplicate's name in `copy`. As [`NamedPool::dupb`] of strm_named.
 #[unsafe(no_mangle)]
-pub extern "C" fn strm_c_dupb(alloc: Global, pool: &mut StrmPool, msg: Name, copy: &mut Name) -> i32
+pub extern "C" fn strm_c_dupb(pool: &mut StrmPool, msg: Name, copy: &mut Name) -> i32
     ensures { CallsNamed one_message Ok (λ v. on_name v msg (on_arena v.pool (blocks.dupb msg.head v.pool.arena))) []
-        pool.old.named pool.new.named result copy.old copy.new }
+        pool.old.at.named pool.new.at.named result copy.old copy.new }
 {
-    let mut named = opened!(alloc, pool);
+    let Some(named) = pool.named_mut() else {
+        return Code::NotOpen.number();
+    };
     let answer = named.dupb(msg);
-    pool.hold(named);
     put(coded(answer), copy)
 }
 
 /// Duplicates a message, and stores the duplicate's name in `copy`. As [`NamedPool::dupmsg`] of strm_named.
 #[unsafe(no_mangle)]
-pub extern "C" fn strm_c_dupmsg(
-    alloc: Global,
-    pool: &mut StrmPool,
-    msg: Name,
-    copy: &mut Name,
-) -> i32
+pub extern "C" fn strm_c_dupmsg(pool: &mut StrmPool, msg: Name, copy: &mut Name) -> i32
     ensures { CallsNamed one_message Ok (λ v. on_name v msg (on_arena v.pool (blocks.dupmsg msg.head v.pool.arena))) []
-        pool.old.named pool.new.named result copy.old copy.new }
+        pool.old.at.named pool.new.at.named result copy.old copy.new }
 {
-    let mut named = opened!(alloc, pool);
+    let Some(named) = pool.named_mut() else {
+        return Code::NotOpen.number();
+    };
     let answer = named.dupmsg(msg);
-    pool.hold(named);
     put(coded(answer), copy)
 }
 
 /// Copies a message's first block, and stores the copy's name in `copy`. As [`NamedPool::copyb`] of strm_named.
 #[unsafe(no_mangle)]
-pub extern "C" fn strm_c_copyb(
-    alloc: Global,
-    pool: &mut StrmPool,
-    msg: Name,
-    copy: &mut Name,
-) -> i32
+pub extern "C" fn strm_c_copyb(pool: &mut StrmPool, msg: Name, copy: &mut Name) -> i32
     ensures { CallsNamed one_message Ok (λ v. on_name v msg (on_arena v.pool (blocks.copyb msg.head v.pool.arena))) []
-        pool.old.named pool.new.named result copy.old copy.new }
+        pool.old.at.named pool.new.at.named result copy.old copy.new }
 {
-    let mut named = opened!(alloc, pool);
+    let Some(named) = pool.named_mut() else {
+        return Code::NotOpen.number();
+    };
     let answer = named.copyb(msg);
-    pool.hold(named);
     put(coded(answer), copy)
 }
 
 /// Copies a message, and stores the copy's name in `copy`. As [`NamedPool::copymsg`] of strm_named.
 #[unsafe(no_mangle)]
-pub extern "C" fn strm_c_copymsg(
-    alloc: Global,
-    pool: &mut StrmPool,
-    msg: Name,
-    copy: &mut Name,
-) -> i32
+pub extern "C" fn strm_c_copymsg(pool: &mut StrmPool, msg: Name, copy: &mut Name) -> i32
     ensures { CallsNamed one_message Ok (λ v. on_name v msg (on_arena v.pool (blocks.copymsg msg.head v.pool.arena))) []
-        pool.old.named pool.new.named result copy.old copy.new }
+        pool.old.at.named pool.new.at.named result copy.old copy.new }
 {
-    let mut named = opened!(alloc, pool);
+    let Some(named) = pool.named_mut() else {
+        return Code::NotOpen.number();
+    };
     let answer = named.copymsg(msg);
-    pool.hold(named);
     put(coded(answer), copy)
 }
 
 /// Frees the first block of a message, and stores the name of the others in `rest`. As [`NamedPool::freeb`] of strm_named.
 /// Returns `Nothing` if there are no others.
 #[unsafe(no_mangle)]
-pub extern "C" fn strm_c_freeb(
-    alloc: Global,
-    pool: &mut StrmPool,
-    msg: Name,
-    rest: &mut Name,
-) -> i32
+pub extern "C" fn strm_c_freeb(pool: &mut StrmPool, msg: Name, rest: &mut Name) -> i32
     ensures { CallsNamed any_message any_or_nothing
         (λ v. on_name v msg (on_arena v.pool (Ok (blocks.freeb msg.head v.pool.arena))))
-        (msg.head ∷ []) pool.old.named pool.new.named result rest.old rest.new }
+        (msg.head ∷ []) pool.old.at.named pool.new.at.named result rest.old rest.new }
 {
-    let mut named = opened!(alloc, pool);
+    let Some(named) = pool.named_mut() else {
+        return Code::NotOpen.number();
+    };
     let answer = named.freeb(msg);
-    pool.hold(named);
     put(coded_any(answer), rest)
 }
 
 /// Frees a message. As [`NamedPool::freemsg`] of strm_named.
 #[unsafe(no_mangle)]
-pub extern "C" fn strm_c_freemsg(alloc: Global, pool: &mut StrmPool, msg: Name) -> i32
+pub extern "C" fn strm_c_freemsg(pool: &mut StrmPool, msg: Name) -> i32
     ensures { CallsNamed no_message Ok (λ v. on_name v msg
         (given_nothing (with_arena v.pool (freeing.freemsg msg.head v.pool.arena))))
-        (msg.head ∷ []) pool.old.named pool.new.named result tt tt }
+        (msg.head ∷ []) pool.old.at.named pool.new.at.named result tt tt }
 {
-    let mut named = opened!(alloc, pool);
+    let Some(named) = pool.named_mut() else {
+        return Code::NotOpen.number();
+    };
     let answer = named.freemsg(msg);
-    pool.hold(named);
     number(coded(answer))
 }

@@ -5,7 +5,6 @@ ghost use Rattle.strm_queue.specs.Limits.{most_queues};
 ghost use Rattle.strm_c.specs.Codes.{number_returned};
 ghost use Rattle.strm_c.specs.Opening.{OpensBoxed, OpensHandle, class_spec_of, answer_of_close, config_of, queue_spec_of};
 
-use crate::answer::opened;
 use crate::code::Code;
 use crate::handle::StrmPool;
 use crate::layout::{StrmClassSpec, StrmQueueSpec};
@@ -100,12 +99,11 @@ pub extern "C" fn strm_c_open(
     first_id: u32,
 ) -> i32
     ensures { OpensHandle (config_of id mblks classes.now queues.now bufcalls first_id)
-        pool.old.named pool.new.named result }
+        pool.old.at.named pool.new.at.named result }
 {
-    if let Some(named) = pool.take(alloc) {
-        pool.hold(named);
+    let None = pool.named_mut() else {
         return Code::IsOpen.number();
-    }
+    };
     let Some(config) = config_of(id, mblks, classes, queues, bufcalls, first_id) else {
         return Code::BadArgument.number();
     };
@@ -121,10 +119,12 @@ pub extern "C" fn strm_c_open(
 /// Closes a handle, and frees its pool with all messages. Returns `NotOpen` if it is not open.
 #[unsafe(no_mangle)]
 pub extern "C" fn strm_c_close(alloc: Global, pool: &mut StrmPool) -> i32
-    ensures held { pool.new.named ≡ None }
-    ensures number { result ≡ number_returned (answer_of_close pool.old.named) }
+    ensures held { pool.new.at.named ≡ None }
+    ensures number { result ≡ number_returned (answer_of_close pool.old.at.named) }
 {
-    let named = opened!(alloc, pool);
+    let Some(named) = pool.take(alloc) else {
+        return Code::NotOpen.number();
+    };
     drop(named);
     0
 }

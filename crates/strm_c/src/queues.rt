@@ -8,141 +8,131 @@ ghost use Rattle.strm_c.specs.Codes.{any_or_nothing, answer_of_refusable};
 ghost use Rattle.strm_c.specs.Exports.{Asks, CallsNamed, DoesOnPool, Ranged};
 ghost use Rattle.strm_c.specs.InC.{band_of, flush_of, capped_number};
 
-use crate::answer::{coded, coded_any, coded_refusal, number, opened, put, ranged};
+use crate::answer::{coded, coded_any, coded_refusal, number, put};
 use crate::code::Code;
 use crate::handle::StrmPool;
 use crate::numbers::{band_of, capped_number, flush_of};
-use std::alloc::Global;
 use strm_named::Name;
 
 /// Puts a message on a queue, after its equals. As [`NamedPool::putq`] of strm_named.
 #[unsafe(no_mangle)]
-pub extern "C" fn strm_c_putq(alloc: Global, pool: &mut StrmPool, queue: u32, msg: Name) -> i32
+pub extern "C" fn strm_c_putq(pool: &mut StrmPool, queue: u32, msg: Name) -> i32
     ensures { CallsNamed no_message Ok (λ v. on_name v msg
         (on_queues v.pool (queues.putq (capped_number queue) msg.head (queued_blocks_of v.pool)))) (msg.head ∷ [])
-        pool.old.named pool.new.named result tt tt }
+        pool.old.at.named pool.new.at.named result tt tt }
 {
-    let mut named = opened!(alloc, pool);
+    let Some(named) = pool.named_mut() else {
+        return Code::NotOpen.number();
+    };
     let answer = named.putq(capped_number(queue), msg);
-    pool.hold(named);
     number(coded(answer))
 }
 
 /// Puts a message on a queue, before its equals. As [`NamedPool::putbq`] of strm_named.
 #[unsafe(no_mangle)]
-pub extern "C" fn strm_c_putbq(alloc: Global, pool: &mut StrmPool, queue: u32, msg: Name) -> i32
+pub extern "C" fn strm_c_putbq(pool: &mut StrmPool, queue: u32, msg: Name) -> i32
     ensures { CallsNamed no_message Ok (λ v. on_name v msg
         (on_queues v.pool (queues.putbq (capped_number queue) msg.head (queued_blocks_of v.pool)))) (msg.head ∷ [])
-        pool.old.named pool.new.named result tt tt }
+        pool.old.at.named pool.new.at.named result tt tt }
 {
-    let mut named = opened!(alloc, pool);
+    let Some(named) = pool.named_mut() else {
+        return Code::NotOpen.number();
+    };
     let answer = named.putbq(capped_number(queue), msg);
-    pool.hold(named);
     number(coded(answer))
 }
 
 /// Puts a message on a queue at a place. As [`NamedPool::insq`] of strm_named.
 #[unsafe(no_mangle)]
-pub extern "C" fn strm_c_insq(
-    alloc: Global,
-    pool: &mut StrmPool,
-    queue: u32,
-    place: u32,
-    msg: Name,
-) -> i32
+pub extern "C" fn strm_c_insq(pool: &mut StrmPool, queue: u32, place: u32, msg: Name) -> i32
     ensures { CallsNamed no_message Ok (λ v. on_name v msg
         (on_queues v.pool (queues.insq (capped_number queue) place msg.head (queued_blocks_of v.pool)))) (msg.head ∷ [])
-        pool.old.named pool.new.named result tt tt }
+        pool.old.at.named pool.new.at.named result tt tt }
 {
-    let mut named = opened!(alloc, pool);
+    let Some(named) = pool.named_mut() else {
+        return Code::NotOpen.number();
+    };
     let answer = named.insq(capped_number(queue), place, msg);
-    pool.hold(named);
     number(coded(answer))
 }
 
 /// Takes the first message of a queue, and stores its name in `msg`. As [`NamedPool::getq`] of strm_named. Returns `Nothing` if
 /// the queue is empty.
 #[unsafe(no_mangle)]
-pub extern "C" fn strm_c_getq(alloc: Global, pool: &mut StrmPool, queue: u32, msg: &mut Name) -> i32
+pub extern "C" fn strm_c_getq(pool: &mut StrmPool, queue: u32, msg: &mut Name) -> i32
     ensures { CallsNamed any_message any_or_nothing
         (λ v. outcome_of (on_queues v.pool (queues.getq (capped_number queue) (queued_blocks_of v.pool)))) []
-        pool.old.named pool.new.named result msg.old msg.new }
+        pool.old.at.named pool.new.at.named result msg.old msg.new }
 {
-    let mut named = opened!(alloc, pool);
+    let Some(named) = pool.named_mut() else {
+        return Code::NotOpen.number();
+    };
     let answer = named.getq(capped_number(queue));
-    pool.hold(named);
     put(coded_any(answer), msg)
 }
 
 /// Takes the message at a place of a queue, and stores its name in `msg`. As [`NamedPool::rmvq`] of strm_named.
 #[unsafe(no_mangle)]
-pub extern "C" fn strm_c_rmvq(
-    alloc: Global,
-    pool: &mut StrmPool,
-    queue: u32,
-    place: u32,
-    msg: &mut Name,
-) -> i32
+pub extern "C" fn strm_c_rmvq(pool: &mut StrmPool, queue: u32, place: u32, msg: &mut Name) -> i32
     ensures { CallsNamed one_message Ok (λ v. outcome_of
         (on_queues v.pool (queues.rmvq (capped_number queue) place (queued_blocks_of v.pool)))) []
-        pool.old.named pool.new.named result msg.old msg.new }
+        pool.old.at.named pool.new.at.named result msg.old msg.new }
 {
-    let mut named = opened!(alloc, pool);
+    let Some(named) = pool.named_mut() else {
+        return Code::NotOpen.number();
+    };
     let answer = named.rmvq(capped_number(queue), place);
-    pool.hold(named);
     put(coded(answer), msg)
 }
 
 /// Stores the number of messages on a queue in `msgs`. As [`Pool::qsize`] of strm_pool.
 #[unsafe(no_mangle)]
-pub extern "C" fn strm_c_qsize(
-    alloc: Global,
-    pool: &mut StrmPool,
-    queue: u32,
-    msgs: &mut u32,
-) -> i32
+pub extern "C" fn strm_c_qsize(pool: &mut StrmPool, queue: u32, msgs: &mut u32) -> i32
     ensures { Asks (λ v. answer_of_refusable Ok (answer_of
         (queues.qsize (capped_number queue) (queued_blocks_of v.pool))))
-        pool.old.named pool.new.named result msgs.old msgs.new }
+        pool.old.at.named pool.new.at.named result msgs.old msgs.new }
 {
-    let named = opened!(alloc, pool);
+    let Some(named) = pool.named_mut() else {
+        return Code::NotOpen.number();
+    };
     let answer = named.pool().qsize(capped_number(queue));
-    pool.hold(named);
     put(coded_refusal(answer), msgs)
 }
 
 /// Frees messages of a queue. As [`NamedPool::flushq`] of strm_named. A number of no flush is a `BadArgument`.
 #[unsafe(no_mangle)]
-pub extern "C" fn strm_c_flushq(alloc: Global, pool: &mut StrmPool, queue: u32, flush: u32) -> i32
+pub extern "C" fn strm_c_flushq(pool: &mut StrmPool, queue: u32, flush: u32) -> i32
     ensures { Ranged (flush_of flush) (λ f. DoesOnPool Ok
         (λ p. on_queues p (queues.flushq (capped_number queue) f (queued_blocks_of p))))
-        pool.old.named pool.new.named result tt tt }
+        pool.old.at.named pool.new.at.named result tt tt }
 {
-    let mut named = opened!(alloc, pool);
-    let flush = ranged!(flush_of(flush), pool, named);
+    let Some(named) = pool.named_mut() else {
+        return Code::NotOpen.number();
+    };
+    let Some(flush) = flush_of(flush) else {
+        return Code::BadArgument.number();
+    };
     let answer = named.flushq(capped_number(queue), flush);
-    pool.hold(named);
     number(coded_refusal(answer))
 }
 
 /// Frees messages of one band of a queue. As [`NamedPool::flushband`] of strm_named. A band above 255, or a number of no flush,
 /// is a `BadArgument`.
 #[unsafe(no_mangle)]
-pub extern "C" fn strm_c_flushband(
-    alloc: Global,
-    pool: &mut StrmPool,
-    queue: u32,
-    band: u32,
-    flush: u32,
-) -> i32
+pub extern "C" fn strm_c_flushband(pool: &mut StrmPool, queue: u32, band: u32, flush: u32) -> i32
     ensures { Ranged (band_of band) (λ b. Ranged (flush_of flush)
         (λ f. DoesOnPool Ok (λ p. on_queues p (queues.flushband (capped_number queue) b f (queued_blocks_of p)))))
-        pool.old.named pool.new.named result tt tt }
+        pool.old.at.named pool.new.at.named result tt tt }
 {
-    let mut named = opened!(alloc, pool);
-    let band = ranged!(band_of(band), pool, named);
-    let flush = ranged!(flush_of(flush), pool, named);
+    let Some(named) = pool.named_mut() else {
+        return Code::NotOpen.number();
+    };
+    let Some(band) = band_of(band) else {
+        return Code::BadArgument.number();
+    };
+    let Some(flush) = flush_of(flush) else {
+        return Code::BadArgument.number();
+    };
     let answer = named.flushband(capped_number(queue), band, flush);
-    pool.hold(named);
     number(coded_refusal(answer))
 }

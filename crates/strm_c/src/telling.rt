@@ -9,22 +9,22 @@ ghost use Rattle.strm_c.specs.Codes.{any_or_nothing, answer_of_refusable};
 ghost use Rattle.strm_c.specs.Exports.{Asks, Ranged};
 ghost use Rattle.strm_c.specs.InC.{band_in_c, band_of, capped_number, census_in_c, class_in_c, queue_in_c};
 
-use crate::answer::{coded_refusal, opened, present, put, ranged};
+use crate::answer::{coded_refusal, present, put};
 use crate::code::Code;
 use crate::handle::StrmPool;
 use crate::layout::{StrmBandInfo, StrmCensus, StrmClassInfo, StrmQueueInfo};
 use crate::numbers::{band_of, capped_number};
-use std::alloc::Global;
 
 /// Stores the numbers of free, queued and held message blocks in `census`. As [`Pool::census`] of strm_pool.
 #[unsafe(no_mangle)]
-pub extern "C" fn strm_c_census(alloc: Global, pool: &mut StrmPool, census: &mut StrmCensus) -> i32
+pub extern "C" fn strm_c_census(pool: &mut StrmPool, census: &mut StrmCensus) -> i32
     ensures { Asks (λ v. Ok (census_in_c (census_of v.pool.arena)))
-        pool.old.named pool.new.named result census.old census.new }
+        pool.old.at.named pool.new.at.named result census.old census.new }
 {
-    let named = opened!(alloc, pool);
+    let Some(named) = pool.named_mut() else {
+        return Code::NotOpen.number();
+    };
     let answer = named.pool().census();
-    pool.hold(named);
     put(Ok(StrmCensus::of(answer)), census)
 }
 
@@ -32,36 +32,36 @@ pub extern "C" fn strm_c_census(alloc: Global, pool: &mut StrmPool, census: &mut
 /// such class.
 #[unsafe(no_mangle)]
 pub extern "C" fn strm_c_class_info(
-    alloc: Global,
     pool: &mut StrmPool,
     place: u32,
     info: &mut StrmClassInfo,
 ) -> i32
     ensures { Asks (λ v. any_or_nothing (option_map class_in_c
         (slice_get (class_infos v.pool.arena.store) (capped_number place))))
-        pool.old.named pool.new.named result info.old info.new }
+        pool.old.at.named pool.new.at.named result info.old info.new }
 {
-    let named = opened!(alloc, pool);
+    let Some(named) = pool.named_mut() else {
+        return Code::NotOpen.number();
+    };
     let answer = named.pool().class_info(capped_number(place));
-    pool.hold(named);
     put(present(answer.map(StrmClassInfo::of)), info)
 }
 
 /// Stores the counts and marks of a queue in `info`. As [`Pool::queue_info`] of strm_pool.
 #[unsafe(no_mangle)]
 pub extern "C" fn strm_c_queue_info(
-    alloc: Global,
     pool: &mut StrmPool,
     queue: u32,
     info: &mut StrmQueueInfo,
 ) -> i32
     ensures { Asks (λ v. answer_of_refusable (λ i. Ok (queue_in_c i))
         (answer_of (queues.queue_info (capped_number queue) (queued_blocks_of v.pool))))
-        pool.old.named pool.new.named result info.old info.new }
+        pool.old.at.named pool.new.at.named result info.old info.new }
 {
-    let named = opened!(alloc, pool);
+    let Some(named) = pool.named_mut() else {
+        return Code::NotOpen.number();
+    };
     let answer = named.pool().queue_info(capped_number(queue));
-    pool.hold(named);
     put(coded_refusal(answer).map(StrmQueueInfo::of), info)
 }
 
@@ -69,7 +69,6 @@ pub extern "C" fn strm_c_queue_info(
 /// `BadArgument`.
 #[unsafe(no_mangle)]
 pub extern "C" fn strm_c_band_info(
-    alloc: Global,
     pool: &mut StrmPool,
     queue: u32,
     band: u32,
@@ -78,11 +77,14 @@ pub extern "C" fn strm_c_band_info(
     ensures { Ranged (band_of band) (λ b. Asks
         (λ v. answer_of_refusable (λ i. Ok (band_in_c i))
         (answer_of (queues.band_info (capped_number queue) b (queued_blocks_of v.pool)))))
-        pool.old.named pool.new.named result info.old info.new }
+        pool.old.at.named pool.new.at.named result info.old info.new }
 {
-    let named = opened!(alloc, pool);
-    let band = ranged!(band_of(band), pool, named);
+    let Some(named) = pool.named_mut() else {
+        return Code::NotOpen.number();
+    };
+    let Some(band) = band_of(band) else {
+        return Code::BadArgument.number();
+    };
     let answer = named.pool().band_info(capped_number(queue), band);
-    pool.hold(named);
     put(coded_refusal(answer).map(StrmBandInfo::of), info)
 }

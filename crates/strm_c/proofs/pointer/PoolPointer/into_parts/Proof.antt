@@ -1,4 +1,4 @@
--- The parts own what the handle owned.
+-- The parts own what the pointer owned.
 use Rattle.std.proofs.Common.{◌≡◌, ◌∙◌, List, [], ◌∷◌, ◌++◌, refl, sym, ap}
 use Rattle.std.specs.Prelude.{IsSome, Some}
 use Rattle.strm_c.proofs.Machine.{Fn, Val, SProp, emp, id⊢, never, fst∗, WpFn, fact, fact_i, tables, bare}
@@ -6,12 +6,12 @@ use Rattle.strm_c.proofs.Steps.{sem, ‵, raw, ◌⊛◌, prop, ◌$◌, ◌∵�
 use Rattle.strm_c.proofs.Meaning.{owns, Ptr, block_ptr, null_ptr, in_a_block, types_at, alive, Stays, stay_dropped, walk_of, Goes-blank, token, handle_tells, box_owns, D, R, τ, word, box_typed}
 use Rattle.strm_c.specs.Holding.{held}
 use Rattle.strm_c.proofs.AsBox.{E}
-use Rattle.strm_c.proofs.Words.{sized_val, sized_told, slot_at, there_is}
+use Rattle.strm_c.proofs.Words.{pointer_val, pointer_told, slot_at, there_is}
 use Rattle.strm_c.specs.contracts.parts.Parts as parts
-use Rattle.strm_c.specs.contracts.handle.StrmPool.into_parts.{ended, clauses}
-use Rattle.strm_c.specs.contracts.handle.StrmPool.into_parts.Key.{name as #self}
-use Rattle.strm_c.proofs.handle.StrmPool.into_parts.Statement.{statement}
-use Rattle.strm_c.proofs.handle.StrmPool.into_parts.Code as compiled
+use Rattle.strm_c.specs.contracts.pointer.PoolPointer.into_parts.{ended, clauses}
+use Rattle.strm_c.specs.contracts.pointer.PoolPointer.into_parts.Key.{name as #self}
+use Rattle.strm_c.proofs.pointer.PoolPointer.into_parts.Statement.{statement}
+use Rattle.strm_c.proofs.pointer.PoolPointer.into_parts.Code as compiled
 
 pub into_parts_spec : {M : Type 1} → statement M
 into_parts_spec 𝓤 𝓛 𝓜 𝓡 wired =
@@ -23,20 +23,20 @@ into_parts_spec 𝓤 𝓛 𝓜 𝓡 wired =
     let stays : Stays ended.signature.params ended.kept = (stay_dropped (slot_at 0 ended.signature.params) ended.kept.0, (stay_dropped (slot_at 1 ended.signature.params) ended.kept.1.0, tt)) in
     proved_at 𝓛 ended stays c 𝓜 𝓡 (Goes-blank 𝓛 0 (slot_at 0 ended.signature.params) ended.kept.0 (λ κs x f. tt), (Goes-blank 𝓛 0 (slot_at 1 ended.signature.params) ended.kept.1.0 (λ κs x f. tt), tt)) #self fn (compiled.unfolded 𝓤 H 𝓜 𝓡 wired) (λ z are.
     let Post : Val → SProp 𝓤 = (walk_of 𝓛 ended stays c).post z in
-    let a = z.0.3 in let vss = z.0.4 in let x = a.0 in let n = x.state in let heap = a.1.0 in
-    let told = sized_told x.at n vss.0 are.0.0 in let fits = told.1 in
+    let a = z.0.3 in let vss = z.0.4 in let x = a.0 in let heap = a.1.0 in
+    let told = pointer_told x.raw vss.0 are.0.0 in
     qed 𝓛 ((raw (alive 𝓛 ended.signature z.0.0 z.0.1) ⊛ ‵ (owns (types_at ended.signature.params z.0.0) a vss)) ∷ raw (fact 𝓤 (IsSome x.named)) ∷ []) ∵ move ! (1 ∷ []) $ heard ! (IsSome x.named) (λ some. split ! $ move ! (1 ∷ []) $
     let there = there_is x.named some in let y = there.0 in
-    fsplit ! $ fsplit ! $ drop ! $ fsplit ! $ drop ! $ rewrite ! 0 (λ m. ‵ (held x.at m)) there.1 refl $
-    use1 𝓛 (‵ (box_owns (token E.al heap) (R E) x.at y)) (id⊢ 𝓤 _) $
-    in_a_block ! x.at (λ p. box_owns (token E.al heap) (R E) p y) (fst∗ 𝓤 (never 𝓤) (sem 𝓛 (token E.al heap (bare (τ E)) null_ptr))) (λ b o e. move ! (1 ∷ []) $
+    fsplit ! $ fsplit ! $ drop ! $ rewrite ! 0 (λ m. ‵ (held x.raw m)) there.1 refl $
+    use1 𝓛 (‵ (box_owns (token E.al heap) (R E) x.raw y)) (id⊢ 𝓤 _) $
+    in_a_block ! x.raw (λ p. box_owns (token E.al heap) (R E) p y) (fst∗ 𝓤 (never 𝓤) (sem 𝓛 (token E.al heap (bare (τ E)) null_ptr))) (λ b o e. move ! (1 ∷ []) $
     fsplit ! $ handle_tells E.al ! heap vss.1.0 (λ hv ea fa. move ! (1 ∷ []) $ drop ! $ move ! (1 ∷ 0 ∷ []) $
     let v : D E = record { ptr = block_ptr b o; alloc = heap; value = y } in
     let made : (parts.the_row (R E) E.al.row E.al.g).Denot = record { ptr = block_ptr b o; alloc = heap; value = y } in
-    -- [the value with its token; the handle; the tokens]
-    regoal ! (λ (us : List Val). prop (WpFn 𝓤 H C Λ fn us Post)) (λ i. (told.0 ∙ ap (λ (p : Ptr). sized_val p n ∷ []) e) i ++ (ea i ++ [])) refl $
-    enter ! C Λ fn (sized_val (block_ptr b o) n ∷ hv ∷ []) Post $
-    alloc_all ! (λ l. pass_all ! refl ((tt, (tt, (record { fits = fits }, tt))), (fa, tt)) $
+    -- [the value with its token; the allocator; the tokens]
+    regoal ! (λ (us : List Val). prop (WpFn 𝓤 H C Λ fn us Post)) (λ i. (told ∙ ap (λ (p : Ptr). pointer_val p ∷ []) e) i ++ (ea i ++ [])) refl $
+    enter ! C Λ fn (pointer_val (block_ptr b o) ∷ hv ∷ []) Post $
+    alloc_all ! (λ l. pass_all ! refl ((tt, (tt, tt)), (fa, tt)) $
     sets ! (of_opd ! (get_in ! (fld ! refl (stop !)) (sub ! 0 refl (whole !)))) refl (tt, tt) $
     sets ! (of_opd ! (get ! refl)) refl (tt, tt) $
     sets ! (agg ! (and_then ! (get ! refl) (and_then ! (get ! refl) (no_more !)))) refl (box_typed E hv b o fa) $
