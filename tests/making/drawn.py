@@ -12,6 +12,8 @@ from strm_tools.model import HIGH_PRIORITY
 # Up to so many bands of a queue have their rows always; runs with more blocks in use than this draw them narrow.
 MOST_BANDS = 8
 MOST_WIDE_BLOCKS = 40
+# The letters of more empty registers have no spaces between them.
+MOST_PARTED_LETTERS = 12
 SIGNS = "◆●■▼★✚"
 
 
@@ -69,6 +71,7 @@ class Drawing:
         self.states = self.seen.states
         queues = range(len(self.states[0].queues))
         self.bands = [sorted(set().union(*(busy_bands(state.queues[q]) | set(state.queues[q].marks) for state in self.states)), reverse=True) for q in queues]
+        self.wanted = self.wanted_bands()
         self.held_ever = [self.registers_held(worker) for worker in range(len(self.states[0].workers))]
         self.is_narrow = max(sum(state.counts()[1:]) for state in self.states) > MOST_WIDE_BLOCKS
 
@@ -93,7 +96,7 @@ class Drawing:
         for worker, registers in enumerate(state.workers):
             empty = [letter for letter in self.held_ever[worker] if letter not in registers]
             if self.held_ever[worker]:
-                items[f"worker {worker} empty"] = word("empty registers", " ".join(empty) or "-", f"worker {worker}")
+                items[f"worker {worker} empty"] = word("empty registers", ("" if len(empty) > MOST_PARTED_LETTERS else " ").join(empty) or "-", f"worker {worker}")
             for letter, message in sorted(registers.items()):
                 items.update(self.of_message(f"worker {worker} {letter}", f"worker {worker}", letter, message))
         return items
@@ -152,6 +155,26 @@ class Drawing:
         is_settled = any(old.wanted - new.wanted for old, new in zip(before.queues, after.queues))
         yield from (f"{'B' if is_settled else 'E'}{q}" for q in sorted(set(after.run) - set(before.run)))
 
+    def wanted_bands(self):
+        """Each band of a queue that is ever wanted, with 1 for each frame at which it is and 0 for each other."""
+        pairs = sorted({(q, band) for state in self.states for q, queue in enumerate(state.queues) for band in queue.wanted})
+        return {(q, band): [int(band in state.queues[q].wanted) for state in self.states] for q, band in pairs}
+
+    def band_decided(self, frame, command, reply):
+        """The queue and the band that a line found full or of which it cleared the first wanted mark, if any, and what it did so: the name of
+        a rule and its numbers (docs/MODEL.md)."""
+        before, after = self.states[frame - 1 : frame + 1]
+        word, *rest = command.split(" ")
+        if (word, reply) == ("bcanput", "no"):
+            q, band = target_of(after.queues, int(rest[0])), int(rest[1])
+            return "full", {"B": band, "Q": q, "N": after.queues[q].bytes_in(band), "H": after.queues[q].marks_of(band)[0]}
+        for q, (old, new) in enumerate(zip(before.queues, after.queues)):
+            for band in sorted(old.wanted - new.wanted):
+                waker = waker_of(after.queues, q)
+                name = "no_waker" if waker is None else "waker_runs" if waker in before.run else "drained"
+                return name, {"B": band, "Q": q, "N": new.bytes_in(band), "L": new.marks_of(band)[1], "W": waker}
+        return "", {}
+
     def names_at(self, frame, worker, command, reply):
         """The names of the tracks that a frame is on."""
         items, marks = self.at(frame)
@@ -159,6 +182,8 @@ class Drawing:
         names = {f"changed {panel.split(' ')[1]}" for panel in panels if panel.startswith("queue")}
         names |= {f"used {worker} {word}" for word in command.split(" ")[1:] if re.fullmatch("[a-z]", word)}
         names |= {"refused"} if re.match("refused|empty|taken", reply) else set()
+        rule, numbers = self.band_decided(frame, command, reply)
+        names |= {f"no {numbers['Q']}"} if rule == "full" else set()
         for event in self.events(frame):
             queue = event[1:].split(".")[0]
             names |= {f"{name} {queue}" for name in {"F": ["full"], "E": ["enabled"], "B": ["enabled", "back"]}[event[0]]}
@@ -194,6 +219,17 @@ def of_queue(number, queue, is_enabled, bands):
             yield f"{key} band {band} {name}", word(name, value, key)
         for name, value in (("own", band in queue.marks), ("full", queue.is_full(band)), ("wanted", band in queue.wanted)):
             yield f"{key} band {band} {name}", flag(name, value, key)
+
+
+def target_of(queues, q):
+    """The queue that a `bcanput` asks which names this one."""
+    return q if queues[q].has_service or queues[q].next == "-" else target_of(queues, queues[q].next)
+
+
+def waker_of(queues, q):
+    """The queue that this one back-enables, or None."""
+    behind = [k for k, queue in enumerate(queues) if queue.next == q]
+    return None if not behind else behind[0] if queues[behind[0]].has_service else waker_of(queues, behind[0])
 
 
 def panel_of(key, items):

@@ -6,7 +6,7 @@ from itertools import accumulate
 from typing import NamedTuple
 
 ELEMENT = re.compile(r'<script (?:class="(\w+)" )?(?:id="(\w+)" )?(?:data-name="([^"]*)" )?type="[\w/]+">(.*?)</script>', re.DOTALL)
-LINE = re.compile(r"(\d+):(\d+) ([^\t]*)(?:\t([^\t]*))?(?:\t(.*))?")
+LINE = re.compile(r"(\d+):(\d+) ([^\t]*)(?:\t([^\t]*))?(?:\t([^\t]*))?(?:\t(.*))?")
 DATA, RUN, WISHES, FIRST_QUEUE = range(4)
 BYTES = -1
 
@@ -19,6 +19,9 @@ class Line(NamedTuple):
     command: str
     reply: str
     events: list
+    # The name of the rule that decided, and its numbers by name; or no name.
+    rule: str
+    numbers: dict
 
 
 class Page:
@@ -31,11 +34,20 @@ class Page:
         self.states = [json.loads(content) for kind, *_, content in elements if kind == "states"]
         self.tracks = {name: json.loads(content) for kind, _, name, content in elements if kind == "track"}
         self.rows = [row for chunk in self.row_chunks for row in chunk]
-        self.lines = [line_of(row) for row in self.rows if row[0] not in "#=>"]
+        self.lines = [line_of(row) for row in self.rows if row[0] not in "#=>@"]
 
     def comments(self):
         """The rows that are of no executed line, as in the script; a queue has its number after a tab."""
         return [html.unescape(row.lstrip("=")) for row in self.rows if row[0] in "#="]
+
+    def callers(self):
+        """The label of the caller that the rows before each line say."""
+        label = ""
+        for row in self.rows:
+            if row[0] == "@":
+                label = self.run["callerNames"][int(row[1:])] if row[1:] else ""
+            elif row[0] not in "#=>":
+                yield label
 
     def frames(self):
         """The parts of the pool as it opens, and after each line. They are the same objects, which change."""
@@ -78,8 +90,9 @@ class Page:
 
 
 def line_of(row):
-    worker, number, command, reply, events = LINE.fullmatch(row).groups()
-    return Line(int(worker), int(number), command, reply or "ok", (events or "").split())
+    worker, number, command, reply, events, rule = LINE.fullmatch(row).groups()
+    name, *numbers = (rule or "").split(" ")
+    return Line(int(worker), int(number), command, reply or "ok", (events or "").split(), name, dict(pair.split("=") for pair in numbers))
 
 
 def parts_that_count(parts):

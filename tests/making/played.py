@@ -130,6 +130,28 @@ ALSO_BY_RULE = [
         "Band 0 of queue 1 was wanted and its bytes, 10, are at most its low water mark, 20, so its waker, queue 0, is enabled.",
     ),
 ]
+EMPTY = "0:9 putq 0 z: empty\n  Register z holds no message. (MODEL.md, Registers and steps)\n"
+NOTHING = "nothing to explain: no line was refused, and none could enable a queue\n"
+# What `why` says of the last line, also after undo, redo and a change of the pool.
+WHY = [
+    ("before any line", "why", "nothing to explain: no line is executed\n"),
+    ("after a line that needs no reason", "allocb a 1; why", "ok\n" + NOTHING),
+    (
+        "after such a line, and one before it that has a reason",
+        "allocb a 1; putq 0 z; size a; why",
+        "ok\nempty\nsize 0\nnothing to explain in the last line, 0:10 size a: size 0; before it:\n" + EMPTY,
+    ),
+    ("after the last line is undone", "allocb a 1; putq 0 z; putq 1 a; undo; why", "ok\nempty\nok\ntaken back: putq 1 a\n" + EMPTY),
+    ("after the only reason is undone", "allocb a 1; putq 0 a; undo; why", "ok\nok\ntaken back: putq 0 a\n" + NOTHING),
+    (
+        "after a later line is undone",
+        "allocb a 1; putq 0 z; size a; putq 1 a; undo; why",
+        "ok\nempty\nsize 0\nok\ntaken back: putq 1 a\n"
+        "nothing to explain in the last line, 0:10 size a: size 0; before it:\n" + EMPTY,
+    ),
+    ("after redo", "allocb a 1; putq 0 z; undo; redo; why", "ok\nempty\ntaken back: putq 0 z\ndone again: putq 0 z\n" + EMPTY),
+    ("after rewind", "allocb a 1; putq 0 z; rewind; why", "ok\nempty\n2 lines waiting: next executes one, run all\nnothing to explain: no line is executed\n"),
+]
 # What each command of strm does after these lines, which undo takes back.
 BEFORE_UNDO = (
     "allocb a 16; write a 0 61626364656667686970; allocb b 3; write b 0 010203; settype b 0 M_PROTO; dupmsg b c; linkb b c; allocb d 40;"
@@ -172,12 +194,13 @@ SHOWN = {
     "a command of strm": ("allocb a 3; testb 65; census", "ok\nno\ncensus 7 0 1\n"),
     "spaces and comments": ("  allocb   a 3  ;# a comment;;read a 0\t", "ok\nbytes -\n"),
     "faults": (
-        "canput 0 0; xyzzy; exit; pool 1; putq 0; putq q a; putq 300 a; allocb A 1; write a 0 6G; settype a 0 DATA; flushq 0 some; queue 1 0 s -",
+        "canput 0 0; xyzzy; exit; pool 1; putq 0; census 1; putq q a; putq 300 a; allocb A 1; write a 0 6G; settype a 0 DATA; flushq 0 some; queue 1 0 s -",
         "unknown: there is no command canput; is bcanput meant?\n"
         "unknown: there is no command xyzzy; help lists all\n"
         "unknown: there is no command exit; is quit meant?\n"
         "shape: pool ID MBLKS: 3 words, here 2\n"
         "shape: putq Q R: 3 words, here 2\n"
+        "shape: census: 1 word, here 2\n"
         "number: Q is a queue, 0 to 255; here it is q\n"
         "number: Q is a queue, 0 to 255; here it is 300\n"
         "register: R is a register, a to z; here it is A\n"
@@ -187,23 +210,25 @@ SHOWN = {
         "order: queue describes a pool, before its commands; new opens another pool\n",
     ),
     "faults of the session's commands": (
-        "undo x; undo 0; list -1; turn; turn 5; state up; hold on; help xyzzy; save; save a b c; save 'a; next 3; run; next; redo; undo",
+        "undo x; undo 0; list -1; turn; turn 5; state up; hold on; help xyzzy; save; save a b c; save 'a; next 3; run; next; redo; undo; why 3; report a b",
         "x is no number from 1 to 999999999\n"
         "0 is no number from 1 to 999999999\n"
         "-1 is no number from 0 to 999999999\n"
-        "shape: turn W\n"
+        "shape: the form is turn W\n"
         "there is no worker 5; a line `worker` begins worker 1\n"
-        "shape: state [on|off]\n"
-        "shape: hold [off]\n"
+        "shape: the form is state [on|off]\n"
+        "shape: the form is hold [off]\n"
         "unknown: there is no command xyzzy; help lists all\n"
-        "shape: save [-f] FILE [TEXT]\n"
-        "shape: save [-f] FILE [TEXT]\n"
+        "shape: the form is save [-f] FILE [TEXT]\n"
+        "shape: the form is save [-f] FILE [TEXT]\n"
         "a quotation mark has no end\n"
         "there is no worker 3; a line `worker` begins worker 1\n"
         "no line waits\n"
         "no line waits\n"
         "there is nothing to do again\n"
-        "there is nothing to take back\n",
+        "there is nothing to take back\n"
+        "shape: why takes no words\n"
+        "shape: report takes no words\n",
     ),
     "help WORD": (
         "help putq; help undo; help pool; help worker; help service",

@@ -5,10 +5,12 @@ from typing import NamedTuple
 
 from strm_tools.faults import AFTER, FORMS, HEADER, MOST, STAGE, Reading, config_faults, line_kind, misfit
 from strm_tools.hints import config_hints, hints
-from strm_tools.labels import form_of
+from strm_tools.labels import WRITTEN, form_of, queues_of
 from strm_tools.limits import SCRIPT_BYTES
+from strm_tools.refused import refusals
+from strm_tools.script import TOO_LONG
 from strm_tools.shown import shown
-from strm_tools.words import MEANINGS, WORDS, whole_form
+from strm_tools.words import MEANINGS, WORDS, whole_form, wrong_count
 
 # How many bytes of a script strm reads if `--max` does not say otherwise.
 BYTES_BY_DEFAULT = 1_048_576
@@ -18,7 +20,6 @@ PLACES = {
     **{kind: f"after a {kind} line" for kind in HEADER},
     "command": "after a command",
 }
-LABEL_FORMS = {"queue": "#: queue Q LABEL", "module": "#: module LABEL Q..", "caller": "#: caller LABEL"}
 
 
 class Finding(NamedTuple):
@@ -61,7 +62,7 @@ def toomany(fault, words):
 
 def shape(_, words):
     names = names_of(words[0])
-    counts = f"{whole_form(words[0])}: {1 + len(names)} word{'s' if names else ''}, here {len(words)}"
+    counts = wrong_count(whole_form(words[0]), len(words))
     if len(words) <= len(names):
         return f"{counts}; {names[len(words) - 1]} is missing"
     place = words.index("") if "" in words else 1 + len(names)
@@ -113,20 +114,13 @@ def of_config(fault):
         yield Finding(fault.number, "note", hint)
 
 
-def queues_of(form, found):
-    """The queues that a label names."""
-    if form == "caller":
-        return []
-    return [int(found["queue"])] if form == "queue" else [int(queue) for queue in found["queues"].split()]
-
-
 def label_note(line, queues):
     """What is wrong with a comment that begins as a label does, or None. `queues` is the number of queues."""
     labelled = form_of(line)
     if labelled is None:
         word = "".join(line.split(" ")[1:2])
-        return f"this comment begins with #: but is no label; expected {LABEL_FORMS.get(word) or ' or '.join(LABEL_FORMS.values())}"
-    above = [queue for queue in queues_of(*labelled) if queue >= queues]
+        return f"this comment begins with #: but is no label; expected {WRITTEN.get(word) or ' or '.join(WRITTEN.values())}"
+    above = [queue for queue in queues_of(labelled[1]) if queue >= queues]
     return f"the label names queue {above[0]}; expected at most {queues - 1}" if above else None
 
 
@@ -143,20 +137,48 @@ def of_labels(script, queues):
 
 def too_long(most):
     """What is found in a script of more bytes than it may have, which is not read any further."""
-    more = ", the most that strm reads" if most == SCRIPT_BYTES else f"; give strm and strm-check a greater --max, up to {SCRIPT_BYTES}"
-    return [Finding(0, "input too long", f"more than {most} bytes{more}")]
+    more = f"more than {most} bytes; give strm and strm-check a greater --max, up to {SCRIPT_BYTES}"
+    return [Finding(0, "input too long", TOO_LONG if most == SCRIPT_BYTES else more)]
+
+
+def lines_of(script):
+    """The lines of a script, given as bytes, with their ends. Each byte is a character."""
+    return io.TextIOWrapper(io.BytesIO(script), encoding="latin-1", newline="\n")
+
+
+class Checked:
+    """A script, given as bytes, that is checked for its first fault, or for every fault. Its notes come after its faults."""
+
+    def __init__(self, script, every):
+        self.script = script
+        self.every = every
+        self.reading = Reading()
+        self.is_right = True
+
+    def faults(self):
+        """Each fault, with the notes on its causes."""
+        for found in self.all_faults():
+            self.is_right = False
+            yield from found
+            if not self.every:
+                return
+
+    def all_faults(self):
+        for fault in self.reading.faults(lines_of(self.script)):
+            yield of_line(fault, self.script)
+        for fault in config_faults(self.reading.header):
+            yield of_config(fault)
+
+    def notes(self):
+        """Notes that belong to no fault: on labels, unless there is a fault of which only the first was asked for, and on commands, if there
+        is none."""
+        if self.is_right or self.every:
+            yield from of_labels(self.script, self.reading.queues())
+        if self.is_right:
+            for number, why in refusals(lines_of(self.script), self.reading.header):
+                yield Finding(number, "note", f"strm refuses this line in any case: {why}")
 
 
 def findings(script, every):
-    """What is found in a script, given as bytes: the first fault with its notes, or every fault. Notes on labels follow if every fault is
-    asked for, or if there is none."""
-    reading = Reading()
-    for fault in reading.faults(io.TextIOWrapper(io.BytesIO(script), encoding="latin-1", newline="\n")):
-        yield from of_line(fault, script)
-        if not every:
-            return
-    for fault in config_faults(reading.header):
-        yield from of_config(fault)
-        if not every:
-            return
-    yield from of_labels(script, reading.queues())
+    """The faults of a script, each with its notes."""
+    return Checked(script, every).faults()

@@ -12,6 +12,8 @@ NAME = os.path.basename(sys.argv[0])
 # Standard streams by number, since Python has no object for one that is closed.
 STANDARD_INPUT = 0
 STANDARD_OUTPUT = 1
+# The most bytes of a text or a trace. No text of strm has more: a reply has at most 150, and a script 1,048,576 commands.
+MOST_BYTES = 160_000_000
 # Of a long line on standard error, how many characters are shown of its beginning and of its end.
 SHOWN = 600, 200
 
@@ -24,20 +26,35 @@ def one_line(text):
     return "".join(char if char.isprintable() else char.encode("unicode_escape").decode() for char in text)
 
 
+def say(lines):
+    """Prints lines on standard error, as far as it takes them."""
+    try:
+        for line in lines if sys.stderr is not None else ():
+            print(line, file=sys.stderr, flush=True)
+    except OSError:
+        pass
+
+
 @functools.lru_cache(maxsize=None)
 def complain(why):
-    """Prints a line on standard error, if that is open, and the same line only once."""
-    if sys.stderr is not None:
-        try:
-            print(f"{NAME}: {one_line(why)}", file=sys.stderr, flush=True)
-        except OSError:
-            pass
+    """Prints a line with the tool's name on standard error, and the same line only once."""
+    say([f"{NAME}: {one_line(why)}"])
 
 
 def end(status, why):
     """Ends the program with a line on standard error."""
     complain(str(why))
     sys.exit(status)
+
+
+def name_of(path, stream="standard input"):
+    """How messages name a file: as it was given, but `-` as its stream, and a name without characters by quotes."""
+    return stream if path == "-" else path or "''"
+
+
+def end_wrong(why, words):
+    """Ends the program because what these words of the command line name is wrong. If that is a file, its name comes first."""
+    end(1, f"{name_of(getattr(words, why.of))}: {why}" if why.of else why)
 
 
 def end_for(name, why, leave=sys.exit):
@@ -54,26 +71,29 @@ def read_bytes(path, most=-1):
         with open(os.dup(STANDARD_INPUT) if path == "-" else path, "rb") as file:
             return file.read(most)
     except OSError as why:
-        end_for("standard input" if path == "-" else path, why)
+        end_for(name_of(path), why)
 
 
 def read(path):
     """The text of a file, or of standard input for `-`. A byte that is no UTF-8 is replaced; no line end is changed."""
-    return read_bytes(path).decode("utf-8", "replace")
+    octets = read_bytes(path, MOST_BYTES + 1)
+    if len(octets) > MOST_BYTES:
+        end(1, f"{name_of(path)}: input too long: more than {MOST_BYTES} bytes")
+    return octets.decode("utf-8", "replace")
 
 
-def write_pieces(pieces, path=None):
-    """Writes texts one after another to a file, or to standard output if there is none."""
+def write_pieces(pieces, path="-"):
+    """Writes texts one after another to a file, or to standard output, which is `-`."""
     try:
-        with open(os.dup(STANDARD_OUTPUT) if path is None else path, "wb") as file:
+        with open(os.dup(STANDARD_OUTPUT) if path == "-" else path, "wb") as file:
             for piece in pieces:
                 file.write(piece.encode("utf-8", "replace"))
     except OSError as why:
-        end_for("standard output" if path is None else path, why)
+        end_for(name_of(path, "standard output"), why)
 
 
-def write(text, path=None):
-    """Writes a text to a file, or to standard output if there is none."""
+def write(text, path="-"):
+    """Writes a text to a file, or to standard output, which is `-`."""
     write_pieces([text], path)
 
 

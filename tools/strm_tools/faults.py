@@ -306,4 +306,4 @@ def require_right(script):
     """Raises `Wrong` if strm refuses the script, for the reason that strm reports."""
     why = fault_of(script)
     if why:
-        raise Wrong(f"script: {why}")
+        raise Wrong(why, "script")

@@ -6,8 +6,16 @@ import re
 
 from strm_tools.model import Model
 from strm_tools.script import Wrong, script_of
+from strm_tools.words import counted
 
 REPLY = re.compile(r"(0|[1-9][0-9]?):[1-9][0-9]* ")
+# Of how many workers a message counts the lines that have no reply.
+WORKERS_SHOWN = 4
+
+
+def wrong_line(number, wanted, line=None, more=""):
+    """Why a text is wrong in this line, which is None after the last one."""
+    return Wrong(f"line {number}: expected {wanted}, here {'the text ends' if line is None else repr(line)}{more}", "text")
 
 
 class Replay:
@@ -48,24 +56,34 @@ class Replay:
             if told is None:
                 return lines[at:]
             worker = int(told[1])
-            if not self.waits(worker):
-                raise Wrong(f"line {at + 1}: worker {worker} has no line left, and {line!r} stands there")
-            wanted = self.serve(worker)
+            if worker >= len(self.sections):
+                raise wrong_line(at + 1, f"a worker from 0 to {len(self.sections) - 1}", line)
+            wanted = self.serve(worker) if self.waits(worker) else None
             if line != wanted:
-                raise Wrong(f"line {at + 1}: in this order it is {wanted!r}, and not {line!r}")
+                raise wrong_line(at + 1, repr(wanted) if wanted else f"no further reply to worker {worker}", line)
         return []
 
     def finish(self, text):
         """Serves all lines in the order that a text tells, which has to be the text of the script in this order."""
-        if not text.endswith("\n"):
-            raise Wrong(f"line {text.count(chr(10)) + 1}: there is no line end")
-        rest = self.follow(text[:-1].split("\n"))
+        *lines, piece = text.split("\n")
+        rest = self.follow([*lines, piece] if piece else lines)
         begin = len(self.order) + 1
         if self.waiting():
-            raise Wrong(f"line {begin}: a line was not served, or the report comes too early: {self.served}")
+            raise wrong_line(begin, "a reply", *rest[:1], more=f"; {self.left()}. Is the text cut off, or of another script?")
         for number, (line, wanted) in enumerate(itertools.zip_longest(rest, self.model.report()), begin):
             if line != wanted:
-                raise Wrong(f"line {number}: in the report it is {wanted!r}, and not {line!r}")
+                raise wrong_line(number, "the end of the text" if wanted is None else repr(wanted), line)
+        if piece:
+            raise wrong_line(len(lines) + 1, "a line feed at the end of the line", piece)
+
+    def left(self):
+        """Which lines of the script have no reply, in words."""
+        waiting = self.waiting()
+        counts = [f"{counted(len(self.sections[worker]) - self.served[worker], 'line')} of worker {worker}" for worker in waiting]
+        if len(counts) > WORKERS_SHOWN:
+            counts[WORKERS_SHOWN:] = [f"lines of {counted(len(counts) - WORKERS_SHOWN, 'other worker')}"]
+        number, *_ = self.sections[waiting[0]][self.served[waiting[0]]]
+        return f"no reply to {', '.join(counts)}; the first is line {number} of the script"
 
     def play(self, text=None):
         """Executes all lines in the order of a text, or worker 0's, then worker 1's, and so on."""

@@ -9,6 +9,7 @@ has none of these forms is a comment here too; `wrong_labels` finds it."""
 import re
 from typing import NamedTuple
 
+WRITTEN = {"queue": "#: queue Q LABEL", "module": "#: module LABEL Q..", "caller": "#: caller LABEL"}
 LABEL = r"(?P<label>\S(?:.{0,38}\S)?)"
 FORMS = {
     "queue": re.compile(rf"#: queue (?P<queue>0|[1-9]\d?) {LABEL}"),
@@ -31,12 +32,22 @@ class Labels(NamedTuple):
         """The label of a queue, or its number in words."""
         return self.queues.get(number, f"queue {number}")
 
+    def names_of_callers(self):
+        """The labels of all callers, each once."""
+        return list(dict.fromkeys(label for _, label in self.callers))
+
 
 def form_of(line):
     """The form of a line with a label, and its match, or None."""
     if not line.startswith("#:"):
         return None
     return next(((form, found) for form, wanted in FORMS.items() if (found := wanted.fullmatch(line))), None)
+
+
+def queues_of(found):
+    """The queues that a label names, where this is the match of its form, or None."""
+    named = found.groupdict() if found else {}
+    return [int(queue) for queue in (named.get("queue") or named.get("queues") or "").split()]
 
 
 def labels_of(script):
@@ -49,7 +60,7 @@ def labels_of(script):
         if form == "queue":
             labels.queues[int(found["queue"])] = found["label"]
         elif form == "module":
-            labels.modules[found["label"]] = [int(queue) for queue in found["queues"].split()]
+            labels.modules[found["label"]] = queues_of(found)
         elif form == "caller":
             labels.callers.append((number, found["label"]))
     return labels

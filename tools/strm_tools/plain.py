@@ -5,6 +5,7 @@ from strm_tools.faults import FORMS
 from strm_tools.model import Model
 from strm_tools.script import value_of
 from strm_tools.trace import Bad, shortened
+from strm_tools.words import counted
 
 
 class Plain:
@@ -27,7 +28,7 @@ class Plain:
         for register, numbers in messages.items():
             message = self.model.held.get(register, [])
             if len(message) != len(numbers):
-                raise Bad(f"after this call message {numbers[0]} has {len(numbers)} blocks, and in strm {len(message)}")
+                raise Bad(f"after this call message {numbers[0]} has {counted(len(numbers), 'block')}, and in strm {len(message)}")
             pairs += zip(numbers, message)
         self.data_of.update((number, block.data) for number, block in pairs)
         for number, block in pairs:

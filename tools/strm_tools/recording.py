@@ -3,88 +3,18 @@
 A message that is held has a register. What was changed in message blocks through pointers since the last call is before the line of the
 next call, as lines that make the same change. The reply to each of these is `ok`."""
 from collections import Counter
-from typing import Dict, List, NamedTuple, Set
 
 from strm_tools.faults import AFTER, MOST, config_fault_of
 from strm_tools.held import Held
-from strm_tools.labels import form_of
-from strm_tools.limits import COMMAND_LINES, SCRIPT_BYTES
+from strm_tools.labels import WRITTEN, form_of, queues_of
+from strm_tools.made_script import Script
+from strm_tools.pending import Pending, may_end, require_ends, require_returns
 from strm_tools.plain import Plain
 from strm_tools.script import Wrong, script_of
-from strm_tools.trace import LINES, Bad, Call, block_number, call_in, capacity, header_line, new_bytes, quoted, told_block
+from strm_tools.trace import LINES, Bad, block_number, call_in, capacity, header_line, new_bytes, quoted, told_block
 
-# Calls after which a message that they take is held no longer, and calls that return blocks that were not held before.
-TAKE_ALL = ("putq", "putbq", "insq", "freemsg")
-RETURN_NEW = ("allocb", "dupb", "dupmsg", "copyb", "copymsg", "getq", "rmvq")
-LABELS = "'#: queue Q LABEL', '#: module LABEL Q..' or '#: caller LABEL'"
 COMMAND = "a command with registers"
 CALL = "a call of messages"
-
-
-class Script:
-    """The lines of the script so far, each with its reply, or None where it is no command."""
-
-    def __init__(self):
-        self.rows = []
-        self.report = []
-        self.bytes = 0
-        self.commands = 0
-        self.is_begun = False
-        # How many commands there are of each caller, of whom pointers are one, and of each word.
-        self.callers = Counter()
-        self.words = Counter()
-        # The caller of the last command, and where replies are checked the plain model.
-        self.caller = None
-        self.plain = None
-
-    def add_row(self, line, reply=None):
-        self.rows.append((line, reply))
-        self.bytes += len(line.encode()) + 1
-        if self.bytes > SCRIPT_BYTES:
-            raise Bad(f"a script has at most {SCRIPT_BYTES} bytes")
-
-    def begin_section(self):
-        """Begins the section, unless it has begun."""
-        if not self.is_begun:
-            self.add_row("worker")
-        self.is_begun = True
-
-    def add(self, line, reply, who, label):
-        """Adds a command, after the label of its caller where that is another one than before."""
-        self.begin_section()
-        if label != self.caller:
-            self.add_row(f"#: caller {label}")
-        self.caller = label
-        self.add_row(line, reply)
-        self.callers[who] += 1
-        self.words[line.split(" ")[0]] += 1
-        self.commands += 1
-        if self.commands > COMMAND_LINES:
-            raise Bad(f"a script has at most {COMMAND_LINES} commands")
-
-    def numbered(self):
-        """The lines, each with its line of the text, or None where it has none."""
-        return [(line, None if reply is None else f"0:{number} {reply}") for number, (line, reply) in enumerate(self.rows, 1)]
-
-    def script(self):
-        return "".join(f"{line}\n" for line, _ in self.rows)
-
-    def text(self):
-        told = [line for _, line in self.numbered() if line is not None]
-        return "".join(f"{line}\n" for line in told + self.report)
-
-
-class Pending(NamedTuple):
-    """A call whose outcome the lines after it tell."""
-
-    line: int
-    call: Call
-    # The blocks of the messages that it takes, and the first block of the one that it returns, by register.
-    taken: Dict[str, List[int]]
-    returned: Dict[str, int]
-    # The blocks that are perhaps held no longer, and those that lines have told as changed or new.
-    may_end: Set[int]
-    told: Set[int]
 
 
 class Recording:
@@ -168,15 +98,15 @@ class Recording:
         """A comment, or a label."""
         form, found = form_of(line) or (None, None)
         if line.startswith("#:") and not form:
-            raise Bad(f"expected {LABELS}, here {quoted(line)}")
+            raise Bad(f"expected {' or '.join(map(repr, WRITTEN.values()))}, here {quoted(line)}")
         if form and not self.pool:
             raise Bad("a label comes after the header")
         if form == "caller":
             self.end_step()
             self.label = found["label"]
             return
-        for queue in [found["queue"]] if form == "queue" else found["queues"].split() if form else []:
-            if int(queue) >= len(self.pool.queues):
+        for queue in queues_of(found):
+            if queue >= len(self.pool.queues):
                 raise Bad(f"there is no queue {queue}")
         self.made.add_row(line)
 
@@ -279,12 +209,7 @@ class Recording:
         """The number of the message that a call returns, or '', by its register, where the call may return one."""
         if number is None:
             return {}
-        if (call.reply == "ok") != (number != ""):
-            raise Bad(f"{call.word} returns {'message ' + number if number else 'no message'}, and its reply is {quoted(call.reply)}")
-        if number and call.word in RETURN_NEW and int(number) in self.memory.blocks:
-            raise Bad(f"{call.word} returns message {number}, and block {number} is held already")
-        if number and call.word not in RETURN_NEW and not any(int(number) in blocks for blocks in taken.values()):
-            raise Bad(f"{call.word} returns message {number}, and takes no message with block {number}")
+        require_returns(call, number, taken, self.memory)
         return {self.held.free_register(): number}
 
     # The report, and the end
@@ -411,21 +336,6 @@ class Recording:
                 raise Bad(f"block {number} appears from nowhere: it is in no message that this call returns")
 
 
-def may_end(call, taken):
-    """The blocks that are perhaps held no longer after a call."""
-    numbers = [number for numbers in taken.values() for number in numbers] if call.reply == "ok" else []
-    if call.word in TAKE_ALL:
-        return set(numbers)
-    return set(numbers[:1] if call.word == "freeb" else numbers[1:] if call.word == "pullupmsg" else [])
-
-
-def require_ends(pending, held):
-    """Raises `Bad` where a call took a block that is still held, of these."""
-    for number in held if pending.call.word in (*TAKE_ALL, "freeb") else []:
-        if number in pending.may_end:
-            raise Bad(f"this call takes block {number}, and no line '- {number}' follows")
-
-
 def recorded(lines, is_checked=False):
     """The script that the lines of a trace make. Where it is checked, each reply, outcome and line of the report is that of the plain
     model. Raises `Wrong` with the number of a line that is wrong."""
@@ -435,5 +345,5 @@ def recorded(lines, is_checked=False):
             recording.take(line)
         recording.end()
     except Bad as why:
-        raise Wrong(f"line {why.line or recording.at}: {why}") from None
+        raise Wrong(f"line {why.line or recording.at}: {why}", "trace") from None
     return recording.made

@@ -89,17 +89,21 @@ SWITCHES = ("noenable", "enableok")
 
 
 class Found(NamedTuple):
-    """A rule, and the numbers of the pool where it decided."""
+    """A rule by its name, and the numbers of the pool where it decided."""
 
-    rule: Rule
+    name: str
     numbers: dict
+
+    @property
+    def rule(self):
+        return RULES[self.name]
 
     def text(self):
         return self.rule.sentence.format(**self.numbers)
 
 
 def found(name, **numbers):
-    return Found(RULES[name], numbers)
+    return Found(name, numbers)
 
 
 def explains(word, reply):
@@ -112,16 +116,19 @@ def why(model, word, items, values):
     """The rule that decides a line that `explains` names, and that the model has not answered yet."""
     after = copy.deepcopy(model)
     reply = after.answer(word, items, values)
-    name = reply.split(" ")[-1]
-    if name in STEP_RULES:
-        return STEP_RULES[name](model, items, values)
-    if reply.startswith("refused ") or name in ("no", "none"):
-        return REPLY_RULES[name](model, word, *values)
+    if reply.startswith("refused ") or reply in ("empty", "taken", "no", "none"):
+        return why_not(model, word, items, values, reply)
     if word in PUTS:
         return why_put(model, word, values[0], values[-1])
     if word in SETTLES:
-        return why_settled(model, after, values[0])
+        return why_settled(after, values[0], model.queues[values[0]].wanted, model.run)
     return found("switches") if word in SWITCHES else can_enable(model, values[0]) or found("by_call", Q=values[0])
+
+
+def why_not(model, word, items, values, reply):
+    """Why a line is refused, or has the reply `no` or `none`. Whether the model has answered it already makes no difference."""
+    name = reply.split(" ")[-1]
+    return STEP_RULES[name](model, items, values) if name in STEP_RULES else REPLY_RULES[name](model, word, *values)
 
 
 # ---- What is checked of every call -----------------------------------------------------------------------------------
@@ -266,17 +273,17 @@ def waker_of(model, number):
     return None if not behind else behind[0] if model.queues[behind[0]].has_service else waker_of(model, behind[0])
 
 
-def why_settled(model, after, number):
-    """Why a call that settles a queue enables the queue's waker, or does not."""
-    wanted = sorted(model.queues[number].wanted)
+def why_settled(model, number, wanted, run):
+    """Why a call that has settled a queue enabled the queue's waker, or did not. Before the call these bands of the queue were wanted, and
+    this was the run list."""
     if not wanted:
         return found("not_wanted", Q=number)
-    queue = after.queues[number]
+    queue = model.queues[number]
     cleared = [band for band in wanted if band not in queue.wanted]
-    band = (cleared or wanted)[0]
+    band = min(cleared or wanted)
     numbers = {"B": band, "Q": number, "N": queue.bytes_in(band), "L": queue.marks_of(band)[1], "W": waker_of(model, number)}
     if not cleared:
         return found("stays", **numbers)
     if numbers["W"] is None:
         return found("no_waker", **numbers)
-    return found("waker_runs" if numbers["W"] in model.run else "drained", **numbers)
+    return found("waker_runs" if numbers["W"] in run else "drained", **numbers)

@@ -2,11 +2,18 @@
 import functools
 from array import array
 
+from strm_tools.limits import SCRIPT_BYTES
 from strm_tools.model import WORDS, Pool
+
+TOO_LONG = f"more than {SCRIPT_BYTES} bytes, the most that strm reads"
 
 
 class Wrong(Exception):
-    """Why a script is wrong, or a text is not one of its script."""
+    """Why something that a tool was given is wrong. `of` is the argument whose file that is in, such as `script`, or "" if it is in none."""
+
+    def __init__(self, why, of=""):
+        super().__init__(why)
+        self.of = of
 
 
 ITEMS = {word: items.split() for word, (items, _) in WORDS.items()}

@@ -2,7 +2,7 @@
 import os
 import stat
 
-from strm_tools.ends import STANDARD_OUTPUT, end
+from strm_tools.ends import STANDARD_OUTPUT, end_for, name_of
 
 
 class Target:
@@ -27,7 +27,7 @@ class Target:
         """Where the text goes at first."""
         if self.path == "-":
             return os.dup(STANDARD_OUTPUT)
-        return self.path if self.is_device() else self.new
+        return self.new if self.path and not self.is_device() else self.path
 
     def prepare(self):
         """Writes the text, but for a device into the new file. A file that is there already also gets a second name."""
@@ -71,7 +71,7 @@ def write_together(texts):
         for other in targets:
             other.take_back()
         if isinstance(why, OSError):
-            end(2, f"{'standard output' if target.path == '-' else target.path}: {why.strerror}")
+            end_for(name_of(target.path, "standard output"), why)
         raise
     finally:
         for target in targets:

@@ -4,7 +4,8 @@ from typing import List, NamedTuple, Optional
 
 from strm_tools.faults import FITS, FORMS, HEADER, number
 from strm_tools.labels import form_of
-from strm_tools.model import HIGH_PRIORITY, ORDINARY, WORDS
+from strm_tools.model import HIGH_PRIORITY, ORDINARY
+from strm_tools.words import MEANINGS, WORDS, wrong_count
 
 # The form of each line, by its first word.
 LINES = {
@@ -19,30 +20,8 @@ LINES = {
     "r": "r LINE",
     "#": "# TEXT",
 }
-# What the words of a command or of a header's line are called, and what each has to be.
-NUMBER = "a number from 0 to 4294967295"
-ITEMS = {
-    **dict.fromkeys(["size", "block", "at", "place", "id", "high", "low"], NUMBER),
-    **dict.fromkeys(["from", "to"], "a register, a to z"),
-    **dict.fromkeys(["band", "marked"], "a band from 0 to 255"),
-    "queue": "a queue from 0 to 255",
-    "count": "a number from -2147483648 to 2147483647",
-    "octets": "two hexadecimal digits for each of 1 to 64 bytes, or -",
-    "kind": "a type such as M_DATA",
-    "flag": "all or data",
-    "service": "s or n",
-    "next": "a queue from 0 to 255, or -",
-}
-NAMES = {
-    **{item: item.upper() for item in ("size", "at", "id", "service", "next")},
-    **dict.fromkeys(["block", "place"], "K"),
-    **dict.fromkeys(["band", "marked"], "B"),
-    **{"queue": "Q", "high": "HIWAT", "low": "LOWAT", "count": "N", "octets": "HEX", "kind": "TYPE", "flag": "WHAT"},
-}
-NAMES_OF_HEADER = {"pool": "ID MBLKS", "class": "SIZE COUNT", "bufcalls": "WISHES ID"}
-# The same of messages, in a call, where they have no registers yet.
-MESSAGES = {"from": "a message that the call takes", "to": "a message that the call returns, or > for none"}
-NAMES_OF_MESSAGES = {"from": "<N", "to": ">N"}
+# What the messages in a call are called, and what each has to be: they have no registers yet.
+MESSAGES = {"from": ("<N", "a message that the call takes"), "to": (">N", "a message that the call returns, or > for none")}
 REPLY = re.compile(
     "(ok|yes|no|none|empty|taken|(size|queue|id) [0-9]+|(marks|ready) [0-9]+ [0-9]+|census( [0-9]+){3}|refused [0-9]+ [A-Za-z]+"
     "|bytes (-|([0-9a-f]{2})+)|block M_[A-Z]+ len=[0-9]+ band=[0-9]+ room=[0-9]+ names=[0-9]+)"
@@ -101,7 +80,7 @@ def words_in(mark, text):
     """The words of a line behind its first one, as many as its form has."""
     words, wanted = text.split(" "), LINES[mark].split(" ")[1:]
     if len(words) != len(wanted):
-        raise Bad(f"{LINES[mark]}: {len(wanted) + 1} words, here {len(words) + 1}")
+        raise Bad(wrong_count(LINES[mark], len(words) + 1))
     return dict(zip(wanted, words))
 
 
@@ -145,25 +124,16 @@ def is_message(item, word):
     return re.fullmatch("<[0-9]+" if item == "from" else ">[0-9]*", word) and is_number(word[1:] or "0")
 
 
-def names_of(first, is_call):
-    """What the words are called that come after the first one of a line of a script, or of a call."""
-    if first in NAMES_OF_HEADER:
-        return NAMES_OF_HEADER[first].split()
-    registers = iter("RS")
-    return [NAMES.get(item) or (NAMES_OF_MESSAGES[item] if is_call else next(registers)) for item in FORMS[first]]
-
-
 def require_words(first, rest, is_call=False):
     """Raises `Bad` unless these are the words of a line of a script that begins with the first one, or of such a call."""
-    items = FORMS[first]
-    names = names_of(first, is_call)
+    messages = MESSAGES if is_call else {}
+    names = [messages.get(item, [name])[0] for item, name in zip(FORMS[first], WORDS[first].form.split())]
     form = " ".join([first, *names])
-    if len(items) != len(rest):
-        raise Bad(f"{form}: {len(items) + 1} words, here {len(rest) + 1}")
-    for item, name, word in zip(items, names, rest):
-        is_message_here = is_call and item in MESSAGES
-        if not (is_message(item, word) if is_message_here else FITS[item][0](word)):
-            raise Bad(f"{form}: {name} is {MESSAGES[item] if is_message_here else ITEMS[item]}, here {quoted(word)}")
+    if len(names) != len(rest):
+        raise Bad(wrong_count(form, len(rest) + 1))
+    for item, name, word in zip(FORMS[first], names, rest):
+        if not (is_message(item, word) if item in messages else FITS[item][0](word)):
+            raise Bad(f"{form}: {name} is {messages[item][1] if item in messages else MEANINGS[item]}, here {quoted(word)}")
 
 
 def header_line(text):
@@ -186,7 +156,7 @@ def call_in(mark, text):
     if not REPLY.fullmatch(reply):
         raise Bad(f"expected a reply of strm, here {quoted(reply)}")
     word, *words = call.split(" ")
-    if word not in WORDS:
+    if word not in FORMS or word in HEADER:
         raise Bad(f"strm has no command {quoted(word)}")
     require_words(word, words, is_call=mark == "!")
     return Call(who, word, FORMS[word], words, reply)

@@ -93,3 +93,13 @@ MEANINGS = {
 def whole_form(word):
     """A word with what comes after it, such as `putq Q R`."""
     return f"{word} {WORDS[word].form}".rstrip()
+
+
+def counted(number, what):
+    """A number with its noun, such as `1 line`."""
+    return f"{number} {what}{'' if number == 1 else 's'}"
+
+
+def wrong_count(form, here):
+    """That a line has another number of words than its form, such as `putq Q R`."""
+    return f"{form}: {counted(len(form.split()), 'word')}, here {here}"

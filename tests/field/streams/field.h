@@ -19,7 +19,6 @@ struct pool {
 void open_pool(const struct pool *given);
 const struct pool *opened_pool(void);
 mblk_t *block_at(int number);
-const dblk_t *data_at(int number);
 int blocks_in(int place);
 int free_data_of(int class);
 size_t length_of(const mblk_t *mp);

@@ -32,8 +32,6 @@ void tell_header(void)
     }
     puts("h bufcalls 0 1");
     tell_labels();
-    for (int k = 0; data_at(k); k++)
-        printf("c %d %ld\n", k, data_at(k)->db_lim - data_at(k)->db_base);
 }
 
 static void look_at_size(mblk_t *mp)

@@ -46,11 +46,6 @@ mblk_t *block_at(int number)
     return number < pool.blocks ? &blocks[number] : NULL;
 }
 
-const dblk_t *data_at(int number)
-{
-    return data_blocks[number].db_base ? &data_blocks[number] : NULL;
-}
-
 int free_data_of(int class)
 {
     int count = 0;

@@ -20,12 +20,12 @@ typedef struct cred cred_t;
 enum { EPERM = 1, ENXIO = 6, EINVAL = 22, ENOSR = 63 };
 
 /* A data block. db_ref is the number of message blocks that refer to it. Modules do not use what follows db_type: the class, the number,
- * and the bytes as they were recorded last. */
+ * whether it was recorded before, and the bytes as they were recorded last. */
 typedef struct datab {
     struct datab *db_freep;
     u_char *db_base, *db_lim;
     u_char db_ref, db_type;
-    int db_class, db_number;
+    int db_class, db_number, db_is_told;
     u_char *db_told;
 } dblk_t;
 

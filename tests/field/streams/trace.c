@@ -79,7 +79,10 @@ static void tell_bytes(const mblk_t *mp)
 
 static void tell_block(char mark, mblk_t *mp)
 {
-    const dblk_t *data = mp->b_datap;
+    dblk_t *data = mp->b_datap;
+    if (!data->db_is_told)
+        printf("c %d %ld\n", data->db_number, data->db_lim - data->db_base);
+    data->db_is_told = 1;
     if (has_new_bytes(mp))
         tell_bytes(mp);
     printf("%c %d %d %d %ld %ld %s %d\n", mark, mp->b_number, mp->b_cont ? mp->b_cont->b_number : -1, data->db_number,

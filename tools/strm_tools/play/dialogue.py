@@ -1,9 +1,9 @@
 """A session from its first line to its last, with interrupts and a closed output."""
 import sys
 
-from strm_tools.ends import end
+from strm_tools.ends import end, end_for, end_wrong, name_of
 from strm_tools.play import proved
-from strm_tools.play.face import Face
+from strm_tools.play.face import Face, Unreadable
 from strm_tools.play.session import Session, changes_of
 from strm_tools.play.shell import DEFAULT, Ended, Shell
 from strm_tools.script import Wrong
@@ -13,7 +13,7 @@ def program_of(named, session, face):
     """The program that answers a session: the named one, which has to work, or one that is found, or None."""
     program = named or proved.find()
     if program is None:
-        face.say("There is no built strm, so the plain model replies.")
+        face.say("There is no built strm, so the plain model replies: strm's rules, written again in Python.")
         return None
     try:
         proved.text_of(program, session.pool_alone())
@@ -27,16 +27,12 @@ def program_of(named, session, face):
 
 def begin(words, face):
     """The session that a script, or without one a small pool, begins."""
-    script = DEFAULT
     try:
-        if words.script is not None:
-            script = face.read(words.script)
+        return Session(changes_of(DEFAULT if words.script is None else face.read(words.script)))
+    except Unreadable as why:
+        end(2, f"{name_of(words.script)}: {why}")
     except Wrong as why:
-        end(2, f"{words.script}: {why}")
-    try:
-        return Session(changes_of(script))
-    except Wrong as why:
-        end(1, why)
+        end_wrong(why, words)
 
 
 def go_on(shell, face):
@@ -70,12 +66,8 @@ def hold_session(words):
 
 
 def talk(words):
-    """Holds a session. A reader of its output that leaves ends it."""
+    """Holds a session, which ends if its output can't be written."""
     try:
         hold_session(words)
-    except KeyboardInterrupt:
-        sys.exit(130)
-    except BrokenPipeError:
-        pass
     except OSError as why:
-        end(2, f"standard output: {why.strerror}")
+        end_for("standard output", why)

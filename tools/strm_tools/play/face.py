@@ -5,6 +5,8 @@ import sys
 import textwrap
 
 from strm_tools.ends import end
+from strm_tools.given import script_of_bytes
+from strm_tools.limits import SCRIPT_BYTES
 from strm_tools.script import Wrong
 
 COLOURS = {"bold": "1", "red": "1;31", "yellow": "1;33"}
@@ -25,12 +27,22 @@ def printable(text):
     return "".join(char if char.isprintable() else char.encode("unicode_escape").decode() for char in text)
 
 
+def named(path):
+    """A path as a session shows it: without characters it is two quotes."""
+    return path or "''"
+
+
+class Unreadable(Wrong):
+    """Why a file can't be read."""
+
+
 class Face:
     """Where a session's lines come from, and where its texts go."""
 
     def __init__(self):
-        if sys.stdin is None or sys.stdout is None:
-            end(2, "standard input or output is closed")
+        for stream, name in ((sys.stdin, "input"), (sys.stdout, "output")):
+            if stream is None:
+                end(2, f"standard {name} is closed")
         sys.stdin.reconfigure(errors="surrogateescape")
         sys.stdout.reconfigure(errors="backslashreplace")
         self.is_terminal = sys.stdin.isatty() and sys.stdout.isatty()
@@ -68,12 +80,13 @@ class Face:
         return line or None
 
     def read(self, path):
-        """The text of a file. Raises `Wrong` if it can't be read."""
+        """The text of a script. Raises `Unreadable` if its file can't be read, and `Wrong` if it is too long."""
         try:
-            with open(os.path.expanduser(path), encoding="utf-8", errors="surrogateescape", newline="") as file:
-                return file.read()
+            with open(os.path.expanduser(path), "rb") as file:
+                octets = file.read(SCRIPT_BYTES + 1)
         except (OSError, ValueError) as why:
-            raise Wrong(getattr(why, "strerror", None) or why)
+            raise Unreadable(getattr(why, "strerror", None) or why)
+        return script_of_bytes(octets, "surrogateescape")
 
     def save(self, texts, overwrites):
         """Writes each text to its file. Raises `Wrong` if it can't, or if a file is there and may not be overwritten."""
@@ -85,7 +98,7 @@ class Face:
                 with open(path, "w" if overwrites else "x", encoding="utf-8", errors="surrogateescape", newline="") as file:
                     file.write(text)
             except (OSError, ValueError) as why:
-                raise Wrong(f"{path}: {getattr(why, 'strerror', None) or why}")
+                raise Wrong(f"{named(path)}: {getattr(why, 'strerror', None) or why}")
 
     # ---- Output ------------------------------------------------------------------------------------------------------
 

@@ -38,3 +38,10 @@ def difference(text, wanted):
     """The first line in which a text differs from the wanted one, as both have it."""
     lines = zip([*text.split("\n"), ""], [*wanted.split("\n"), ""])
     return next(((line, other) for line, other in lines if line != other), (text, wanted))
+
+
+def parts(text, replies):
+    """The replies and the report of a text. Where it has no reply to a line, that is one of these."""
+    lines = text.split("\n")[:-1]
+    count = len(replies)
+    return [line.partition(" ")[2] for line in lines[:count]] + replies[len(lines) :], lines[count:]

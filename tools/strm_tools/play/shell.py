@@ -1,19 +1,20 @@
 """The session as a dialogue: reads a line, answers it, and draws the state."""
-import difflib
 import os
-import random
 import shlex
 from collections import Counter
 
-from strm_tools.faults import AFTER, FITS, FORMS, MOST, fault_in, line_kind, require_right
+from strm_tools.faults import fault_in, require_right
 from strm_tools.listing import listing
 from strm_tools.play import proved
 from strm_tools.play.completion import completed
-from strm_tools.play.session import changes_of, draw, drawn_order, is_command, opening, parted, text_of
+from strm_tools.play.face import named
+from strm_tools.play.own import OWN, TypedHeader, explained, number_of, wrong_form
+from strm_tools.play.session import changes_of, is_command, opening, parted, text_of
 from strm_tools.play.state import drawn, is_changed
+from strm_tools.play.turns import Turns
 from strm_tools.rules import EFFECTS, explains, why
 from strm_tools.script import Wrong
-from strm_tools.words import COMMANDS, HEADER, MEANINGS, WORDS, whole_form
+from strm_tools.words import COMMANDS, HEADER, WORDS, counted, whole_form
 
 DEFAULT = """pool 1 8
 class 16 4
@@ -23,63 +24,22 @@ queue 10 4 s -
 bufcalls 2 1
 worker
 """
-# The session's own commands: what comes after each, what it does, and the items for completion.
-OWN = {
-    "help": ("[WORD]", "Lists all commands, or says what one does.", "word"),
-    "header": ("", "Shows the lines that describe the pool.", ""),
-    "new": ("[FILE]", "Opens the pool of a script, or one that you type.", "file"),
-    "state": ("[on|off]", "Shows the state; on: after every line, off: on request.", "switch"),
-    "report": ("", "Prints the report of the pool, as strm does.", ""),
-    "list": ("[N]", "Lists the executed lines, or the last N, with replies.", ""),
-    "why": ("", "Explains the last refusal, or enabling of a queue.", ""),
-    "undo": ("[N]", "Takes back the last line, or the last N.", ""),
-    "redo": ("[N]", "Does again what undo took back.", ""),
-    "save": ("[-f] FILE [TEXT]", "Writes the script, and the text of several workers.", "file file"),
-    "turn": ("W", "The lines that you enter are worker W's.", "worker"),
-    "hold": ("[off]", "The lines that you enter wait for next or run.", "off"),
-    "rewind": ("", "All lines wait again, and the pool is as it was opened.", ""),
-    "next": ("[W]", "Executes a waiting line: of worker W, or a drawn one.", "worker"),
-    "run": ("[SEED]", "Executes all waiting lines, in an order that is drawn.", ""),
-    "workers": ("", "Lists the lines of each worker, also those that wait.", ""),
-    "quit": ("", "Ends the session, as Ctrl-D does.", ""),
-}
-# What people type for commands of the session.
-MEANT = {"exit": "quit", "q": "quit", "?": "help", "show": "state", "open": "new", "load": "new", "step": "next"}
-
-
-def counted(count, what):
-    """A number with its noun, such as `1 line`."""
-    return f"{count} {what}{'' if count == 1 else 's'}"
-
-
 class Ended(Exception):
     """The session is at its end."""
 
 
-def number_of(word, least=0):
-    """The number that a word is, or `Wrong`."""
-    if not (word.isascii() and word.isdigit() and least <= int(word) < 10**9):
-        raise Wrong(f"{word} is no number from {least} to 999999999")
-    return int(word)
+def is_explained(row):
+    """Whether a rule explains what a line did."""
+    _, text, reply = row
+    return explains(text.split(" ")[0], reply)
 
 
-def explained(fault, first, rest):
-    """A fault of a line, with what was expected."""
-    if fault == "unknown":
-        near = [MEANT[first]] if first in MEANT else difflib.get_close_matches(first, [*WORDS, *OWN], 1)
-        return f"unknown: there is no command {first}" + (f"; is {near[0]} meant?" if near else "; help lists all")
-    if fault == "toomany":
-        return f"toomany: a script has at most {counted(MOST[line_kind(first)], 'such line')}"
-    if fault == "shape":
-        return f"shape: {whole_form(first)}: {len(FORMS[first]) + 1} words, here {len(rest) + 1}"
-    names = WORDS[first].form.split()
-    for name, item, word in zip(names, FORMS[first], rest):
-        if not FITS[item][0](word):
-            return f"{fault}: {name} is {MEANINGS[item]}; here it is {word}"
-    return fault
+def shown(row):
+    """A line that was executed, with its reply."""
+    return "{} {}: {}".format(*row)
 
 
-class Shell:
+class Shell(Turns):
     """A session with the program that answers it, if any, and the face that shows it. Each command of the session has a method
     whose name is `on_` and the command."""
 
@@ -88,9 +48,8 @@ class Shell:
         self.program = program
         self.face = face
         self.say = face.say
-        # The lines of a header that is typed, or None.
+        # The header that is typed, or None.
         self.typed = None
-        self.seed = None
         self.is_drawn = None
         self.said = set()
 
@@ -162,7 +121,7 @@ class Shell:
         most = len(form.replace("[-f] ", "-f ").split())
         least = len([part for part in form.split() if not part.startswith("[")])
         if not least <= len(words) <= most:
-            raise Wrong(f"shape: {word} {form}".rstrip())
+            raise wrong_form(word)
         if self.typed is not None and word not in ("help", "quit", "undo"):
             raise Wrong("the header is not at its end yet, which is a line `worker`; undo keeps the pool that there was")
         getattr(self, f"on_{word}")(*words)
@@ -205,19 +164,14 @@ class Shell:
             if self.program:
                 self.say_once("more than 26 registers hold messages, too many for strm: the plain model replies alone")
             return replies, report
-        script, wanted = served
         try:
-            text = proved.text_of(self.program, script)
+            text = proved.text_of(self.program, served[0])
         except Wrong as reason:
             self.say(f"{reason}; the plain model replies")
             return replies, report
-        if text == wanted:
-            return replies, report
-        line, other = proved.difference(text, wanted)
-        self.say(f"strm prints {line!r}, and the plain model {other!r}: one has a fault; please report it")
-        lines = text.split("\n")[:-1]
-        count = len(replies)
-        return [line.partition(" ")[2] for line in lines[:count]] + replies[len(lines) :], lines[count:]
+        if text != served[1]:
+            self.say("strm prints {!r}, and the plain model {!r}: one has a fault; please report it".format(*proved.difference(text, served[1])))
+        return proved.parts(text, replies)
 
     def draw(self, anew=True):
         """Draws the state. Unless `state on` asks for it, it must fit the window, and have changed if it is not drawn anew."""
@@ -246,29 +200,17 @@ class Shell:
 
     def begin_header(self, text):
         """Takes the first line of a header, if it is right."""
-        self.typed = []
-        try:
-            self.take_header(text)
-        except Wrong:
-            self.typed = None
-            raise
+        typed = TypedHeader()
+        typed.take(text)
+        self.typed = typed
 
     def take_header(self, text):
-        """Takes a line of a header, which a line `worker` ends."""
-        lines = list(filter(is_command, self.typed))
-        word, *rest = text.split(" ")
-        before = line_kind(lines[-1].split(" ")[0]) if lines else "nothing"
-        fault = is_command(text) and fault_in(word, rest, before, Counter(line_kind(line.split(" ")[0]) for line in lines))
-        if fault == "order":
-            raise Wrong(f"order: here comes {' or '.join(map(whole_form, AFTER[before]))}; undo keeps the pool that there was")
-        if fault:
-            raise Wrong(explained(fault, word, rest))
-        if word != "worker":
-            self.typed += [text] if text else []
-            return
-        header, self.typed = self.typed, None
-        require_right(text_of([*header, "worker"]))
-        self.open([opening(header)], "these lines")
+        """Takes a line of a header, and opens its pool if it is whole."""
+        header = self.typed.take(text)
+        if header is not None:
+            self.typed = None
+            require_right(text_of([*header, "worker"]))
+            self.open([opening(header)], "these lines")
 
     # ---- Commands of the session -------------------------------------------------------------------------------------
 
@@ -296,7 +238,7 @@ class Shell:
 
     def on_new(self, path=None):
         if path is None:
-            self.typed = []
+            self.typed = TypedHeader()
             self.say("Type the header, each line in its form, and `worker` at its end; undo keeps the pool that there is:")
             for word in HEADER:
                 self.say(f"  {whole_form(word)}")
@@ -304,12 +246,12 @@ class Shell:
         try:
             changes = list(changes_of(self.face.read(path)))
         except Wrong as reason:
-            raise Wrong(f"{path}: {reason}")
+            raise Wrong(f"{named(path)}: {reason}")
         self.open(changes[:1], path)
 
     def on_state(self, switch=None):
         if switch not in (None, "on", "off"):
-            raise Wrong("shape: state [on|off]")
+            raise wrong_form("state")
         if switch is None:
             self.face.show(self.lines_of_state())
         else:
@@ -327,17 +269,18 @@ class Shell:
         self.face.write(listing(rows))
 
     def on_why(self):
-        for place in reversed(range(len(self.play.executed))):
-            line = self.play.executed[place]
-            word, items, values = parted(line.text)
-            if explains(word, line.reply):
-                rule = why(self.session.model_before(place), word, items, values)
-                at = list(self.play.rows())[place][0]
-                result = f", {rule.rule.decides}" if rule.rule.decides in EFFECTS else ""
-                self.say(f"{at} {line.text}: {line.reply}{result}")
-                self.face.paragraph("  ", f"{rule.text()} (MODEL.md, {rule.rule.section})")
-                return
-        raise Wrong("no line was refused yet, and none could enable a queue")
+        rows = list(self.play.rows())
+        place = next((place for place in reversed(range(len(rows))) if is_explained(rows[place])), None)
+        if not rows:
+            raise Wrong("nothing to explain: no line is executed")
+        if place is None:
+            raise Wrong("nothing to explain: no line was refused, and none could enable a queue")
+        if place < len(rows) - 1:
+            self.say(f"nothing to explain in the last line, {shown(rows[-1])}; before it:")
+        _, text, _ = rows[place]
+        rule = why(self.session.model_before(place), *parted(text))
+        self.say(shown(rows[place]) + (f", {rule.rule.decides}" if rule.rule.decides in EFFECTS else ""))
+        self.face.paragraph("  ", f"{rule.text()} (MODEL.md, {rule.rule.section})")
 
     def on_undo(self, count="1"):
         if self.typed is not None:
@@ -360,7 +303,7 @@ class Shell:
         overwrites = words[:1] == ("-f",)
         paths = [os.path.expanduser(word) for word in words[overwrites:]]
         if len(paths) not in (1, 2) or not overwrites and len(words) > 2:
-            raise Wrong("shape: save [-f] FILE [TEXT]")
+            raise wrong_form("save")
         waiting = sum(section.waiting() for section in self.play.sections)
         if waiting and len(paths) > 1:
             raise Wrong(f"{counted(waiting, 'line')} waiting, so there is no text yet; run executes them")
@@ -375,75 +318,6 @@ class Shell:
             self.say(f"wrote {path}: the replies in the order of execution, and the report")
         if waiting:
             self.say(f"{counted(waiting, 'command')} waiting, so no text is written")
-
-    # ---- Several workers ---------------------------------------------------------------------------------------------
-
-    def worker_of(self, word):
-        worker = number_of(word)
-        if worker >= len(self.play.sections):
-            raise Wrong(f"there is no worker {worker}; a line `worker` begins worker {len(self.play.sections)}")
-        return worker
-
-    def on_turn(self, word):
-        worker = self.worker_of(word)
-        self.session.do("turn_to", worker, named=f"turn {worker}")
-        self.say(f"the lines that you enter are those of worker {worker}")
-
-    def on_hold(self, off=None):
-        if off not in (None, "off"):
-            raise Wrong("shape: hold [off]")
-        self.session.do("hold", off is None, named="hold off" if off else "hold")
-        self.say("the lines that you enter are executed at once" if off else "the lines that you enter wait, until next or run")
-
-    def on_rewind(self):
-        self.session.do("rewind", named="rewind")
-        waiting = sum(section.waiting() for section in self.play.sections)
-        self.say(f"{counted(waiting, 'line')} waiting: next executes one, run all")
-        self.draw()
-
-    def seeded(self, seed):
-        """The seed, which is said if there is more than one worker to draw."""
-        self.seed = seed
-        if len(self.play.waiting()) > 1:
-            self.say(f"seed {seed}")
-        return seed
-
-    def next_worker(self):
-        """The worker whose line is executed next: the only one that waits, or a drawn one."""
-        waiting = self.play.waiting()
-        if not waiting:
-            raise Wrong("no line waits")
-        if len(waiting) == 1:
-            return waiting[0]
-        seed = self.seeded(random.randrange(10_000) if self.seed is None else self.seed)
-        return draw(waiting, seed, len(self.play.executed))
-
-    def on_next(self, word=None):
-        worker = self.next_worker() if word is None else self.worker_of(word)
-        if not self.play.sections[worker].waiting():
-            raise Wrong(f"no line of worker {worker} waits")
-        for comment in self.play.sections[worker].comments():
-            self.say(comment)
-        self.serve("serve", [worker], "next")
-
-    def on_run(self, word=None):
-        if not self.play.waiting():
-            raise Wrong("no line waits")
-        seed = self.seeded(random.randrange(10_000) if word is None else number_of(word))
-        self.serve("run", drawn_order(self.play, seed), f"run {seed}")
-
-    def serve(self, method, workers, named):
-        """Executes waiting lines of these workers, and shows them with their replies."""
-        self.session.do(method, workers, named=named)
-        replies = self.answers()[0]
-        rows = list(self.play.rows())
-        self.say_rows([(at, text, reply) for (at, text, _), reply in zip(rows, replies)][-len(workers) :])
-        self.draw(anew=False)
-
-    def on_workers(self):
-        for worker, section in enumerate(self.play.sections):
-            self.say(f"worker {worker}: {counted(len(section.commands()), 'line')} executed, {section.waiting()} waiting")
-            self.say_rows([(at, text, reply or "(waiting)") for at, text, reply in self.play.rows_of_section(worker)])
 
     def on_quit(self):
         raise Ended

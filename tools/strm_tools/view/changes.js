@@ -1,4 +1,4 @@
-// What a line changed, in sentences: what the picture marks, and why queues were enabled.
+// What a line changed, in sentences: what the picture marks, and why. A sentence is a text, or a list of texts and links to frames.
 
 // The most sentences that are shown.
 const MOST_SENTENCES = 12;
@@ -22,15 +22,68 @@ function labelIn({command, reply}) {
 
 // ---- What happened -----------------------------------------------------------------------------------------------------------------
 
-// Why a queue was enabled, by the word of the line. Any other word means back-enabling.
+// Why a queue was enabled, by the word of the line. For back-enabling the line has a rule.
 const REASONS = {qenable: "by qenable", putq: "by a message", putbq: "by a message", insq: "by a message"};
 
 function tellEvent(event, line) {
     const [queue, band] = event.slice(1).split(".");
-    const [word, named] = line.command.split(" ");
-    if (event[0] === "F") return `Band ${band} of ${labelOf(queue)} is now full.`;
-    if (event[0] === "E") return `${labelOf(queue)} is enabled ${REASONS[word]}.`;
-    return `Back-enabling: ${labelOf(queue)} is enabled, because ${labelOf(named)} has room again.`;
+    if (event[0] === "F") return [`Band ${band} of ${labelOf(queue)} is now full.`];
+    if (event[0] === "E") return [`${labelOf(queue)} is enabled ${REASONS[line.command.split(" ")[0]]}.`];
+    return [];
+}
+
+// ---- Why ---------------------------------------------------------------------------------------------------------------------------
+
+// The band of a queue that the rule of a line is about: it is full, or a wanted mark of it was cleared.
+const bandIn = ({why}) => (why?.Q && why.B ? {queue: Number(why.Q), band: Number(why.B)} : undefined);
+
+// The queue and the band that a `bcanput` found full.
+const askedIn = (line) => (line.reply === "no" ? bandIn(line) : undefined);
+
+// The sentence of a line's rule, with its numbers and the labels of queues.
+function sentenceOf({rule, ...numbers}) {
+    const value = (_, name) => (name === "Q" || name === "W" ? numberAndLabel(numbers[name]) : numbers[name]);
+    return run.rules[rule].replace(/\{(\w+)\}/g, value).replaceAll("`", "");
+}
+
+const linkTo = (frame, text) => ({frame, text: `${text} line ${lineAt(frame).number}`});
+
+// When the wanted mark of a band was set that is set at a frame, or that the frame cleared, and when it was cleared, if ever.
+function waitOf({queue, band}, frame) {
+    const {frames, values} = stepsOf(`wanted ${queue} ${band}`);
+    const place = placeOf(frames, frame);
+    const begin = values[place] === 1 ? place : place - 1;
+    return {begin: frames[begin], end: frames[begin + 1]};
+}
+
+// Which queue a `bcanput` asked, if the line names another one, and what comes of it that the band was full.
+function tellAsked({queue, band}, line, frame) {
+    const named = Number(line.command.split(" ")[1]);
+    const other = queue === named ? [] : [`bcanput asked queue ${numberAndLabel(queue)}, as queue ${numberAndLabel(named)} has no service procedure.`];
+    const {begin, end} = waitOf({queue, band}, frame);
+    const since = begin < frame ? [[`Band ${band} is `, linkTo(begin, "wanted since"), "."]] : [];
+    if (end === undefined) return [...other, ...since, `Band ${band} stays wanted to the end of the run.`];
+    const waker = lineAt(end).events.find((event) => event.startsWith("B"))?.slice(1);
+    if (waker === undefined) return [...other, ...since, [`Band ${band} is `, linkTo(end, "wanted no longer at"), ", which enables no queue."]];
+    return [...other, ...since, [`Queue ${numberAndLabel(waker)} is `, linkTo(end, "enabled again at"), "."]];
+}
+
+// Since when the bands of a queue were wanted that are wanted no longer.
+function tellCleared(queue, frame, before, after) {
+    const cleared = before.queues[queue].wanted.filter((band) => !after.queues[queue].wanted.includes(band));
+    return cleared.map((band) => [`Band ${band} was `, linkTo(waitOf({queue, band}, frame).begin, "wanted since"), ", where bcanput said no."]);
+}
+
+// Why a line was refused, found a band full, or enabled a queue as it cleared a wanted mark.
+function tellWhy(line, frame, before, after) {
+    if (!line.why) return [];
+    const [about, asked] = [bandIn(line), askedIn(line)];
+    const sentence = sentenceOf(line.why);
+    const isBack = line.events.some((event) => event.startsWith("B"));
+    const head = isBack ? "Back-enabling" : about && !asked ? "" : line.reply.split(" ").at(-1);
+    const first = head ? `${head}: ${sentence[0].toLowerCase()}${sentence.slice(1)}` : sentence;
+    if (asked) return [first, ...tellAsked(asked, line, frame)];
+    return about ? [first, ...tellCleared(about.queue, frame, before, after)] : [first];
 }
 
 const describe = ({rank, blocks}) => `${rank}, ${howMany(lengthOf(blocks), "byte")}`;
@@ -88,13 +141,26 @@ function tellPanel(panel, marks, references) {
     ];
 }
 
-// What a line changed, the most important first: back-enabling, other events, messages, queues, registers, and the pool.
-function tellChanges(line, before, after, marks) {
-    const panels = panelsOf(after, bandsShown(after));
-    const old = panelsOf(before, bandsShown(after));
-    const [pool, ...others] = panels.map((panel) => (marks.has(panel.key) ? tellPanel(panel, marks, after.references) : []));
-    const events = line.events.map((event) => tellEvent(event, line)).sort((one, other) => other.startsWith("Back") - one.startsWith("Back"));
+// What a line changed, the most important first: events, messages, queues, registers, and the pool.
+function tellChanges(line, marks, references, old, panels) {
+    const [pool, ...others] = panels.map((panel) => (marks.has(panel.key) ? tellPanel(panel, marks, references) : []));
     const messages = (shown) => shown.flatMap((panel) => panel.messages);
-    const all = [...events, ...tellMoves(messages(old), messages(panels), marks), ...others.flat(), ...pool];
+    const events = line.events.flatMap((event) => tellEvent(event, line));
+    return [...events, ...tellMoves(messages(old), messages(panels), marks), ...others.flat(), ...pool];
+}
+
+// What to say of a frame: why, and what changed.
+function sentencesOf(frame, line, before, after, marks, old, panels) {
+    if (frame === 0) return ["The pool opens."];
+    const changed = tellChanges(line, marks, after.references, old, panels);
+    const nothing = changesAt(frame).length > 0 ? "Nothing that the picture shows." : "Nothing changed.";
+    const all = [...tellWhy(line, frame, before, after), ...(changed.length > 0 ? changed : [nothing])];
     return all.length > MOST_SENTENCES ? [...all.slice(0, MOST_SENTENCES - 1), `And ${all.length - MOST_SENTENCES + 1} more.`] : all;
+}
+
+// A sentence as an item of a list.
+function sentenceNode(sentence) {
+    const node = made("li", "");
+    node.append(...[sentence].flat().map((part) => (part.frame === undefined ? part : made("a", part.text, {href: `#frame=${part.frame}`}))));
+    return node;
 }

@@ -8,11 +8,14 @@ has a row for each line of the page's list:
     >                        the opening of the pool, which is frame 0
     W:L COMMAND              line L of the script, executed by worker W. After a tab comes the reply, unless it is `ok`, and after another
                              what the line made happen: F2.0, band 0 of queue 2 became full; E2, queue 2 was enabled; B2, the same as
-                             back-enabling
+                             back-enabling. After a third tab comes the rule that decided (rules.py), with its numbers:
+                             full B=0 Q=2 N=9 H=8
+    @3                       the lines from here on are calls of another caller than before: of number 3, or after @ alone of none
 
 In rows `&` is `&amp;`, `<` is `&lt;`, and a carriage return is U+240D. Rows of labels (labels.py) are left out, since the page shows them elsewhere."""
 import json
 from array import array
+from bisect import bisect_right
 from itertools import count
 
 from strm_tools.labels import form_of
@@ -37,18 +40,28 @@ def is_shown(line):
     return line.startswith(HEADER) or line.startswith("#") and not form_of(line)
 
 
+def text_of_rule(why):
+    """A rule with its numbers as a row has it, or nothing."""
+    return " ".join([why.name, *(f"{name}={number}" for name, number in why.numbers.items())]) if why else ""
+
+
 def is_command(line):
     return bool(line) and line != "worker" and not line.startswith(("#", *HEADER))
 
 
 class Chunks:
-    """Takes the lines of a run, and hands on each chunk by `write`: its rows and its JSON. `script` is the lines of the script, and `state`
-    returns the pool as it is."""
+    """Takes the lines of a run, and hands on each chunk by `write`: its rows and its JSON. `script` is the lines of the script, `labels` its
+    labels, and `state` returns the pool as it is."""
 
-    def __init__(self, script, state, write):
+    def __init__(self, script, labels, state, write):
         self.script = script
         self.state = state
         self.write = write
+        # The callers: the line from which each one's calls are, its label, and the labels, each once. The caller of the line before.
+        self.begins = [number for number, _ in labels.callers]
+        self.callers = [label for _, label in labels.callers]
+        self.names = labels.names_of_callers()
+        self.caller = ""
         # The lines and the rows of each chunk.
         self.lines = array("L")
         self.rows = array("L")
@@ -74,17 +87,23 @@ class Chunks:
             return shielded(line)
         return f"={line}\t{next(self.queues)}" if line.startswith("queue ") else f"={line}"
 
-    def comments_before(self, number):
-        """The rows of the comments before a command, up to the command before it in the script."""
+    def rows_before(self, number):
+        """The rows before that of a command: the comments up to the command before it in the script, and between them its caller, unless the
+        line before has the same."""
         begin = number - 1
         while not is_command(self.script[begin - 1]) and not self.script[begin - 1].startswith(HEADER):
             begin -= 1
-        return self.passed(begin, number - 1)
+        place = bisect_right(self.begins, number) - 1
+        label = max(begin, self.begins[place]) if place >= 0 else begin
+        before, self.caller = self.caller, self.callers[place] if place >= 0 else ""
+        caller = [f"@{self.names.index(self.caller) if self.caller else ''}"] if before != self.caller else []
+        return [*self.passed(begin, label), *caller, *self.passed(label, number - 1)]
 
     def add(self, line):
         """Takes the next line."""
-        fields = [f"{line.worker}:{line.number} {self.script[line.number - 1]}", "" if line.reply == "ok" else line.reply, " ".join(line.events)]
-        self.rows_now += [*self.comments_before(line.number), "\t".join(fields).rstrip("\t")]
+        command, reply = self.script[line.number - 1], "" if line.reply == "ok" else line.reply
+        fields = [f"{line.worker}:{line.number} {command}", reply, " ".join(line.events), text_of_rule(line.why)]
+        self.rows_now += [*self.rows_before(line.number), "\t".join(fields).rstrip("\t")]
         self.changes.append(compact(line.changes))
         self.bytes += len(self.changes[-1])
         if len(self.changes) == MOST_LINES or self.bytes > max(MOST_BYTES, len(self.opening)):

@@ -3,7 +3,7 @@
 let current = 0;
 let addressing;
 let playing;
-// The width of the picture and of the chart, and the heights of the list and of the part that has the picture.
+// The width of the picture and of the chart, and the height of the list.
 const sizes = {};
 
 // A picture has a width in points, since one that is a share of the page is laid out again with every change of the page.
@@ -13,7 +13,7 @@ function measure() {
         byId(id).setAttribute("width", sizes[id]);
     }
     sizes.list = list.clientHeight;
-    sizes.pool = byId("pool").clientHeight;
+    scrolled = list.scrollTop;
 }
 
 // ---- Showing a frame -----------------------------------------------------------------------------------------------------------------
@@ -30,30 +30,28 @@ function tellLine(frame, line) {
     byId("frame").value = frame;
 }
 
-// What to say of a frame, in sentences.
-function sentencesOf(frame, line, before, pool, marks) {
-    if (frame === 0) return ["The pool opens."];
-    const sentences = tellChanges(line, before, pool, marks);
-    if (sentences.length > 0) return sentences;
-    return [changesAt(frame).length > 0 ? "Nothing that the picture shows." : "Nothing."];
-}
-
 // Shows a frame, or the nearest one there is. The page's address follows once nobody moves.
 function show(frame, row) {
     current = Math.max(0, Math.min(LAST, Math.trunc(frame) || 0));
     foundRow = row;
+    hits.end = "";
     const line = lineAt(current);
-    const before = current > 0 ? poolAt(current - 1) : undefined;
+    const before = poolAt(Math.max(0, current - 1));
     const pool = poolAt(current);
-    const marks = before ? marksOf(before, pool) : new Map();
+    const bands = bandsShown(pool);
+    const [old, panels] = [before, pool].map((one) => panelsOf(one, bands));
+    const marks = marksOf(before, pool, old, panels);
     tellLine(current, line);
-    byId("changes").replaceChildren(...sentencesOf(current, line, before, pool, marks).map((sentence) => made("li", sentence)));
-    draw(current, pool, marks, chosenIn(pool));
-    showBlock(pool);
+    byId("changes").replaceChildren(...sentencesOf(current, line, before, pool, marks, old, panels).map(sentenceNode));
     showInList(row ?? rowOf(current));
+    showBlock(pool);
+    draw(line, pool, panels, marks, chosenIn(pool));
     drawChart(current);
     tellFound();
+    tellHits();
     byId("report").textContent = reportOf(pool).map((told) => `${told}\n`).join("");
+    // This asks where things are, so that the browser lays out the page: once, after all changes.
+    showChanged(line, marks);
     clearTimeout(addressing);
     addressing = setTimeout(() => history.replaceState(null, "", `#frame=${current}`), 300);
 }
@@ -63,8 +61,8 @@ function redraw() {
     show(current);
 }
 
-// The frame that the page's address names, or the first.
-const addressed = () => Number(/^#frame=(\d+)$/.exec(location.hash)?.[1] ?? 0);
+// The frame that an address in the page names, or the first.
+const frameIn = (hash) => Number(/^#frame=(\d+)$/.exec(hash)?.[1] ?? 0);
 
 // ---- Playing -------------------------------------------------------------------------------------------------------------------------
 
@@ -107,12 +105,15 @@ const KEYS = {
     R: () => jumpTo("refused", -1),
     b: () => jumpTo("back", 1),
     B: () => jumpTo("back", -1),
+    c: () => jumpTo("no", 1),
+    C: () => jumpTo("no", -1),
     ".": () => chooseNext(1),
     ",": () => chooseNext(-1),
     Escape: () => choose(undefined),
     "?": () => {
         byId("help").open = true;
         byId("help").scrollIntoView();
+        byId("help").firstElementChild.focus({preventScroll: true});
     },
 };
 // In the list, further keys move. A field keeps its own keys, but for Escape.
@@ -157,11 +158,19 @@ byId("which").onchange = tellFound;
 byId("text").onkeydown = (event) => {
     if (event.key === "Enter") search(event.shiftKey ? -1 : 1);
 };
+byId("text").oninput = countHits;
+// A link goes to its frame. Then the list has the focus, since the link is gone.
+byId("changes").onclick = (event) => {
+    const link = event.target.closest("a");
+    if (!link) return;
+    show(frameIn(link.hash));
+    list.focus({preventScroll: true});
+};
 byId("all").onchange = () => show(current);
 for (const name of ["slider", "frame"]) byId(name).max = LAST;
 byId("last").textContent = LAST;
-window.onhashchange = () => show(addressed());
+window.onhashchange = () => show(frameIn(location.hash));
 window.onresize = redraw;
-current = addressed();
+current = frameIn(location.hash);
 chooseKind();
 redraw();

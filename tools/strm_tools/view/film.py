@@ -24,7 +24,9 @@ from typing import NamedTuple
 
 from strm_tools.judge import Replay
 from strm_tools.model import HIGH_PRIORITY, ORDINARY
+from strm_tools.rules import SETTLES, Found, why_not, why_settled
 from strm_tools.script import lazily
+from strm_tools.view.queues import OF_BYTES, OF_DATA, READ, WANTED, WRITE, ShownQueue, flags_of, message_of
 from strm_tools.view.tracks import Tracks
 
 KINDS = ORDINARY + HIGH_PRIORITY
@@ -32,10 +34,6 @@ PLACE_OF_KIND = {kind: place for place, kind in enumerate(KINDS)}
 REGISTERS = "abcdefghijklmnopqrstuvwxyz"
 DATA, RUN, WISHES, FIRST_QUEUE = range(4)
 BYTES = -1
-# Places in a block.
-OF_DATA, READ, WRITE, OF_BYTES = 1, 4, 5, 7
-# What enables a queue after one of these is the settling of another queue: back-enabling.
-SETTLES = frozenset(["getq", "rmvq", "flushq", "flushband", "strqset"])
 CHANGES_NOTHING = ("refused", "empty", "taken")
 
 
@@ -53,27 +51,15 @@ def splice(before, after, same=operator.eq):
 
 
 class Line(NamedTuple):
-    """An executed line: who executed it and where it is in the script, its reply, what it made happen, and what it changed."""
+    """An executed line: who executed it and where it is in the script, its reply, what it made happen, and what it changed. Lines that were
+    refused, found a band full or cleared a wanted mark also have the rule that decided this (rules.py)."""
 
     worker: int
     number: int
     reply: str
     events: list
     changes: list
-
-
-class Message(NamedTuple):
-    """A message on a queue: the model's own list, by which it is recognized, and what is shown of it."""
-
-    own: list
-    blocks: list
-    band: int
-    length: int
-
-
-def message_of(own, blocks):
-    band = 0 if own[0].data.kind in HIGH_PRIORITY else own[0].band
-    return Message(own, blocks, band, sum(block[WRITE] - block[READ] for block in blocks))
+    why: Found = None
 
 
 def pieces_of(blocks, left):
@@ -83,43 +69,6 @@ def pieces_of(blocks, left):
         if begin < end:
             yield [block[OF_BYTES], begin, end]
         left -= end - begin
-
-
-class ShownQueue:
-    """A queue as the frames show it."""
-
-    def __init__(self, queue):
-        self.messages = []
-        self.flags = flags_of(queue)
-        # The bytes of each band that has messages or had some, and the bands that are full.
-        self.bytes = Counter()
-        self.full = set()
-        # All bands that ever have bytes, are wanted or have water marks of their own; the most at a time with bytes or wanted; the most blocks.
-        self.bands = set()
-        self.most_bands = 0
-        self.blocks = 0
-        self.most_blocks = 0
-
-    def count(self, messages, sign):
-        """Counts messages that come, or by the sign -1 that go."""
-        for message in messages:
-            self.bytes[message.band] += sign * message.length
-            self.blocks += sign * len(message.blocks)
-        self.most_blocks = max(self.most_blocks, self.blocks)
-
-    def settle(self, queue):
-        """Notes which bands are shown now. Returns those that became full."""
-        full = {band for band, number in self.bytes.items() if number and number >= queue.marks_of(band)[0]}
-        came, self.full = full - self.full, full
-        busy = {band for band, number in self.bytes.items() if number} | queue.wanted
-        self.bands |= busy | set(queue.marks)
-        self.most_bands = max(self.most_bands, len(busy))
-        return sorted(came)
-
-
-def flags_of(queue):
-    own = [[band, *marks] for band, marks in sorted(queue.marks.items())]
-    return [int(queue.wants_to_read), int(queue.enabling_is_off), sorted(queue.wanted), own]
 
 
 class Film(Replay):
@@ -146,6 +95,8 @@ class Film(Replay):
         # How many references each data block has on each queue.
         self.holders = defaultdict(Counter)
         self.tracks = Tracks()
+        # The names of the rules that lines have.
+        self.rules = set()
         self.count_all()
 
     # ---- What is shown of a message --------------------------------------------------------------------------------------------
@@ -218,6 +169,8 @@ class Film(Replay):
         before, after = self.queues[number].flags, flags_of(self.model.queues[number])
         if before != after:
             self.queues[number].flags = after
+            for band in sorted(set(before[WANTED]) ^ set(after[WANTED])):
+                self.tracks.step(f"wanted {number} {band}", self.frame, int(band in after[WANTED]))
             yield self.change(FIRST_QUEUE + 2 * number, before, after)
 
     def changed_lists(self):
@@ -255,6 +208,7 @@ class Film(Replay):
         self.references = Counter()
         reply = told.partition(" ")[2]
         changes, events = [], []
+        why = self.why(word, items, values, reply)
         for letter in letters:
             self.tracks.mark(f"used {worker} {letter}", self.frame)
         if reply.startswith(CHANGES_NOTHING):
@@ -269,8 +223,23 @@ class Film(Replay):
             events += self.enabled(word, set(run), set(self.lists[RUN]))
             self.note_references()
             self.count_all()
-        self.keep(Line(worker, number, reply, events, changes))
+        self.keep(Line(worker, number, reply, events, changes, why))
         return told
+
+    def why(self, word, items, values, reply):
+        """The rule that a line has, or None. What the frames show is still as before the line."""
+        rule = None
+        if reply.startswith(CHANGES_NOTHING) or (word, reply) == ("bcanput", "no"):
+            rule = why_not(self.model, word, items, values, reply)
+        elif word in SETTLES:
+            wanted = self.queues[values[0]].flags[WANTED]
+            if set(wanted) != self.model.queues[values[0]].wanted:
+                rule = why_settled(self.model, values[0], wanted, self.lists[RUN])
+        if rule:
+            self.rules.add(rule.name)
+        if rule and reply == "no":
+            self.tracks.mark(f"no {rule.numbers['Q']}", self.frame)
+        return rule
 
     def changed_queues(self, word, named, changes):
         """Adds the changes of queues. Returns which bands became full."""

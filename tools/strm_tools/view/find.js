@@ -14,7 +14,8 @@ function merged(names) {
 // What can be looked for: by a queue or any, by a register, or by nothing more.
 const KINDS = {
     refused: {name: "a call is refused"},
-    back: {name: "a queue is back-enabled (the next has room)", by: "queue"},
+    no: {name: "a bcanput says no", by: "queue"},
+    back: {name: "a band drains: back-enabling", by: "queue"},
     enabled: {name: "a queue is enabled", by: "queue"},
     full: {name: "a band becomes full", by: "queue"},
     changed: {name: "a queue changes", by: "queue"},
@@ -95,23 +96,35 @@ const tellFound = () => tellPlace(byId("found"), matches(lookedFor()), current);
 let foundRow;
 
 // Words of the list that the rows of a chunk do not have themselves.
-const ADDED = [...run.callers.map(([, label]) => label), ...Object.values(run.labels), "back-enables", "band", "full", "queue", "the pool opens"].map((word) => word.toLowerCase());
-const mayBeAdded = (text) => ADDED.some((word) => word.includes(text) || text.includes(word));
+const ADDED = [...run.callerNames, ...Object.values(run.labels), NO_CALLER, "back-enables", "fills", "band", "is", "full", "queue", "the pool opens"].filter((word) => word !== "").map((word) => word.toLowerCase());
+
+// What is looked for: a text in small letters, its form as a whole word, and whether only whole words count, since it was in quotes.
+function soughtFor(value) {
+    const quoted = /^"(.+)"$/.exec(value);
+    const text = (quoted ? quoted[1] : value).toLowerCase();
+    const literal = text.replace(/[.*+?^${}()|[\]\\]/g, "\\$&");
+    return {value, text, whole: new RegExp(`(?<![\\p{L}\\p{N}_-])${literal}(?![\\p{L}\\p{N}_-])`, "u"), isWhole: quoted !== null};
+}
 
 // What the search looks at of a row: what the list shows, but for the frame and the place.
 const searchedText = (row) => cellsOfRow(row).filter(([kind]) => kind !== "frame" && kind !== "place").map(([, text]) => text).join("  ").toLowerCase();
 
-// The rows of a chunk that have a text, in small letters.
-function rowsWith(text, chunk) {
-    if (!mayBeAdded(text) && !ROWS[chunk].textContent.toLowerCase().includes(shielded(text))) return [];
-    return rowsIn(chunk).rows.flatMap((row, place) => (searchedText(row).includes(text) ? [ROWS_BEFORE[chunk] + place] : []));
+const isHit = ({text, whole, isWhole}, row) => (isWhole ? whole.test(searchedText(row)) : searchedText(row).includes(text));
+
+// Whether the list may show a text that the rows of a chunk do not have themselves.
+const mayBeAdded = ({text}) => ADDED.some((word) => word.includes(text) || text.includes(word));
+
+// The rows of a chunk that have what is looked for.
+function rowsWith(sought, chunk) {
+    if (!mayBeAdded(sought) && !ROWS[chunk].textContent.toLowerCase().includes(shielded(sought.text))) return [];
+    return rowsIn(chunk).rows.flatMap((row, place) => (isHit(sought, row) ? [ROWS_BEFORE[chunk] + place] : []));
 }
 
-// The next row with a text from a row on, or the last one up to it, or undefined.
-function findRow(text, from, step) {
+// The next row with what is looked for from a row on, or the last one up to it, or undefined.
+function findRow(sought, from, step) {
     const begin = placeOf(ROWS_BEFORE, Math.max(0, Math.min(ROW_COUNT - 1, from)));
     for (let chunk = begin; chunk >= 0 && chunk < ROWS.length; chunk += step) {
-        const found = rowsWith(text, chunk).filter((place) => (step > 0 ? place >= from : place <= from));
+        const found = rowsWith(sought, chunk).filter((place) => (step > 0 ? place >= from : place <= from));
         if (found.length > 0) return found.at(step > 0 ? 0 : -1);
     }
     return undefined;
@@ -123,13 +136,54 @@ function frameOfRow(place) {
     return rowAt(place).frame ?? LAST;
 }
 
-// Goes to the next line or comment that has the text of the field, or to the one before.
+// Goes to the next row that has what the field says, or to the one before.
 function search(step) {
-    const text = byId("text").value.toLowerCase();
+    if (byId("text").value !== hits.sought.value) countHits();
+    if (hits.sought.text === "") return;
     const isThere = foundRow !== undefined && frameOfRow(foundRow) === current;
-    const row = text === "" ? undefined : findRow(text, (isThere ? foundRow : rowOf(current)) + step, step);
-    byId("hit").textContent = text === "" || row !== undefined ? "" : step > 0 ? "none after this line" : "none before this line";
-    if (row === undefined) return;
-    foundRow = row;
-    show(frameOfRow(row), row);
+    const row = findRow(hits.sought, (isThere ? foundRow : rowOf(current)) + step, step);
+    if (row !== undefined) return show(frameOfRow(row), row);
+    const isNone = hits.rows.length === 0 && hits.chunk === ROWS.length;
+    hits.end = isNone ? "" : step > 0 ? "none after this line" : "none before this line";
+    tellHits();
+}
+
+// ---- How many rows have it ---------------------------------------------------------------------------------------------------------
+
+// For how many milliseconds rows are counted without a pause.
+const COUNTS_FOR = 30;
+// What is looked for; its rows in the chunks before one, from where they are still to be counted; how many have it as a whole word; what to
+// say if there is no further one.
+const hits = {sought: soughtFor(""), rows: [], asWord: 0, chunk: ROWS.length, end: ""};
+let counting;
+
+// Counts the rows that have what the field says now.
+function countHits() {
+    const sought = soughtFor(byId("text").value);
+    Object.assign(hits, {sought, rows: [], asWord: 0, chunk: sought.text === "" ? ROWS.length : 0, end: ""});
+    countOn();
+}
+
+function countOn() {
+    clearTimeout(counting);
+    const until = performance.now() + COUNTS_FOR;
+    while (hits.chunk < ROWS.length && performance.now() < until) {
+        for (const row of rowsWith(hits.sought, hits.chunk++)) {
+            hits.rows.push(row);
+            if (hits.sought.whole.test(searchedText(rowAt(row)))) hits.asWord++;
+        }
+    }
+    if (hits.chunk < ROWS.length) counting = setTimeout(countOn, 0);
+    tellHits();
+}
+
+// Says how many rows have what is looked for, and the place of the one that was found among them.
+function tellHits() {
+    const {sought, rows, asWord, chunk, end} = hits;
+    const output = byId("hit");
+    output.textContent = end;
+    if (sought.text === "" || end) return;
+    if (chunk < ROWS.length) output.textContent = `${rows.length} so far`;
+    else tellPlace(output, rows, foundRow ?? -1);
+    if (asWord > 0 && asWord < rows.length) output.textContent += ` (${asWord} as a word)`;
 }

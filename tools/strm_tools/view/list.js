@@ -19,22 +19,28 @@ const isRefused = ({reply}) => /^(refused|empty|taken)/.test(reply);
 // What a line made happen, in a few words.
 function tagOf(event) {
     const [queue, band] = event.slice(1).split(".");
-    if (event[0] === "F") return `${labelOf(queue)} band ${band} full`;
+    if (event[0] === "F") return `fills ${labelOf(queue)} band ${band}`;
     return `${event[0] === "B" ? "back-enables" : "enables"} ${labelOf(queue)}`;
+}
+
+// What a line is marked with: a kind and a text for each mark.
+function tagsOf(row) {
+    const asked = askedIn(row);
+    const full = asked ? [["tag N", `${labelOf(asked.queue)} band ${asked.band} is full`]] : [];
+    return [...full, ...row.events.map((event) => [`tag ${event[0]}`, tagOf(event)])];
 }
 
 // What a row shows: a kind and a text for each of its cells.
 function cellsOfRow(row) {
-    if (row.kind === "comment") return [["comment", row.text]];
+    if (row.kind === "comment" || row.kind === "caller") return [[row.kind, row.text]];
     if (row.kind === "header") return [["header", row.text], ...(row.queue ? [["label", labelOf(row.queue)]] : [])];
     if (row.kind === "opening") return [["frame", "0"], ["command", "the pool opens"]];
     const cells = [
         ["frame", row.frame],
         ["place", `${row.worker}:${row.number}`],
-        ["caller", callerOf(row)],
         ["command", row.command],
         [isRefused(row) ? "reply refused" : "reply", row.reply],
-        ...row.events.map((event) => [`tag ${event[0]}`, tagOf(event)]),
+        ...tagsOf(row),
         ["label", labelIn(row)],
     ];
     return cells.filter(([, text]) => text !== "");
@@ -57,9 +63,12 @@ function rowNode(place) {
 const shownRows = new Map();
 const markedRows = {selected: undefined, found: undefined};
 
+// How far the list is scrolled. The list itself says it too, but then the browser lays out the whole page.
+let scrolled = 0;
+
 // Puts the rows that are in view into the page. Those that are there already stay as they are.
 function drawList() {
-    const top = list.scrollTop * scrollScale();
+    const top = scrolled * scrollScale();
     const first = Math.max(0, Math.floor(top / ROW_HEIGHT) - 5);
     const last = Math.min(ROW_COUNT, first + Math.ceil(sizes.list / ROW_HEIGHT) + 10);
     for (const [place, node] of shownRows) {
@@ -72,7 +81,7 @@ function drawList() {
         if (!shownRows.has(place)) shownRows.set(place, listRows.insertBefore(rowNode(place), following));
         following = shownRows.get(place);
     }
-    listRows.style.paddingTop = `${list.scrollTop - (top - first * ROW_HEIGHT)}px`;
+    listRows.style.paddingTop = `${scrolled - (top - first * ROW_HEIGHT)}px`;
     markRows();
 }
 
@@ -89,13 +98,19 @@ function markRows() {
 // Brings a row into view, in the middle if it is out of view.
 function showInList(place) {
     const top = place * ROW_HEIGHT;
-    const seen = list.scrollTop * scrollScale();
+    const seen = scrolled * scrollScale();
     const isInView = top >= seen + ROW_HEIGHT && top + 2 * ROW_HEIGHT <= seen + sizes.list;
-    if (!isInView) list.scrollTop = (top - sizes.list / 2) / scrollScale();
+    if (!isInView) {
+        list.scrollTop = (top - sizes.list / 2) / scrollScale();
+        scrolled = list.scrollTop;
+    }
     drawList();
 }
 
-list.onscroll = drawList;
+list.onscroll = () => {
+    scrolled = list.scrollTop;
+    drawList();
+};
 list.onclick = (event) => {
     const row = event.target.closest("[data-frame]");
     if (row) show(Number(row.dataset.frame));

@@ -4,6 +4,8 @@
 // If a queue has no more bands than this to show over the whole run, all of them always have their rows. Otherwise those have one that have
 // bytes or are wanted.
 const MOST_BANDS = 8;
+// The letters of more registers than this have no spaces between them, so that they fit into a panel.
+const MOST_PARTED_LETTERS = 12;
 
 // A field has a name and a value; the value of a flag is true or false.
 const field = (key, name, value) => ({key, name, value});
@@ -47,7 +49,8 @@ function workerView(worker, registers) {
     const key = `worker ${worker}`;
     const holds = new Set(registers.map(([letter]) => letter));
     const empty = Array.from(run.registers[worker]).filter((letter) => !holds.has(letter));
-    const rows = run.registers[worker] === "" ? [] : [{label: "", fields: [field(`${key} empty`, "empty registers", empty.join(" ") || "-")]}];
+    const letters = empty.join(empty.length > MOST_PARTED_LETTERS ? "" : " ") || "-";
+    const rows = run.registers[worker] === "" ? [] : [{label: "", fields: [field(`${key} empty`, "empty registers", letters)]}];
     return {key, title: key, rows, lists: [], messages: registers.map(([letter, blocks]) => messageView(`${key} ${letter}`, letter, blocks))};
 }
 
@@ -86,12 +89,10 @@ const fieldsOf = (panel) => [...[...panel.rows, ...(panel.bands ?? [])].flatMap(
 
 // ---- What differs ------------------------------------------------------------------------------------------------------------------
 
-// What differs between two pools: for each key of a field, a message or a block, what it was before; for each panel, true.
-function marksOf(before, after) {
+// What differs between two pools with these panels: for each key of a field, a message or a block, what it was before; for each panel, true.
+function marksOf(before, after, old, panels) {
     const marks = new Map();
-    const bands = bandsShown(after);
-    const old = panelsOf(before, bands);
-    panelsOf(after, bands).forEach((panel, place) => {
+    panels.forEach((panel, place) => {
         const size = marks.size;
         markFields(marks, fieldsOf(old[place]), fieldsOf(panel));
         const messages = new Map(old[place].messages.map((message) => [message.key, message]));

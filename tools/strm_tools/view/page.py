@@ -6,6 +6,7 @@ import re
 from strm_tools.judge import Wrong
 from strm_tools.labels import labels_of
 from strm_tools.model import ORDINARY
+from strm_tools.rules import RULES
 from strm_tools.view.chunks import Chunks, compact
 from strm_tools.view.film import KINDS, Film
 
@@ -21,10 +22,10 @@ def source(name):
         return file.read()
 
 
-def summary(script, film, chunks):
-    """What the page's program needs of a whole run: how the pool was made, labels, chunks, and what to keep room for."""
+def summary(labels, film, chunks):
+    """What the page's program needs of a whole run: how the pool was made, labels, rules, chunks, and what to keep room for."""
     pool = film.model.pool
-    labels = labels_of(script)
+    names = labels.names_of_callers()
     return {
         "mblks": pool.mblks,
         "classes": pool.classes,
@@ -36,7 +37,9 @@ def summary(script, film, chunks):
         "rows": list(chunks.rows),
         "labels": labels.queues,
         "modules": list(labels.modules.items()),
-        "callers": labels.callers,
+        "callers": [[number, names.index(label)] for number, label in labels.callers],
+        "callerNames": names,
+        "rules": {name: rule.sentence for name, rule in RULES.items() if name in film.rules},
         "bands": [sorted(queue.bands, reverse=True) for queue in film.queues],
         "registers": ["".join(sorted(film.used_registers[worker])) for worker in range(len(film.sections))],
         "most": {
@@ -70,13 +73,14 @@ def write_page(file, title, script, text=None):
     write = Writer(file).write
     head, rest = source("page.html").replace("<!-- help -->", source("help.html")).split("<!-- run -->")
     write(filled(head, title=html.escape(title), style=source("page.css")))
+    labels = labels_of(script)
     film = Film(script, lambda line: chunks.add(line))
-    chunks = Chunks(film.script, film.state, lambda rows, states: write(CHUNK.format(rows, states)))
+    chunks = Chunks(film.script, labels, film.state, lambda rows, states: write(CHUNK.format(rows, states)))
     film.play(text)
     chunks.finish()
     for name, track in film.tracks.tracks.items():
         write(f'<script class="track" data-name="{name}" type="text/plain">[{",".join(map(str, track))}]</script>\n')
-    run = compact(summary(script, film, chunks)).replace("<", "\\u003c")
+    run = compact(summary(labels, film, chunks)).replace("<", "\\u003c")
     write(f'<script id="run" type="application/json">{run}</script>\n')
     write(filled(rest, program="\n".join(source(f"{name}.js") for name in PROGRAM)))
     return film

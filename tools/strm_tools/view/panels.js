@@ -141,11 +141,11 @@ function bandPiece({label, fields, bar: shares}, {marks}, width) {
 }
 
 function panelPiece(panel, pieces, drawing, width) {
-    const isChanged = drawing.marks.has(panel.key);
+    const kinds = ["panel", drawing.marks.has(panel.key) && "changed", panel.key === `queue ${drawing.asked?.queue}` && "found"];
     const note = panel.title === panel.key ? [] : [words(panel.key, "faint")];
     const inner = stack([flow([words(panel.title, "title"), ...note], width - 2 * PAD), ...pieces], 5);
-    const size = {width: Math.max(width, inner.width + 2 * PAD), height: inner.height + 2 * PAD};
-    const drawn = element("g", {class: isChanged ? "panel changed" : "panel", "data-panel": panel.key, role: "group", "aria-label": panel.note ?? panel.title});
+    const size = {width, height: inner.height + 2 * PAD};
+    const drawn = element("g", {class: kinds.filter(Boolean).join(" "), "data-panel": panel.key, role: "group", "aria-label": panel.note ?? panel.title});
     drawn.append(element("rect", {...size, rx: 4}), moved(inner, PAD, PAD));
     return {...size, drawn};
 }
@@ -158,8 +158,9 @@ const drawnPanels = new Map();
 
 // The piece of a panel, which is made again only if what it shows differs.
 function keptPanel(panel, grid, drawing, width, make) {
-    const {marks, references, chosen} = drawing;
+    const {marks, references, chosen, asked} = drawing;
     const own = Array.from(marks.keys()).filter((key) => key.startsWith(panel.key));
+    if (asked && panel.key === `queue ${asked.queue}`) own.push(`asked ${asked.band}`);
     const cells = grid.cells.map(({message, block, more}) => (more ? more : [message.key, message.label, message.rank, block, references.get(block.data)]));
     const from = JSON.stringify([width, grid.rows, panel.title, panel.rows, panel.bands, panel.lists, cells, own, chosen?.number, chosen?.data]);
     if (drawnPanels.get(panel.key)?.from !== from) drawnPanels.set(panel.key, {from, piece: make()});
@@ -181,8 +182,11 @@ function queuePanel(panel, number, grid, drawing, width) {
     const inner = width - 2 * PAD;
     const [high, low, service] = run.queues[number];
     const bands = stack(panel.bands.map((band) => bandPiece(band, drawing, inner)), 5);
+    const rows = panel.rows.map((row) => rowPiece(row, drawing, inner));
+    // Flags leave room at the right.
+    if (drawing.asked?.queue === Number(number)) rows[0].drawn.append(element("text", {class: "asked", x: inner, y: 12, "text-anchor": "end"}, `band ${drawing.asked.band}: no`));
     return panelPiece(panel, [
-        ...panel.rows.map((row) => rowPiece(row, drawing, inner)),
+        ...rows,
         words(`high ${high}  low ${low}  ${service === "s" ? "service" : "no service"}`, "faint"),
         atLeast(bands, run.most.bands[number] * (BAND_HEIGHT + 5) - 5),
         gridPiece(grid, drawing),

@@ -55,12 +55,14 @@ function routeOf(one, other, offset) {
     return [[one.x + 20, one.y], [one.x + 20, above], [gutter, above], [gutter, end], [other.x, end]];
 }
 
-// An arrow of a kind from one queue to another. It has room for its label between panels; another one has it beside, if it is lit.
+// An arrow of a kind from one queue to another. It has room for its label between panels; another one has it beside its beginning, if it is lit.
 function arrow(from, to, places, kind, offset, label) {
     const route = routeOf(places.get(from), places.get(to), offset);
     const isShort = route.length === 2;
     const [[x, y], [, end]] = route.slice(isShort ? 0 : -3);
-    const text = isShort ? {x: x + 6, y: (y + end) / 2 + 4} : {transform: `translate(${x - 5} ${(y + end) / 2}) rotate(-90)`, "text-anchor": "middle"};
+    const isUp = end < y;
+    const beside = {transform: `translate(${x - 5} ${isUp ? y - 8 : y + 8}) rotate(-90)`, "text-anchor": isUp ? "start" : "end"};
+    const text = isShort ? {x: x + 6, y: (y + end) / 2 + 4} : beside;
     const path = element("path", {d: `M${route.map((point) => point.join(" ")).join("L")}`, "marker-end": "url(#head)"});
     return element("g", {class: `arrow ${kind}${isShort ? "" : " long"}`, "data-arrow": `${from} ${to}`}, path, element("text", text, label));
 }
@@ -77,10 +79,16 @@ function arrowsOf(lines, places) {
     });
 }
 
-// Lights the arrows of the queues that a line back-enabled.
+// The arrows along `next` from one queue to another.
+const pathOf = (from, to) => (from === to ? [] : [`${from} ${run.queues[from][3]}`, ...pathOf(run.queues[from][3], to)]);
+
+// Lights the arrows that lead to the queue that a line found full, or to those that it back-enabled.
 function lightArrows(line) {
-    const lit = line.events.filter((event) => event.startsWith("B")).map((event) => `${line.command.split(" ")[1]} ${event.slice(1)}`);
-    for (const node of document.querySelectorAll("#picture .back")) node.classList.toggle("lit", lit.includes(node.dataset.arrow));
+    const named = Number(line.command.split(" ")[1]);
+    const asked = askedIn(line);
+    const back = line.events.filter((event) => event.startsWith("B")).map((event) => `${named} ${event.slice(1)}`);
+    const lit = asked ? pathOf(named, asked.queue) : back;
+    for (const node of document.querySelectorAll("#picture .arrow")) node.classList.toggle("lit", lit.includes(node.dataset.arrow));
 }
 
 // ---- Places ------------------------------------------------------------------------------------------------------------------------
@@ -160,22 +168,21 @@ function placeAll(pieces, columns, width) {
     const drawn = inOrder(pieces, columns, width).map(({piece, ...among}) => {
         const {column, top} = placeFor(heights, among);
         heights.fill(top + piece.height + GAP, column, column + among.span);
-        for (const [queue, {y, height}] of piece.places ?? []) drawnPicture.queues.set(queue, {top: top + y, bottom: top + y + height});
         return moved(piece, column * (width + GAP), top);
     });
     byId("picture").replaceChildren(definitions(), ...drawn);
     byId("picture").setAttribute("height", Math.max(...heights) - GAP);
 }
 
-// What is in the picture: the sizes of all panels, their nodes, and where queues are.
-const drawnPicture = {sizes: "", nodes: new Map(), queues: new Map()};
+// What is in the picture: the sizes of all panels, and their nodes.
+const drawnPicture = {sizes: "", nodes: new Map()};
 
-// Draws the pool at a frame. If all panels have the size that they had, only those are replaced that show something else.
-function draw(frame, pool, marks, chosen) {
+// Draws the panels of a pool. If all of them have the size that they had, only those are replaced that show something else.
+function draw(line, pool, panels, marks, chosen) {
     const columns = Math.max(1, Math.floor((sizes.picture + GAP) / (COLUMN + GAP)));
     const width = (sizes.picture - GAP * (columns - 1)) / columns;
-    const drawing = {marks, references: pool.references, chosen, showsAll: byId("all").checked};
-    const pieces = new Map(panelsOf(pool, bandsShown(pool)).map((panel) => {
+    const drawing = {marks, references: pool.references, chosen, asked: askedIn(line), showsAll: byId("all").checked};
+    const pieces = new Map(panels.map((panel) => {
         const [kind, number] = panel.key.split(" ");
         return [panel.key, pieceOf(panel, drawing, kind === "queue" ? widthOfQueue(Number(number), width) : width)];
     }));
@@ -184,20 +191,42 @@ function draw(frame, pool, marks, chosen) {
     else placeAll(pieces, columns, width);
     drawnPicture.sizes = all;
     drawnPicture.nodes = new Map(Array.from(pieces, ([key, {drawn}]) => [key, drawn]));
-    lightArrows(lineAt(frame));
-    showChanged(lineAt(frame), marks);
-    byId("picture").setAttribute("aria-label", `The pool at frame ${frame}`);
+    lightArrows(line);
+    byId("picture").setAttribute("aria-label", `The pool at frame ${current}`);
 }
 
-// Scrolls to a queue that the line enabled or changed, unless one is in view.
-function showChanged({events}, marks) {
-    const enabled = events.filter((event) => event.startsWith("B")).map((event) => Number(event.slice(1)));
-    const changed = run.queues.map((_, queue) => queue).filter((queue) => marks.has(`queue ${queue}`));
-    const places = (enabled.length > 0 ? enabled : changed).map((queue) => drawnPicture.queues.get(queue));
-    if (places.length === 0) return;
-    const begin = byId("pool").getBoundingClientRect().top - byId("picture").getBoundingClientRect().top;
-    const isInView = ({top, bottom}) => top >= begin && Math.min(bottom, top + sizes.pool) <= begin + sizes.pool;
-    if (!places.some(isInView)) byId("pool").scrollTop += places[0].top - begin - 2 * GAP;
+// From above the first to below the last of some nodes in the panel of a queue.
+function spanOf(queue, selector) {
+    const boxes = Array.from(drawnPicture.nodes.get(`queue ${queue}`).querySelectorAll(selector), (node) => node.getBoundingClientRect());
+    return {top: Math.min(...boxes.map(({top}) => top)) - GAP, bottom: Math.max(...boxes.map(({bottom}) => bottom)) + GAP};
+}
+
+// How far to scroll so that all spans are in view or, if they do not fit, as many as do, the first ones first.
+function offsetTo(spans, {top, bottom}) {
+    const first = Math.min(...spans.map((span) => span.top)) - top;
+    const last = Math.max(...spans.map((span) => span.bottom)) - bottom;
+    if (spans.length > 1 && last > first) return offsetTo(spans.slice(0, -1), {top, bottom});
+    return first < 0 ? first : Math.max(0, Math.min(first, last));
+}
+
+// What of queues a line with a rule on a band is to show: the band, the head of its queue, and the head of each queue that it enables.
+function spansOfRule({queue, band}, events) {
+    const ofBand = `[data-key^="queue ${queue} band ${band} "]`;
+    const enabled = events.filter((event) => event.startsWith("B")).map((event) => spanOf(event.slice(1), ".title, .flag"));
+    return [spanOf(queue, ofBand), spanOf(queue, `.title, ${ofBand}`), ...enabled].filter(({top}) => top < Infinity);
+}
+
+// Brings into view what the line did to queues, as far as it is not. Of several changed queues one is enough.
+function showChanged(line, marks) {
+    const about = bandIn(line);
+    const changed = about ? [] : run.queues.map((_, queue) => queue).filter((queue) => marks.has(`queue ${queue}`));
+    const spans = about ? spansOfRule(about, line.events) : changed.map((queue) => spanOf(queue, ".title, .marked"));
+    if (spans.length === 0) return;
+    // The facts of a chosen block cover the end of the part that has the picture.
+    const {top} = byId("pool").getBoundingClientRect();
+    const seen = {top, bottom: top + byId("pool").clientHeight - byId("block").offsetHeight};
+    const isOneSeen = spans.some((span) => offsetTo([span], seen) === 0);
+    if (about || !isOneSeen) byId("pool").scrollTop += offsetTo(about ? spans : spans.slice(0, 1), seen);
 }
 
 function replacePanels(pieces) {

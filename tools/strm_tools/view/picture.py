@@ -57,7 +57,7 @@ def drawn(title, script, text, frame):
             film = write_page(file, title, script, text)
             file.write(DRAWN.replace("WIDTH", str(WIDTH - 2 * SIDE)).replace("FRAME", str(frame)))
         if frame not in range(film.frame + 1):
-            raise Wrong(f"there is no frame {frame}, and the last one is {film.frame}")
+            raise Wrong(f"there is no frame {frame}, and the last one is {film.frame}", "script")
         dom = Browser(chromium(), room).dom(path)
     shape = re.fullmatch(r'<svg [^>]*height="([\d.]+)"[^>]*>(.*)</svg>', found(r'<pre id="drawn">(.*?)</pre>', dom), re.DOTALL)
     command, reply = (found(rf'<code id="{name}">([^<]*)</code>', dom) for name in ("command", "reply"))

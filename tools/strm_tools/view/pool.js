@@ -87,6 +87,9 @@ function reportOf(pool) {
 
 const labelOf = (queue) => run.labels[queue] ?? `queue ${queue}`;
 
+// A queue by its number and, in parentheses, its label.
+const numberAndLabel = (queue) => (run.labels[queue] === undefined ? queue : `${queue} (${run.labels[queue]})`);
+
 // The queue before another one that is enabled once that one has room again, or none: the nearest with a service procedure.
 function wakerOf(number) {
     const before = run.queues.findIndex(([, , , next]) => next === number);

@@ -52,14 +52,21 @@ function remembered(most, make) {
 const LINES_BEFORE = sums(run.lines);
 const ROWS_BEFORE = sums(run.rows);
 const LAST = LINES_BEFORE.at(-1);
+const NO_CALLER = "no caller";
 const ROW_COUNT = ROWS_BEFORE.at(-1);
 
 const chunkOf = (frame) => (frame === 0 ? 0 : placeOf(LINES_BEFORE, frame - 1));
 const firstFrameOf = (chunk) => (chunk === 0 ? 0 : LINES_BEFORE[chunk] + 1);
 
-const LINE = /^(\d+):(\d+) ([^\t]*)\t?([^\t]*)\t?(.*)$/;
+const LINE = /^(\d+):(\d+) ([^\t]*)\t?([^\t]*)\t?([^\t]*)\t?(.*)$/;
 const shielded = (text) => text.replaceAll("&", "&amp;").replaceAll("<", "&lt;");
 const unshielded = (text) => text.replaceAll("&lt;", "<").replaceAll("&amp;", "&");
+
+// The rule that decided something, with the numbers of its sentence.
+function readRule(text) {
+    const [rule, ...numbers] = text.split(" ");
+    return rule ? {rule, ...Object.fromEntries(numbers.map((number) => number.split("=")))} : undefined;
+}
 
 function readRow(text, frame) {
     if (text.startsWith("#")) return {kind: "comment", text: unshielded(text)};
@@ -67,10 +74,11 @@ function readRow(text, frame) {
         const [line, queue] = text.slice(1).split("\t");
         return {kind: "header", text: line, queue};
     }
+    if (text.startsWith("@")) return {kind: "caller", text: run.callerNames[text.slice(1)] ?? NO_CALLER};
     if (text === ">") return {kind: "opening", frame: 0, command: "", reply: "", events: []};
-    const [, worker, number, command, reply, events] = LINE.exec(text);
+    const [, worker, number, command, reply, events, rule] = LINE.exec(text);
     const happened = events.split(" ").filter((event) => event);
-    return {kind: "line", frame, worker: Number(worker), number: Number(number), command, reply: reply || "ok", events: happened};
+    return {kind: "line", frame, worker: Number(worker), number: Number(number), command, reply: reply || "ok", events: happened, why: readRule(rule)};
 }
 
 // The rows of a chunk, and the place among them of each frame.
@@ -98,7 +106,7 @@ function rowAt(place) {
 }
 
 const CALLERS_BEGIN = run.callers.map(([number]) => number);
-const callerOf = (line) => run.callers[placeOf(CALLERS_BEGIN, line.number)]?.[1] ?? "";
+const callerOf = (line) => run.callerNames[run.callers[placeOf(CALLERS_BEGIN, line.number)]?.[1]] ?? "";
 
 // ---- Tracks --------------------------------------------------------------------------------------------------------------------
 

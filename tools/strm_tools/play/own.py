@@ -1,0 +1,82 @@
+"""The session's own commands, what is wrong with a line, and a header that is typed line by line."""
+import difflib
+from collections import Counter
+
+from strm_tools.faults import AFTER, FITS, FORMS, MOST, fault_in, line_kind
+from strm_tools.play.session import is_command
+from strm_tools.script import Wrong
+from strm_tools.words import MEANINGS, WORDS, counted, whole_form, wrong_count
+
+# The session's own commands: what comes after each, what it does, and the items for completion.
+OWN = {
+    "help": ("[WORD]", "Lists all commands, or says what one does.", "word"),
+    "header": ("", "Shows the lines that describe the pool.", ""),
+    "new": ("[FILE]", "Opens the pool of a script, or one that you type.", "file"),
+    "state": ("[on|off]", "Shows the state; on: after every line, off: on request.", "switch"),
+    "report": ("", "Prints the report of the pool, as strm does.", ""),
+    "list": ("[N]", "Lists the executed lines, or the last N, with replies.", ""),
+    "why": ("", "Explains the last refusal, or enabling of a queue.", ""),
+    "undo": ("[N]", "Takes back the last line, or the last N.", ""),
+    "redo": ("[N]", "Does again what undo took back.", ""),
+    "save": ("[-f] FILE [TEXT]", "Writes the script, and the text of several workers.", "file file"),
+    "turn": ("W", "The lines that you enter are worker W's.", "worker"),
+    "hold": ("[off]", "The lines that you enter wait for next or run.", "off"),
+    "rewind": ("", "All lines wait again, and the pool is as it was opened.", ""),
+    "next": ("[W]", "Executes a waiting line: of worker W, or a drawn one.", "worker"),
+    "run": ("[SEED]", "Executes all waiting lines, in an order that is drawn.", ""),
+    "workers": ("", "Lists the lines of each worker, also those that wait.", ""),
+    "quit": ("", "Ends the session, as Ctrl-D does.", ""),
+}
+# What people type for commands of the session.
+MEANT = {"exit": "quit", "q": "quit", "?": "help", "show": "state", "open": "new", "load": "new", "step": "next"}
+
+
+def number_of(word, least=0):
+    """The number that a word is, or `Wrong`."""
+    if not (word.isascii() and word.isdigit() and least <= int(word) < 10**9):
+        raise Wrong(f"{word} is no number from {least} to 999999999")
+    return int(word)
+
+
+def explained(fault, first, rest):
+    """A fault of a line, with what was expected."""
+    if fault == "unknown":
+        near = [MEANT[first]] if first in MEANT else difflib.get_close_matches(first, [*WORDS, *OWN], 1)
+        return f"unknown: there is no command {first}" + (f"; is {near[0]} meant?" if near else "; help lists all")
+    if fault == "toomany":
+        return f"toomany: a script has at most {counted(MOST[line_kind(first)], 'such line')}"
+    if fault == "shape":
+        return f"shape: {wrong_count(whole_form(first), len(rest) + 1)}"
+    names = WORDS[first].form.split()
+    for name, item, word in zip(names, FORMS[first], rest):
+        if not FITS[item][0](word):
+            return f"{fault}: {name} is {MEANINGS[item]}; here it is {word}"
+    return fault
+
+
+def wrong_form(word):
+    """That a command of the session has other words after it than its form has."""
+    form = OWN[word][0]
+    return Wrong(f"shape: the form is {word} {form}" if form else f"shape: {word} takes no words")
+
+
+class TypedHeader:
+    """The lines of a header that is typed, which a line `worker` ends."""
+
+    def __init__(self):
+        self.lines = []
+
+    def take(self, text):
+        """Takes a line. Returns the header if it is whole, and otherwise nothing. Raises `Wrong` for a fault."""
+        kinds = [line_kind(line.split(" ")[0]) for line in filter(is_command, self.lines)]
+        before = kinds[-1] if kinds else "nothing"
+        word, *rest = text.split(" ")
+        fault = is_command(text) and fault_in(word, rest, before, Counter(kinds))
+        if fault == "order":
+            raise Wrong(f"order: here comes {' or '.join(map(whole_form, AFTER[before]))}; undo keeps the pool that there was")
+        if fault:
+            raise Wrong(explained(fault, word, rest))
+        if word == "worker":
+            return self.lines
+        self.lines += [text] if text else []
+        return None

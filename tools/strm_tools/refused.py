@@ -1,0 +1,109 @@
+"""Which commands of a right script strm refuses whenever it executes them: in any order of the workers, and whatever memory is left."""
+from typing import NamedTuple
+
+from strm_tools.faults import FORMS, Header
+from strm_tools.model import WORDS
+from strm_tools.rules import RULES
+
+# After one of these its message is in no register, since strm refuses it only if there is no such queue or message.
+TAKE_ALL = ("putq", "putbq", "freemsg")
+
+
+class Most(NamedTuple):
+    """What a header allows its commands: numbers of queues, message blocks, bytes of a data block, and wishes."""
+
+    queues: int
+    mblks: int
+    size: int
+    wishes: int
+
+
+def most_of(lines):
+    """What the lines of a header without faults allow (`Reading.header`)."""
+    header = Header(lines)
+    (_, (_, mblks)), (_, (wishes, _)) = header.of("pool")[0], header.of("bufcalls")[0]
+    return Most(header.queue_count(), mblks, max(size for _, (size, _) in header.of("class")), wishes)
+
+
+def by_rule(name, **numbers):
+    """The sentence of a rule, as it follows a colon."""
+    sentence = RULES[name].sentence.format(**numbers).rstrip(".")
+    return sentence[0].lower() + sentence[1:]
+
+
+# ---- Why the words of a command refuse it, each by its item (strm_tools.model), or None ------------------------------
+
+
+def no_block(items, most):
+    if int(items["block"]) >= most.mblks:
+        return f"no message has a block {items['block']}: the pool has {most.mblks} message blocks"
+
+
+def no_place(items, most):
+    if int(items["place"]) >= most.mblks:
+        return f"no queue has a place {items['place']}: the pool has {most.mblks} message blocks"
+
+
+def too_large(items, most):
+    size = int(items["size"]) if "size" in items else len(items["octets"]) // 2
+    if size > most.size:
+        return by_rule("too_large", S=size, M=most.size)
+
+
+def no_wishes(items, most):
+    if most.wishes == 0:
+        return by_rule("wishes", N=0)
+
+
+def bad_count(items, most):
+    count = int(items["count"])
+    return by_rule("below", N=count) if count < -1 else too_large({"size": count}, most)
+
+
+def bad_marks(items, most):
+    if int(items["low"]) >= int(items["high"]):
+        return by_rule("marks", L=items["low"], H=items["high"])
+
+
+CHECKS = {
+    **dict.fromkeys(["settype", "rmvb", "block"], [no_block]),
+    **dict.fromkeys(["insq", "rmvq"], [no_place]),
+    "allocb": [too_large],
+    "bufcall": [too_large, no_wishes],
+    "write": [no_block, too_large],
+    "pullupmsg": [bad_count],
+    "strqset": [bad_marks],
+}
+
+
+def by_registers(items, sources, holding):
+    """Why the registers of a command refuse it, or None. Only those that `holding` has can hold a message."""
+    empty = [source for source in sources if source not in holding]
+    if empty:
+        return by_rule("empty", R=empty[0])
+    if len(set(sources)) < len(sources):
+        return by_rule("twice", R=sources[0])
+    return f"register {items['to']} holds the message that the command uses" if items.get("to") in sources else None
+
+
+def refusals(lines, header):
+    """The number of each command that is refused in any case, and why. The lines have their ends."""
+    most, holding = most_of(header), set()
+    for number, line in enumerate(lines, 1):
+        word, *rest = line[:-1].split(" ")
+        if word == "worker":
+            holding = set()
+        if word not in WORDS:
+            continue
+        items = dict(zip(FORMS[word], rest))
+        if "queue" in items and int(items["queue"]) >= most.queues:
+            yield number, by_rule("no_queue", Q=items["queue"], N=most.queues)
+            continue
+        sources = [value for item, value in zip(FORMS[word], rest) if item == "from"] if "from" in items else []
+        why = by_registers(items, sources, holding) or next(filter(None, (check(items, most) for check in CHECKS.get(word, ()))), None)
+        if why:
+            yield number, why
+        elif word in TAKE_ALL:
+            holding.discard(sources[0])
+        elif "to" in items:
+            holding.add(items["to"])
