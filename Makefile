@@ -27,6 +27,8 @@ ROUNDS := crates/strm_bench/out/strm_bench
 SOURCES := crates.txt HANDLES $(shell find crates -path '*/out' -prune -o \( -name '*.rt' -o -name '*.antt' \) -print)
 # The proved part of libstrm.a, which `rt lib` builds.
 PROVED := crates/strm_c/out/libstrm_c.a
+# What programs that are linked with the shared library need when they run. The number rises if programs that were linked before would not run.
+SONAME := libstrm.so.0
 # The output of `rt` when it last proved and built the program.
 LOG := build/proving.log
 
@@ -146,34 +148,51 @@ install-docs:
 	install -m 644 docs/PACKAGE.md $(SHARE)/doc/strm/README.md
 	install -m 644 docs/MODEL.md $(SHARE)/doc/strm/MODEL.md
 
-# Puts the static library for C at build/libstrm.a, and its pkg-config file at build/strm.pc.
-lib: build/libstrm.a build/strm.pc
+# Puts the library for C at build/libstrm.a, the shared library at build/libstrm.so, and the pkg-config file at build/strm.pc.
+lib: build/libstrm.a build/libstrm.so build/strm.pc
 
-# The library is the proved part, c/strm.c, which checks pointers, and the toolchain's heap over malloc.
-build/libstrm.a: $(PROVED) c/strm.c c/strm_c.h c/strm.h
+# The library is the proved part with tables for backtraces, c/strm.c, which checks pointers, and the toolchain's heap over malloc.
+build/libstrm.a: $(PROVED) c/strm.c c/strm_c.h c/strm.h tools/unwind_tables
 	$(NEEDS_RT)
 	@mkdir -p build
 	$(CC) -std=c89 -O2 -fPIC -Wall -Wextra -pedantic -Ic -c c/strm.c -o build/strm.o
 	cp $(PROVED) build/libstrm.a
-	cd build && $(AR) x "$$(dirname "$$(rt doc)")/c/liblibc_c.a" heap.pic.o && $(AR) rD libstrm.a strm.o heap.pic.o
+	cd build && $(AR) x libstrm.a strm_c.o && { ../tools/unwind_tables strm_c.o strm_c.o || echo "no backtraces from inside libstrm.a" >&2; }
+	cd build && $(AR) x "$$(dirname "$$(rt doc)")/c/liblibc_c.a" heap.pic.o && $(AR) rD libstrm.a strm_c.o strm.o heap.pic.o
 
-# Writes strm.pc from its form, to standard output.
-PC = sed 's:@PREFIX@:$(PC_PREFIX):; s/@VERSION@/$(VERSION)/' c/strm.pc.in
+# The shared library has the same parts, and exports the names of c/libstrm.map alone.
+build/libstrm.so: build/libstrm.a c/libstrm.map
+	cd build && $(CC) -shared -Wl,-soname,$(SONAME),--version-script,../c/libstrm.map,-z,defs,-z,relro,-z,now -Wl,--whole-archive libstrm.a \
+		-Wl,--no-whole-archive -o libstrm.so
+
+# Fills in a form of a file that says where the library is, as strm.pc.
+FORM = sed 's:@PREFIX@:$(PC_PREFIX):; s/@VERSION@/$(VERSION)/'
 
 build/strm.pc: c/strm.pc.in VERSION FORCE
 	@mkdir -p build
-	@$(PC) >build/strm.pc
+	@$(FORM) c/strm.pc.in >build/strm.pc
 
 .PHONY: FORCE
 FORCE:
 
-# Installs the static library with its header, its pkg-config file and its pages of section 3.
-install-lib: build/libstrm.a
-	install -D -m 644 build/libstrm.a $(DESTDIR)$(PREFIX)/lib/libstrm.a
-	$(PC) | install -D -m 644 /dev/stdin $(DESTDIR)$(PREFIX)/lib/pkgconfig/strm.pc
+# Where the library is installed.
+LIB := $(DESTDIR)$(PREFIX)/lib
+
+# Installs both libraries for C with their header, what pkg-config and CMake find them by, and their pages of section 3. Then it prints the
+# lines that let pkg-config and the loader find them, unless they are to be moved from DESTDIR.
+install-lib: build/libstrm.a build/libstrm.so
+	install -D -m 644 build/libstrm.a $(LIB)/libstrm.a
+	install -m 644 build/libstrm.so $(LIB)/libstrm.so.$(VERSION)
+	ln -sf libstrm.so.$(VERSION) $(LIB)/$(SONAME)
+	ln -sf $(SONAME) $(LIB)/libstrm.so
+	$(FORM) c/strm.pc.in | install -D -m 644 /dev/stdin $(LIB)/pkgconfig/strm.pc
+	install -D -m 644 c/strm-config.cmake $(LIB)/cmake/strm/strm-config.cmake
+	$(FORM) c/strm-config-version.cmake.in | install -m 644 /dev/stdin $(LIB)/cmake/strm/strm-config-version.cmake
 	install -D -m 644 c/strm.h $(DESTDIR)$(PREFIX)/include/strm.h
 	install -d $(SHARE)/man/man3
 	tools/c_pages $(SHARE)/man/man3
+	@$(if $(DESTDIR),,echo 'export PKG_CONFIG_PATH=$(PREFIX)/lib/pkgconfig$${PKG_CONFIG_PATH:+:$$PKG_CONFIG_PATH}')
+	@$(if $(DESTDIR),,echo 'export LD_LIBRARY_PATH=$(PREFIX)/lib$${LD_LIBRARY_PATH:+:$$LD_LIBRARY_PATH}')
 
 # Builds what a release hands out, in the folder DIST: an archive, a Debian package, and PROOF with their sums. GATE names a log of the gate, whose
 # last line goes into PROOF. It refuses uncommitted changes unless DIRTY is yes, and then PROOF says that there are some.

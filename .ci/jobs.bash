@@ -31,20 +31,21 @@ add_report() {
 
 # Starts a job beside the others, once fewer than `processors` run.
 begin() {
-    local report=$room/report${#begun[@]}
+    local report=$room/report${#begun[@]} from
     while [ "$(jobs -rp | wc -l)" -ge "$processors" ]; do
         wait -n
     done
     begun+=("$*")
-    { "$@" >"$report" 2>&1 </dev/null; echo $? >"$report.status"; } &
+    { from=$SECONDS; "$@" >"$report" 2>&1 </dev/null; echo $? >"$report.status"; echo $((SECONDS - from)) >"$report.seconds"; } &
 }
 
-# Waits for the jobs that were started, and adds up what each reported.
+# Waits for the jobs that were started, says how long each took, and adds up what each reported.
 add_jobs() {
     local number report
     wait
     for number in "${!begun[@]}"; do
         report=$room/report$number
+        printf '%4d s  %s\n' "$(cat "$report.seconds" 2>/dev/null)" "${begun[$number]%% *}"
         add_report "${begun[$number]}" "$report" "$(cat "$report.status" 2>/dev/null)"
     done
 }
