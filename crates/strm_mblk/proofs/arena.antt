@@ -6,4 +6,3 @@ pub mod Tokens
 pub mod Frame
 pub mod Calls
 pub mod Stands
-pub mod PlainSteps

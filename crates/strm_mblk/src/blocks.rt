@@ -11,8 +11,6 @@ ghost use Rattle.strm_mblk.specs.Given.{answer_of};
 ghost use Rattle.strm_mblk.specs.Limits.{most_message_blocks};
 
 mod alteration;
-#[cfg(test)]
-pub(crate) mod beside;
 mod copying;
 mod duplicating;
 mod finding;

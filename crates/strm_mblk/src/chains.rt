@@ -7,9 +7,6 @@ ghost use Rattle.strm_links.specs.StrandLists.{strand_at};
 ghost use Rattle.strm_mblk.specs.Messages.{chain_divided, held_in, chains_joined, put_before_head, shelf_in, with_head, without_head, without_place};
 ghost use Rattle.strm_mblk.specs.NodeLists.{IsNodesParted, IsReached, after_begin, after_behind_freed, head_node, heads_on, nodes_at, opening_nodes, shelf_with, shelved_nodes};
 
-#[cfg(test)]
-pub(crate) mod beside;
-
 use std::alloc::{AllocError, Global};
 use std::marker::Model;
 use strm_links::{Links, Strands};

@@ -17,8 +17,3 @@ pub use census::Census;
 pub use limits::MOST_MESSAGE_BLOCKS;
 pub use rejected::Rejected;
 pub use token::{Token, TokenValue};
-
-#[cfg(test)]
-mod plain;
-#[cfg(test)]
-mod tests;

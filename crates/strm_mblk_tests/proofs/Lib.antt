@@ -1,0 +1,2 @@
+mod Neighbours
+mod PlainSteps
