@@ -1,10 +1,10 @@
 mod Constants
-mod Lists
-mod bands
+pub mod Lists
+pub mod bands
 pub mod shelf
 pub mod order
 mod counting
-mod layout
+pub mod layout
 pub mod agreeing
-mod flow
+pub mod flow
 mod moving

@@ -243,7 +243,6 @@ impl Queues {
         ensures once { rows.IsApart self.now.state.run }
         ensures served { All (λ queue. IsTrue (spec_at self.now.state.specs queue).service) self.now.state.run }
     {
-        self.made_lawful();
         blocks.reads_alike();
         self.run.parts_nodes();
     }

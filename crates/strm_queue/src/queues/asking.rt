@@ -131,7 +131,6 @@ impl Queues {
     pub fn run_at(&self, place: u32) -> Option<u8>
         ensures { (arena : Arena) → result ≡ model.run_at place (queued_blocks self.now arena) }
     {
-        self.made_lawful();
         self.run.parts_nodes();
         let mut at = self.run.front(0);
         for _queue in 0..place {

@@ -16,7 +16,6 @@ impl Queues {
         ensures value { result ≡ flow.target self.now.state.specs queue }
         ensures there { result < length self.now.state.specs }
     {
-        self.made_lawful();
         let mut at = queue;
         for _queue in 0..self.queues.len() {
             let spec = self.spec(at);

@@ -120,7 +120,6 @@ impl Queues {
         let (Some(band), Some(head)) = (band, at) else {
             return at;
         };
-        blocks.lawful();
         let rank = queued_rank(blocks, head);
         if band_of(rank) == band {
             return at;
