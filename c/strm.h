@@ -43,7 +43,7 @@
  *
  * A call that can fail returns a code, and stores its results through pointers. STRM_OK is 0. Codes
  * above 0 are refusals of the pool, numbered as by the program strm. Codes below 0 are of this
- * header. One of these, STRM_NONE, is no failure: the call was done, and there is nothing to return.
+ * header. One of these, STRM_NONE, is no failure: the call was done, and there is nothing to give.
  * So neither `code < 0` nor `code > 0` finds the failures. `STRM_FAILED(code)` does: it is false for
  * STRM_OK and STRM_NONE, and true for any other code.
  *
@@ -164,21 +164,21 @@ enum {
 	STRM_TOO_LARGE = 1,		/* the size is above the largest class */
 	STRM_NO_MBLK = 2,		/* fewer message blocks are free than the call needs */
 	STRM_NO_DATA = 3,		/* no data block is free of a class that fits */
-	STRM_REF_MAX = 4,		/* a data block would have more than STRM_MOST_NAMES references */
+	STRM_REF_MAX = 4,		/* more than 255 message blocks would refer to a data block */
 	STRM_NO_SUCH_BLOCK = 5,		/* the message has no such block */
-	STRM_SHARED = 6,		/* the data block has more than one reference */
+	STRM_SHARED = 6,		/* more than one message block refers to the data block */
 	STRM_NO_ROOM = 7,		/* the bytes do not fit in the data block */
 	STRM_SHORT = 8,			/* the message has too few bytes, or too few of one type */
 	STRM_NO_SUCH_PLACE = 9,		/* the queue has no such place */
 	STRM_BAD_ORDER = 10,		/* the ranks would rise from front to back */
 	STRM_NO_SUCH_QUEUE = 11,	/* there is no such queue */
-	STRM_FULL = 12,			/* no room for another bufcall wish (never returned for a full queue) */
+	STRM_FULL = 12,			/* no more wishes can be recorded */
 	STRM_IDS_SPENT = 13,		/* the last id was given */
 	STRM_NOT_PENDING = 14,		/* no wish has this id */
 	STRM_BAD_MARKS = 20,		/* the low water mark is not below the high one */
 
 	/* codes of this header */
-	STRM_NONE = -1,			/* done, and there is nothing to return */
+	STRM_NONE = -1,			/* done, and there is nothing to give */
 	STRM_INVALID = -2,		/* a name is not valid */
 	STRM_NOT_OPEN = -3,		/* the handle is not open */
 	STRM_BAD_ARGUMENT = -4,		/* a pointer is null, or a number is out of range */
@@ -186,14 +186,14 @@ enum {
 	STRM_NO_MEMORY = -6,		/* there is not enough memory */
 
 	/* the first fault of a configuration */
-	STRM_BAD_MBLKS = -11,		/* message blocks are not 1 to STRM_MOST_MBLKS */
+	STRM_BAD_MBLKS = -11,		/* message blocks are not 1 to 16383 */
 	STRM_BAD_CLASSES = -12,		/* there is no size class */
-	STRM_BAD_CLASS_SIZE = -13,	/* sizes do not rise, or are not 1 to STRM_MOST_DATA_BYTES */
-	STRM_BAD_CLASS_TOTAL = -14,	/* a class has no data block, or all have more than STRM_MOST_DATA_BLOCKS */
+	STRM_BAD_CLASS_SIZE = -13,	/* sizes do not rise, or are not 1 to 4096 */
+	STRM_BAD_CLASS_TOTAL = -14,	/* a class has no data block, or all have more than 16383 */
 	STRM_BAD_QUEUES = -15,		/* there is no queue */
 	STRM_BAD_QUEUE_MARKS = -16,	/* a queue's low water mark is not below the high one */
-	STRM_BAD_NEXT = -17,		/* a next queue does not exist, is not numbered above its queue, or is next of two queues */
-	STRM_BAD_BUFCALLS = -18,	/* there are more than STRM_MOST_WISHES wishes */
+	STRM_BAD_NEXT = -17,		/* a next queue is not there, has no greater number, or is named twice */
+	STRM_BAD_BUFCALLS = -18,	/* there are more than 64 wishes */
 	STRM_BAD_FIRST_ID = -19		/* the first id is 0 */
 };
 

@@ -39,6 +39,7 @@ BY_RULE = {
         "Band 0 of queue 1, the target, is full: its bytes, 10, reach its high water mark, 10.",
     ),
     "nothing": ("getq 1 a", "Queue 1 is empty, so `getq` sets its want-to-read mark."),
+    "idle": ("service", "The run list is empty: no queue is enabled."),
     "no_service": ("qenable 1", "Queue 1 has no service procedure, so nothing enables it."),
     "already": ("qenable 1; allocb a 1; putq 1 a", "Queue 1 is on the run list already."),
     "high": (
@@ -130,8 +131,8 @@ ALSO_BY_RULE = [
         "Band 0 of queue 1 was wanted and its bytes, 10, are at most its low water mark, 20, so its waker, queue 0, is enabled.",
     ),
 ]
-EMPTY = "0:9 putq 0 z: empty\n  Register z holds no message. (MODEL.md, Registers and steps)\n"
-NOTHING = "nothing to explain: no line was refused, and none could enable a queue\n"
+EMPTY = "0:9 putq 0 z: empty\n  Register z holds no message. (docs/MODEL.md, Registers and steps)\n"
+NOTHING = "nothing to explain: no line was refused, replied no or none, or could enable a queue\n"
 # What `why` says of the last line, also after undo, redo and a change of the pool.
 WHY = [
     ("before any line", "why", "nothing to explain: no line is executed\n"),
@@ -150,7 +151,7 @@ WHY = [
         "nothing to explain in the last line, 0:10 size a: size 0; before it:\n" + EMPTY,
     ),
     ("after redo", "allocb a 1; putq 0 z; undo; redo; why", "ok\nempty\ntaken back: putq 0 z\ndone again: putq 0 z\n" + EMPTY),
-    ("after rewind", "allocb a 1; putq 0 z; rewind; why", "ok\nempty\n2 lines waiting: next executes one, run all\nnothing to explain: no line is executed\n"),
+    ("after rewind", "allocb a 1; putq 0 z; rewind; why", "ok\nempty\n2 lines waiting: next executes one, until those up to a line, run all\nnothing to explain: no line is executed\n"),
 ]
 # What each command of strm does after these lines, which undo takes back.
 BEFORE_UNDO = (
@@ -194,8 +195,10 @@ SHOWN = {
     "a command of strm": ("allocb a 3; testb 65; census", "ok\nno\ncensus 7 0 1\n"),
     "spaces and comments": ("  allocb   a 3  ;# a comment;;read a 0\t", "ok\nbytes -\n"),
     "faults": (
-        "canput 0 0; xyzzy; exit; pool 1; putq 0; census 1; putq q a; putq 300 a; allocb A 1; write a 0 6G; settype a 0 DATA; flushq 0 some; queue 1 0 s -",
-        "unknown: there is no command canput; is bcanput meant?\n"
+        "canput 0 0; putnext 0 a; putq_ 0 a; xyzzy; exit; pool 1; putq 0; census 1; putq q a; putq 300 a; allocb A 1; write a 0 6G; settype a 0 DATA; flushq 0 some; queue 1 0 s -",
+        "unknown: instead of canput write bcanput Q 0\n"
+        "unknown: strm has no putnext: write the commands of the next queue's put procedure, often putq Q R with the next queue as Q\n"
+        "unknown: there is no command putq_; is putq meant?\n"
         "unknown: there is no command xyzzy; help lists all\n"
         "unknown: there is no command exit; is quit meant?\n"
         "shape: pool ID MBLKS: 3 words, here 2\n"
@@ -242,10 +245,26 @@ SHOWN = {
     "state": ("allocb a 3; write a 0 616263; putq 0 a; state off; state", "ok\nok\nok\n" + STATE),
     "rewind, next and run": (
         "allocb a 3;# one;write a 0 616263;putq 0 a;rewind;next;next;run;state",
-        "ok\nok\nok\n3 lines waiting: next executes one, run all\n0:8  allocb a 3  ok\n# one\n0:10  write a 0 616263  ok\n"
+        "ok\nok\nok\n3 lines waiting: next executes one, until those up to a line, run all\n0:8  allocb a 3  ok\n# one\n0:10  write a 0 616263  ok\n"
         "0:11  putq 0 a  ok\n" + STATE.replace(" worker", "*worker"),
     ),
     "list": ("allocb a 3; freemsg b; list; list 1", "ok\nempty\n0:8  allocb a 3  ok\n0:9  freemsg b   empty\n0:9  freemsg b  empty\n"),
+    "until": (
+        "allocb a 3;# one;write a 0 616263;putq 0 a;until 10;rewind;until 9;until 10;until 99;getq 1 b;until 11;undo;workers",
+        "ok\nok\nok\nno line waits up to line 10; rewind has all lines wait again\n"
+        "3 lines waiting: next executes one, until those up to a line, run all\n"
+        "0:8  allocb a 3  ok\n0:10  write a 0 616263  ok\n"
+        "no worker has a line 99; list shows the lines that were executed, workers those that wait too\n"
+        "none\nno line waits up to line 11; rewind has all lines wait again\ntaken back: getq 1 b\n"
+        "worker 0: 2 lines executed, 1 waiting\n0:8   allocb a 3        ok\n0:10  write a 0 616263  ok\n0:11  putq 0 a          (waiting)\n",
+    ),
+    "until of many lines, and undo": (
+        ";".join(["allocb a 3", *["size a"] * 9, "rewind", "until 16", "undo", "run 1", "undo 2", *["size a"] * 2, "undo 7"]),
+        "ok\n" + "size 0\n" * 9 + "10 lines waiting: next executes one, until those up to a line, run all\n"
+        ".. 4 lines; list shows all\n" + "".join(f"0:{12 + k}  size a  size 0\n" for k in range(5)) + "taken back: until 16\n"
+        "0:8   allocb a 3  ok\n" + "".join(f"0:{9 + k:<2}  size a      size 0\n" for k in range(9)) + "taken back: run 1; rewind\n"
+        "size 0\nsize 0\ntaken back: size a; size a; size a; size a; size a; and 2 more\n",
+    ),
     "report": (
         "getq 0 a; report",
         "none\nblocks free=8 queued=0 held=0 total=8\ndata size=16 free=4 total=4\ndata size=64 free=2 total=2\n"

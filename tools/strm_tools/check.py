@@ -3,23 +3,17 @@ import io
 import re
 from typing import NamedTuple
 
-from strm_tools.faults import AFTER, FORMS, HEADER, MOST, STAGE, Reading, config_faults, line_kind, misfit
+from strm_tools.faults import FORMS, HEADER, MOST, STAGE, Reading, config_faults, line_kind, misfit
 from strm_tools.hints import config_hints, hints
 from strm_tools.labels import WRITTEN, form_of, queues_of
 from strm_tools.limits import SCRIPT_BYTES
 from strm_tools.refused import refusals
 from strm_tools.script import TOO_LONG
 from strm_tools.shown import shown
-from strm_tools.words import MEANINGS, WORDS, whole_form, wrong_count
+from strm_tools.words import MEANINGS, PLACES, WORDS, allowed, misplaced, whole_form, wrong_count
 
 # How many bytes of a script strm reads if `--max` does not say otherwise.
 BYTES_BY_DEFAULT = 1_048_576
-# Where a line is, by the line before it.
-PLACES = {
-    "nothing": "at the beginning",
-    **{kind: f"after a {kind} line" for kind in HEADER},
-    "command": "after a command",
-}
 
 
 class Finding(NamedTuple):
@@ -42,17 +36,12 @@ def names_of(first):
     return WORDS[first].form.split()
 
 
-def allowed(before):
-    """The lines that may follow such a line, in words."""
-    return " or ".join("a command" if kind == "command" else kind for kind in AFTER[before])
-
-
 def unknown(fault, words):
     return f"word 1 is {shown(words[0])}; expected {allowed(fault.before)}"
 
 
 def order(fault, words):
-    return f"word 1 is {shown(words[0])} {PLACES[fault.before]}; expected {allowed(fault.before)}"
+    return misplaced(words[0], fault.before)
 
 
 def toomany(fault, words):

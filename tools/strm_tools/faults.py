@@ -239,14 +239,13 @@ def marks(header):
 
 
 def next_queue(header):
-    leads = {}
+    leads, last = {}, header.queue_count() - 1
     for queue, number, (*_, following) in header.queues():
         if following == "-":
             continue
-        if following <= queue:
-            yield number, f"queue {following} is next of queue {queue}; expected a greater number than {queue}"
-        elif following >= header.queue_count():
-            yield number, f"queue {following} is next of queue {queue}; expected a queue up to {header.queue_count() - 1}, the last"
+        if not queue < following <= last:
+            greater = f"a greater number than {queue}, up to {last}, or " if queue < last else ""
+            yield number, f"queue {following} is next of queue {queue}; expected {greater}-"
         elif following in leads:
             other, line = leads[following]
             yield number, f"queue {following} is next of queue {queue}; expected another, since line {line} leads queue {other} to it"

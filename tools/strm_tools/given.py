@@ -3,6 +3,7 @@ import os
 
 from strm_tools.ends import read, read_bytes
 from strm_tools.faults import require_right
+from strm_tools.judge import REPLY
 from strm_tools.limits import SCRIPT_BYTES
 from strm_tools.script import TOO_LONG, Wrong
 
@@ -40,5 +41,10 @@ def read_files(words):
     octets = read_bytes(words.script, SCRIPT_BYTES + 1)
     text = None if words.text is None else read(words.text)
     script = script_of_bytes(octets, "replace")
-    require_right(script)
+    try:
+        require_right(script)
+    except Wrong as why:
+        if text is not None and REPLY.match(script):
+            raise Wrong(f"{why}; it begins as a text of strm does: are SCRIPT and TEXT swapped?", "script")
+        raise
     return script, text

@@ -7,8 +7,8 @@ from typing import NamedTuple
 
 from strm_tools.faults import AFTER, BYTE_ORDER_MARK, FITS, FORMS, GREATEST, MOST, STAGE, bare_of, has_form, line_kind, misfit
 from strm_tools.model import HIGH_PRIORITY, ORDINARY
-from strm_tools.shown import octets, shown
-from strm_tools.streams import FLUSHES, NO_TYPE, command_for
+from strm_tools.shown import CARRIAGE_RETURN, octets, shown
+from strm_tools.streams import ADVICE_ON_TYPES, FLUSHES, NO_TYPE, hint_for
 
 # How a file in UTF-16 begins.
 UTF_16 = ("\xff\xfe", "\xfe\xff")
@@ -71,7 +71,7 @@ def encoding(faulty):
 def carriage_return(faulty):
     is_last = faulty.place == len(faulty.words) - 1
     if faulty.line.endswith("\r") and (is_last or faulty.words[-1] == "\r"):
-        yield "a carriage return ends the line; save the file with line feeds alone"
+        yield CARRIAGE_RETURN
 
 
 def tabs(faulty):
@@ -180,7 +180,7 @@ def nearest_hint(word, known):
 def first_word(faulty):
     """What a first word may mean that is none."""
     word = bare_of(faulty.word())
-    known = next(filter(None, (command_for(name, FORMS) for name in (word, word.lower(), word.upper()))), None)
+    known = hint_for(word, FORMS)
     if word.lower() in FORMS:
         if word not in FORMS:
             yield f"words are in small letters: write {word.lower()}"
@@ -260,7 +260,7 @@ def named_word(faulty):
     if word in known:
         return
     if word in NO_TYPE and item == "kind":
-        yield f"strm has no {word}; docs/FROM-STREAMS.md says what to use instead"
+        yield f"strm has no {word}: {ADVICE_ON_TYPES}"
     elif word in FLUSHES and item == "flag":
         yield f"instead of {word} write {FLUSHES[word]}"
     elif item == "kind" and {word.upper(), f"M_{word.upper()}", word.upper()[5:]} & set(TYPES):

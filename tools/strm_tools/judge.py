@@ -5,7 +5,9 @@ import itertools
 import re
 
 from strm_tools.model import Model
+from strm_tools.rules import EFFECTS, explains, why
 from strm_tools.script import Wrong, script_of
+from strm_tools.shown import CARRIAGE_RETURN
 from strm_tools.words import counted
 
 REPLY = re.compile(r"(0|[1-9][0-9]?):[1-9][0-9]* ")
@@ -15,6 +17,8 @@ WORKERS_SHOWN = 4
 
 def wrong_line(number, wanted, line=None, more=""):
     """Why a text is wrong in this line, which is None after the last one."""
+    if line is not None and line.endswith("\r"):
+        more = f"; {CARRIAGE_RETURN}"
     return Wrong(f"line {number}: expected {wanted}, here {'the text ends' if line is None else repr(line)}{more}", "text")
 
 
@@ -49,6 +53,19 @@ class Replay:
         self.order.append(worker)
         return line
 
+    def reason(self):
+        """Why the line that was served last has its reply, as a sentence after a semicolon, or nothing if no rule decides a reply `ok`."""
+        *others, last = self.order
+        before = Replay(None, lambda _: (self.model.pool, self.sections))
+        for worker in others:
+            before.serve(worker)
+        _, word, items, values = self.sections[last][before.served[last]]
+        before.model.turn_to(last)
+        if not explains(word, copy.deepcopy(before.model).answer(word, items, values)):
+            return ""
+        found = why(before.model, word, items, values)
+        return "" if found.rule.decides in EFFECTS else f"; {found.text()}"
+
     def follow(self, lines):
         """Serves the lines that the first lines of a text tell of, and returns what comes behind them."""
         for at, line in enumerate(lines):
@@ -60,7 +77,8 @@ class Replay:
                 raise wrong_line(at + 1, f"a worker from 0 to {len(self.sections) - 1}", line)
             wanted = self.serve(worker) if self.waits(worker) else None
             if line != wanted:
-                raise wrong_line(at + 1, repr(wanted) if wanted else f"no further reply to worker {worker}", line)
+                reason = self.reason() if wanted and wanted.startswith(told[0]) else ""
+                raise wrong_line(at + 1, repr(wanted) if wanted else f"no further reply to worker {worker}", line, reason)
         return []
 
     def finish(self, text):

@@ -50,6 +50,7 @@ RULES = {
     "no_wish": Rule("NotPending", "No recorded wish has the id {I}.", POOL),
     "full": Rule("no", "Band {B} of queue {Q}, the target, is full: its bytes, {N}, reach its high water mark, {H}.", FLOW),
     "nothing": Rule("none", "Queue {Q} is empty, so `getq` sets its want-to-read mark.", ENABLING),
+    "idle": Rule("none", "The run list is empty: no queue is enabled.", ENABLING),
     "no_service": Rule("not enabled", "Queue {Q} has no service procedure, so nothing enables it.", ENABLING),
     "already": Rule("not enabled", "Queue {Q} is on the run list already.", ENABLING),
     "high": Rule("enabled", "`putq` and `putbq` of a high priority message enable queue {Q} in any case.", ENABLING),
@@ -109,7 +110,7 @@ def found(name, **numbers):
 def explains(word, reply):
     """Whether a rule explains the reply to a line, or what the line enables."""
     name = reply.partition(" ")[0]
-    return name in ("refused", "empty", "taken", "no") or word in (*PUTS, *SETTLES, *SWITCHES, "qenable")
+    return name in ("refused", "empty", "taken", "no") or (word, name) == ("service", "none") or word in (*PUTS, *SETTLES, *SWITCHES, "qenable")
 
 
 def why(model, word, items, values):
@@ -147,7 +148,7 @@ STEP_RULES = {
 }
 
 
-# ---- A call's own refusals, and the replies `no`, and `none` to getq -------------------------------------------------
+# ---- A call's own refusals, and the replies `no`, and `none` -------------------------------------------------------
 
 
 def size_wanted(model, word, *values):
@@ -237,7 +238,7 @@ REPLY_RULES = {
     "NotPending": lambda model, _, own: found("no_wish", I=own),
     "BadMarks": lambda model, _, number, band, high, low: found("marks", L=low, H=high),
     "no": why_no,
-    "none": lambda model, _, number, to: found("nothing", Q=number),
+    "none": lambda model, word, *values: found("idle") if word == "service" else found("nothing", Q=values[0]),
 }
 
 

@@ -1,6 +1,8 @@
 """Shows bytes of a script to a person."""
 
 ESCAPES = {"\t": "\\t", "\r": "\\r", "\\": "\\\\"}
+# What a carriage return before a line end means.
+CARRIAGE_RETURN = "a carriage return ends the line; save the file with line feeds alone"
 # How many bytes of a long text are shown.
 SHOWN = 40
 

@@ -1,7 +1,9 @@
 """Each word that a line of a script may begin with: its form, as in strm(1) but in capital letters, and one sentence."""
+import textwrap
 from typing import NamedTuple
 
-from strm_tools.faults import GREATEST
+from strm_tools.faults import AFTER, GREATEST
+from strm_tools.shown import shown
 
 
 class Word(NamedTuple):
@@ -88,11 +90,36 @@ MEANINGS = {
     "flag": "all or data",
     "service": "s for a service procedure, or n for none",
 }
+# Where a line is, by the line before it.
+PLACES = {
+    "nothing": "at the beginning",
+    **{kind: f"after a {kind} line" for kind in HEADER},
+    "command": "after a command",
+}
+
+
+def allowed(before):
+    """The lines that may follow such a line, in words."""
+    return " or ".join("a command" if kind == "command" else kind for kind in AFTER[before])
+
+
+def misplaced(word, before):
+    """That a line with this first word may not follow such a line."""
+    return f"word 1 is {shown(word)} {PLACES[before]}; expected {allowed(before)}"
 
 
 def whole_form(word):
     """A word with what comes after it, such as `putq Q R`."""
     return f"{word} {WORDS[word].form}".rstrip()
+
+
+def table():
+    """Each line that a script may have, in groups: its form, and what it does."""
+    for group, words in {"The header and sections": HEADER, **COMMANDS}.items():
+        yield f"{group}\n"
+        for word, entry in words.items():
+            yield f"  {whole_form(word)}\n"
+            yield textwrap.fill(entry.does, 79, initial_indent=" " * 6, subsequent_indent=" " * 6, break_on_hyphens=False) + "\n"
 
 
 def counted(number, what):

@@ -2,10 +2,11 @@
 import difflib
 from collections import Counter
 
-from strm_tools.faults import AFTER, FITS, FORMS, MOST, fault_in, line_kind
+from strm_tools.faults import FITS, FORMS, MOST, fault_in, line_kind
 from strm_tools.play.session import is_command
 from strm_tools.script import Wrong
-from strm_tools.words import MEANINGS, WORDS, counted, whole_form, wrong_count
+from strm_tools.streams import hint_for
+from strm_tools.words import MEANINGS, WORDS, counted, misplaced, whole_form, wrong_count
 
 # The session's own commands: what comes after each, what it does, and the items for completion.
 OWN = {
@@ -15,7 +16,7 @@ OWN = {
     "state": ("[on|off]", "Shows the state; on: after every line, off: on request.", "switch"),
     "report": ("", "Prints the report of the pool, as strm does.", ""),
     "list": ("[N]", "Lists the executed lines, or the last N, with replies.", ""),
-    "why": ("", "Explains the last refusal, or enabling of a queue.", ""),
+    "why": ("", "Explains the last line that was refused, replied no or none, or enabled a queue or could have.", ""),
     "undo": ("[N]", "Takes back the last line, or the last N.", ""),
     "redo": ("[N]", "Does again what undo took back.", ""),
     "save": ("[-f] FILE [TEXT]", "Writes the script, and the text of several workers.", "file file"),
@@ -23,12 +24,13 @@ OWN = {
     "hold": ("[off]", "The lines that you enter wait for next or run.", "off"),
     "rewind": ("", "All lines wait again, and the pool is as it was opened.", ""),
     "next": ("[W]", "Executes a waiting line: of worker W, or a drawn one.", "worker"),
+    "until": ("LINE", "Executes the waiting lines of a worker up to line LINE of the script.", ""),
     "run": ("[SEED]", "Executes all waiting lines, in an order that is drawn.", ""),
     "workers": ("", "Lists the lines of each worker, also those that wait.", ""),
     "quit": ("", "Ends the session, as Ctrl-D does.", ""),
 }
 # What people type for commands of the session.
-MEANT = {"exit": "quit", "q": "quit", "?": "help", "show": "state", "open": "new", "load": "new", "step": "next"}
+MEANT = {"exit": "quit", "q": "quit", "?": "help", "show": "state", "open": "new", "load": "new", "step": "next", "goto": "until", "break": "until", "continue": "run"}
 
 
 def number_of(word, least=0):
@@ -41,6 +43,9 @@ def number_of(word, least=0):
 def explained(fault, first, rest):
     """A fault of a line, with what was expected."""
     if fault == "unknown":
+        known = None if first in MEANT else hint_for(first, WORDS)
+        if known:
+            return f"unknown: {known}"
         near = [MEANT[first]] if first in MEANT else difflib.get_close_matches(first, [*WORDS, *OWN], 1)
         return f"unknown: there is no command {first}" + (f"; is {near[0]} meant?" if near else "; help lists all")
     if fault == "toomany":
@@ -73,7 +78,7 @@ class TypedHeader:
         word, *rest = text.split(" ")
         fault = is_command(text) and fault_in(word, rest, before, Counter(kinds))
         if fault == "order":
-            raise Wrong(f"order: here comes {' or '.join(map(whole_form, AFTER[before]))}; undo keeps the pool that there was")
+            raise Wrong(f"order: {misplaced(word, before)}; undo keeps the pool that there was")
         if fault:
             raise Wrong(explained(fault, word, rest))
         if word == "worker":

@@ -153,6 +153,14 @@ class Play:
         """The workers that have a waiting line."""
         return [worker for worker, section in enumerate(self.sections) if section.waiting()]
 
+    def waiting_up_to(self, number):
+        """The worker whose line has this number in the script, and how many lines of it wait up to there. Without such a line, None."""
+        for worker, section in enumerate(self.sections):
+            end = number - self.first_line(worker) + 1
+            if 1 <= end <= len(section.lines):
+                return worker, sum(map(is_command, section.lines[section.done : end]))
+        return None
+
     def first_line(self, worker):
         """The number in the script of the first line of a section."""
         return len(self.header) + 2 + sum(1 + len(section.lines) for section in self.sections[:worker])

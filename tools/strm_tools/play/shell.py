@@ -24,6 +24,10 @@ queue 10 4 s -
 bufcalls 2 1
 worker
 """
+# Of how many changes that are taken back or done again the words are shown.
+NAMED = 5
+
+
 class Ended(Exception):
     """The session is at its end."""
 
@@ -66,7 +70,7 @@ class Shell(Turns):
         """Says what the session begins with."""
         pool = self.play.pool
         data = sum(count for _, count in pool.classes)
-        counts = f"{pool.mblks} message blocks, {data} data blocks, {len(pool.queues)} queues"
+        counts = f"{counted(pool.mblks, 'message block')}, {counted(data, 'data block')}, {counted(len(pool.queues), 'queue')}"
         self.say(f"{counts}; help lists the commands, quit ends:")
         self.on_header()
         if path is not None:
@@ -274,18 +278,18 @@ class Shell(Turns):
         if not rows:
             raise Wrong("nothing to explain: no line is executed")
         if place is None:
-            raise Wrong("nothing to explain: no line was refused, and none could enable a queue")
+            raise Wrong("nothing to explain: no line was refused, replied no or none, or could enable a queue")
         if place < len(rows) - 1:
             self.say(f"nothing to explain in the last line, {shown(rows[-1])}; before it:")
         _, text, _ = rows[place]
         rule = why(self.session.model_before(place), *parted(text))
         self.say(shown(rows[place]) + (f", {rule.rule.decides}" if rule.rule.decides in EFFECTS else ""))
-        self.face.paragraph("  ", f"{rule.text()} (MODEL.md, {rule.rule.section})")
+        self.face.paragraph("  ", f"{rule.text()} (docs/MODEL.md, {rule.rule.section})")
 
     def on_undo(self, count="1"):
         if self.typed is not None:
             self.typed = None
-            self.say("the pool stays")
+            self.say("the header is given up, and the pool is as before")
             return
         self.say_changes("taken back", self.session.undo(number_of(count, 1)), "there is nothing to take back")
 
@@ -296,7 +300,8 @@ class Shell(Turns):
         named = [change.named for change in changes if change.named]
         if not named:
             raise Wrong(nothing)
-        self.face.paragraph(f"{what}: ", "; ".join(named))
+        more = len(named) - NAMED
+        self.face.paragraph(f"{what}: ", "; ".join(named[:NAMED]) + (f"; and {more} more" if more > 0 else ""))
         self.draw()
 
     def on_save(self, *words):

@@ -7,6 +7,10 @@ from strm_tools.script import Wrong
 from strm_tools.words import counted
 
 
+# How many lines `until` shows, the last ones.
+SHOWN = 5
+
+
 class Turns:
     """These commands, as a part of the shell of a session."""
 
@@ -32,7 +36,7 @@ class Turns:
     def on_rewind(self):
         self.session.do("rewind", named="rewind")
         waiting = sum(section.waiting() for section in self.play.sections)
-        self.say(f"{counted(waiting, 'line')} waiting: next executes one, run all")
+        self.say(f"{counted(waiting, 'line')} waiting: next executes one, until those up to a line, run all")
         self.draw()
 
     def seeded(self, seed):
@@ -66,12 +70,25 @@ class Turns:
         seed = self.seeded(random.randrange(10_000) if word is None else number_of(word))
         self.serve("run", drawn_order(self.play, seed), f"run {seed}")
 
-    def serve(self, method, workers, named):
-        """Executes waiting lines of these workers, and shows them with their replies."""
+    def on_until(self, word):
+        number = number_of(word, 1)
+        found = self.play.waiting_up_to(number)
+        if found is None:
+            raise Wrong(f"no worker has a line {number}; list shows the lines that were executed, workers those that wait too")
+        worker, count = found
+        if count == 0:
+            raise Wrong(f"no line waits up to line {number}; rewind has all lines wait again")
+        self.serve("serve", [worker] * count, f"until {number}", SHOWN)
+
+    def serve(self, method, workers, named, most=None):
+        """Executes waiting lines of these workers, and shows them with their replies: all, or the last ones."""
         self.session.do(method, workers, named=named)
         replies = self.answers()[0]
         rows = list(self.play.rows())
-        self.say_rows([(at, text, reply) for (at, text, _), reply in zip(rows, replies)][-len(workers) :])
+        left_out = 0 if most is None else max(0, len(workers) - most)
+        if left_out:
+            self.say(f".. {counted(left_out, 'line')}; list shows all")
+        self.say_rows([(at, text, reply) for (at, text, _), reply in zip(rows, replies)][left_out - len(workers) :])
         self.draw(anew=False)
 
     def on_workers(self):
