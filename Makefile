@@ -39,7 +39,7 @@ MODULES := $(shell cd tools && find strm_tools -name __pycache__ -prune -o -type
 # Stops make with one line if there is no `rt`.
 NEEDS_RT = $(if $(shell command -v rt 2>/dev/null),,$(error no rt on PATH, so nothing is proved or built; the archive of a release has strm and libstrm.a, and make install-tools installs the tools that need Python alone (README.md, "Without rt")))
 
-.PHONY: run try test cases planted lint soak field view-test pictures bench bench-lines bench-library bench-census bench-header bench-c strm install install-pages install-tools install-docs lib install-lib dist vendor
+.PHONY: run try test cases planted edits lint soak field view-test pictures bench bench-lines bench-library bench-census bench-header bench-c strm install install-pages install-tools install-docs lib install-lib dist vendor
 
 # Runs examples/first_run.strm on the proved program.
 run: $(BUILT)
@@ -64,6 +64,11 @@ cases: $(BUILT)
 planted:
 	$(NEEDS_RT)
 	@tests/planted
+
+# Tries the edits that the gate leaves out, and requires the prover to refuse each. CRATES names crates, if not all.
+edits:
+	$(NEEDS_RT)
+	@tests/more_edits $(CRATES)
 
 # Checks the shell scripts with shellcheck and the Python programs with a linter.
 lint:
@@ -138,15 +143,16 @@ install-pages:
 install-tools: install-pages
 	rm -rf $(SHARE)/strm/strm_tools
 	for file in $(MODULES); do install -D -m 644 tools/$$file $(SHARE)/strm/$$file || exit; done
+	install -m 644 VERSION $(SHARE)/strm/VERSION
 	install -d $(DESTDIR)$(PREFIX)/bin
 	for tool in $(TOOLS); do install -m 755 tools/$$tool $(SHARE)/strm && ln -sf ../share/strm/$$tool $(DESTDIR)$(PREFIX)/bin/$$tool || exit; done
 
-# Installs the examples, the licence, and what README.md is for users of what is installed.
+# Installs the examples, the licence, what README.md is for users of what is installed, and the pages of docs that they read.
 install-docs:
 	for file in $$(find examples -type f); do install -D -m 644 $$file $(SHARE)/doc/strm/$$file || exit; done
 	install -m 644 LICENSE $(SHARE)/doc/strm/LICENSE
 	install -m 644 docs/PACKAGE.md $(SHARE)/doc/strm/README.md
-	install -m 644 docs/MODEL.md $(SHARE)/doc/strm/MODEL.md
+	tools/doc_pages $(SHARE)/doc/strm
 
 # Puts the library for C at build/libstrm.a, the shared library at build/libstrm.so, and the pkg-config file at build/strm.pc.
 lib: build/libstrm.a build/libstrm.so build/strm.pc
