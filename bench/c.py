@@ -1,8 +1,7 @@
 #!/usr/bin/env python3
-"""Measures calls of strm.h, beside the calls of `Pool` that they make and those of a pool written by hand in C, and prints a table.
-bench/README.md says how.
+"""Measures calls of strm.h and the ways of packets, beside the calls of `Pool` and a pool written by hand in C. bench/README.md says how.
 
-    bench/c.py [--rounds N] [--write] LIBRARY PROGRAM
+    bench/c.py [--rounds N] [--write] LIBRARY [PROGRAM]
 """
 import argparse
 import os
@@ -22,23 +21,53 @@ SOURCES = [os.path.join(TOP, "bench", "c", name) for name in ("rounds.c", "plain
 
 
 class Round(NamedTuple):
-    """What a round does, how many calls it makes, and the row of strm_bench with the same calls of `Pool`, less another row if one is
-    named."""
+    """What a round does, how many calls it makes, and the row of strm_bench with the same calls of `Pool`, if it has one, for this size. Of
+    that row another is subtracted if one is named."""
 
     shown: str
     calls: int
-    row: str
+    row: str = ""
     less: str = ""
+    size: int = 64
 
 
+# Single calls. The numbers of messages and bytes are those of rounds.c.
 ROUNDS = {
     "allocb": Round("`strm_allocb`, `strm_freemsg`", 2, "allocb"),
     "dupb": Round("`strm_dupb`, `strm_freemsg`", 2, "dupb", "allocb"),
     "write": Round("`strm_allocb`, `strm_write` 64 bytes, `strm_freemsg`", 3, "write"),
     "putq": Round("`strm_putq`, `strm_getq`, the queue's only message", 2, "putq"),
+    "allocb_n": Round("`strm_allocb_n`, `strm_freemsg_n`, 16 messages", 2),
+    "putq_n": Round("`strm_putq_n`, `strm_getq_n`, 16 messages", 2),
+    "transfer": Round("`strm_transfer` of 64 bytes to another pool, and back", 2, "transfer"),
+    "read": Round("`strm_read` 64 bytes", 1, "read_all"),
+    "bytes": Round("`strm_bytes`", 1, "bytes"),
+    "iov": Round("`strm_iov` of four blocks", 1),
+    "blocks": Round("`strm_blocks` of four", 1, "walk", size=4),
+    "place": Round("`strm_place`", 1, "place"),
+    "overwrite": Round("`strm_overwrite` of one byte", 1, "overwrite_byte"),
+    "reserve": Round("`strm_reserve`", 1, "reserve"),
+    "prepend": Round("`strm_adjmsg`, `strm_prepend` of 64 bytes", 2, "prepend"),
+    "advance": Round("`strm_adjmsg`, `strm_advance` over 64 bytes", 2, "advance"),
+    "name_at": Round("`strm_name_at`", 1),
+    "first_queued": Round("`strm_first_queued`", 1, "first_queued"),
+    "queued_after": Round("`strm_queued_after`", 1, "queued_after"),
+    "queued_at": Round("`strm_queued_at`, the first", 1, "queued_at", size=0),
+    "read_queued": Round("`strm_read_queued` 64 bytes of the first", 1, "read_queued"),
+    "queue_spec": Round("`strm_queue_spec`", 1, "queue_spec"),
 }
-TIMED = 20_000_000
+# The way of a packet, which has one block: its bytes, how it comes in, and how it is looked at and goes out.
+WAYS = {
+    "copies_short": ("64", "`strm_write`", "`strm_read`"),
+    "in_place_short": ("64", "`strm_write`", "`strm_bytes`"),
+    "copies_long": ("1,500", "`strm_write`", "`strm_read`"),
+    "in_place_long": ("1,500", "`strm_write`", "`strm_bytes`"),
+    "no_copy_long": ("1,500", "`strm_place`, `strm_advance`", "`strm_place`"),
+}
+TIMED = 5_000_000
 COUNTED = 100_000
+# The status of the program of rounds if the plain pool has no such round.
+NO_ROUND = 3
 
 
 def built(archive, room):
@@ -46,6 +75,11 @@ def built(archive, room):
     program = os.path.join(room, "rounds")
     subprocess.run([os.environ.get("CC", "cc"), "-O2", "-I" + os.path.join(TOP, "c"), *SOURCES, archive, "-o", program], check=True)
     return program
+
+
+def has(program, over, name):
+    """Whether there is such a round."""
+    return subprocess.run([program, over, name, "0"], capture_output=True).returncode != NO_ROUND
 
 
 def nanoseconds(program, over, name, rounds):
@@ -65,42 +99,66 @@ def counted(program, over, name, count):
     return int(re.search(r"Collected : (\d+)", said)[1])
 
 
+def beside(program, name, rounds):
+    """The nanoseconds and the instructions of a round over the plain pool, if it has that, and over strm.h."""
+    pools = [over if has(program, over, name) else None for over in ("plain", "strm")]
+    return [over and nanoseconds(program, over, name, rounds) for over in pools], [over and instructions(program, over, name) for over in pools]
+
+
 def direct(program, rounds):
-    """The nanoseconds and the instructions of each round by the calls of `Pool` themselves."""
-    measures = {row: library.Measure("direct", row, library.MIDDLE) for told in ROUNDS.values() for row in (told.row, told.less) if row}
+    """The nanoseconds and the instructions of each round by the calls of `Pool` themselves, of those that strm_bench has."""
+    rows = {name: told for name, told in ROUNDS.items() if told.row}
+    measures = {(row, told.size): library.Measure("direct", row, library.MIDDLE, size=told.size) for told in rows.values() for row in (told.row, told.less) if row}
     counts = library.all_instructions(program, list(measures.values()))
     times = library.nanoseconds(program, list(measures.values()), counts, rounds)
 
     def cost(of, told):
-        return of[measures[told.row]] - (of[measures[told.less]] if told.less else 0)
+        return of[measures[told.row, told.size]] - (of[measures[told.less, told.size]] if told.less else 0)
 
-    return {name: (cost(times, told), cost(counts, told)) for name, told in ROUNDS.items()}
+    return {name: (cost(times, told), cost(counts, told)) for name, told in rows.items()}
+
+
+def shown(cost, places):
+    return "" if cost is None else f"{cost:,.{places}f}"
 
 
 def table(program, pools, rounds):
+    """Single calls, in markdown."""
     yield "| A round | plain, ns | `Pool`, ns | strm.h, ns | ns more a call | plain, instructions | `Pool` | strm.h | more a call |"
     yield "|---|---|---|---|---|---|---|---|---|"
-    costs = direct(pools, rounds)
+    costs = direct(pools, rounds) if pools else {}
     for name, told in ROUNDS.items():
-        times = [nanoseconds(program, over, name, rounds) for over in ("plain", "strm")]
-        steps = [instructions(program, over, name) for over in ("plain", "strm")]
         cells = [told.shown]
-        for (plain, face), pool, places in ((times, costs[name][0], 1), (steps, costs[name][1], 0)):
-            cells += [f"{cost:.{places}f}" for cost in (plain, pool, face, (face - pool) / told.calls)]
+        for (plain, face), pool, places in zip(beside(program, name, rounds), costs.get(name, (None, None)), (1, 0)):
+            more = None if pool is None else (face - pool) / told.calls
+            cells += [shown(cost, places) for cost in (plain, pool, face, more)]
         yield f"| {' | '.join(cells)} |"
+
+
+def ways(program, rounds):
+    """The way of a packet, in markdown."""
+    yield "| Bytes | Comes in by | Is looked at, and goes out, by | plain, ns | strm.h, ns | plain, instructions | strm.h |"
+    yield "|---|---|---|---|---|---|---|"
+    for name, told in WAYS.items():
+        times, steps = beside(program, name, rounds)
+        yield f"| {' | '.join([*told, *(shown(cost, 1) for cost in times), *(shown(cost, 0) for cost in steps)])} |"
 
 
 def main():
     words = argparse.ArgumentParser(description=__doc__.splitlines()[0])
     words.add_argument("--rounds", type=int, default=9, help="runs for each median")
-    words.add_argument("--write", action="store_true", help="put the table into docs/COST.md")
+    words.add_argument("--write", action="store_true", help="put the tables into docs/COST.md")
     words.add_argument("library", metavar="LIBRARY", help="the path of the library for C")
-    words.add_argument("program", metavar="PROGRAM", help="the path of strm_bench")
+    words.add_argument("program", metavar="PROGRAM", nargs="?", help="the path of strm_bench; without it the columns of `Pool` are empty")
     given = words.parse_args()
+    if given.write and not given.program:
+        words.error("--write needs PROGRAM")
     if not shutil.which("valgrind"):
         sys.exit("valgrind is not installed")
     with tempfile.TemporaryDirectory() as room:
-        lines = list(table(built(given.library, room), os.path.abspath(given.program), given.rounds))
+        program = built(given.library, room)
+        lines = list(table(program, given.program and os.path.abspath(given.program), given.rounds))
+        lines += ["", "The way of a packet of one block, which waits on a queue between the two looks:", "", *ways(program, given.rounds)]
     print("\n".join(lines))
     if given.write:
         rewrite("c", lines)

@@ -1,16 +1,22 @@
 /*
  * The border between C and the crate strm_c, which takes references and slices. The functions here reject what those cannot be:
- * null pointers, lengths that no object has, and one place for two answers. The crate checks everything else. A function that
- * rejects an argument checks whether the handle is open too, because that answer comes first. strm_c_close would clear a handle
- * that is not open. Calls that need no pool are here alone: they compare names, and return a text that the crate could only copy.
+ * null pointers, lengths that no object has, one place for two answers, and one handle for two pools. The crate checks everything
+ * else. A function that rejects an argument checks whether the handle is open too, because that answer comes first. strm_c_close
+ * would clear a handle that is not open. Calls that need no pool are here alone: they compare names, and return a text that the
+ * crate could only copy.
  */
 #include "strm_c.h"
 
 /* The greatest length of an object. */
 #define MOST_LENGTH ((size_t)-1 / 2)
 
-/* Used for every buffer of length 0, since a slice needs an address. It is neither read nor written. */
-static uint8_t nothing;
+/* Used for every array of length 0, since a slice needs an address. It is neither read nor written. */
+static union {
+	uint8_t byte;
+	struct strm_block_info block;
+	struct strm_iov iov;
+	struct strm_msg msg;
+} nothing;
 
 /* The text of each code, as the crate has it. tests/c/each.c compares them. */
 static const struct {
@@ -71,10 +77,22 @@ static int with_rest(int code, struct strm_msg *rest)
 	return code;
 }
 
+/* Whether a pointer and a length can be an array of items of this size. */
+static int is_array(const void *items, size_t length, size_t size)
+{
+	return length <= MOST_LENGTH / size && (items != NULL || length == 0);
+}
+
 /* Whether a pointer and a length can be a buffer. */
 static int is_buffer(const void *bytes, size_t length)
 {
-	return length <= MOST_LENGTH && (bytes != NULL || length == 0);
+	return is_array(bytes, length, 1);
+}
+
+/* Whether a count can be stored at this place beside results in an array. */
+static int is_count(const size_t *count, const void *items, size_t length)
+{
+	return count != NULL && (length == 0 || items != (const void *)count);
 }
 
 /* Puts a 0 after what was copied of a text, or over the last byte of a full buffer. Returns the length of the whole text. */
@@ -139,14 +157,86 @@ int strm_write(struct strm_pool *pool, struct strm_msg msg, uint32_t place, cons
 {
 	if (pool == NULL || !is_buffer(bytes, length))
 		return fault_of(pool);
-	return strm_c_write(pool, msg, place, length == 0 ? &nothing : (const uint8_t *)bytes, length);
+	return strm_c_write(pool, msg, place, length == 0 ? &nothing.byte : (const uint8_t *)bytes, length);
 }
 
 int strm_read(struct strm_pool *pool, struct strm_msg msg, uint32_t at, void *into, size_t length, size_t *count)
 {
-	if (pool == NULL || !is_buffer(into, length) || count == NULL || (length != 0 && into == (void *)count))
+	if (pool == NULL || !is_buffer(into, length) || !is_count(count, into, length))
 		return fault_of(pool);
-	return strm_c_read(pool, msg, at, length == 0 ? &nothing : (uint8_t *)into, length, count);
+	return strm_c_read(pool, msg, at, length == 0 ? &nothing.byte : (uint8_t *)into, length, count);
+}
+
+int strm_blocks(struct strm_pool *pool, struct strm_msg msg, uint32_t from, struct strm_block_info *into, size_t length,
+	size_t *count)
+{
+	if (pool == NULL || !is_array(into, length, sizeof *into) || !is_count(count, into, length))
+		return fault_of(pool);
+	return strm_c_blocks(pool, msg, from, length == 0 ? &nothing.block : into, length, count);
+}
+
+int strm_iov(struct strm_pool *pool, struct strm_msg msg, uint32_t from, struct strm_iov *into, size_t length, size_t *count)
+{
+	if (pool == NULL || !is_array(into, length, sizeof *into) || !is_count(count, into, length))
+		return fault_of(pool);
+	return strm_c_iov(pool, msg, from, length == 0 ? &nothing.iov : into, length, count);
+}
+
+int strm_overwrite(struct strm_pool *pool, struct strm_msg msg, uint32_t at, const void *bytes, size_t length)
+{
+	if (pool == NULL || !is_buffer(bytes, length))
+		return fault_of(pool);
+	return strm_c_overwrite(pool, msg, at, length == 0 ? &nothing.byte : (const uint8_t *)bytes, length);
+}
+
+int strm_prepend(struct strm_pool *pool, struct strm_msg msg, const void *bytes, size_t length)
+{
+	if (pool == NULL || !is_buffer(bytes, length))
+		return fault_of(pool);
+	return strm_c_prepend(pool, msg, length == 0 ? &nothing.byte : (const uint8_t *)bytes, length);
+}
+
+int strm_transfer(struct strm_pool *pool, struct strm_pool *other, struct strm_msg msg, struct strm_msg *moved)
+{
+	if (pool == NULL || other == NULL || pool == other || moved == NULL)
+		return is_open(pool) ? fault_of(other) : STRM_NOT_OPEN;
+	return strm_c_transfer(pool, other, msg, moved);
+}
+
+int strm_read_queued(struct strm_pool *pool, uint32_t queue, uint32_t place, uint32_t at, void *into, size_t length,
+	size_t *count)
+{
+	if (pool == NULL || !is_buffer(into, length) || !is_count(count, into, length))
+		return fault_of(pool);
+	return strm_c_read_queued(pool, queue, place, at, length == 0 ? &nothing.byte : (uint8_t *)into, length, count);
+}
+
+int strm_allocb_n(struct strm_pool *pool, uint32_t size, struct strm_msg *msgs, size_t length, size_t *count)
+{
+	if (pool == NULL || !is_array(msgs, length, sizeof *msgs) || !is_count(count, msgs, length))
+		return fault_of(pool);
+	return strm_c_allocb_n(pool, size, length == 0 ? &nothing.msg : msgs, length, count);
+}
+
+int strm_freemsg_n(struct strm_pool *pool, const struct strm_msg *msgs, size_t length, size_t *count)
+{
+	if (pool == NULL || !is_array(msgs, length, sizeof *msgs) || count == NULL)
+		return fault_of(pool);
+	return strm_c_freemsg_n(pool, length == 0 ? &nothing.msg : msgs, length, count);
+}
+
+int strm_putq_n(struct strm_pool *pool, uint32_t queue, const struct strm_msg *msgs, size_t length, size_t *count)
+{
+	if (pool == NULL || !is_array(msgs, length, sizeof *msgs) || count == NULL)
+		return fault_of(pool);
+	return strm_c_putq_n(pool, queue, length == 0 ? &nothing.msg : msgs, length, count);
+}
+
+int strm_getq_n(struct strm_pool *pool, uint32_t queue, struct strm_msg *msgs, size_t length, size_t *count)
+{
+	if (pool == NULL || !is_array(msgs, length, sizeof *msgs) || !is_count(count, msgs, length))
+		return fault_of(pool);
+	return strm_c_getq_n(pool, queue, length == 0 ? &nothing.msg : msgs, length, count);
 }
 
 int strm_same_msg(struct strm_msg a, struct strm_msg b)
@@ -173,19 +263,19 @@ size_t strm_text(int code, char *text, size_t length)
 {
 	if (!is_buffer(text, length))
 		return 0;
-	return ended(text, length, strm_c_text(code, length == 0 ? &nothing : (uint8_t *)text, length));
+	return ended(text, length, strm_c_text(code, length == 0 ? &nothing.byte : (uint8_t *)text, length));
 }
 
 size_t strm_name(int code, char *text, size_t length)
 {
 	if (!is_buffer(text, length))
 		return 0;
-	return ended(text, length, strm_c_name(code, length == 0 ? &nothing : (uint8_t *)text, length));
+	return ended(text, length, strm_c_name(code, length == 0 ? &nothing.byte : (uint8_t *)text, length));
 }
 
 size_t strm_version(char *text, size_t length)
 {
 	if (!is_buffer(text, length))
 		return 0;
-	return ended(text, length, strm_c_version(length == 0 ? &nothing : (uint8_t *)text, length));
+	return ended(text, length, strm_c_version(length == 0 ? &nothing.byte : (uint8_t *)text, length));
 }

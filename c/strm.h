@@ -4,8 +4,8 @@
  *
  * A pool has message blocks, data blocks in size classes, and queues. Only strm_open allocates
  * memory. A message is a chain of one or more message blocks; the caller holds it by a name, or it
- * is on a queue. No call returns a pointer into a pool: bytes are copied in and out. Queues, and
- * places of blocks, messages and bytes, are numbered from 0.
+ * is on a queue. Bytes are copied in and out, or read where they are (strm_bytes, strm_iov). Queues,
+ * and places of blocks, messages and bytes, are numbered from 0.
  *
  *     strm_allocb(&pool, 4, &msg);
  *     strm_write(&pool, msg, 0, "lion", 4);
@@ -16,7 +16,7 @@
  *
  *   - next: the queue to which a queue leads, if any.
  *   - service procedure: your code for an enabled queue. Mostly it takes messages off the queue
- *     until strm_getq returns STRM_NONE, or until it puts one back. Call strm_next_service in a
+ *     until strm_getq or strm_getq_n returns STRM_NONE, or until it puts one back. Call strm_next_service in a
  *     loop, and run the service procedure of the queue that this returns (examples/c/service.c).
  *   - read place, write place: where the bytes of a message block begin and end in its data block.
  *     Each message block has its own.
@@ -37,6 +37,11 @@
  *   - want-to-read: a mark that a new queue has, and that strm_getq sets or clears.
  *   - wish (bufcall): a recorded request for a message block. strm_take_ready returns the wish, not
  *     the block.
+ *   - look: a call that changes nothing in the pool. Looks are strm_testb, strm_read, strm_size,
+ *     strm_msgdsize, strm_block, strm_blocks, strm_bytes, strm_iov, strm_place, strm_has,
+ *     strm_name_at, strm_qsize, strm_queued_at, strm_read_queued, strm_first_queued,
+ *     strm_queued_after, strm_queue_spec, strm_strqget, strm_run_at, strm_wish_at, strm_census,
+ *     strm_class_info, strm_queue_info, strm_band_info and strm_is_open.
  *
  *
  * Results
@@ -56,10 +61,10 @@
  * If several codes apply, a call returns the first in this list (strm_open has its own order):
  *
  *   1. STRM_NOT_OPEN: the handle is null, was never opened, or was closed.
- *   2. STRM_BAD_ARGUMENT: a pointer is null, except one to a buffer of length 0. Or a parameter
- *      `band`, `type`, `flush` or `length` is out of range; a length is at most SIZE_MAX / 2. Or
- *      two pointers are equal: the parameters `block` and `rest` of strm_rmvb, or `into` and
- *      `count` of strm_read if `length` is above 0.
+ *   2. STRM_BAD_ARGUMENT: a pointer is null, except one to an array of length 0. Or a parameter
+ *      `band`, `type`, `flush` or `length` is out of range; an array has at most SIZE_MAX / 2 bytes.
+ *      Or two pointers to results are equal; one to an array of length 0 does not count. Or both
+ *      handles of strm_transfer are the same one.
  *   3. STRM_INVALID: a name is not valid.
  *   4. STRM_NO_SUCH_QUEUE: the call names a queue that the pool does not have.
  *   5. The refusals that the call's comment lists, in that order.
@@ -69,24 +74,32 @@
  * nothing. After any code but STRM_OK and STRM_NONE, the pool, names, and what pointers lead to are
  * unchanged.
  *
+ * A call whose name ends in _n makes single calls, one after another: as many as `length` says, or
+ * fewer, up to the first that does not return STRM_OK. It sets *count to the number of calls that
+ * returned STRM_OK, and returns STRM_OK. But if the first call returns another code, it returns that
+ * code, and *count is unchanged. Items 3 to 5 of the list are those of the first call. If `length`
+ * is 0 there is none: *count is 0, with STRM_OK, whatever the other arguments name.
+ *
  * A call takes constant time, plus time for each block, message or byte that it goes over.
  *
  *
  * Names
  *
  * A name has its pool's id, the number of the message's first block, and a stamp. It is valid from
- * the call that returns it until the message is handed over, by strm_freemsg, strm_freeb,
- * strm_rmvb, strm_putq, strm_putbq, strm_insq, as the tail of strm_linkb, or by closing the pool.
+ * the call that returns it until the message is handed over. These calls hand over: strm_freemsg,
+ * strm_freeb, strm_rmvb, strm_transfer, strm_putq, strm_putbq, strm_insq, the _n calls that free or
+ * put, strm_linkb its tail, and strm_close all.
  *
- * A pool never returns a name twice. So a caller that frees twice, links twice, or uses a message
+ * A pool never gives a name a second time: a message that comes off a queue, or is parted from
+ * another, has a new one. Only strm_name_at returns a name that was given before. So a caller that frees twice, links twice, or uses a message
  * that is on a queue gets STRM_INVALID. Any bits may be passed as a name. Names may be copied, kept,
  * and compared by strm_same_msg. STRM_NO_MSG, all zeros, is the name of no message, and never valid.
  *
- * Stamps start again after 2^64 messages that began with the same block. Two pools opened with the
+ * Stamps start again after 2^64 names with the same block. Two pools opened with the
  * same id, together or one after the other, can't tell their names apart: give different ids to
  * pools whose names can meet.
  *
- * A message whose name is lost stays held until the pool is closed.
+ * A message whose name is lost stays held until the pool is closed. strm_name_at finds its name.
  *
  *
  * What the caller promises
@@ -96,8 +109,12 @@
  *   - A pointer that is not null leads to as many objects as the call says. During the call nothing
  *     else writes to these objects. Where the call writes, nothing else reads, and what it writes
  *     overlaps nothing else that it is given.
- *   - A call may write to its handle, even one that only looks. So a handle is passed to one call at
- *     a time. Threads that share a pool hold a lock of their own during each call.
+ *   - A call may write to its handle, even a look. So a handle is passed to one call at a time.
+ *     Threads that share a pool hold a lock of their own during each call.
+ *   - Nothing is written through a pointer that strm_bytes or strm_iov returns. Nothing is read
+ *     through it once a call that is no look was made with that pool; a look leaves it good. It is
+ *     passed to no call with the same pool, such as strm_write: copy the bytes by strm_read first. A
+ *     call with another pool may get it.
  *   - No call is made from a signal handler. An interrupt handler makes calls only while no other
  *     call runs.
  *   - A call runs to its end. No signal handler leaves it by siglongjmp, and no thread in it is
@@ -123,7 +140,7 @@
  *   - Structs grow only at their end. In a struct that the caller fills, 0 in a new field means what
  *     was done before. So fill structs by names of fields (designated initialisers), or set them to
  *     zeros first.
- *   - The sizes of struct strm_pool and struct strm_msg stay.
+ *   - The sizes of struct strm_pool, struct strm_msg and struct strm_iov stay.
  *   - If a struct grows, each call that uses it gets a new symbol version. Programs that were linked
  *     before get the old one, and the old struct.
  *   - libstrm.a has no versions of symbols: compile with the header that is beside it.
@@ -131,9 +148,9 @@
  *
  * C++
  *
- * In C++ the calls strm_census, strm_class_info, strm_queue_info and strm_band_info are macros,
- * because structs have these names too. So `strm_census c;` declares a variable. The addresses of
- * these functions are `&strm_census_` and so on.
+ * In C++ the calls strm_census, strm_class_info, strm_queue_info, strm_band_info, strm_queue_spec
+ * and strm_iov are macros, because structs have these names too. So `strm_census c;` declares a
+ * variable. The addresses of these functions are `&strm_census_` and so on.
  *
  *
  * As in STREAMS, and not
@@ -242,7 +259,7 @@ struct strm_pool {
 struct strm_msg {
 	uint32_t pool;			/* the id of its pool */
 	uint32_t head;			/* the number of its first block */
-	uint64_t stamp;			/* how many messages began with that block, this one included */
+	uint64_t stamp;			/* how many names with that block were given, this one included */
 };
 
 /*
@@ -305,6 +322,29 @@ struct strm_block_info {
 	uint32_t names;			/* references to its data block, 1 to STRM_MOST_NAMES */
 };
 
+/* Where the bytes of a message block are. */
+struct strm_block_place {
+	uint32_t data;			/* the number of its data block; those of the first class come first, from 0 */
+	uint32_t at;			/* the read place in the data block, in bytes */
+	uint32_t length;		/* bytes between its read place and its write place */
+	uint32_t capacity;		/* bytes of the data block */
+};
+
+/* Bytes of a message block, where they are. Its layout is that of Linux's struct iovec. */
+struct strm_iov {
+	const void *base;
+	size_t length;
+};
+
+/* A message on a queue. */
+struct strm_queued {
+	uint32_t head;			/* the number of its first block; it stays while the message is on the queue */
+	uint32_t type;			/* the type of its first block, STRM_M_DATA to STRM_M_IOCDATA */
+	uint32_t band;			/* the band of its first block, 0 to 255 */
+	uint32_t bytes;			/* bytes of all its blocks */
+	uint32_t blocks;		/* its blocks, 1 or more */
+};
+
 struct strm_queue_info {
 	uint32_t msgs;			/* messages on it */
 	uint32_t bytes;			/* bytes of these messages */
@@ -332,15 +372,20 @@ struct strm_wish {
 };
 
 #ifdef __cplusplus
-/* These four calls have names of structs, which a function would hide in C++. Their symbols are those of C. */
+/* These six calls have names of structs, which a function would hide in C++. Their symbols are those of C. */
 int strm_census_(struct strm_pool *pool, struct strm_census *census) __asm__("strm_census");
 int strm_class_info_(struct strm_pool *pool, uint32_t place, struct strm_class_info *info) __asm__("strm_class_info");
 int strm_queue_info_(struct strm_pool *pool, uint32_t queue, struct strm_queue_info *info) __asm__("strm_queue_info");
 int strm_band_info_(struct strm_pool *pool, uint32_t queue, uint32_t band, struct strm_band_info *info) __asm__("strm_band_info");
+int strm_queue_spec_(struct strm_pool *pool, uint32_t queue, struct strm_queue_spec *spec) __asm__("strm_queue_spec");
+int strm_iov_(struct strm_pool *pool, struct strm_msg msg, uint32_t from, struct strm_iov *into, size_t length, size_t *count)
+	__asm__("strm_iov");
 #define strm_census(pool, census) strm_census_(pool, census)
 #define strm_class_info(pool, place, info) strm_class_info_(pool, place, info)
 #define strm_queue_info(pool, queue, info) strm_queue_info_(pool, queue, info)
 #define strm_band_info(pool, queue, band, info) strm_band_info_(pool, queue, band, info)
+#define strm_queue_spec(pool, queue, spec) strm_queue_spec_(pool, queue, spec)
+#define strm_iov(pool, msg, from, into, length, count) strm_iov_(pool, msg, from, into, length, count)
 #endif
 
 /* ---- opening and closing: strm_open(3) */
@@ -466,8 +511,95 @@ int strm_msgdsize(struct strm_pool *pool, struct strm_msg msg, uint32_t *bytes);
  */
 int strm_block(struct strm_pool *pool, struct strm_msg msg, uint32_t place, struct strm_block_info *block);
 
+/*
+ * Returns the fields of consecutive blocks of a message, from the block numbered `from` on, in the
+ * array `into` of `length` structs. *count is the number of blocks reported: `length`, or fewer if
+ * the message ends before. If the message has no block `from`, *count is 0, with STRM_OK. The rest
+ * of the array is unchanged. For each 32 blocks it goes from the first block on anew.
+ * STREAMS: following b_cont.
+ */
+int strm_blocks(struct strm_pool *pool, struct strm_msg msg, uint32_t from, struct strm_block_info *into, size_t length,
+	size_t *count);
+
 /* Sets *yes to 1 if the name is valid, else to 0. It never returns STRM_INVALID. Not in STREAMS. */
 int strm_has(struct strm_pool *pool, struct strm_msg msg, uint32_t *yes);
+
+/*
+ * Returns the name of the held message whose first block has the number `head`, or STRM_NONE if no
+ * held message begins there. To find every held message, ask for each number below `mblks` of the
+ * configuration.
+ * Not in STREAMS.
+ */
+int strm_name_at(struct strm_pool *pool, uint32_t head, struct strm_msg *msg);
+
+/* ---- bytes in place: strm_bytes(3) */
+
+/*
+ * Sets *bytes to the address of the first byte of the block numbered `place`, and *length to the number of its
+ * bytes, which follow one another. They may begin at any address. If there are none, *bytes is
+ * still not null. Read them there, until the next call with this pool that is no look; write
+ * nothing.
+ * Refused as STRM_NO_SUCH_BLOCK.
+ * STREAMS: b_rptr and b_wptr; here the caller may not write.
+ */
+int strm_bytes(struct strm_pool *pool, struct strm_msg msg, uint32_t place, const uint8_t **bytes, size_t *length);
+
+/*
+ * Sets base and length of consecutive blocks of a message, as strm_bytes does, in the array `into`
+ * of `length` structs, from the block numbered `from` on. *count is the number of blocks: `length`,
+ * or fewer if the message ends before. If the message has no block `from`, *count is 0, with
+ * STRM_OK. The rest of the array is unchanged. writev takes the array as
+ * `(const struct iovec *)into`, with at most IOV_MAX structs. strm_iov counts to each block from the
+ * first one, so a message of many blocks takes time for the square of their number.
+ * Not in STREAMS.
+ */
+int strm_iov(struct strm_pool *pool, struct strm_msg msg, uint32_t from, struct strm_iov *into, size_t length, size_t *count);
+
+/*
+ * Returns the data block of the block numbered `place`, and where its bytes are. With these numbers
+ * a program keeps memory of its own for each data block, such as buffers for DMA, and the pool
+ * counts references and keeps order: strm_reserve and strm_advance move the places. Calls that read,
+ * write or copy bytes use those in the pool all the same. The numbers of data blocks are below the
+ * sum of `count` over the size classes.
+ * Refused as STRM_NO_SUCH_BLOCK.
+ * STREAMS: db_base, db_lim, b_rptr and b_wptr, as numbers.
+ */
+int strm_place(struct strm_pool *pool, struct strm_msg msg, uint32_t place, struct strm_block_place *where);
+
+/*
+ * Writes `length` bytes over those of a message, beginning with the byte numbered `at`, counted
+ * over all blocks. The size of the message stays.
+ * Refused as STRM_SHORT if `at` + `length` is above the size, also for a length of 0. Refused as
+ * STRM_SHARED if more than one message block refers to a data block into which bytes would be
+ * written, even equal ones.
+ * STREAMS: writing through b_rptr; the kernel does not check db_ref.
+ */
+int strm_overwrite(struct strm_pool *pool, struct strm_msg msg, uint32_t at, const void *bytes, size_t length);
+
+/*
+ * Sets the read place and the write place of the block numbered `place`, which has no bytes, to
+ * `count`. So strm_prepend has room for `count` bytes (headroom) once the block is the first.
+ * Refused as STRM_NO_SUCH_BLOCK, STRM_SHARED, STRM_NO_ROOM; the first two also for a count of 0, the
+ * last also if the block has bytes.
+ * STREAMS: adding to b_rptr and b_wptr.
+ */
+int strm_reserve(struct strm_pool *pool, struct strm_msg msg, uint32_t place, uint32_t count);
+
+/*
+ * Puts `length` bytes before the read place of the first block, and moves the read place to them.
+ * Refused as STRM_SHARED, also for a length of 0; STRM_NO_ROOM if the read place is smaller than
+ * `length`.
+ * STREAMS: subtracting from b_rptr, and writing there.
+ */
+int strm_prepend(struct strm_pool *pool, struct strm_msg msg, const void *bytes, size_t length);
+
+/*
+ * Moves the write place of the block numbered `place` past `count` bytes that the data block has
+ * there already: what was last written there, by this message or an earlier one, or zeros.
+ * Refused as STRM_NO_SUCH_BLOCK, STRM_SHARED, STRM_NO_ROOM; the first two also for a count of 0.
+ * STREAMS: adding to b_wptr.
+ */
+int strm_advance(struct strm_pool *pool, struct strm_msg msg, uint32_t place, uint32_t count);
 
 /* ---- names compared: strm_same_msg(3) */
 
@@ -523,6 +655,17 @@ int strm_adjmsg(struct strm_pool *pool, struct strm_msg msg, int32_t count);
  */
 int strm_pullupmsg(struct strm_pool *pool, struct strm_msg msg, int32_t count);
 
+/*
+ * Makes a message anew in another pool, with the same blocks, bytes with their places, types and
+ * bands, and frees it here. `msg` is no longer valid; *moved is the name of the new message, in the
+ * pool `other`. Each new block has a data block of its own, allocated as by strm_allocb for the
+ * capacity of the old one. Both handles must be open, and threads that share a pool hold the locks
+ * of both.
+ * Refused as STRM_TOO_LARGE, STRM_NO_MBLK, STRM_NO_DATA, all of the pool `other`.
+ * Not in STREAMS.
+ */
+int strm_transfer(struct strm_pool *pool, struct strm_pool *other, struct strm_msg msg, struct strm_msg *moved);
+
 /* ---- queues: strm_putq(3) */
 
 /*
@@ -571,6 +714,36 @@ int strm_rmvq(struct strm_pool *pool, uint32_t queue, uint32_t place, struct str
 int strm_qsize(struct strm_pool *pool, uint32_t queue, uint32_t *msgs);
 
 /*
+ * Returns what the message at `place` of a queue is like.
+ * Refused as STRM_NO_SUCH_PLACE.
+ * STREAMS: following q_first and b_next.
+ */
+int strm_queued_at(struct strm_pool *pool, uint32_t queue, uint32_t place, struct strm_queued *queued);
+
+/*
+ * Copies bytes of the message at `place` of a queue, as strm_read does.
+ * Refused as STRM_NO_SUCH_PLACE.
+ * STREAMS: reading through q_first, b_next and b_rptr.
+ */
+int strm_read_queued(struct strm_pool *pool, uint32_t queue, uint32_t place, uint32_t at, void *into, size_t length,
+	size_t *count);
+
+/*
+ * Returns the number of the first block of the first message on a queue, or STRM_NONE if the queue
+ * is empty.
+ * STREAMS: q_first.
+ */
+int strm_first_queued(struct strm_pool *pool, uint32_t queue, uint32_t *head);
+
+/*
+ * Returns the number of the first block of the next message on the same queue, after the message
+ * whose first block is `head`; or STRM_NONE if that is the last one.
+ * Refused as STRM_NO_SUCH_PLACE if no message on a queue begins with that block.
+ * STREAMS: b_next.
+ */
+int strm_queued_after(struct strm_pool *pool, uint32_t head, uint32_t *after);
+
+/*
  * Frees messages of a queue, front to back: all, or those with data (STRM_FLUSHALL,
  * STRM_FLUSHDATA). Then it settles the queue.
  * Differs from STREAMS: settling differs as at strm_getq, and the queue itself is not enabled.
@@ -582,6 +755,39 @@ int strm_flushq(struct strm_pool *pool, uint32_t queue, uint32_t flush);
  * Differs from STREAMS: as strm_flushq does.
  */
 int strm_flushband(struct strm_pool *pool, uint32_t queue, uint32_t band, uint32_t flush);
+
+/* ---- several messages at once: strm_allocb_n(3) */
+
+/*
+ * Allocates messages as strm_allocb does, and stores their names in the array `msgs` of `length`
+ * names. The rest of the array is unchanged.
+ * Not in STREAMS.
+ */
+int strm_allocb_n(struct strm_pool *pool, uint32_t size, struct strm_msg *msgs, size_t length, size_t *count);
+
+/*
+ * Frees messages as strm_freemsg does: those named in the array `msgs` of `length` names, in this
+ * order.
+ * Not in STREAMS.
+ */
+int strm_freemsg_n(struct strm_pool *pool, const struct strm_msg *msgs, size_t length, size_t *count);
+
+/*
+ * Puts messages on a queue as strm_putq does: those named in the array `msgs` of `length` names, in
+ * this order.
+ * Not in STREAMS.
+ */
+int strm_putq_n(struct strm_pool *pool, uint32_t queue, const struct strm_msg *msgs, size_t length, size_t *count);
+
+/*
+ * Takes messages off a queue as strm_getq does, and stores their names in the array `msgs` of
+ * `length` names. The rest of the array is unchanged. If the queue has fewer than `length` messages,
+ * this sets the want-to-read mark, as strm_getq does on an empty queue. If it has exactly `length`,
+ * the mark stays off: a service procedure calls again, until *count is below `length` or the call
+ * returns STRM_NONE.
+ * Not in STREAMS.
+ */
+int strm_getq_n(struct strm_pool *pool, uint32_t queue, struct strm_msg *msgs, size_t length, size_t *count);
 
 /* ---- flow control and service: strm_bcanput(3) */
 
@@ -666,6 +872,13 @@ int strm_take_ready(struct strm_pool *pool, struct strm_wish *wish);
 int strm_wish_at(struct strm_pool *pool, uint32_t place, struct strm_wish *wish);
 
 /* ---- what there is: strm_census(3) */
+
+/*
+ * Returns the configuration of a queue, as strm_open was given it; strm_strqset does not change it.
+ * `service` is 1 or 0.
+ * STREAMS: q_qinfo and q_next.
+ */
+int strm_queue_spec(struct strm_pool *pool, uint32_t queue, struct strm_queue_spec *spec);
 
 /* Counts the message blocks: free, on queues, and held. Not in STREAMS. */
 int strm_census(struct strm_pool *pool, struct strm_census *census);

@@ -1,7 +1,7 @@
 /*
  * What the crate strm_c exports, for strm.c only. Each export is the call of strm.h whose name lacks the `c_`. Its caller keeps the
- * promises of strm.h, and passes no null pointer, no length above half of the greatest size_t, and no place for two answers. The
- * export checks all other misuse. tests/exports compares these declarations with the crate.
+ * promises of strm.h, and passes no null pointer, no array of more than SIZE_MAX / 2 bytes, no place for two answers, and no handle
+ * twice. The export checks all other misuse. tests/exports compares these declarations with the crate.
  */
 #ifndef STRM_C_H
 #define STRM_C_H
@@ -27,6 +27,13 @@
 	CALL(block, (struct strm_pool *pool, struct strm_msg msg, uint32_t place, struct strm_block_info *block), \
 		(pool, msg, place, block), block != NULL) \
 	CALL(has, (struct strm_pool *pool, struct strm_msg msg, uint32_t *yes), (pool, msg, yes), yes != NULL) \
+	CALL(name_at, (struct strm_pool *pool, uint32_t head, struct strm_msg *msg), (pool, head, msg), msg != NULL) \
+	CALL(bytes, (struct strm_pool *pool, struct strm_msg msg, uint32_t place, const uint8_t **bytes, size_t *length), \
+		(pool, msg, place, bytes, length), bytes != NULL && length != NULL && (void *)bytes != (void *)length) \
+	CALL(place, (struct strm_pool *pool, struct strm_msg msg, uint32_t place, struct strm_block_place *where), \
+		(pool, msg, place, where), where != NULL) \
+	CALL(reserve, (struct strm_pool *pool, struct strm_msg msg, uint32_t place, uint32_t count), (pool, msg, place, count), 1) \
+	CALL(advance, (struct strm_pool *pool, struct strm_msg msg, uint32_t place, uint32_t count), (pool, msg, place, count), 1) \
 	CALL(linkb, (struct strm_pool *pool, struct strm_msg msg, struct strm_msg tail), (pool, msg, tail), 1) \
 	CALL(rmvb, (struct strm_pool *pool, struct strm_msg msg, uint32_t place, struct strm_msg *block, struct strm_msg *rest), \
 		(pool, msg, place, block, rest), block != NULL && rest != NULL && block != rest) \
@@ -39,6 +46,10 @@
 	CALL(rmvq, (struct strm_pool *pool, uint32_t queue, uint32_t place, struct strm_msg *msg), \
 		(pool, queue, place, msg), msg != NULL) \
 	CALL(qsize, (struct strm_pool *pool, uint32_t queue, uint32_t *msgs), (pool, queue, msgs), msgs != NULL) \
+	CALL(queued_at, (struct strm_pool *pool, uint32_t queue, uint32_t place, struct strm_queued *queued), \
+		(pool, queue, place, queued), queued != NULL) \
+	CALL(first_queued, (struct strm_pool *pool, uint32_t queue, uint32_t *head), (pool, queue, head), head != NULL) \
+	CALL(queued_after, (struct strm_pool *pool, uint32_t head, uint32_t *after), (pool, head, after), after != NULL) \
 	CALL(flushq, (struct strm_pool *pool, uint32_t queue, uint32_t flush), (pool, queue, flush), 1) \
 	CALL(flushband, (struct strm_pool *pool, uint32_t queue, uint32_t band, uint32_t flush), (pool, queue, band, flush), 1) \
 	CALL(bcanput, (struct strm_pool *pool, uint32_t queue, uint32_t band, uint32_t *yes), \
@@ -56,6 +67,8 @@
 	CALL(unbufcall, (struct strm_pool *pool, uint32_t id), (pool, id), 1) \
 	CALL(take_ready, (struct strm_pool *pool, struct strm_wish *wish), (pool, wish), wish != NULL) \
 	CALL(wish_at, (struct strm_pool *pool, uint32_t place, struct strm_wish *wish), (pool, place, wish), wish != NULL) \
+	CALL(queue_spec, (struct strm_pool *pool, uint32_t queue, struct strm_queue_spec *spec), \
+		(pool, queue, spec), spec != NULL) \
 	CALL(census, (struct strm_pool *pool, struct strm_census *census), (pool, census), census != NULL) \
 	CALL(class_info, (struct strm_pool *pool, uint32_t place, struct strm_class_info *info), \
 		(pool, place, info), info != NULL) \
@@ -77,6 +90,18 @@ int32_t strm_c_freeb(struct strm_pool *pool, struct strm_msg msg, struct strm_ms
 int32_t strm_c_unlinkb(struct strm_pool *pool, struct strm_msg msg, struct strm_msg *rest);
 int32_t strm_c_write(struct strm_pool *pool, struct strm_msg msg, uint32_t place, const uint8_t *bytes, size_t length);
 int32_t strm_c_read(struct strm_pool *pool, struct strm_msg msg, uint32_t at, uint8_t *into, size_t length, size_t *count);
+int32_t strm_c_blocks(struct strm_pool *pool, struct strm_msg msg, uint32_t from, struct strm_block_info *into, size_t length,
+	size_t *count);
+int32_t strm_c_iov(struct strm_pool *pool, struct strm_msg msg, uint32_t from, struct strm_iov *into, size_t length, size_t *count);
+int32_t strm_c_overwrite(struct strm_pool *pool, struct strm_msg msg, uint32_t at, const uint8_t *bytes, size_t length);
+int32_t strm_c_prepend(struct strm_pool *pool, struct strm_msg msg, const uint8_t *bytes, size_t length);
+int32_t strm_c_transfer(struct strm_pool *pool, struct strm_pool *other, struct strm_msg msg, struct strm_msg *moved);
+int32_t strm_c_read_queued(struct strm_pool *pool, uint32_t queue, uint32_t place, uint32_t at, uint8_t *into, size_t length,
+	size_t *count);
+int32_t strm_c_allocb_n(struct strm_pool *pool, uint32_t size, struct strm_msg *msgs, size_t length, size_t *count);
+int32_t strm_c_freemsg_n(struct strm_pool *pool, const struct strm_msg *msgs, size_t length, size_t *count);
+int32_t strm_c_putq_n(struct strm_pool *pool, uint32_t queue, const struct strm_msg *msgs, size_t length, size_t *count);
+int32_t strm_c_getq_n(struct strm_pool *pool, uint32_t queue, struct strm_msg *msgs, size_t length, size_t *count);
 
 /* Each copies as much of a text as fits, without a 0, and returns the length of the whole text. */
 size_t strm_c_text(int32_t code, uint8_t *text, size_t length);

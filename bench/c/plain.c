@@ -108,6 +108,47 @@ int plain_write(struct plain_block *block, const void *bytes, uint32_t length)
 	return 1;
 }
 
+uint32_t plain_read(const struct plain_block *block, uint32_t at, void *into, uint32_t length)
+{
+	uint32_t count = 0, part;
+
+	for (; block != NULL && count < length; block = block->cont) {
+		part = block->write - block->read;
+		if (at >= part) {
+			at -= part;
+			continue;
+		}
+		part = part - at < length - count ? part - at : length - count;
+		memcpy((unsigned char *)into + count, block->data->bytes + block->read + at, part);
+		count += part;
+		at = 0;
+	}
+	return count;
+}
+
+unsigned char *plain_bytes(const struct plain_block *block, uint32_t *length)
+{
+	*length = block->write - block->read;
+	return block->data->bytes + block->read;
+}
+
+int plain_overwrite(struct plain_block *block, uint32_t at, const void *bytes, uint32_t length)
+{
+	if (block->data->names > 1 || block->write - block->read < at || block->write - block->read - at < length)
+		return 0;
+	memcpy(block->data->bytes + block->read + at, bytes, length);
+	return 1;
+}
+
+int plain_advance(struct plain_block *block, uint32_t count)
+{
+	if (block->data->names > 1 || block->data->capacity - block->write < count)
+		return 0;
+	block->write += count;
+	block->bytes += count;
+	return 1;
+}
+
 void plain_putq(struct plain_pool *pool, struct plain_block *block)
 {
 	struct plain_queue *queue = &pool->queue;

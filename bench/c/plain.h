@@ -58,6 +58,13 @@ struct plain_block *plain_allocb(struct plain_pool *pool, uint32_t size);
 struct plain_block *plain_dupb(struct plain_pool *pool, struct plain_block *block);
 void plain_freemsg(struct plain_pool *pool, struct plain_block *block);
 int plain_write(struct plain_block *block, const void *bytes, uint32_t length);
+uint32_t plain_read(const struct plain_block *block, uint32_t at, void *into, uint32_t length);
+
+/* The first byte of a block, and the number of its bytes. The caller may write there if `names` is 1. */
+unsigned char *plain_bytes(const struct plain_block *block, uint32_t *length);
+int plain_overwrite(struct plain_block *block, uint32_t at, const void *bytes, uint32_t length);
+int plain_advance(struct plain_block *block, uint32_t count);
+
 void plain_putq(struct plain_pool *pool, struct plain_block *block);
 struct plain_block *plain_getq(struct plain_pool *pool);
 

@@ -45,6 +45,23 @@ int same_reply(const struct reply *a, const struct reply *b)
 		&& memcmp(a->octets, b->octets, sizeof a->octets) == 0;
 }
 
+void put_block(struct reply *reply, int at, const struct strm_block_info *info)
+{
+	reply->numbers[at] = info->type;
+	reply->numbers[at + 1] = info->length;
+	reply->numbers[at + 2] = info->band;
+	reply->numbers[at + 3] = info->room;
+	reply->numbers[at + 4] = info->names;
+}
+
+struct reply told_block(const struct strm_block_info *info)
+{
+	struct reply reply = reply_of(TOLD_BLOCK);
+
+	put_block(&reply, 0, info);
+	return reply;
+}
+
 void print_header(FILE *to, const struct strm_config *config)
 {
 	size_t i;
@@ -75,6 +92,14 @@ static void print_octets(FILE *to, const uint8_t *octets, uint32_t length)
 		fprintf(to, "%02x", (unsigned)octets[i]);
 }
 
+static void print_many(FILE *to, const struct call *call)
+{
+	uint32_t i;
+
+	for (i = 0; i < call->items; i++)
+		fprintf(to, " %c", 'a' + call->many[i]);
+}
+
 void print_call(FILE *to, const struct call *call)
 {
 	const char *name;
@@ -85,6 +110,9 @@ void print_call(FILE *to, const struct call *call)
 		case 'x': fprintf(to, " %c", 'a' + call->x); break;
 		case 'y': fprintf(to, " %c", 'a' + call->y); break;
 		case 'z': fprintf(to, " %c", 'a' + call->z); break;
+		case 'w': fprintf(to, " %c", 'a' + call->y); break;
+		case 'g': case 'p': print_many(to, call); break;
+		case 'i': fprintf(to, " %lu", (unsigned long)call->items); break;
 		case 'q': fprintf(to, " %lu", (unsigned long)call->queue); break;
 		case 'k': fprintf(to, " %lu", (unsigned long)call->place); break;
 		case 'b': fprintf(to, " %lu", (unsigned long)call->band); break;
@@ -102,9 +130,10 @@ void print_call(FILE *to, const struct call *call)
 void print_reply(FILE *to, const struct reply *reply)
 {
 	static const char *const words[] = {
-		"ok", "yes", "no", "none", "empty", "taken", "size", "bytes", "block", "id", "ready", "queue", "marks", "census", "refused"
+		"ok", "yes", "no", "none", "empty", "taken", "size", "bytes", "block", "id", "ready", "queue", "marks", "census", "blocks",
+		"name", "iov", "place", "queued", "head", "spec", "count", "refused"
 	};
-	static const int counts[] = { 0, 0, 0, 0, 0, 0, 1, 0, 0, 1, 2, 1, 2, 3, 1 };
+	static const int counts[] = { 0, 0, 0, 0, 0, 0, 1, 0, 0, 1, 2, 1, 2, 3, 1, 1, 1, 4, 5, 1, 4, 1, 1 };
 	int i;
 
 	fprintf(to, "%s", words[reply->kind]);

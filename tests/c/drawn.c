@@ -1,8 +1,9 @@
 /*
  * Draws calls, and has the pool of strm.h and the plain model do each. Compares their replies, and after each call all that both report.
+ * Beside the pool there is another, with a model of its own, to which messages go, and from which they come back.
  *
- *     drawn CALLS SEED            compares. The last line is 'N passed, M failed', which counts pools. One more fails if an answer never
- *                                 came in a million calls.
+ *     drawn CALLS SEED            compares. The last line is 'N passed, M failed', which counts pairs of pools. One more fails if an answer
+ *                                 never came in a million calls.
  *     drawn CALLS SEED SCRIPT     writes a script of calls on one pool, and prints the model's replies, a line each.
  */
 #include "face.h"
@@ -11,8 +12,8 @@
 #include <stdlib.h>
 #include <string.h>
 
-/* The number of calls on one pool. After every CALLS_TO_ALL_BANDS of them all bands of the drawn queue are compared, and after every
- * CALLS_TO_ALL_MESSAGES all queues are emptied. */
+/* The number of calls on a pair of pools. After every CALLS_TO_ALL_BANDS of them all bands of the drawn queue are compared, where the bytes
+ * of messages are, and what calls tell of messages on queues. After every CALLS_TO_ALL_MESSAGES all queues are emptied. */
 #define CALLS_OF_A_POOL 20000
 #define CALLS_TO_ALL_BANDS 16
 #define CALLS_TO_ALL_MESSAGES 1000
@@ -102,12 +103,27 @@ static int drawn_register(const struct model *model, int holding)
 	return reg;
 }
 
-static enum verb drawn_verb(void)
+/* Draws as many registers as the call has items: mostly some that hold messages, or one after another that holds none. */
+static void draw_many(const struct model *model, struct call *call, int holding)
+{
+	int reg = drawn_register(model, holding);
+	uint32_t i;
+
+	for (i = 0; i < call->items; i++) {
+		call->many[i] = holding ? drawn_register(model, 1) : reg;
+		do
+			reg = (reg + 1) % REGISTERS;
+		while (model_blocks(model, reg) > 0 && reg != call->many[0]);
+	}
+}
+
+/* One of the first `verbs` verbs. */
+static enum verb drawn_verb(int verbs)
 {
 	uint32_t all = 0, at;
 	int verb;
 
-	for (verb = 0; verb < VERBS; verb++)
+	for (verb = 0; verb < verbs; verb++)
 		all += drawn[verb].weight;
 	at = below(all);
 	for (verb = 0; at >= drawn[verb].weight; verb++)
@@ -115,15 +131,16 @@ static enum verb drawn_verb(void)
 	return (enum verb)verb;
 }
 
-static struct call drawn_call(const struct model *model, const struct setup *setup)
+/* A call of one of the first `verbs` verbs. One that hands a message over puts it into a register of the other pool. */
+static struct call drawn_call(const struct model *model, const struct model *other, const struct setup *setup, int verbs)
 {
 	struct call call;
 	uint32_t i;
 
 	memset(&call, 0, sizeof call);
-	call.verb = drawn_verb();
+	call.verb = drawn_verb(verbs);
 	call.x = drawn_register(model, 1);
-	call.y = drawn_register(model, 0);
+	call.y = drawn_register(strchr(forms[call.verb].names, 'w') != NULL ? other : model, 0);
 	call.z = drawn_register(model, 1);
 	call.queue = below(20) == 0 ? below(256) : below((uint32_t)setup->config.queue_count);
 	call.place = below(below(4) > 0 ? 3 : 30);
@@ -135,7 +152,12 @@ static struct call drawn_call(const struct model *model, const struct setup *set
 	call.lowat = below(31);
 	call.count = below(3) == 0 ? -1 : (int32_t)below(24) - 8;
 	call.length = below(4) == 0 ? below(MOST_OCTETS + 1) : below(10);
-	if (call.verb == WRITE)
+	call.items = below(MOST_ITEMS + 1);
+	if (strpbrk(forms[call.verb].names, "gp") != NULL)
+		draw_many(model, &call, strchr(forms[call.verb].names, 'g') != NULL);
+	if ((call.verb == RESERVE || call.verb == ADVANCE) && below(4) > 0)
+		call.number = below(8);
+	if (strchr(forms[call.verb].names, 'o') != NULL)
 		for (i = 0; i < call.length; i++)
 			call.octets[i] = (uint8_t)below(256);
 	return call;
@@ -178,6 +200,46 @@ static int same_registers(struct face *face, const struct model *model)
 			return 0;
 	}
 	return 1;
+}
+
+/* Compares where the blocks of a register's message have their bytes, and what is there. */
+static int same_places(struct face *face, const struct model *model, int reg)
+{
+	static uint8_t wanted[MOST_BLOCKS * MOST_SIZE];
+	struct strm_block_place where, of_model;
+	uint32_t place, at = 0;
+	const uint8_t *bytes;
+	size_t length;
+
+	model_read(model, reg, 0, wanted, sizeof wanted);
+	for (place = 0; place < model_blocks(model, reg); place++) {
+		of_model = model_place(model, reg, place);
+		if (strm_place(&face->pool, face->registers[reg], place, &where) != STRM_OK || memcmp(&where, &of_model, sizeof where) != 0)
+			return 0;
+		if (strm_bytes(&face->pool, face->registers[reg], place, &bytes, &length) != STRM_OK || length != where.length
+		    || memcmp(bytes, wanted + at, length) != 0)
+			return 0;
+		at += where.length;
+	}
+	return 1;
+}
+
+/* Goes from message to message of a queue, and compares what is reported of each, by its place and by its first block. */
+static int same_queued(struct face *face, const struct model *model, uint32_t queue)
+{
+	uint32_t msgs = model_queue(model, queue).msgs, place, head;
+	struct strm_queued wanted, found;
+	int code = strm_first_queued(&face->pool, queue, &head);
+
+	for (place = 0; place < msgs; place++) {
+		wanted = model_queued(model, queue, place);
+		if (code != STRM_OK || head != wanted.head)
+			return 0;
+		if (strm_queued_at(&face->pool, queue, place, &found) != STRM_OK || memcmp(&wanted, &found, sizeof found) != 0)
+			return 0;
+		code = strm_queued_after(&face->pool, head, &head);
+	}
+	return code == STRM_NONE && strm_queued_at(&face->pool, queue, msgs, &found) == STRM_NO_SUCH_PLACE;
 }
 
 static int same_band(struct face *face, const struct model *model, uint32_t queue, uint32_t band)
@@ -260,15 +322,24 @@ static int had_each_answer(void)
 
 /* ---- runs */
 
+/* A pool beside its model. */
+struct side {
+	struct setup setup;
+	struct face face;
+	struct model *model;
+};
+
 /* Whether pool and model answer a call alike. The pool looks at names first, so an empty register comes before a missing queue. */
-static int same_answer(struct face *face, const struct call *call, const struct reply *wanted)
+static int same_answer(struct side *side, struct side *other, const struct call *call, const struct reply *wanted)
 {
 	struct reply found, empty = reply_of(EMPTY);
-	int names_empty = strchr(forms[call->verb].names, 'x') != NULL && !face->holds[call->x];
+	const char *names = forms[call->verb].names;
+	int names_empty = (strchr(names, 'x') != NULL && !side->face.holds[call->x])
+		|| (strchr(names, 'g') != NULL && call->items > 0 && !side->face.holds[call->many[0]]);
 
-	found = face_apply(face, call);
+	found = face_apply(&side->face, &other->face, call);
 	note_answer(call, &found);
-	return !face->broken && same_reply(&found, names_empty ? &empty : wanted);
+	return !side->face.broken && !other->face.broken && same_reply(&found, names_empty ? &empty : wanted);
 }
 
 static int tell(const struct call *call, unsigned long number, const char *what)
@@ -278,80 +349,122 @@ static int tell(const struct call *call, unsigned long number, const char *what)
 	return 0;
 }
 
-/* Has both do a call, unless register y is taken, and compares everything after it. */
-static int does(struct face *face, struct model *model, const struct setup *setup, const struct call *call, unsigned long number)
+/* Compares what now and then is compared of all messages: those that are held, and those on a queue, if the pool has it. */
+static int same_messages(struct side *side, uint32_t queue)
 {
-	uint32_t all_of = number % CALLS_TO_ALL_BANDS == 0 ? call->queue : STRM_NO_QUEUE;
-	struct reply wanted = model_apply(model, call);
+	int reg;
+
+	for (reg = 0; reg < REGISTERS; reg++)
+		if (!same_places(&side->face, side->model, reg))
+			return 0;
+	return queue >= side->setup.config.queue_count || same_queued(&side->face, side->model, queue);
+}
+
+/* Compares all that a pool and its model report after a call. */
+static int same_side(struct side *side, const struct call *call, unsigned long number)
+{
+	struct face *face = &side->face;
+	int all = number % CALLS_TO_ALL_BANDS == 0;
+
+	if (!same_census(face, side->model))
+		return tell(call, number, "another census");
+	if (!same_registers(face, side->model))
+		return tell(call, number, "other messages");
+	if (!same_queues(face, side->model, (uint32_t)side->setup.config.queue_count, call->band, all ? call->queue : STRM_NO_QUEUE))
+		return tell(call, number, "other queues");
+	if (all && !same_messages(side, call->queue))
+		return tell(call, number, "other places");
+	return same_rest(face, side->model, (uint32_t)side->setup.config.class_count) || tell(call, number, "another pool");
+}
+
+/* Has pool and model do a call, unless a register that gets a message is taken, and compares everything after it. */
+static int does(struct side *side, struct side *other, const struct call *call, unsigned long number)
+{
+	struct reply wanted = model_apply(side->model, other->model, call);
 
 	if (wanted.kind == TAKEN)
 		return 1;
-	if (!same_answer(face, call, &wanted))
+	if (!same_answer(side, other, call, &wanted))
 		return tell(call, number, "another answer");
-	if (!same_census(face, model))
-		return tell(call, number, "another census");
-	if (!same_registers(face, model))
-		return tell(call, number, "other messages");
-	if (!same_queues(face, model, (uint32_t)setup->config.queue_count, call->band, all_of))
-		return tell(call, number, "other queues");
-	return same_rest(face, model, (uint32_t)setup->config.class_count) || tell(call, number, "another pool");
+	return same_side(side, call, number) && (strchr(forms[call->verb].names, 'w') == NULL || same_side(other, call, number));
 }
 
 /* Takes each message off each queue into register a, which compares their order and content, and frees it. What the register held is
  * freed first. */
-static int empties(struct face *face, struct model *model, const struct setup *setup, unsigned long number)
+static int empties(struct side *side, unsigned long number)
 {
 	struct call call;
 	struct strm_queue_info info;
 
 	memset(&call, 0, sizeof call);
-	for (; call.queue < setup->config.queue_count; call.queue++)
+	for (; call.queue < side->setup.config.queue_count; call.queue++)
 		do {
-			info = model_queue(model, call.queue);
+			info = model_queue(side->model, call.queue);
 			call.verb = FREEMSG;
-			if (!does(face, model, setup, &call, number))
+			if (!does(side, side, &call, number))
 				return 0;
 			call.verb = GETQ;
-			if (!does(face, model, setup, &call, number))
+			if (!does(side, side, &call, number))
 				return 0;
 		} while (info.msgs > 0);
 	return 1;
 }
 
-static int run_calls(struct face *face, struct model *model, const struct setup *setup, unsigned long calls)
+static int all_empty(struct side *sides, unsigned long number)
+{
+	return empties(&sides[0], number) && empties(&sides[1], number);
+}
+
+/* Most calls are on the first pool. */
+static int run_calls(struct side *sides, unsigned long calls)
 {
 	unsigned long i;
 
 	for (i = 0; i < calls; i++) {
-		struct call call = drawn_call(model, setup);
+		int at = below(8) == 0;
+		struct side *side = &sides[at], *other = &sides[1 - at];
+		struct call call = drawn_call(side->model, other->model, &side->setup, VERBS);
 
-		if (!does(face, model, setup, &call, i))
+		if (!does(side, other, &call, i))
 			return 0;
-		if (i % CALLS_TO_ALL_MESSAGES == 0 && !empties(face, model, setup, i))
+		if (i % CALLS_TO_ALL_MESSAGES == 0 && !all_empty(sides, i))
 			return 0;
 	}
-	return empties(face, model, setup, calls);
+	return all_empty(sides, calls);
 }
 
-static int run_pool(uint32_t id, unsigned long calls)
+static int opens(struct side *side, uint32_t id)
 {
 	static const struct strm_pool closed = STRM_POOL_INIT;
-	struct face face;
-	struct model *model;
-	struct setup setup;
-	int passed;
 
-	memset(&face, 0, sizeof face);
-	face.pool = closed;
-	draw_setup(&setup, id);
-	model = model_open(&setup.config);
-	if (model == NULL || strm_open(&face.pool, &setup.config) != STRM_OK) {
-		printf("no memory\n");
-		return 0;
-	}
-	passed = run_calls(&face, model, &setup, calls);
-	model_close(model);
-	return strm_close(&face.pool) == STRM_OK && passed;
+	memset(&side->face, 0, sizeof side->face);
+	side->face.pool = closed;
+	draw_setup(&side->setup, id);
+	side->model = model_open(&side->setup.config);
+	if (side->model != NULL && strm_open(&side->face.pool, &side->setup.config) == STRM_OK)
+		return 1;
+	printf("no memory\n");
+	return 0;
+}
+
+static int closes(struct side *side)
+{
+	model_close(side->model);
+	return strm_close(&side->face.pool) == STRM_OK;
+}
+
+static int run_pools(uint32_t id, unsigned long calls)
+{
+	static struct side sides[2];
+	int passed, at;
+
+	for (at = 0; at < 2; at++)
+		if (!opens(&sides[at], 2 * id + (uint32_t)at))
+			return 0;
+	passed = run_calls(sides, calls);
+	for (at = 0; at < 2; at++)
+		passed &= closes(&sides[at]);
+	return passed;
 }
 
 static int write_script(const char *path, unsigned long calls)
@@ -367,8 +480,8 @@ static int write_script(const char *path, unsigned long calls)
 		return EXIT_FAILURE;
 	print_header(script, &setup.config);
 	for (i = 0; i < calls; i++) {
-		struct call call = drawn_call(model, &setup);
-		struct reply reply = model_apply(model, &call);
+		struct call call = drawn_call(model, model, &setup, VERBS_OF_STRM);
+		struct reply reply = model_apply(model, model, &call);
 
 		print_call(script, &call);
 		print_reply(stdout, &reply);
@@ -388,7 +501,7 @@ int main(int argc, char **argv)
 	if (argc > 3)
 		return write_script(argv[3], calls);
 	for (done = 0; done < calls; done += CALLS_OF_A_POOL)
-		if (run_pool((uint32_t)(passed + 1), calls - done < CALLS_OF_A_POOL ? calls - done : CALLS_OF_A_POOL))
+		if (run_pools((uint32_t)(passed + 1), calls - done < CALLS_OF_A_POOL ? calls - done : CALLS_OF_A_POOL))
 			passed++;
 		else
 			failed++;

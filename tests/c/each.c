@@ -2,6 +2,8 @@
 #include "check.h"
 
 #include <limits.h>
+#include <sys/uio.h>
+#include <unistd.h>
 
 /* The next of queue 0 is queue 1, which has no service procedure, and the next of that is queue 2. */
 static const struct strm_class_spec classes[] = { { 16, 6 }, { 64, 2 } };
@@ -125,7 +127,7 @@ static void test_open(void)
 	CHECK(memcmp(&other, &pool, sizeof pool) == 0);
 	CENSUS(&pool, 8, 0, 0);
 	ANSWERS(strm_close(&pool), STRM_OK);
-	CHECK(!strm_is_open(&pool));
+	CHECK(!strm_is_open(&pool) && pool.at == NULL && pool.state == 0);
 	ANSWERS(strm_close(&pool), STRM_NOT_OPEN);
 	ANSWERS(strm_open(&pool, &config), STRM_OK);
 	ANSWERS(strm_close(&pool), STRM_OK);
@@ -458,6 +460,460 @@ static void test_pullup_refused(void)
 	ANSWERS(strm_close(&pool), STRM_OK);
 }
 
+/* ---- bytes in place */
+
+static void test_blocks(void)
+{
+	struct strm_pool pool = opened(6);
+	struct strm_msg a = message(&pool, "abc"), b = message(&pool, "de"), c = message(&pool, "f"), copy;
+	struct strm_block_info blocks[4], untouched;
+	size_t count = 9;
+
+	memset(&untouched, 0xA5, sizeof untouched);
+	memset(blocks, 0xA5, sizeof blocks);
+	ANSWERS(strm_setband(&pool, b, 3), STRM_OK);
+	ANSWERS(strm_settype(&pool, c, 0, STRM_M_CTL), STRM_OK);
+	ANSWERS(strm_dupb(&pool, c, &copy), STRM_OK);
+	ANSWERS(strm_linkb(&pool, a, b), STRM_OK);
+	ANSWERS(strm_linkb(&pool, a, c), STRM_OK);
+	ANSWERS(strm_blocks(&pool, a, 0, blocks, 4, &count), STRM_OK);
+	CHECK(count == 3 && memcmp(&blocks[3], &untouched, sizeof untouched) == 0);
+	CHECK(blocks[0].type == STRM_M_DATA && blocks[0].length == 3 && blocks[0].band == 0 && blocks[0].room == 13);
+	CHECK(blocks[0].names == 1 && blocks[1].length == 2 && blocks[1].band == 3);
+	CHECK(blocks[2].type == STRM_M_CTL && blocks[2].length == 1 && blocks[2].names == 2);
+	memset(blocks, 0xA5, sizeof blocks);
+	ANSWERS(strm_blocks(&pool, a, 1, blocks, 1, &count), STRM_OK);
+	CHECK(count == 1 && blocks[0].length == 2 && memcmp(&blocks[1], &untouched, sizeof untouched) == 0);
+	ANSWERS(strm_blocks(&pool, a, 3, blocks, 4, &count), STRM_OK);
+	CHECK(count == 0 && blocks[0].length == 2);
+	count = 9;
+	ANSWERS(strm_blocks(&pool, a, 0xFFFFFFFFu, blocks, 4, &count), STRM_OK);
+	CHECK(count == 0);
+	count = 9;
+	ANSWERS(strm_blocks(&pool, a, 0, NULL, 0, &count), STRM_OK);
+	CHECK(count == 0);
+	ANSWERS(strm_close(&pool), STRM_OK);
+}
+
+static void test_bytes_in_place(void)
+{
+	struct strm_pool pool = opened(6);
+	struct strm_msg a = message(&pool, "abc"), b = message(&pool, "defg"), empty, copy;
+	struct strm_iov iov[4], unused;
+	const uint8_t *bytes = NULL, *of_copy = NULL;
+	size_t length = 9, count = 9;
+
+	ANSWERS(strm_bytes(&pool, a, 0, &bytes, &length), STRM_OK);
+	CHECK(length == 3 && memcmp(bytes, "abc", 3) == 0);
+	/* a duplicate has the same bytes at the same address, and places of its own */
+	ANSWERS(strm_dupb(&pool, a, &copy), STRM_OK);
+	ANSWERS(strm_adjmsg(&pool, copy, 1), STRM_OK);
+	ANSWERS(strm_bytes(&pool, a, 0, &bytes, &length), STRM_OK);
+	ANSWERS(strm_bytes(&pool, copy, 0, &of_copy, &length), STRM_OK);
+	CHECK(of_copy == bytes + 1 && length == 2);
+	ANSWERS(strm_bytes(&pool, copy, 1, &of_copy, &length), STRM_NO_SUCH_BLOCK);
+	ANSWERS(strm_bytes(&pool, copy, 0xFFFFFFFFu, &of_copy, &length), STRM_NO_SUCH_BLOCK);
+	CHECK(of_copy == bytes + 1 && length == 2);
+	ANSWERS(strm_allocb(&pool, 0, &empty), STRM_OK);
+	ANSWERS(strm_bytes(&pool, empty, 0, &of_copy, &length), STRM_OK);
+	CHECK(length == 0);
+	ANSWERS(strm_linkb(&pool, a, empty), STRM_OK);
+	ANSWERS(strm_linkb(&pool, a, b), STRM_OK);
+	memset(iov, 0xA5, sizeof iov);
+	unused = iov[3];
+	ANSWERS(strm_iov(&pool, a, 0, iov, 4, &count), STRM_OK);
+	CHECK(count == 3 && iov[0].base == bytes && iov[0].length == 3 && iov[1].length == 0);
+	CHECK(iov[2].length == 4 && memcmp(iov[2].base, "defg", 4) == 0);
+	CHECK(iov[3].base == unused.base && iov[3].length == unused.length);
+	ANSWERS(strm_bytes(&pool, a, 2, &bytes, &length), STRM_OK);
+	CHECK(bytes == iov[2].base && length == 4);
+	ANSWERS(strm_iov(&pool, a, 2, iov, 1, &count), STRM_OK);
+	CHECK(count == 1 && iov[0].base == bytes && iov[0].length == 4);
+	ANSWERS(strm_iov(&pool, a, 3, iov, 4, &count), STRM_OK);
+	CHECK(count == 0 && iov[0].base == bytes);
+	count = 9;
+	ANSWERS(strm_iov(&pool, a, 0xFFFFFFFFu, iov, 4, &count), STRM_OK);
+	CHECK(count == 0);
+	count = 9;
+	ANSWERS(strm_iov(&pool, a, 0, NULL, 0, &count), STRM_OK);
+	CHECK(count == 0);
+	ANSWERS(strm_close(&pool), STRM_OK);
+}
+
+/* The bytes of a message leave by writev, which takes the array as it is. */
+static void test_writev(void)
+{
+	struct strm_pool pool = opened(4);
+	struct strm_msg msg = message(&pool, "lion"), comma = message(&pool, ", ");
+	struct strm_iov iov[4];
+	size_t count;
+	char found[16];
+	int ends[2];
+
+	CHECK(sizeof(struct strm_iov) == sizeof(struct iovec));
+	CHECK(offsetof(struct strm_iov, base) == offsetof(struct iovec, iov_base));
+	CHECK(offsetof(struct strm_iov, length) == offsetof(struct iovec, iov_len));
+	ANSWERS(strm_linkb(&pool, msg, comma), STRM_OK);
+	ANSWERS(strm_linkb(&pool, msg, message(&pool, "wolf")), STRM_OK);
+	ANSWERS(strm_iov(&pool, msg, 0, iov, 4, &count), STRM_OK);
+	CHECK(count == 3 && pipe(ends) == 0);
+	CHECK(writev(ends[1], (const struct iovec *)iov, (int)count) == 10);
+	CHECK(read(ends[0], found, sizeof found) == 10 && memcmp(found, "lion, wolf", 10) == 0);
+	CHECK(close(ends[0]) == 0 && close(ends[1]) == 0);
+	ANSWERS(strm_close(&pool), STRM_OK);
+}
+
+/* What strm_bytes and strm_iov gave of a message with the blocks `lion` and `wolf`. */
+struct lent {
+	const uint8_t *bytes;
+	struct strm_iov iov[2];
+};
+
+/* Whether the bytes are still where they were. */
+static int is_still(struct strm_pool *pool, struct strm_msg msg, const struct lent *lent)
+{
+	const uint8_t *bytes;
+	size_t length;
+
+	return memcmp(lent->bytes, "lion", 4) == 0 && memcmp(lent->iov[0].base, "lion", 4) == 0 && memcmp(lent->iov[1].base, "wolf", 4) == 0
+		&& strm_bytes(pool, msg, 0, &bytes, &length) == STRM_OK && bytes == lent->bytes && length == 4;
+}
+
+/* A look leaves pointers good, whatever it returns. */
+#define LOOKS(call, code) CHECK((call) == (code) && is_still(pool, msg, lent))
+
+/* Makes each look on messages, at a message of two blocks. */
+static void look_at_messages(struct strm_pool *pool, struct strm_msg msg, const struct lent *lent)
+{
+	struct strm_block_info blocks[2];
+	struct strm_block_place where;
+	struct strm_iov iov[2];
+	struct strm_msg name, none = STRM_NO_MSG;
+	const uint8_t *bytes;
+	uint32_t number;
+	size_t count;
+	char room[8];
+
+	LOOKS(strm_testb(pool, 64, &number), STRM_OK);
+	LOOKS(strm_read(pool, msg, 0, room, sizeof room, &count), STRM_OK);
+	LOOKS(strm_read(pool, none, 0, room, sizeof room, &count), STRM_INVALID);
+	LOOKS(strm_size(pool, msg, &number), STRM_OK);
+	LOOKS(strm_msgdsize(pool, msg, &number), STRM_OK);
+	LOOKS(strm_block(pool, msg, 1, &blocks[0]), STRM_OK);
+	LOOKS(strm_block(pool, msg, 2, &blocks[0]), STRM_NO_SUCH_BLOCK);
+	LOOKS(strm_blocks(pool, msg, 0, blocks, 2, &count), STRM_OK);
+	LOOKS(strm_bytes(pool, msg, 1, &bytes, &count), STRM_OK);
+	LOOKS(strm_iov(pool, msg, 0, iov, 2, &count), STRM_OK);
+	LOOKS(strm_place(pool, msg, 1, &where), STRM_OK);
+	LOOKS(strm_has(pool, none, &number), STRM_OK);
+	LOOKS(strm_name_at(pool, msg.head, &name), STRM_OK);
+}
+
+/* Makes each other look. Queue 2 has one message, and there is one wish. */
+static void look_at_the_rest(struct strm_pool *pool, struct strm_msg msg, const struct lent *lent)
+{
+	struct strm_queued queued;
+	struct strm_queue_spec spec;
+	struct strm_marks marks;
+	struct strm_wish wish;
+	struct strm_census census;
+	struct strm_class_info info;
+	struct strm_queue_info queue;
+	struct strm_band_info band;
+	uint32_t head, number;
+	size_t count;
+	char room[8];
+
+	LOOKS(strm_qsize(pool, 2, &number), STRM_OK);
+	LOOKS(strm_queued_at(pool, 2, 0, &queued), STRM_OK);
+	LOOKS(strm_read_queued(pool, 2, 0, 0, room, sizeof room, &count), STRM_OK);
+	LOOKS(strm_first_queued(pool, 2, &head), STRM_OK);
+	LOOKS(strm_first_queued(pool, 1, &number), STRM_NONE);
+	LOOKS(strm_queued_after(pool, head, &number), STRM_NONE);
+	LOOKS(strm_queue_spec(pool, 2, &spec), STRM_OK);
+	LOOKS(strm_strqget(pool, 2, 1, &marks), STRM_OK);
+	LOOKS(strm_run_at(pool, 0, &number), STRM_OK);
+	LOOKS(strm_wish_at(pool, 0, &wish), STRM_OK);
+	LOOKS(strm_census(pool, &census), STRM_OK);
+	LOOKS(strm_class_info(pool, 0, &info), STRM_OK);
+	LOOKS(strm_queue_info(pool, 2, &queue), STRM_OK);
+	LOOKS(strm_band_info(pool, 2, 1, &band), STRM_OK);
+	LOOKS(strm_is_open(pool), 1);
+}
+
+/* Pointers into a pool are good over looks, and after its handle was moved. */
+static void test_pointers(void)
+{
+	struct strm_pool pool = opened(6), moved;
+	struct strm_msg msg = message(&pool, "lion");
+	struct lent lent;
+	uint32_t id;
+	size_t count;
+
+	ANSWERS(strm_linkb(&pool, msg, message(&pool, "wolf")), STRM_OK);
+	ANSWERS(strm_putq(&pool, 2, message(&pool, "hare")), STRM_OK);
+	ANSWERS(strm_bufcall(&pool, 16, &id), STRM_OK);
+	ANSWERS(strm_bytes(&pool, msg, 0, &lent.bytes, &count), STRM_OK);
+	ANSWERS(strm_iov(&pool, msg, 0, lent.iov, 2, &count), STRM_OK);
+	CHECK(count == 2 && is_still(&pool, msg, &lent));
+	look_at_messages(&pool, msg, &lent);
+	look_at_the_rest(&pool, msg, &lent);
+	moved = pool;
+	memset(&pool, 0xA5, sizeof pool);
+	CHECK(is_still(&moved, msg, &lent));
+	look_at_messages(&moved, msg, &lent);
+	look_at_the_rest(&moved, msg, &lent);
+	ANSWERS(strm_close(&moved), STRM_OK);
+}
+
+static void test_place(void)
+{
+	struct strm_pool pool = opened(6);
+	struct strm_msg a = message(&pool, "abc"), large, copy;
+	struct strm_block_place where, kept;
+
+	ANSWERS(strm_place(&pool, a, 0, &where), STRM_OK);
+	CHECK(where.data == 0 && where.at == 0 && where.length == 3 && where.capacity == 16);
+	/* the first class has six data blocks */
+	ANSWERS(strm_allocb(&pool, 17, &large), STRM_OK);
+	ANSWERS(strm_place(&pool, large, 0, &where), STRM_OK);
+	CHECK(where.data == 6 && where.at == 0 && where.length == 0 && where.capacity == 64);
+	ANSWERS(strm_dupb(&pool, a, &copy), STRM_OK);
+	ANSWERS(strm_adjmsg(&pool, copy, 2), STRM_OK);
+	ANSWERS(strm_linkb(&pool, large, copy), STRM_OK);
+	ANSWERS(strm_place(&pool, large, 1, &where), STRM_OK);
+	CHECK(where.data == 0 && where.at == 2 && where.length == 1 && where.capacity == 16);
+	kept = where;
+	ANSWERS(strm_place(&pool, large, 2, &where), STRM_NO_SUCH_BLOCK);
+	ANSWERS(strm_place(&pool, large, 0xFFFFFFFFu, &where), STRM_NO_SUCH_BLOCK);
+	CHECK(memcmp(&where, &kept, sizeof kept) == 0);
+	ANSWERS(strm_close(&pool), STRM_OK);
+}
+
+static void test_overwrite(void)
+{
+	static const char many[100] = "";
+	struct strm_pool pool = opened(6);
+	struct strm_msg a = message(&pool, "abc"), b = message(&pool, "defg"), copy;
+
+	ANSWERS(strm_linkb(&pool, a, b), STRM_OK);
+	ANSWERS(strm_overwrite(&pool, a, 2, "XYZ", 3), STRM_OK);
+	CHECK(has_bytes(&pool, a, "abXYZfg"));
+	ANSWERS(strm_overwrite(&pool, a, 0, "ABCDEFG", 7), STRM_OK);
+	CHECK(has_bytes(&pool, a, "ABCDEFG"));
+	ANSWERS(strm_overwrite(&pool, a, 6, "xy", 2), STRM_SHORT);
+	ANSWERS(strm_overwrite(&pool, a, 0, many, sizeof many), STRM_SHORT);
+	ANSWERS(strm_overwrite(&pool, a, 0xFFFFFFFFu, "x", 1), STRM_SHORT);
+	ANSWERS(strm_overwrite(&pool, a, 7, NULL, 0), STRM_OK);
+	ANSWERS(strm_overwrite(&pool, a, 8, NULL, 0), STRM_SHORT);
+	/* the second block shares its data, and the first does not */
+	ANSWERS(strm_dupmsg(&pool, a, &copy), STRM_OK);
+	ANSWERS(strm_freeb(&pool, copy, &copy), STRM_OK);
+	ANSWERS(strm_overwrite(&pool, a, 0, "abc", 3), STRM_OK);
+	ANSWERS(strm_overwrite(&pool, a, 2, "xy", 2), STRM_SHARED);
+	ANSWERS(strm_overwrite(&pool, a, 3, "DEFG", 4), STRM_SHARED);
+	ANSWERS(strm_overwrite(&pool, a, 6, "x", 1), STRM_SHARED);
+	ANSWERS(strm_overwrite(&pool, a, 3, "", 0), STRM_OK);
+	ANSWERS(strm_overwrite(&pool, a, 6, "xy", 2), STRM_SHORT);
+	CHECK(has_bytes(&pool, a, "abcDEFG") && has_bytes(&pool, copy, "DEFG"));
+	ANSWERS(strm_close(&pool), STRM_OK);
+}
+
+static void test_headroom(void)
+{
+	struct strm_pool pool = opened(6);
+	struct strm_msg a, copy;
+	struct strm_block_place where;
+
+	ANSWERS(strm_allocb(&pool, 16, &a), STRM_OK);
+	ANSWERS(strm_prepend(&pool, a, "x", 1), STRM_NO_ROOM);
+	ANSWERS(strm_reserve(&pool, a, 1, 2), STRM_NO_SUCH_BLOCK);
+	ANSWERS(strm_reserve(&pool, a, 0, 17), STRM_NO_ROOM);
+	ANSWERS(strm_reserve(&pool, a, 0, 0xFFFFFFFFu), STRM_NO_ROOM);
+	ANSWERS(strm_reserve(&pool, a, 0, 16), STRM_OK);
+	ANSWERS(strm_write(&pool, a, 0, "x", 1), STRM_NO_ROOM);
+	ANSWERS(strm_reserve(&pool, a, 0, 10), STRM_OK);
+	ANSWERS(strm_dupb(&pool, a, &copy), STRM_OK);
+	ANSWERS(strm_reserve(&pool, a, 0, 17), STRM_SHARED);
+	ANSWERS(strm_prepend(&pool, a, "0123456789A", 11), STRM_SHARED);
+	ANSWERS(strm_prepend(&pool, a, NULL, 0), STRM_SHARED);
+	ANSWERS(strm_freemsg(&pool, copy), STRM_OK);
+	ANSWERS(strm_write(&pool, a, 0, "lion", 4), STRM_OK);
+	ANSWERS(strm_prepend(&pool, a, "one ", 4), STRM_OK);
+	CHECK(has_bytes(&pool, a, "one lion"));
+	ANSWERS(strm_place(&pool, a, 0, &where), STRM_OK);
+	CHECK(where.at == 6 && where.length == 8);
+	ANSWERS(strm_prepend(&pool, a, "0123456", 7), STRM_NO_ROOM);
+	ANSWERS(strm_prepend(&pool, a, NULL, 0), STRM_OK);
+	ANSWERS(strm_prepend(&pool, a, "012345", 6), STRM_OK);
+	CHECK(has_bytes(&pool, a, "012345one lion"));
+	/* a block with bytes gets no headroom, not even what it has */
+	ANSWERS(strm_reserve(&pool, a, 0, 0), STRM_NO_ROOM);
+	ANSWERS(strm_adjmsg(&pool, a, 14), STRM_OK);
+	ANSWERS(strm_reserve(&pool, a, 0, 0), STRM_OK);
+	ANSWERS(strm_place(&pool, a, 0, &where), STRM_OK);
+	CHECK(where.at == 0 && where.length == 0);
+	ANSWERS(strm_close(&pool), STRM_OK);
+}
+
+static void test_advance(void)
+{
+	struct strm_pool pool = opened(6);
+	struct strm_msg a, copy;
+	struct strm_block_place before, where;
+	char room[16];
+	size_t count;
+
+	ANSWERS(strm_allocb(&pool, 16, &a), STRM_OK);
+	ANSWERS(strm_place(&pool, a, 0, &before), STRM_OK);
+	ANSWERS(strm_advance(&pool, a, 1, 1), STRM_NO_SUCH_BLOCK);
+	ANSWERS(strm_advance(&pool, a, 0, 17), STRM_NO_ROOM);
+	ANSWERS(strm_advance(&pool, a, 0, 0xFFFFFFFFu), STRM_NO_ROOM);
+	/* a data block that never had bytes has zeros */
+	ANSWERS(strm_advance(&pool, a, 0, 3), STRM_OK);
+	ANSWERS(strm_write(&pool, a, 0, "lion", 4), STRM_OK);
+	ANSWERS(strm_read(&pool, a, 0, room, sizeof room, &count), STRM_OK);
+	CHECK(count == 7 && memcmp(room, "\0\0\0lion", 7) == 0);
+	ANSWERS(strm_dupb(&pool, a, &copy), STRM_OK);
+	ANSWERS(strm_advance(&pool, a, 0, 10), STRM_SHARED);
+	ANSWERS(strm_advance(&pool, a, 0, 0), STRM_SHARED);
+	ANSWERS(strm_freemsg(&pool, copy), STRM_OK);
+	ANSWERS(strm_advance(&pool, a, 0, 10), STRM_NO_ROOM);
+	ANSWERS(strm_advance(&pool, a, 0, 9), STRM_OK);
+	ANSWERS(strm_advance(&pool, a, 0, 0), STRM_OK);
+	ANSWERS(strm_advance(&pool, a, 0, 1), STRM_NO_ROOM);
+	ANSWERS(strm_freemsg(&pool, a), STRM_OK);
+	/* the same data block again has the bytes of the message before */
+	ANSWERS(strm_allocb(&pool, 16, &a), STRM_OK);
+	ANSWERS(strm_place(&pool, a, 0, &where), STRM_OK);
+	CHECK(where.data == before.data);
+	ANSWERS(strm_reserve(&pool, a, 0, 3), STRM_OK);
+	ANSWERS(strm_advance(&pool, a, 0, 4), STRM_OK);
+	CHECK(has_bytes(&pool, a, "lion"));
+	ANSWERS(strm_close(&pool), STRM_OK);
+}
+
+static void test_name_at(void)
+{
+	struct strm_pool pool = opened(6);
+	struct strm_msg a = message(&pool, "a"), b = message(&pool, "b"), c = message(&pool, "c"), found = STRM_NO_MSG;
+
+	ANSWERS(strm_linkb(&pool, a, b), STRM_OK);
+	ANSWERS(strm_name_at(&pool, a.head, &found), STRM_OK);
+	CHECK(same_name(found, a));
+	ANSWERS(strm_putq(&pool, 0, a), STRM_OK);
+	/* on a queue, behind the first block, free, and not there */
+	ANSWERS(strm_name_at(&pool, a.head, &found), STRM_NONE);
+	ANSWERS(strm_name_at(&pool, b.head, &found), STRM_NONE);
+	ANSWERS(strm_name_at(&pool, 5, &found), STRM_NONE);
+	ANSWERS(strm_name_at(&pool, 6, &found), STRM_NONE);
+	ANSWERS(strm_name_at(&pool, 0xFFFFFFFFu, &found), STRM_NONE);
+	CHECK(same_name(found, a));
+	ANSWERS(strm_name_at(&pool, c.head, &found), STRM_OK);
+	CHECK(same_name(found, c));
+	ANSWERS(strm_getq(&pool, 0, &b), STRM_OK);
+	ANSWERS(strm_name_at(&pool, a.head, &found), STRM_OK);
+	CHECK(same_name(found, b) && !same_name(found, a));
+	ANSWERS(strm_close(&pool), STRM_OK);
+}
+
+/* ---- a message that goes to another pool */
+
+/* A pool of four message blocks over two data blocks of 16 bytes. */
+static struct strm_pool opened_small(void)
+{
+	static const struct strm_class_spec two[] = { { 16, 2 } };
+	struct strm_pool pool = STRM_POOL_INIT;
+	struct strm_config config = config_of(4);
+
+	config.id = 8;
+	config.classes = two;
+	config.class_count = 1;
+	ANSWERS(strm_open(&pool, &config), STRM_OK);
+	return pool;
+}
+
+static void test_transfer(void)
+{
+	struct strm_pool pool = opened(8), other = opened_small();
+	struct strm_msg a = message(&pool, "abcdef"), b = message(&pool, "gh"), copy, moved, kept = STRM_NO_MSG;
+	struct strm_block_info block;
+	struct strm_block_place where;
+
+	ANSWERS(strm_adjmsg(&pool, a, 2), STRM_OK);
+	ANSWERS(strm_setband(&pool, a, 5), STRM_OK);
+	ANSWERS(strm_setband(&pool, b, 6), STRM_OK);
+	ANSWERS(strm_settype(&pool, b, 0, STRM_M_PROTO), STRM_OK);
+	ANSWERS(strm_linkb(&pool, a, b), STRM_OK);
+	ANSWERS(strm_dupmsg(&pool, a, &copy), STRM_OK);
+	ANSWERS(strm_transfer(&pool, &other, a, &moved), STRM_OK);
+	CHECK(moved.pool == 8 && moved.head == 0 && moved.stamp == 1 && has_bytes(&other, moved, "cdefgh"));
+	CENSUS(&pool, 6, 0, 2);
+	CENSUS(&other, 2, 0, 2);
+	/* the same places, bands and types, and one reference to each data block */
+	ANSWERS(strm_place(&other, moved, 0, &where), STRM_OK);
+	CHECK(where.data == 0 && where.at == 2 && where.length == 4 && where.capacity == 16);
+	ANSWERS(strm_block(&other, moved, 0, &block), STRM_OK);
+	CHECK(block.type == STRM_M_DATA && block.band == 5 && block.names == 1);
+	ANSWERS(strm_block(&other, moved, 1, &block), STRM_OK);
+	CHECK(block.type == STRM_M_PROTO && block.band == 6 && block.names == 1);
+	/* the duplicate stays as it was */
+	CHECK(has_bytes(&pool, copy, "cdefgh"));
+	ANSWERS(strm_block(&pool, copy, 0, &block), STRM_OK);
+	CHECK(block.names == 1);
+	ANSWERS(strm_transfer(&pool, &other, a, &kept), STRM_INVALID);
+	ANSWERS(strm_transfer(&pool, &other, moved, &kept), STRM_INVALID);
+	CHECK(kept.stamp == 0);
+	/* back again, with the name where the other one was */
+	ANSWERS(strm_transfer(&other, &pool, moved, &moved), STRM_OK);
+	CHECK(moved.pool == 7 && has_bytes(&pool, moved, "cdefgh"));
+	CENSUS(&pool, 4, 0, 4);
+	CENSUS(&other, 4, 0, 0);
+	ANSWERS(strm_close(&other), STRM_OK);
+	ANSWERS(strm_close(&pool), STRM_OK);
+}
+
+static void test_transfer_refused(void)
+{
+	struct strm_pool pool = opened(12), other = opened_small();
+	struct strm_msg large, one = message(&pool, "a"), three, five, copy, kept = STRM_NO_MSG;
+	struct strm_class_info info;
+	int i;
+
+	ANSWERS(strm_allocb(&pool, 17, &large), STRM_OK);
+	ANSWERS(strm_transfer(&pool, &other, large, &kept), STRM_TOO_LARGE);
+	/* a message of three blocks over one data block needs three there */
+	ANSWERS(strm_dupb(&pool, one, &three), STRM_OK);
+	for (i = 1; i < 3; i++) {
+		ANSWERS(strm_dupb(&pool, one, &copy), STRM_OK);
+		ANSWERS(strm_linkb(&pool, three, copy), STRM_OK);
+	}
+	ANSWERS(strm_transfer(&pool, &other, three, &kept), STRM_NO_DATA);
+	ANSWERS(strm_class_info(&other, 0, &info), STRM_OK);
+	CHECK(info.free == 2);
+	/* five blocks: NO_MBLK comes before NO_DATA, and TOO_LARGE before both */
+	ANSWERS(strm_dupmsg(&pool, three, &five), STRM_OK);
+	for (i = 3; i < 5; i++) {
+		ANSWERS(strm_dupb(&pool, one, &copy), STRM_OK);
+		ANSWERS(strm_linkb(&pool, five, copy), STRM_OK);
+	}
+	ANSWERS(strm_transfer(&pool, &other, five, &kept), STRM_NO_MBLK);
+	ANSWERS(strm_linkb(&pool, five, large), STRM_OK);
+	ANSWERS(strm_transfer(&pool, &other, five, &kept), STRM_TOO_LARGE);
+	CHECK(kept.stamp == 0 && has_bytes(&pool, three, "aaa") && has_bytes(&pool, five, "aaaaa"));
+	CENSUS(&pool, 2, 0, 10);
+	CENSUS(&other, 4, 0, 0);
+	/* what was refused goes once there is room */
+	ANSWERS(strm_transfer(&pool, &other, one, &copy), STRM_OK);
+	ANSWERS(strm_transfer(&pool, &other, three, &kept), STRM_NO_DATA);
+	ANSWERS(strm_freemsg(&other, copy), STRM_OK);
+	ANSWERS(strm_freeb(&pool, three, &three), STRM_OK);
+	ANSWERS(strm_transfer(&pool, &other, three, &kept), STRM_OK);
+	CHECK(has_bytes(&other, kept, "aa"));
+	ANSWERS(strm_close(&other), STRM_OK);
+	ANSWERS(strm_close(&pool), STRM_OK);
+}
+
 /* ---- queues */
 
 static void test_order(void)
@@ -497,6 +953,188 @@ static void test_order(void)
 	CHECK(has_bytes(&pool, out, "a"));
 	ANSWERS(strm_getq(&pool, 2, &kept), STRM_NONE);
 	CHECK(kept.stamp == 0);
+	ANSWERS(strm_close(&pool), STRM_OK);
+}
+
+/* A message of high priority, one of two blocks in band 2, and one in band 0, from front to back of queue 2. */
+static void test_looks_at_queues(void)
+{
+	struct strm_pool pool = opened(8);
+	struct strm_msg a = message(&pool, "abc"), b = message(&pool, "de"), c = message(&pool, "f"), tail = message(&pool, "ghi");
+	struct strm_msg held = message(&pool, "held");
+	struct strm_queued queued;
+	uint32_t head = 99;
+	size_t count;
+	char room[8];
+
+	ANSWERS(strm_setband(&pool, b, 2), STRM_OK);
+	ANSWERS(strm_linkb(&pool, b, tail), STRM_OK);
+	ANSWERS(strm_settype(&pool, c, 0, STRM_M_PCPROTO), STRM_OK);
+	ANSWERS(strm_setband(&pool, c, 9), STRM_OK);
+	ANSWERS(strm_first_queued(&pool, 2, &head), STRM_NONE);
+	ANSWERS(strm_first_queued(&pool, 3, &head), STRM_NO_SUCH_QUEUE);
+	ANSWERS(strm_queued_after(&pool, a.head, &head), STRM_NO_SUCH_PLACE);
+	CHECK(head == 99);
+	ANSWERS(strm_putq(&pool, 2, a), STRM_OK);
+	ANSWERS(strm_putq(&pool, 2, b), STRM_OK);
+	ANSWERS(strm_putq(&pool, 2, c), STRM_OK);
+	ANSWERS(strm_first_queued(&pool, 2, &head), STRM_OK);
+	CHECK(head == c.head);
+	ANSWERS(strm_queued_after(&pool, head, &head), STRM_OK);
+	CHECK(head == b.head);
+	ANSWERS(strm_queued_after(&pool, head, &head), STRM_OK);
+	CHECK(head == a.head);
+	ANSWERS(strm_queued_after(&pool, head, &head), STRM_NONE);
+	/* held, behind the first block, free, and not there */
+	ANSWERS(strm_queued_after(&pool, held.head, &head), STRM_NO_SUCH_PLACE);
+	ANSWERS(strm_queued_after(&pool, tail.head, &head), STRM_NO_SUCH_PLACE);
+	ANSWERS(strm_queued_after(&pool, 7, &head), STRM_NO_SUCH_PLACE);
+	ANSWERS(strm_queued_after(&pool, 8, &head), STRM_NO_SUCH_PLACE);
+	ANSWERS(strm_queued_after(&pool, 0xFFFFFFFFu, &head), STRM_NO_SUCH_PLACE);
+	CHECK(head == a.head);
+	ANSWERS(strm_queued_at(&pool, 2, 0, &queued), STRM_OK);
+	CHECK(queued.head == c.head && queued.type == STRM_M_PCPROTO && queued.band == 0 && queued.bytes == 1 && queued.blocks == 1);
+	ANSWERS(strm_queued_at(&pool, 2, 1, &queued), STRM_OK);
+	CHECK(queued.head == b.head && queued.type == STRM_M_DATA && queued.band == 2 && queued.bytes == 5 && queued.blocks == 2);
+	ANSWERS(strm_queued_at(&pool, 2, 3, &queued), STRM_NO_SUCH_PLACE);
+	ANSWERS(strm_queued_at(&pool, 2, 0xFFFFFFFFu, &queued), STRM_NO_SUCH_PLACE);
+	ANSWERS(strm_queued_at(&pool, 3, 9, &queued), STRM_NO_SUCH_QUEUE);
+	CHECK(queued.head == b.head);
+	memset(room, '.', sizeof room);
+	ANSWERS(strm_read_queued(&pool, 2, 1, 1, room, sizeof room, &count), STRM_OK);
+	CHECK(count == 4 && memcmp(room, "eghi....", 8) == 0);
+	ANSWERS(strm_read_queued(&pool, 2, 1, 0, room, 3, &count), STRM_OK);
+	CHECK(count == 3 && memcmp(room, "degi....", 8) == 0);
+	ANSWERS(strm_read_queued(&pool, 2, 1, 5, room, sizeof room, &count), STRM_OK);
+	CHECK(count == 0);
+	ANSWERS(strm_read_queued(&pool, 2, 2, 0, NULL, 0, &count), STRM_OK);
+	CHECK(count == 0);
+	count = 77;
+	ANSWERS(strm_read_queued(&pool, 2, 3, 0, room, sizeof room, &count), STRM_NO_SUCH_PLACE);
+	ANSWERS(strm_read_queued(&pool, 2, 3, 0, NULL, 0, &count), STRM_NO_SUCH_PLACE);
+	ANSWERS(strm_read_queued(&pool, 3, 9, 0, room, sizeof room, &count), STRM_NO_SUCH_QUEUE);
+	CHECK(count == 77 && memcmp(room, "degi....", 8) == 0);
+	CENSUS(&pool, 3, 4, 1);
+	ANSWERS(strm_close(&pool), STRM_OK);
+}
+
+/* Each call on several messages stops at the first that fails, and returns its code only if that is the very first. */
+static void test_several(void)
+{
+	struct strm_pool pool = opened(5);
+	struct strm_msg msgs[8], none = STRM_NO_MSG, kept;
+	struct strm_queue_info info;
+	size_t count = 77;
+	int i;
+
+	for (i = 0; i < 8; i++)
+		msgs[i] = none;
+	ANSWERS(strm_allocb_n(&pool, 65, msgs, 2, &count), STRM_TOO_LARGE);
+	ANSWERS(strm_allocb_n(&pool, 65, NULL, 0, &count), STRM_OK);
+	CHECK(count == 0 && same_name(msgs[0], none));
+	/* there are two data blocks of 64 bytes, and five message blocks */
+	ANSWERS(strm_allocb_n(&pool, 64, msgs, 8, &count), STRM_OK);
+	CHECK(count == 2 && msgs[0].head == 0 && msgs[1].head == 1 && same_name(msgs[2], none));
+	count = 77;
+	ANSWERS(strm_allocb_n(&pool, 64, msgs + 2, 1, &count), STRM_NO_DATA);
+	CHECK(count == 77 && same_name(msgs[2], none));
+	ANSWERS(strm_allocb_n(&pool, 16, msgs + 2, 6, &count), STRM_OK);
+	CHECK(count == 3 && msgs[4].head == 4 && same_name(msgs[5], none));
+	ANSWERS(strm_allocb_n(&pool, 16, msgs + 5, 1, &count), STRM_NO_MBLK);
+	CENSUS(&pool, 0, 0, 5);
+	/* the third name is not valid */
+	kept = msgs[2];
+	msgs[2].stamp++;
+	ANSWERS(strm_putq_n(&pool, 2, msgs, 5, &count), STRM_OK);
+	CHECK(count == 2);
+	CENSUS(&pool, 0, 2, 3);
+	count = 77;
+	ANSWERS(strm_putq_n(&pool, 2, msgs + 2, 3, &count), STRM_INVALID);
+	msgs[2] = kept;
+	ANSWERS(strm_putq_n(&pool, 3, msgs + 2, 3, &count), STRM_NO_SUCH_QUEUE);
+	CHECK(count == 77);
+	ANSWERS(strm_putq_n(&pool, 3, NULL, 0, &count), STRM_OK);
+	CHECK(count == 0);
+	ANSWERS(strm_putq_n(&pool, 2, msgs + 2, 3, &count), STRM_OK);
+	CHECK(count == 3);
+	CENSUS(&pool, 0, 5, 0);
+	/* in order; the queue runs empty at the last, which sets the want-to-read mark */
+	ANSWERS(strm_getq_n(&pool, 2, msgs, 2, &count), STRM_OK);
+	CHECK(count == 2 && msgs[0].head == 0 && msgs[1].head == 1 && same_name(msgs[2], kept));
+	ANSWERS(strm_queue_info(&pool, 2, &info), STRM_OK);
+	CHECK(info.msgs == 3 && info.read == 0);
+	ANSWERS(strm_getq_n(&pool, 2, msgs + 2, 6, &count), STRM_OK);
+	CHECK(count == 3 && msgs[2].head == 2 && msgs[4].head == 4 && same_name(msgs[5], none));
+	ANSWERS(strm_queue_info(&pool, 2, &info), STRM_OK);
+	CHECK(info.msgs == 0 && info.read == 1);
+	count = 77;
+	ANSWERS(strm_getq_n(&pool, 2, msgs + 5, 2, &count), STRM_NONE);
+	ANSWERS(strm_getq_n(&pool, 3, msgs + 5, 2, &count), STRM_NO_SUCH_QUEUE);
+	CHECK(count == 77 && same_name(msgs[5], none));
+	ANSWERS(strm_getq_n(&pool, 3, NULL, 0, &count), STRM_OK);
+	CHECK(count == 0);
+	/* the second and the third are one message */
+	kept = msgs[2];
+	msgs[2] = msgs[1];
+	ANSWERS(strm_freemsg_n(&pool, msgs, 5, &count), STRM_OK);
+	CHECK(count == 2);
+	CENSUS(&pool, 2, 0, 3);
+	count = 77;
+	ANSWERS(strm_freemsg_n(&pool, msgs, 5, &count), STRM_INVALID);
+	CHECK(count == 77);
+	msgs[2] = kept;
+	ANSWERS(strm_freemsg_n(&pool, msgs + 2, 3, &count), STRM_OK);
+	CHECK(count == 3);
+	ANSWERS(strm_freemsg_n(&pool, NULL, 0, &count), STRM_OK);
+	CHECK(count == 0);
+	CENSUS(&pool, 5, 0, 0);
+	ANSWERS(strm_close(&pool), STRM_OK);
+}
+
+/* A queue with exactly as many messages as are asked for has no want-to-read mark afterwards; one with fewer has it. */
+static void test_all_of_a_queue(void)
+{
+	struct strm_pool pool = opened(8);
+	struct strm_msg msgs[2];
+	struct strm_queue_info info;
+	size_t count;
+
+	msgs[0] = message(&pool, "a");
+	msgs[1] = message(&pool, "b");
+	ANSWERS(strm_putq_n(&pool, 0, msgs, 2, &count), STRM_OK);
+	ANSWERS(strm_getq_n(&pool, 0, msgs, 2, &count), STRM_OK);
+	ANSWERS(strm_queue_info(&pool, 0, &info), STRM_OK);
+	CHECK(count == 2 && info.msgs == 0 && info.read == 0);
+	ANSWERS(strm_getq_n(&pool, 0, msgs, 2, &count), STRM_NONE);
+	ANSWERS(strm_queue_info(&pool, 0, &info), STRM_OK);
+	CHECK(count == 2 && info.read == 1);
+	ANSWERS(strm_close(&pool), STRM_OK);
+}
+
+static void test_specs(void)
+{
+	static const struct strm_queue_spec one[] = { { 10, 4, 0xFFFFFFFFu, STRM_NO_QUEUE } };
+	struct strm_pool pool = opened(8), other = STRM_POOL_INIT;
+	struct strm_config config = config_of(8);
+	struct strm_queue_spec spec;
+	uint32_t queue;
+
+	for (queue = 0; queue < 3; queue++) {
+		ANSWERS(strm_queue_spec(&pool, queue, &spec), STRM_OK);
+		CHECK(memcmp(&spec, &queues[queue], sizeof spec) == 0);
+	}
+	ANSWERS(strm_strqset(&pool, 2, 0, 5, 3), STRM_OK);
+	ANSWERS(strm_queue_spec(&pool, 2, &spec), STRM_OK);
+	CHECK(memcmp(&spec, &queues[2], sizeof spec) == 0);
+	ANSWERS(strm_queue_spec(&pool, 3, &spec), STRM_NO_SUCH_QUEUE);
+	ANSWERS(strm_queue_spec(&pool, 0xFFFFFFFFu, &spec), STRM_NO_SUCH_QUEUE);
+	CHECK(memcmp(&spec, &queues[2], sizeof spec) == 0);
+	config.queues = one;
+	config.queue_count = 1;
+	ANSWERS(strm_open(&other, &config), STRM_OK);
+	ANSWERS(strm_queue_spec(&other, 0, &spec), STRM_OK);
+	CHECK(spec.hiwat == 10 && spec.lowat == 4 && spec.service == 1 && spec.next == STRM_NO_QUEUE);
+	ANSWERS(strm_close(&other), STRM_OK);
 	ANSWERS(strm_close(&pool), STRM_OK);
 }
 
@@ -665,6 +1303,7 @@ static void test_sizes(void)
 	CHECK(sizeof(struct strm_census) == 12 && sizeof(struct strm_class_info) == 12 && sizeof(struct strm_block_info) == 20);
 	CHECK(sizeof(struct strm_queue_info) == 20 && sizeof(struct strm_band_info) == 12);
 	CHECK(sizeof(struct strm_marks) == 8 && sizeof(struct strm_wish) == 8);
+	CHECK(sizeof(struct strm_block_place) == 16 && sizeof(struct strm_iov) == 16 && sizeof(struct strm_queued) == 20);
 }
 
 #ifdef __cplusplus
@@ -676,6 +1315,9 @@ static void test_without_struct(void)
 	strm_class_info info;
 	strm_queue_info queue;
 	strm_band_info band;
+	strm_queue_spec spec;
+	strm_iov iov;
+	size_t count;
 	int (*take)(strm_pool *, strm_census *) = &strm_census_;
 
 	ANSWERS(strm_census(&pool, &census), STRM_OK);
@@ -683,7 +1325,9 @@ static void test_without_struct(void)
 	ANSWERS(strm_class_info(&pool, 0, &info), STRM_OK);
 	ANSWERS(strm_queue_info(&pool, 0, &queue), STRM_OK);
 	ANSWERS(strm_band_info(&pool, 0, 0, &band), STRM_OK);
-	CHECK(census.free == 4 && info.size == 16 && queue.msgs == 0 && band.bytes == 0);
+	ANSWERS(strm_queue_spec(&pool, 0, &spec), STRM_OK);
+	ANSWERS(strm_iov(&pool, message(&pool, "lion"), 0, &iov, 1, &count), STRM_OK);
+	CHECK(census.free == 4 && info.size == 16 && queue.msgs == 0 && band.bytes == 0 && spec.next == 1 && iov.length == 4);
 	ANSWERS(strm_close(&pool), STRM_OK);
 }
 #endif
@@ -797,7 +1441,22 @@ int main(void)
 	test_joining();
 	test_trimming();
 	test_pullup_refused();
+	test_blocks();
+	test_bytes_in_place();
+	test_writev();
+	test_pointers();
+	test_place();
+	test_overwrite();
+	test_headroom();
+	test_advance();
+	test_name_at();
+	test_transfer();
+	test_transfer_refused();
 	test_order();
+	test_looks_at_queues();
+	test_several();
+	test_all_of_a_queue();
+	test_specs();
 	test_flush();
 	test_flow_control();
 	test_enabling();

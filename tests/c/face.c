@@ -30,14 +30,19 @@ static int is_untouched(const void *place, size_t length)
 	return 1;
 }
 
+/* The code of a call that stored nothing, for which it must not have touched the place. */
+static struct reply left(struct face *face, int code, const void *place, size_t size)
+{
+	if (!is_untouched(place, size))
+		face->broken = 1;
+	return coded(face, code);
+}
+
 /* A call that gave no message must not touch the place. A new name must differ from the last one of the register. */
 static struct reply given(struct face *face, int code, int reg, const struct strm_msg *name)
 {
-	if (code != STRM_OK) {
-		if (!is_untouched(name, sizeof *name))
-			face->broken = 1;
-		return coded(face, code);
-	}
+	if (code != STRM_OK)
+		return left(face, code, name, sizeof *name);
 	if (memcmp(name, &face->registers[reg], sizeof *name) == 0)
 		face->broken = 1;
 	face->registers[reg] = *name;
@@ -63,11 +68,7 @@ static struct reply spent(struct face *face, int code, int reg)
 /* The number that a call gave. A call that gave none must not touch the place. */
 static struct reply counted(struct face *face, int code, enum kind kind, const uint32_t *number)
 {
-	if (code == STRM_OK)
-		return told(kind, *number, 0);
-	if (!is_untouched(number, sizeof *number))
-		face->broken = 1;
-	return coded(face, code);
+	return code == STRM_OK ? told(kind, *number, 0) : left(face, code, number, sizeof *number);
 }
 
 static struct reply asked(struct face *face, int code, const uint32_t *yes)
@@ -135,22 +136,188 @@ static struct reply bytes_told(struct face *face, const struct call *call)
 static struct reply block_told(struct face *face, const struct call *call)
 {
 	struct strm_block_info info;
-	struct reply reply = reply_of(TOLD_BLOCK);
 	int code;
 
 	memset(&info, UNTOUCHED, sizeof info);
 	code = strm_block(&face->pool, face->registers[call->x], call->place, &info);
+	return code == STRM_OK ? told_block(&info) : left(face, code, &info, sizeof info);
+}
+
+/* What a call filled of an array of `items` structs of some size. A call that failed must not touch it, nor the place of the count. */
+static struct reply filled(struct face *face, int code, enum kind kind, const void *array, size_t size, size_t items, size_t count)
+{
+	const uint8_t *bytes = (const uint8_t *)array;
+
 	if (code != STRM_OK) {
-		if (!is_untouched(&info, sizeof info))
+		if (!is_untouched(&count, sizeof count))
 			face->broken = 1;
-		return coded(face, code);
+		return left(face, code, array, size * (items + 1));
 	}
-	reply.numbers[0] = info.type;
-	reply.numbers[1] = info.length;
-	reply.numbers[2] = info.band;
-	reply.numbers[3] = info.room;
-	reply.numbers[4] = info.names;
+	if (count > items) {
+		face->broken = 1;
+		count = 0;
+	}
+	if (!is_untouched(bytes + size * count, size * (items + 1 - count)))
+		face->broken = 1;
+	return told(kind, (uint32_t)count, 0);
+}
+
+static struct reply blocks_told(struct face *face, const struct call *call)
+{
+	struct strm_block_info infos[MOST_ITEMS + 1];
+	struct reply reply;
+	size_t count;
+	uint32_t i;
+	int code;
+
+	memset(infos, UNTOUCHED, sizeof infos);
+	memset(&count, UNTOUCHED, sizeof count);
+	code = strm_blocks(&face->pool, face->registers[call->x], call->place, infos, call->items, &count);
+	reply = filled(face, code, TOLD_BLOCKS, infos, sizeof infos[0], call->items, count);
+	for (i = 0; code == STRM_OK && i < reply.numbers[0]; i++)
+		put_block(&reply, 1 + 5 * (int)i, &infos[i]);
 	return reply;
+}
+
+/* The lengths and the first bytes of some blocks, each of which strm_bytes must have at the same place. */
+static struct reply iov_told(struct face *face, const struct call *call)
+{
+	struct strm_iov iov[MOST_ITEMS + 1];
+	struct reply reply;
+	const uint8_t *bytes;
+	size_t count, length, i, had = 0, from;
+	int code;
+
+	memset(iov, UNTOUCHED, sizeof iov);
+	memset(&count, UNTOUCHED, sizeof count);
+	code = strm_iov(&face->pool, face->registers[call->x], call->place, iov, call->items, &count);
+	reply = filled(face, code, TOLD_IOV, iov, sizeof iov[0], call->items, count);
+	for (i = 0; code == STRM_OK && i < reply.numbers[0]; i++) {
+		if (strm_bytes(&face->pool, face->registers[call->x], call->place + (uint32_t)i, &bytes, &length) != STRM_OK
+		    || bytes != iov[i].base || length != iov[i].length)
+			face->broken = 1;
+		reply.numbers[1 + i] = (uint32_t)iov[i].length;
+		for (from = 0; from < iov[i].length && had < MOST_OCTETS; from++)
+			reply.octets[had++] = ((const uint8_t *)iov[i].base)[from];
+	}
+	return reply;
+}
+
+static struct reply bytes_of_block_told(struct face *face, const struct call *call)
+{
+	struct reply reply = reply_of(TOLD_BYTES);
+	const uint8_t *bytes = reply.octets;
+	size_t length;
+	int code;
+
+	memset(&length, UNTOUCHED, sizeof length);
+	code = strm_bytes(&face->pool, face->registers[call->x], call->place, &bytes, &length);
+	if (code != STRM_OK) {
+		if (bytes != reply.octets)
+			face->broken = 1;
+		return left(face, code, &length, sizeof length);
+	}
+	reply.numbers[0] = (uint32_t)length;
+	memcpy(reply.octets, bytes, length < MOST_OCTETS ? length : MOST_OCTETS);
+	return reply;
+}
+
+static struct reply place_told(struct face *face, const struct call *call)
+{
+	struct strm_block_place where;
+	struct reply reply = reply_of(TOLD_PLACE);
+	int code;
+
+	memset(&where, UNTOUCHED, sizeof where);
+	code = strm_place(&face->pool, face->registers[call->x], call->place, &where);
+	if (code != STRM_OK)
+		return left(face, code, &where, sizeof where);
+	reply.numbers[0] = where.data;
+	reply.numbers[1] = where.at;
+	reply.numbers[2] = where.length;
+	reply.numbers[3] = where.capacity;
+	return reply;
+}
+
+/* The register that has the name which a call gave. */
+static struct reply name_told(struct face *face, const struct call *call)
+{
+	struct strm_msg name;
+	uint32_t reg;
+	int code;
+
+	memset(&name, UNTOUCHED, sizeof name);
+	code = strm_name_at(&face->pool, call->number, &name);
+	if (code != STRM_OK)
+		return left(face, code, &name, sizeof name);
+	for (reg = 0; reg < REGISTERS; reg++)
+		if (face->holds[reg] && memcmp(&name, &face->registers[reg], sizeof name) == 0)
+			return told(TOLD_NAME, reg, 0);
+	face->broken = 1;
+	return reply_of(NOTHING);
+}
+
+static struct reply queued_told(struct face *face, const struct call *call)
+{
+	struct strm_queued queued;
+	struct reply reply = reply_of(TOLD_QUEUED);
+	int code;
+
+	memset(&queued, UNTOUCHED, sizeof queued);
+	code = strm_queued_at(&face->pool, call->queue, call->place, &queued);
+	if (code != STRM_OK)
+		return left(face, code, &queued, sizeof queued);
+	reply.numbers[0] = queued.head;
+	reply.numbers[1] = queued.type;
+	reply.numbers[2] = queued.band;
+	reply.numbers[3] = queued.bytes;
+	reply.numbers[4] = queued.blocks;
+	return reply;
+}
+
+static struct reply queued_bytes_told(struct face *face, const struct call *call)
+{
+	uint8_t octets[MOST_OCTETS + 1];
+	struct reply reply;
+	size_t count;
+	int code;
+
+	memset(octets, UNTOUCHED, sizeof octets);
+	memset(&count, UNTOUCHED, sizeof count);
+	code = strm_read_queued(&face->pool, call->queue, call->place, call->number, octets, MOST_OCTETS, &count);
+	reply = filled(face, code, TOLD_BYTES, octets, 1, MOST_OCTETS, count);
+	if (code == STRM_OK)
+		memcpy(reply.octets, octets, reply.numbers[0]);
+	return reply;
+}
+
+static struct reply spec_told(struct face *face, const struct call *call)
+{
+	struct strm_queue_spec spec;
+	struct reply reply = reply_of(TOLD_SPEC);
+	int code;
+
+	memset(&spec, UNTOUCHED, sizeof spec);
+	code = strm_queue_spec(&face->pool, call->queue, &spec);
+	if (code != STRM_OK)
+		return left(face, code, &spec, sizeof spec);
+	reply.numbers[0] = spec.hiwat;
+	reply.numbers[1] = spec.lowat;
+	reply.numbers[2] = spec.service;
+	reply.numbers[3] = spec.next;
+	return reply;
+}
+
+/* Hands a message to the other pool, where register y gets it. */
+static struct reply transferred(struct face *face, struct face *other, const struct call *call)
+{
+	struct strm_msg moved;
+	int code;
+
+	memset(&moved, UNTOUCHED, sizeof moved);
+	code = strm_transfer(&face->pool, &other->pool, face->registers[call->x], &moved);
+	given(other, code, call->y, &moved);
+	return spent(face, code, call->x);
 }
 
 static struct reply census_told(struct face *face)
@@ -222,11 +389,51 @@ static struct reply apply_counting(struct face *face, const struct call *call, s
 	case SIZE: return counted(face, strm_size(pool, x, &number), TOLD_SIZE, &number);
 	case QSIZE: return counted(face, strm_qsize(pool, call->queue, &number), TOLD_SIZE, &number);
 	case SERVICE: return counted(face, strm_next_service(pool, &number), TOLD_QUEUE, &number);
+	case FIRST_QUEUED: return counted(face, strm_first_queued(pool, call->queue, &number), TOLD_HEAD, &number);
+	case QUEUED_AFTER: return counted(face, strm_queued_after(pool, call->number, &number), TOLD_HEAD, &number);
 	default: return counted(face, strm_bufcall(pool, call->number, &number), TOLD_ID, &number);
 	}
 }
 
-struct reply face_apply(struct face *face, const struct call *call)
+/* Some registers get messages, each by a call of its own. */
+static struct reply gave_many(struct face *face, const struct call *call)
+{
+	struct strm_msg names[MOST_ITEMS + 1];
+	struct reply reply;
+	size_t count;
+	uint32_t i;
+	int code;
+
+	memset(names, UNTOUCHED, sizeof names);
+	memset(&count, UNTOUCHED, sizeof count);
+	code = call->verb == ALLOCB_N ? strm_allocb_n(&face->pool, call->number, names, call->items, &count)
+		: strm_getq_n(&face->pool, call->queue, names, call->items, &count);
+	reply = filled(face, code, TOLD_COUNT, names, sizeof names[0], call->items, count);
+	for (i = 0; code == STRM_OK && i < reply.numbers[0]; i++)
+		given(face, STRM_OK, call->many[i], &names[i]);
+	return reply;
+}
+
+/* Some registers hand over their messages, each by a call of its own. */
+static struct reply took_many(struct face *face, const struct call *call)
+{
+	struct strm_msg names[MOST_ITEMS];
+	size_t count, i;
+	int code;
+
+	for (i = 0; i < call->items; i++)
+		names[i] = face->registers[call->many[i]];
+	memset(&count, UNTOUCHED, sizeof count);
+	code = call->verb == FREEMSG_N ? strm_freemsg_n(&face->pool, names, call->items, &count)
+		: strm_putq_n(&face->pool, call->queue, names, call->items, &count);
+	if (code != STRM_OK)
+		return left(face, code, &count, sizeof count);
+	for (i = 0; i < count && i < call->items; i++)
+		spent(face, STRM_OK, call->many[i]);
+	return told(TOLD_COUNT, (uint32_t)count, 0);
+}
+
+struct reply face_apply(struct face *face, struct face *other, const struct call *call)
 {
 	struct strm_pool *pool = &face->pool;
 	struct strm_msg x = face->registers[call->x];
@@ -243,6 +450,21 @@ struct reply face_apply(struct face *face, const struct call *call)
 	case PULLUPMSG: return coded(face, strm_pullupmsg(pool, x, call->count));
 	case READ: return bytes_told(face, call);
 	case BLOCK: return block_told(face, call);
+	case BLOCKS: return blocks_told(face, call);
+	case NAME_AT: return name_told(face, call);
+	case BYTES: return bytes_of_block_told(face, call);
+	case IOV: return iov_told(face, call);
+	case PLACE: return place_told(face, call);
+	case OVERWRITE: return coded(face, strm_overwrite(pool, x, call->place, call->octets, call->length));
+	case RESERVE: return coded(face, strm_reserve(pool, x, call->place, call->number));
+	case PREPEND: return coded(face, strm_prepend(pool, x, call->octets, call->length));
+	case ADVANCE: return coded(face, strm_advance(pool, x, call->place, call->number));
+	case TRANSFER: return transferred(face, other, call);
+	case QUEUED_AT: return queued_told(face, call);
+	case READ_QUEUED: return queued_bytes_told(face, call);
+	case QUEUE_SPEC: return spec_told(face, call);
+	case ALLOCB_N: case GETQ_N: return gave_many(face, call);
+	case FREEMSG_N: case PUTQ_N: return took_many(face, call);
 	case FREEB: return first_freed(face, call);
 	case FREEMSG: return spent(face, strm_freemsg(pool, x), call->x);
 	case PUTQ: return spent(face, strm_putq(pool, call->queue, x), call->x);

@@ -11,7 +11,8 @@ struct face {
 	int broken;				/* a call touched what it must not, or answered what it cannot */
 };
 
-/* Does a call, which the model must not have answered with TAKEN. For an empty register it passes a name that is not valid. */
-struct reply face_apply(struct face *face, const struct call *call);
+/* Does a call, with the other pool for a call that hands a message to it. The model must not have answered with TAKEN. For an empty
+ * register it passes a name that is not valid. */
+struct reply face_apply(struct face *face, struct face *other, const struct call *call);
 
 #endif

@@ -81,6 +81,7 @@ static int run(void)
 	struct strm_config config = { 1, 4, NULL, 1, NULL, 1, 0, 1 };
 	struct strm_msg msg;
 	struct strm_census census;
+	const uint8_t *lent;
 	char bytes[4];
 	size_t count;
 
@@ -94,11 +95,13 @@ static int run(void)
 		return 3;
 	if (strm_read(&pool, msg, 0, bytes, sizeof bytes, &count) != STRM_OK || count != 4 || bytes[0] != 'l' || bytes[3] != 'n')
 		return 4;
-	if (strm_freeb(&pool, msg, &msg) != STRM_NONE || !strm_is_no_msg(msg))
+	if (strm_overwrite(&pool, msg, 0, "b", 1) != STRM_OK || strm_bytes(&pool, msg, 0, &lent, &count) != STRM_OK || lent[0] != 'b')
 		return 5;
-	if (strm_census(&pool, &census) != STRM_OK || census.free != 4)
+	if (strm_freeb(&pool, msg, &msg) != STRM_NONE || !strm_is_no_msg(msg))
 		return 6;
-	return strm_close(&pool) == STRM_OK ? 0 : 7;
+	if (strm_census(&pool, &census) != STRM_OK || census.free != 4)
+		return 7;
+	return strm_close(&pool) == STRM_OK ? 0 : 8;
 }
 
 /* Where the program begins, with the stack where a call leaves it. It ends by the system call exit. */

@@ -48,6 +48,9 @@ static void look(struct strm_pool *pool, const struct strm_msg *names, size_t co
 	struct strm_queue_info queue;
 	struct strm_band_info band;
 	struct strm_block_info block;
+	struct strm_block_place where;
+	struct strm_queue_spec spec;
+	struct strm_queued queued;
 	struct strm_wish wish;
 	uint32_t q, i;
 	size_t n;
@@ -59,6 +62,10 @@ static void look(struct strm_pool *pool, const struct strm_msg *names, size_t co
 		see(seen, &info, sizeof info);
 	for (q = 0; q < STRM_MOST_QUEUES && strm_queue_info(pool, q, &queue) == STRM_OK; q++) {
 		see(seen, &queue, sizeof queue);
+		if (strm_queue_spec(pool, q, &spec) == STRM_OK)
+			see(seen, &spec, sizeof spec);
+		for (i = 0; i < STRM_MOST_MBLKS && strm_queued_at(pool, q, i, &queued) == STRM_OK; i++)
+			see(seen, &queued, sizeof queued);
 		for (i = 0; i < STRM_BANDS && strm_band_info(pool, q, i, &band) == STRM_OK; i++)
 			see(seen, &band, sizeof band);
 	}
@@ -67,8 +74,11 @@ static void look(struct strm_pool *pool, const struct strm_msg *names, size_t co
 	for (i = 0; i < STRM_MOST_WISHES && strm_wish_at(pool, i, &wish) == STRM_OK; i++)
 		see(seen, &wish, sizeof wish);
 	for (n = 0; n < count; n++)
-		for (i = 0; i < STRM_MOST_MBLKS && strm_block(pool, names[n], i, &block) == STRM_OK; i++)
+		for (i = 0; i < STRM_MOST_MBLKS && strm_block(pool, names[n], i, &block) == STRM_OK; i++) {
 			see(seen, &block, sizeof block);
+			if (strm_place(pool, names[n], i, &where) == STRM_OK)
+				see(seen, &where, sizeof where);
+		}
 }
 
 /* ---- a name that is not valid, in each call that takes one */
@@ -94,10 +104,13 @@ static struct scene scene_of(uint32_t id)
 
 static void try_name(struct scene *scene, struct strm_msg bad)
 {
-	struct strm_pool *pool = &scene->pool;
+	struct strm_pool *pool = &scene->pool, other = opened(6);
 	struct strm_msg out, rest, untouched;
 	struct strm_block_info block;
+	struct strm_block_place where;
+	struct strm_iov iov;
 	struct seen before, after;
+	const uint8_t *bytes = NULL;
 	uint32_t number = 77;
 	size_t count = 77;
 	char room[4];
@@ -122,6 +135,20 @@ static void try_name(struct scene *scene, struct strm_msg bad)
 	ANSWERS(strm_size(pool, bad, &number), STRM_INVALID);
 	ANSWERS(strm_msgdsize(pool, bad, &number), STRM_INVALID);
 	ANSWERS(strm_block(pool, bad, 0, &block), STRM_INVALID);
+	ANSWERS(strm_blocks(pool, bad, 0, &block, 1, &count), STRM_INVALID);
+	ANSWERS(strm_blocks(pool, bad, 0, NULL, 0, &count), STRM_INVALID);
+	ANSWERS(strm_bytes(pool, bad, 0, &bytes, &count), STRM_INVALID);
+	ANSWERS(strm_iov(pool, bad, 0, &iov, 1, &count), STRM_INVALID);
+	ANSWERS(strm_iov(pool, bad, 0, NULL, 0, &count), STRM_INVALID);
+	ANSWERS(strm_place(pool, bad, 0, &where), STRM_INVALID);
+	ANSWERS(strm_overwrite(pool, bad, 0, "x", 1), STRM_INVALID);
+	ANSWERS(strm_overwrite(pool, bad, 0, NULL, 0), STRM_INVALID);
+	ANSWERS(strm_reserve(pool, bad, 0, 1), STRM_INVALID);
+	ANSWERS(strm_prepend(pool, bad, "x", 1), STRM_INVALID);
+	ANSWERS(strm_advance(pool, bad, 0, 1), STRM_INVALID);
+	ANSWERS(strm_transfer(pool, &other, bad, &out), STRM_INVALID);
+	ANSWERS(strm_freemsg_n(pool, &bad, 1, &count), STRM_INVALID);
+	ANSWERS(strm_putq_n(pool, 0, &bad, 1, &count), STRM_INVALID);
 	ANSWERS(strm_linkb(pool, bad, scene->held), STRM_INVALID);
 	ANSWERS(strm_linkb(pool, scene->held, bad), STRM_INVALID);
 	ANSWERS(strm_linkb(pool, bad, bad), STRM_INVALID);
@@ -134,7 +161,10 @@ static void try_name(struct scene *scene, struct strm_msg bad)
 	ANSWERS(strm_insq(pool, 0, 0, bad), STRM_INVALID);
 	/* a name comes before a missing queue */
 	ANSWERS(strm_putq(pool, 2, bad), STRM_INVALID);
-	CHECK(same_name(out, untouched) && same_name(rest, untouched) && number == 77 && count == 77);
+	ANSWERS(strm_putq_n(pool, 2, &bad, 1, &count), STRM_INVALID);
+	CHECK(same_name(out, untouched) && same_name(rest, untouched) && number == 77 && count == 77 && bytes == NULL);
+	CENSUS(&other, 8, 0, 0);
+	ANSWERS(strm_close(&other), STRM_OK);
 	look(pool, &scene->held, 1, &after);
 	CHECK(memcmp(&before, &after, sizeof before) == 0);
 	CHECK(has_bytes(pool, scene->held, "held"));
@@ -219,6 +249,7 @@ static void test_queued(void)
 	a = message(pool, "a");
 	ANSWERS(strm_putq(pool, 0, a), STRM_OK);
 	try_name(&scene, a);
+	ANSWERS(strm_name_at(pool, a.head, &b), STRM_NONE);
 	ANSWERS(strm_getq(pool, 0, &b), STRM_OK);
 	CHECK(b.head == a.head);
 	try_name(&scene, a);
@@ -254,6 +285,21 @@ static void test_others(void)
 	ANSWERS(strm_close(pool), STRM_OK);
 }
 
+/* A name is spent by a transfer, and the new one is a name of the other pool alone. */
+static void test_transferred(void)
+{
+	struct scene scene = scene_of(7), other = scene_of(8);
+	struct strm_msg a = message(&scene.pool, "a"), moved;
+
+	ANSWERS(strm_transfer(&scene.pool, &other.pool, a, &moved), STRM_OK);
+	try_name(&scene, a);
+	try_name(&other, a);
+	try_name(&scene, moved);
+	CHECK(has_bytes(&other.pool, moved, "a"));
+	ANSWERS(strm_close(&other.pool), STRM_OK);
+	ANSWERS(strm_close(&scene.pool), STRM_OK);
+}
+
 static void test_foreign(void)
 {
 	struct scene scene = scene_of(7), other = scene_of(8);
@@ -273,8 +319,8 @@ static void test_foreign(void)
 
 static void try_handle(struct strm_pool *bad)
 {
-	struct strm_msg msg = STRM_NO_MSG;
-	struct strm_pool before;
+	struct strm_pool before, open = opened(6);
+	struct strm_msg msg = STRM_NO_MSG, held = message(&open, "held");
 
 	memset(&before, 0, sizeof before);
 	if (bad != NULL)
@@ -297,17 +343,38 @@ static void try_handle(struct strm_pool *bad)
 	ANSWERS(strm_msgdsize(bad, msg, NULL), STRM_NOT_OPEN);
 	ANSWERS(strm_block(bad, msg, 0, NULL), STRM_NOT_OPEN);
 	ANSWERS(strm_has(bad, msg, NULL), STRM_NOT_OPEN);
+	ANSWERS(strm_blocks(bad, msg, 0, NULL, 1, NULL), STRM_NOT_OPEN);
+	ANSWERS(strm_name_at(bad, 0, NULL), STRM_NOT_OPEN);
+	ANSWERS(strm_bytes(bad, msg, 0, NULL, NULL), STRM_NOT_OPEN);
+	ANSWERS(strm_iov(bad, msg, 0, NULL, 1, NULL), STRM_NOT_OPEN);
+	ANSWERS(strm_place(bad, msg, 0, NULL), STRM_NOT_OPEN);
+	ANSWERS(strm_overwrite(bad, msg, 0, NULL, 1), STRM_NOT_OPEN);
+	ANSWERS(strm_reserve(bad, msg, 0, 0), STRM_NOT_OPEN);
+	ANSWERS(strm_prepend(bad, msg, NULL, 1), STRM_NOT_OPEN);
+	ANSWERS(strm_advance(bad, msg, 0, 0), STRM_NOT_OPEN);
 	ANSWERS(strm_linkb(bad, msg, msg), STRM_NOT_OPEN);
 	ANSWERS(strm_unlinkb(bad, msg, NULL), STRM_NOT_OPEN);
 	ANSWERS(strm_rmvb(bad, msg, 0, NULL, NULL), STRM_NOT_OPEN);
 	ANSWERS(strm_adjmsg(bad, msg, 0), STRM_NOT_OPEN);
 	ANSWERS(strm_pullupmsg(bad, msg, 0), STRM_NOT_OPEN);
+	ANSWERS(strm_transfer(bad, bad, msg, NULL), STRM_NOT_OPEN);
+	ANSWERS(strm_transfer(bad, &open, msg, NULL), STRM_NOT_OPEN);
+	ANSWERS(strm_transfer(&open, bad, msg, NULL), STRM_NOT_OPEN);
+	ANSWERS(strm_transfer(&open, bad, held, &msg), STRM_NOT_OPEN);
 	ANSWERS(strm_putq(bad, 0, msg), STRM_NOT_OPEN);
 	ANSWERS(strm_putbq(bad, 0, msg), STRM_NOT_OPEN);
 	ANSWERS(strm_insq(bad, 0, 0, msg), STRM_NOT_OPEN);
 	ANSWERS(strm_getq(bad, 0, NULL), STRM_NOT_OPEN);
 	ANSWERS(strm_rmvq(bad, 0, 0, NULL), STRM_NOT_OPEN);
 	ANSWERS(strm_qsize(bad, 0, NULL), STRM_NOT_OPEN);
+	ANSWERS(strm_queued_at(bad, 0, 0, NULL), STRM_NOT_OPEN);
+	ANSWERS(strm_read_queued(bad, 0, 0, 0, NULL, 1, NULL), STRM_NOT_OPEN);
+	ANSWERS(strm_first_queued(bad, 0, NULL), STRM_NOT_OPEN);
+	ANSWERS(strm_queued_after(bad, 0, NULL), STRM_NOT_OPEN);
+	ANSWERS(strm_allocb_n(bad, 1, NULL, 1, NULL), STRM_NOT_OPEN);
+	ANSWERS(strm_freemsg_n(bad, NULL, 1, NULL), STRM_NOT_OPEN);
+	ANSWERS(strm_putq_n(bad, 0, NULL, 1, NULL), STRM_NOT_OPEN);
+	ANSWERS(strm_getq_n(bad, 0, NULL, 1, NULL), STRM_NOT_OPEN);
 	ANSWERS(strm_flushq(bad, 0, 9), STRM_NOT_OPEN);
 	ANSWERS(strm_flushband(bad, 0, 0, 9), STRM_NOT_OPEN);
 	ANSWERS(strm_bcanput(bad, 0, 0, NULL), STRM_NOT_OPEN);
@@ -326,7 +393,10 @@ static void try_handle(struct strm_pool *bad)
 	ANSWERS(strm_class_info(bad, 0, NULL), STRM_NOT_OPEN);
 	ANSWERS(strm_queue_info(bad, 0, NULL), STRM_NOT_OPEN);
 	ANSWERS(strm_band_info(bad, 0, 0, NULL), STRM_NOT_OPEN);
+	ANSWERS(strm_queue_spec(bad, 0, NULL), STRM_NOT_OPEN);
 	CHECK(bad == NULL || memcmp(bad, &before, sizeof before) == 0);
+	CHECK(msg.stamp == 0 && has_bytes(&open, held, "held"));
+	ANSWERS(strm_close(&open), STRM_OK);
 }
 
 static void test_handles(void)
@@ -356,6 +426,87 @@ static void test_handles(void)
 }
 
 /* ---- null pointers, and numbers that are out of range, on an open pool; names come after them */
+
+/* The same for the calls on bytes in place, the looks that fill arrays, and strm_transfer. */
+static void try_arrays(struct strm_pool *pool, struct strm_msg held)
+{
+	struct strm_msg msg = STRM_NO_MSG, out = STRM_NO_MSG;
+	struct strm_pool other = opened(6);
+	struct strm_block_info block;
+	struct strm_iov iov;
+	const uint8_t *bytes = NULL;
+	size_t count = 77, long_length = (size_t)-1 / 2 + 1;
+	char room[4];
+	union {
+		size_t count;
+		const uint8_t *bytes;
+		struct strm_block_info block;
+		struct strm_iov iov;
+		struct strm_msg msg;
+	} both;
+
+	memset(&both, 0xA5, sizeof both);
+	ANSWERS(strm_blocks(pool, held, 0, NULL, 1, &count), STRM_BAD_ARGUMENT);
+	ANSWERS(strm_blocks(pool, held, 0, &block, 1, NULL), STRM_BAD_ARGUMENT);
+	ANSWERS(strm_blocks(pool, held, 0, NULL, 0, NULL), STRM_BAD_ARGUMENT);
+	ANSWERS(strm_blocks(pool, held, 0, &block, long_length, &count), STRM_BAD_ARGUMENT);
+	ANSWERS(strm_blocks(pool, held, 0, &block, long_length / sizeof block + 1, &count), STRM_BAD_ARGUMENT);
+	ANSWERS(strm_blocks(pool, msg, 0, &block, (size_t)-1, &count), STRM_BAD_ARGUMENT);
+	ANSWERS(strm_blocks(pool, held, 0, &both.block, 1, &both.count), STRM_BAD_ARGUMENT);
+	ANSWERS(strm_iov(pool, held, 0, NULL, 1, &count), STRM_BAD_ARGUMENT);
+	ANSWERS(strm_iov(pool, held, 0, &iov, 1, NULL), STRM_BAD_ARGUMENT);
+	ANSWERS(strm_iov(pool, held, 0, NULL, 0, NULL), STRM_BAD_ARGUMENT);
+	ANSWERS(strm_iov(pool, held, 0, &iov, long_length, &count), STRM_BAD_ARGUMENT);
+	ANSWERS(strm_iov(pool, held, 0, &iov, long_length / sizeof iov, &count), STRM_BAD_ARGUMENT);
+	ANSWERS(strm_iov(pool, msg, 0, &iov, (size_t)-1, &count), STRM_BAD_ARGUMENT);
+	ANSWERS(strm_iov(pool, held, 0, &both.iov, 1, &both.count), STRM_BAD_ARGUMENT);
+	ANSWERS(strm_bytes(pool, held, 0, NULL, &count), STRM_BAD_ARGUMENT);
+	ANSWERS(strm_bytes(pool, held, 0, &bytes, NULL), STRM_BAD_ARGUMENT);
+	ANSWERS(strm_bytes(pool, msg, 9, &both.bytes, &both.count), STRM_BAD_ARGUMENT);
+	ANSWERS(strm_place(pool, msg, 0, NULL), STRM_BAD_ARGUMENT);
+	ANSWERS(strm_overwrite(pool, held, 0, NULL, 1), STRM_BAD_ARGUMENT);
+	ANSWERS(strm_overwrite(pool, held, 0, "x", long_length), STRM_BAD_ARGUMENT);
+	ANSWERS(strm_overwrite(pool, msg, 0, "x", (size_t)-1), STRM_BAD_ARGUMENT);
+	ANSWERS(strm_prepend(pool, held, NULL, 1), STRM_BAD_ARGUMENT);
+	ANSWERS(strm_prepend(pool, held, "x", long_length), STRM_BAD_ARGUMENT);
+	ANSWERS(strm_prepend(pool, msg, "x", (size_t)-1), STRM_BAD_ARGUMENT);
+	ANSWERS(strm_name_at(pool, held.head, NULL), STRM_BAD_ARGUMENT);
+	ANSWERS(strm_queued_at(pool, 9, 9, NULL), STRM_BAD_ARGUMENT);
+	ANSWERS(strm_read_queued(pool, 1, 0, 0, NULL, 1, &count), STRM_BAD_ARGUMENT);
+	ANSWERS(strm_read_queued(pool, 1, 0, 0, room, sizeof room, NULL), STRM_BAD_ARGUMENT);
+	ANSWERS(strm_read_queued(pool, 9, 0, 0, room, long_length, &count), STRM_BAD_ARGUMENT);
+	ANSWERS(strm_read_queued(pool, 1, 0, 0, &both, sizeof both, &both.count), STRM_BAD_ARGUMENT);
+	ANSWERS(strm_first_queued(pool, 9, NULL), STRM_BAD_ARGUMENT);
+	ANSWERS(strm_queued_after(pool, 99, NULL), STRM_BAD_ARGUMENT);
+	ANSWERS(strm_queue_spec(pool, 9, NULL), STRM_BAD_ARGUMENT);
+	ANSWERS(strm_allocb_n(pool, 1, NULL, 1, &count), STRM_BAD_ARGUMENT);
+	ANSWERS(strm_allocb_n(pool, 1, &out, 1, NULL), STRM_BAD_ARGUMENT);
+	ANSWERS(strm_allocb_n(pool, 1, &out, long_length / sizeof out, &count), STRM_BAD_ARGUMENT);
+	ANSWERS(strm_allocb_n(pool, 1, &both.msg, 1, &both.count), STRM_BAD_ARGUMENT);
+	ANSWERS(strm_freemsg_n(pool, NULL, 1, &count), STRM_BAD_ARGUMENT);
+	ANSWERS(strm_freemsg_n(pool, &held, 1, NULL), STRM_BAD_ARGUMENT);
+	ANSWERS(strm_freemsg_n(pool, &held, long_length / sizeof held, &count), STRM_BAD_ARGUMENT);
+	ANSWERS(strm_putq_n(pool, 9, NULL, 1, &count), STRM_BAD_ARGUMENT);
+	ANSWERS(strm_putq_n(pool, 9, &held, 1, NULL), STRM_BAD_ARGUMENT);
+	ANSWERS(strm_putq_n(pool, 1, &held, long_length / sizeof held, &count), STRM_BAD_ARGUMENT);
+	ANSWERS(strm_getq_n(pool, 9, NULL, 1, &count), STRM_BAD_ARGUMENT);
+	ANSWERS(strm_getq_n(pool, 1, &out, 1, NULL), STRM_BAD_ARGUMENT);
+	ANSWERS(strm_getq_n(pool, 1, &out, long_length / sizeof out, &count), STRM_BAD_ARGUMENT);
+	ANSWERS(strm_getq_n(pool, 1, &both.msg, 1, &both.count), STRM_BAD_ARGUMENT);
+	ANSWERS(strm_transfer(pool, &other, held, NULL), STRM_BAD_ARGUMENT);
+	ANSWERS(strm_transfer(pool, pool, held, &out), STRM_BAD_ARGUMENT);
+	ANSWERS(strm_transfer(pool, pool, msg, NULL), STRM_BAD_ARGUMENT);
+	CHECK(count == 77 && bytes == NULL && out.stamp == 0);
+	/* places of results that are equal do not count where the length is 0 */
+	ANSWERS(strm_blocks(pool, held, 0, &both.block, 0, &both.count), STRM_OK);
+	CHECK(both.count == 0);
+	ANSWERS(strm_iov(pool, held, 0, &both.iov, 0, &both.count), STRM_OK);
+	ANSWERS(strm_read_queued(pool, 1, 0, 0, &both, 0, &both.count), STRM_OK);
+	ANSWERS(strm_allocb_n(pool, 1, &both.msg, 0, &both.count), STRM_OK);
+	ANSWERS(strm_getq_n(pool, 1, &both.msg, 0, &both.count), STRM_OK);
+	CENSUS(&other, 8, 0, 0);
+	ANSWERS(strm_close(&other), STRM_OK);
+}
 
 static void test_arguments(void)
 {
@@ -419,6 +570,7 @@ static void test_arguments(void)
 	ANSWERS(strm_queue_info(pool, 0, NULL), STRM_BAD_ARGUMENT);
 	ANSWERS(strm_band_info(pool, 0, 0, NULL), STRM_BAD_ARGUMENT);
 	ANSWERS(strm_band_info(pool, 0, 256, &band), STRM_BAD_ARGUMENT);
+	try_arrays(pool, scene.held);
 	CHECK(strm_text(0, NULL, 1) == 0 && strm_name(0, NULL, 1) == 0 && strm_version(NULL, 1) == 0);
 	CHECK(out.stamp == 0);
 	look(pool, &scene.held, 1, &after);
@@ -457,6 +609,7 @@ int main(void)
 	test_spent();
 	test_queued();
 	test_others();
+	test_transferred();
 	test_foreign();
 	test_handles();
 	test_arguments();

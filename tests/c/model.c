@@ -277,6 +277,18 @@ struct strm_block_info model_block(const struct model *v, int reg, uint32_t plac
 	return info;
 }
 
+struct strm_block_place model_place(const struct model *v, int reg, uint32_t place)
+{
+	const struct cell *cell = cell_at(v->registers[reg], place);
+	struct strm_block_place where;
+
+	where.data = (uint32_t)(cell->datum - v->all_data);
+	where.at = cell->read;
+	where.length = cell->write - cell->read;
+	where.capacity = capacity(v, cell->datum);
+	return where;
+}
+
 uint32_t model_size(const struct model *v, int reg)
 {
 	return bytes_in(v->registers[reg]);
@@ -513,42 +525,53 @@ static int exceeds_references(const struct model *v, const struct cell *m, uint3
 	return 0;
 }
 
-/* Copies the data of the first `count` blocks of a message, all or none. */
-static int copies_taken(struct model *v, const struct cell *m, uint32_t count, struct datum **copies)
+/* The copies that were taken last. */
+static struct datum *copies[STRM_MOST_MBLKS];
+
+/* Copies the data of the first `count` blocks of a message of the pool `from`, all or none. If none, free data blocks keep their bytes. */
+static int copies_taken(struct model *v, const struct model *from, const struct cell *m, uint32_t count)
 {
+	const struct cell *cell;
 	uint32_t i;
 
-	for (i = 0; i < count; i++, m = m->next) {
-		copies[i] = datum_taken(v, capacity(v, m->datum), m->datum->type);
+	for (i = 0, cell = m; i < count; i++, cell = cell->next) {
+		copies[i] = datum_taken(v, capacity(from, cell->datum), cell->datum->type);
 		if (copies[i] == NULL) {
 			while (i-- > 0)
 				datum_freed(v, copies[i]);
 			return 0;
 		}
-		memcpy(copies[i]->bytes + m->read, m->datum->bytes + m->read, m->write - m->read);
 	}
+	for (i = 0, cell = m; i < count; i++, cell = cell->next)
+		memcpy(copies[i]->bytes + cell->read, cell->datum->bytes + cell->read, cell->write - cell->read);
 	return 1;
+}
+
+/* A message of `count` new blocks, with the places and bands of those of a message, over the same data or over the copies. */
+static struct cell *cells_like(struct model *v, const struct cell *m, uint32_t count, int is_copy)
+{
+	struct cell *made = NULL, **end = &made;
+	uint32_t i;
+
+	for (i = 0; i < count; i++, m = m->next) {
+		*end = cell_taken(v, is_copy ? copies[i] : m->datum, m->read, m->write, m->band);
+		end = &(*end)->next;
+	}
+	return made;
 }
 
 /* Makes a message of `count` new blocks, over the same data or over copies. */
 static struct reply duplicated(struct model *v, const struct call *call, uint32_t count, int is_copy)
 {
-	static struct datum *copies[STRM_MOST_MBLKS];
 	const struct cell *from = v->registers[call->x];
-	struct cell *made = NULL, **end = &made;
-	uint32_t i;
 
 	if (length_of(v->free_cells) < count)
 		return refused(STRM_NO_MBLK);
 	if (!is_copy && exceeds_references(v, from, count))
 		return refused(STRM_REF_MAX);
-	if (is_copy && !copies_taken(v, from, count, copies))
+	if (is_copy && !copies_taken(v, v, from, count))
 		return refused(STRM_NO_DATA);
-	for (i = 0; i < count; i++, from = from->next) {
-		*end = cell_taken(v, is_copy ? copies[i] : from->datum, from->read, from->write, from->band);
-		end = &(*end)->next;
-	}
-	v->registers[call->y] = made;
+	v->registers[call->y] = cells_like(v, from, count, is_copy);
 	return reply_of(DONE);
 }
 
@@ -579,6 +602,75 @@ static struct reply written(struct model *v, const struct call *call)
 		return refused(STRM_NO_ROOM);
 	memcpy(cell->datum->bytes + cell->write, call->octets, call->length);
 	cell->write += call->length;
+	return reply_of(DONE);
+}
+
+/* Why a block's data block may not change: there is no such block, or another block refers to it, too. 0 if it may. */
+static int why_not_own(const struct model *v, const struct cell *cell)
+{
+	if (cell == NULL)
+		return STRM_NO_SUCH_BLOCK;
+	return references_to(v, cell->datum) > 1 ? STRM_SHARED : 0;
+}
+
+/* Goes over the bytes one by one, first to look whether each may change, and then to change them. */
+static struct reply overwritten(struct model *v, const struct call *call)
+{
+	struct cell *cell;
+	uint32_t at, i;
+	int writes;
+
+	if (bytes_in(v->registers[call->x]) < call->place + call->length)
+		return refused(STRM_SHORT);
+	for (writes = 0; writes < 2; writes++)
+		for (at = 0, cell = v->registers[call->x]; cell != NULL; cell = cell->next)
+			for (i = cell->read; i < cell->write; i++, at++) {
+				if (at < call->place || at - call->place >= call->length)
+					continue;
+				if (writes)
+					cell->datum->bytes[i] = call->octets[at - call->place];
+				else if (references_to(v, cell->datum) > 1)
+					return refused(STRM_SHARED);
+			}
+	return reply_of(DONE);
+}
+
+static struct reply reserved(struct model *v, const struct call *call)
+{
+	struct cell *cell = cell_at(v->registers[call->x], call->place);
+	int why = why_not_own(v, cell);
+
+	if (why != 0)
+		return refused(why);
+	if (cell->read < cell->write || call->number > capacity(v, cell->datum))
+		return refused(STRM_NO_ROOM);
+	cell->read = cell->write = call->number;
+	return reply_of(DONE);
+}
+
+static struct reply prepended(struct model *v, const struct call *call)
+{
+	struct cell *first = v->registers[call->x];
+
+	if (references_to(v, first->datum) > 1)
+		return refused(STRM_SHARED);
+	if (first->read < call->length)
+		return refused(STRM_NO_ROOM);
+	first->read -= call->length;
+	memcpy(first->datum->bytes + first->read, call->octets, call->length);
+	return reply_of(DONE);
+}
+
+static struct reply advanced(struct model *v, const struct call *call)
+{
+	struct cell *cell = cell_at(v->registers[call->x], call->place);
+	int why = why_not_own(v, cell);
+
+	if (why != 0)
+		return refused(why);
+	if (call->number > capacity(v, cell->datum) - cell->write)
+		return refused(STRM_NO_ROOM);
+	cell->write += call->number;
 	return reply_of(DONE);
 }
 
@@ -700,17 +792,71 @@ static struct reply pulled_up(struct model *v, const struct call *call)
 
 static struct reply block_told(const struct model *v, const struct call *call)
 {
-	struct reply reply = reply_of(TOLD_BLOCK);
 	struct strm_block_info info;
 
 	if (cell_at(v->registers[call->x], call->place) == NULL)
 		return refused(STRM_NO_SUCH_BLOCK);
 	info = model_block(v, call->x, call->place);
-	reply.numbers[0] = info.type;
-	reply.numbers[1] = info.length;
-	reply.numbers[2] = info.band;
-	reply.numbers[3] = info.room;
-	reply.numbers[4] = info.names;
+	return told_block(&info);
+}
+
+static struct reply blocks_told(const struct model *v, const struct call *call)
+{
+	struct reply reply = reply_of(TOLD_BLOCKS);
+	uint32_t count = 0;
+
+	for (; count < call->items && cell_at(v->registers[call->x], call->place + count) != NULL; count++) {
+		struct strm_block_info info = model_block(v, call->x, call->place + count);
+
+		put_block(&reply, 1 + 5 * (int)count, &info);
+	}
+	reply.numbers[0] = count;
+	return reply;
+}
+
+/* The bytes of one block; of more than MOST_OCTETS bytes a reply has the first. */
+static struct reply bytes_of_block_told(const struct model *v, const struct call *call)
+{
+	const struct cell *cell = cell_at(v->registers[call->x], call->place);
+	struct reply reply = reply_of(TOLD_BYTES);
+	uint32_t i;
+
+	if (cell == NULL)
+		return refused(STRM_NO_SUCH_BLOCK);
+	reply.numbers[0] = cell->write - cell->read;
+	for (i = 0; i < reply.numbers[0] && i < MOST_OCTETS; i++)
+		reply.octets[i] = cell->datum->bytes[cell->read + i];
+	return reply;
+}
+
+/* The lengths of some blocks, and the first of their bytes. */
+static struct reply iov_told(const struct model *v, const struct call *call)
+{
+	const struct cell *cell = cell_at(v->registers[call->x], call->place);
+	struct reply reply = reply_of(TOLD_IOV);
+	uint32_t count = 0, had = 0, i;
+
+	for (; count < call->items && cell != NULL; count++, cell = cell->next) {
+		reply.numbers[1 + count] = cell->write - cell->read;
+		for (i = cell->read; i < cell->write && had < MOST_OCTETS; i++)
+			reply.octets[had++] = cell->datum->bytes[i];
+	}
+	reply.numbers[0] = count;
+	return reply;
+}
+
+static struct reply place_told(const struct model *v, const struct call *call)
+{
+	struct reply reply = reply_of(TOLD_PLACE);
+	struct strm_block_place where;
+
+	if (cell_at(v->registers[call->x], call->place) == NULL)
+		return refused(STRM_NO_SUCH_BLOCK);
+	where = model_place(v, call->x, call->place);
+	reply.numbers[0] = where.data;
+	reply.numbers[1] = where.at;
+	reply.numbers[2] = where.length;
+	reply.numbers[3] = where.capacity;
 	return reply;
 }
 
@@ -774,6 +920,22 @@ static struct reply act_on_messages(struct model *v, const struct call *call)
 		return bytes_told(v, call);
 	case BLOCK:
 		return block_told(v, call);
+	case BLOCKS:
+		return blocks_told(v, call);
+	case BYTES:
+		return bytes_of_block_told(v, call);
+	case IOV:
+		return iov_told(v, call);
+	case PLACE:
+		return place_told(v, call);
+	case OVERWRITE:
+		return overwritten(v, call);
+	case RESERVE:
+		return reserved(v, call);
+	case PREPEND:
+		return prepended(v, call);
+	case ADVANCE:
+		return advanced(v, call);
 	case FREEB:
 		v->registers[call->x] = m->next;
 		m->next = NULL;
@@ -863,6 +1025,62 @@ static struct reply asked_for_room(struct model *v, uint32_t q, uint32_t band)
 	return reply_of(NO);
 }
 
+struct strm_queued model_queued(const struct model *v, uint32_t queue, uint32_t place)
+{
+	const struct item *item = v->queues[queue].items;
+	struct strm_queued queued;
+
+	for (; place > 0; place--)
+		item = item->next;
+	queued.head = item->message->number;
+	queued.type = item->message->datum->type;
+	queued.band = item->message->band;
+	queued.bytes = bytes_in(item->message);
+	queued.blocks = length_of(item->message);
+	return queued;
+}
+
+static struct reply queued_told(struct model *v, const struct call *call)
+{
+	struct reply reply = reply_of(TOLD_QUEUED);
+	struct strm_queued queued;
+
+	if (*link_at(v, call->queue, call->place) == NULL)
+		return refused(STRM_NO_SUCH_PLACE);
+	queued = model_queued(v, call->queue, call->place);
+	reply.numbers[0] = queued.head;
+	reply.numbers[1] = queued.type;
+	reply.numbers[2] = queued.band;
+	reply.numbers[3] = queued.bytes;
+	reply.numbers[4] = queued.blocks;
+	return reply;
+}
+
+static struct reply queued_bytes_told(struct model *v, const struct call *call)
+{
+	struct item **at = link_at(v, call->queue, call->place);
+	struct reply reply = reply_of(TOLD_BYTES);
+
+	if (*at == NULL)
+		return refused(STRM_NO_SUCH_PLACE);
+	reply.numbers[0] = bytes_read((*at)->message, call->number, reply.octets, MOST_OCTETS);
+	return reply;
+}
+
+static struct reply head_told(const struct item *item)
+{
+	return item != NULL ? told(TOLD_HEAD, item->message->number, 0) : reply_of(NOTHING);
+}
+
+static struct reply spec_told(const struct strm_queue_spec *spec)
+{
+	struct reply reply = told(TOLD_SPEC, spec->hiwat, spec->lowat);
+
+	reply.numbers[2] = spec->service != 0;
+	reply.numbers[3] = spec->next;
+	return reply;
+}
+
 static struct reply act_on_queue(struct model *v, const struct call *call)
 {
 	struct line *line = &v->queues[call->queue];
@@ -889,6 +1107,14 @@ static struct reply act_on_queue(struct model *v, const struct call *call)
 		return told(TOLD_MARKS, line->marks[call->band].hiwat, line->marks[call->band].lowat);
 	case QSIZE:
 		return told(TOLD_SIZE, model_queue(v, call->queue).msgs, 0);
+	case QUEUED_AT:
+		return queued_told(v, call);
+	case READ_QUEUED:
+		return queued_bytes_told(v, call);
+	case FIRST_QUEUED:
+		return head_told(line->items);
+	case QUEUE_SPEC:
+		return spec_told(&line->spec);
 	case QENABLE:
 		enabled(v, call->queue);
 		return reply_of(DONE);
@@ -952,6 +1178,48 @@ static struct reply wish_taken(struct model *v, const struct call *call)
 	return call->verb == UNBUFCALL ? refused(STRM_NOT_PENDING) : reply_of(NOTHING);
 }
 
+/* The register that holds a message whose first block has this number. */
+static struct reply name_told(const struct model *v, uint32_t head)
+{
+	uint32_t reg;
+
+	for (reg = 0; reg < REGISTERS; reg++)
+		if (v->registers[reg] != NULL && v->registers[reg]->number == head)
+			return told(TOLD_NAME, reg, 0);
+	return reply_of(NOTHING);
+}
+
+/* The message after the queued one whose first block has this number. */
+static struct reply after_told(const struct model *v, uint32_t head)
+{
+	const struct item *item;
+	uint32_t q;
+
+	for (q = 0; q < v->queue_count; q++)
+		for (item = v->queues[q].items; item != NULL; item = item->next)
+			if (item->message->number == head)
+				return head_told(item->next);
+	return refused(STRM_NO_SUCH_PLACE);
+}
+
+/* Makes the message anew in the other pool, and frees it here. */
+static struct reply transferred(struct model *v, struct model *other, const struct call *call)
+{
+	struct cell *m = v->registers[call->x];
+	const struct cell *cell;
+
+	for (cell = m; cell != NULL; cell = cell->next)
+		if (is_too_large(other, capacity(v, cell->datum)))
+			return refused(STRM_TOO_LARGE);
+	if (length_of(other->free_cells) < length_of(m))
+		return refused(STRM_NO_MBLK);
+	if (!copies_taken(other, v, m, length_of(m)))
+		return refused(STRM_NO_DATA);
+	other->registers[call->y] = cells_like(other, m, length_of(m), 1);
+	cells_freed(v, picked(v, call->x));
+	return reply_of(DONE);
+}
+
 static struct reply act_on_pool(struct model *v, const struct call *call)
 {
 	struct strm_census census = model_census(v);
@@ -966,6 +1234,10 @@ static struct reply act_on_pool(struct model *v, const struct call *call)
 		return wished(v, call);
 	case UNBUFCALL: case READY:
 		return wish_taken(v, call);
+	case NAME_AT:
+		return name_told(v, call->number);
+	case QUEUED_AFTER:
+		return after_told(v, call->number);
 	default:
 		reply = told(TOLD_CENSUS, census.free, census.queued);
 		reply.numbers[2] = census.held;
@@ -973,10 +1245,59 @@ static struct reply act_on_pool(struct model *v, const struct call *call)
 	}
 }
 
-struct reply model_apply(struct model *v, const struct call *call)
+/* The single call that a call on several messages makes one after another. */
+static enum verb single_of(enum verb verb)
+{
+	switch (verb) {
+	case ALLOCB_N: return ALLOCB;
+	case FREEMSG_N: return FREEMSG;
+	case PUTQ_N: return PUTQ;
+	default: return GETQ;
+	}
+}
+
+/* Whether a register that should get a message has one, or should get another too. */
+static int is_some_taken(const struct model *v, const struct call *call)
+{
+	uint32_t i, j;
+
+	for (i = 0; i < call->items; i++) {
+		if (v->registers[call->many[i]] != NULL)
+			return 1;
+		for (j = 0; j < i; j++)
+			if (call->many[i] == call->many[j])
+				return 1;
+	}
+	return 0;
+}
+
+/* Makes single calls up to the first that is not done. If that is the very first, its reply is the reply. */
+static struct reply done_one_by_one(struct model *v, const struct call *call)
+{
+	struct call single = *call;
+	struct reply reply;
+	uint32_t count;
+
+	if (strchr(forms[call->verb].names, 'p') != NULL && is_some_taken(v, call))
+		return reply_of(TAKEN);
+	single.verb = single_of(call->verb);
+	for (count = 0; count < call->items; count++) {
+		single.x = single.y = call->many[count];
+		reply = model_apply(v, v, &single);
+		if (reply.kind != DONE && count == 0)
+			return reply;
+		if (reply.kind != DONE)
+			break;
+	}
+	return told(TOLD_COUNT, count, 0);
+}
+
+struct reply model_apply(struct model *v, struct model *other, const struct call *call)
 {
 	const char *names = forms[call->verb].names;
 
+	if (strpbrk(names, "gp") != NULL)
+		return done_one_by_one(v, call);
 	if (strchr(names, 'q') != NULL && call->queue >= v->queue_count)
 		return refused(STRM_NO_SUCH_QUEUE);
 	if (strchr(names, 'x') != NULL && v->registers[call->x] == NULL)
@@ -985,6 +1306,8 @@ struct reply model_apply(struct model *v, const struct call *call)
 		return reply_of(EMPTY);
 	if (strchr(names, 'y') != NULL && v->registers[call->y] != NULL)
 		return reply_of(TAKEN);
+	if (strchr(names, 'w') != NULL)
+		return other->registers[call->y] != NULL ? reply_of(TAKEN) : transferred(v, other, call);
 	if (strchr(names, 'q') != NULL)
 		return act_on_queue(v, call);
 	if (strpbrk(names, "xy") != NULL)

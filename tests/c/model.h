@@ -13,16 +13,20 @@ struct model;
 struct model *model_open(const struct strm_config *config);
 void model_close(struct model *model);
 
-/* Does a call. Refusals come in the order that a script has. */
-struct reply model_apply(struct model *model, const struct call *call);
+/* Does a call, with the other pool for a call that hands a message to it. Refusals come in the order that a script has. */
+struct reply model_apply(struct model *model, struct model *other, const struct call *call);
 
 /* The number of blocks of the message in a register (0 if it holds none), the number of its first block, and what calls report of it. */
 uint32_t model_blocks(const struct model *model, int reg);
 uint32_t model_head(const struct model *model, int reg);
 struct strm_block_info model_block(const struct model *model, int reg, uint32_t place);
+struct strm_block_place model_place(const struct model *model, int reg, uint32_t place);
 uint32_t model_size(const struct model *model, int reg);
 uint32_t model_msgdsize(const struct model *model, int reg);
 uint32_t model_read(const struct model *model, int reg, uint32_t at, uint8_t *into, uint32_t length);
+
+/* What a call reports of the message at a place of a queue, which has one there. */
+struct strm_queued model_queued(const struct model *model, uint32_t queue, uint32_t place);
 
 struct strm_census model_census(const struct model *model);
 struct strm_class_info model_class(const struct model *model, uint32_t place);

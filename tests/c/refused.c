@@ -98,19 +98,58 @@ static void call_on_messages(struct strm_pool *pool)
 	ANSWERS(strm_freemsg(pool, msg), STRM_OK);
 }
 
+/* Makes each call on bytes in place, with what it needs, and hands a message to another pool and back. Leaves no message. */
+static void call_in_place(struct strm_pool *pool, struct strm_pool *other)
+{
+	struct strm_msg msg, found;
+	struct strm_block_info block;
+	struct strm_block_place where;
+	struct strm_iov iov;
+	const uint8_t *bytes;
+	size_t count;
+
+	ANSWERS(strm_allocb(pool, 16, &msg), STRM_OK);
+	ANSWERS(strm_reserve(pool, msg, 0, 4), STRM_OK);
+	ANSWERS(strm_advance(pool, msg, 0, 4), STRM_OK);
+	ANSWERS(strm_overwrite(pool, msg, 0, "lion", 4), STRM_OK);
+	ANSWERS(strm_prepend(pool, msg, "one ", 4), STRM_OK);
+	ANSWERS(strm_blocks(pool, msg, 0, &block, 1, &count), STRM_OK);
+	ANSWERS(strm_bytes(pool, msg, 0, &bytes, &count), STRM_OK);
+	ANSWERS(strm_iov(pool, msg, 0, &iov, 1, &count), STRM_OK);
+	ANSWERS(strm_place(pool, msg, 0, &where), STRM_OK);
+	ANSWERS(strm_name_at(pool, msg.head, &found), STRM_OK);
+	ANSWERS(strm_transfer(pool, other, msg, &msg), STRM_OK);
+	ANSWERS(strm_transfer(other, pool, msg, &msg), STRM_OK);
+	CHECK(has_bytes(pool, msg, "one lion"));
+	ANSWERS(strm_freemsg(pool, msg), STRM_OK);
+}
+
 /* Makes each call on queues and wishes, with what it needs, and leaves no message. */
 static void call_on_queues(struct strm_pool *pool)
 {
-	struct strm_msg msg;
+	struct strm_msg msg, several[2];
 	struct strm_queue_info queue;
 	struct strm_band_info band;
 	struct strm_marks marks;
 	struct strm_class_info info;
+	struct strm_queued queued;
+	struct strm_queue_spec spec;
 	struct strm_wish wish;
-	uint32_t number;
+	uint32_t number, after;
+	size_t count;
+	char byte;
 
 	ANSWERS(strm_putq(pool, 0, message(pool, "a")), STRM_OK);
 	ANSWERS(strm_insq(pool, 0, 1, message(pool, "b")), STRM_OK);
+	ANSWERS(strm_queued_at(pool, 0, 1, &queued), STRM_OK);
+	ANSWERS(strm_read_queued(pool, 0, 1, 0, &byte, 1, &count), STRM_OK);
+	ANSWERS(strm_first_queued(pool, 0, &number), STRM_OK);
+	ANSWERS(strm_queued_after(pool, number, &after), STRM_OK);
+	ANSWERS(strm_queue_spec(pool, 0, &spec), STRM_OK);
+	ANSWERS(strm_getq_n(pool, 0, several, 2, &count), STRM_OK);
+	ANSWERS(strm_putq_n(pool, 0, several, 2, &count), STRM_OK);
+	ANSWERS(strm_allocb_n(pool, 16, several, 2, &count), STRM_OK);
+	ANSWERS(strm_freemsg_n(pool, several, 2, &count), STRM_OK);
 	ANSWERS(strm_getq(pool, 0, &msg), STRM_OK);
 	ANSWERS(strm_putbq(pool, 0, msg), STRM_OK);
 	ANSWERS(strm_qsize(pool, 0, &number), STRM_OK);
@@ -141,8 +180,9 @@ int main(void)
 	static const struct strm_class_spec classes[] = { { 16, 8 } };
 	static const struct strm_queue_spec queues[] = { { 10, 4, 1, STRM_NO_QUEUE } };
 	struct strm_config config;
-	struct strm_pool pool;
+	struct strm_pool pool, other = STRM_POOL_INIT;
 	char text[80];
+	long asked_to_open;
 
 	config.id = 7;
 	config.mblks = 8;
@@ -153,13 +193,20 @@ int main(void)
 	config.bufcalls = 2;
 	config.first_id = 1;
 	pool = opened(&config);
+	CHECK(asked == refused - 1);
+	refused = 0;
+	config.id = 8;
+	ANSWERS(strm_open(&other, &config), STRM_OK);
+	asked_to_open = asked;
 	call_on_messages(&pool);
+	call_in_place(&pool, &other);
 	call_on_queues(&pool);
 	CENSUS(&pool, 8, 0, 0);
 	CHECK(strm_text(STRM_NO_MEMORY, text, sizeof text) > 0 && strm_name(STRM_OK, text, sizeof text) > 0);
 	CHECK(strm_version(text, sizeof text) > 0);
-	CHECK(asked == refused - 1);
+	CHECK(asked == asked_to_open);
 	ANSWERS(strm_close(&pool), STRM_OK);
+	ANSWERS(strm_close(&other), STRM_OK);
 	CHECK(kept == 0);
 	return summary();
 }

@@ -13,7 +13,7 @@ static unsigned char stack[1 << 16] __attribute__((aligned(4096)));
 /* What the thread calls, and where its stack is then. */
 static void (*calls)(void);
 static unsigned char *volatile begun;
-static struct strm_pool pool;
+static struct strm_pool pool, other;
 
 static void *run(void *nothing)
 {
@@ -45,6 +45,44 @@ static void open_pool(void)
 	static const struct strm_config config = { 1, 16, classes, 2, queues, 2, 2, 1 };
 
 	ANSWERS(strm_open(&pool, &config), STRM_OK);
+	ANSWERS(strm_open(&other, &config), STRM_OK);
+}
+
+/* Its variables are not on the stack, since strm_blocks uses nearly all that is allowed. */
+static void make_calls_in_place(void)
+{
+	static struct strm_msg msg, several[2];
+	static struct strm_block_info blocks[2];
+	static struct strm_block_place where;
+	static struct strm_iov iov[2];
+	static struct strm_queued queued;
+	static struct strm_queue_spec spec;
+	static const uint8_t *lent;
+	static uint32_t number;
+	static char bytes[16];
+	static size_t count;
+
+	strm_allocb(&pool, 64, &msg);
+	strm_reserve(&pool, msg, 0, 16);
+	strm_advance(&pool, msg, 0, 16);
+	strm_prepend(&pool, msg, bytes, sizeof bytes);
+	strm_overwrite(&pool, msg, 8, bytes, sizeof bytes);
+	strm_blocks(&pool, msg, 0, blocks, 2, &count);
+	strm_bytes(&pool, msg, 0, &lent, &count);
+	strm_iov(&pool, msg, 0, iov, 2, &count);
+	strm_place(&pool, msg, 0, &where);
+	strm_name_at(&pool, msg.head, &msg);
+	strm_transfer(&pool, &other, msg, &msg);
+	strm_putq(&other, 0, msg);
+	strm_queued_at(&other, 0, 0, &queued);
+	strm_read_queued(&other, 0, 0, 0, bytes, sizeof bytes, &count);
+	strm_first_queued(&other, 0, &number);
+	strm_queued_after(&other, number, &number);
+	strm_queue_spec(&other, 0, &spec);
+	strm_getq_n(&other, 0, several, 2, &count);
+	strm_putq_n(&other, 0, several, count, &count);
+	strm_allocb_n(&other, 16, several, 2, &count);
+	ANSWERS(strm_freemsg_n(&other, several, count, &count), STRM_OK);
 }
 
 static void make_calls(void)
@@ -79,14 +117,16 @@ static void make_calls(void)
 	strm_take_ready(&pool, &wish);
 	strm_error(STRM_OK);
 	ANSWERS(strm_close(&pool), STRM_OK);
+	ANSWERS(strm_close(&other), STRM_OK);
 }
 
 int main(void)
 {
-	size_t opening = depth_of(open_pool), others = depth_of(make_calls);
+	size_t opening = depth_of(open_pool), in_place = depth_of(make_calls_in_place), others = depth_of(make_calls);
 
 	CHECK(1000 < opening && opening <= 11000);
+	CHECK(0 < in_place && in_place < 1000);
 	CHECK(0 < others && others < 1000);
-	printf("strm_open %lu, others %lu bytes\n", (unsigned long)opening, (unsigned long)others);
+	printf("strm_open %lu, calls in place %lu, others %lu bytes\n", (unsigned long)opening, (unsigned long)in_place, (unsigned long)others);
 	return summary();
 }

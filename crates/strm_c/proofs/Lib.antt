@@ -3,3 +3,6 @@ pub mod Steps
 pub mod Meaning
 pub mod AsBox
 pub mod Words
+pub mod Reading
+pub mod BlockArrays
+pub mod Serial

@@ -5,21 +5,27 @@ use Rattle.strm_data.specs.MsgType.{all_types}
 use Rattle.strm_data.specs.declared.msg_type.MsgType.{MsgType}
 use Rattle.strm_data.specs.declared.msg_type.MsgType.TheVariants.{MData, MProto, MBreak, MPassfp, MSig, MDelay, MCtl, MIoctl, MSetopts, MIocack, MIocnak, MPcproto, MPcsig, MRead, MFlush, MStop, MStart, MHangup, MError, MCopyin, MCopyout, MIocdata}
 use Rattle.strm_mblk.specs.declared.block_info.BlockInfo.{BlockInfo}
+use Rattle.strm_mblk.specs.declared.block_place.BlockPlace.{BlockPlace}
 use Rattle.strm_mblk.specs.declared.census.Census.{Census}
 use Rattle.strm_queue.specs.declared.band_info.BandInfo.{BandInfo}
 use Rattle.strm_queue.specs.declared.flush.Flush.{Flush}
 use Rattle.strm_queue.specs.declared.flush.Flush.TheVariants.{All, Data}
 use Rattle.strm_queue.specs.declared.marks.Marks.{Marks}
 use Rattle.strm_queue.specs.declared.queue_info.QueueInfo.{QueueInfo}
+use Rattle.strm_queue.specs.declared.queue_spec.QueueSpec.{QueueSpec}
+use Rattle.strm_queue.specs.declared.queued_info.QueuedInfo.{QueuedInfo}
 use Rattle.strm_pool.specs.PoolValue.{Wish}
 use Rattle.strm_named.specs.declared.name.Name.{Name}
 use Rattle.strm_c.specs.Codes.{Answer}
 use Rattle.strm_c.specs.declared.layout.StrmBandInfo.{StrmBandInfo}
 use Rattle.strm_c.specs.declared.layout.StrmBlockInfo.{StrmBlockInfo}
+use Rattle.strm_c.specs.declared.layout.StrmBlockPlace.{StrmBlockPlace}
 use Rattle.strm_c.specs.declared.layout.StrmCensus.{StrmCensus}
 use Rattle.strm_c.specs.declared.layout.StrmClassInfo.{StrmClassInfo}
 use Rattle.strm_c.specs.declared.layout.StrmMarks.{StrmMarks}
 use Rattle.strm_c.specs.declared.layout.StrmQueueInfo.{StrmQueueInfo}
+use Rattle.strm_c.specs.declared.layout.StrmQueueSpec.{StrmQueueSpec}
+use Rattle.strm_c.specs.declared.layout.StrmQueued.{StrmQueued}
 use Rattle.strm_c.specs.declared.layout.StrmWish.{StrmWish}
 
 -- ---- numbers that C gives
@@ -73,6 +79,20 @@ number_of_type MIocdata = 21
 
 abbrev pub block_in_c : BlockInfo → StrmBlockInfo
 block_in_c b = record { kind = number_of_type b.kind; length = b.len; band = b.band; room = b.room; names = b.names }
+
+abbrev pub place_in_c : BlockPlace → StrmBlockPlace
+place_in_c p = record { «data» = p.«data»; at = p.at; length = p.len; capacity = p.capacity }
+
+abbrev pub queued_in_c : QueuedInfo → StrmQueued
+queued_in_c q = record { head = q.head; kind = number_of_type q.kind; band = q.band; bytes = q.size; blocks = q.blocks }
+
+-- the number of a next queue; 2^32 - 1 means none
+abbrev pub next_in_c : Option ℕ → ℕ
+next_in_c None = 4294967295
+next_in_c (Some q) = q
+
+abbrev pub spec_in_c : QueueSpec → StrmQueueSpec
+spec_in_c s = record { hiwat = s.hiwat; lowat = s.lowat; service = flag s.service; next = next_in_c s.next }
 
 abbrev pub queue_in_c : QueueInfo → StrmQueueInfo
 queue_in_c q = record { msgs = q.msgs; bytes = q.bytes; read = flag q.read; noenable = flag q.noenable; enabled = flag q.enabled }

@@ -2,6 +2,8 @@ pub mod Codes
 pub mod Exports
 pub mod Holding
 pub mod InC
+pub mod InPlace
 pub mod Lending
 pub mod Opening
+pub mod Series
 pub mod Texts

@@ -48,6 +48,16 @@ pub(crate) fn coded_refusal<T>(answer: Result<T, Refusal>) -> Result<T, Code>
     answer.map_err(Code::Refused)
 }
 
+// An answer to a call without names that may be none, which is the code `Nothing`.
+pub(crate) fn coded_any_refusal<T>(answer: Result<Option<T>, Refusal>) -> Result<T, Code>
+    ensures { result ≡ answer_of_refusable any_or_nothing answer }
+{
+    match answer {
+        Ok(given) => present(given),
+        Err(why) => Err(Code::Refused(why)),
+    }
+}
+
 // The value, if any; otherwise the code `Nothing`.
 pub(crate) fn present<T>(given: Option<T>) -> Result<T, Code>
     ensures { result ≡ any_or_nothing given }

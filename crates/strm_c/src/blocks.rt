@@ -6,12 +6,12 @@ ghost use Rattle.strm_mblk.specs.BlockCalls as blocks;
 ghost use Rattle.strm_pool.specs.PoolValue.{on_arena, with_arena};
 ghost use Rattle.strm_mblk.specs.Given.{given_nothing};
 ghost use Rattle.strm_named.specs.NamedCalls.{answer_told, if_valid, on_name, no_message};
-ghost use Rattle.strm_named.specs.NamedValue.{is_valid};
-ghost use Rattle.strm_c.specs.Codes.{answer_of_result};
+ghost use Rattle.strm_named.specs.NamedValue.{is_valid, name_at};
+ghost use Rattle.strm_c.specs.Codes.{answer_of_result, any_or_nothing};
 ghost use Rattle.strm_c.specs.Exports.{Asks, CallsNamed, Ranged, bytes_read};
 ghost use Rattle.strm_c.specs.InC.{band_of, block_in_c, flag, type_of};
 
-use crate::answer::{coded, number, put};
+use crate::answer::{coded, number, present, put};
 use crate::code::Code;
 use crate::handle::StrmPool;
 use crate::layout::StrmBlockInfo;
@@ -143,4 +143,17 @@ pub extern "C" fn strm_c_has(pool: &mut StrmPool, msg: Name, yes: &mut u32) -> i
     };
     let answer = named.has(msg);
     put(Ok(u32::from(answer)), yes)
+}
+
+/// Stores the name of the message that is held at a head in `msg`. As [`NamedPool::name_at`] of strm_named. Returns `Nothing` if
+/// no message is held there.
+#[unsafe(no_mangle)]
+pub extern "C" fn strm_c_name_at(pool: &mut StrmPool, head: u32, msg: &mut Name) -> i32
+    ensures { Asks (λ v. any_or_nothing (name_at v head)) pool.old.at.named pool.new.at.named result msg.old msg.new }
+{
+    let Some(named) = pool.named_mut() else {
+        return Code::NotOpen.number();
+    };
+    let answer = named.name_at(head);
+    put(present(answer), msg)
 }

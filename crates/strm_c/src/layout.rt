@@ -1,8 +1,11 @@
 //! The structs of strm.h, field by field, and how values of the pool are stored in them.
 ghost use Rattle.std.specs.Prelude.{◌≡◌};
-ghost use Rattle.strm_c.specs.InC.{band_in_c, block_in_c, census_in_c, class_in_c, marks_in_c, queue_in_c, wish_in_c};
+ghost use Rattle.strm_c.specs.InC.{band_in_c, block_in_c, census_in_c, class_in_c, marks_in_c, place_in_c, queue_in_c, queued_in_c, spec_in_c, wish_in_c};
 
-use strm_pool::{BandInfo, BlockInfo, Census, ClassInfo, Marks, QueueInfo};
+use crate::numbers::number_of_next;
+use strm_pool::{
+    BandInfo, BlockInfo, BlockPlace, Census, ClassInfo, Marks, QueueInfo, QueueSpec, QueuedInfo,
+};
 
 /// A size class of a configuration.
 #[repr(C)]
@@ -42,6 +45,46 @@ pub struct StrmBlockInfo {
     pub room: u32,
     /// The number of references to its data block.
     pub names: u32,
+}
+
+/// Where the bytes of a block are.
+#[repr(C)]
+#[derive(Clone, Copy, Debug)]
+pub struct StrmBlockPlace {
+    /// The number of its data block. Data blocks are numbered from 0 on, class by class.
+    pub data: u32,
+    /// The read place in the data block, in bytes.
+    pub at: u32,
+    /// The number of bytes between its read place and its write place.
+    pub length: u32,
+    /// The number of bytes of the data block.
+    pub capacity: u32,
+}
+
+/// Bytes of a block, where they are. Its layout is that of POSIX's `struct iovec`.
+#[repr(C)]
+#[derive(Clone, Copy)]
+pub struct StrmIov {
+    /// Where the bytes are.
+    pub base: *const u8,
+    /// The number of bytes.
+    pub length: usize,
+}
+
+/// A message on a queue.
+#[repr(C)]
+#[derive(Clone, Copy, Debug)]
+pub struct StrmQueued {
+    /// The number of its first block.
+    pub head: u32,
+    /// The type of its first block, as its number in strm.h.
+    pub kind: u32,
+    /// The band of its first block, 0 to 255.
+    pub band: u32,
+    /// The number of bytes of all its blocks.
+    pub bytes: u32,
+    /// The number of its blocks, 1 or more.
+    pub blocks: u32,
 }
 
 /// The number of messages and bytes on a queue, and its marks.
@@ -127,6 +170,49 @@ impl StrmBlockInfo {
             band: u32::from(block.band),
             room: block.room,
             names: u32::from(block.names),
+        }
+    }
+}
+
+impl StrmBlockPlace {
+    // A block's place as the struct of C.
+    pub(crate) fn of(place: BlockPlace) -> StrmBlockPlace
+        ensures { result ≡ place_in_c place }
+    {
+        StrmBlockPlace {
+            data: place.data,
+            at: place.at,
+            length: place.len,
+            capacity: place.capacity,
+        }
+    }
+}
+
+impl StrmQueued {
+    // What a queued message is like as the struct of C.
+    pub(crate) fn of(queued: QueuedInfo) -> StrmQueued
+        ensures { result ≡ queued_in_c queued }
+    {
+        StrmQueued {
+            head: queued.head,
+            kind: queued.kind as u32,
+            band: u32::from(queued.band),
+            bytes: queued.size,
+            blocks: queued.blocks,
+        }
+    }
+}
+
+impl StrmQueueSpec {
+    // A queue's configuration as the struct of C.
+    pub(crate) fn of(spec: QueueSpec) -> StrmQueueSpec
+        ensures { result ≡ spec_in_c spec }
+    {
+        StrmQueueSpec {
+            hiwat: spec.hiwat,
+            lowat: spec.lowat,
+            service: u32::from(spec.service),
+            next: number_of_next(spec.next),
         }
     }
 }

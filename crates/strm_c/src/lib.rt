@@ -6,28 +6,34 @@
 //! links.
 #![tactic(auto)]
 
+mod address;
 mod answer;
+mod arrays;
 mod blocks;
 mod code;
 mod flow;
 mod handle;
+mod in_place;
 mod joining;
 mod layout;
+mod looks;
 mod making;
 mod numbers;
 mod opening;
 mod parts;
 mod pointer;
 mod queues;
+mod several;
 mod telling;
 mod texts;
+mod transferring;
 mod wishes;
 
 pub use code::Code;
 pub use handle::StrmPool;
 pub use layout::{
-    StrmBandInfo, StrmBlockInfo, StrmCensus, StrmClassInfo, StrmClassSpec, StrmMarks,
-    StrmQueueInfo, StrmQueueSpec, StrmWish,
+    StrmBandInfo, StrmBlockInfo, StrmBlockPlace, StrmCensus, StrmClassInfo, StrmClassSpec, StrmIov,
+    StrmMarks, StrmQueueInfo, StrmQueueSpec, StrmQueued, StrmWish,
 };
 pub use parts::Parts;
 pub use pointer::PoolPointer;

@@ -1,6 +1,6 @@
 //! What numbers from C mean as queues, bands, types and flushes.
 ghost use Rattle.std.specs.Prelude.{◌≡◌, slice_get};
-ghost use Rattle.strm_c.specs.InC.{band_of, capped_number, flush_of, type_of};
+ghost use Rattle.strm_c.specs.InC.{band_of, capped_number, flush_of, next_in_c, type_of};
 ghost use Rattle.strm_c.specs.Opening.{next_of};
 
 use strm_pool::{Flush, MsgType};
@@ -20,6 +20,16 @@ pub(crate) fn next_of(number: u32) -> Option<u8>
         None
     } else {
         Some(capped_number(number))
+    }
+}
+
+// The number of a next queue for C; 2^32 - 1 means none.
+pub(crate) fn number_of_next(next: Option<u8>) -> u32
+    ensures { result ≡ next_in_c next }
+{
+    match next {
+        Some(queue) => u32::from(queue),
+        None => u32::MAX,
     }
 }
 

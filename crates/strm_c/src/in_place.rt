@@ -1,0 +1,119 @@
+//! Calls on the bytes of a message where they are, and on the places of its blocks.
+ghost use Rattle.std.specs.Prelude.{[], Ok};
+ghost use Rattle.strm_mblk.specs.InPlace as in_place;
+ghost use Rattle.strm_pool.specs.PoolValue.{on_arena};
+ghost use Rattle.strm_named.specs.NamedCalls.{asked, no_message, on_name};
+ghost use Rattle.strm_c.specs.Codes.{answer_of_result};
+ghost use Rattle.strm_c.specs.Exports.{Asks, CallsNamed};
+ghost use Rattle.strm_c.specs.InC.{place_in_c};
+ghost use Rattle.strm_c.specs.InPlace.{AsksAddress, number_lent};
+
+use crate::address::address_of;
+use crate::answer::{coded, number, put};
+use crate::code::Code;
+use crate::handle::StrmPool;
+use crate::layout::StrmBlockPlace;
+use strm_named::Name;
+
+/// Stores the address of a block's bytes in `bytes`, and their number in `length`. As [`NamedPool::bytes`] of strm_named. The
+/// bytes stay there until the next call that is no look (strm.h).
+#[unsafe(no_mangle)]
+pub extern "C" fn strm_c_bytes(
+    pool: &mut StrmPool,
+    msg: Name,
+    place: u32,
+    bytes: &mut *const u8,
+    length: &mut usize,
+) -> i32
+    ensures length { Asks (λ v. number_lent (asked v msg (in_place.bytes msg.head place v.pool.arena)))
+        pool.old.at.named pool.new.at.named result length.old length.new }
+    ensures bytes { AsksAddress (λ v. number_lent (asked v msg (in_place.bytes msg.head place v.pool.arena)))
+        pool.old.at.named bytes.old bytes.new }
+{
+    let Some(named) = pool.named_mut() else {
+        return Code::NotOpen.number();
+    };
+    match named.bytes(msg, place) {
+        Ok(lent) => {
+            *bytes = address_of(lent);
+            *length = lent.len();
+            0
+        }
+        Err(fault) => Code::of(fault).number(),
+    }
+}
+
+/// Stores the data block of a block, and where its bytes are, in `found`. As [`NamedPool::place`] of strm_named.
+#[unsafe(no_mangle)]
+pub extern "C" fn strm_c_place(
+    pool: &mut StrmPool,
+    msg: Name,
+    place: u32,
+    found: &mut StrmBlockPlace,
+) -> i32
+    ensures { Asks (λ v. answer_of_result (λ p. Ok (place_in_c p))
+        (asked v msg (in_place.place msg.head place v.pool.arena)))
+        pool.old.at.named pool.new.at.named result found.old found.new }
+{
+    let Some(named) = pool.named_mut() else {
+        return Code::NotOpen.number();
+    };
+    let answer = named.place(msg, place);
+    put(coded(answer).map(StrmBlockPlace::of), found)
+}
+
+/// Writes bytes over those of a message. As [`NamedPool::overwrite`] of strm_named.
+#[unsafe(no_mangle)]
+pub extern "C" fn strm_c_overwrite(pool: &mut StrmPool, msg: Name, at: u32, bytes: &[u8]) -> i32
+    ensures { CallsNamed no_message Ok (λ v. on_name v msg
+        (on_arena v.pool (in_place.overwrite msg.head at bytes.now v.pool.arena)))
+        [] pool.old.at.named pool.new.at.named result tt tt }
+{
+    let Some(named) = pool.named_mut() else {
+        return Code::NotOpen.number();
+    };
+    let answer = named.overwrite(msg, at, bytes);
+    number(coded(answer))
+}
+
+/// Leaves room before the bytes to come of an empty block. As [`NamedPool::reserve`] of strm_named.
+#[unsafe(no_mangle)]
+pub extern "C" fn strm_c_reserve(pool: &mut StrmPool, msg: Name, place: u32, count: u32) -> i32
+    ensures { CallsNamed no_message Ok (λ v. on_name v msg
+        (on_arena v.pool (in_place.reserve msg.head place count v.pool.arena)))
+        [] pool.old.at.named pool.new.at.named result tt tt }
+{
+    let Some(named) = pool.named_mut() else {
+        return Code::NotOpen.number();
+    };
+    let answer = named.reserve(msg, place, count);
+    number(coded(answer))
+}
+
+/// Puts bytes before those of a message's first block. As [`NamedPool::prepend`] of strm_named.
+#[unsafe(no_mangle)]
+pub extern "C" fn strm_c_prepend(pool: &mut StrmPool, msg: Name, bytes: &[u8]) -> i32
+    ensures { CallsNamed no_message Ok (λ v. on_name v msg
+        (on_arena v.pool (in_place.prepend msg.head bytes.now v.pool.arena)))
+        [] pool.old.at.named pool.new.at.named result tt tt }
+{
+    let Some(named) = pool.named_mut() else {
+        return Code::NotOpen.number();
+    };
+    let answer = named.prepend(msg, bytes);
+    number(coded(answer))
+}
+
+/// Moves the write place of a block over bytes that its data block has there. As [`NamedPool::advance`] of strm_named.
+#[unsafe(no_mangle)]
+pub extern "C" fn strm_c_advance(pool: &mut StrmPool, msg: Name, place: u32, count: u32) -> i32
+    ensures { CallsNamed no_message Ok (λ v. on_name v msg
+        (on_arena v.pool (in_place.advance msg.head place count v.pool.arena)))
+        [] pool.old.at.named pool.new.at.named result tt tt }
+{
+    let Some(named) = pool.named_mut() else {
+        return Code::NotOpen.number();
+    };
+    let answer = named.advance(msg, place, count);
+    number(coded(answer))
+}
