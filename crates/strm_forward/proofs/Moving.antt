@@ -17,8 +17,10 @@ use Rattle.strm_queue.specs.declared.queue_spec.QueueSpec.{QueueSpec}
 use Rattle.strm_queue.specs.Flow.{Flags, QueueState, with_enabled, enabled_where, flags_at, opening_flags, waker, with_flags}
 use Rattle.strm_queue.specs.Limits.{high_rank}
 use Rattle.strm_queue.specs.QueueCalls.{flags_left, get_first, getq, has_relieved, putbq, putq, waker_enabled_where, with_got}
+use Rattle.strm_queue.specs.QueuedBlocks.{QueuedBlocks}
 use Rattle.strm_queue.specs.Rank.{as_queued, is_ordered, put_ahead, rank_of}
 use Rattle.strm_queue.proofs.agreeing.Agreeing.{enabled_alone}
+use Rattle.strm_forward.specs.Handing.{hand_first, with_first_off, with_leave_asked, with_one_placed, with_one_put, with_one_put_back}
 use Rattle.strm_forward.specs.Forwarding.{Goes, HandsOn, KeepsRest, Stays, has_leave, may_go, with_put_either, with_put, with_put_back}
 
 -- ---- the state of the queues
@@ -47,6 +49,7 @@ pub record IsGot (q : ℕ) (t : TokenValue) (v w : PoolValue) : Type 0 where
   pub first : shelf_at v.arena q ≡ message ∷ behind
   pub head : t.head ≡ head_of message
   pub arena : w.arena ≡ with_held message (with_shelf q behind v.arena)
+  pub state : w.queues ≡ (with_first_off q behind (queued_blocks_of v)).queues
   pub rest : KeepsRest v w
 
 module _ (v w : PoolValue) (q : ℕ) (there : has_queue v q ≡ true) (after : w ≡ value_after v (on_queues v (getq q (queued_blocks_of v)))) where
@@ -68,6 +71,7 @@ module _ (v w : PoolValue) (q : ℕ) (there : has_queue v q ≡ true) (after : w
           first = is;
           head = ap (λ (x : TokenValue). x.head) given_is;
           arena = ap (λ (x : PoolValue). x.arena) after;
+          state = ap (λ (x : PoolValue). x.queues) after;
           rest = record {
             specs = ap (λ (x : PoolValue). x.queues.specs) after ∙ kept.specs;
             marks = ap (λ (x : PoolValue). x.queues.marks) after ∙ kept.marks;
@@ -94,6 +98,14 @@ module _ (v w : PoolValue) (q : ℕ) (there : has_queue v q ≡ true) (after : w
 
     pub none_got : Ok None ≡ answer_map (option_map (token_of w.arena)) (answer_of (on_queues v (getq q (queued_blocks_of v)))) → Stays q to v w
     none_got given = none_first (shelf_at v.arena q) refl taken_after (given ∙ ap (λ g. answer_map (option_map (token_of w.arena)) (answer_of (on_queues v g))) (cond-true _ _ _ there))
+
+    none_whole_first : (ms : List Message) → shelf_at v.arena q ≡ ms → first_taken ms → Ok None ≡ answer_map (option_map (token_of w.arena)) (answer_of (on_queues v (get_first q ms (queued_blocks_of v))))
+        → hand_first q to (shelf_at v.arena q) (queued_blocks_of v) ≡ (false, queued_blocks_of w)
+    none_whole_first [] is after given = ap (λ ms. hand_first q to ms (queued_blocks_of v)) is ∙ sym (ap (λ (x : PoolValue). (false, queued_blocks_of x)) after)
+    none_whole_first (m ∷ ms) is after given = absurd (cc)
+
+    pub none_whole : Ok None ≡ answer_map (option_map (token_of w.arena)) (answer_of (on_queues v (getq q (queued_blocks_of v)))) → hand_first q to (shelf_at v.arena q) (queued_blocks_of v) ≡ (false, queued_blocks_of w)
+    none_whole given = none_whole_first (shelf_at v.arena q) refl taken_after (given ∙ ap (λ g. answer_map (option_map (token_of w.arena)) (answer_of (on_queues v g))) (cond-true _ _ _ there))
 
 -- ---- held
 
@@ -147,7 +159,7 @@ module _ (from to : ℕ) (apart : from ≢ to) (v x : PoolValue) (t : TokenValue
         let had_there : is_of_length t.blocks (at_head (head_of g.message)) ≡ true = (and_parts _ _ (subst (λ z. has z t ≡ true) g.arena had)).1 in
         ap at_head (sym g.head) ∙ held_there a.held t.head t.blocks g.message unheld (subst (λ h. is_of_length t.blocks (at_head h) ≡ true) (sym g.head) had_there)
 
-    message_is : message_at x.arena t.head ≡ g.message
+    pub message_is : message_at x.arena t.head ≡ g.message
     message_is = ap (λ z. message_at z t.head) g.arena ∙ ap blocks_of held_now
 
     gone : set (set a.held (head_of g.message) (Some g.message)) t.head None ≡ a.held
@@ -166,7 +178,7 @@ module _ (from to : ℕ) (apart : from ≢ to) (v x : PoolValue) (t : TokenValue
       rest_kept = record { specs = rest.specs ∙ g.rest.specs; marks = rest.marks ∙ g.rest.marks; wishes = rest.wishes ∙ g.rest.wishes }
 
       module _ (below : from < length a.shelves) (leave : true ≡ has_leave to x.queues x.arena (message_at x.arena t.head)) (messages : w.arena ≡ with_put_either from to t.head true x.arena) where
-        put_is : w.arena ≡ with_put to g.message off
+        pub put_is : w.arena ≡ with_put to g.message off
         put_is =
             messages ∙ ap (λ m. with_put to m (without_held t.head x.arena)) message_is
             ∙ ap (λ z. with_put to g.message (without_held t.head z)) g.arena
@@ -196,11 +208,15 @@ module _ (from to : ℕ) (apart : from ≢ to) (v x : PoolValue) (t : TokenValue
             (λ i. put_ahead (rank_of a.store) (queued_same a.store g.message low i) (get_or-set_same a.shelves from g.behind [] below i))
             ∙ ahead_first (rank_of a.store) g.message g.behind (subst (λ ms. is_ordered (rank_of a.store) ms ≡ true) g.first ordered) ∙ sym g.first
 
-        put_back_is : w.arena ≡ a
-        put_back_is =
+        pub put_back_on : w.arena ≡ with_put_back from g.message off
+        put_back_on =
             messages ∙ ap (λ m. with_put_back from m (without_held t.head x.arena)) message_is
             ∙ ap (λ z. with_put_back from g.message (without_held t.head z)) g.arena
             ∙ ap (λ hs. with_put_back from g.message (record off { held = hs })) gone
+
+        put_back_is : w.arena ≡ a
+        put_back_is =
+            put_back_on
             ∙ ap (λ ms. with_shelf from ms off) back
             ∙ ap (λ s. record a { shelves = s }) (set-set a.shelves from g.behind (shelf_at a from) ∙ set-get_or a.shelves from [])
 
@@ -216,6 +232,36 @@ module _ (from to : ℕ) (apart : from ≢ to) (v x : PoolValue) (t : TokenValue
           → w.arena ≡ with_put_either from to t.head went x.arena → HandsOn from to v went w
       handed below ordered true leave messages = went below leave messages
       handed below ordered false leave messages = stayed below ordered leave messages
+
+      -- and queues and message blocks are as handing on leaves them
+      module _ (below : from < length a.shelves) (ordered : is_ordered (rank_of a.store) (shelf_at a from) ≡ true) where
+        abbrev taken : QueuedBlocks
+        taken = with_first_off from g.behind (queued_blocks_of v)
+
+        leave_taken : has_leave to x.queues x.arena (message_at x.arena t.head) ≡ has_leave to taken.queues off g.message
+        leave_taken = ap (λ m. has_leave to x.queues x.arena m) message_is ∙ (λ i. has_leave to (g.state i) (g.arena i) g.message)
+
+        state_taken : (went : Bool) → (with_one_placed from to (message_at x.arena t.head) went (queued_blocks_of x)).queues
+            ≡ (with_one_placed from to g.message went (record { queues = taken.queues; arena = lifted })).queues
+        state_taken went = λ i. (with_one_placed from to (message_is i) went (record { queues = g.state i; arena = g.arena i })).queues
+
+        first_taken_is : (goes : Bool) → goes ≡ has_leave to x.queues x.arena (message_at x.arena t.head)
+            → hand_first from to (shelf_at a from) (queued_blocks_of v) ≡ (goes, with_one_placed from to g.message goes taken)
+        first_taken_is goes leave =
+            ap (λ ms. hand_first from to ms (queued_blocks_of v)) g.first
+            ∙ ap (λ b. (b, with_one_placed from to g.message b taken)) (sym leave_taken ∙ sym leave)
+
+        pub handed_whole : (went : Bool) → went ≡ has_leave to x.queues x.arena (message_at x.arena t.head) → w.arena ≡ with_put_either from to t.head went x.arena
+            → w.queues ≡ (with_one_placed from to (message_at x.arena t.head) went (queued_blocks_of x)).queues
+            → hand_first from to (shelf_at a from) (queued_blocks_of v) ≡ (went, queued_blocks_of w)
+        handed_whole true leave messages state =
+            let state_is = sym (state ∙ state_taken true) in
+            let arena_is = sym (put_is below leave messages) in
+            first_taken_is true leave ∙ (λ i. (true, record { queues = state_is i; arena = arena_is i }))
+        handed_whole false leave messages state =
+            let state_is = sym (state ∙ state_taken false) in
+            let arena_is = sym (put_back_on below ordered leave messages) in
+            first_taken_is false leave ∙ (λ i. (false, record { queues = state_is i; arena = arena_is i }))
 
 -- ---- for the calls
 
@@ -233,3 +279,27 @@ put_leaves v w q h there after = ap (λ (x : PoolValue). x.arena) (after ∙ ap 
 
 pub put_back_leaves : (v w : PoolValue) (q h : ℕ) → has_queue v q ≡ true → w ≡ value_after v (on_queues v (putbq q h (queued_blocks_of v))) → w.arena ≡ with_put_back q (message_at v.arena h) (without_held h v.arena)
 put_back_leaves v w q h there after = ap (λ (x : PoolValue). x.arena) (after ∙ ap (λ g. value_after v (on_queues v g)) (cond-true _ _ _ there))
+
+-- what putting leaves of the queues
+pub put_state : (v w : PoolValue) (q h : ℕ) → has_queue v q ≡ true → w ≡ value_after v (on_queues v (putq q h (queued_blocks_of v)))
+    → w.queues ≡ (with_one_put q (message_at v.arena h) (queued_blocks_of v)).queues
+put_state v w q h there after = ap (λ (x : PoolValue). x.queues) (after ∙ ap (λ g. value_after v (on_queues v g)) (cond-true _ _ _ there))
+
+pub put_back_state : (v w : PoolValue) (q h : ℕ) → has_queue v q ≡ true → w ≡ value_after v (on_queues v (putbq q h (queued_blocks_of v)))
+    → w.queues ≡ (with_one_put_back q (message_at v.arena h) (queued_blocks_of v)).queues
+put_back_state v w q h there after = ap (λ (x : PoolValue). x.queues) (after ∙ ap (λ g. value_after v (on_queues v g)) (cond-true _ _ _ there))
+
+-- and the queues are those that placing leaves, where leave was asked before
+module _ (from to h : ℕ) (v asked w : PoolValue) (arena : asked.arena ≡ v.arena) where
+  abbrev Asked : Bool → Type 0
+  Asked goes = asked.queues ≡ (with_leave_asked to (message_at v.arena h) goes (queued_blocks_of v)).queues
+
+  pub placed_on : (goes : Bool) → goes ≡ true → Asked goes → w.queues ≡ (with_one_put to (message_at asked.arena h) (queued_blocks_of asked)).queues
+      → w.queues ≡ (with_one_placed from to (message_at v.arena h) goes (queued_blocks_of v)).queues
+  placed_on true is state after = after ∙ (λ i. (with_one_put to (message_at (arena i) h) (record { queues = state i; arena = arena i })).queues)
+  placed_on false is state after = absurd (cc)
+
+  pub placed_back : (goes : Bool) → goes ≡ false → Asked goes → w.queues ≡ (with_one_put_back from (message_at asked.arena h) (queued_blocks_of asked)).queues
+      → w.queues ≡ (with_one_placed from to (message_at v.arena h) goes (queued_blocks_of v)).queues
+  placed_back true is state after = absurd (cc)
+  placed_back false is state after = after ∙ (λ i. (with_one_put_back from (message_at (arena i) h) (record { queues = state i; arena = arena i })).queues)

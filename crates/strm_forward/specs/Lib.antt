@@ -1,2 +1,3 @@
 pub mod Forwarding
+pub mod Handing
 pub mod Headers

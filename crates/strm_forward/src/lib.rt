@@ -6,7 +6,7 @@ mod header;
 mod service;
 
 pub use header::{HeaderFault, Outcome, age_header, hop};
-pub use service::forward;
+pub use service::{forward, may_go};
 
 #[cfg(test)]
 mod tests;

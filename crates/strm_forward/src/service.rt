@@ -2,8 +2,9 @@
 ghost use Rattle.std.specs.Prelude.{◌≡◌, ◌≢◌, IfErr, IfOk, IsTrue, ◌&&◌, false, true};
 ghost use Rattle.strm_data.specs.declared.refusal.Refusal.TheVariants.{NoSuchQueue};
 ghost use Rattle.strm_forward.specs.Forwarding.{Forwards, HandsOn, KeepsRest, has_leave, with_put_either};
+ghost use Rattle.strm_forward.specs.Handing.{all_forwarded, handed_on, with_leave_asked, with_one_placed};
 ghost use Rattle.strm_mblk.specs.Arena.{has, message_at};
-ghost use Rattle.strm_pool.specs.PoolValue.{has_queue};
+ghost use Rattle.strm_pool.specs.PoolValue.{has_queue, queued_blocks_of};
 
 use strm_pool::{Pool, Refusal, Token};
 
@@ -15,6 +16,8 @@ use strm_pool::{Pool, Refusal, Token};
 /// there, the target's waker is enabled. Refused as `NoSuchQueue` if one of the queues does not exist; then nothing changes.
 pub fn forward(pool: &mut Pool, from: u8, to: u8) -> Result<u32, Refusal>
     requires apart { from ≢ to }
+    ensures does { IfOk result (λ count. all_forwarded from to (queued_blocks_of pool.old)
+        ≡ (count, queued_blocks_of pool.new)) }
     ensures forwards { IfOk result (λ count. Forwards from to count pool.old pool.new) }
     ensures found { IfOk result (λ count. (has_queue pool.old from && has_queue pool.old to) ≡ true) }
     ensures refused { IfErr result (λ why. (why ≡ NoSuchQueue)
@@ -38,7 +41,8 @@ fn hand_on(pool: &mut Pool, from: u8, to: u8) -> bool
     requires apart { from ≢ to }
     requires behind { IsTrue (has_queue pool.old from) }
     requires ahead { IsTrue (has_queue pool.old to) }
-    ensures { HandsOn from to pool.old result pool.new }
+    ensures does { handed_on from to (queued_blocks_of pool.old) ≡ (result, queued_blocks_of pool.new) }
+    ensures moves { HandsOn from to pool.old result pool.new }
 {
     pool.lawful();
     match pool.getq(from) {
@@ -55,6 +59,8 @@ fn place(pool: &mut Pool, from: u8, to: u8, token: Token) -> bool
     requires ahead { IsTrue (has_queue pool.old to) }
     ensures leave { result ≡ has_leave to pool.old.queues pool.old.arena (message_at pool.old.arena token.head) }
     ensures messages { pool.new.arena ≡ with_put_either from to token.head result pool.old.arena }
+    ensures state { pool.new.queues ≡ (with_one_placed from to (message_at pool.old.arena token.head) result
+        (queued_blocks_of pool.old)).queues }
     ensures rest { KeepsRest pool.old pool.new }
 {
     let goes = may_go(pool, to, &token);
@@ -69,13 +75,15 @@ fn place(pool: &mut Pool, from: u8, to: u8, token: Token) -> bool
     }
 }
 
-// Whether a message may be put on a queue now: if it is high priority, or if its band has room at the target. If the band has
-// no room, it gets its wanted mark.
-fn may_go(pool: &mut Pool, to: u8, token: &Token) -> bool
+/// Says whether a message may be put on a queue now: if it is high priority, or if its band has room at the target. If the band
+/// has no room, it gets its wanted mark.
+pub fn may_go(pool: &mut Pool, to: u8, token: &Token) -> bool
     requires has { IsTrue (has pool.old.arena token.now) }
     requires ahead { IsTrue (has_queue pool.old to) }
     ensures answer { result ≡ has_leave to pool.old.queues pool.old.arena (message_at pool.old.arena token.now.head) }
     ensures arena { pool.new.arena ≡ pool.old.arena }
+    ensures state { pool.new.queues ≡ (with_leave_asked to (message_at pool.old.arena token.now.head) result
+        (queued_blocks_of pool.old)).queues }
     ensures rest { KeepsRest pool.old pool.new }
 {
     pool.lawful();

@@ -1,0 +1,235 @@
+-- A service as `run` makes it: the first queue leaves the run list, and its messages are forwarded.
+use Rattle.std.proofs.Common.{◌≡◌, ◌≢◌, ℕ, zero, suc, ◌+◌, ◌^◌, ◌<◌, ◌≤◌, inl, inr, true, ◌==◌, List, [], ◌∷◌, ◌++◌, drop, length, get_or, Option, Some, None, refl, sym, ap, ◌∙◌, subst, arith, length-append}
+use Rattle.std.specs.Prelude.{is_some, nat_le}
+use Rattle.std.specs.List.{All, flat_map, list_all}
+use Rattle.std.specs.Option.{option_map_or}
+use Rattle.std.proofs.lemmas.Bool.{and_from, cases_lt, cond_both, eqb-true, false≢true, le-leb, or_cases}
+use Rattle.std.proofs.lemmas.List.{get_or-append-add, get_or_append_left, get_or_past}
+use Rattle.std.proofs.lemmas.Option.{none-some, same_Some}
+use Rattle.strm_data.specs.DataStore.{DataStore}
+use Rattle.strm_data.specs.MsgType.{is_high_priority}
+use Rattle.strm_forward.specs.Forwarding.{Forwards, with_forwarded}
+use Rattle.strm_forward.specs.Handing.{all_forwarded}
+use Rattle.strm_links.specs.Rows as rows
+use Rattle.strm_mblk.specs.Arena.{Arena, held_blocks, shelf_at, shelved_blocks}
+use Rattle.strm_mblk.specs.Block.{Block, Message, kind_of}
+use Rattle.strm_mblk.specs.Messages.{blocks_on}
+use Rattle.strm_pool.specs.Lawful.{IsLawful}
+use Rattle.strm_pool.specs.PoolValue.{PoolValue, queued_blocks_of, with_queued}
+use Rattle.strm_queue.specs.declared.queue_spec.QueueSpec.{QueueSpec}
+use Rattle.strm_queue.specs.Flow.{Flags, flags_at, has_band, no_spec, opening_flags, spec_at}
+use Rattle.strm_queue.specs.Limits.{high_rank}
+use Rattle.strm_queue.specs.QueueCalls.{next_service}
+use Rattle.strm_queue.specs.QueueSpecs.{are_lawful}
+use Rattle.strm_queue.specs.QueuedBlocks.{QueuedBlocks}
+use Rattle.strm_queue.specs.Rank.{rank_of}
+use Rattle.strm_queue.proofs.bands.Bands.{length-bands_where, length_every_band}
+use Rattle.strm_scheduler.specs.Awake.{IsAwake, is_awake}
+use Rattle.strm_scheduler.specs.Lines.{AreLines, next_of}
+use Rattle.strm_scheduler.specs.Running.{with_any_served, with_first_served, with_served}
+use Rattle.strm_scheduler.specs.Order.{KeepsOrder, line_of}
+use Rattle.strm_scheduler.specs.Work.{powers, weigh, work}
+use Rattle.strm_scheduler.proofs.Hops.{hop_ahead, hop_within}
+use Rattle.strm_scheduler.proofs.Keeping.{enabling_on, kept}
+use Rattle.strm_scheduler.proofs.Settling.{AreBanded}
+use Rattle.strm_scheduler.proofs.Underway.{IsUnderway, all_forwarded_awake}
+use Rattle.strm_scheduler.proofs.Weighing.{forwarded_weighs}
+use Rattle.strm_scheduler.proofs.Falling.{falls_on, falls_still, none_powers}
+use Rattle.strm_scheduler.proofs.Ordering.{line_forwarded}
+
+-- ---- ranks
+
+-- what holds of each element of two joined lists holds of each element of both
+pub joined_parts : {X : Type 0} (P : X → Type 0) (xs ys : List X) → All P (xs ++ ys) → All P xs × All P ys
+joined_parts P xs ys all = (
+  λ k d within. subst P (get_or_append_left xs ys d k within) (all k d (omega (arith, within, length-append xs ys))),
+  λ k d within. subst P (get_or-append-add xs ys k d) (all (length xs + k) d (omega (arith, within, length-append xs ys))),
+)
+
+module _ (s : DataStore) where
+  abbrev IsBand : Block → Type 0
+  IsBand b = b.band < 2 ^ 8
+
+  rank_most : (m : Message) → All IsBand m → rank_of s m ≤ high_rank
+  rank_most [] all = omega arith
+  rank_most (b ∷ bs) all =
+      let low : b.band < 2 ^ 8 = all 0 b (omega arith) in
+      cond_both (is_high_priority (kind_of s b)) high_rank b.band (λ r. r ≤ high_rank) (λ high. omega arith) (λ ordinary. omega (arith, low))
+
+  ranks_most : (ms : List Message) → All IsBand (flat_map (λ m. m) ms) → list_all (λ m. nat_le (rank_of s m) high_rank) ms ≡ true
+  ranks_most [] all = refl
+  ranks_most (m ∷ ms) all =
+      let parts = joined_parts IsBand m (flat_map (λ x. x) ms) all in
+      and_from (nat_le (rank_of s m) high_rank) _ (le-leb (rank_of s m) high_rank (rank_most m parts.0)) (ranks_most ms parts.1)
+
+  shelf_ranks : (shelves : List (List Message)) (q : ℕ) → All IsBand (blocks_on shelves) → list_all (λ m. nat_le (rank_of s m) high_rank) (get_or shelves q []) ≡ true
+  shelf_ranks [] q all = refl
+  shelf_ranks (ms ∷ shelves) zero all = ranks_most ms (joined_parts IsBand (flat_map (λ m. m) ms) (blocks_on shelves) all).0
+  shelf_ranks (ms ∷ shelves) (suc q) all = shelf_ranks shelves q (joined_parts IsBand (flat_map (λ m. m) ms) (blocks_on shelves) all).1
+
+-- ---- what a pool's laws give
+
+module _ (x : PoolValue) (law : IsLawful x) where
+  pub low_ranks : (q : ℕ) → list_all (λ m. nat_le (rank_of x.arena.store m) high_rank) (shelf_at x.arena q) ≡ true
+  low_ranks q = shelf_ranks x.arena.store x.arena.shelves q (joined_parts (λ (b : Block). b.band < 2 ^ 8) (shelved_blocks x.arena) (held_blocks x.arena) law.bands).0
+
+  pub banded_of : AreBanded (queued_blocks_of x)
+  banded_of q =
+      elim (cases_lt q (length x.queues.specs)) [
+        | inl below ↦ (law.banded q below).0
+        | inr past ↦ ap (λ (f : Flags). length f.wanted) (get_or_past x.queues.flags q opening_flags (omega (arith, past, law.flagged))) ∙ length-bands_where _ ∙ length_every_band
+      ]
+
+  -- the run list has only queues of the pool
+  pub run_below : All (λ q. q < length x.queues.specs) x.queues.run
+  run_below k d within = by_place (get_or x.queues.run k d) (law.served k d within)
+    where
+      by_place : (q : ℕ) → (spec_at x.queues.specs q).service ≡ true → q < length x.queues.specs
+      by_place q serves =
+          elim (cases_lt q (length x.queues.specs)) [
+            | inl below ↦ below
+            | inr past ↦ absurd (false≢true (sym (ap (λ (s : QueueSpec). s.service) (get_or_past x.queues.specs q no_spec past)) ∙ serves))
+          ]
+
+-- ---- the first queue leaves the run list
+
+first_of : (xs : List ℕ) (q : ℕ) → rows.first xs ≡ Some q → xs ≡ q ∷ drop 1 xs
+first_of [] q is = absurd (none-some q is)
+first_of (y ∷ ys) q is = ap (λ z. z ∷ ys) (same_Some y q is)
+
+pub none_first : (xs : List ℕ) → rows.first xs ≡ None → xs ≡ []
+none_first [] is = refl
+none_first (y ∷ ys) is = absurd (none-some y (sym is))
+
+-- pool v, and x once queue q has left its run list; queue n is the next of queue q
+module _ (v x : PoolValue) (q n : ℕ) (after : x ≡ with_queued v (next_service (queued_blocks_of v)).1) (first : rows.first v.queues.run ≡ Some q)
+    (law : IsLawful x) (lines : AreLines v.queues.specs) (awake : IsAwake (queued_blocks_of v)) (next : next_of v.queues.specs q ≡ Some n) where
+  pub lawful : are_lawful v.queues.specs ≡ true
+  lawful = sym (ap (λ (p : PoolValue). are_lawful p.queues.specs) after) ∙ law.lawful_queues
+
+  pub run_is : v.queues.run ≡ q ∷ x.queues.run
+  run_is = first_of v.queues.run q first ∙ ap (λ (qs : List ℕ). q ∷ qs) (sym (ap (λ (p : PoolValue). p.queues.run) after))
+
+  others : (p t : ℕ) → p ≢ q → next_of v.queues.specs p ≡ Some t → is_awake (queued_blocks_of x) p t ≡ true
+  others p t other is =
+      kept p t (queued_blocks_of v) (queued_blocks_of x)
+      (record {
+        off = ap (λ (y : PoolValue). (flags_at y.queues p).noenable) after;
+        read = ap (λ (y : PoolValue). (flags_at y.queues p).read) after;
+        wanted = λ band wanted. ap (λ (y : PoolValue). has_band (flags_at y.queues t).wanted band) after ∙ wanted;
+        run = λ on. still (sym (ap (rows.has p) run_is) ∙ on);
+        messages = ap (λ (y : PoolValue). shelf_at y.arena p) after;
+        store = ap (λ (y : PoolValue). y.arena.store) after;
+      })
+      (awake p t is)
+    where
+      still : rows.has p (q ∷ x.queues.run) ≡ true → rows.has p x.queues.run ≡ true
+      still on =
+          elim (or_cases (q == p) (rows.has p x.queues.run) on) [
+            | inl here ↦ absurd (other (sym (eqb-true q p here)))
+            | inr rest ↦ rest
+          ]
+
+  pub underway : IsUnderway v.queues.specs lawful lines q n next (queued_blocks_of x)
+  underway = record {
+    same = ap (λ (p : PoolValue). p.queues.specs) after;
+    banded = banded_of x law;
+    flagged = law.flagged ∙ ap (λ (p : PoolValue). length p.queues.specs) after;
+    shelved = law.shelves ∙ ap (λ (p : PoolValue). length p.queues.specs) after;
+    ordered = law.ordered q;
+    low = low_ranks x law q;
+    off = ap (λ (p : PoolValue). (flags_at p.queues q).noenable) after ∙ enabling_on (queued_blocks_of v) q n (awake q n next);
+    others = others;
+  }
+
+  -- ---- and its messages are forwarded
+
+  module _ (w : PoolValue) (count : ℕ) (does : all_forwarded q n (queued_blocks_of x) ≡ (count, queued_blocks_of w)) (forwards : Forwards q n count x w) where
+    specs_then : w.queues.specs ≡ v.queues.specs
+    specs_then = forwards.rest.specs ∙ ap (λ (p : PoolValue). p.queues.specs) after
+
+    pub awake_then : IsAwake (queued_blocks_of w)
+    awake_then p t is =
+        subst (λ (y : QueuedBlocks). is_awake y p t ≡ true) (ap (λ (r : ℕ × QueuedBlocks). r.1) does)
+        (all_forwarded_awake v.queues.specs lawful lines q n next (queued_blocks_of x) underway p t (ap (λ (specs : List QueueSpec). next_of specs p) (sym specs_then) ∙ is))
+
+    pub lines_then : AreLines w.queues.specs
+    lines_then = subst AreLines (sym specs_then) lines
+
+    pub served_then : with_first_served (queued_blocks_of v) ≡ queued_blocks_of w
+    unfolding with_first_served
+    served_then =
+        (λ i. with_any_served (first i) (queued_blocks_of (sym after i)))
+        ∙ ap (λ (o : Option ℕ). option_map_or (λ t. (all_forwarded q t (queued_blocks_of x)).1) o (queued_blocks_of x)) (ap (λ (p : PoolValue). next_of p.queues.specs q) after ∙ next)
+        ∙ ap (λ (r : ℕ × QueuedBlocks). r.1) does
+
+    arena_same : x.arena ≡ v.arena
+    arena_same = ap (λ (p : PoolValue). p.arena) after
+
+    greater : q < n
+    greater = (hop_ahead v.queues.specs lawful q n next).greater
+
+    n_shelved : n < length x.arena.shelves
+    n_shelved = omega (arith, (hop_ahead v.queues.specs lawful q n next).there, law.shelves, ap (λ (p : PoolValue). length p.queues.specs) after)
+
+    pub falls_then : IsLawful w → work (queued_blocks_of w) < work (queued_blocks_of v)
+    falls_then law_then = by_count count does forwards.messages forwards.within
+      where
+        by_count : (count : ℕ) → all_forwarded q n (queued_blocks_of x) ≡ (count, queued_blocks_of w) → w.arena ≡ with_forwarded q n count x.arena → count ≤ length (shelf_at x.arena q)
+            → work (queued_blocks_of w) < work (queued_blocks_of v)
+        by_count zero does messages within =
+            falls_still (queued_blocks_of v) (queued_blocks_of w) specs_then
+            (ap (λ (a : Arena). weigh a.shelves) (messages ∙ arena_same))
+            (omega (
+              arith,
+              none_powers q n (queued_blocks_of x) (law.lawful_queues) (subst AreLines (sym (ap (λ (p : PoolValue). p.queues.specs) after)) lines)
+                  (omega (arith, law.flagged, hop_within v.queues.specs lawful q n next, ap (λ (p : PoolValue). length p.queues.specs) after)) (queued_blocks_of w) does,
+              ap powers run_is,
+            ))
+        by_count (suc count) does messages within =
+            let less = (forwarded_weighs q n greater (suc count) x.arena n_shelved within).less in
+            falls_on (queued_blocks_of v) (queued_blocks_of w) specs_then
+            (omega (arith, less, ap (λ (a : Arena). weigh a.shelves) messages, ap (λ (a : Arena). weigh a.shelves) arena_same))
+            law_then.short (run_below w law_then)
+
+    -- the lines have the same messages, in the same order
+    pub order_then : (e r : ℕ) → next_of v.queues.specs e ≡ None → e < length v.queues.specs → line_of v.queues.specs w.arena r e ≡ line_of v.queues.specs v.arena r e
+    order_then e r last there =
+        ap (λ (a : Arena). line_of v.queues.specs a r e) forwards.messages
+        ∙ line_forwarded v.queues.specs lawful q n next r e last there count x.arena n_shelved forwards.within
+        ∙ ap (λ (a : Arena). line_of v.queues.specs a r e) arena_same
+
+-- ---- for the calls
+
+-- the first queue of the run list exists, and has a next queue
+module _ (v : PoolValue) (q : ℕ) (first : rows.first v.queues.run ≡ Some q) (law : IsLawful v) where
+  pub first_serves : (spec_at v.queues.specs q).service ≡ true
+  first_serves = subst (All (λ p. (spec_at v.queues.specs p).service ≡ true)) (first_of v.queues.run q first) law.served 0 q (omega arith)
+
+  pub first_there : q < length v.queues.specs
+  first_there = subst (All (λ p. p < length v.queues.specs)) (first_of v.queues.run q first) (run_below v law) 0 q (omega arith)
+
+  pub first_goes_on : AreLines v.queues.specs → next_of v.queues.specs q ≡ None → ⊥
+  first_goes_on lines none = false≢true (sym (ap is_some none) ∙ sym (lines q) ∙ first_serves)
+
+-- with an empty run list, no queue is served
+pub none_served : (v x : PoolValue) → x ≡ with_queued v (next_service (queued_blocks_of v)).1 → rows.first v.queues.run ≡ None → with_first_served (queued_blocks_of v) ≡ queued_blocks_of x
+unfolding with_first_served
+none_served v x after none = λ i. with_any_served (none i) (queued_blocks_of (sym after i))
+
+-- one more queue was served
+pub served_more : (count : ℕ) (old now new : QueuedBlocks) → now ≡ with_served count old → with_first_served now ≡ new → new ≡ with_served (suc count) old
+unfolding with_served
+served_more count old now new is served = sym served ∙ ap with_first_served is
+
+pub served_none : (old : QueuedBlocks) → old ≡ with_served 0 old
+unfolding with_served
+served_none old = refl
+
+-- what keeps the order twice keeps it
+pub order_more : (v now new : PoolValue) → now.queues.specs ≡ v.queues.specs → KeepsOrder v now → KeepsOrder now new → KeepsOrder v new
+order_more v now new specs before step end rank last there =
+    subst
+    (λ (s : List QueueSpec). next_of s end ≡ None → end < length s → line_of s new.arena rank end ≡ line_of s now.arena rank end)
+    specs (step end rank) last there
+    ∙ before end rank last there

@@ -1,0 +1,16 @@
+pub mod Hops
+pub mod Waking
+pub mod Keeping
+pub mod Settling
+pub mod Calls
+pub mod Delivering
+pub mod Underway
+pub mod Weighing
+pub mod Falling
+pub mod Ordering
+pub mod Beginning
+pub mod Finding
+pub mod Kept
+pub mod Opening
+pub mod Unchanged
+pub mod Treated

@@ -1,0 +1,76 @@
+-- A call on held messages keeps the laws of lines: it leaves the queues and the ranks of the messages on them.
+use Rattle.std.proofs.Common.{◌≡◌, ℕ, zero, suc, ◌<◌, length, Ok, Err, Bool, not, ◌&&◌, ◌||◌, ◌==◌, List, [], ◌∷◌, get_or, refl, sym, ap, ◌∙◌, subst, arith}
+use Rattle.std.specs.List.{All, flat_map}
+use Rattle.std.specs.Prelude.{MatchResult, Result}
+use Rattle.strm_data.specs.DataStore.{DataStore}
+use Rattle.strm_links.specs.Rows as rows
+use Rattle.strm_mblk.specs.Arena.{Arena, shelf_at, shelved_blocks}
+use Rattle.strm_mblk.specs.Block.{Block, Message}
+use Rattle.strm_mblk.specs.Frame.{IsSameData, LeavesShelves}
+use Rattle.strm_mblk.specs.Calls.{Spends}
+use Rattle.strm_mblk.specs.Freeing as freeing
+use Rattle.strm_mblk.specs.Given.{Given, value_after}
+use Rattle.strm_mblk.specs.Messages.{blocks_on}
+use Rattle.strm_mblk.specs.declared.rejected.Rejected.{Rejected}
+use Rattle.strm_mblk.specs.declared.token.TokenValue.{TokenValue}
+use Rattle.strm_pool.specs.PoolValue.{PoolValue, arena, on_arena, queued_blocks_of, with_token_spent}
+use Rattle.strm_queue.specs.Flow.{QueueState, flags_at, has_band}
+use Rattle.strm_queue.specs.Limits.{high_rank}
+use Rattle.strm_queue.proofs.agreeing.Agreeing.{rank_of-same}
+use Rattle.strm_scheduler.specs.Awake.{is_awake, may_rest}
+use Rattle.strm_scheduler.specs.Laws.{AreKeptAwake, KeepsQueued}
+use Rattle.strm_scheduler.specs.Lines.{AreLines, next_of}
+use Rattle.strm_scheduler.proofs.Beginning.{joined_parts}
+
+module _ (s t : DataStore) where
+  rest_same : (read : Bool) (wanted : List Bool) (ms : List Message) → All (IsSameData s t) (flat_map (λ m. m) ms) → may_rest t read wanted ms ≡ may_rest s read wanted ms
+  rest_same read wanted [] same = refl
+  rest_same read wanted (m ∷ ms) same =
+      let rank = rank_of-same s t m (joined_parts (IsSameData s t) m (flat_map (λ x. x) ms) same).0 in
+      λ i. not (rank i == high_rank) && has_band wanted (rank i)
+
+  shelf_data : (shelves : List (List Message)) (q : ℕ) → All (IsSameData s t) (blocks_on shelves) → All (IsSameData s t) (flat_map (λ m. m) (get_or shelves q []))
+  shelf_data [] q same = λ k d within. absurd (omega (arith, within))
+  shelf_data (ms ∷ shelves) zero same = (joined_parts (IsSameData s t) (flat_map (λ m. m) ms) (blocks_on shelves) same).0
+  shelf_data (ms ∷ shelves) (suc q) same = shelf_data shelves q (joined_parts (IsSameData s t) (flat_map (λ m. m) ms) (blocks_on shelves) same).1
+
+-- each queue is awake as before
+pub awake_same : (v w : PoolValue) → KeepsQueued v w → (q n : ℕ) → is_awake (queued_blocks_of w) q n ≡ is_awake (queued_blocks_of v) q n
+awake_same v w keeps q n =
+    (λ i. not (flags_at (keeps.queues i) q).noenable
+    && (rows.has q (keeps.queues i).run || may_rest w.arena.store (flags_at (keeps.queues i) q).read (flags_at (keeps.queues i) n).wanted (get_or (keeps.shelves i) q [])))
+    ∙ ap (λ r. not (flags_at v.queues q).noenable && (rows.has q v.queues.run || r))
+    (rest_same v.arena.store w.arena.store (flags_at v.queues q).read (flags_at v.queues n).wanted (shelf_at v.arena q) (shelf_data v.arena.store w.arena.store v.arena.shelves q keeps.contents))
+
+pub queued_kept : (v w : PoolValue) → KeepsQueued v w → AreKeptAwake v → AreKeptAwake w
+queued_kept v w keeps kept = record {
+  lines = subst (λ (s : QueueState). AreLines s.specs) (sym keeps.queues) kept.lines;
+  awake = λ q n next. awake_same v w keeps q n ∙ kept.awake q n (ap (λ (s : QueueState). next_of s.specs q) (sym keeps.queues) ∙ next);
+}
+
+-- ---- for users of `change` and authors of modules
+
+-- a call on held messages leaves the queues and the messages on them
+pub arena_keeps : {X : Type 0} (heads : List ℕ) (v w : PoolValue) (call : Given Arena X) → w ≡ value_after v (on_arena v call) → LeavesShelves heads v.arena w.arena → KeepsQueued v w
+arena_keeps heads v w (Ok given) after left = record { queues = ap (λ (p : PoolValue). p.queues) after; shelves = left.shelves; contents = left.shelved_data }
+arena_keeps heads v w (Err why) after left = record { queues = ap (λ (p : PoolValue). p.queues) after; shelves = left.shelves; contents = left.shelved_data }
+
+-- and so do two
+pub keeps_joined : (v x w : PoolValue) → KeepsQueued v x → KeepsQueued x w → KeepsQueued v w
+keeps_joined v x w first second = record {
+  queues = second.queues ∙ first.queues;
+  shelves = second.shelves ∙ first.shelves;
+  contents = λ k d within.
+      let here : k < length (shelved_blocks x.arena) = subst (λ (ss : List (List Message)). k < length (blocks_on ss)) (sym first.shelves) within in
+      let same : get_or (shelved_blocks x.arena) k d ≡ get_or (shelved_blocks v.arena) k d = ap (λ (ss : List (List Message)). get_or (blocks_on ss) k d) first.shelves in
+      subst (λ (b : Block). IsSameData x.arena.store w.arena.store b) same (second.contents k d here) ∙ first.contents k d within;
+}
+
+pub keeps_same : (v : PoolValue) → KeepsQueued v v
+keeps_same v = record { queues = refl; shelves = refl; contents = λ k d within. refl }
+
+-- a message that was made anew in another pool was freed here; otherwise nothing changed
+pub transfer_keeps : (t : TokenValue) (v w : PoolValue) (result : Result TokenValue Rejected)
+    → MatchResult result (λ u. Spends arena t (with_token_spent v t) v w) (λ rejected. (rejected.token ≡ t) × (w ≡ v)) → KeepsQueued v w
+transfer_keeps t v w (Ok u) here = arena_keeps (t.head ∷ []) v w (Ok (t.head, freeing.with_token_spent v.arena t)) here.after here.shelves
+transfer_keeps t v w (Err rejected) here = subst (λ (x : PoolValue). KeepsQueued v x) (sym here.1) (keeps_same v)

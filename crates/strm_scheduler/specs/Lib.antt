@@ -1,0 +1,8 @@
+pub mod Lines
+pub mod Awake
+pub mod Running
+pub mod Order
+pub mod Laws
+pub mod Work
+pub mod Serving
+pub mod Modules

@@ -1,0 +1,17 @@
+//! A module that changes nothing.
+ghost use Rattle.std.specs.Prelude.{◌≡◌, Some};
+
+use crate::module::Module;
+use strm_pool::{Pool, Token};
+
+/// A module that passes each message on as it is.
+#[derive(Clone, Copy, Debug)]
+pub struct Passing;
+
+impl Module for Passing {
+    ghost treats = { λ m v q t r n w. (r ≡ Some t) × (n ≡ m) × (w ≡ v) };
+
+    fn treat(&mut self, _pool: &mut Pool, _queue: u8, token: Token) -> Option<Token> {
+        Some(token)
+    }
+}

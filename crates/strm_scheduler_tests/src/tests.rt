@@ -1,0 +1,55 @@
+use arrayvec::ArrayVec;
+use std::alloc::Global;
+use std::process::Abort;
+use strm_pool::{ClassSpec, ClassSpecs, Config, QueueSpec, QueueSpecs};
+use strm_scheduler::{Lines, LinesFault};
+
+mod drawn;
+mod joining;
+mod making;
+mod modules;
+mod plain;
+mod rows;
+mod same;
+
+// The greatest number of bytes of a message, and of queues.
+const MOST: usize = 4_096;
+
+const QUEUES: usize = 8;
+
+// The number of message blocks, and of data blocks.
+const MESSAGES: u32 = 48;
+
+// The spec of a queue with these water marks: with a service procedure, if it has a next queue.
+fn queue(hiwat: u32, lowat: u32, next: Option<u8>) -> QueueSpec {
+    QueueSpec {
+        hiwat,
+        lowat,
+        service: next.is_some(),
+        next,
+    }
+}
+
+// The configuration of a pool with this id and these queues.
+fn configured(rt: &impl Abort, id: u32, specs: &[QueueSpec]) -> Config {
+    let mut classes = ArrayVec::new();
+    classes.push(ClassSpec {
+        size: 4_096,
+        count: MESSAGES,
+    });
+    let mut queues = ArrayVec::new();
+    assert!(rt; queues.try_extend_from_slice(specs).is_ok());
+    Config {
+        id,
+        mblks: MESSAGES,
+        classes: ClassSpecs::of(classes),
+        queues: QueueSpecs::of(queues),
+        bufcalls: 0,
+        first_id: 1,
+    }
+}
+
+// Makes lines of these queues.
+fn opened(rt: &impl Abort, alloc: Global, specs: &[QueueSpec]) -> Result<Lines, LinesFault> {
+    Lines::new(alloc, configured(rt, 1, specs))
+}

@@ -1,0 +1,251 @@
+//! Drawn calls on lines and on plain lists, which are compared after each call.
+ghost use Rattle.std.specs.Prelude.{◌<◌};
+
+use super::making::{most_bytes, put, taken};
+use super::modules::Way;
+use super::plain::{HIGH_RANK, Plain};
+use super::same::assert_same;
+use super::{MESSAGES, QUEUES, opened, queue};
+use std::alloc::Global;
+use std::process::Abort;
+use strm_pool::{QueueSpec, Refusal};
+use strm_scheduler::Lines;
+
+// The ways in which queues are served.
+const WAYS: [Way; 4] = [Way::Forward, Way::Pass, Way::Mark, Way::Drop];
+
+// Lines and plain lists that get the same calls: `count` queues in `lines` lines, which take turns in the numbers.
+#[derive(Drop)]
+struct Drawn {
+    lines: Lines,
+    plain: Plain,
+    // As many bytes as a message may have: to write, and to read into.
+    bytes: Vec<u8>,
+    room: Vec<u8>,
+    count: u8,
+    step: u8,
+    draw: u32,
+    // How often a message waited after a run, and how often one was taken.
+    waited: u32,
+    taken: u32,
+}
+
+// The next number below `limit` of a fixed sequence.
+fn below(draw: &mut u32, limit: u32) -> u32
+    requires { 0 < limit }
+    ensures { result < limit }
+{
+    *draw = draw.wrapping_mul(1_664_525).wrapping_add(1_013_904_223);
+    (*draw >> 8) % limit
+}
+
+// One of `count` numbers from 0 on.
+fn any_of(draw: &mut u32, count: u8) -> u8 {
+    if count == 0 {
+        0
+    } else {
+        below(draw, u32::from(count)) as u8
+    }
+}
+
+// A number of bytes: up to 4,096, mostly few.
+fn size(draw: &mut u32) -> u32 {
+    if below(draw, 4) == 0 {
+        below(draw, 4_097)
+    } else {
+        below(draw, 4)
+    }
+}
+
+// A band, mostly one of the first three.
+fn band(draw: &mut u32) -> u8 {
+    if below(draw, 8) == 0 {
+        below(draw, 256) as u8
+    } else {
+        below(draw, 3) as u8
+    }
+}
+
+// A rank: that of high priority, or a band.
+fn rank(draw: &mut u32) -> u16 {
+    if below(draw, 8) == 0 {
+        HIGH_RANK
+    } else {
+        u16::from(band(draw))
+    }
+}
+
+// A high water mark, and a low one below it.
+fn marks(draw: &mut u32) -> (u32, u32) {
+    let (one, other) = if below(draw, 3) == 0 {
+        (below(draw, 8_192), below(draw, 8_192))
+    } else {
+        (below(draw, 8), below(draw, 8))
+    };
+    if one < other {
+        (other, one)
+    } else {
+        (one.wrapping_add(1), other)
+    }
+}
+
+// The specs of queues with drawn water marks, in lines that take turns in the numbers.
+fn specs(draw: &mut u32, count: u8, step: u8) -> [QueueSpec; QUEUES] {
+    let mut specs = [queue(1, 0, None); QUEUES];
+    for (number, spec) in specs.iter_mut().enumerate() {
+        let (hiwat, lowat) = marks(draw);
+        let next = (number as u8).wrapping_add(step);
+        *spec = queue(hiwat, lowat, (next < count).then_some(next));
+    }
+    specs
+}
+
+impl Drawn {
+    fn opened(rt: &impl Abort, alloc: Global, count: u8, step: u8) -> Drawn {
+        let mut draw = u32::from(count).wrapping_add(u32::from(step) << 8);
+        let specs = specs(&mut draw, count, step);
+        let specs = specs.get(..usize::from(count)).expect(rt, "few queues");
+        Drawn {
+            lines: opened(rt, alloc, specs).expect(rt, "lines"),
+            plain: Plain::new(rt, alloc, specs),
+            bytes: most_bytes(rt, alloc),
+            room: most_bytes(rt, alloc),
+            count,
+            step,
+            draw,
+            waited: 0,
+            taken: 0,
+        }
+    }
+
+    // One of the queues.
+    fn any_queue(&mut self) -> u8 {
+        any_of(&mut self.draw, self.count)
+    }
+
+    // Puts a message on a queue, if a block is free.
+    fn put(&mut self, rt: &impl Abort) {
+        let queue = self.any_queue();
+        let rank = rank(&mut self.draw);
+        let size = size(&mut self.draw);
+        let census = self.lines.pool().census();
+        let bytes = self.bytes.get(..size as usize).expect(rt, "few bytes");
+        match put(&mut self.lines, queue, rank, bytes) {
+            Ok(message) => self.plain.putq(rt, queue, message),
+            Err(why) => assert_eq!(rt; (census.free, why), (0, Refusal::NoMblk)),
+        }
+    }
+
+    // Takes a message off the last queue of a line. Says whether there was one.
+    fn take(&mut self, rt: &impl Abort, queue: u8) -> bool {
+        let taken = taken(&mut self.lines, queue, &mut self.room).expect(rt, "a last queue");
+        match (taken, self.plain.getq(rt, queue)) {
+            (Some(taken), Some(wanted)) => {
+                taken.assert_is(rt, &self.room, &wanted);
+                self.taken = self.taken.wrapping_add(1);
+                true
+            }
+            (None, None) => false,
+            _ => panic!(rt; "a message is lost"),
+        }
+    }
+
+    // Takes a message off the last queue of one of the lines.
+    fn take_any(&mut self, rt: &impl Abort) {
+        let line = any_of(&mut self.draw, self.step);
+        self.take(rt, self.count.wrapping_sub(1).wrapping_sub(line));
+    }
+
+    // Asks whether a band of a queue has room.
+    fn ask(&mut self, rt: &impl Abort) {
+        let queue = self.any_queue();
+        let band = band(&mut self.draw);
+        let room = self.plain.bcanput(rt, queue, band);
+        assert_eq!(rt; self.lines.bcanput(queue, band), Ok(room));
+    }
+
+    // Sets the water marks of a band.
+    fn mark(&mut self, rt: &impl Abort) {
+        let queue = self.any_queue();
+        let band = band(&mut self.draw);
+        let (hiwat, lowat) = marks(&mut self.draw);
+        assert_eq!(rt;
+            self.lines.strqset(queue, band, lowat, hiwat),
+            Err(Refusal::BadMarks)
+        );
+        assert_eq!(rt; self.lines.strqset(queue, band, hiwat, lowat), Ok(()));
+        self.plain.strqset(rt, queue, band, (hiwat, lowat));
+    }
+
+    // Serves queues until none is enabled.
+    fn run(&mut self, rt: &impl Abort, way: Way) {
+        way.run(&mut self.lines);
+        self.plain.run(rt, way);
+        if self.plain.waits() {
+            self.waited = self.waited.wrapping_add(1);
+        }
+    }
+
+    // Makes a drawn call.
+    fn call(&mut self, rt: &impl Abort) {
+        match below(&mut self.draw, 16) {
+            0..6 => self.put(rt),
+            6..9 => self.take_any(rt),
+            9 => self.ask(rt),
+            10..12 => self.mark(rt),
+            _ => {
+                let way = WAYS[below(&mut self.draw, 4) as usize];
+                self.run(rt, way);
+            }
+        }
+    }
+
+    // Makes `steps` drawn calls. After each one all is compared, but of most bands only after each 16th call.
+    fn walk(&mut self, rt: &impl Abort, steps: u32) {
+        for step in 0..steps {
+            self.call(rt);
+            let last = if step % 16 == 0 { u8::MAX } else { 2 };
+            assert_same(rt, &self.lines, &self.plain, last);
+        }
+        assert!(rt; self.waited > 0 && self.taken > 0);
+    }
+
+    // Takes the first message of each line.
+    fn take_each(&mut self, rt: &impl Abort) {
+        for line in 0..self.step {
+            self.take(rt, self.count.wrapping_sub(1).wrapping_sub(line));
+        }
+    }
+
+    // Takes all messages off the last queues, and serves queues meanwhile: then no queue has a message.
+    fn end(&mut self, rt: &impl Abort) {
+        for _message in 0..=MESSAGES {
+            self.run(rt, Way::Forward);
+            self.take_each(rt);
+        }
+        assert_same(rt, &self.lines, &self.plain, u8::MAX);
+        let census = self.lines.pool().census();
+        assert_eq!(rt; (census.free, census.queued, census.held), (MESSAGES, 0, 0));
+    }
+}
+
+// Draws calls on lines of this number of queues.
+fn draw_on(rt: &impl Abort, alloc: Global, count: u8, step: u8) {
+    let mut drawn = Drawn::opened(rt, alloc, count, step);
+    drawn.walk(rt, 1_000);
+    drawn.end(rt);
+}
+
+#[test]
+fn one_line(rt: HostRuntime) {
+    for count in 2..=8 {
+        draw_on(&rt, rt.alloc(), count, 1);
+    }
+}
+
+#[test]
+fn two_lines(rt: HostRuntime) {
+    for count in 4..=8 {
+        draw_on(&rt, rt.alloc(), count, 2);
+    }
+}

@@ -1,0 +1,310 @@
+//! Lines of queues as plain lists, with service procedures that keep the rules of docs/MODEL.md.
+use super::making::is_high;
+use super::modules::Way;
+use std::alloc::Global;
+use std::process::Abort;
+use strm_pool::{BANDS, QueueSpec};
+
+// The rank of messages of high priority.
+pub(super) const HIGH_RANK: u16 = BANDS as u16;
+
+// More services than a run needs.
+const SERVICES: u32 = 100_000;
+
+// A message: the number of its first block, its rank, its number of bytes, and its first byte.
+#[derive(Clone, Copy)]
+pub(super) struct Standing {
+    pub(super) head: u32,
+    pub(super) rank: u16,
+    pub(super) size: u32,
+    pub(super) first: u8,
+}
+
+// The water marks and the wanted mark of a band.
+#[derive(Clone, Copy)]
+pub(super) struct Band {
+    pub(super) hiwat: u32,
+    pub(super) lowat: u32,
+    pub(super) wanted: bool,
+}
+
+// A queue: its messages front to back, its bands, its next queue, and its want-to-read mark.
+#[derive(Drop)]
+pub(super) struct Queue {
+    messages: Vec<Standing>,
+    bands: [Band; BANDS],
+    next: Option<u8>,
+    read: bool,
+}
+
+// The queues, and the run list.
+#[derive(Drop)]
+pub(super) struct Plain {
+    queues: Vec<Queue>,
+    run: Vec<u8>,
+}
+
+// The band of a rank: 0 for high priority.
+pub(super) fn band_of(rank: u16) -> u8 {
+    u8::try_from(rank).unwrap_or(0)
+}
+
+impl Queue {
+    fn new(alloc: Global, spec: &QueueSpec) -> Queue {
+        let band = Band {
+            hiwat: spec.hiwat,
+            lowat: spec.lowat,
+            wanted: false,
+        };
+        Queue {
+            messages: Vec::new(alloc),
+            bands: [band; BANDS],
+            next: spec.next,
+            read: true,
+        }
+    }
+
+    // The messages, front to back.
+    pub(super) fn messages(&self) -> &[Standing] {
+        &self.messages
+    }
+
+    // The want-to-read mark.
+    pub(super) fn read(&self) -> bool {
+        self.read
+    }
+
+    // Whether there is a next queue.
+    pub(super) fn goes_on(&self) -> bool {
+        self.next.is_some()
+    }
+
+    // The water marks and the wanted mark of a band.
+    pub(super) fn band(&self, band: u8) -> Band {
+        self.bands[usize::from(band)]
+    }
+
+    // The number of bytes of each band's messages.
+    pub(super) fn counts(&self) -> [u32; BANDS] {
+        let mut counts = [0u32; BANDS];
+        for message in &self.messages {
+            let count = &mut counts[usize::from(band_of(message.rank))];
+            *count = count.wrapping_add(message.size);
+        }
+        counts
+    }
+
+    // The number of bytes of all messages.
+    pub(super) fn bytes(&self) -> u32 {
+        let mut bytes = 0u32;
+        for message in &self.messages {
+            bytes = bytes.wrapping_add(message.size);
+        }
+        bytes
+    }
+
+    // The number of messages of at least this rank.
+    fn as_high(&self, rank: u16) -> usize {
+        self.messages
+            .iter()
+            .filter(|other| other.rank >= rank)
+            .count()
+    }
+
+    // The number of messages of a greater rank.
+    fn higher(&self, rank: u16) -> usize {
+        self.messages
+            .iter()
+            .filter(|other| other.rank > rank)
+            .count()
+    }
+
+    // Puts a message after the last one of at least its rank.
+    fn put_behind(&mut self, rt: &impl Abort, message: Standing) {
+        let place = self.as_high(message.rank);
+        self.insert(rt, place, message);
+    }
+
+    // Puts a message before the first one of at most its rank.
+    fn put_ahead(&mut self, rt: &impl Abort, message: Standing) {
+        let place = self.higher(message.rank);
+        self.insert(rt, place, message);
+    }
+
+    fn insert(&mut self, rt: &impl Abort, place: usize, message: Standing) {
+        assert!(rt; place <= self.messages.len());
+        assert!(rt; self.messages.insert(place, message).is_ok());
+    }
+
+    // Takes the first message, if any, which clears the want-to-read mark. If there is none, sets the mark.
+    fn take_first(&mut self) -> Option<Standing> {
+        self.read = self.messages.is_empty();
+        if self.messages.is_empty() {
+            None
+        } else {
+            Some(self.messages.remove(0))
+        }
+    }
+
+    // Whether a band has room; if not, sets its wanted mark.
+    fn has_room(&mut self, band: u8) -> bool {
+        let count = self.counts()[usize::from(band)];
+        let band = &mut self.bands[usize::from(band)];
+        let room = count < band.hiwat;
+        band.wanted = band.wanted || !room;
+        room
+    }
+
+    // Clears the wanted mark of each band that has drained. Says whether one was cleared.
+    fn settle(&mut self) -> bool {
+        let counts = self.counts();
+        let mut cleared = false;
+        for (band, count) in self.bands.iter_mut().zip(counts.iter()) {
+            if band.wanted && *count <= band.lowat {
+                band.wanted = false;
+                cleared = true;
+            }
+        }
+        cleared
+    }
+
+    fn set_marks(&mut self, band: u8, hiwat: u32, lowat: u32) {
+        let band = &mut self.bands[usize::from(band)];
+        band.hiwat = hiwat;
+        band.lowat = lowat;
+    }
+}
+
+impl Plain {
+    // Empty queues of these specs.
+    pub(super) fn new(rt: &impl Abort, alloc: Global, specs: &[QueueSpec]) -> Plain {
+        let mut queues = Vec::new(alloc);
+        for spec in specs {
+            assert!(rt; queues.push(Queue::new(alloc, spec)).is_ok());
+        }
+        Plain {
+            queues,
+            run: Vec::new(alloc),
+        }
+    }
+
+    pub(super) fn queues(&self) -> &[Queue] {
+        &self.queues
+    }
+
+    // The run list, first queue first.
+    pub(super) fn enabled(&self) -> &[u8] {
+        &self.run
+    }
+
+    fn queue(&mut self, rt: &impl Abort, queue: u8) -> &mut Queue {
+        self.queues
+            .get_mut(usize::from(queue))
+            .expect(rt, "a queue")
+    }
+
+    // The queue whose next queue is this one, if any.
+    fn behind(&self, queue: u8) -> Option<u8> {
+        for (number, other) in (0..u8::MAX).zip(self.queues.iter()) {
+            if other.next == Some(queue) {
+                return Some(number);
+            }
+        }
+        None
+    }
+
+    // Puts a queue at the end of the run list, unless it is there or has no next queue.
+    fn enable(&mut self, rt: &impl Abort, queue: u8) {
+        if self.queue(rt, queue).goes_on() && !self.run.contains(&queue) {
+            assert!(rt; self.run.push(queue).is_ok());
+        }
+    }
+
+    // Settles a queue: if a wanted mark is cleared, the queue behind is enabled.
+    fn settle(&mut self, rt: &impl Abort, queue: u8) {
+        if self.queue(rt, queue).settle()
+            && let Some(behind) = self.behind(queue)
+        {
+            self.enable(rt, behind);
+        }
+    }
+
+    pub(super) fn putq(&mut self, rt: &impl Abort, queue: u8, message: Standing) {
+        let own = self.queue(rt, queue);
+        own.put_behind(rt, message);
+        if own.read || message.rank > 0 {
+            self.enable(rt, queue);
+        }
+    }
+
+    fn putbq(&mut self, rt: &impl Abort, queue: u8, message: Standing) {
+        let own = self.queue(rt, queue);
+        own.put_ahead(rt, message);
+        if own.read || is_high(message.rank) {
+            self.enable(rt, queue);
+        }
+    }
+
+    pub(super) fn getq(&mut self, rt: &impl Abort, queue: u8) -> Option<Standing> {
+        let first = self.queue(rt, queue).take_first()?;
+        self.settle(rt, queue);
+        Some(first)
+    }
+
+    // Whether a band of a queue has room; if not, the band is wanted. Each queue is its own target.
+    pub(super) fn bcanput(&mut self, rt: &impl Abort, queue: u8, band: u8) -> bool {
+        self.queue(rt, queue).has_room(band)
+    }
+
+    pub(super) fn strqset(&mut self, rt: &impl Abort, queue: u8, band: u8, marks: (u32, u32)) {
+        self.queue(rt, queue).set_marks(band, marks.0, marks.1);
+        self.settle(rt, queue);
+    }
+
+    // Hands the first message of a queue on, if there is one and it may go. Says whether it went.
+    fn hand_on(&mut self, rt: &impl Abort, queue: u8, next: u8, way: Way) -> bool {
+        let Some(message) = self.getq(rt, queue) else {
+            return false;
+        };
+        if !is_high(message.rank) && !self.bcanput(rt, next, band_of(message.rank)) {
+            self.putbq(rt, queue, message);
+            return false;
+        }
+        if let Some(treated) = way.treated(message) {
+            self.putq(rt, next, treated);
+        }
+        true
+    }
+
+    // Serves a queue: its messages are handed on, until none is left or one may not go.
+    fn serve(&mut self, rt: &impl Abort, queue: u8, way: Way) {
+        let Some(next) = self.queue(rt, queue).next else {
+            panic!(rt; "a last queue is enabled");
+        };
+        let waiting = self.queue(rt, queue).messages.len();
+        for _message in 0..=waiting {
+            if !self.hand_on(rt, queue, next, way) {
+                return;
+            }
+        }
+    }
+
+    // Serves the queues on the run list until it is empty.
+    pub(super) fn run(&mut self, rt: &impl Abort, way: Way) {
+        for _service in 0..SERVICES {
+            if self.run.is_empty() {
+                return;
+            }
+            let queue = self.run.remove(0);
+            self.serve(rt, queue, way);
+        }
+        panic!(rt; "a run does not end");
+    }
+
+    // Whether a message waits on a queue that has a next one.
+    pub(super) fn waits(&self) -> bool {
+        self.queues
+            .iter()
+            .any(|queue| queue.goes_on() && !queue.messages.is_empty())
+    }
+}
