@@ -27,13 +27,15 @@ static void must(int code)
 }
 
 /* Sends 4 bytes in a band if that has room, and returns whether it had. */
-static int send_if_room(struct strm_pool *pool, uint32_t band, const char *bytes)
+static int send_if_room(struct strm_pool *pool, uint32_t band,
+	const char *bytes)
 {
 	struct strm_msg msg;
 	uint32_t room;
 
 	must(strm_bcanput(pool, WAY, band, &room));
-	printf("%s in band %u: %s\n", bytes, (unsigned)band, room ? "sent" : "must wait");
+	printf("%s in band %u: %s\n", bytes, (unsigned)band,
+		room ? "sent" : "must wait");
 	if (!room)
 		return 0;
 	must(strm_allocb(pool, 4, &msg));

@@ -27,13 +27,27 @@ static void must(int code)
 }
 
 /* Makes a message of one block. */
-static struct strm_msg block_of(struct strm_pool *pool, const char *bytes, size_t length)
+static struct strm_msg block_of(struct strm_pool *pool, const char *bytes,
+	size_t length)
 {
 	struct strm_msg msg;
 
 	must(strm_allocb(pool, (uint32_t)length, &msg));
 	must(strm_write(pool, msg, 0, bytes, length));
 	return msg;
+}
+
+/* Sends a message of three blocks to both queues. */
+static void send_to_both(struct strm_pool *pool)
+{
+	struct strm_msg msg, copy;
+
+	msg = block_of(pool, "head:", 5);
+	must(strm_linkb(pool, msg, block_of(pool, "lion, ", 6)));
+	must(strm_linkb(pool, msg, block_of(pool, "wolf", 4)));
+	must(strm_dupmsg(pool, msg, &copy));
+	must(strm_putq(pool, LOG, copy));
+	must(strm_putq(pool, LINE, msg));
 }
 
 /* Takes the message off a queue, trims bytes from its head, and prints and frees the rest. */
@@ -61,15 +75,9 @@ int main(void)
 	struct strm_config config = {
 		.id = 1, .mblks = 8, .classes = classes, .class_count = 1, .queues = queues, .queue_count = 2, .first_id = 1
 	};
-	struct strm_msg msg, copy;
 
 	must(strm_open(&pool, &config));
-	msg = block_of(&pool, "head:", 5);
-	must(strm_linkb(&pool, msg, block_of(&pool, "lion, ", 6)));
-	must(strm_linkb(&pool, msg, block_of(&pool, "wolf", 4)));
-	must(strm_dupmsg(&pool, msg, &copy));
-	must(strm_putq(&pool, LOG, copy));
-	must(strm_putq(&pool, LINE, msg));
+	send_to_both(&pool);
 	consume(&pool, LINE, 5);
 	consume(&pool, LOG, 0);
 	must(strm_close(&pool));

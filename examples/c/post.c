@@ -29,21 +29,31 @@ int post(struct strm_pool *pool, const void *bytes, size_t length)
 	return code;
 }
 
+/* Prints where the message blocks are. */
+static void print_census(struct strm_pool *pool)
+{
+	struct strm_census census;
+
+	if (strm_census(pool, &census) == STRM_OK)
+		printf("free %lu queued %lu held %lu\n", (unsigned long)census.free, (unsigned long)census.queued, (unsigned long)census.held);
+}
+
 int main(void)
 {
 	static const char bytes[300] = "lion";
 	struct strm_pool pool = STRM_POOL_INIT;
 	struct strm_config config = { 1, 40, NULL, 2, NULL, 1, 0, 1 };
-	struct strm_census census;
+	int code;
 
 	config.classes = classes;
 	config.queues = queues;
-	if (strm_open(&pool, &config) != STRM_OK)
+	code = strm_open(&pool, &config);
+	if (code != STRM_OK) {
+		fprintf(stderr, "post: %s\n", strm_error(code));
 		return EXIT_FAILURE;
-	printf("4 bytes: code %d\n", post(&pool, bytes, 4));
-	printf("300 bytes: code %d\n", post(&pool, bytes, sizeof bytes));
-	if (strm_census(&pool, &census) != STRM_OK)
-		return EXIT_FAILURE;
-	printf("free %lu queued %lu held %lu\n", (unsigned long)census.free, (unsigned long)census.queued, (unsigned long)census.held);
+	}
+	printf("4 bytes: %s\n", strm_error(post(&pool, bytes, 4)));
+	printf("300 bytes: %s\n", strm_error(post(&pool, bytes, sizeof bytes)));
+	print_census(&pool);
 	return strm_close(&pool) == STRM_OK ? EXIT_SUCCESS : EXIT_FAILURE;
 }

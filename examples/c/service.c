@@ -100,13 +100,27 @@ static void serve_outer(struct strm_pool *pool)
 	}
 }
 
+/* Runs the service procedure of each enabled queue, until none is enabled. In STREAMS the kernel has this loop. */
+static void serve_enabled(struct strm_pool *pool)
+{
+	uint32_t queue;
+	int code;
+
+	while ((code = strm_next_service(pool, &queue)) != STRM_NONE) {
+		must(code);
+		printf("queue %lu is served\n", (unsigned long)queue);
+		if (queue == INNER)
+			serve_inner(pool);
+		else
+			serve_outer(pool);
+	}
+}
+
 int main(void)
 {
 	struct strm_pool pool = STRM_POOL_INIT;
 	struct strm_config config = { 1, 16, NULL, 1, NULL, 2, 0, 1 };
 	struct strm_census census;
-	uint32_t queue;
-	int code;
 
 	config.classes = classes;
 	config.queues = queues;
@@ -115,15 +129,7 @@ int main(void)
 	post(&pool, "wolf");
 	post(&pool, "hare");
 	post(&pool, "crow");
-	/* this loop is the scheduler, which STREAMS has in the kernel */
-	while ((code = strm_next_service(&pool, &queue)) != STRM_NONE) {
-		must(code);
-		printf("queue %lu is served\n", (unsigned long)queue);
-		if (queue == INNER)
-			serve_inner(&pool);
-		else
-			serve_outer(&pool);
-	}
+	serve_enabled(&pool);
 	must(strm_census(&pool, &census));
 	printf("free %lu queued %lu held %lu\n", (unsigned long)census.free, (unsigned long)census.queued, (unsigned long)census.held);
 	must(strm_close(&pool));

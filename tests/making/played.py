@@ -131,6 +131,25 @@ ALSO_BY_RULE = [
         "Band 0 of queue 1 was wanted and its bytes, 10, are at most its low water mark, 20, so its waker, queue 0, is enabled.",
     ),
 ]
+# The rules on a band that is full or wanted, of which `why` says since when it is.
+HAVE_LASTED = ("full", "stays")
+# Lines for a pool with labels of queues, and what is shown of them.
+LABELLED = (
+    "allocb a 16; write a 0 00000000000000000000; putq 1 a; bcanput 1 0; #: queue 1 a driver; bcanput 1 0; why; "
+    "allocb b 1; write b 0 0102030405; putq 1 b; getq 1 c; why; getq 1 d; why",
+    "ok\nok\nok\nno\nno\n"
+    "0:14 bcanput 1 0: no\n"
+    "  Band 0 of queue 1 (a driver), the target, is full: its bytes, 10, reach its high water mark, 10. (docs/MODEL.md, Flow control)\n"
+    "  Band 0 of queue 1 (a driver) has been full since 0:11 putq 1 a, and wanted since 0:12 bcanput 1 0.\n"
+    "ok\nok\nok\nok\n"
+    "0:18 getq 1 c: ok, not enabled\n"
+    "  Band 0 of queue 1 (a driver) stays wanted: its bytes, 5, are above its low water mark, 4. (docs/MODEL.md, Flow control)\n"
+    "  Band 0 of queue 1 (a driver) has been wanted since 0:12 bcanput 1 0.\n"
+    "ok\n"
+    "0:19 getq 1 d: ok, enabled\n"
+    "  Band 0 of queue 1 (a driver) was wanted and its bytes, 0, are at most its low water mark, 4, so its waker, queue 0 (reader), is enabled."
+    " (docs/MODEL.md, Flow control)\n",
+)
 EMPTY = "0:9 putq 0 z: empty\n  Register z holds no message. (docs/MODEL.md, Registers and steps)\n"
 NOTHING = "nothing to explain: no line was refused, replied no or none, or could enable a queue\n"
 # What `why` says of the last line, also after undo, redo and a change of the pool.

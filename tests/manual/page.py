@@ -164,6 +164,11 @@ def refusals():
     }
 
 
+def terms_of_sharing():
+    """The terms of shared pools that the page explains."""
+    return [item.head.removeprefix(".It ") for item in items(section("SHARED POOLS"))]
+
+
 def faults():
     """The faults of a script and of its configuration, each with its example, or none."""
     return {marked("Cm", [item.head])[0]: "".join(quoted(item.body)) for item in items(section("FAULTS"))}

@@ -82,19 +82,19 @@ def read(path):
     return octets.decode("utf-8", "replace")
 
 
-def write_pieces(pieces, path="-"):
-    """Writes texts one after another to a file, or to standard output, which is `-`."""
+def write_pieces(pieces):
+    """Writes texts one after another to standard output."""
     try:
-        with open(os.dup(STANDARD_OUTPUT) if path == "-" else path, "wb") as file:
+        with open(os.dup(STANDARD_OUTPUT), "wb") as file:
             for piece in pieces:
                 file.write(piece.encode("utf-8", "replace"))
     except OSError as why:
-        end_for(name_of(path, "standard output"), why)
+        end_for("standard output", why)
 
 
-def write(text, path="-"):
-    """Writes a text to a file, or to standard output, which is `-`."""
-    write_pieces([text], path)
+def write(text):
+    """Writes a text to standard output."""
+    write_pieces([text])
 
 
 @atexit.register

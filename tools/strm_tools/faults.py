@@ -119,6 +119,13 @@ class LineFault(NamedTuple):
     # How many lines of its kind came before it.
     count: int
 
+    def reported(self):
+        """The fault as strm reports it."""
+        return f"line {self.number}: {self.kind}"
+
+    def explained(self):
+        return self.reported()
+
 
 class Reading:
     """A script as far as it was read. Reading goes on after a fault:
@@ -180,6 +187,13 @@ class ConfigFault(NamedTuple):
     which: str
     number: int
     why: str
+
+    def reported(self):
+        """The fault as strm reports it."""
+        return f"bad config: {self.which}"
+
+    def explained(self):
+        return f"line {self.number}: {self.reported()}: {self.why}"
 
 
 class Header:
@@ -287,22 +301,21 @@ def lines_of(script):
     return io.StringIO(script, newline="\n")
 
 
-def fault_of(script):
-    """Why strm does not run a script, as strm reports it, or None."""
+def first_fault(script):
+    """The first fault of a script: of a line, or else of the pool that its header describes, or None."""
     reading = Reading()
     fault = next(reading.faults(lines_of(script)), None)
-    if fault:
-        return f"line {fault.number}: {fault.kind}"
-    return next((f"bad config: {fault.which}" for fault in config_faults(reading.header)), None)
+    return fault or next(iter(config_faults(reading.header)), None)
 
 
-def config_fault_of(pool):
-    """Why strm does not open a pool, as strm reports it, or None."""
-    return fault_of("".join(f"{line}\n" for line in [*pool.header(), "worker"]))
+def fault_of(script):
+    """Why strm does not run a script, as strm reports it, or None."""
+    fault = first_fault(script)
+    return fault and fault.reported()
 
 
 def require_right(script):
-    """Raises `Wrong` if strm refuses the script, for the reason that strm reports."""
-    why = fault_of(script)
-    if why:
-        raise Wrong(why, "script")
+    """Raises `Wrong` with the first fault of a script and its line, if strm refuses the script."""
+    fault = first_fault(script)
+    if fault:
+        raise Wrong(fault.explained(), "script")

@@ -4,7 +4,7 @@ A message that is held has a register. What was changed in message blocks throug
 next call, as lines that make the same change. The reply to each of these is `ok`."""
 from collections import Counter
 
-from strm_tools.faults import AFTER, MOST, config_fault_of
+from strm_tools.faults import AFTER, MOST, config_faults
 from strm_tools.held import Held
 from strm_tools.labels import WRITTEN, form_of, queues_of
 from strm_tools.made_script import Script
@@ -25,10 +25,12 @@ class Recording:
         self.is_checked = is_checked
         # The number of the line.
         self.at = 0
-        # The pool, once the header is whole; until then the last line of it, and how many there are of each.
+        # The pool, once the header is whole; until then the last line of it, how many there are of each, and all of them: number in the
+        # trace, first word, further words.
         self.pool = None
         self.before = "nothing"
-        self.header = Counter()
+        self.counts = Counter()
+        self.header = []
         # Who made the call, and who makes all calls where a label says so.
         self.who = None
         self.label = None
@@ -78,9 +80,10 @@ class Recording:
         first = header_line(line)
         if first not in AFTER[self.before]:
             raise Bad(f"expected {self.next_of_header()}, here {quoted(line)}")
-        if self.header[first] == MOST.get(first):
+        if self.counts[first] == MOST.get(first):
             raise Bad(f"a header has at most {MOST[first]} lines {first}")
-        self.header[first] += 1
+        self.counts[first] += 1
+        self.header.append((self.at, first, line.split(" ")[1:]))
         self.before = first
         self.made.add_row(line)
         if first == "bufcalls":
@@ -88,9 +91,9 @@ class Recording:
 
     def open_pool(self):
         self.pool, _ = script_of(self.made.script())
-        fault = config_fault_of(self.pool)
+        fault = next(iter(config_faults(self.header)), None)
         if fault:
-            raise Bad(f"strm does not open the pool of this header: {fault}")
+            raise Bad(f"{fault.reported()}: {fault.why}", fault.number)
         if self.is_checked:
             self.made.plain = Plain(self.pool)
 

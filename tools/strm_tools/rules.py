@@ -82,6 +82,8 @@ RULES = {
     ),
     "not_wanted": Rule("not enabled", "No band of queue {Q} is wanted.", FLOW),
 }
+# Which names in sentences are those of queues.
+QUEUES_OF_RULE = ("Q", "W")
 # What a rule decides, if it is no reply.
 EFFECTS = ("enabled", "not enabled")
 PUTS = ("putq", "putbq", "insq")
@@ -99,18 +101,25 @@ class Found(NamedTuple):
     def rule(self):
         return RULES[self.name]
 
-    def text(self):
-        return self.rule.sentence.format(**self.numbers)
+    def text(self, labels=()):
+        """The rule's sentence. A queue that has a label in `labels` has it after its number."""
+        named = {name: f"{number} ({labels[number]})" for name, number in self.numbers.items() if name in QUEUES_OF_RULE and number in labels}
+        return self.rule.sentence.format_map({**self.numbers, **named})
 
 
 def found(name, **numbers):
     return Found(name, numbers)
 
 
+def denies(reply):
+    """Whether a reply is a refusal, or `no`. Each such line has a rule."""
+    return reply.partition(" ")[0] in ("refused", "empty", "taken", "no")
+
+
 def explains(word, reply):
     """Whether a rule explains the reply to a line, or what the line enables."""
     name = reply.partition(" ")[0]
-    return name in ("refused", "empty", "taken", "no") or (word, name) == ("service", "none") or word in (*PUTS, *SETTLES, *SWITCHES, "qenable")
+    return denies(reply) or (word, name) == ("service", "none") or word in (*PUTS, *SETTLES, *SWITCHES, "qenable")
 
 
 def why(model, word, items, values):

@@ -1,4 +1,4 @@
-"""Writes several files: all of them or, where one can't be written, none."""
+"""Writes files: each whole and all of them or, where one can't be written, none."""
 import os
 import stat
 
@@ -6,11 +6,11 @@ from strm_tools.ends import STANDARD_OUTPUT, end_for, name_of
 
 
 class Target:
-    """A file to write. Its text goes into a new file beside it, which then takes its name."""
+    """A file to write, from pieces of text. They go into a new file beside it, which then takes its name."""
 
-    def __init__(self, path, text):
+    def __init__(self, path, pieces):
         self.path = path
-        self.octets = text.encode("utf-8", "replace")
+        self.pieces = pieces
         self.file = os.path.realpath(path)
         self.new = f"{self.file}.{os.getpid()}.new"
         self.old = f"{self.file}.{os.getpid()}.old"
@@ -29,15 +29,17 @@ class Target:
             return os.dup(STANDARD_OUTPUT)
         return self.new if self.path and not self.is_device() else self.path
 
-    def prepare(self):
-        """Writes the text, but for a device into the new file. A file that is there already also gets a second name."""
+    def prepare(self, is_kept):
+        """Writes the text, but for a device into the new file. If `is_kept`, a file that is there already also gets a second name."""
         with open(self.place(), "wb") as file:
-            file.write(self.octets)
+            for piece in self.pieces:
+                file.write(piece.encode("utf-8", "replace"))
         if self.was_there and not self.is_device():
             # A folder can't be opened so, nor a file that is read only.
             os.close(os.open(self.file, os.O_WRONLY))
             os.chmod(self.new, stat.S_IMODE(os.stat(self.file).st_mode))
-            os.link(self.file, self.old)
+            if is_kept:
+                os.link(self.file, self.old)
 
     def put(self):
         """Gives the new file the name of the file."""
@@ -46,10 +48,10 @@ class Target:
             self.is_put = True
 
     def take_back(self):
-        """Leaves the file as it was before."""
-        if self.is_put and self.was_there:
+        """Leaves the file as it was before, if it has a second name or was not there."""
+        if self.is_put and os.path.lexists(self.old):
             os.replace(self.old, self.file)
-        elif self.is_put:
+        elif self.is_put and not self.was_there:
             os.remove(self.file)
 
     def clear(self):
@@ -60,11 +62,13 @@ class Target:
 
 
 def write_together(texts):
-    """Writes texts into files, by path. The path `-` is standard output."""
-    targets = [Target(path, text) for path, text in texts.items()]
+    """Writes texts into files, by path, each in pieces. The path `-` is standard output."""
+    targets = [Target(path, pieces) for path, pieces in texts.items()]
+    # One file alone is there as soon as it has its name, so none has to be taken back. Some file systems have no second names.
+    is_kept = len(targets) > 1
     try:
         for target in targets:
-            target.prepare()
+            target.prepare(is_kept)
         for target in targets:
             target.put()
     except BaseException as why:

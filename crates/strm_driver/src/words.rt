@@ -10,8 +10,11 @@ use strm_script::MOST_SCRIPT_BYTES;
 // The greatest number of bytes of the input, if no word says otherwise.
 const DEFAULT_MAX: u32 = 1_048_576;
 
-// The usage line: no word names the script, which is standard input.
-const USAGE_LINE: &str = "strm [OPTIONS] <SCRIPT";
+// The usage, also after a refused word: no word names the script.
+const USAGE_TEXT: &str = "\
+strm [OPTIONS] <SCRIPT
+
+The script comes from standard input: strm <mine.strm";
 
 // What the help says after the options.
 const AFTER_OPTIONS: &str = "\
@@ -71,7 +74,7 @@ pub fn options_of(alloc: Global, words: &[String]) -> Result<Options, Error>
     let command = Command::new(alloc, "strm")
         .bin_name("strm")?
         .about("Executes a script of STREAMS calls from standard input, and prints each reply")
-        .override_usage(USAGE_LINE)
+        .override_usage(USAGE_TEXT)
         .after_help(AFTER_OPTIONS)
         .arg(serial)?
         .arg(max)?;

@@ -8,6 +8,7 @@ from itertools import takewhile
 from typing import NamedTuple
 
 from strm_tools.faults import require_right
+from strm_tools.labels import labels_of
 from strm_tools.model import WORDS, Model
 from strm_tools.play.letters import Letters
 from strm_tools.play.state import rows_of
@@ -65,7 +66,7 @@ class Play:
         self.turn = 0
         self.holds = False
         # The comments that may be labels.
-        self.labels = [line for line in header if line.startswith("#:")]
+        self.comments = [line for line in header if line.startswith("#:")]
         self.clear()
 
     def clear(self):
@@ -126,7 +127,11 @@ class Play:
         """A section has another line at this place."""
         self.sections[worker].lines.insert(place, text)
         if text.startswith("#:"):
-            self.labels.append(text)
+            self.comments.append(text)
+
+    def labels(self):
+        """The labels of queues."""
+        return labels_of("\n".join(self.comments)).queues
 
     def pass_over(self, worker):
         """Executes the next line of a worker, if it is a command."""
@@ -317,12 +322,27 @@ class Session:
         """A script that only opens the pool."""
         return text_of([*self.play.header, "worker"])
 
+    def models(self, count):
+        """A model that executes the first lines again, as many as `count` says: before them, and after each."""
+        model = Model(self.play.pool)
+        for _ in self.play.sections:
+            model.begin()
+        yield model
+        for line in self.play.executed[:count]:
+            word, items, values = parted(line.text)
+            model.turn_to(line.worker)
+            model.answer(word, items, values)
+            yield model
+
     def model_before(self, place):
         """The model before the executed line at a place, which is counted from 0."""
-        play = Play(self.play.header)
-        for _ in self.play.sections[1:]:
-            play.begin()
-        for line in self.play.executed[:place]:
-            play.execute(line.worker, line.text)
-        play.model.turn_to(self.play.executed[place].worker)
-        return play.model
+        *_, model = self.models(place)
+        model.turn_to(self.play.executed[place].worker)
+        return model
+
+    def since(self, place, facts):
+        """For each fact of a model, the place of the line since which it has held up to the line at `place`. If it does not hold then, None."""
+        begins = [None] * len(facts)
+        for at, model in enumerate(self.models(place + 1), -1):
+            begins = [(at if begin is None else begin) if fact(model) else None for begin, fact in zip(begins, facts)]
+        return begins

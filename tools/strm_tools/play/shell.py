@@ -12,7 +12,7 @@ from strm_tools.play.own import OWN, TypedHeader, explained, number_of, wrong_fo
 from strm_tools.play.session import changes_of, is_command, opening, parted, text_of
 from strm_tools.play.state import drawn, is_changed
 from strm_tools.play.turns import Turns
-from strm_tools.rules import EFFECTS, explains, why
+from strm_tools.rules import EFFECTS, FLOW, explains, why
 from strm_tools.script import Wrong
 from strm_tools.words import COMMANDS, HEADER, WORDS, counted, whole_form
 
@@ -282,9 +282,25 @@ class Shell(Turns):
         if place < len(rows) - 1:
             self.say(f"nothing to explain in the last line, {shown(rows[-1])}; before it:")
         _, text, _ = rows[place]
-        rule = why(self.session.model_before(place), *parted(text))
-        self.say(shown(rows[place]) + (f", {rule.rule.decides}" if rule.rule.decides in EFFECTS else ""))
-        self.face.paragraph("  ", f"{rule.text()} (docs/MODEL.md, {rule.rule.section})")
+        found = why(self.session.model_before(place), *parted(text))
+        self.say(shown(rows[place]) + (f", {found.rule.decides}" if found.rule.decides in EFFECTS else ""))
+        self.face.paragraph("  ", f"{found.text(self.play.labels())} (docs/MODEL.md, {found.rule.section})")
+        if found.rule.section == FLOW and "B" in found.numbers:
+            self.say_since(found, place, rows)
+
+    def say_since(self, found, place, rows):
+        """Says since which lines the band that a rule is about has been full and wanted, if it is."""
+        number, band = found.numbers["Q"], found.numbers["B"]
+        facts = {
+            "full": lambda model: model.queues[number].is_full(band),
+            "wanted": lambda model: band in model.queues[number].wanted,
+        }
+        begins = zip(facts, self.session.since(place, list(facts.values())))
+        parts = ["{} since {} {}".format(name, *rows[begin]) for name, begin in begins if begin is not None]
+        labels = self.play.labels()
+        label = f" ({labels[number]})" if number in labels else ""
+        if parts:
+            self.face.paragraph("  ", f"Band {band} of queue {number}{label} has been {', and '.join(parts)}.")
 
     def on_undo(self, count="1"):
         if self.typed is not None:

@@ -4,7 +4,6 @@ A row has a key. Its words are compared one by one with those that had the same 
 from itertools import zip_longest
 from typing import NamedTuple
 
-from strm_tools.labels import labels_of
 from strm_tools.model import rank
 
 BAR = 12
@@ -91,7 +90,7 @@ def rows_of_worker(play, worker, names_before):
 def rows_of(play, before=None):
     """The state as rows by key, with a row too for each band and register that has one in the state before."""
     model = play.model
-    labels = labels_of("\n".join(play.labels)).queues
+    labels = play.labels()
     kept = {}
     for kind, *place, last in filter(lambda key: key[0] in ("band", "register"), before or {}):
         kept.setdefault((kind, *place), []).append(last)

@@ -28,6 +28,7 @@ function tellLine(frame, line) {
     byId("slider").setAttribute("aria-valuetext", byId("where").textContent);
     byId("slider").value = frame;
     byId("frame").value = frame;
+    byId("place").value = frame > 0 ? `${line.worker}:${line.number}` : "";
 }
 
 // Shows a frame, or the nearest one there is. The page's address follows once nobody moves.
@@ -61,8 +62,19 @@ function redraw() {
     show(current);
 }
 
-// The frame that an address in the page names, or the first.
-const frameIn = (hash) => Number(/^#frame=(\d+)$/.exec(hash)?.[1] ?? 0);
+// The frame that an address in the page names, itself or by a line, or the first.
+function frameIn(hash) {
+    const [, what, value] = /^#(frame|line)=([\d:]+)$/.exec(hash) ?? [];
+    return (what === "line" ? frameOfPlace(value) : Number(value)) || 0;
+}
+
+// Goes to the line of the script that the field names, if it was executed.
+function goToPlace() {
+    const place = byId("place").value.trim();
+    const frame = frameOfPlace(place);
+    show(frame ?? current);
+    if (frame === undefined && place !== "") byId("where").textContent = `No line ${place} was executed`;
+}
 
 // ---- Playing -------------------------------------------------------------------------------------------------------------------------
 
@@ -87,6 +99,12 @@ const togglePlay = () => (playing === undefined ? play() : pause());
 
 // ---- Keys ----------------------------------------------------------------------------------------------------------------------------
 
+// Some browsers only select a text, and leave the focus where it is.
+function toField(id) {
+    byId(id).focus();
+    byId(id).select();
+}
+
 const KEYS = {
     ArrowLeft: () => show(current - 1),
     ArrowRight: () => show(current + 1),
@@ -95,8 +113,9 @@ const KEYS = {
     Home: () => show(0),
     End: () => show(LAST),
     " ": togglePlay,
-    g: () => byId("frame").select(),
-    "/": () => byId("text").select(),
+    g: () => toField("frame"),
+    l: () => toField("place"),
+    "/": () => toField("text"),
     s: () => search(1),
     S: () => search(-1),
     n: () => jump(1),
@@ -150,6 +169,7 @@ byId("speed").onchange = () => {
     play();
 };
 byId("frame").onchange = () => show(Number(byId("frame").value));
+byId("place").onchange = goToPlace;
 byId("slider").oninput = () => show(Number(byId("slider").value));
 byId("kind").replaceChildren(...Object.entries(KINDS).map(([value, {name}]) => made("option", name, {value})));
 byId("kind").value = Object.keys(KINDS).find((kind) => [...TRACKS.keys()].some((name) => name.split(" ")[0] === kind)) ?? "refused";

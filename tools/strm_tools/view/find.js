@@ -106,10 +106,15 @@ function soughtFor(value) {
     return {value, text, whole: new RegExp(`(?<![\\p{L}\\p{N}_-])${literal}(?![\\p{L}\\p{N}_-])`, "u"), isWhole: quoted !== null};
 }
 
-// What the search looks at of a row: what the list shows, but for the frame and the place.
+// The words that the search looks at of a row: what the list shows, but for the frame and the place.
 const searchedText = (row) => cellsOfRow(row).filter(([kind]) => kind !== "frame" && kind !== "place").map(([, text]) => text).join("  ").toLowerCase();
 
-const isHit = ({text, whole, isWhole}, row) => (isWhole ? whole.test(searchedText(row)) : searchedText(row).includes(text));
+// Whether what is looked for is the place of a row as a whole, such as 723 or 0:723. A part of it would find too many rows.
+const isPlace = ({text}, {worker, number}) => number !== undefined && (text === `${number}` || text === `${worker}:${number}`);
+
+const hasWord = (sought, row) => isPlace(sought, row) || sought.whole.test(searchedText(row));
+
+const isHit = (sought, row) => (sought.isWhole ? hasWord(sought, row) : isPlace(sought, row) || searchedText(row).includes(sought.text));
 
 // Whether the list may show a text that the rows of a chunk do not have themselves.
 const mayBeAdded = ({text}) => ADDED.some((word) => word.includes(text) || text.includes(word));
@@ -170,7 +175,7 @@ function countOn() {
     while (hits.chunk < ROWS.length && performance.now() < until) {
         for (const row of rowsWith(hits.sought, hits.chunk++)) {
             hits.rows.push(row);
-            if (hits.sought.whole.test(searchedText(rowAt(row)))) hits.asWord++;
+            if (hasWord(hits.sought, rowAt(row))) hits.asWord++;
         }
     }
     if (hits.chunk < ROWS.length) counting = setTimeout(countOn, 0);

@@ -97,6 +97,18 @@ const placeInChunk = (frame, chunk) => rowsIn(chunk).places[frame - firstFrameOf
 // The line of a frame.
 const lineAt = (frame) => rowsIn(chunkOf(frame)).rows[placeInChunk(frame, chunkOf(frame))];
 
+// The frame of a line of the script, such as 723, or 0:723 with its worker; undefined if it was not executed.
+function frameOfPlace(place) {
+    const [, worker, number] = /^(?:(\d+):)?(\d+)$/.exec(place) ?? [];
+    const begins = new RegExp(`^${worker ?? "\\d+"}:${number} `, "m");
+    for (let chunk = 0; number !== undefined && chunk < ROWS.length; chunk++) {
+        if (!begins.test(ROWS[chunk].textContent)) continue;
+        const row = rowsIn(chunk).rows.find((one) => one.number === Number(number) && (worker === undefined || one.worker === Number(worker)));
+        if (row) return row.frame;
+    }
+    return undefined;
+}
+
 // Which row of the list a frame has, and the row at a place of the list.
 const rowOf = (frame) => ROWS_BEFORE[chunkOf(frame)] + placeInChunk(frame, chunkOf(frame));
 
