@@ -1,2 +1,1 @@
 mod Neighbours
-mod PlainSteps

@@ -2,6 +2,4 @@
 #![tactic(auto)]
 
 #[cfg(test)]
-mod plain;
-#[cfg(test)]
 mod tests;
