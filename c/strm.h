@@ -4,8 +4,8 @@
  *
  * A pool has message blocks, data blocks in size classes, and queues. Only strm_open allocates
  * memory. A message is a chain of one or more message blocks; the caller holds it by a name, or it
- * is on a queue. Bytes are copied in and out, or read where they are (strm_bytes, strm_iov). Queues,
- * and places of blocks, messages and bytes, are numbered from 0.
+ * is on a queue. Bytes are copied in and out, or read where they are (strm_bytes, strm_iov).
+ * Queues, and places of blocks, messages and bytes, are numbered from 0.
  *
  *     strm_allocb(&pool, 4, &msg);
  *     strm_write(&pool, msg, 0, "lion", 4);
@@ -15,11 +15,19 @@
  * Terms
  *
  *   - next: the queue to which a queue leads, if any.
+ *   - head: the number of a message's first block among all message blocks of the pool, 0 to
+ *     mblks - 1.
+ *   - held: said of a message that has a valid name, and of its blocks. A message on a queue is not
+ *     held.
+ *   - place: of a block, counted from 0 in its message; of a message, from 0 on its queue.
  *   - service procedure: your code for an enabled queue. Mostly it takes messages off the queue
- *     until strm_getq or strm_getq_n returns STRM_NONE, or until it puts one back. Call strm_next_service in a
- *     loop, and run the service procedure of the queue that this returns (examples/c/service.c).
+ *     until strm_getq or strm_getq_n returns STRM_NONE, or until strm_bcanput sets *yes to 0 and it
+ *     puts one back. If it stops for another reason while messages are left, call strm_qenable when
+ *     it can go on. Call strm_next_service in a loop, and run the service procedure of the queue
+ *     that this returns (examples/c/service.c).
  *   - read place, write place: where the bytes of a message block begin and end in its data block.
  *     Each message block has its own.
+ *   - room, headroom: bytes of the data block after the write place, and before the read place.
  *   - reference: a message block that uses a data block. The field `names` counts these, not the
  *     names of messages.
  *   - band, type: a message has those of its first block.
@@ -35,8 +43,8 @@
  *     already on the list, or without a service procedure, is not appended.
  *   - enabling: on in a new queue; strm_noenable switches it off, strm_enableok on.
  *   - want-to-read: a mark that a new queue has, and that strm_getq sets or clears.
- *   - wish (bufcall): a recorded request for a message block. strm_take_ready returns the wish, not
- *     the block.
+ *   - wish (bufcall): a recorded request for a message block and a data block. strm_take_ready
+ *     returns the wish, not the blocks.
  *   - look: a call that changes nothing in the pool. Looks are strm_testb, strm_read, strm_size,
  *     strm_msgdsize, strm_block, strm_blocks, strm_bytes, strm_iov, strm_place, strm_has,
  *     strm_name_at, strm_qsize, strm_queued_at, strm_read_queued, strm_first_queued,
@@ -49,8 +57,8 @@
  * A call that can fail returns a code, and stores its results through pointers. STRM_OK is 0. Codes
  * above 0 are refusals of the pool, numbered as by the program strm. Codes below 0 are of this
  * header. One of these, STRM_NONE, is no failure: the call was done, and there is nothing to give.
- * So neither `code < 0` nor `code > 0` finds the failures. `STRM_FAILED(code)` does: it is false for
- * STRM_OK and STRM_NONE, and true for any other code.
+ * So neither `code < 0` nor `code > 0` finds the failures. `STRM_FAILED(code)` does: it is false
+ * for STRM_OK and STRM_NONE, and true for any other code.
  *
  *     code = strm_getq(&pool, 0, &msg);
  *     if (STRM_FAILED(code))
@@ -58,13 +66,16 @@
  *     else if (code == STRM_NONE)
  *         puts("the queue is empty");
  *
+ * STRM_FAILED alone is not enough before you use a result: with STRM_NONE, `msg` was not stored.
+ * Test for STRM_OK there.
+ *
  * If several codes apply, a call returns the first in this list (strm_open has its own order):
  *
  *   1. STRM_NOT_OPEN: the handle is null, was never opened, or was closed.
  *   2. STRM_BAD_ARGUMENT: a pointer is null, except one to an array of length 0. Or a parameter
- *      `band`, `type`, `flush` or `length` is out of range; an array has at most SIZE_MAX / 2 bytes.
- *      Or two pointers to results are equal; one to an array of length 0 does not count. Or both
- *      handles of strm_transfer are the same one.
+ *      `band`, `type`, `flush` or `length` is out of range; an array has at most SIZE_MAX / 2
+ *      bytes. Or two pointers to results are equal; one to an array of length 0 does not count. Or
+ *      both handles of strm_transfer are the same one.
  *   3. STRM_INVALID: a name is not valid.
  *   4. STRM_NO_SUCH_QUEUE: the call names a queue that the pool does not have.
  *   5. The refusals that the call's comment lists, in that order.
@@ -76,9 +87,9 @@
  *
  * A call whose name ends in _n makes single calls, one after another: as many as `length` says, or
  * fewer, up to the first that does not return STRM_OK. It sets *count to the number of calls that
- * returned STRM_OK, and returns STRM_OK. But if the first call returns another code, it returns that
- * code, and *count is unchanged. Items 3 to 5 of the list are those of the first call. If `length`
- * is 0 there is none: *count is 0, with STRM_OK, whatever the other arguments name.
+ * returned STRM_OK, and returns STRM_OK. But if the first call returns another code, it returns
+ * that code, and *count is unchanged. Items 3 to 5 of the list are those of the first call. If
+ * `length` is 0 there is none: *count is 0, with STRM_OK, whatever the other arguments name.
  *
  * A call takes constant time, plus time for each block, message or byte that it goes over.
  *
@@ -91,9 +102,10 @@
  * put, strm_linkb its tail, and strm_close all.
  *
  * A pool never gives a name a second time: a message that comes off a queue, or is parted from
- * another, has a new one. Only strm_name_at returns a name that was given before. So a caller that frees twice, links twice, or uses a message
- * that is on a queue gets STRM_INVALID. Any bits may be passed as a name. Names may be copied, kept,
- * and compared by strm_same_msg. STRM_NO_MSG, all zeros, is the name of no message, and never valid.
+ * another, has a new one. Only strm_name_at returns a name that was given before. So a caller that
+ * frees twice, links twice, or uses a message that is on a queue gets STRM_INVALID. Any bits may be
+ * passed as a name. Names may be copied, kept, and compared by strm_same_msg. STRM_NO_MSG, all
+ * zeros, is the name of no message, and never valid.
  *
  * Stamps start again after 2^64 names with the same block. Two pools opened with the
  * same id, together or one after the other, can't tell their names apart: give different ids to
@@ -104,24 +116,26 @@
  *
  * What the caller promises
  *
- * The library does not check these rules; breaking one is undefined behaviour.
+ * The library does not check these rules; breaking one is undefined behaviour. Often the program
+ * then ends by an illegal instruction (SIGILL).
  *
  *   - A pointer that is not null leads to as many objects as the call says. During the call nothing
  *     else writes to these objects. Where the call writes, nothing else reads, and what it writes
  *     overlaps nothing else that it is given.
  *   - A call may write to its handle, even a look. So a handle is passed to one call at a time.
- *     Threads that share a pool hold a lock of their own during each call.
+ *     Threads that share a pool hold a lock of their own during each call. Different pools may be
+ *     used at the same time.
  *   - Nothing is written through a pointer that strm_bytes or strm_iov returns. Nothing is read
  *     through it once a call that is no look was made with that pool; a look leaves it good. It is
- *     passed to no call with the same pool, such as strm_write: copy the bytes by strm_read first. A
- *     call with another pool may get it.
+ *     passed to no call with the same pool, such as strm_write: copy the bytes by strm_read first.
+ *     A call with another pool may get it.
  *   - No call is made from a signal handler. An interrupt handler makes calls only while no other
  *     call runs.
  *   - A call runs to its end. No signal handler leaves it by siglongjmp, and no thread in it is
  *     cancelled.
  *   - A handle is not in memory that processes share.
- *   - After a fork, only one of the two processes uses the pool, and not the child of a process with
- *     threads.
+ *   - After a fork, only one of the two processes uses the pool, and not the child of a process
+ *     with threads.
  *   - A handle is zeroed, or set to STRM_POOL_INIT, before its first call. A handle whose field
  *     `state` is STRM_POOL_OPEN counts as open, even if by chance; any other is not open.
  *   - An open handle may be moved, but not used at two places: the library can't tell a copy from
@@ -137,12 +151,12 @@
  * STRM_VERSION_NUMBER is the version of this header as a number, for #if: version 1.2.3 is 1002003.
  * A program linked with one libstrm.so runs with each later one of the same soname.
  *
- *   - Structs grow only at their end. In a struct that the caller fills, 0 in a new field means what
- *     was done before. So fill structs by names of fields (designated initialisers), or set them to
- *     zeros first.
+ *   - Structs grow only at their end. In a struct that the caller fills, 0 in a new field means
+ *     what was done before. So fill structs by names of fields (designated initialisers), or set
+ *     them to zeros first.
  *   - The sizes of struct strm_pool, struct strm_msg and struct strm_iov stay.
- *   - If a struct grows, each call that uses it gets a new symbol version. Programs that were linked
- *     before get the old one, and the old struct.
+ *   - If a struct grows, each call that uses it gets a new symbol version. Programs that were
+ *     linked before get the old one, and the old struct.
  *   - libstrm.a has no versions of symbols: compile with the header that is beside it.
  *
  *
@@ -231,7 +245,12 @@ enum {
 #define STRM_BANDS 256			/* bands of a queue, from 0 on */
 #define STRM_MOST_WISHES 64		/* wishes at one time */
 
-/* Types of data blocks, named as in STREAMS. A message has the type of its first block. */
+/*
+ * Types of data blocks, named as in STREAMS. A message has the type of its first block. For urgent
+ * data of your own, take STRM_M_PCPROTO. The pool looks at types for these things only: the order
+ * on a queue and its enabling, what STRM_FLUSHDATA frees, what strm_msgdsize counts, and where
+ * strm_adjmsg and strm_pullupmsg stop.
+ */
 enum {
 	/* ordinary */
 	STRM_M_DATA, STRM_M_PROTO, STRM_M_BREAK, STRM_M_PASSFP, STRM_M_SIG, STRM_M_DELAY, STRM_M_CTL, STRM_M_IOCTL, STRM_M_SETOPTS,
@@ -263,8 +282,8 @@ struct strm_msg {
 };
 
 /*
- * The name of no message. It is a value, for initialisers, assignments and arguments; in C89 it is an
- * initialiser only. In C, a static variable needs no initialiser to be STRM_NO_MSG.
+ * The name of no message. It is a value, for initialisers, assignments and arguments; in C89 it is
+ * an initialiser only. In C, a static variable needs no initialiser to be STRM_NO_MSG.
  */
 #if defined(__cplusplus)
 #define STRM_NO_MSG strm_msg()
@@ -298,7 +317,7 @@ struct strm_config {
 	const struct strm_queue_spec *queues;	/* the queues, numbered from 0 */
 	size_t queue_count;		/* their number, 1 to STRM_MOST_QUEUES */
 	uint32_t bufcalls;		/* wishes at one time, 0 to STRM_MOST_WISHES */
-	uint32_t first_id;		/* the id of the first wish, above 0 */
+	uint32_t first_id;		/* the id of the first wish, above 0, also if bufcalls is 0 */
 };
 
 /* The numbers of message blocks. */
@@ -318,14 +337,14 @@ struct strm_block_info {
 	uint32_t type;			/* the type of its data block, STRM_M_DATA to STRM_M_IOCDATA */
 	uint32_t length;		/* bytes between its read place and its write place */
 	uint32_t band;			/* 0 to 255 */
-	uint32_t room;			/* bytes after the write place */
+	uint32_t room;			/* bytes after the write place; headroom is in struct strm_block_place */
 	uint32_t names;			/* references to its data block, 1 to STRM_MOST_NAMES */
 };
 
 /* Where the bytes of a message block are. */
 struct strm_block_place {
 	uint32_t data;			/* the number of its data block; those of the first class come first, from 0 */
-	uint32_t at;			/* the read place in the data block, in bytes */
+	uint32_t at;			/* the read place in the data block, in bytes: the headroom */
 	uint32_t length;		/* bytes between its read place and its write place */
 	uint32_t capacity;		/* bytes of the data block */
 };
@@ -336,7 +355,10 @@ struct strm_iov {
 	size_t length;
 };
 
-/* A message on a queue. */
+/*
+ * A message on a queue. It has no name that could be compared: once it was taken off and freed,
+ * another message may have the same head.
+ */
 struct strm_queued {
 	uint32_t head;			/* the number of its first block; it stays while the message is on the queue */
 	uint32_t type;			/* the type of its first block, STRM_M_DATA to STRM_M_IOCDATA */
@@ -365,14 +387,17 @@ struct strm_marks {
 	uint32_t lowat;
 };
 
-/* A wish for a message block. */
+/* A wish for a message block and a data block. */
 struct strm_wish {
 	uint32_t id;
 	uint32_t size;			/* bytes that its data block has to have */
 };
 
 #ifdef __cplusplus
-/* These six calls have names of structs, which a function would hide in C++. Their symbols are those of C. */
+/*
+ * These six calls have names of structs, which a function would hide in C++. Their symbols are
+ * those of C.
+ */
 int strm_census_(struct strm_pool *pool, struct strm_census *census) __asm__("strm_census");
 int strm_class_info_(struct strm_pool *pool, uint32_t place, struct strm_class_info *info) __asm__("strm_class_info");
 int strm_queue_info_(struct strm_pool *pool, uint32_t queue, struct strm_queue_info *info) __asm__("strm_queue_info");
@@ -392,16 +417,21 @@ int strm_iov_(struct strm_pool *pool, struct strm_msg msg, uint32_t from, struct
 
 /*
  * Opens a pool, with all blocks free and all queues empty. It allocates all memory, 68 MB for the
- * largest pool, and copies the configuration. It uses 11 KB of stack, far more than other calls. The
- * fields `classes` and `queues` may be null if their count is 0. A count of 0 is refused as
- * STRM_BAD_CLASSES or STRM_BAD_QUEUES, a count above its limit as STRM_BAD_ARGUMENT.
+ * largest pool, and copies the configuration. It uses 11 KB of stack, far more than other calls.
+ * The fields `classes` and `queues` may be null if their count is 0. A count of 0 is refused as
+ * STRM_BAD_CLASSES or STRM_BAD_QUEUES, a count above its limit as STRM_BAD_ARGUMENT. The first id
+ * must be above 0 even if `bufcalls` is 0.
  * Refused as STRM_NOT_OPEN for a null handle, STRM_IS_OPEN, STRM_BAD_ARGUMENT, the first fault from
  * STRM_BAD_MBLKS to STRM_BAD_FIRST_ID, or STRM_NO_MEMORY, in this order. If strm_open fails, an
  * open handle is unchanged, and any other stays closed.
  */
 int strm_open(struct strm_pool *pool, const struct strm_config *config);
 
-/* Closes a pool, and frees its memory, messages and wishes. The handle may be opened again. */
+/*
+ * Closes a pool, and frees its memory, messages and wishes. It does not report messages that are
+ * still held: call strm_census before. The handle may be opened again, with another id if names of
+ * the closed pool can be left.
+ */
 int strm_close(struct strm_pool *pool);
 
 /* Returns 1 if the handle is open, else 0, also for null. */
@@ -457,8 +487,9 @@ int strm_copymsg(struct strm_pool *pool, struct strm_msg msg, struct strm_msg *c
 
 /*
  * Frees the first block of a message, and its data block if no other block refers to that. The
- * other blocks become the message *rest; if there are none, *rest is STRM_NO_MSG, and the call
- * returns STRM_NONE. `msg` is no longer valid.
+ * other blocks become the message *rest. If there are none, *rest is STRM_NO_MSG, and the call
+ * returns STRM_NONE: so it does for a message of one block, which is freed. `msg` is no longer
+ * valid.
  * Differs from STREAMS: b_cont need not be saved before.
  */
 int strm_freeb(struct strm_pool *pool, struct strm_msg msg, struct strm_msg *rest);
@@ -495,7 +526,10 @@ int strm_read(struct strm_pool *pool, struct strm_msg msg, uint32_t at, void *in
  */
 int strm_settype(struct strm_pool *pool, struct strm_msg msg, uint32_t place, uint32_t type);
 
-/* Sets the band of the first block of a message, 0 to 255; duplicates keep theirs. STREAMS: b_band. */
+/*
+ * Sets the band of the first block of a message, 0 to 255; duplicates keep theirs.
+ * STREAMS: b_band.
+ */
 int strm_setband(struct strm_pool *pool, struct strm_msg msg, uint32_t band);
 
 /* Counts the bytes of a message. Not in STREAMS. */
@@ -525,9 +559,10 @@ int strm_blocks(struct strm_pool *pool, struct strm_msg msg, uint32_t from, stru
 int strm_has(struct strm_pool *pool, struct strm_msg msg, uint32_t *yes);
 
 /*
- * Returns the name of the held message whose first block has the number `head`, or STRM_NONE if no
- * held message begins there. To find every held message, ask for each number below `mblks` of the
- * configuration.
+ * Returns the name of the held message whose first block has the number `head`. If no held message
+ * begins there, returns STRM_NONE: the block is free, not the first of its message, or in a queued
+ * message, or `head` is `mblks` or more. To find every held message, ask for each number below
+ * `mblks` of the configuration.
  * Not in STREAMS.
  */
 int strm_name_at(struct strm_pool *pool, uint32_t head, struct strm_msg *msg);
@@ -535,10 +570,10 @@ int strm_name_at(struct strm_pool *pool, uint32_t head, struct strm_msg *msg);
 /* ---- bytes in place: strm_bytes(3) */
 
 /*
- * Sets *bytes to the address of the first byte of the block numbered `place`, and *length to the number of its
- * bytes, which follow one another. They may begin at any address. If there are none, *bytes is
- * still not null. Read them there, until the next call with this pool that is no look; write
- * nothing.
+ * Sets *bytes to the address of the first byte of the block numbered `place`, and *length to the
+ * number of its bytes, which follow one another. They may begin at any address. If there are none,
+ * *bytes is still not null. Read them there, until the next call with this pool that is no look;
+ * write nothing.
  * Refused as STRM_NO_SUCH_BLOCK.
  * STREAMS: b_rptr and b_wptr; here the caller may not write.
  */
@@ -548,9 +583,10 @@ int strm_bytes(struct strm_pool *pool, struct strm_msg msg, uint32_t place, cons
  * Sets base and length of consecutive blocks of a message, as strm_bytes does, in the array `into`
  * of `length` structs, from the block numbered `from` on. *count is the number of blocks: `length`,
  * or fewer if the message ends before. If the message has no block `from`, *count is 0, with
- * STRM_OK. The rest of the array is unchanged. writev takes the array as
- * `(const struct iovec *)into`, with at most IOV_MAX structs. strm_iov counts to each block from the
- * first one, so a message of many blocks takes time for the square of their number.
+ * STRM_OK. The rest of the array is unchanged. If *count is `length`, there may be more: ask again
+ * from `from` + `length` on. writev takes the array as `(const struct iovec *)into`, with at most
+ * IOV_MAX structs. strm_iov counts to each block from the first one, so a message of many blocks
+ * takes time for the square of their number.
  * Not in STREAMS.
  */
 int strm_iov(struct strm_pool *pool, struct strm_msg msg, uint32_t from, struct strm_iov *into, size_t length, size_t *count);
@@ -558,9 +594,10 @@ int strm_iov(struct strm_pool *pool, struct strm_msg msg, uint32_t from, struct 
 /*
  * Returns the data block of the block numbered `place`, and where its bytes are. With these numbers
  * a program keeps memory of its own for each data block, such as buffers for DMA, and the pool
- * counts references and keeps order: strm_reserve and strm_advance move the places. Calls that read,
- * write or copy bytes use those in the pool all the same. The numbers of data blocks are below the
- * sum of `count` over the size classes.
+ * counts references and keeps order: strm_reserve and strm_advance move the places. Calls that
+ * read, write or copy bytes use those in the pool all the same. The numbers of data blocks are
+ * below the sum of `count` over the size classes. A queued message has no name for this call: note
+ * the numbers before you queue it.
  * Refused as STRM_NO_SUCH_BLOCK.
  * STREAMS: db_base, db_lim, b_rptr and b_wptr, as numbers.
  */
@@ -579,8 +616,8 @@ int strm_overwrite(struct strm_pool *pool, struct strm_msg msg, uint32_t at, con
 /*
  * Sets the read place and the write place of the block numbered `place`, which has no bytes, to
  * `count`. So strm_prepend has room for `count` bytes (headroom) once the block is the first.
- * Refused as STRM_NO_SUCH_BLOCK, STRM_SHARED, STRM_NO_ROOM; the first two also for a count of 0, the
- * last also if the block has bytes.
+ * Refused as STRM_NO_SUCH_BLOCK, STRM_SHARED, STRM_NO_ROOM; the first two also for a count of 0,
+ * the last also if the block has bytes.
  * STREAMS: adding to b_rptr and b_wptr.
  */
 int strm_reserve(struct strm_pool *pool, struct strm_msg msg, uint32_t place, uint32_t count);
@@ -681,8 +718,9 @@ int strm_putq(struct strm_pool *pool, uint32_t queue, struct strm_msg msg);
 /*
  * Puts a message back on a queue, before those of its rank or a smaller one. `msg` is no longer
  * valid. High priority gets band 0, and always enables the queue: a service procedure that puts it
- * back is enabled again for ever. Any other message enables the queue only if enabling is on and
- * the queue has a want-to-read mark, whatever the band.
+ * back is enabled again for ever. To put back high priority, call strm_insq at place 0: after
+ * strm_getq took the message, that does not enable the queue. Any other message enables it only if
+ * enabling is on and the queue has a want-to-read mark, whatever the band.
  * As in STREAMS.
  */
 int strm_putbq(struct strm_pool *pool, uint32_t queue, struct strm_msg msg);
@@ -760,31 +798,36 @@ int strm_flushband(struct strm_pool *pool, uint32_t queue, uint32_t band, uint32
 
 /*
  * Allocates messages as strm_allocb does, and stores their names in the array `msgs` of `length`
- * names. The rest of the array is unchanged.
+ * names. The rest of the array is unchanged. Compare *count with `length`, also with STRM_OK. If it
+ * is smaller, strm_allocb returns the code that ended the series.
  * Not in STREAMS.
  */
 int strm_allocb_n(struct strm_pool *pool, uint32_t size, struct strm_msg *msgs, size_t length, size_t *count);
 
 /*
  * Frees messages as strm_freemsg does: those named in the array `msgs` of `length` names, in this
- * order.
+ * order. Compare *count with `length`, also with STRM_OK. If it is smaller, strm_freemsg of the
+ * name at *count returns the code that ended the series. The messages after it are still yours.
  * Not in STREAMS.
  */
 int strm_freemsg_n(struct strm_pool *pool, const struct strm_msg *msgs, size_t length, size_t *count);
 
 /*
  * Puts messages on a queue as strm_putq does: those named in the array `msgs` of `length` names, in
- * this order.
+ * this order. Compare *count with `length`, also with STRM_OK. If it is smaller, strm_putq of the
+ * name at *count returns the code that ended the series. The messages after it are still yours.
  * Not in STREAMS.
  */
 int strm_putq_n(struct strm_pool *pool, uint32_t queue, const struct strm_msg *msgs, size_t length, size_t *count);
 
 /*
  * Takes messages off a queue as strm_getq does, and stores their names in the array `msgs` of
- * `length` names. The rest of the array is unchanged. If the queue has fewer than `length` messages,
- * this sets the want-to-read mark, as strm_getq does on an empty queue. If it has exactly `length`,
- * the mark stays off: a service procedure calls again, until *count is below `length` or the call
- * returns STRM_NONE.
+ * `length` names. The rest of the array is unchanged. If the queue has fewer than `length`
+ * messages, this sets the want-to-read mark, as strm_getq does on an empty queue. If it has exactly
+ * `length`, the mark stays off: a service procedure calls again, until *count is below `length` or
+ * the call returns STRM_NONE. So compare *count with `length`, also with STRM_OK. With the mark on,
+ * a message that strm_putbq puts back enables the queue at once: a service procedure that may put
+ * back asks for at most as many as strm_qsize counts.
  * Not in STREAMS.
  */
 int strm_getq_n(struct strm_pool *pool, uint32_t queue, struct strm_msg *msgs, size_t length, size_t *count);
@@ -799,7 +842,12 @@ int strm_getq_n(struct strm_pool *pool, uint32_t queue, struct strm_msg *msgs, s
  * own queue would decide for itself. A source without a queue, such as an interrupt, asks about the
  * queue on which it puts. If *yes is 0, it asks again later, or drops the message: nothing wakes
  * it. If it must be woken, give it a queue that stays empty and has a service procedure, and whose
- * next queue is the one on which it puts (SENDER in examples/c/locked.c).
+ * next queue is the one on which it puts (SENDER in examples/c/locked.c). The water marks of such a
+ * queue do not matter: for instance 1 and 0. Only one queue may have a given queue as its next, so
+ * several senders share one empty queue. Its service procedure calls strm_qenable on the queue of
+ * each sender that waits, or wakes it. The bytes of high priority messages count with band 0,
+ * which they can make full. The call may mark a band, so it is no look, and ends pointers of
+ * strm_bytes.
  * As in STREAMS; canput asks for band 0.
  */
 int strm_bcanput(struct strm_pool *pool, uint32_t queue, uint32_t band, uint32_t *yes);
@@ -844,7 +892,8 @@ int strm_run_at(struct strm_pool *pool, uint32_t place, uint32_t *queue);
 /*
  * Records a wish for a message block over a data block of `size` bytes or more, after all other
  * wishes. Ids rise by 1 from first_id of the configuration to 4294967295. A refused call uses up no
- * id.
+ * id. A wish needs both blocks free: strm_dupb and strm_dupmsg need no data block, so they can
+ * succeed while a wish still waits.
  * Refused as STRM_TOO_LARGE, STRM_FULL, STRM_IDS_SPENT.
  * Differs from STREAMS: no function is called back; call strm_take_ready.
  */
@@ -860,10 +909,12 @@ int strm_unbufcall(struct strm_pool *pool, uint32_t id);
 /*
  * Removes the oldest wish for which strm_allocb would succeed now, and returns it. If there is
  * none, returns STRM_NONE. It reserves no block and enables no queue. Keep a table from wishes to
- * what waits for them: a queue, or a function of your own. Before strm_next_service, repeat: call
- * strm_take_ready, then at once strm_qenable on the queue of that wish, or its function. Stop when
- * strm_take_ready returns STRM_NONE. A call such as strm_copymsg may need more than its wish. If it
- * is refused then, retry it from a timer: a new wish would be ready at once, again and again.
+ * what waits for them: a function of your own, or a queue. One free block makes all wishes ready
+ * that it fits. So take one wish and serve it, and only then take the next: call its function, or
+ * strm_qenable on its queue and then the service procedures of all enabled queues. Repeat until
+ * strm_take_ready returns STRM_NONE. Do so after calls that free blocks, and before the program
+ * waits. A call such as strm_copymsg may need more than its wish. If it is refused then, retry it
+ * from a timer: a new wish would be ready at once, again and again.
  * Not in STREAMS.
  */
 int strm_take_ready(struct strm_pool *pool, struct strm_wish *wish);

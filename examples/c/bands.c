@@ -53,7 +53,8 @@ static void take(struct strm_pool *pool)
 	char bytes[4];
 	size_t count;
 
-	must(strm_getq(pool, WAY, &msg));
+	if (strm_getq(pool, WAY, &msg) != STRM_OK)
+		return;
 	must(strm_read(pool, msg, 0, bytes, sizeof bytes, &count));
 	must(strm_freemsg(pool, msg));
 	printf("%.4s is taken\n", bytes);

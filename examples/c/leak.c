@@ -1,6 +1,7 @@
 /*
  * Hunts a leak. A table has an entry for each message block, and `msg.head` is the index of a message's first block. So the table keeps data
- * of the program's own by message: here, who made it. In the end each message that is still held is printed with its maker.
+ * of the program's own by message: here, who made it. In the end each message that is still held is printed with its maker. A walk by
+ * strm_name_at finds also a message that the table does not know.
  *
  *     cc leak.c $(pkg-config --cflags --libs strm) -o leak
  */
@@ -52,26 +53,47 @@ static void take_all(struct strm_pool *pool)
 	}
 }
 
+/* Returns who made a message, if the table has it under this name. */
+static const char *maker_of(struct strm_msg msg)
+{
+	const struct note *note = &notes[msg.head];
+
+	return strm_same_msg(note->msg, msg) ? note->maker : "unknown";
+}
+
+/* Prints how many blocks are held, and each message that is. */
+static void print_held(struct strm_pool *pool)
+{
+	struct strm_census census;
+	struct strm_msg msg;
+	uint32_t head, bytes;
+
+	must(strm_census(pool, &census));
+	printf("%u blocks are held\n", (unsigned)census.held);
+	for (head = 0; head < MBLKS; head++) {
+		if (strm_name_at(pool, head, &msg) != STRM_OK)
+			continue;
+		must(strm_size(pool, msg, &bytes));
+		printf("block %u: %u bytes, maker: %s\n", (unsigned)head,
+			(unsigned)bytes, maker_of(msg));
+	}
+}
+
 int main(void)
 {
 	struct strm_pool pool = STRM_POOL_INIT;
 	struct strm_config config = {
 		.id = 1, .mblks = MBLKS, .classes = classes, .class_count = 1, .queues = queues, .queue_count = 1, .first_id = 1
 	};
-	uint32_t head, valid, bytes;
+	struct strm_msg unnoted;
 
 	must(strm_open(&pool, &config));
 	post(&pool, "line", "abcd", 4);
 	post(&pool, "timer", "tick", 4);
 	post(&pool, "line", "ef", 2);
 	take_all(&pool);
-	for (head = 0; head < MBLKS; head++) {
-		must(strm_has(&pool, notes[head].msg, &valid));
-		if (!valid)
-			continue;
-		must(strm_size(&pool, notes[head].msg, &bytes));
-		printf("block %u is held: %u bytes, made by the %s\n", (unsigned)head, (unsigned)bytes, notes[head].maker);
-	}
+	must(strm_allocb(&pool, 4, &unnoted));
+	print_held(&pool);
 	must(strm_close(&pool));
 	return EXIT_SUCCESS;
 }
