@@ -170,6 +170,26 @@ WHY = [
         "nothing to explain in the last line, 0:10 size a: size 0; before it:\n" + EMPTY,
     ),
     ("after redo", "allocb a 1; putq 0 z; undo; redo; why", "ok\nempty\ntaken back: putq 0 z\ndone again: putq 0 z\n" + EMPTY),
+    (
+        "of a queue that is served",
+        "noenable 0; qenable 0; qsize 0; service; why",
+        "ok\nok\nsize 0\nqueue 0\n0:11 service: queue 0\nqueue 0 was enabled by 0:9 qenable 0\n"
+        "0:9 qenable 0: ok, enabled\n  `qenable` enables queue 0, even if enabling is off. (docs/MODEL.md, Enabling)\n",
+    ),
+    (
+        "of a queue that is served again",
+        "qenable 0; service; qenable 0; #: queue 0 in; service; why",
+        "ok\nqueue 0\nok\nqueue 0\n0:12 service: queue 0\nqueue 0 (in) was enabled by 0:10 qenable 0\n"
+        "0:10 qenable 0: ok, enabled\n  `qenable` enables queue 0 (in), even if enabling is off. (docs/MODEL.md, Enabling)\n",
+    ),
+    (
+        "of a line",
+        "putq 0 z; census; service; why 8; why 9; why 10; why 11; why x",
+        "empty\ncensus 8 0 0\nnone\n0:8 putq 0 z: empty\n  Register z holds no message. (docs/MODEL.md, Registers and steps)\n"
+        "nothing to explain in 0:9 census: census 8 0 0\n"
+        "0:10 service: none\n  The run list is empty: no queue is enabled. (docs/MODEL.md, Enabling)\n"
+        "no line 11 is executed; list shows those that are\nx is no number from 1 to 999999999\n",
+    ),
     ("after rewind", "allocb a 1; putq 0 z; rewind; why", "ok\nempty\n2 lines waiting: next executes one, until those up to a line, run all\nnothing to explain: no line is executed\n"),
 ]
 # What each command of strm does after these lines, which undo takes back.
@@ -214,22 +234,29 @@ SHOWN = {
     "a command of strm": ("allocb a 3; testb 65; census", "ok\nno\ncensus 7 0 1\n"),
     "spaces and comments": ("  allocb   a 3  ;# a comment;;read a 0\t", "ok\nbytes -\n"),
     "faults": (
-        "canput 0 0; putnext 0 a; putq_ 0 a; xyzzy; exit; pool 1; putq 0; census 1; putq q a; putq 300 a; allocb A 1; write a 0 6G; settype a 0 DATA; flushq 0 some; queue 1 0 s -",
+        "canput 0 0; putnext 0 a; putq_ 0 a; xyzzy; exit; putq 0; census 1; putq q a; putq 300 a; allocb A 1; write a 0 6G; settype a 0 DATA; flushq 0 some",
         "unknown: instead of canput write bcanput Q 0\n"
         "unknown: strm has no putnext: write the commands of the next queue's put procedure, often putq Q R with the next queue as Q\n"
         "unknown: there is no command putq_; is putq meant?\n"
         "unknown: there is no command xyzzy; help lists all\n"
         "unknown: there is no command exit; is quit meant?\n"
-        "shape: pool ID MBLKS: 3 words, here 2\n"
         "shape: putq Q R: 3 words, here 2\n"
         "shape: census: 1 word, here 2\n"
         "number: Q is a queue, 0 to 255; here it is q\n"
-        "number: Q is a queue, 0 to 255; here it is 300\n"
-        "register: R is a register, a to z; here it is A\n"
-        "hex: HEX is two digits, 0 to 9 or a to f, for each of 1 to 64 bytes, or - for none; here it is 6G\n"
-        "word: TYPE is a type, such as M_DATA; here it is DATA\n"
-        "word: WHAT is all or data; here it is some\n"
-        "order: queue describes a pool, before its commands; new opens another pool\n",
+        "number: Q is a queue, 0 to 255; here it is 300; the greatest number here is 255\n"
+        "register: R is a register, a to z; here it is A; a register is a small letter: write a\n"
+        "hex: HEX is two digits, 0 to 9 or a to f, for each of 1 to 64 bytes, or - for none; here it is 6G; 'G', at place 2 of the word, is no digit\n"
+        "word: TYPE is a type, such as M_DATA; here it is DATA; the type's name is M_DATA\n"
+        "word: WHAT is all or data; here it is some\n",
+    ),
+    "faults with notes of strm-check": (
+        "PUTQ 0 a; allocb a 8 # a comment; write a 0 61 62; putq \U0001f600 a; putq \u00e9 a; putq 0 \u00e9(",
+        "unknown: there is no command PUTQ; words are in small letters: write putq\n"
+        "shape: allocb R SIZE: 3 words, here 6; a comment is a line of its own; here # and what follows are words\n"
+        "shape: write R K HEX: 4 words, here 5; write the bytes without spaces: 6162\n"
+        "number: Q is a queue, 0 to 255; here it is \U0001f600; U+1F600, GRINNING FACE, is not ASCII\n"
+        "number: Q is a queue, 0 to 255; here it is \u00e9; U+00E9, LATIN SMALL LETTER E WITH ACUTE, is not ASCII\n"
+        "register: R is a register, a to z; here it is \u00e9(; U+00E9, LATIN SMALL LETTER E WITH ACUTE, is not ASCII\n",
     ),
     "faults of the session's commands": (
         "undo x; undo 0; list -1; turn; turn 5; state up; hold on; help xyzzy; save; save a b c; save 'a; next 3; run; next; redo; undo; why 3; report a b",
@@ -249,7 +276,7 @@ SHOWN = {
         "no line waits\n"
         "there is nothing to do again\n"
         "there is nothing to take back\n"
-        "shape: why takes no words\n"
+        "no line 3 is executed; list shows those that are\n"
         "shape: report takes no words\n",
     ),
     "help WORD": (

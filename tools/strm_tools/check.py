@@ -1,9 +1,10 @@
 """What strm-check reports of a script: its faults, each with what was expected, and notes that help."""
 import io
+import itertools
 import re
 from typing import NamedTuple
 
-from strm_tools.faults import FORMS, HEADER, MOST, STAGE, Reading, config_faults, line_kind, misfit
+from strm_tools.faults import FITS, FORMS, HEADER, MOST, STAGE, Reading, config_faults, line_kind, misfit
 from strm_tools.hints import config_hints, hints
 from strm_tools.labels import WRITTEN, form_of, queues_of
 from strm_tools.limits import SCRIPT_BYTES
@@ -49,11 +50,24 @@ def toomany(fault, words):
     return f"this is {kind} line {fault.count + 1}; expected at most {MOST[kind]}"
 
 
+def missing_name(first, rest):
+    """The name of the first word that is missing in a line with too few: one without which the others fit. If there are several, it is the
+    last, but no bytes, since a number may be a byte too."""
+    items = FORMS[first]
+    ways = [
+        kept
+        for kept in itertools.combinations(range(len(items)), len(rest))
+        if all(FITS[items[place]][0](word) for place, word in zip(kept, rest))
+    ]
+    kept = min(ways, key=lambda kept: "octets" in items and items.index("octets") not in kept, default=range(len(rest)))
+    return next(name for place, name in enumerate(names_of(first)) if place not in kept)
+
+
 def shape(_, words):
     names = names_of(words[0])
     counts = wrong_count(whole_form(words[0]), len(words))
     if len(words) <= len(names):
-        return f"{counts}; {names[len(words) - 1]} is missing"
+        return f"{counts}; {missing_name(words[0], words[1:])} is missing"
     place = words.index("") if "" in words else 1 + len(names)
     return f"{counts}; word {place + 1} is {shown(words[place])}"
 

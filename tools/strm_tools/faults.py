@@ -124,7 +124,8 @@ class LineFault(NamedTuple):
         return f"line {self.number}: {self.kind}"
 
     def explained(self):
-        return self.reported()
+        """The fault as strm reports it, and which tool says what was expected."""
+        return f"{self.reported()}; strm-check FILE says more"
 
 
 class Reading:
@@ -259,7 +260,8 @@ def next_queue(header):
             continue
         if not queue < following <= last:
             greater = f"a greater number than {queue}, up to {last}, or " if queue < last else ""
-            yield number, f"queue {following} is next of queue {queue}; expected {greater}-"
+            absent = f", and there is no queue {following}" if following > last else ""
+            yield number, f"queue {following} is next of queue {queue}{absent}; expected {greater}-"
         elif following in leads:
             other, line = leads[following]
             yield number, f"queue {following} is next of queue {queue}; expected another, since line {line} leads queue {other} to it"

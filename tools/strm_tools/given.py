@@ -2,7 +2,7 @@
 import os
 
 from strm_tools.ends import read, read_bytes
-from strm_tools.faults import require_right
+from strm_tools.faults import fault_of, require_right
 from strm_tools.judge import REPLY
 from strm_tools.limits import SCRIPT_BYTES
 from strm_tools.script import TOO_LONG, Wrong
@@ -43,8 +43,8 @@ def read_files(words):
     script = script_of_bytes(octets, "replace")
     try:
         require_right(script)
-    except Wrong as why:
+    except Wrong:
         if text is not None and REPLY.match(script):
-            raise Wrong(f"{why}; it begins as a text of strm does: are SCRIPT and TEXT swapped?", "script")
+            raise Wrong(f"{fault_of(script)}; it begins as a text of strm does: are SCRIPT and TEXT swapped?", "script")
         raise
     return script, text

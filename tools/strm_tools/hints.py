@@ -171,8 +171,13 @@ def nearest(word, known):
     return [other for count, other in near if count == least] if least <= (1 if len(word) < 5 else 2) else []
 
 
+def begun(word, known):
+    """Those of the known words that begin with a word."""
+    return [other for other in known if len(word) > 2 and other.startswith(word)]
+
+
 def nearest_hint(word, known):
-    near = nearest(word, known)
+    near = list(dict.fromkeys([*nearest(word, known), *begun(word, known)]))
     if near:
         yield f"the nearest {'word is' if len(near) == 1 else 'words are'} {', '.join(near)}"
 
@@ -188,7 +193,9 @@ def first_word(faulty):
         yield known
     else:
         here = tuple(first for first in FORMS if line_kind(first) in AFTER[faulty.before])
-        yield from list(nearest_hint(word, here)) or nearest_hint(word, tuple(FORMS))
+        near = list(nearest_hint(word, here)) or list(nearest_hint(word, tuple(FORMS)))
+        is_plain = re.fullmatch(f"[A-Za-z_][A-Za-z0-9_]{{0,{LONGEST_WORD}}}", faulty.word())
+        yield from near or (["strm-check --words lists all words"] if is_plain else [])
 
 
 def line_of_first(script, kind):
@@ -272,8 +279,29 @@ def named_word(faulty):
         yield from nearest_hint(word, known)
 
 
+def octets_apart(faulty):
+    """Bytes that are more than one word."""
+    first, *rest = faulty.words
+    apart = rest[2:] if first == "write" else []
+    if len(apart) > 1 and all(len(word) % 2 == 0 for word in apart) and has_form("write")(f"write {rest[0]} {rest[1]} {''.join(apart)}"):
+        yield f"write the bytes without spaces: {''.join(apart)}"
+    else:
+        yield from quoted_text(" ".join(apart))
+
+
+def quoted_text(text):
+    """Text in quotes, where bytes are expected."""
+    found = re.fullmatch(r"([\"'])([\x20-\x7e]{1,64})\1", text)
+    if found:
+        yield f"in hexadecimal: {found[2].encode().hex()}"
+
+
 def octets_word(faulty):
     word = faulty.word()
+    text = list(quoted_text(word))
+    if text:
+        yield from text
+        return
     digits = word[2:] if word[:2] in ("0x", "0X") else word
     wrong = re.search("[^0-9a-fA-F]", digits)
     if digits is not word:
@@ -301,7 +329,7 @@ OF_BYTES = (encoding, carriage_return, tabs, comment, spaces, not_ascii)
 HINTS = {
     "unknown": (*OF_BYTES, punctuation, first_word),
     "order": (order,),
-    "shape": (*OF_BYTES, punctuation),
+    "shape": (*OF_BYTES, punctuation, octets_apart),
     "number": (*OF_BYTES, number, punctuation, another_order),
     "register": (*OF_BYTES, register, punctuation, another_order),
     "word": (*OF_BYTES, named_word, another_order),

@@ -1,12 +1,15 @@
 """A run as a listing: a line for each command, with its worker and line number, the command, the reply and, if asked for, the reason."""
 from strm_tools.judge import Replay
 from strm_tools.labels import labels_of
-from strm_tools.rules import denies, why_not
+from strm_tools.rules import before_line, denies, enabled, why_not
+
+# A command that is longer moves its reply to the right; the other replies are below each other.
+WIDEST = 40
 
 
 class Listed(Replay):
-    """A replay that keeps a row for each line, in the order in which they were executed. A line that was refused, or has the reply `no`, has
-    the reason too, if it is explained."""
+    """A replay that keeps a row for each line, in the order in which they were executed. If they are explained, a line
+    that was refused, or has the reply `no`, has the reason too, and a line that enabled a queue has which one, and why."""
 
     def __init__(self, script, is_explained=False):
         super().__init__(script)
@@ -17,11 +20,19 @@ class Listed(Replay):
 
     def serve(self, worker):
         number, word, items, values = self.sections[worker][self.served[worker]]
+        self.model.turn_to(worker)
+        before = before_line(self.model, word, values) if self.is_explained else None
         told = super().serve(worker)
         reply = told.partition(" ")[2]
-        reason = why_not(self.model, word, items, values, reply).text(self.labels) if self.is_explained and denies(reply) else ""
+        reason = self.reason_of(word, items, values, reply, before) if before else ""
         self.lines.append((worker, number, self.script[number - 1], reply, reason))
         return told
+
+    def reason_of(self, word, items, values, reply, before):
+        """Why a line was refused, or has the reply `no`, or which queue it enabled, and why."""
+        if denies(reply):
+            return why_not(self.model, word, items, values, reply).text(self.labels)
+        return enabled(self.model, word, values, before, self.labels)
 
 
 def listed(script, text=None, is_explained=False):
@@ -39,6 +50,7 @@ def rows_of(replay, first=1, last=None):
 
 
 def listing(rows):
-    """The rows side by side, each column as wide as its longest entry."""
+    """The rows side by side, each column as wide as its longest entry, but that of commands not wider than `WIDEST`."""
     place, command = (max((len(row[column]) for row in rows), default=0) for column in (0, 1))
+    command = min(command, WIDEST)
     return "".join(f"{at:<{place}}  {line:<{command}}  {reply}\n" for at, line, reply in rows)

@@ -16,8 +16,16 @@ def version():
     return "unknown"
 
 
+class Parser(argparse.ArgumentParser):
+    """A parser that says how to name standard input if a file is missing."""
+
+    def error(self, message):
+        is_missing = message.startswith("the following arguments are required: ")
+        super().error(message + ("; write - for standard input" if is_missing else ""))
+
+
 def parser_of(name, text):
     """A parser of the options of a tool, whose help has this text."""
-    parser = argparse.ArgumentParser(prog=name, description=text, formatter_class=argparse.RawDescriptionHelpFormatter)
+    parser = Parser(prog=name, description=text, formatter_class=argparse.RawDescriptionHelpFormatter)
     parser.add_argument("-V", "--version", action="version", version=f"{name} {version()}", help="show the version and exit")
     return parser

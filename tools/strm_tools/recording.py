@@ -11,6 +11,7 @@ from strm_tools.made_script import Script
 from strm_tools.pending import Pending, may_end, require_ends, require_returns
 from strm_tools.plain import Plain
 from strm_tools.script import Wrong, script_of
+from strm_tools.shown import CARRIAGE_RETURN
 from strm_tools.trace import LINES, Bad, block_number, call_in, capacity, header_line, new_bytes, quoted, told_block
 
 COMMAND = "a command with registers"
@@ -348,5 +349,7 @@ def recorded(lines, is_checked=False):
             recording.take(line)
         recording.end()
     except Bad as why:
-        raise Wrong(f"line {why.line or recording.at}: {why}", "trace") from None
+        number = why.line or recording.at
+        more = f"; {CARRIAGE_RETURN}" if "".join(lines[number - 1 : number]).endswith("\r") else ""
+        raise Wrong(f"line {number}: {why}{more}", "trace") from None
     return recording.made

@@ -103,8 +103,13 @@ class Found(NamedTuple):
 
     def text(self, labels=()):
         """The rule's sentence. A queue that has a label in `labels` has it after its number."""
-        named = {name: f"{number} ({labels[number]})" for name, number in self.numbers.items() if name in QUEUES_OF_RULE and number in labels}
+        named = {name: labelled(number, labels) for name, number in self.numbers.items() if name in QUEUES_OF_RULE}
         return self.rule.sentence.format_map({**self.numbers, **named})
+
+
+def labelled(number, labels):
+    """The number of a queue, and after it the label that it has in `labels`."""
+    return f"{number} ({labels[number]})" if number in labels else str(number)
 
 
 def found(name, **numbers):
@@ -263,11 +268,11 @@ def can_enable(model, number):
 
 def why_put(model, word, number, source):
     """Why a message that is put enables its queue, or does not."""
-    queue = model.queues[number]
-    own = rank(model.held[source])
-    unable = can_enable(model, number)
-    if unable:
-        return unable
+    return can_enable(model, number) or by_message(model.queues[number], word, number, rank(model.held[source]))
+
+
+def by_message(queue, word, number, own):
+    """Why a message of this rank enables its queue, which a call can enable now, or does not."""
     if own == 256 and word != "insq":
         return found("high", Q=number)
     if queue.enabling_is_off:
@@ -297,3 +302,32 @@ def why_settled(model, number, wanted, run):
     if numbers["W"] is None:
         return found("no_waker", **numbers)
     return found("waker_runs" if numbers["W"] in run else "drained", **numbers)
+
+
+class Before(NamedTuple):
+    """What decides whether a line enables a queue, before the model answers the line: the run list, the wanted bands of the line's queue,
+    and the rank of the message that the line puts."""
+
+    run: list
+    wanted: set
+    own: int
+
+
+def before_line(model, word, values):
+    """What decides whether a line, which the model has not answered yet, enables a queue."""
+    wanted = model.queues[values[0]].wanted if word in SETTLES and values[0] < len(model.queues) else ()
+    message = model.held.get(values[-1]) if word in PUTS else None
+    return Before(list(model.run), set(wanted), rank(message) if message else 0)
+
+
+def enabled(model, word, values, before, labels=()):
+    """Which queue a line enabled, and why, or nothing. The model has answered the line since `before`."""
+    if len(model.run) <= len(before.run):
+        return ""
+    number = values[0]
+    if word in SETTLES:
+        why_now = why_settled(model, number, before.wanted, before.run)
+    else:
+        why_now = by_message(model.queues[number], word, number, before.own) if word in PUTS else found("by_call", Q=number)
+    verb = "back-enables" if word in SETTLES else "enables"
+    return f"{verb} queue {labelled(model.run[-1], labels)}: {why_now.text(labels)}"

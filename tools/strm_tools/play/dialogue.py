@@ -4,6 +4,7 @@ import sys
 from strm_tools.ends import end, end_for, end_wrong, name_of
 from strm_tools.play import proved
 from strm_tools.play.face import Face, Unreadable
+from strm_tools.play.own import HeaderFault
 from strm_tools.play.session import Session, changes_of
 from strm_tools.play.shell import DEFAULT, Ended, Shell
 from strm_tools.script import Wrong
@@ -36,16 +37,22 @@ def begin(words, face):
 
 
 def go_on(shell, face):
-    """Takes lines until the end."""
+    """Takes lines until the end. A fault of a header ends the program if no terminal shows it."""
+    number = 0
     while True:
+        number += 1
         try:
             sys.stdout.flush()
             line = face.line(shell.prompt())
             if line is None:
+                shell.take_end()
                 return
             shell.take(line)
         except Ended:
             return
+        except HeaderFault as why:
+            sys.stdout.flush()
+            end(1, f"standard input: line {number}: {why}")
         except KeyboardInterrupt:
             if not face.is_terminal:
                 raise

@@ -45,7 +45,8 @@ class Face:
                 end(2, f"standard {name} is closed")
         sys.stdin.reconfigure(errors="surrogateescape")
         sys.stdout.reconfigure(errors="backslashreplace")
-        self.is_terminal = sys.stdin.isatty() and sys.stdout.isatty()
+        self.reads_terminal = sys.stdin.isatty()
+        self.is_terminal = self.reads_terminal and sys.stdout.isatty()
         is_plain = os.environ.get("NO_COLOR") or os.environ.get("TERM", "dumb") in ("", "dumb")
         self.has_colour = sys.stdout.isatty() and not is_plain
 

@@ -2,7 +2,8 @@
 import difflib
 from collections import Counter
 
-from strm_tools.faults import FITS, FORMS, MOST, fault_in, line_kind
+from strm_tools.faults import FITS, FORMS, MOST, LineFault, fault_in, line_kind
+from strm_tools.hints import hints
 from strm_tools.play.session import is_command
 from strm_tools.script import Wrong
 from strm_tools.streams import hint_for
@@ -16,7 +17,7 @@ OWN = {
     "state": ("[on|off]", "Shows the state; on: after every line, off: on request.", "switch"),
     "report": ("", "Prints the report of the pool, as strm does.", ""),
     "list": ("[N]", "Lists the executed lines, or the last N, with replies.", ""),
-    "why": ("", "Explains the last line that was refused, replied no or none, or enabled a queue or could have.", ""),
+    "why": ("[LINE]", "Explains the last line that was refused, replied no or none, took a queue off the run list, or enabled one or could have; or line LINE.", ""),
     "undo": ("[N]", "Takes back the last line, or the last N.", ""),
     "redo": ("[N]", "Does again what undo took back.", ""),
     "save": ("[-f] FILE [TEXT]", "Writes the script, and the text of several workers.", "file file"),
@@ -40,22 +41,31 @@ def number_of(word, least=0):
     return int(word)
 
 
+def hint_of(fault, first, rest):
+    """The first note of strm-check on a fault of a line, after a semicolon, or nothing."""
+    octets = " ".join([first, *rest]).encode("utf-8", "surrogateescape")
+    noted = hints(LineFault(1, fault, octets.decode("latin-1"), "command", 0), octets + b"\n")
+    return f"; {noted[0]}" if noted else ""
+
+
 def explained(fault, first, rest):
     """A fault of a line, with what was expected."""
     if fault == "unknown":
         known = None if first in MEANT else hint_for(first, WORDS)
         if known:
             return f"unknown: {known}"
+        if first not in WORDS and first.lower() in WORDS:
+            return f"unknown: there is no command {first}{hint_of(fault, first, rest)}"
         near = [MEANT[first]] if first in MEANT else difflib.get_close_matches(first, [*WORDS, *OWN], 1)
         return f"unknown: there is no command {first}" + (f"; is {near[0]} meant?" if near else "; help lists all")
     if fault == "toomany":
         return f"toomany: a script has at most {counted(MOST[line_kind(first)], 'such line')}"
     if fault == "shape":
-        return f"shape: {wrong_count(whole_form(first), len(rest) + 1)}"
+        return f"shape: {wrong_count(whole_form(first), len(rest) + 1)}{hint_of(fault, first, rest)}"
     names = WORDS[first].form.split()
     for name, item, word in zip(names, FORMS[first], rest):
         if not FITS[item][0](word):
-            return f"{fault}: {name} is {MEANINGS[item]}; here it is {word}"
+            return f"{fault}: {name} is {MEANINGS[item]}; here it is {word}{hint_of(fault, first, rest)}"
     return fault
 
 
@@ -65,6 +75,14 @@ def wrong_form(word):
     return Wrong(f"shape: the form is {word} {form}" if form else f"shape: {word} takes no words")
 
 
+class HeaderFault(Wrong):
+    """A fault of a header that is typed. `advice` is what the session says of it at a terminal; without one, the session ends."""
+
+    def __init__(self, why, advice=""):
+        super().__init__(why)
+        self.advice = advice
+
+
 class TypedHeader:
     """The lines of a header that is typed, which a line `worker` ends."""
 
@@ -72,15 +90,15 @@ class TypedHeader:
         self.lines = []
 
     def take(self, text):
-        """Takes a line. Returns the header if it is whole, and otherwise nothing. Raises `Wrong` for a fault."""
+        """Takes a line. Returns the header if it is whole, and otherwise nothing. Raises `HeaderFault` for a fault."""
         kinds = [line_kind(line.split(" ")[0]) for line in filter(is_command, self.lines)]
         before = kinds[-1] if kinds else "nothing"
         word, *rest = text.split(" ")
         fault = is_command(text) and fault_in(word, rest, before, Counter(kinds))
         if fault == "order":
-            raise Wrong(f"order: {misplaced(word, before)}; undo keeps the pool that there was")
+            raise HeaderFault(f"order: {misplaced(word, before)}", "; undo keeps the pool that there was")
         if fault:
-            raise Wrong(explained(fault, word, rest))
+            raise HeaderFault(explained(fault, word, rest))
         if word == "worker":
             return self.lines
         self.lines += [text] if text else []

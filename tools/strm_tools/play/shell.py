@@ -8,11 +8,11 @@ from strm_tools.listing import listing
 from strm_tools.play import proved
 from strm_tools.play.completion import completed
 from strm_tools.play.face import named
-from strm_tools.play.own import OWN, TypedHeader, explained, number_of, wrong_form
+from strm_tools.play.own import OWN, HeaderFault, TypedHeader, explained, number_of, wrong_form
 from strm_tools.play.session import changes_of, is_command, opening, parted, text_of
 from strm_tools.play.state import drawn, is_changed
 from strm_tools.play.turns import Turns
-from strm_tools.rules import EFFECTS, FLOW, explains, why
+from strm_tools.rules import EFFECTS, FLOW, explains, labelled, why
 from strm_tools.script import Wrong
 from strm_tools.words import COMMANDS, HEADER, WORDS, counted, whole_form
 
@@ -32,10 +32,16 @@ class Ended(Exception):
     """The session is at its end."""
 
 
-def is_explained(row):
-    """Whether a rule explains what a line did."""
+def is_served(row):
+    """Whether a line took a queue off the run list."""
     _, text, reply = row
-    return explains(text.split(" ")[0], reply)
+    return text == "service" and reply != "none"
+
+
+def is_explained(row):
+    """Whether a rule explains what a line did, or another line does, which enabled a queue."""
+    _, text, reply = row
+    return is_served(row) or explains(text.split(" ")[0], reply)
 
 
 def shown(row):
@@ -98,7 +104,8 @@ class Shell(Turns):
     # ---- A line ------------------------------------------------------------------------------------------------------
 
     def take(self, line):
-        """Does what a line says."""
+        """Does what a line says. Raises `HeaderFault` if a header has a fault that no terminal can show, so that no command is executed in
+        another pool."""
         text = line.strip() if line.strip().startswith("#") else " ".join(line.split())
         word, *rest = text.split(" ")
         try:
@@ -112,8 +119,17 @@ class Shell(Turns):
                 self.enter(text)
             elif text:
                 self.take_command(text, word, rest)
+        except HeaderFault as reason:
+            if not self.face.reads_terminal:
+                raise
+            self.say(f"{reason}{reason.advice}")
         except Wrong as reason:
             self.say(str(reason))
+
+    def take_end(self):
+        """The input is at its end. Raises `HeaderFault` if a header is not, and no terminal shows it."""
+        if self.typed is not None and not self.face.reads_terminal:
+            raise HeaderFault("the input ends in a header, whose end is a line `worker`")
 
     def take_own(self, word, rest):
         """Does a command of the session."""
@@ -136,7 +152,7 @@ class Shell(Turns):
         commands = len(self.play.executed) + sum(section.waiting() for section in sections)
         fault = fault_in(word, rest, "command", Counter(worker=len(sections), command=commands))
         if fault == "order":
-            raise Wrong(f"order: {word} describes a pool, before its commands; new opens another pool")
+            raise HeaderFault(f"order: {word} describes a pool, before its commands", "; new opens another pool")
         if fault:
             raise Wrong(explained(fault, word, rest))
         if word == "worker":
@@ -213,7 +229,10 @@ class Shell(Turns):
         header = self.typed.take(text)
         if header is not None:
             self.typed = None
-            require_right(text_of([*header, "worker"]))
+            try:
+                require_right(text_of([*header, "worker"]))
+            except Wrong as why_not:
+                raise HeaderFault(f"the header has a fault: {why_not}", "; it is dropped, and the pool is as before")
             self.open([opening(header)], "these lines")
 
     # ---- Commands of the session -------------------------------------------------------------------------------------
@@ -272,8 +291,11 @@ class Shell(Turns):
     def say_rows(self, rows):
         self.face.write(listing(rows))
 
-    def on_why(self):
+    def on_why(self, line=None):
         rows = list(self.play.rows())
+        if line is not None:
+            self.explain(self.explained_at(rows, number_of(line, 1)), rows)
+            return
         place = next((place for place in reversed(range(len(rows))) if is_explained(rows[place])), None)
         if not rows:
             raise Wrong("nothing to explain: no line is executed")
@@ -281,6 +303,24 @@ class Shell(Turns):
             raise Wrong("nothing to explain: no line was refused, replied no or none, or could enable a queue")
         if place < len(rows) - 1:
             self.say(f"nothing to explain in the last line, {shown(rows[-1])}; before it:")
+        self.explain(place, rows)
+
+    def explained_at(self, rows, number):
+        """The place of the line that has this number in the script, if there is something to explain in it."""
+        place = next((place for place, (at, _, _) in enumerate(rows) if at.endswith(f":{number}")), None)
+        if place is None:
+            raise Wrong(f"no line {number} is executed; list shows those that are")
+        if not is_explained(rows[place]):
+            raise Wrong(f"nothing to explain in {shown(rows[place])}")
+        return place
+
+    def explain(self, place, rows):
+        """Gives the rule for the executed line at a place. For one that took a queue off the run list, this is the line that enabled it."""
+        if is_served(rows[place]):
+            self.say(shown(rows[place]))
+            number = int(rows[place][2].split(" ")[1])
+            place = self.session.since(place - 1, [lambda model: number in model.run])[0]
+            self.say("queue {} was enabled by {} {}".format(labelled(number, self.play.labels()), *rows[place]))
         _, text, _ = rows[place]
         found = why(self.session.model_before(place), *parted(text))
         self.say(shown(rows[place]) + (f", {found.rule.decides}" if found.rule.decides in EFFECTS else ""))
@@ -298,9 +338,8 @@ class Shell(Turns):
         begins = zip(facts, self.session.since(place, list(facts.values())))
         parts = ["{} since {} {}".format(name, *rows[begin]) for name, begin in begins if begin is not None]
         labels = self.play.labels()
-        label = f" ({labels[number]})" if number in labels else ""
         if parts:
-            self.face.paragraph("  ", f"Band {band} of queue {number}{label} has been {', and '.join(parts)}.")
+            self.face.paragraph("  ", f"Band {band} of queue {labelled(number, labels)} has been {', and '.join(parts)}.")
 
     def on_undo(self, count="1"):
         if self.typed is not None:
