@@ -6,22 +6,15 @@ use strm_pool::{
 };
 
 mod bench;
-mod beside;
 mod config;
 mod copies;
-mod flow;
 mod in_place;
 mod in_place_rows;
-mod long_run;
-mod looks;
 mod names;
-mod plain;
 mod pool;
 mod regs;
 mod rows;
-mod second;
 mod slots;
-mod tally;
 mod transfers;
 
 // Two size classes: the size of each, and its number of data blocks.

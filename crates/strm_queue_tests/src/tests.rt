@@ -11,7 +11,6 @@ use strm_mblk::{Blocks, MOST_MESSAGE_BLOCKS, Rejected, Token};
 use strm_queue::{BANDS, QueueSpec, Queues};
 
 mod bench;
-mod drawn;
 mod reading;
 mod rows;
 

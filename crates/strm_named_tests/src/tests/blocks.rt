@@ -29,16 +29,6 @@ fn assert_typed(
     assert_is(rt, pool.settype(block.0, block.1, kind), wanted);
 }
 
-fn assert_trimmed(
-    rt: &impl Abort,
-    pool: &mut NamedPool,
-    name: Name,
-    count: i32,
-    wanted: Result<(), Fault>,
-) {
-    assert_is(rt, pool.adjmsg(name, count), wanted);
-}
-
 #[test]
 fn joins_messages(rt: HostRuntime) {
     let mut pool = opened(&rt, rt.alloc(), 1);
@@ -101,54 +91,4 @@ fn names_what_it_copies(rt: HostRuntime) {
     let shared = Err(Fault::Refused(Refusal::Shared));
     assert_typed(&rt, &mut pool, (source, 0), MsgType::MProto, shared);
     assert_census(&rt, &pool, (3, 0, 5));
-}
-
-// Makes a message of two blocks; the second has another type.
-fn two_types(rt: &impl Abort, pool: &mut NamedPool) -> Name {
-    let first = message(rt, pool, b"one");
-    let second = message(rt, pool, b"two");
-    assert_linked(rt, pool, (first, second), Ok(()));
-    assert_typed(rt, pool, (first, 1), MsgType::MProto, Ok(()));
-    first
-}
-
-#[test]
-fn changes_a_message(rt: HostRuntime) {
-    let mut pool = opened(&rt, rt.alloc(), 1);
-    let changed = two_types(&rt, &mut pool);
-    assert_is(&rt, pool.setband(changed, 9), Ok(()));
-    assert_is(
-        &rt,
-        (pool.size(changed), pool.msgdsize(changed)),
-        (Ok(6), Ok(3)),
-    );
-    let short = Err(Fault::Refused(Refusal::Short));
-    assert_trimmed(&rt, &mut pool, changed, 4, short);
-    assert_trimmed(&rt, &mut pool, changed, 1, Ok(()));
-    let Ok(block) = pool.block(changed, 0) else {
-        panic!(&rt; "no block")
-    };
-    assert_is(
-        &rt,
-        (block.kind, block.len, block.band),
-        (MsgType::MData, 2, 9),
-    );
-}
-
-// The blocks after the first are freed, and the name is still valid.
-#[test]
-fn pulls_a_message_up(rt: HostRuntime) {
-    let mut pool = opened(&rt, rt.alloc(), 1);
-    let pulled = two_types(&rt, &mut pool);
-    assert_typed(&rt, &mut pool, (pulled, 1), MsgType::MData, Ok(()));
-    assert_is(&rt, pool.pullupmsg(pulled, -1), Ok(()));
-    let mut bytes = [0; 8];
-    assert_is(&rt, pool.read(pulled, 1, &mut bytes), Ok(5));
-    assert_is(&rt, bytes, *b"netwo\0\0\0");
-    assert_is(
-        &rt,
-        pool.block(pulled, 1),
-        Err(Fault::Refused(Refusal::NoSuchBlock)),
-    );
-    assert_census(&rt, &pool, (7, 0, 1));
 }

@@ -2,7 +2,7 @@ use super::spent::assert_invalid;
 use super::{assert_census, assert_is, message, name, opened};
 use std::process::Abort;
 use strm_named::{Fault, Name, NamedPool};
-use strm_pool::{Flush, Refusal};
+use strm_pool::Refusal;
 
 fn assert_put(
     rt: &impl Abort,
@@ -64,56 +64,6 @@ fn puts_and_gets(rt: HostRuntime) {
     let missing = Err(Fault::Refused(Refusal::NoSuchPlace));
     assert_removed(&rt, &mut pool, 1, missing);
     assert_census(&rt, &pool, (5, 1, 2));
-}
-
-#[test]
-fn flushes(rt: HostRuntime) {
-    let mut pool = opened(&rt, rt.alloc(), 1);
-    filled(&rt, &mut pool);
-    assert_is(&rt, pool.pool().qsize(0), Ok(3));
-    assert_is(&rt, pool.bcanput(0, 0), Ok(false));
-    assert_is(&rt, pool.flushband(0, 1, Flush::All), Ok(()));
-    assert_census(&rt, &pool, (5, 3, 0));
-    assert_is(&rt, pool.flushq(0, Flush::All), Ok(()));
-    assert_census(&rt, &pool, (8, 0, 0));
-}
-
-#[test]
-fn serves_queues(rt: HostRuntime) {
-    let mut pool = opened(&rt, rt.alloc(), 1);
-    assert!(rt; pool.pool().has_queue(1) && !pool.pool().has_queue(2));
-    assert_is(&rt, pool.noenable(0), Ok(()));
-    assert_is(&rt, pool.enableok(0), Ok(()));
-    assert_is(&rt, pool.qenable(0), Ok(()));
-    assert_is(&rt, pool.qenable(2), Err(Refusal::NoSuchQueue));
-    assert_is(
-        &rt,
-        (pool.pool().run_at(0), pool.pool().run_at(1)),
-        (Some(0), None),
-    );
-    assert_is(&rt, pool.next_service(), Some(0));
-}
-
-#[test]
-fn sets_water_marks(rt: HostRuntime) {
-    let mut pool = opened(&rt, rt.alloc(), 1);
-    assert_is(&rt, pool.strqset(0, 3, 20, 20), Err(Refusal::BadMarks));
-    assert_is(&rt, pool.strqset(0, 3, 21, 20), Ok(()));
-    let marks = pool.pool().strqget(0, 3);
-    assert!(rt; marks.is_ok_and(|marks| marks.hiwat == 21 && marks.lowat == 20));
-}
-
-#[test]
-fn tells_of_queues_and_classes(rt: HostRuntime) {
-    let mut pool = opened(&rt, rt.alloc(), 1);
-    filled(&rt, &mut pool);
-    assert!(rt; pool.pool().queue_info(0).is_ok_and(|info| info.msgs == 3));
-    assert!(rt;
-        pool.pool()
-            .band_info(0, 0)
-            .is_ok_and(|info| info.bytes == 11)
-    );
-    assert!(rt; pool.pool().class_info(0).is_some() && pool.pool().class_info(1).is_none());
 }
 
 #[test]

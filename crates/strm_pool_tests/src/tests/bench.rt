@@ -1,5 +1,5 @@
 //! A bench: a pool with its own registers. Each method makes calls, and compares what they return.
-use super::in_place::{InPlace, made_in_place, uncounted, write_over};
+use super::in_place::{InPlace, made};
 use super::{assert_reply, classes, opened, queues, register};
 use std::alloc::Global;
 use std::process::Abort;
@@ -84,8 +84,7 @@ impl Bench {
     ) {
         let token = self.taken(rt, reg);
         for (call, answer) in rows {
-            assert!(rt; self.pool.has(&token));
-            let given = made_in_place!(self.pool, &token, *call);
+            let given = made(rt, &mut self.pool, &token, *call);
             assert!(rt; given == *answer, "{call:?} {given:?}");
         }
         self.hold(rt, reg, token);

@@ -1,6 +1,6 @@
-//! Calls in place, as data: those that change bytes of a held message. `made_in_place!` makes them on a pool or on message
-//! blocks, and plain.rt on plain lists.
-use strm_pool::Refusal;
+//! Calls in place, as data: those that change bytes of a held message.
+use std::process::Abort;
+use strm_pool::{Pool, Refusal, Token};
 
 // A call on a message. The first number is the place of a block, and in `Overwrite` that of a byte.
 #[derive(Clone, Copy, Debug)]
@@ -16,48 +16,38 @@ pub(super) enum InPlace<'a> {
 }
 
 // Writes bytes over the front of others, as far as both reach.
-pub(super) fn write_over(lent: &mut [u8], bytes: &[u8]) {
+fn write_over(lent: &mut [u8], bytes: &[u8]) {
     let count = lent.len().min(bytes.len());
     lent[..count].copy_from_slice(&bytes[..count]);
 }
 
 // The answer of a call that counts no bytes.
-pub(super) fn uncounted(answer: Result<(), Refusal>) -> Result<u32, Refusal> {
+fn uncounted(answer: Result<(), Refusal>) -> Result<u32, Refusal> {
     match answer {
         Ok(()) => Ok(0),
         Err(why) => Err(why),
     }
 }
 
-// Makes a call on a pool or on message blocks, and returns the number of bytes that `fill` counts, or 0.
-macro_rules! made_in_place {
-    ($on:expr, $token:expr, $call:expr) => {
-        match $call {
-            InPlace::Edit(place, bytes) => {
-                uncounted($on.edit($token, place, |lent| write_over(lent, bytes)))
-            }
-            InPlace::Fill(place, bytes, said) => $on.fill($token, place, |room| {
-                write_over(room, bytes);
-                said
-            }),
-            InPlace::Advance(place, count) => uncounted($on.advance($token, place, count)),
-            InPlace::Reserve(place, count) => uncounted($on.reserve($token, place, count)),
-            InPlace::Prepend(bytes) => uncounted($on.prepend($token, bytes)),
-            InPlace::Overwrite(at, bytes) => uncounted($on.overwrite($token, at, bytes)),
-        }
-    };
-}
-
-pub(super) use made_in_place;
-
-// The name of a call.
-pub(super) fn name_of(call: InPlace<'_>) -> &'static str {
+// Makes a call on a message, and returns the number of bytes that `fill` counts, or 0.
+pub(super) fn made(
+    rt: &impl Abort,
+    pool: &mut Pool,
+    token: &Token,
+    call: InPlace<'_>,
+) -> Result<u32, Refusal> {
+    assert!(rt; pool.has(token));
     match call {
-        InPlace::Edit(_, _) => "edit",
-        InPlace::Fill(_, _, _) => "fill",
-        InPlace::Advance(_, _) => "advance",
-        InPlace::Reserve(_, _) => "reserve",
-        InPlace::Prepend(_) => "prepend",
-        InPlace::Overwrite(_, _) => "overwrite",
+        InPlace::Edit(place, bytes) => {
+            uncounted(pool.edit(token, place, |lent| write_over(lent, bytes)))
+        }
+        InPlace::Fill(place, bytes, said) => pool.fill(token, place, |room| {
+            write_over(room, bytes);
+            said
+        }),
+        InPlace::Advance(place, count) => uncounted(pool.advance(token, place, count)),
+        InPlace::Reserve(place, count) => uncounted(pool.reserve(token, place, count)),
+        InPlace::Prepend(bytes) => uncounted(pool.prepend(token, bytes)),
+        InPlace::Overwrite(at, bytes) => uncounted(pool.overwrite(token, at, bytes)),
     }
 }

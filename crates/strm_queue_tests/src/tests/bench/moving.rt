@@ -167,22 +167,6 @@ impl Bench {
         }
     }
 
-    // Takes the first `many` messages of a queue, joins them, and puts the result after its equals.
-    pub(in crate::tests) fn join_first(&mut self, rt: &impl Abort, queue: u8, many: u32)
-        requires { Agrees self.old.queues self.old.blocks }
-        ensures { Agrees self.new.queues self.new.blocks }
-    {
-        let mut message = self.first(rt, queue);
-        for _other in 1..many {
-            let tail = self.first(rt, queue);
-            assert!(rt; self.blocks.has(&message));
-            assert!(rt; self.blocks.has(&tail));
-            linked(&self.queues, &mut self.blocks, &mut message, tail);
-        }
-        assert!(rt; message.blocks() == many && self.blocks.census().held == many);
-        self.putq(rt, queue, message);
-    }
-
     // Takes the first message of a queue, and frees it.
     pub(in crate::tests) fn drop_first(&mut self, rt: &impl Abort, queue: u8)
         requires { Agrees self.old.queues self.old.blocks }
