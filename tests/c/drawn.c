@@ -13,7 +13,7 @@
 #include <string.h>
 
 /* The number of calls on a pair of pools. After every CALLS_TO_ALL_BANDS of them all bands of the drawn queue are compared, where the bytes
- * of messages are, and what calls tell of messages on queues. After every CALLS_TO_ALL_MESSAGES all queues are emptied. */
+ * of messages are, and what calls report of messages on queues. After every CALLS_TO_ALL_MESSAGES all queues are emptied. */
 #define CALLS_OF_A_POOL 20000
 #define CALLS_TO_ALL_BANDS 16
 #define CALLS_TO_ALL_MESSAGES 1000

@@ -29,7 +29,7 @@ pub record IsTreated {M : Type 0} (treats : Treats M) (q n : ℕ) (m : M) (v : P
   pub treated : treats m held q token returned k left
   pub put : w ≡ with_any_put n returned left
 
--- so many messages of queue q were treated, one after another
+-- a number of messages of queue q were treated, one after another
 abbrev pub AreTreated : {M : Type 0} → Treats M → ℕ → ℕ → ℕ → M → PoolValue → M → PoolValue → Type 0
 AreTreated treats q n zero m v k w = (k ≡ m) × (w ≡ v)
 AreTreated {M} treats q n (suc count) m v k w = (l : M) × (x : PoolValue) × AreTreated treats q n count m v l x × IsTreated treats q n l x k w
@@ -50,7 +50,7 @@ pub record IsFirstTreated {M : Type 0} (treats : Treats M) (m : M) (v : PoolValu
   pub goes_on : next_of v.queues.specs queue ≡ Some next
   pub treated : IsQueueTreated treats queue next m (with_queued v (next_service (queued_blocks_of v)).1) k w
 
--- so many queues were served, one after another
+-- a number of queues were served, one after another
 abbrev pub AreQueuesTreated : {M : Type 0} → Treats M → ℕ → M → PoolValue → M → PoolValue → Type 0
 AreQueuesTreated treats zero m v k w = (k ≡ m) × (w ≡ v)
 AreQueuesTreated {M} treats (suc count) m v k w = (l : M) × (x : PoolValue) × AreQueuesTreated treats count m v l x × IsFirstTreated treats l x k w

@@ -19,7 +19,7 @@ with_any_served (Some q) v = with_queue_served q v
 unfoldable pub with_first_served : QueuedBlocks → QueuedBlocks
 with_first_served v = with_any_served (next_service v).0 (next_service v).1
 
--- so many queues were served, one after another
+-- a number of queues were served, one after another
 unfoldable pub with_served : ℕ → QueuedBlocks → QueuedBlocks
 with_served zero v = v
 with_served (suc count) v = with_first_served (with_served count v)

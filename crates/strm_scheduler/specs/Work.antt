@@ -19,12 +19,12 @@ abbrev pub weigh : List (List Message) → ℕ
 weigh [] = 0
 weigh (ms ∷ rest) = each (suc (length rest)) ms + weigh rest
 
--- a number, so many times
+-- a number, added a number of times
 abbrev pub times_of : ℕ → ℕ → ℕ
 times_of zero k = 0
 times_of (suc count) k = k + times_of count k
 
--- one, doubled so many times
+-- two, raised to a number
 abbrev pub power : ℕ → ℕ
 power zero = 1
 power (suc q) = power q + power q
@@ -34,7 +34,7 @@ abbrev pub powers : List ℕ → ℕ
 powers [] = 0
 powers (q ∷ qs) = power q + powers qs
 
--- more than the powers of any run list of so many queues
+-- more than the powers of any run list of this number of queues
 abbrev pub most_powers : ℕ → ℕ
 most_powers queues = suc (times_of queues (power queues))
 

@@ -1,4 +1,4 @@
--- The address is that of the slice, which the function gives up.
+-- The address is that of the slice, which the function forgets.
 use Rattle.std.proofs.Common.{List, [], ◌∷◌, refl}
 use Rattle.std.proofs.raw_atomic.Walks.{proved}
 use mir.Syntax.{named}
