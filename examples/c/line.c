@@ -1,7 +1,7 @@
 /*
- * A line of queues whose modules are function pointers. The service procedure of each queue but the last passes messages on, and the user
- * takes them off the last one. No message is left asleep (docs/FLOW-CONTROL.md) if each module keeps two laws. It frees its message and
- * returns 0, or leaves it valid and returns 1. It makes no call on a queue, such as strm_getq, strm_putbq or strm_noenable.
+ * One side of a stream, whose modules are function pointers. The service procedure of each queue but the last passes messages on, and the
+ * user takes them off the last one. No message is left asleep (docs/FLOW-CONTROL.md) if each module keeps two laws. It frees its message
+ * and returns 0, or leaves it valid and returns 1. It makes no call on a queue, such as strm_getq, strm_putbq or strm_noenable.
  *
  *     cc line.c $(pkg-config --cflags --libs strm) -o line
  */

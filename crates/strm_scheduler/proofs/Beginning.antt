@@ -1,4 +1,4 @@
--- A service as `run` makes it: the first queue leaves the run list, and its messages are forwarded.
+-- A service: the first queue leaves the run list, and is served. `run` forwards its messages.
 use Rattle.std.proofs.Common.{◌≡◌, ◌≢◌, ℕ, zero, suc, ◌+◌, ◌^◌, ◌<◌, ◌≤◌, inl, inr, true, ◌==◌, List, [], ◌∷◌, ◌++◌, drop, length, get_or, Option, Some, None, refl, sym, ap, ◌∙◌, subst, arith, length-append}
 use Rattle.std.specs.Prelude.{is_some, nat_le}
 use Rattle.std.specs.List.{All, flat_map, list_all}
@@ -19,23 +19,24 @@ use Rattle.strm_pool.specs.PoolValue.{PoolValue, queued_blocks_of, with_queued}
 use Rattle.strm_queue.specs.declared.queue_spec.QueueSpec.{QueueSpec}
 use Rattle.strm_queue.specs.Flow.{Flags, flags_at, has_band, no_spec, opening_flags, spec_at}
 use Rattle.strm_queue.specs.Limits.{high_rank}
-use Rattle.strm_queue.specs.QueueCalls.{next_service}
-use Rattle.strm_queue.specs.QueueSpecs.{are_lawful}
+use Rattle.strm_queue.specs.QueueCalls.{next_service, with_state}
 use Rattle.strm_queue.specs.QueuedBlocks.{QueuedBlocks}
 use Rattle.strm_queue.specs.Rank.{rank_of}
 use Rattle.strm_queue.proofs.bands.Bands.{length-bands_where, length_every_band}
 use Rattle.strm_scheduler.specs.Awake.{IsAwake, is_awake}
-use Rattle.strm_scheduler.specs.Lines.{AreLines, next_of}
+use Rattle.strm_scheduler.specs.Sides.{AreSides, next_of}
 use Rattle.strm_scheduler.specs.Running.{with_any_served, with_first_served, with_served}
-use Rattle.strm_scheduler.specs.Order.{KeepsOrder, line_of}
+use Rattle.strm_scheduler.specs.Order.{KeepsOrder, side_of}
 use Rattle.strm_scheduler.specs.Work.{powers, weigh, work}
 use Rattle.strm_scheduler.proofs.Hops.{hop_ahead, hop_within}
+use Rattle.strm_scheduler.specs.Laws.{AreKeptAwake}
+use Rattle.strm_scheduler.specs.Serving.{FallsBy, IsBegun, IsServing}
 use Rattle.strm_scheduler.proofs.Keeping.{enabling_on, kept}
 use Rattle.strm_scheduler.proofs.Settling.{AreBanded}
 use Rattle.strm_scheduler.proofs.Underway.{IsUnderway, all_forwarded_awake}
 use Rattle.strm_scheduler.proofs.Weighing.{forwarded_weighs}
 use Rattle.strm_scheduler.proofs.Falling.{falls_on, falls_still, none_powers}
-use Rattle.strm_scheduler.proofs.Ordering.{line_forwarded}
+use Rattle.strm_scheduler.proofs.Ordering.{side_forwarded}
 
 -- ---- ranks
 
@@ -101,103 +102,120 @@ pub none_first : (xs : List ℕ) → rows.first xs ≡ None → xs ≡ []
 none_first [] is = refl
 none_first (y ∷ ys) is = absurd (none-some y (sym is))
 
--- pool v, and x once queue q has left its run list; queue n is the next of queue q
-module _ (v x : PoolValue) (q n : ℕ) (after : x ≡ with_queued v (next_service (queued_blocks_of v)).1) (first : rows.first v.queues.run ≡ Some q)
-    (law : IsLawful x) (lines : AreLines v.queues.specs) (awake : IsAwake (queued_blocks_of v)) (next : next_of v.queues.specs q ≡ Some n) where
-  pub lawful : are_lawful v.queues.specs ≡ true
-  lawful = sym (ap (λ (p : PoolValue). are_lawful p.queues.specs) after) ∙ law.lawful_queues
-
+-- pool v, and x once queue q has left its run list
+module _ (v x : PoolValue) (q : ℕ) (after : x ≡ with_queued v (next_service (queued_blocks_of v)).1) (first : rows.first v.queues.run ≡ Some q) where
   pub run_is : v.queues.run ≡ q ∷ x.queues.run
   run_is = first_of v.queues.run q first ∙ ap (λ (qs : List ℕ). q ∷ qs) (sym (ap (λ (p : PoolValue). p.queues.run) after))
 
-  others : (p t : ℕ) → p ≢ q → next_of v.queues.specs p ≡ Some t → is_awake (queued_blocks_of x) p t ≡ true
-  others p t other is =
-      kept p t (queued_blocks_of v) (queued_blocks_of x)
-      (record {
-        off = ap (λ (y : PoolValue). (flags_at y.queues p).noenable) after;
-        read = ap (λ (y : PoolValue). (flags_at y.queues p).read) after;
-        wanted = λ band wanted. ap (λ (y : PoolValue). has_band (flags_at y.queues t).wanted band) after ∙ wanted;
-        run = λ on. still (sym (ap (rows.has p) run_is) ∙ on);
-        messages = ap (λ (y : PoolValue). shelf_at y.arena p) after;
-        store = ap (λ (y : PoolValue). y.arena.store) after;
-      })
-      (awake p t is)
-    where
-      still : rows.has p (q ∷ x.queues.run) ≡ true → rows.has p x.queues.run ≡ true
-      still on =
-          elim (or_cases (q == p) (rows.has p x.queues.run) on) [
-            | inl here ↦ absurd (other (sym (eqb-true q p here)))
-            | inr rest ↦ rest
-          ]
+  -- queue n is the next of queue q
+  module _ (n : ℕ) (sides : AreSides v.queues.specs) (awake : IsAwake (queued_blocks_of v)) (next : next_of v.queues.specs q ≡ Some n) where
+    others : (p t : ℕ) → p ≢ q → next_of v.queues.specs p ≡ Some t → is_awake (queued_blocks_of x) p t ≡ true
+    others p t other is =
+        kept p t (queued_blocks_of v) (queued_blocks_of x)
+        (record {
+          off = ap (λ (y : PoolValue). (flags_at y.queues p).noenable) after;
+          read = ap (λ (y : PoolValue). (flags_at y.queues p).read) after;
+          wanted = λ band wanted. ap (λ (y : PoolValue). has_band (flags_at y.queues t).wanted band) after ∙ wanted;
+          run = λ on. still (sym (ap (rows.has p) run_is) ∙ on);
+          messages = ap (λ (y : PoolValue). shelf_at y.arena p) after;
+          store = ap (λ (y : PoolValue). y.arena.store) after;
+        })
+        (awake p t is)
+      where
+        still : rows.has p (q ∷ x.queues.run) ≡ true → rows.has p x.queues.run ≡ true
+        still on =
+            elim (or_cases (q == p) (rows.has p x.queues.run) on) [
+              | inl here ↦ absurd (other (sym (eqb-true q p here)))
+              | inr rest ↦ rest
+            ]
 
-  pub underway : IsUnderway v.queues.specs lawful lines q n next (queued_blocks_of x)
+    pub serving_begun : IsServing q n x
+    serving_begun =
+        let same : x.queues.specs ≡ v.queues.specs = ap (λ (p : PoolValue). p.queues.specs) after in
+        record {
+          sides = subst AreSides (sym same) sides;
+          next = ap (λ (sp : List QueueSpec). next_of sp q) same ∙ next;
+          off = ap (λ (p : PoolValue). (flags_at p.queues q).noenable) after ∙ enabling_on (queued_blocks_of v) q n (awake q n next);
+          others = λ p t other is. others p t other (ap (λ (sp : List QueueSpec). next_of sp p) (sym same) ∙ is);
+        }
+
+-- ---- a queue is being served
+
+module _ (q n : ℕ) (x : PoolValue) (law : IsLawful x) (s : IsServing q n x) where
+  pub underway : IsUnderway x.queues.specs law.lawful_queues s.sides q n s.next (queued_blocks_of x)
   underway = record {
-    same = ap (λ (p : PoolValue). p.queues.specs) after;
+    same = refl;
     banded = banded_of x law;
-    flagged = law.flagged ∙ ap (λ (p : PoolValue). length p.queues.specs) after;
-    shelved = law.shelves ∙ ap (λ (p : PoolValue). length p.queues.specs) after;
+    flagged = law.flagged;
+    shelved = law.shelves;
     ordered = law.ordered q;
     low = low_ranks x law q;
-    off = ap (λ (p : PoolValue). (flags_at p.queues q).noenable) after ∙ enabling_on (queued_blocks_of v) q n (awake q n next);
-    others = others;
+    off = s.off;
+    others = s.others;
   }
 
-  -- ---- and its messages are forwarded
-
+  -- its messages are forwarded
   module _ (w : PoolValue) (count : ℕ) (does : all_forwarded q n (queued_blocks_of x) ≡ (count, queued_blocks_of w)) (forwards : Forwards q n count x w) where
-    specs_then : w.queues.specs ≡ v.queues.specs
-    specs_then = forwards.rest.specs ∙ ap (λ (p : PoolValue). p.queues.specs) after
-
-    pub awake_then : IsAwake (queued_blocks_of w)
-    awake_then p t is =
-        subst (λ (y : QueuedBlocks). is_awake y p t ≡ true) (ap (λ (r : ℕ × QueuedBlocks). r.1) does)
-        (all_forwarded_awake v.queues.specs lawful lines q n next (queued_blocks_of x) underway p t (ap (λ (specs : List QueueSpec). next_of specs p) (sym specs_then) ∙ is))
-
-    pub lines_then : AreLines w.queues.specs
-    lines_then = subst AreLines (sym specs_then) lines
-
-    pub served_then : with_first_served (queued_blocks_of v) ≡ queued_blocks_of w
-    unfolding with_first_served
-    served_then =
-        (λ i. with_any_served (first i) (queued_blocks_of (sym after i)))
-        ∙ ap (λ (o : Option ℕ). option_map_or (λ t. (all_forwarded q t (queued_blocks_of x)).1) o (queued_blocks_of x)) (ap (λ (p : PoolValue). next_of p.queues.specs q) after ∙ next)
-        ∙ ap (λ (r : ℕ × QueuedBlocks). r.1) does
-
-    arena_same : x.arena ≡ v.arena
-    arena_same = ap (λ (p : PoolValue). p.arena) after
+    pub kept_forwarded : AreKeptAwake w
+    kept_forwarded = record {
+      sides = subst AreSides (sym forwards.rest.specs) s.sides;
+      awake = λ p t is.
+          subst (λ (y : QueuedBlocks). is_awake y p t ≡ true) (ap (λ (r : ℕ × QueuedBlocks). r.1) does)
+          (all_forwarded_awake x.queues.specs law.lawful_queues s.sides q n s.next (queued_blocks_of x) underway p t
+          (ap (λ (specs : List QueueSpec). next_of specs p) (sym forwards.rest.specs) ∙ is));
+    }
 
     greater : q < n
-    greater = (hop_ahead v.queues.specs lawful q n next).greater
+    greater = (hop_ahead x.queues.specs law.lawful_queues q n s.next).greater
 
     n_shelved : n < length x.arena.shelves
-    n_shelved = omega (arith, (hop_ahead v.queues.specs lawful q n next).there, law.shelves, ap (λ (p : PoolValue). length p.queues.specs) after)
+    n_shelved = omega (arith, (hop_ahead x.queues.specs law.lawful_queues q n s.next).there, law.shelves)
 
-    pub falls_then : IsLawful w → work (queued_blocks_of w) < work (queued_blocks_of v)
-    falls_then law_then = by_count count does forwards.messages forwards.within
+    pub falls_forwarded : FallsBy q x w
+    falls_forwarded = by_count count does forwards.messages forwards.within
       where
-        by_count : (count : ℕ) → all_forwarded q n (queued_blocks_of x) ≡ (count, queued_blocks_of w) → w.arena ≡ with_forwarded q n count x.arena → count ≤ length (shelf_at x.arena q)
-            → work (queued_blocks_of w) < work (queued_blocks_of v)
+        by_count : (count : ℕ) → all_forwarded q n (queued_blocks_of x) ≡ (count, queued_blocks_of w) → w.arena ≡ with_forwarded q n count x.arena → count ≤ length (shelf_at x.arena q) → FallsBy q x w
         by_count zero does messages within =
-            falls_still (queued_blocks_of v) (queued_blocks_of w) specs_then
-            (ap (λ (a : Arena). weigh a.shelves) (messages ∙ arena_same))
-            (omega (
-              arith,
-              none_powers q n (queued_blocks_of x) (law.lawful_queues) (subst AreLines (sym (ap (λ (p : PoolValue). p.queues.specs) after)) lines)
-                  (omega (arith, law.flagged, hop_within v.queues.specs lawful q n next, ap (λ (p : PoolValue). length p.queues.specs) after)) (queued_blocks_of w) does,
-              ap powers run_is,
-            ))
+            inr (
+              ap (λ (a : Arena). weigh a.shelves) messages,
+              none_powers q n (queued_blocks_of x) law.lawful_queues s.sides (omega (arith, law.flagged, hop_within x.queues.specs law.lawful_queues q n s.next)) (queued_blocks_of w) does,
+            )
         by_count (suc count) does messages within =
             let less = (forwarded_weighs q n greater (suc count) x.arena n_shelved within).less in
-            falls_on (queued_blocks_of v) (queued_blocks_of w) specs_then
-            (omega (arith, less, ap (λ (a : Arena). weigh a.shelves) messages, ap (λ (a : Arena). weigh a.shelves) arena_same))
-            law_then.short (run_below w law_then)
+            inl (omega (arith, less, ap (λ (a : Arena). weigh a.shelves) messages))
 
-    -- the lines have the same messages, in the same order
-    pub order_then : (e r : ℕ) → next_of v.queues.specs e ≡ None → e < length v.queues.specs → line_of v.queues.specs w.arena r e ≡ line_of v.queues.specs v.arena r e
-    order_then e r last there =
-        ap (λ (a : Arena). line_of v.queues.specs a r e) forwards.messages
-        ∙ line_forwarded v.queues.specs lawful q n next r e last there count x.arena n_shelved forwards.within
-        ∙ ap (λ (a : Arena). line_of v.queues.specs a r e) arena_same
+    -- the sides have the same messages, in the same order
+    order_forwarded : KeepsOrder x w
+    order_forwarded e r last there =
+        ap (λ (a : Arena). side_of x.queues.specs a r e) forwards.messages
+        ∙ side_forwarded x.queues.specs law.lawful_queues q n s.next r e last there count x.arena n_shelved forwards.within
+
+-- ---- the first queue of the run list of pool v was served
+
+module _ (v x : PoolValue) (q n : ℕ) (begun : IsBegun q n v x) where
+  pub falls_begun : (w : PoolValue) → w.queues.specs ≡ x.queues.specs → IsLawful w → FallsBy q x w → work (queued_blocks_of w) < work (queued_blocks_of v)
+  falls_begun w specs law falls =
+      elim falls [
+        | inl less ↦
+            falls_on (queued_blocks_of v) (queued_blocks_of w) specs_then (omega (arith, less, ap (λ (p : PoolValue). weigh p.arena.shelves) begun.after)) law.short (run_below w law)
+        | inr still ↦
+            falls_still (queued_blocks_of v) (queued_blocks_of w) specs_then (still.0 ∙ ap (λ (p : PoolValue). weigh p.arena.shelves) begun.after)
+            (omega (arith, still.1, ap powers begun.run))
+      ]
+    where
+      specs_then : w.queues.specs ≡ v.queues.specs
+      specs_then = specs ∙ ap (λ (p : PoolValue). p.queues.specs) begun.after
+
+  module _ (w : PoolValue) (count : ℕ) (does : all_forwarded q n (queued_blocks_of x) ≡ (count, queued_blocks_of w)) where
+    pub served_begun : with_first_served (queued_blocks_of v) ≡ queued_blocks_of w
+    unfolding with_first_served
+    served_begun =
+        (λ i. with_any_served (begun.first i) (queued_blocks_of (sym begun.after i)))
+        ∙ ap (λ (o : Option ℕ). option_map_or (λ t. (all_forwarded q t (queued_blocks_of x)).1) o (queued_blocks_of x)) (ap (λ (p : PoolValue). next_of p.queues.specs q) begun.after ∙ begun.next)
+        ∙ ap (λ (r : ℕ × QueuedBlocks). r.1) does
+
+    pub order_begun : Forwards q n count x w → KeepsOrder v w
+    order_begun forwards = subst (λ (p : PoolValue). KeepsOrder p w) begun.after (order_forwarded q n x begun.lawful begun.serving w count does forwards)
 
 -- ---- for the calls
 
@@ -209,13 +227,15 @@ module _ (v : PoolValue) (q : ℕ) (first : rows.first v.queues.run ≡ Some q) 
   pub first_there : q < length v.queues.specs
   first_there = subst (All (λ p. p < length v.queues.specs)) (first_of v.queues.run q first) (run_below v law) 0 q (omega arith)
 
-  pub first_goes_on : AreLines v.queues.specs → next_of v.queues.specs q ≡ None → ⊥
-  first_goes_on lines none = false≢true (sym (ap is_some none) ∙ sym (lines q) ∙ first_serves)
+  pub first_goes_on : AreSides v.queues.specs → next_of v.queues.specs q ≡ None → ⊥
+  first_goes_on sides none = false≢true (sym (ap is_some none) ∙ sym (sides q) ∙ first_serves)
 
 -- with an empty run list, no queue is served
-pub none_served : (v x : PoolValue) → x ≡ with_queued v (next_service (queued_blocks_of v)).1 → rows.first v.queues.run ≡ None → with_first_served (queued_blocks_of v) ≡ queued_blocks_of x
+pub none_served : (v : QueuedBlocks) → v.queues.run ≡ [] → with_first_served v ≡ v
 unfolding with_first_served
-none_served v x after none = λ i. with_any_served (none i) (queued_blocks_of (sym after i))
+none_served v none =
+    (λ i. with_any_served (rows.first (none i)) (with_state (λ s. record s { run = drop 1 (none i) }) v))
+    ∙ (λ i. record v { queues = record v.queues { run = sym none i } })
 
 -- one more queue was served
 pub served_more : (count : ℕ) (old now new : QueuedBlocks) → now ≡ with_served count old → with_first_served now ≡ new → new ≡ with_served (suc count) old
@@ -230,6 +250,6 @@ served_none old = refl
 pub order_more : (v now new : PoolValue) → now.queues.specs ≡ v.queues.specs → KeepsOrder v now → KeepsOrder now new → KeepsOrder v new
 order_more v now new specs before step end rank last there =
     subst
-    (λ (s : List QueueSpec). next_of s end ≡ None → end < length s → line_of s new.arena rank end ≡ line_of s now.arena rank end)
+    (λ (s : List QueueSpec). next_of s end ≡ None → end < length s → side_of s new.arena rank end ≡ side_of s now.arena rank end)
     specs (step end rank) last there
     ∙ before end rank last there

@@ -1,4 +1,4 @@
--- Each call that `Lines` offers keeps all queues awake.
+-- Each call that `Sides` offers keeps all queues awake.
 use Rattle.std.proofs.Common.{◌≡◌, ◌≢◌, ℕ, ◌<◌, ◌≤◌, inl, inr, Bool, true, false, not, ◌&&◌, ◌||◌, ◌==◌, List, [], ◌∷◌, length, get_or, set, Some, None, refl, sym, ap, ◌∙◌, subst, arith, if◌then◌else◌, get_or-set_same}
 use Rattle.std.specs.Prelude.{nat_le, nat_lt}
 use Rattle.std.specs.List.{list_any}
@@ -15,7 +15,7 @@ use Rattle.strm_queue.specs.QueuedBlocks.{QueuedBlocks}
 use Rattle.strm_queue.specs.QueueSpecs.{are_lawful}
 use Rattle.strm_queue.specs.Rank.{put_behind, rank_of}
 use Rattle.strm_scheduler.specs.Awake.{is_awake, may_rest}
-use Rattle.strm_scheduler.specs.Lines.{AreLines, next_of}
+use Rattle.strm_scheduler.specs.Sides.{AreSides, next_of}
 use Rattle.strm_scheduler.proofs.Hops.{hop_serves, hop_within}
 use Rattle.strm_scheduler.proofs.Waking.{enabled_on, enabled_where_grows}
 use Rattle.strm_scheduler.proofs.Keeping.{awake_at_rest, awake_grown, awake_on_run, awake_read, awake_shelved, awake_wanted, enabling_on, run_or_rest}
@@ -45,7 +45,7 @@ rest_put s f r x wanted ms enabling is none rest = by_messages ms rest
         ap (may_rest s f.read wanted) (cond-true (list_any (λ y. nat_le (rank_of s x) (rank_of s y)) (m ∷ ms)) (m ∷ put_behind (rank_of s) x ms) (x ∷ m ∷ ms) (or_left (nat_le (rank_of s x) (rank_of s m)) (list_any (λ y. nat_le (rank_of s x) (rank_of s y)) ms) least))
         ∙ rest
 
-module _ (v : QueuedBlocks) (lawful : are_lawful v.queues.specs ≡ true) (lines : AreLines v.queues.specs) (c r : ℕ) (x : Message) (is : r ≡ rank_of v.arena.store x)
+module _ (v : QueuedBlocks) (lawful : are_lawful v.queues.specs ≡ true) (sides : AreSides v.queues.specs) (c r : ℕ) (x : Message) (is : r ≡ rank_of v.arena.store x)
     (b : Arena) (store : b.store ≡ v.arena.store) (shelves : b.shelves ≡ set v.arena.shelves c (put_behind (rank_of v.arena.store) x (messages_on v c))) where
   -- the queues once the message is put
   abbrev put_on : Bool → QueuedBlocks
@@ -58,7 +58,7 @@ module _ (v : QueuedBlocks) (lawful : are_lawful v.queues.specs ≡ true) (lines
     put_here : (so : Bool) → enables_put (flags_of v c) r ≡ so → is_awake v c n ≡ true → is_awake (put_on so) c n ≡ true
     put_here true so awake =
         let grows = enabled_where_grows true c v.queues in
-        awake_on_run (put_on true) c n (ap (λ (s : QueueState). (flags_at s c).noenable) grows.alone ∙ enabling_on v c n awake) (enabled_on c v.queues (hop_serves v.queues.specs lawful c n next lines))
+        awake_on_run (put_on true) c n (ap (λ (s : QueueState). (flags_at s c).noenable) grows.alone ∙ enabling_on v c n awake) (enabled_on c v.queues (hop_serves v.queues.specs lawful c n next sides))
     put_here false so awake =
         elim (run_or_rest v c n awake) [
           | inl on ↦ awake_on_run (put_on false) c n (enabling_on v c n awake) on
@@ -81,9 +81,9 @@ module _ (v : QueuedBlocks) (lawful : are_lawful v.queues.specs ≡ true) (lines
             (awake_shelved v b c _ store shelves q n other awake)
       ]
 
--- ---- a message is taken off the last queue of a line
+-- ---- a message is taken off the last queue of a side
 
-module _ (v : QueuedBlocks) (lawful : are_lawful v.queues.specs ≡ true) (lines : AreLines v.queues.specs) (banded : AreBanded v) (c : ℕ) where
+module _ (v : QueuedBlocks) (lawful : are_lawful v.queues.specs ≡ true) (sides : AreSides v.queues.specs) (banded : AreBanded v) (c : ℕ) where
   -- a queue that is not the last has another number
   not_last : next_of v.queues.specs c ≡ None → (q n : ℕ) → next_of v.queues.specs q ≡ Some n → q ≢ c
   not_last last q n next same = none-some n (sym last ∙ subst (λ k. next_of v.queues.specs k ≡ Some n) same next)
@@ -94,14 +94,14 @@ module _ (v : QueuedBlocks) (lawful : are_lawful v.queues.specs ≡ true) (lines
   awake_taken last (m ∷ ms) q n next awake =
       let got : QueuedBlocks = with_got c m ms v in
       awake_read (with_queue_settled c got) c false q n (not_last last q n next)
-      (awake_settled got lawful lines banded c q n next (awake_shelved v got.arena c ms refl refl q n (not_last last q n next) awake))
+      (awake_settled got lawful sides banded c q n next (awake_shelved v got.arena c ms refl refl q n (not_last last q n next) awake))
 
   -- ---- water marks
 
   pub awake_marked : (band hiwat lowat : ℕ) → (q n : ℕ) → next_of v.queues.specs q ≡ Some n → is_awake v q n ≡ true
       → is_awake (with_queue_settled c (with_state (with_marks c band (record { hiwat = hiwat; lowat = lowat })) v)) q n ≡ true
   awake_marked band hiwat lowat q n next awake =
-      awake_settled (with_state (with_marks c band (record { hiwat = hiwat; lowat = lowat })) v) lawful lines banded c q n next awake
+      awake_settled (with_state (with_marks c band (record { hiwat = hiwat; lowat = lowat })) v) lawful sides banded c q n next awake
 
 -- ---- asking for room
 

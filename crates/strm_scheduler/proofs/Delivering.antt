@@ -1,4 +1,4 @@
--- If no queue is enabled and the last queue of each line is empty, all queues are.
+-- If no queue is enabled and the last queue of each side is empty, all queues are.
 use Rattle.std.proofs.Common.{◌≡◌, ℕ, zero, suc, ◌+◌, ◌<◌, ◌≤◌, inl, inr, true, not, ◌==◌, List, [], ◌∷◌, length, Option, Some, None, refl, sym, ap, ◌∙◌, arith}
 use Rattle.std.proofs.lemmas.Bool.{and_parts, cases_lt, false≢true}
 use Rattle.std.proofs.lemmas.List.{get_or_past}
@@ -11,7 +11,7 @@ use Rattle.strm_queue.specs.QueuedBlocks.{AreMarksLawful, QueuedBlocks}
 use Rattle.strm_queue.specs.QueueSpecs.{are_lawful}
 use Rattle.strm_queue.specs.Rank.{rank_of}
 use Rattle.strm_scheduler.specs.Awake.{AreAllEmpty, AreEndsEmpty, IsAwake, may_rest}
-use Rattle.strm_scheduler.specs.Lines.{next_of}
+use Rattle.strm_scheduler.specs.Sides.{next_of}
 use Rattle.strm_scheduler.proofs.Hops.{hop_ahead}
 use Rattle.strm_scheduler.proofs.Keeping.{run_or_rest}
 

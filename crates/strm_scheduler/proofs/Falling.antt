@@ -14,7 +14,7 @@ use Rattle.strm_queue.specs.QueueCalls.{flags_left, flags_of, has_relieved, mess
 use Rattle.strm_queue.specs.QueuedBlocks.{QueuedBlocks}
 use Rattle.strm_queue.specs.QueueSpecs.{are_lawful}
 use Rattle.strm_queue.specs.Rank.{rank_of}
-use Rattle.strm_scheduler.specs.Lines.{AreLines}
+use Rattle.strm_scheduler.specs.Sides.{AreSides}
 use Rattle.strm_scheduler.specs.Work.{most_powers, power, powers, times_of, weigh, work}
 use Rattle.strm_scheduler.proofs.Hops.{waker_below}
 use Rattle.strm_scheduler.proofs.Keeping.{SameRead, flags_related}
@@ -22,7 +22,7 @@ use Rattle.strm_scheduler.proofs.Settling.{settled_flags}
 
 -- ---- numbers
 
-times_of_le : (a b k : ℕ) → a ≤ b → times_of a k ≤ times_of b k
+pub times_of_le : (a b k : ℕ) → a ≤ b → times_of a k ≤ times_of b k
 times_of_le zero b k le = omega arith
 times_of_le (suc a) zero k le = absurd (omega (arith, le))
 times_of_le (suc a) (suc b) k le = let rest = times_of_le a b k (omega (arith, le)) in omega (arith, rest)
@@ -36,7 +36,7 @@ power_less p zero less = absurd (omega (arith, less))
 power_less zero (suc q) less = let some = power_some q in omega (arith, some)
 power_less (suc p) (suc q) less = let rest = power_less p q (omega (arith, less)) in omega (arith, rest)
 
-powers-append : (xs ys : List ℕ) → powers (xs ++ ys) ≡ powers xs + powers ys
+pub powers-append : (xs ys : List ℕ) → powers (xs ++ ys) ≡ powers xs + powers ys
 powers-append [] ys = omega arith
 powers-append (x ∷ xs) ys = let rest = powers-append xs ys in omega (arith, rest)
 
@@ -89,7 +89,7 @@ woken_powers true q s below = by_waker (waker s.specs q) refl
     by_waker (Some p) is = let less = power_less p q (below p is) in let most = enabled_powers p s in omega (arith, less, most)
 woken_powers false q s below = let some = power_some q in omega (arith, some)
 
-module _ (q n : ℕ) (v : QueuedBlocks) (lawful : are_lawful v.queues.specs ≡ true) (lines : AreLines v.queues.specs) (within : q < length v.queues.flags) where
+module _ (q n : ℕ) (v : QueuedBlocks) (lawful : are_lawful v.queues.specs ≡ true) (sides : AreSides v.queues.specs) (within : q < length v.queues.flags) where
   module _ (m : Message) (ms : List Message) where
     abbrev shelf_off : QueuedBlocks
     shelf_off = record v { arena = with_shelf q ms v.arena }
@@ -104,7 +104,7 @@ module _ (q n : ℕ) (v : QueuedBlocks) (lawful : are_lawful v.queues.specs ≡ 
     marked = with_band_wanted n m off
 
     off_powers : powers off.queues.run < power q + powers v.queues.run
-    off_powers = woken_powers (has_relieved shelf_off q) q (with_flags q (flags_left shelf_off q) v.queues) (waker_below v.queues.specs lawful lines q)
+    off_powers = woken_powers (has_relieved shelf_off q) q (with_flags q (flags_left shelf_off q) v.queues) (waker_below v.queues.specs lawful sides q)
 
     -- its want-to-read mark is cleared, so that the message that is put back does not enable the queue
     read_off : (flags_of marked q).read ≡ false

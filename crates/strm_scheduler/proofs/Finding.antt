@@ -1,6 +1,6 @@
--- The first queue of the run list exists, and so does its next queue, so `run` is refused nothing.
-use Rattle.std.proofs.Common.{◌≡◌, ℕ, true, false, ◌&&◌, Option, Some, None, Result, Ok, Err, sym, ap, ◌∙◌, arith, length}
-use Rattle.std.proofs.lemmas.Bool.{and_from, cond-true, false≢true, lt-ltb}
+-- The first queue of the run list exists, and so does its next queue, so a service is refused nothing.
+use Rattle.std.proofs.Common.{◌≡◌, ℕ, true, Option, Some, None, Result, Ok, Err, sym, ap, ◌∙◌, subst, arith, length}
+use Rattle.std.proofs.lemmas.Bool.{cond-true, lt-ltb}
 use Rattle.strm_data.specs.declared.refusal.Refusal.{Refusal}
 use Rattle.strm_links.specs.Rows as rows
 use Rattle.strm_pool.specs.Lawful.{IsLawful}
@@ -9,20 +9,22 @@ use Rattle.strm_queue.specs.declared.queue_spec.QueueSpec.{QueueSpec}
 use Rattle.strm_queue.specs.Flow.{spec_at}
 use Rattle.strm_queue.specs.QueueCalls.{next_service}
 use Rattle.strm_queue.specs.QueueLooks as looks
-use Rattle.strm_scheduler.specs.Lines.{AreLines, next_of}
-use Rattle.strm_scheduler.proofs.Beginning.{first_goes_on, first_there}
+use Rattle.strm_scheduler.specs.Sides.{AreSides, next_of}
+use Rattle.strm_scheduler.specs.Awake.{IsAwake}
+use Rattle.strm_scheduler.specs.Serving.{IsBegun}
+use Rattle.strm_scheduler.proofs.Beginning.{first_goes_on, first_there, run_is, serving_begun}
 use Rattle.strm_scheduler.proofs.Hops.{hop_ahead}
 
--- what a call returned is what its definition gives
 -- what a call returns that is not refused
 abbrev pub okay : {A : Type 0} → A → Result A Refusal
 okay x = Ok x
 
+-- what a call returned is what its definition gives
 pub answer_is : (given answer o : Option ℕ) → okay given ≡ okay answer → given ≡ o → answer ≡ o
 answer_is given answer o same is = cc
 
 -- pool v, and x once queue q, its first queue, has left the run list
-module _ (v x : PoolValue) (q : ℕ) (after : x ≡ with_queued v (next_service (queued_blocks_of v)).1) (first : rows.first v.queues.run ≡ Some q) (law : IsLawful v) (lines : AreLines v.queues.specs) where
+module _ (v x : PoolValue) (q : ℕ) (after : x ≡ with_queued v (next_service (queued_blocks_of v)).1) (first : rows.first v.queues.run ≡ Some q) (law : IsLawful v) (sides : AreSides v.queues.specs) where
   specs_same : x.queues.specs ≡ v.queues.specs
   specs_same = ap (λ (p : PoolValue). p.queues.specs) after
 
@@ -40,17 +42,29 @@ module _ (v x : PoolValue) (q : ℕ) (after : x ≡ with_queued v (next_service 
     spec_is = let ok : okay spec ≡ okay (spec_at v.queues.specs q) = found (okay spec) is in cc
 
     pub goes_on : spec.next ≡ None → ⊥
-    goes_on none = first_goes_on v q first law lines (sym (ap (λ (s : QueueSpec). s.next) spec_is) ∙ none)
+    goes_on none = first_goes_on v q first law sides (sym (ap (λ (s : QueueSpec). s.next) spec_is) ∙ none)
 
     module _ (n : ℕ) (next : spec.next ≡ Some n) where
-      pub next_is : next_of v.queues.specs q ≡ Some n
+      next_is : next_of v.queues.specs q ≡ Some n
       next_is = sym (ap (λ (s : QueueSpec). s.next) spec_is) ∙ next
 
-      pub next_apart : q ≡ n → ⊥
+      next_apart : q ≡ n → ⊥
       next_apart same = omega (arith, same, (hop_ahead v.queues.specs law.lawful_queues q n next_is).greater)
 
       n_there : has_queue x n ≡ true
       n_there = ap (λ (p : PoolValue). has_queue p n) after ∙ lt-ltb n (length v.queues.specs) (hop_ahead v.queues.specs law.lawful_queues q n next_is).there
 
-      pub both_there : (has_queue x q && has_queue x n) ≡ false → ⊥
-      both_there missing = false≢true (sym missing ∙ and_from (has_queue x q) (has_queue x n) q_there n_there)
+      -- the queue left the run list, and is being served
+      pub begun : IsLawful x → IsAwake (queued_blocks_of v) → IsBegun q n v x
+      begun law_then awake = record {
+        first = first;
+        next = next_is;
+        after = after;
+        run = run_is v x q after first;
+        once = (subst rows.IsApart (run_is v x q after first) law.once).0;
+        serving = serving_begun v x q after first n sides awake next_is;
+        behind = q_there;
+        ahead = n_there;
+        apart = next_apart;
+        lawful = law_then;
+      }

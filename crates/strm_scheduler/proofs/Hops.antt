@@ -1,4 +1,4 @@
--- The target and the waker of a queue that is on a line: itself, and the queue behind it.
+-- The target and the waker of a queue that is on a side: itself, and the queue behind it.
 use Rattle.std.proofs.Common.{◌≡◌, ℕ, zero, suc, ◌+◌, ◌<◌, ◌≤◌, inl, inr, Bool, true, false, ◌&&◌, List, [], ◌∷◌, length, get_or, Option, Some, None, refl, sym, ap, ◌∙◌, arith, if◌then◌else◌}
 use Rattle.std.specs.Prelude.{count_by, is_some, nat_le, nat_lt}
 use Rattle.std.specs.List.{enumerate_from}
@@ -15,7 +15,7 @@ use Rattle.strm_queue.specs.Flow.{behind, no_spec, spec_at, target, target_withi
 use Rattle.strm_queue.specs.QueueSpecs.{are_lawful, next_fits, times_next}
 use Rattle.strm_queue.proofs.flow.Targets.{IsAhead, NoneBehind, behind_found, next_ahead}
 use Rattle.strm_queue.proofs.layout.Lawful.{nexts_lawful}
-use Rattle.strm_scheduler.specs.Lines.{AreLines, next_of}
+use Rattle.strm_scheduler.specs.Sides.{AreSides, next_of}
 
 -- ---- counts
 
@@ -43,9 +43,9 @@ two_counted p (x ∷ xs) (suc j) (suc k) d before within first second =
 
 -- ---- targets
 
--- a queue on a line is its own target
-pub target_is : (specs : List QueueSpec) → AreLines specs → (q : ℕ) → target specs q ≡ q
-target_is specs lines q = within (length specs)
+-- a queue on a side is its own target
+pub target_is : (specs : List QueueSpec) → AreSides specs → (q : ℕ) → target specs q ≡ q
+target_is specs sides q = within (length specs)
   where
     at : (further : ℕ → ℕ) (service : Bool) (next : Option ℕ) → service ≡ is_some next → (if service then q else option_map_or further next q) ≡ q
     at further true next is = refl
@@ -54,7 +54,7 @@ target_is specs lines q = within (length specs)
 
     within : (steps : ℕ) → target_within steps specs q ≡ q
     within zero = refl
-    within (suc steps) = at (target_within steps specs) (spec_at specs q).service (next_of specs q) (lines q)
+    within (suc steps) = at (target_within steps specs) (spec_at specs q).service (next_of specs q) (sides q)
 
 -- ---- a queue and its next
 
@@ -94,9 +94,9 @@ module _ (specs : List QueueSpec) (lawful : are_lawful specs ≡ true) (q n : �
   pub behind_is : behind specs n ≡ Some q
   behind_is = behind_found specs n q hop_within none_before names_it
 
-  module _ (lines : AreLines specs) where
+  module _ (sides : AreSides specs) where
     pub hop_serves : (spec_at specs q).service ≡ true
-    hop_serves = lines q ∙ ap is_some next
+    hop_serves = sides q ∙ ap is_some next
 
     -- the waker of the next queue is the queue
     pub waker_is : waker specs n ≡ Some q
@@ -117,8 +117,8 @@ behind_next specs q p is = named (next_of specs p) (position-Some (λ s. is_some
     named (Some n) is = ap Some (eqb-true n q is)
 
 -- a waker has a smaller number than the queue
-pub waker_below : (specs : List QueueSpec) → are_lawful specs ≡ true → AreLines specs → (q p : ℕ) → waker specs q ≡ Some p → p < q
-waker_below specs lawful lines q p is = by_behind (behind specs q) refl
+pub waker_below : (specs : List QueueSpec) → are_lawful specs ≡ true → AreSides specs → (q p : ℕ) → waker specs q ≡ Some p → p < q
+waker_below specs lawful sides q p is = by_behind (behind specs q) refl
   where
     none_within : (steps : ℕ) → behind specs q ≡ None → waker_within steps specs q ≡ None
     none_within zero none = refl
@@ -128,5 +128,5 @@ waker_below specs lawful lines q p is = by_behind (behind specs q) refl
     by_behind None none = absurd (none-some p (sym (none_within (length specs) none) ∙ is))
     by_behind (Some r) some =
         let next = behind_next specs q r some in
-        let same : r ≡ p = same_Some r p (sym (waker_is specs lawful r q next lines) ∙ is) in
+        let same : r ≡ p = same_Some r p (sym (waker_is specs lawful r q next sides) ∙ is) in
         omega (arith, (hop_ahead specs lawful r q next).greater, same)

@@ -1,4 +1,4 @@
--- Each call that `Lines` offers keeps the laws of lines.
+-- Each call that `Sides` offers keeps the laws of sides.
 use Rattle.std.proofs.Common.{◌≡◌, ℕ, Bool, true, false, not, List, [], ◌∷◌, Option, Some, None, Ok, Err, refl, sym, ap, ◌∙◌, subst, if◌then◌else◌}
 use Rattle.std.specs.Prelude.{is_some, nat_le}
 use Rattle.std.proofs.lemmas.Bool.{false≢true}
@@ -17,7 +17,7 @@ use Rattle.strm_queue.specs.Rank.{put_behind, rank_of}
 use Rattle.strm_queue.proofs.order.Ranks.{rank_of-queued}
 use Rattle.strm_scheduler.specs.Awake.{is_awake}
 use Rattle.strm_scheduler.specs.Laws.{AreKeptAwake}
-use Rattle.strm_scheduler.specs.Lines.{AreLines, next_of}
+use Rattle.strm_scheduler.specs.Sides.{AreSides, next_of}
 use Rattle.strm_scheduler.proofs.Waking.{enabled_where_grows}
 use Rattle.strm_scheduler.proofs.Settling.{settled_specs}
 use Rattle.strm_scheduler.proofs.Calls.{awake_asked, awake_marked, awake_put, awake_taken}
@@ -28,7 +28,7 @@ module _ (v : PoolValue) (law : IsLawful v) (kept : AreKeptAwake v) where
   -- queues with the same specs that stay awake
   kept_by : (x : QueuedBlocks) → x.queues.specs ≡ v.queues.specs → ((q n : ℕ) → next_of v.queues.specs q ≡ Some n → is_awake x q n ≡ true) → AreKeptAwake (with_queued v x)
   kept_by x specs awake = record {
-    lines = subst AreLines (sym specs) kept.lines;
+    sides = subst AreSides (sym specs) kept.sides;
     awake = λ q n next. awake q n (ap (λ (s : List QueueSpec). next_of s q) (sym specs) ∙ next);
   }
 
@@ -39,7 +39,7 @@ module _ (v : PoolValue) (law : IsLawful v) (kept : AreKeptAwake v) where
     put_kept true =
         kept_by _ (ap (λ (s : QueueState). s.specs) (enabled_where_grows (enables_put (flags_of (queued_blocks_of v) c) (rank_put h (queued_blocks_of v))) c v.queues).alone)
         (λ q n next.
-        awake_put (queued_blocks_of v) law.lawful_queues kept.lines c (rank_put h (queued_blocks_of v)) (message_put h (queued_blocks_of v)) (sym (rank_of-queued v.arena.store (message_at v.arena h)))
+        awake_put (queued_blocks_of v) law.lawful_queues kept.sides c (rank_put h (queued_blocks_of v)) (message_put h (queued_blocks_of v)) (sym (rank_of-queued v.arena.store (message_at v.arena h)))
         (with_shelf c (put_behind (rank_of v.arena.store) (message_put h (queued_blocks_of v)) (messages_on (queued_blocks_of v) c)) (without_held h v.arena)) refl refl law.shelves q n next (kept.awake q n next))
     put_kept false = kept
 
@@ -61,14 +61,14 @@ module _ (v : PoolValue) (law : IsLawful v) (kept : AreKeptAwake v) where
     first_kept last true =
         subst AreKeptAwake (sym (first_given (messages_on (queued_blocks_of v) c)))
         (kept_by _ (first_specs (messages_on (queued_blocks_of v) c))
-        (λ q n next. awake_taken (queued_blocks_of v) law.lawful_queues kept.lines (banded_of v law) c last (messages_on (queued_blocks_of v) c) q n next (kept.awake q n next)))
+        (λ q n next. awake_taken (queued_blocks_of v) law.lawful_queues kept.sides (banded_of v law) c last (messages_on (queued_blocks_of v) c) q n next (kept.awake q n next)))
     first_kept last false = kept
 
     none_from : (o : Option ℕ) → false ≡ is_some o → o ≡ None
     none_from None is = refl
     none_from (Some n) is = absurd (false≢true is)
 
-    -- the spec that was read is that of the queue, so it is the last of its line
+    -- the spec that was read is that of the queue, so it is the last of its side
     last_is : (spec : QueueSpec) → okay spec ≡ looks.queue_spec c (queued_blocks_of v) → false ≡ is_some spec.next → next_of v.queues.specs c ≡ None
     last_is spec is none = by_there (has_queue (queued_blocks_of v) c) is
       where
@@ -106,7 +106,7 @@ module _ (v : PoolValue) (law : IsLawful v) (kept : AreKeptAwake v) where
     marked_kept band hiwat lowat true true = kept
     marked_kept band hiwat lowat true false =
         kept_by _ (settled_specs (with_state (with_marks c band (record { hiwat = hiwat; lowat = lowat })) (queued_blocks_of v)) c)
-        (λ q n next. awake_marked (queued_blocks_of v) law.lawful_queues kept.lines (banded_of v law) c band hiwat lowat q n next (kept.awake q n next))
+        (λ q n next. awake_marked (queued_blocks_of v) law.lawful_queues kept.sides (banded_of v law) c band hiwat lowat q n next (kept.awake q n next))
 
     pub strqset_kept : (band hiwat lowat : ℕ) (w : PoolValue) → w ≡ value_after v (on_queues v (strqset c band hiwat lowat (queued_blocks_of v))) → AreKeptAwake w
     strqset_kept band hiwat lowat w after = subst AreKeptAwake (sym after) (marked_kept band hiwat lowat (has_queue (queued_blocks_of v) c) (nat_le hiwat lowat))

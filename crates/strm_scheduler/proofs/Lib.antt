@@ -14,3 +14,4 @@ pub mod Kept
 pub mod Opening
 pub mod Unchanged
 pub mod Treated
+pub mod Holding

@@ -1,4 +1,4 @@
--- New lines are kept awake: all queues are empty, and have their want-to-read marks.
+-- New sides are kept awake: all queues are empty, and have their want-to-read marks.
 use Rattle.std.proofs.Common.{◌≡◌, ℕ, zero, suc, ◌+◌, Bool, true, false, List, [], ◌∷◌, length, get_or, replicate, Option, Some, None, Err, refl, sym, ap, ◌∙◌, subst}
 use Rattle.std.specs.Prelude.{is_some}
 use Rattle.strm_pool.specs.declared.config.Config.{Config}
@@ -9,16 +9,16 @@ use Rattle.strm_queue.specs.declared.queue_spec.QueueSpec.{QueueSpec}
 use Rattle.strm_queue.specs.Flow.{Flags, opening_flags}
 use Rattle.strm_queue.specs.QueueCalls.{flags_of}
 use Rattle.strm_queue.proofs.Lists.{get_or-map_same, get_or-replicate_same}
-use Rattle.strm_scheduler.specs.declared.lines_fault.LinesFault.{LinesFault}
-use Rattle.strm_scheduler.specs.declared.lines_fault.LinesFault.TheVariants.{NoNext, NoService, NotMade}
+use Rattle.strm_scheduler.specs.declared.sides_fault.SidesFault.{SidesFault}
+use Rattle.strm_scheduler.specs.declared.sides_fault.SidesFault.TheVariants.{NoNext, NoService, NotMade}
 use Rattle.strm_scheduler.specs.Awake.{may_rest}
 use Rattle.strm_scheduler.specs.Laws.{AreKeptAwake}
-use Rattle.strm_scheduler.specs.Lines.{AreLines, LinesOpen, fault_from, fault_of_queue, or_fault}
+use Rattle.strm_scheduler.specs.Sides.{AreSides, SidesOpen, fault_from, fault_of_queue, or_fault}
 use Rattle.strm_scheduler.proofs.Keeping.{awake_at_rest}
 
 -- ---- no fault
 
-none_parts : (a b : Option LinesFault) → or_fault a b ≡ None → (a ≡ None) × (b ≡ None)
+none_parts : (a b : Option SidesFault) → or_fault a b ≡ None → (a ≡ None) × (b ≡ None)
 none_parts None b none = (refl, none)
 none_parts (Some fault) b none = absurd (cc)
 
@@ -28,7 +28,7 @@ queue_fits q true (Some n) none = refl
 queue_fits q false None none = refl
 queue_fits q false (Some n) none = absurd (cc)
 
-pub no_fault : (from : ℕ) (specs : List QueueSpec) → fault_from from specs ≡ None → AreLines specs
+pub no_fault : (from : ℕ) (specs : List QueueSpec) → fault_from from specs ≡ None → AreSides specs
 no_fault from [] none q = refl
 no_fault from (s ∷ specs) none zero = queue_fits from s.service s.next (none_parts (fault_of_queue from s.service s.next) (fault_from (from + 1) specs) none).0
 no_fault from (s ∷ specs) none (suc q) = no_fault (from + 1) specs (none_parts (fault_of_queue from s.service s.next) (fault_from (from + 1) specs) none).1 q
@@ -37,7 +37,7 @@ no_fault from (s ∷ specs) none (suc q) = no_fault (from + 1) specs (none_parts
 
 pub opened_awake : (c : Config) → fault_from 0 c.queues ≡ None → AreKeptAwake (opening_pool c)
 opened_awake c none = record {
-  lines = no_fault 0 c.queues none;
+  sides = no_fault 0 c.queues none;
   awake = λ q n next.
       awake_at_rest (queued_blocks_of (opening_pool c)) q n (ap (λ (f : Flags). f.noenable) (flags_are q))
       (ap (λ (ms : List Message). may_rest (queued_blocks_of (opening_pool c)).arena.store (flags_of (queued_blocks_of (opening_pool c)) q).read (flags_of (queued_blocks_of (opening_pool c)) n).wanted ms) (empty (length c.queues) q)
@@ -56,9 +56,9 @@ opened_awake c none = record {
 pub opened_kept : (c : Config) (v : PoolValue) → v ≡ opening_pool c → fault_from 0 c.queues ≡ None → AreKeptAwake v
 opened_kept c v is none = let P : PoolValue → Type 0 = λ x. AreKeptAwake x in subst P (sym is) (opened_awake c none)
 
--- ---- a fault of the lines
+-- ---- a fault of the sides
 
--- the lines have no fault of the pool
+-- the sides have no fault of the pool
 no_pool_fault : (from : ℕ) (specs : List QueueSpec) (why : NewFault) → Some (NotMade why) ≡ fault_from from specs → ⊥
 no_pool_fault from [] why is = absurd (cc)
 no_pool_fault from (s ∷ specs) why is = by_queue s.service s.next is (no_pool_fault (from + 1) specs why)
@@ -69,7 +69,7 @@ no_pool_fault from (s ∷ specs) why is = by_queue s.service s.next is (no_pool_
     by_queue false None is rest = rest is
     by_queue false (Some n) is rest = absurd (cc)
 
-pub fault_opens : (c : Config) (fault : LinesFault) → Some fault ≡ fault_from 0 c.queues → LinesOpen c (Err fault)
+pub fault_opens : (c : Config) (fault : SidesFault) → Some fault ≡ fault_from 0 c.queues → SidesOpen c (Err fault)
 fault_opens c (NoNext q) is = sym is
 fault_opens c (NoService q) is = sym is
 fault_opens c (NotMade why) is = absurd (no_pool_fault 0 c.queues why is)

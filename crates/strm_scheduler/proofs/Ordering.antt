@@ -1,4 +1,4 @@
--- Forwarding keeps the messages of each line, and within each rank their order.
+-- Forwarding keeps the messages of each side, and within each rank their order.
 use Rattle.std.proofs.Common.{◌≡◌, ◌≢◌, ℕ, zero, suc, ◌<◌, ◌≤◌, inl, inr, Bool, true, false, ◌==◌, List, [], ◌∷◌, ◌++◌, drop, length, map, get_or, set, Option, Some, None, refl, sym, ap, ◌∙◌, arith, append-nil, append_assoc, if◌then◌else◌, get_or-set_other, get_or-set_same, length-drop, length-set}
 use Rattle.std.specs.Prelude.{nat_le}
 use Rattle.std.specs.List.{list_any}
@@ -17,8 +17,8 @@ use Rattle.strm_queue.specs.QueueSpecs.{are_lawful}
 use Rattle.strm_queue.specs.Rank.{as_queued, put_behind, rank_of}
 use Rattle.strm_queue.proofs.order.Ends.{of_rank-append}
 use Rattle.strm_queue.proofs.order.Ranks.{rank_of-queued}
-use Rattle.strm_scheduler.specs.Lines.{next_of}
-use Rattle.strm_scheduler.specs.Order.{line_of, line_within, part_of}
+use Rattle.strm_scheduler.specs.Sides.{next_of}
+use Rattle.strm_scheduler.specs.Order.{side_of, side_within, part_of}
 use Rattle.strm_scheduler.proofs.Hops.{behind_is, behind_next, hop_ahead}
 use Rattle.strm_scheduler.proofs.Weighing.{forwarded_weighs}
 
@@ -124,17 +124,17 @@ module _ (specs : List QueueSpec) (lawful : are_lawful specs ≡ true) (q n : �
           ∙ ap (λ xs. part_of a r n ++ xs) (sym (append_assoc (part (first_on q a)) (map (as_queued a.store) (of_rank (rank_of a.store) r (drop 1 (shelf_at a q)))) rest))
           ∙ ap (λ xs. part_of a r n ++ (xs ++ rest)) (sym (part_split (shelf_at a q) some))
 
-      -- ---- a line
+      -- ---- a side
 
-      -- the line from a queue on, if it is not the one that the message left
+      -- the side from a queue on, if it is not the one that the message left
       abbrev Same : ℕ → ℕ → Type 0
-      Same steps e = e < steps → e ≢ q → line_within steps specs moved r (Some e) ≡ line_within steps specs a r (Some e)
+      Same steps e = e < steps → e ≢ q → side_within steps specs moved r (Some e) ≡ side_within steps specs a r (Some e)
 
       -- and from the queue behind it on
-      same_behind : (steps e : ℕ) → ((p : ℕ) → Same steps p) → e ≤ steps → e ≢ n → line_within steps specs moved r (behind specs e) ≡ line_within steps specs a r (behind specs e)
+      same_behind : (steps e : ℕ) → ((p : ℕ) → Same steps p) → e ≤ steps → e ≢ n → side_within steps specs moved r (behind specs e) ≡ side_within steps specs a r (behind specs e)
       same_behind steps e all few other = by_behind steps (behind specs e) refl all few
         where
-          by_behind : (steps : ℕ) (o : Option ℕ) → behind specs e ≡ o → ((p : ℕ) → Same steps p) → e ≤ steps → line_within steps specs moved r o ≡ line_within steps specs a r o
+          by_behind : (steps : ℕ) (o : Option ℕ) → behind specs e ≡ o → ((p : ℕ) → Same steps p) → e ≤ steps → side_within steps specs moved r o ≡ side_within steps specs a r o
           by_behind zero None is all few = refl
           by_behind (suc steps) None is all few = refl
           by_behind steps (Some p) is all few =
@@ -152,15 +152,15 @@ module _ (specs : List QueueSpec) (lawful : are_lawful specs ≡ true) (q n : �
           ]
         where
           at_next : (bound steps e : ℕ) → e ≡ n → ((k : ℕ) → k ≤ steps → (p : ℕ) → Same k p) → e < suc steps
-              → line_within (suc steps) specs moved r (Some e) ≡ line_within (suc steps) specs a r (Some e)
+              → side_within (suc steps) specs moved r (Some e) ≡ side_within (suc steps) specs a r (Some e)
           at_next bound zero e here all below = absurd (omega (arith, below, here, (hop_ahead specs lawful q n next).greater))
           at_next bound (suc steps) e here all below =
               let found : behind specs e ≡ Some q = ap (behind specs) here ∙ behind_is specs lawful q n next in
               let tail = same_behind steps q (all steps (omega arith)) (omega (arith, below, here, (hop_ahead specs lawful q n next).greater)) (λ same. apart (sym same)) in
-              (λ i. part_of moved r (here i) ++ line_within (suc steps) specs moved r (found i))
+              (λ i. part_of moved r (here i) ++ side_within (suc steps) specs moved r (found i))
               ∙ ap (λ rest. part_of moved r n ++ (part_of moved r q ++ rest)) tail
-              ∙ joined (line_within steps specs a r (behind specs q))
-              ∙ sym (λ i. part_of a r (here i) ++ line_within (suc steps) specs a r (found i))
+              ∙ joined (side_within steps specs a r (behind specs q))
+              ∙ sym (λ i. part_of a r (here i) ++ side_within (suc steps) specs a r (found i))
 
   -- ---- some messages are forwarded
 
@@ -168,11 +168,11 @@ module _ (specs : List QueueSpec) (lawful : are_lawful specs ≡ true) (q n : �
     not_q : e ≢ q
     not_q same = none-some n (sym last ∙ ap (next_of specs) same ∙ next)
 
-    pub line_forwarded : (count : ℕ) (a : Arena) → n < length a.shelves → count ≤ length (shelf_at a q) → line_of specs (with_forwarded q n count a) r e ≡ line_of specs a r e
-    line_forwarded zero a within few = refl
-    line_forwarded (suc count) a within few =
+    pub side_forwarded : (count : ℕ) (a : Arena) → n < length a.shelves → count ≤ length (shelf_at a q) → side_of specs (with_forwarded q n count a) r e ≡ side_of specs a r e
+    side_forwarded zero a within few = refl
+    side_forwarded (suc count) a within few =
         let greater = (hop_ahead specs lawful q n next).greater in
         let before = forwarded_weighs q n greater count a within (omega (arith, few)) in
         let b : Arena = with_forwarded q n count a in
         same_within b (omega (arith, within, before.shelves)) (omega (arith, few, ap length before.left, length-drop count (shelf_at a q))) (length specs) (length specs) (omega arith) e there not_q
-        ∙ line_forwarded count a within (omega (arith, few))
+        ∙ side_forwarded count a within (omega (arith, few))

@@ -10,7 +10,7 @@ use Rattle.strm_queue.specs.QueuedBlocks.{QueuedBlocks}
 use Rattle.strm_queue.specs.QueueSpecs.{are_lawful}
 use Rattle.strm_queue.proofs.bands.Bands.{get_or-every_band, has_band_where, length-bands_where, length_every_band, unmarked_past}
 use Rattle.strm_scheduler.specs.Awake.{is_awake}
-use Rattle.strm_scheduler.specs.Lines.{AreLines, next_of}
+use Rattle.strm_scheduler.specs.Sides.{AreSides, next_of}
 use Rattle.strm_scheduler.proofs.Hops.{hop_serves, waker_is}
 use Rattle.strm_scheduler.proofs.Waking.{woken_grows, woken_on}
 use Rattle.strm_scheduler.proofs.Keeping.{MoreWanted, SameOff, SameRead, awake_grown, awake_on_run, enabling_on, flags_related, kept}
@@ -46,7 +46,7 @@ module _ (w : List Bool) (counts lowat : ℕ → ℕ) where
 
 -- ---- settling
 
-module _ (v : QueuedBlocks) (lawful : are_lawful v.queues.specs ≡ true) (lines : AreLines v.queues.specs) (banded : AreBanded v) (c : ℕ) where
+module _ (v : QueuedBlocks) (lawful : are_lawful v.queues.specs ≡ true) (sides : AreSides v.queues.specs) (banded : AreBanded v) (c : ℕ) where
   -- the queues without the wanted marks of bands that have drained
   abbrev left : QueueState
   left = with_flags c (flags_left v c) v.queues
@@ -72,7 +72,7 @@ module _ (v : QueuedBlocks) (lawful : are_lawful v.queues.specs ≡ true) (lines
       let grows = woken_grows true c left in
       let off = ap (λ (s : QueueState). (flags_at s q).noenable) grows.alone ∙ off_left q ∙ enabling_on v q c awake in
       awake_on_run (record v { queues = waker_enabled_where true c left }) q c off
-      (woken_on c q left (waker_is v.queues.specs lawful q c next lines) (hop_serves v.queues.specs lawful q c next lines))
+      (woken_on c q left (waker_is v.queues.specs lawful q c next sides) (hop_serves v.queues.specs lawful q c next sides))
   settled_here false none q next awake =
       marks_kept q c
       (flags_related MoreWanted (λ f b is. is) v.queues.flags c (flags_left v c) (still_all (flags_of v c).wanted (count_on v c) (lowat_of v.queues c) (banded c) none) c)

@@ -1,30 +1,30 @@
 -- A service procedure of a module: what each of its steps leaves.
-use Rattle.std.proofs.Common.{◌≡◌, ◌≢◌, ℕ, ◌+◌, ◌<◌, ◌≤◌, ◌⊎◌, inl, inr, Bool, true, false, not, ◌&&◌, ◌||◌, List, [], length, get_or, set, Option, Some, None, refl, sym, ap, ◌∙◌, subst, arith}
+use Rattle.std.proofs.Common.{◌≡◌, ◌≢◌, ℕ, ◌+◌, ◌<◌, ◌≤◌, ◌⊎◌, inl, inr, Bool, true, false, not, ◌&&◌, ◌||◌, List, [], length, get_or, set, Option, Some, None, sym, ap, ◌∙◌, subst, arith}
 use Rattle.std.proofs.lemmas.Bool.{lt-ltb}
 use Rattle.strm_links.specs.Rows as rows
 use Rattle.strm_mblk.specs.declared.token.TokenValue.{TokenValue}
 use Rattle.strm_forward.specs.Forwarding.{KeepsRest}
 use Rattle.strm_forward.specs.Handing.{handed_on, with_first_off, with_one_put}
-use Rattle.strm_forward.proofs.Moving.{IsGot, handed_whole, put_leaves, put_state}
+use Rattle.strm_forward.proofs.Moving.{IsGot, handed_whole, leave_same, put_leaves, put_state}
 use Rattle.strm_mblk.specs.Arena.{Arena, has, held_at, message_at, shelf_at}
 use Rattle.strm_mblk.specs.Given.{value_after}
 use Rattle.strm_pool.specs.Lawful.{IsLawful}
-use Rattle.strm_pool.specs.PoolValue.{PoolValue, has_queue, on_queues, queued_blocks_of, with_queued}
+use Rattle.strm_pool.specs.PoolValue.{PoolValue, has_queue, on_queues, queued_blocks_of}
 use Rattle.strm_queue.specs.declared.queue_spec.QueueSpec.{QueueSpec}
 use Rattle.strm_queue.specs.Flow.{QueueState, flags_at}
-use Rattle.strm_queue.specs.QueueCalls.{messages_on, next_service, putq}
+use Rattle.strm_queue.specs.QueueCalls.{messages_on, putq}
 use Rattle.strm_queue.specs.QueuedBlocks.{QueuedBlocks}
 use Rattle.strm_queue.specs.Rank.{as_queued, is_ordered, put_behind, rank_of}
-use Rattle.strm_scheduler.specs.Awake.{IsAwake, is_awake, may_rest}
+use Rattle.strm_scheduler.specs.Awake.{is_awake, may_rest}
 use Rattle.strm_scheduler.specs.Laws.{AreKeptAwake, KeepsQueued}
-use Rattle.strm_scheduler.specs.Lines.{AreLines, next_of}
-use Rattle.strm_scheduler.specs.Serving.{IsServing, IsTaken, KeepsAllowed, TakesTo}
-use Rattle.strm_scheduler.specs.Work.{each, from_here, power, powers, weigh, work}
+use Rattle.strm_scheduler.specs.Sides.{AreSides, next_of}
+use Rattle.strm_scheduler.specs.Serving.{FallsBy, IsServing, IsTaken, KeepsAllowed, TakesTo}
+use Rattle.strm_scheduler.specs.Work.{each, from_here, power, powers, weigh}
 use Rattle.strm_scheduler.proofs.Hops.{hop_ahead, hop_within}
 use Rattle.strm_scheduler.proofs.Underway.{Hands, IsUnderway, hand_shelves, hands_on, underway_off, underway_put}
 use Rattle.strm_scheduler.proofs.Weighing.{each-put, from_here-set, from_here_less, weigh-set}
-use Rattle.strm_scheduler.proofs.Falling.{falls_on, falls_still, handed_powers}
-use Rattle.strm_scheduler.proofs.Beginning.{banded_of, low_ranks, run_below, run_is, underway}
+use Rattle.strm_scheduler.proofs.Falling.{handed_powers}
+use Rattle.strm_scheduler.proofs.Beginning.{underway}
 use Rattle.strm_scheduler.proofs.Unchanged.{awake_same}
 
 -- queues with the same state, store and shelves are awake alike
@@ -37,24 +37,15 @@ awake_alike v w queues store shelves q n awake =
 -- a call on held messages keeps a service underway
 pub serving_kept : (q n : ℕ) (v w : PoolValue) → KeepsQueued v w → IsServing q n v → IsServing q n w
 serving_kept q n v w keeps s = record {
-  lines = subst (λ (t : QueueState). AreLines t.specs) (sym keeps.queues) s.lines;
+  sides = subst (λ (t : QueueState). AreSides t.specs) (sym keeps.queues) s.sides;
   next = ap (λ (t : QueueState). next_of t.specs q) keeps.queues ∙ s.next;
   off = ap (λ (t : QueueState). (flags_at t q).noenable) keeps.queues ∙ s.off;
   others = λ p t other is. awake_same v w keeps p t ∙ s.others p t other (ap (λ (u : QueueState). next_of u.specs p) (sym keeps.queues) ∙ is);
 }
 
 module _ (q n : ℕ) (v : PoolValue) (law : IsLawful v) (s : IsServing q n v) where
-  underway_now : IsUnderway v.queues.specs law.lawful_queues s.lines q n s.next (queued_blocks_of v)
-  underway_now = record {
-    same = refl;
-    banded = banded_of v law;
-    flagged = law.flagged;
-    shelved = law.shelves;
-    ordered = law.ordered q;
-    low = low_ranks v law q;
-    off = s.off;
-    others = s.others;
-  }
+  underway_now : IsUnderway v.queues.specs law.lawful_queues s.sides q n s.next (queued_blocks_of v)
+  underway_now = underway q n v law s
 
   q_within : q < length v.arena.shelves
   q_within = omega (arith, hop_within v.queues.specs law.lawful_queues q n s.next, law.shelves)
@@ -72,12 +63,12 @@ module _ (q n : ℕ) (v : PoolValue) (law : IsLawful v) (s : IsServing q n v) wh
   n_within = omega (arith, (hop_ahead v.queues.specs law.lawful_queues q n s.next).there, law.shelves)
 
   -- a pool with the state, store and shelves of queues on which the service is underway
-  serving_alike : (u : QueuedBlocks) → IsUnderway v.queues.specs law.lawful_queues s.lines q n s.next u → (w : PoolValue) → w.queues ≡ u.queues → w.arena.store ≡ u.arena.store
+  serving_alike : (u : QueuedBlocks) → IsUnderway v.queues.specs law.lawful_queues s.sides q n s.next u → (w : PoolValue) → w.queues ≡ u.queues → w.arena.store ≡ u.arena.store
       → w.arena.shelves ≡ u.arena.shelves → IsServing q n w
   serving_alike u on w queues store shelves =
       let specs : w.queues.specs ≡ v.queues.specs = ap (λ (t : QueueState). t.specs) queues ∙ on.same in
       record {
-        lines = subst AreLines (sym specs) s.lines;
+        sides = subst AreSides (sym specs) s.sides;
         next = ap (λ (sp : List QueueSpec). next_of sp q) specs ∙ s.next;
         off = ap (λ (t : QueueState). (flags_at t q).noenable) queues ∙ on.off;
         others = λ p t other is. awake_alike u (queued_blocks_of w) queues store shelves p t (on.others p t other (ap (λ (sp : List QueueSpec). next_of sp p) (sym specs) ∙ is));
@@ -85,11 +76,11 @@ module _ (q n : ℕ) (v : PoolValue) (law : IsLawful v) (s : IsServing q n v) wh
 
   -- ---- the first message is taken
 
-  module _ (t : TokenValue) (x : PoolValue) (taken : IsTaken q t v x) where
+  module _ (t : TokenValue) (x : PoolValue) (taken : IsTaken q n t v x) where
     pub serving_taken : IsServing q n x
     serving_taken =
         serving_alike (with_first_off q taken.behind (queued_blocks_of v))
-        (underway_off v.queues.specs law.lawful_queues s.lines q n s.next (queued_blocks_of v) underway_now taken.message taken.behind taken.first) x taken.queues
+        (underway_off v.queues.specs law.lawful_queues s.sides q n s.next (queued_blocks_of v) underway_now taken.message taken.behind taken.first) x taken.queues
         (ap (λ (a : Arena). a.store) taken.arena) (ap (λ (a : Arena). a.shelves) taken.arena)
 
     shelves_taken : x.arena.shelves ≡ set v.arena.shelves q taken.behind
@@ -111,22 +102,22 @@ module _ (q n : ℕ) (v : PoolValue) (law : IsLawful v) (s : IsServing q n v) wh
   module _ (w : PoolValue) (ended : handed_on q n (queued_blocks_of v) ≡ (false, queued_blocks_of w)) where
     pub awake_ended : w.queues.specs ≡ v.queues.specs → AreKeptAwake w
     awake_ended specs =
-        let all = subst (λ (r : Bool × QueuedBlocks). Hands v.queues.specs law.lawful_queues s.lines q n s.next (length (messages_on (queued_blocks_of v) q)) r.0 r.1) ended
-        (hands_on v.queues.specs law.lawful_queues s.lines q n s.next (queued_blocks_of v) underway_now) in
+        let all = subst (λ (r : Bool × QueuedBlocks). Hands v.queues.specs law.lawful_queues s.sides q n s.next (length (messages_on (queued_blocks_of v) q)) r.0 r.1) ended
+        (hands_on v.queues.specs law.lawful_queues s.sides q n s.next (queued_blocks_of v) underway_now) in
         record {
-          lines = subst AreLines (sym specs) s.lines;
+          sides = subst AreSides (sym specs) s.sides;
           awake = λ p t is. all p t (ap (λ (sp : List QueueSpec). next_of sp p) (sym specs) ∙ is);
         }
 
     pub weigh_ended : weigh w.arena.shelves ≡ weigh v.arena.shelves
     weigh_ended =
         sym (ap (λ (r : Bool × QueuedBlocks). weigh r.1.arena.shelves) ended)
-        ∙ ap weigh (hand_shelves v.queues.specs law.lawful_queues s.lines q n s.next (queued_blocks_of v) underway_now (ap (λ (r : Bool × QueuedBlocks). r.0) ended))
+        ∙ ap weigh (hand_shelves v.queues.specs law.lawful_queues s.sides q n s.next (queued_blocks_of v) underway_now (ap (λ (r : Bool × QueuedBlocks). r.0) ended))
 
     pub run_ended : powers w.queues.run < power q + powers v.queues.run
     run_ended =
         subst (λ (r : Bool × QueuedBlocks). powers r.1.queues.run < power q + powers v.queues.run) ended
-        (handed_powers q n (queued_blocks_of v) law.lawful_queues s.lines (omega (arith, law.flagged, hop_within v.queues.specs law.lawful_queues q n s.next)) (ap (λ (r : Bool × QueuedBlocks). r.0) ended))
+        (handed_powers q n (queued_blocks_of v) law.lawful_queues s.sides (omega (arith, law.flagged, hop_within v.queues.specs law.lawful_queues q n s.next)) (ap (λ (r : Bool × QueuedBlocks). r.0) ended))
 
   -- ---- a message is put on the next queue
 
@@ -137,7 +128,7 @@ module _ (q n : ℕ) (v : PoolValue) (law : IsLawful v) (s : IsServing q n v) wh
     pub serving_put : IsServing q n w
     serving_put =
         serving_alike (with_one_put n (message_at v.arena h) (queued_blocks_of v))
-        (underway_put v.queues.specs law.lawful_queues s.lines q n s.next (queued_blocks_of v) underway_now (message_at v.arena h)) w (put_state v w n h there after)
+        (underway_put v.queues.specs law.lawful_queues s.sides q n s.next (queued_blocks_of v) underway_now (message_at v.arena h)) w (put_state v w n h there after)
         (ap (λ (a : Arena). a.store) (put_leaves v w n h there after)) arena_put
 
     pub more_put : weigh w.arena.shelves ≤ weigh v.arena.shelves + from_here v.arena.shelves n
@@ -158,9 +149,12 @@ module _ (q n : ℕ) (apart : q ≢ n) (v x : PoolValue) (t : TokenValue) (g : I
     message = g.message;
     behind = g.behind;
     first = g.first;
-    queues = kept.1 ∙ g.state;
-    arena = kept.2 ∙ g.arena;
-    had = subst (λ (a : Arena). has a u ≡ true) (sym kept.2) (subst (λ (k : TokenValue). has x.arena k ≡ true) (sym kept.0) had);
+    leave = sym (leave_same q n apart v x t g unheld had) ∙ sym kept.0;
+    head = ap (λ (k : TokenValue). k.head) kept.1 ∙ g.head;
+    queues = kept.2 ∙ g.state;
+    arena = kept.3 ∙ g.arena;
+    had = subst (λ (a : Arena). has a u ≡ true) (sym kept.3) (subst (λ (k : TokenValue). has x.arena k ≡ true) (sym kept.1) had);
+    wishes = rest.wishes ∙ g.rest.wishes;
   }
 
 pub rest_joined : (v x w : PoolValue) → KeepsRest v x → KeepsRest x w → KeepsRest v w
@@ -168,40 +162,10 @@ rest_joined v x w first second = record { specs = second.specs ∙ first.specs; 
 
 -- ---- a whole service
 
--- less weight, or the same and less enabled
-abbrev pub FallsBy : ℕ → PoolValue → PoolValue → Type 0
-FallsBy q v w = (weigh w.arena.shelves < weigh v.arena.shelves) ⊎ ((weigh w.arena.shelves ≡ weigh v.arena.shelves) × (powers w.queues.run < power q + powers v.queues.run))
-
 pub falls_ended : (q : ℕ) (v x w : PoolValue) → (x ≡ v) ⊎ (weigh x.arena.shelves < weigh v.arena.shelves) → weigh w.arena.shelves ≡ weigh x.arena.shelves
     → powers w.queues.run < power q + powers x.queues.run → FallsBy q v w
 falls_ended q v x w (inl still) same run = inr (same ∙ ap (λ (p : PoolValue). weigh p.arena.shelves) still, subst (λ (p : PoolValue). powers w.queues.run < power q + powers p.queues.run) still run)
 falls_ended q v x w (inr moved) same run = inl (omega (arith, moved, same))
-
--- pool v, and x once queue q has left its run list; queue n is the next of queue q
-module _ (v x : PoolValue) (q n : ℕ) (after : x ≡ with_queued v (next_service (queued_blocks_of v)).1) (first : rows.first v.queues.run ≡ Some q)
-    (law : IsLawful x) (lines : AreLines v.queues.specs) (awake : IsAwake (queued_blocks_of v)) (next : next_of v.queues.specs q ≡ Some n) where
-  pub serving_begun : IsServing q n x
-  serving_begun =
-      let on = underway v x q n after first law lines awake next in
-      record {
-        lines = subst AreLines (sym on.same) lines;
-        next = ap (λ (sp : List QueueSpec). next_of sp q) on.same ∙ next;
-        off = on.off;
-        others = λ p t other is. on.others p t other (ap (λ (sp : List QueueSpec). next_of sp p) (sym on.same) ∙ is);
-      }
-
-  pub falls_treated : (w : PoolValue) → w.queues.specs ≡ x.queues.specs → IsLawful w → FallsBy q x w → work (queued_blocks_of w) < work (queued_blocks_of v)
-  falls_treated w specs law_then falls =
-      elim falls [
-        | inl less ↦
-            falls_on (queued_blocks_of v) (queued_blocks_of w) specs_then (omega (arith, less, ap (λ (p : PoolValue). weigh p.arena.shelves) after)) law_then.short (run_below w law_then)
-        | inr still ↦
-            falls_still (queued_blocks_of v) (queued_blocks_of w) specs_then (still.0 ∙ ap (λ (p : PoolValue). weigh p.arena.shelves) after)
-            (omega (arith, still.1, ap powers (run_is v x q n after first law lines awake next)))
-      ]
-    where
-      specs_then : w.queues.specs ≡ v.queues.specs
-      specs_then = specs ∙ ap (λ (p : PoolValue). p.queues.specs) after
 
 -- one more message has moved
 pub moved_more : (v x w : PoolValue) → (x ≡ v) ⊎ (weigh x.arena.shelves < weigh v.arena.shelves) → weigh w.arena.shelves < weigh x.arena.shelves → weigh w.arena.shelves < weigh v.arena.shelves

@@ -1,4 +1,4 @@
--- A call on held messages keeps the laws of lines: it leaves the queues and the ranks of the messages on them.
+-- A call on held messages keeps the laws of sides: it leaves the queues and the ranks of the messages on them.
 use Rattle.std.proofs.Common.{◌≡◌, ℕ, zero, suc, ◌<◌, length, Ok, Err, Bool, not, ◌&&◌, ◌||◌, ◌==◌, List, [], ◌∷◌, get_or, refl, sym, ap, ◌∙◌, subst, arith}
 use Rattle.std.specs.List.{All, flat_map}
 use Rattle.std.specs.Prelude.{MatchResult, Result}
@@ -19,7 +19,7 @@ use Rattle.strm_queue.specs.Limits.{high_rank}
 use Rattle.strm_queue.proofs.agreeing.Agreeing.{rank_of-same}
 use Rattle.strm_scheduler.specs.Awake.{is_awake, may_rest}
 use Rattle.strm_scheduler.specs.Laws.{AreKeptAwake, KeepsQueued}
-use Rattle.strm_scheduler.specs.Lines.{AreLines, next_of}
+use Rattle.strm_scheduler.specs.Sides.{AreSides, next_of}
 use Rattle.strm_scheduler.proofs.Beginning.{joined_parts}
 
 module _ (s t : DataStore) where
@@ -44,7 +44,7 @@ awake_same v w keeps q n =
 
 pub queued_kept : (v w : PoolValue) → KeepsQueued v w → AreKeptAwake v → AreKeptAwake w
 queued_kept v w keeps kept = record {
-  lines = subst (λ (s : QueueState). AreLines s.specs) (sym keeps.queues) kept.lines;
+  sides = subst (λ (s : QueueState). AreSides s.specs) (sym keeps.queues) kept.sides;
   awake = λ q n next. awake_same v w keeps q n ∙ kept.awake q n (ap (λ (s : QueueState). next_of s.specs q) (sym keeps.queues) ∙ next);
 }
 

@@ -18,7 +18,7 @@ use Rattle.strm_queue.specs.QueueSpecs.{are_lawful}
 use Rattle.strm_queue.specs.Rank.{as_queued, is_ordered, put_ahead, rank_of}
 use Rattle.strm_queue.proofs.order.Ranks.{low_queued, rank_of-queued}
 use Rattle.strm_scheduler.specs.Awake.{is_awake, may_rest}
-use Rattle.strm_scheduler.specs.Lines.{AreLines, next_of}
+use Rattle.strm_scheduler.specs.Sides.{AreSides, next_of}
 use Rattle.strm_scheduler.proofs.Hops.{hop_ahead, hop_within, target_is}
 use Rattle.strm_scheduler.proofs.Waking.{enabled_where_grows}
 use Rattle.strm_scheduler.proofs.Keeping.{SameOff, awake_at_rest, awake_grown, awake_read, awake_shelved, awake_wanted, flags_related}
@@ -32,7 +32,7 @@ put_first rank m (x ∷ xs) ordered =
     let below : Message → Bool = λ y. nat_le (rank y) (rank m) in
     cond-true (below x) (m ∷ x ∷ xs) (x ∷ put_ahead rank m xs) (and_parts (below x) (list_all below xs) (and_parts (list_all below (x ∷ xs)) (is_ordered rank (x ∷ xs)) ordered).0).0
 
-module _ (specs : List QueueSpec) (lawful : are_lawful specs ≡ true) (lines : AreLines specs) (q n : ℕ) (next : next_of specs q ≡ Some n) where
+module _ (specs : List QueueSpec) (lawful : are_lawful specs ≡ true) (sides : AreSides specs) (q n : ℕ) (next : next_of specs q ≡ Some n) where
   q_within : q < length specs
   q_within = hop_within specs lawful q n next
 
@@ -61,8 +61,8 @@ module _ (specs : List QueueSpec) (lawful : are_lawful specs ≡ true) (lines : 
     lawful_on : are_lawful v.queues.specs ≡ true
     lawful_on = ap are_lawful on.same ∙ lawful
 
-    lines_on : AreLines v.queues.specs
-    lines_on = subst AreLines (sym on.same) lines
+    sides_on : AreSides v.queues.specs
+    sides_on = subst AreSides (sym on.same) sides
 
     next_on : (p t : ℕ) → next_of specs p ≡ Some t → next_of v.queues.specs p ≡ Some t
     next_on p t is = ap (λ (s : List QueueSpec). next_of s p) on.same ∙ is
@@ -136,7 +136,7 @@ module _ (specs : List QueueSpec) (lawful : are_lawful specs ≡ true) (lines : 
         off = flags_related SameOff (λ f. refl) settled.queues.flags q (record (flags_at settled.queues q) { read = false }) refl q ∙ off_settled;
         others = λ p t other is.
             awake_read settled q false p t other
-            (awake_settled shelf_off lawful_on lines_on on.banded q p t (next_on p t is) (awake_shelved v (with_shelf q ms v.arena) q ms refl refl p t other (on.others p t other is)));
+            (awake_settled shelf_off lawful_on sides_on on.banded q p t (next_on p t is) (awake_shelved v (with_shelf q ms v.arena) q ms refl refl p t other (on.others p t other is)));
       }
 
   -- ---- the message is put on the next queue
@@ -164,7 +164,7 @@ module _ (specs : List QueueSpec) (lawful : are_lawful specs ≡ true) (lines : 
       low = ap (list_all (λ x. nat_le (rank_of off.arena.store x) high_rank)) messages_put ∙ on.low;
       off = ap (λ (s : QueueState). (flags_at s q).noenable) alone ∙ on.off;
       others = λ p t other is.
-          awake_put off (lawful_on off on) (lines_on off on) n (rank_of off.arena.store m) (as_queued off.arena.store m) (sym (rank_of-queued off.arena.store m)) (with_put n m off.arena) refl refl
+          awake_put off (lawful_on off on) (sides_on off on) n (rank_of off.arena.store m) (as_queued off.arena.store m) (sym (rank_of-queued off.arena.store m)) (with_put n m off.arena) refl refl
           (on.shelved ∙ ap length (sym on.same)) p t (next_on off on p t is) (on.others p t other is);
     }
 
@@ -227,7 +227,7 @@ module _ (specs : List QueueSpec) (lawful : are_lawful specs ≡ true) (lines : 
       pub placed_back_awake : AllAwake (with_one_placed q n m false off)
       placed_back_awake =
           subst (λ k. AllAwake (with_one_put_back q m (with_state (with_wanted k (rank_of off.arena.store m)) off)))
-          (sym (target_is off.queues.specs (lines_on off on) n)) back_awake
+          (sym (target_is off.queues.specs (sides_on off on) n)) back_awake
 
   -- ---- one message is handed on
 

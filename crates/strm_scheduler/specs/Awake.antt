@@ -8,7 +8,7 @@ use Rattle.strm_queue.specs.Limits.{high_rank}
 use Rattle.strm_queue.specs.QueueCalls.{flags_of, messages_on}
 use Rattle.strm_queue.specs.QueuedBlocks.{QueuedBlocks}
 use Rattle.strm_queue.specs.Rank.{rank_of}
-use Rattle.strm_scheduler.specs.Lines.{next_of}
+use Rattle.strm_scheduler.specs.Sides.{next_of}
 
 -- Whether a queue with these messages may rest, by its want-to-read mark and the wanted bands of its next queue. Without
 -- messages, it may if the mark is set: the next message enables the queue. With messages, it may if the first one is not of
@@ -29,7 +29,7 @@ IsAwake v = (q n : ℕ) → next_of v.queues.specs q ≡ Some n → IsTrue (is_a
 
 -- ---- delivery
 
--- the last queue of each line has no messages
+-- the last queue of each side has no messages
 abbrev pub AreEndsEmpty : QueuedBlocks → Type 0
 AreEndsEmpty v = (q : ℕ) → q < length v.queues.specs → next_of v.queues.specs q ≡ None → messages_on v q ≡ []
 

@@ -1,4 +1,4 @@
--- The laws of lines of queues, and the calls of `Lines` that are no calls of a pool.
+-- The laws of sides of streams, and the calls of `Sides` that are no calls of a pool.
 use Rattle.std.specs.Prelude.{◌≡◌, ℕ, Option, Err, is_some, if◌then◌else◌}
 use Rattle.std.specs.List.{All}
 use Rattle.strm_data.specs.declared.refusal.Refusal.TheVariants.{NoSuchQueue}
@@ -9,14 +9,14 @@ use Rattle.strm_pool.specs.PoolValue.{PoolValue, queued_blocks_of}
 use Rattle.strm_queue.specs.QueueCalls as queues
 use Rattle.strm_queue.specs.QueuedBlocks.{QueuedBlocks}
 use Rattle.strm_scheduler.specs.Awake.{IsAwake}
-use Rattle.strm_scheduler.specs.Lines.{AreLines, next_of}
+use Rattle.strm_scheduler.specs.Sides.{AreSides, next_of}
 
--- the queues of a pool form lines, and each one with a next queue is awake
+-- the queues of a pool form sides, and each one with a next queue is awake
 pub record AreKeptAwake (v : PoolValue) : Type 0 where
-  pub lines : AreLines v.queues.specs
+  pub sides : AreSides v.queues.specs
   pub awake : IsAwake (queued_blocks_of v)
 
--- the first message of the last queue of a line, if any, is taken; a queue that is not the last is refused
+-- the first message of the last queue of a side, if any, is taken; a queue that is not the last is refused
 abbrev pub take : ℕ → QueuedBlocks → Given QueuedBlocks (Option ℕ)
 take q v = if is_some (next_of v.queues.specs q) then Err NoSuchQueue else queues.getq q v
 

@@ -1,4 +1,4 @@
-pub mod Lines
+pub mod Sides
 pub mod Awake
 pub mod Running
 pub mod Order
@@ -6,3 +6,4 @@ pub mod Laws
 pub mod Work
 pub mod Serving
 pub mod Modules
+pub mod Holding

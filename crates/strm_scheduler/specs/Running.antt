@@ -4,7 +4,7 @@ use Rattle.std.specs.Option.{option_map_or}
 use Rattle.strm_forward.specs.Handing.{all_forwarded}
 use Rattle.strm_queue.specs.QueueCalls.{next_service}
 use Rattle.strm_queue.specs.QueuedBlocks.{QueuedBlocks}
-use Rattle.strm_scheduler.specs.Lines.{next_of}
+use Rattle.strm_scheduler.specs.Sides.{next_of}
 
 -- queue q was served: its messages were forwarded to its next queue, as far as they may go
 abbrev pub with_queue_served : ℕ → QueuedBlocks → QueuedBlocks

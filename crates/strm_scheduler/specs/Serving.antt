@@ -1,35 +1,59 @@
--- A service procedure at work on one queue. No public clause cites this module.
-use Rattle.std.specs.Prelude.{◌≡◌, ◌≢◌, ℕ, false, IsTrue, List, ◌∷◌, Option, None, Some}
+-- A service procedure at work on one queue. Of this module, public clauses cite only `IsTaken`.
+use Rattle.std.specs.Prelude.{◌≡◌, ◌≢◌, ◌⊎◌, ◌+◌, ◌<◌, ℕ, false, true, IsTrue, List, ◌∷◌, Option, None, Some}
 use Rattle.strm_mblk.specs.declared.token.TokenValue.{TokenValue}
 use Rattle.strm_forward.specs.Handing.{handed_on, with_first_off, with_one_placed}
-use Rattle.strm_forward.specs.Forwarding.{has_leave, with_put_either}
+use Rattle.strm_forward.specs.Forwarding.{has_leave, may_go, with_put_either}
+use Rattle.strm_links.specs.Rows as rows
 use Rattle.strm_mblk.specs.Arena.{has, message_at, shelf_at, with_held, with_shelf}
-use Rattle.strm_mblk.specs.Block.{Message}
-use Rattle.strm_pool.specs.PoolValue.{PoolValue, queued_blocks_of}
-use Rattle.strm_queue.specs.QueueCalls.{flags_of}
+use Rattle.strm_mblk.specs.Block.{Message, head_of}
+use Rattle.strm_pool.specs.Lawful.{IsLawful}
+use Rattle.strm_pool.specs.PoolValue.{PoolValue, has_queue, queued_blocks_of, with_queued}
+use Rattle.strm_queue.specs.QueueCalls.{flags_of, next_service}
 use Rattle.strm_scheduler.specs.Awake.{is_awake}
-use Rattle.strm_scheduler.specs.Lines.{AreLines, next_of}
+use Rattle.strm_scheduler.specs.Sides.{AreSides, next_of}
+use Rattle.strm_scheduler.specs.Work.{power, powers, weigh}
 
 -- queue q is being served, its next is queue n, and all other queues are awake
 pub record IsServing (q n : ℕ) (v : PoolValue) : Type 0 where
-  pub lines : AreLines v.queues.specs
+  pub sides : AreSides v.queues.specs
   pub next : next_of v.queues.specs q ≡ Some n
   pub off : (flags_of (queued_blocks_of v) q).noenable ≡ false
   pub others : (p t : ℕ) → p ≢ q → next_of v.queues.specs p ≡ Some t → IsTrue (is_awake (queued_blocks_of v) p t)
 
--- the first message of queue q is held, by this token
-pub record IsTaken (q : ℕ) (t : TokenValue) (old new : PoolValue) : Type 0 where
+-- queue q, whose next is queue n, was the first on the run list, left it, and is being served now
+pub record IsBegun (q n : ℕ) (v x : PoolValue) : Type 0 where
+  pub first : rows.first v.queues.run ≡ Some q
+  pub next : next_of v.queues.specs q ≡ Some n
+  pub after : x ≡ with_queued v (next_service (queued_blocks_of v)).1
+  pub run : v.queues.run ≡ q ∷ x.queues.run
+  pub once : rows.has q x.queues.run ≡ false
+  pub serving : IsServing q n x
+  pub behind : IsTrue (has_queue x q)
+  pub ahead : IsTrue (has_queue x n)
+  pub apart : q ≢ n
+  pub lawful : IsLawful x
+
+-- A service leaves less work: messages have fewer queues ahead of them, or as many, and less is enabled than with queue q.
+abbrev pub FallsBy : ℕ → PoolValue → PoolValue → Type 0
+FallsBy q v w = (weigh w.arena.shelves < weigh v.arena.shelves)
+    ⊎ ((weigh w.arena.shelves ≡ weigh v.arena.shelves) × (powers w.queues.run < power q + powers v.queues.run))
+
+-- the first message of queue q, which may go on to queue n, is held, by this token
+pub record IsTaken (q n : ℕ) (t : TokenValue) (old new : PoolValue) : Type 0 where
   pub message : Message
   pub behind : List Message
   pub first : shelf_at old.arena q ≡ message ∷ behind
+  pub leave : IsTrue (may_go q n old.queues old.arena)
+  pub head : t.head ≡ head_of message
   pub queues : new.queues ≡ (with_first_off q behind (queued_blocks_of old)).queues
   pub arena : new.arena ≡ with_held message (with_shelf q behind old.arena)
   pub had : IsTrue (has new.arena t)
+  pub wishes : new.wishes ≡ old.wishes
 
 -- the first message of queue q is taken if it may go on to queue n; otherwise the queue is as after handing on
 abbrev pub TakesTo : ℕ → ℕ → PoolValue → Option TokenValue → PoolValue → Type 0
 TakesTo q n old None new = handed_on q n (queued_blocks_of old) ≡ (false, queued_blocks_of new)
-TakesTo q n old (Some t) new = IsTaken q t old new
+TakesTo q n old (Some t) new = IsTaken q n t old new
 
 -- the message of token t has no leave to go on to queue n, and is back on queue q
 pub record IsPutBack (q n : ℕ) (t : TokenValue) (old new : PoolValue) : Type 0 where
@@ -40,4 +64,5 @@ pub record IsPutBack (q n : ℕ) (t : TokenValue) (old new : PoolValue) : Type 0
 -- the message of token t is held still, if it may go on to queue n; otherwise it is put back
 abbrev pub KeepsAllowed : ℕ → ℕ → TokenValue → PoolValue → Option TokenValue → PoolValue → Type 0
 KeepsAllowed q n t old None new = IsPutBack q n t old new
-KeepsAllowed q n t old (Some u) new = (u ≡ t) × (new.queues ≡ old.queues) × (new.arena ≡ old.arena)
+KeepsAllowed q n t old (Some u) new =
+    (true ≡ has_leave n old.queues old.arena (message_at old.arena t.head)) × (u ≡ t) × (new.queues ≡ old.queues) × (new.arena ≡ old.arena)

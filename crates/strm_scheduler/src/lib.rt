@@ -1,18 +1,19 @@
-//! A scheduler of service procedures, as `runqueues` of STREAMS: it forwards messages along lines of queues until no queue is
-//! enabled. No wake-up is lost: a message waits only for a band that is wanted.
+//! A scheduler of service procedures, as `runqueues` of STREAMS: it forwards messages along sides of streams until no queue is
+//! enabled. No wake-up is lost: a message waits only for a band that is wanted, or for a block where none is free.
 #![tactic(auto)]
 
-mod lines;
-mod lines_fault;
 mod module;
 mod passing;
 mod serving;
+mod sides;
+mod sides_fault;
+mod starting;
 mod treating;
 
-pub use lines::Lines;
-pub use lines_fault::LinesFault;
 pub use module::Module;
 pub use passing::Passing;
+pub use sides::Sides;
+pub use sides_fault::SidesFault;
 
 #[cfg(test)]
 mod tests;

@@ -2,11 +2,12 @@
 ghost use Rattle.std.specs.Prelude.{◌≡◌, ◌<◌, ℕ, IsTrue, None, [], length, false};
 ghost use Rattle.strm_pool.specs.PoolValue.{queued_blocks_of};
 ghost use Rattle.strm_scheduler.specs.Laws.{AreKeptAwake};
-ghost use Rattle.strm_scheduler.specs.Lines.{next_of};
+ghost use Rattle.strm_scheduler.specs.Sides.{next_of};
 ghost use Rattle.strm_scheduler.specs.Order.{KeepsOrder};
 ghost use Rattle.strm_scheduler.specs.Running.{IsServed, with_first_served};
 ghost use Rattle.strm_scheduler.specs.Work.{work};
 
+use crate::starting::begin;
 use strm_forward::forward;
 use strm_pool::Pool;
 
@@ -34,16 +35,8 @@ fn serve_first(pool: &mut Pool) -> bool
     ensures specs { pool.new.queues.specs ≡ pool.old.queues.specs }
     ensures wishes { pool.new.wishes ≡ pool.old.wishes }
 {
-    pool.lawful();
-    let Some(queue) = pool.next_service() else {
+    let Some((queue, next)) = begin(pool) else {
         return false;
-    };
-    pool.lawful();
-    let Ok(spec) = pool.queue_spec(queue) else {
-        unreachable!()
-    };
-    let Some(next) = spec.next else {
-        unreachable!()
     };
     let Ok(_) = forward(pool, queue, next) else {
         unreachable!()

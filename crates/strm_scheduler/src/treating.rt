@@ -1,75 +1,119 @@
 //! Service procedures of modules: they treat each message before it goes on to the next queue.
-ghost use Rattle.std.specs.Prelude.{◌≡◌, ◌≢◌, ◌⊎◌, ◌+◌, ◌<◌, ◌≤◌, IsTrue, IfSome, Option, None, Some, [], false, true};
+ghost use Rattle.std.specs.Prelude.{◌≡◌, ◌≢◌, ◌+◌, ◌<◌, ◌≤◌, IsTrue, IfSome, Option, None, Some, [], false, length, true};
 ghost use Rattle.strm_forward.specs.Forwarding.{KeepsRest};
 ghost use Rattle.strm_forward.specs.Handing.{handed_on};
 ghost use Rattle.strm_mblk.specs.declared.token.TokenValue.{TokenValue};
 ghost use Rattle.strm_mblk.specs.Arena.{has};
 ghost use Rattle.strm_pool.specs.PoolValue.{PoolValue, has_queue, queued_blocks_of};
+ghost use Rattle.strm_scheduler.specs.Holding.{IsTurned};
 ghost use Rattle.strm_scheduler.specs.Laws.{AreKeptAwake};
-ghost use Rattle.strm_scheduler.specs.Modules.{IsFirstTreated, IsQueueTreated, IsRunWith, IsTreated, with_any_put};
-ghost use Rattle.strm_scheduler.specs.Serving.{IsServing, KeepsAllowed, TakesTo};
+ghost use Rattle.strm_scheduler.specs.Modules.{AreHeldBack, IsFirstTreated, IsHeldBack, IsMet, IsQueueTreated, IsRunWith, IsTreated, with_any_put, with_queue_enabled};
+ghost use Rattle.strm_scheduler.specs.Serving.{FallsBy, IsServing, KeepsAllowed, TakesTo};
 ghost use Rattle.strm_scheduler.specs.Work.{from_here, power, powers, weigh, work};
 
 use crate::module::Module;
+use crate::starting::begin;
 use strm_forward::may_go;
 use strm_pool::{Pool, Token};
 
-// Takes queues off the run list and serves them, until the list is empty.
-pub(crate) fn treat_all<M: Module>(pool: &mut Pool, handler: &mut M)
-    requires { AreKeptAwake pool.old }
-    ensures awake { AreKeptAwake pool.new }
-    ensures idle { pool.new.queues.run ≡ [] }
-    ensures treated { IsRunWith M.treats handler.old pool.old handler.new pool.new }
-    ensures specs { pool.new.queues.specs ≡ pool.old.queues.specs }
-{
-    while treat_first(pool, handler) {}
-}
-
-// Takes the first queue off the run list, if any, and serves it. Says whether there was one.
-fn treat_first<M: Module>(pool: &mut Pool, handler: &mut M) -> bool
+// Takes queues off the run list and serves them, until all that are left on it are held back. Says whether there are any.
+pub(crate) fn treat_all<M: Module>(pool: &mut Pool, handler: &mut M) -> bool
     requires { AreKeptAwake pool.old }
     ensures awake { AreKeptAwake pool.new }
     ensures idle { result ≡ false → pool.new.queues.run ≡ [] }
-    ensures treated { IsTrue result → IsFirstTreated M.treats handler.old pool.old handler.new pool.new }
-    ensures same { result ≡ false → (handler.new ≡ handler.old) × (pool.new ≡ pool.old) }
-    ensures falls { IsTrue result → work (queued_blocks_of pool.new) < work (queued_blocks_of pool.old) }
+    ensures busy { IsTrue result → 0 < length pool.new.queues.run }
+    ensures held { AreHeldBack M.needs handler.new pool.new }
+    ensures treated { IsRunWith M.needs M.treats handler.old pool.old handler.new pool.new }
     ensures specs { pool.new.queues.specs ≡ pool.old.queues.specs }
 {
-    pool.lawful();
-    let Some(queue) = pool.next_service() else {
+    // How many queues were held back since the last service. They are at the end of the run list.
+    let mut held = 0;
+    while pool.run_at(held).is_some() {
+        pool.lawful();
+        if treat_first(pool, handler) {
+            held = 0;
+        } else {
+            held += 1;
+        }
+    }
+    held > 0
+}
+
+// Takes the first queue off the run list. If it is held back, puts it at the end of the list; otherwise serves it. Says whether
+// it was served.
+fn treat_first<M: Module>(pool: &mut Pool, handler: &mut M) -> bool
+    requires awake { AreKeptAwake pool.old }
+    requires some { 0 < length pool.old.queues.run }
+    ensures awake { AreKeptAwake pool.new }
+    ensures treated { IsFirstTreated M.needs M.treats handler.old pool.old handler.new pool.new }
+    ensures falls { IsTrue result → work (queued_blocks_of pool.new) < work (queued_blocks_of pool.old) }
+    ensures short { IsTrue result → length pool.new.queues.run ≤ length pool.new.queues.specs }
+    ensures turned { result ≡ false → IsTurned M.needs handler.old pool.old handler.new pool.new }
+    ensures specs { pool.new.queues.specs ≡ pool.old.queues.specs }
+{
+    let Some((queue, next)) = begin(pool) else {
+        unreachable!()
+    };
+    if is_held_back(pool, handler, queue) {
+        enable(pool, queue);
         return false;
-    };
-    pool.lawful();
-    let Ok(spec) = pool.queue_spec(queue) else {
-        unreachable!()
-    };
-    let Some(next) = spec.next else {
-        unreachable!()
-    };
+    }
     treat_queue(pool, handler, queue, next);
     pool.lawful();
     true
 }
 
-// Serves a queue: its messages are treated and go on to the next queue, until none is left or one may not go.
+// Serves a queue that is not held back: its messages are treated and go on to the next queue, until none is left, one may not
+// go, or one is held back. Then the queue is enabled again.
 fn treat_queue<M: Module>(pool: &mut Pool, handler: &mut M, queue: u8, next: u8)
-    requires { IsServing queue next pool.old }
+    requires serving { IsServing queue next pool.old }
+    requires behind { IsTrue (has_queue pool.old queue) }
+    requires met { IsMet M.needs handler.old queue pool.old }
     ensures awake { AreKeptAwake pool.new }
-    ensures treated { IsQueueTreated M.treats queue next handler.old pool.old handler.new pool.new }
-    ensures falls { (weigh pool.new.arena.shelves < weigh pool.old.arena.shelves)
-        ⊎ ((weigh pool.new.arena.shelves ≡ weigh pool.old.arena.shelves)
-        × (powers pool.new.queues.run < power queue + powers pool.old.queues.run)) }
+    ensures treated { IsQueueTreated M.needs M.treats queue next handler.old pool.old handler.new pool.new }
+    ensures falls { FallsBy queue pool.old pool.new }
     ensures specs { pool.new.queues.specs ≡ pool.old.queues.specs }
 {
-    while treat_one(pool, handler, queue, next) {}
+    while treat_one(pool, handler, queue, next) {
+        if is_held_back(pool, handler, queue) {
+            enable(pool, queue);
+            return;
+        }
+    }
+}
+
+// Whether the first message of a queue is held back: the module needs a block for it, of a size of which none is free.
+fn is_held_back<M: Module>(pool: &Pool, handler: &M, queue: u8) -> bool
+    ensures held { IsTrue result → IsHeldBack M.needs handler.now queue pool.now }
+    ensures met { result ≡ false → IsMet M.needs handler.now queue pool.now }
+{
+    let Ok(first) = pool.queued_at(queue, 0) else {
+        return false;
+    };
+    match handler.need(queue, &first) {
+        Some(size) => !pool.testb(size),
+        None => false,
+    }
+}
+
+// Puts a queue at the end of the run list.
+fn enable(pool: &mut Pool, queue: u8)
+    requires { IsTrue (has_queue pool.old queue) }
+    ensures { pool.new ≡ with_queue_enabled queue pool.old }
+{
+    match pool.qenable(queue) {
+        Ok(()) => {}
+        Err(_) => unreachable!(),
+    }
 }
 
 // Takes the first message off a queue, if it may go on to the next queue; treats it, and puts it there. Says whether there was
 // one.
 fn treat_one<M: Module>(pool: &mut Pool, handler: &mut M, queue: u8, next: u8) -> bool
-    requires { IsServing queue next pool.old }
+    requires serving { IsServing queue next pool.old }
+    requires met { IsMet M.needs handler.old queue pool.old }
     ensures serving { IsTrue result → IsServing queue next pool.new }
-    ensures treated { IsTrue result → IsTreated M.treats queue next handler.old pool.old handler.new pool.new }
+    ensures treated { IsTrue result → IsTreated M.needs M.treats queue next handler.old pool.old handler.new pool.new }
     ensures ends { result ≡ false → handed_on queue next (queued_blocks_of pool.old)
         ≡ (false, queued_blocks_of pool.new) }
     ensures rest { result ≡ false → (handler.new ≡ handler.old) × (pool.new.wishes ≡ pool.old.wishes) }

@@ -1,4 +1,4 @@
-//! Tests of strm_scheduler, service procedures over lines of queues, by its public calls.
+//! Tests of strm_scheduler, service procedures over sides of streams, by its public calls.
 #![tactic(auto)]
 
 #[cfg(test)]

@@ -2,7 +2,7 @@ use arrayvec::ArrayVec;
 use std::alloc::Global;
 use std::process::Abort;
 use strm_pool::{ClassSpec, ClassSpecs, Config, QueueSpec, QueueSpecs};
-use strm_scheduler::{Lines, LinesFault};
+use strm_scheduler::{Sides, SidesFault};
 
 mod drawn;
 mod joining;
@@ -49,7 +49,7 @@ fn configured(rt: &impl Abort, id: u32, specs: &[QueueSpec]) -> Config {
     }
 }
 
-// Makes lines of these queues.
-fn opened(rt: &impl Abort, alloc: Global, specs: &[QueueSpec]) -> Result<Lines, LinesFault> {
-    Lines::new(alloc, configured(rt, 1, specs))
+// Makes sides of these queues.
+fn opened(rt: &impl Abort, alloc: Global, specs: &[QueueSpec]) -> Result<Sides, SidesFault> {
+    Sides::new(alloc, configured(rt, 1, specs))
 }

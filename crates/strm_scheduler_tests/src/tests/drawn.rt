@@ -1,4 +1,4 @@
-//! Drawn calls on lines and on plain lists, which are compared after each call.
+//! Drawn calls on sides and on plain lists, which are compared after each call.
 ghost use Rattle.std.specs.Prelude.{◌<◌};
 
 use super::making::{most_bytes, put, taken};
@@ -9,15 +9,15 @@ use super::{MESSAGES, QUEUES, opened, queue};
 use std::alloc::Global;
 use std::process::Abort;
 use strm_pool::{QueueSpec, Refusal};
-use strm_scheduler::Lines;
+use strm_scheduler::Sides;
 
 // The ways in which queues are served.
-const WAYS: [Way; 4] = [Way::Forward, Way::Pass, Way::Mark, Way::Drop];
+const WAYS: [Way; 5] = [Way::Forward, Way::Pass, Way::Mark, Way::Drop, Way::Borrow];
 
-// Lines and plain lists that get the same calls: `count` queues in `lines` lines, which take turns in the numbers.
+// Sides of streams and plain lists that get the same calls: `count` queues in `step` sides, which take turns in the numbers.
 #[derive(Drop)]
 struct Drawn {
-    lines: Lines,
+    sides: Sides,
     plain: Plain,
     // As many bytes as a message may have: to write, and to read into.
     bytes: Vec<u8>,
@@ -25,8 +25,9 @@ struct Drawn {
     count: u8,
     step: u8,
     draw: u32,
-    // How often a message waited after a run, and how often one was taken.
+    // How often a message waited after a run, how often one was held back, and how often one was taken.
     waited: u32,
+    held: u32,
     taken: u32,
 }
 
@@ -89,7 +90,7 @@ fn marks(draw: &mut u32) -> (u32, u32) {
     }
 }
 
-// The specs of queues with drawn water marks, in lines that take turns in the numbers.
+// The specs of queues with drawn water marks, in sides that take turns in the numbers.
 fn specs(draw: &mut u32, count: u8, step: u8) -> [QueueSpec; QUEUES] {
     let mut specs = [queue(1, 0, None); QUEUES];
     for (number, spec) in specs.iter_mut().enumerate() {
@@ -106,7 +107,7 @@ impl Drawn {
         let specs = specs(&mut draw, count, step);
         let specs = specs.get(..usize::from(count)).expect(rt, "few queues");
         Drawn {
-            lines: opened(rt, alloc, specs).expect(rt, "lines"),
+            sides: opened(rt, alloc, specs).expect(rt, "sides"),
             plain: Plain::new(rt, alloc, specs),
             bytes: most_bytes(rt, alloc),
             room: most_bytes(rt, alloc),
@@ -114,6 +115,7 @@ impl Drawn {
             step,
             draw,
             waited: 0,
+            held: 0,
             taken: 0,
         }
     }
@@ -128,17 +130,17 @@ impl Drawn {
         let queue = self.any_queue();
         let rank = rank(&mut self.draw);
         let size = size(&mut self.draw);
-        let census = self.lines.pool().census();
+        let census = self.sides.pool().census();
         let bytes = self.bytes.get(..size as usize).expect(rt, "few bytes");
-        match put(&mut self.lines, queue, rank, bytes) {
+        match put(&mut self.sides, queue, rank, bytes) {
             Ok(message) => self.plain.putq(rt, queue, message),
             Err(why) => assert_eq!(rt; (census.free, why), (0, Refusal::NoMblk)),
         }
     }
 
-    // Takes a message off the last queue of a line. Says whether there was one.
+    // Takes a message off the last queue of a side. Says whether there was one.
     fn take(&mut self, rt: &impl Abort, queue: u8) -> bool {
-        let taken = taken(&mut self.lines, queue, &mut self.room).expect(rt, "a last queue");
+        let taken = taken(&mut self.sides, queue, &mut self.room).expect(rt, "a last queue");
         match (taken, self.plain.getq(rt, queue)) {
             (Some(taken), Some(wanted)) => {
                 taken.assert_is(rt, &self.room, &wanted);
@@ -150,10 +152,10 @@ impl Drawn {
         }
     }
 
-    // Takes a message off the last queue of one of the lines.
+    // Takes a message off the last queue of one of the sides.
     fn take_any(&mut self, rt: &impl Abort) {
-        let line = any_of(&mut self.draw, self.step);
-        self.take(rt, self.count.wrapping_sub(1).wrapping_sub(line));
+        let side = any_of(&mut self.draw, self.step);
+        self.take(rt, self.count.wrapping_sub(1).wrapping_sub(side));
     }
 
     // Asks whether a band of a queue has room.
@@ -161,7 +163,7 @@ impl Drawn {
         let queue = self.any_queue();
         let band = band(&mut self.draw);
         let room = self.plain.bcanput(rt, queue, band);
-        assert_eq!(rt; self.lines.bcanput(queue, band), Ok(room));
+        assert_eq!(rt; self.sides.bcanput(queue, band), Ok(room));
     }
 
     // Sets the water marks of a band.
@@ -170,17 +172,20 @@ impl Drawn {
         let band = band(&mut self.draw);
         let (hiwat, lowat) = marks(&mut self.draw);
         assert_eq!(rt;
-            self.lines.strqset(queue, band, lowat, hiwat),
+            self.sides.strqset(queue, band, lowat, hiwat),
             Err(Refusal::BadMarks)
         );
-        assert_eq!(rt; self.lines.strqset(queue, band, hiwat, lowat), Ok(()));
+        assert_eq!(rt; self.sides.strqset(queue, band, hiwat, lowat), Ok(()));
         self.plain.strqset(rt, queue, band, (hiwat, lowat));
     }
 
-    // Serves queues until none is enabled.
+    // Serves queues until none is enabled, or each one that is enabled is held back.
     fn run(&mut self, rt: &impl Abort, way: Way) {
-        way.run(&mut self.lines);
-        self.plain.run(rt, way);
+        let held = way.run(&mut self.sides);
+        assert_eq!(rt; held, self.plain.run(rt, way));
+        if held {
+            self.held = self.held.wrapping_add(1);
+        }
         if self.plain.waits() {
             self.waited = self.waited.wrapping_add(1);
         }
@@ -194,7 +199,7 @@ impl Drawn {
             9 => self.ask(rt),
             10..12 => self.mark(rt),
             _ => {
-                let way = WAYS[below(&mut self.draw, 4) as usize];
+                let way = WAYS[below(&mut self.draw, 5) as usize];
                 self.run(rt, way);
             }
         }
@@ -205,15 +210,15 @@ impl Drawn {
         for step in 0..steps {
             self.call(rt);
             let last = if step % 16 == 0 { u8::MAX } else { 2 };
-            assert_same(rt, &self.lines, &self.plain, last);
+            assert_same(rt, &self.sides, &self.plain, last);
         }
         assert!(rt; self.waited > 0 && self.taken > 0);
     }
 
-    // Takes the first message of each line.
+    // Takes the first message of each side.
     fn take_each(&mut self, rt: &impl Abort) {
-        for line in 0..self.step {
-            self.take(rt, self.count.wrapping_sub(1).wrapping_sub(line));
+        for side in 0..self.step {
+            self.take(rt, self.count.wrapping_sub(1).wrapping_sub(side));
         }
     }
 
@@ -223,29 +228,34 @@ impl Drawn {
             self.run(rt, Way::Forward);
             self.take_each(rt);
         }
-        assert_same(rt, &self.lines, &self.plain, u8::MAX);
-        let census = self.lines.pool().census();
+        assert_same(rt, &self.sides, &self.plain, u8::MAX);
+        let census = self.sides.pool().census();
         assert_eq!(rt; (census.free, census.queued, census.held), (MESSAGES, 0, 0));
     }
 }
 
-// Draws calls on lines of this number of queues.
-fn draw_on(rt: &impl Abort, alloc: Global, count: u8, step: u8) {
+// Draws calls on sides of this number of queues. Returns how often a message was held back.
+fn draw_on(rt: &impl Abort, alloc: Global, count: u8, step: u8) -> u32 {
     let mut drawn = Drawn::opened(rt, alloc, count, step);
     drawn.walk(rt, 1_000);
     drawn.end(rt);
+    drawn.held
 }
 
 #[test]
-fn one_line(rt: HostRuntime) {
+fn one_side(rt: HostRuntime) {
+    let mut held = 0u32;
     for count in 2..=8 {
-        draw_on(&rt, rt.alloc(), count, 1);
+        held = held.wrapping_add(draw_on(&rt, rt.alloc(), count, 1));
     }
+    assert!(rt; held > 0);
 }
 
 #[test]
-fn two_lines(rt: HostRuntime) {
+fn two_sides(rt: HostRuntime) {
+    let mut held = 0u32;
     for count in 4..=8 {
-        draw_on(&rt, rt.alloc(), count, 2);
+        held = held.wrapping_add(draw_on(&rt, rt.alloc(), count, 2));
     }
+    assert!(rt; held > 0);
 }

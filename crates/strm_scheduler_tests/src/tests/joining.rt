@@ -3,37 +3,37 @@ use super::making::made;
 use super::{MESSAGES, configured, opened, queue};
 use std::process::Abort;
 use strm_pool::{Pool, QueueSpec, Rejected, Token};
-use strm_scheduler::Lines;
+use strm_scheduler::Sides;
 
-// A line of two queues.
+// A side of two queues.
 fn short() -> [QueueSpec; 2] {
     [queue(8, 4, Some(1)), queue(8, 4, None)]
 }
 
 // Makes a message of these bytes.
-fn held(rt: &impl Abort, lines: &mut Lines, bytes: &[u8]) -> Token {
-    match made(lines, 0, bytes) {
+fn held(rt: &impl Abort, sides: &mut Sides, bytes: &[u8]) -> Token {
+    match made(sides, 0, bytes) {
         Ok(token) => token,
         Err(why) => panic!(rt; "{why:?}"),
     }
 }
 
 // Makes a message of two blocks, with two bytes and three.
-fn joined(rt: &impl Abort, lines: &mut Lines) -> Token {
-    let mut first = held(rt, lines, b"ab");
-    let second = held(rt, lines, b"cde");
-    assert!(rt; lines.pool().has(&first) && lines.pool().has(&second));
-    lines.linkb(&mut first, second);
-    assert!(rt; lines.pool().has(&first));
-    assert!(rt; lines.pool().size(&first) == 5);
+fn joined(rt: &impl Abort, sides: &mut Sides) -> Token {
+    let mut first = held(rt, sides, b"ab");
+    let second = held(rt, sides, b"cde");
+    assert!(rt; sides.pool().has(&first) && sides.pool().has(&second));
+    sides.linkb(&mut first, second);
+    assert!(rt; sides.pool().has(&first));
+    assert!(rt; sides.pool().size(&first) == 5);
     first
 }
 
 // Frees a message, if there is one, and says whether there was.
-fn freed(lines: &mut Lines, token: Option<Token>) -> bool {
+fn freed(sides: &mut Sides, token: Option<Token>) -> bool {
     match token {
         Some(token) => {
-            lines.freemsg(token);
+            sides.freemsg(token);
             true
         }
         None => false,
@@ -48,48 +48,48 @@ fn assert_free(rt: &impl Abort, pool: &Pool) {
 
 #[test]
 fn frees_the_first_block(rt: HostRuntime) {
-    let mut lines = opened(&rt, rt.alloc(), &short()).expect(&rt, "lines");
-    let token = joined(&rt, &mut lines);
-    assert!(&rt; lines.pool().has(&token));
-    let rest = lines.freeb(token);
-    assert!(&rt; freed(&mut lines, rest));
-    assert_free(&rt, lines.pool());
+    let mut sides = opened(&rt, rt.alloc(), &short()).expect(&rt, "sides");
+    let token = joined(&rt, &mut sides);
+    assert!(&rt; sides.pool().has(&token));
+    let rest = sides.freeb(token);
+    assert!(&rt; freed(&mut sides, rest));
+    assert_free(&rt, sides.pool());
 }
 
 #[test]
 fn takes_a_block_out(rt: HostRuntime) {
-    let mut lines = opened(&rt, rt.alloc(), &short()).expect(&rt, "lines");
-    let token = joined(&rt, &mut lines);
-    assert!(&rt; lines.pool().has(&token));
-    let (block, rest) = match lines.rmvb(token, 1) {
+    let mut sides = opened(&rt, rt.alloc(), &short()).expect(&rt, "sides");
+    let token = joined(&rt, &mut sides);
+    assert!(&rt; sides.pool().has(&token));
+    let (block, rest) = match sides.rmvb(token, 1) {
         Ok(parts) => parts,
         Err(Rejected { why, token }) => {
-            lines.freemsg(token);
+            sides.freemsg(token);
             panic!(&rt; "{why:?}")
         }
     };
-    lines.freemsg(block);
-    assert!(&rt; freed(&mut lines, rest));
-    assert_free(&rt, lines.pool());
+    sides.freemsg(block);
+    assert!(&rt; freed(&mut sides, rest));
+    assert_free(&rt, sides.pool());
 }
 
 // A message goes to another pool, and comes back.
 #[test]
 fn moves_between_pools(rt: HostRuntime) {
-    let mut lines = opened(&rt, rt.alloc(), &short()).expect(&rt, "lines");
+    let mut sides = opened(&rt, rt.alloc(), &short()).expect(&rt, "sides");
     let mut other = Pool::new(rt.alloc(), configured(&rt, 2, &short())).expect(&rt, "a pool");
-    let token = joined(&rt, &mut lines);
-    assert!(&rt; lines.pool().has(&token));
-    let there = match lines.transfer(&mut other, token) {
+    let token = joined(&rt, &mut sides);
+    assert!(&rt; sides.pool().has(&token));
+    let there = match sides.transfer(&mut other, token) {
         Ok(token) => token,
         Err(Rejected { why, token }) => {
-            lines.freemsg(token);
+            sides.freemsg(token);
             panic!(&rt; "{why:?}")
         }
     };
-    assert_free(&rt, lines.pool());
+    assert_free(&rt, sides.pool());
     assert!(&rt; other.has(&there));
-    let here = match lines.receive(&mut other, there) {
+    let here = match sides.receive(&mut other, there) {
         Ok(token) => token,
         Err(Rejected { why, token }) => {
             other.freemsg(token);
@@ -97,6 +97,6 @@ fn moves_between_pools(rt: HostRuntime) {
         }
     };
     assert_free(&rt, &other);
-    lines.freemsg(here);
-    assert_free(&rt, lines.pool());
+    sides.freemsg(here);
+    assert_free(&rt, sides.pool());
 }

@@ -1,4 +1,4 @@
-//! Makes messages and puts them on queues, and takes messages off the last queue of a line.
+//! Makes messages and puts them on queues, and takes messages off the last queue of a side.
 ghost use Rattle.std.specs.Prelude.{IfOk, IsTrue};
 ghost use Rattle.strm_mblk.specs.Arena.{has};
 ghost use Rattle.strm_scheduler.specs.Laws.{KeepsQueued};
@@ -8,7 +8,7 @@ use super::plain::{HIGH_RANK, Standing};
 use std::alloc::Global;
 use std::process::Abort;
 use strm_pool::{MsgType, Pool, Refusal, Rejected, Token};
-use strm_scheduler::Lines;
+use strm_scheduler::Sides;
 
 // Each byte of a new message.
 pub(super) const BYTE: u8 = 7;
@@ -81,11 +81,11 @@ fn drafted(pool: &mut Pool, bytes: &[u8], kind: MsgType, band: u8) -> Result<Tok
 }
 
 // Makes a held message of a rank with these bytes, if a block is free.
-pub(super) fn made(lines: &mut Lines, rank: u16, bytes: &[u8]) -> Result<Token, Refusal>
-    ensures { IfOk result (λ token. IsTrue (has lines.new.arena token)) }
+pub(super) fn made(sides: &mut Sides, rank: u16, bytes: &[u8]) -> Result<Token, Refusal>
+    ensures { IfOk result (λ token. IsTrue (has sides.new.arena token)) }
 {
     let (kind, band) = kind_of(rank);
-    lines.change(
+    sides.change(
         |pool: &mut Pool| -> Result<Token, Refusal>
             ensures keeps { KeepsQueued pool.old pool.new }
             ensures had { IfOk result (λ token. IsTrue (has pool.new.arena token)) }
@@ -96,14 +96,14 @@ pub(super) fn made(lines: &mut Lines, rank: u16, bytes: &[u8]) -> Result<Token, 
 // Makes a message of a rank with these bytes, if a block is free, and puts it on a queue. Returns what it then is, or why there
 // is none.
 pub(super) fn put(
-    lines: &mut Lines,
+    sides: &mut Sides,
     queue: u8,
     rank: u16,
     bytes: &[u8],
 ) -> Result<Standing, Refusal> {
-    let token = made(lines, rank, bytes)?;
+    let token = made(sides, rank, bytes)?;
     let head = token.head();
-    match lines.put(queue, token) {
+    match sides.put(queue, token) {
         Ok(()) => Ok(Standing {
             head,
             rank,
@@ -111,7 +111,7 @@ pub(super) fn put(
             first: BYTE,
         }),
         Err(Rejected { why, token }) => {
-            lines.freemsg(token);
+            sides.freemsg(token);
             Err(why)
         }
     }
@@ -124,18 +124,18 @@ pub(super) struct Found {
     size: usize,
 }
 
-// Takes the first message off the last queue of a line, if any, reads its bytes, and frees it.
+// Takes the first message off the last queue of a side, if any, reads its bytes, and frees it.
 pub(super) fn taken(
-    lines: &mut Lines,
+    sides: &mut Sides,
     queue: u8,
     into: &mut [u8],
 ) -> Result<Option<Found>, Refusal> {
-    let Some(token) = lines.take(queue)? else {
+    let Some(token) = sides.take(queue)? else {
         return Ok(None);
     };
     let head = token.head();
-    let size = lines.pool().read(&token, 0, into);
-    lines.freemsg(token);
+    let size = sides.pool().read(&token, 0, into);
+    sides.freemsg(token);
     Ok(Some(Found { head, size }))
 }
 

@@ -1,4 +1,5 @@
-//! Lines of queues as plain lists, with service procedures that keep the rules of docs/MODEL.md.
+//! Sides of streams as plain lists, with service procedures that keep the rules of docs/MODEL.md.
+use super::MESSAGES;
 use super::making::is_high;
 use super::modules::Way;
 use std::alloc::Global;
@@ -276,24 +277,62 @@ impl Plain {
         true
     }
 
-    // Serves a queue: its messages are handed on, until none is left or one may not go.
+    // The number of messages on all queues.
+    fn count(&self) -> usize {
+        let mut count = 0usize;
+        for queue in &self.queues {
+            count = count.wrapping_add(queue.messages.len());
+        }
+        count
+    }
+
+    // Whether the first message of a queue needs a block, and none is free: each message has one.
+    fn holds_back(&self, queue: u8, way: Way) -> bool {
+        let Some(own) = self.queues.get(usize::from(queue)) else {
+            return false;
+        };
+        let Some(first) = own.messages.first() else {
+            return false;
+        };
+        way.needs(first) && self.count() == MESSAGES as usize
+    }
+
+    // Serves a queue: its messages are handed on, until none is left, one may not go, or one is held back. Then the queue is
+    // enabled again.
     fn serve(&mut self, rt: &impl Abort, queue: u8, way: Way) {
         let Some(next) = self.queue(rt, queue).next else {
             panic!(rt; "a last queue is enabled");
         };
         let waiting = self.queue(rt, queue).messages.len();
         for _message in 0..=waiting {
+            if self.holds_back(queue, way) {
+                self.enable(rt, queue);
+                return;
+            }
             if !self.hand_on(rt, queue, next, way) {
                 return;
             }
         }
     }
 
-    // Serves the queues on the run list until it is empty.
-    pub(super) fn run(&mut self, rt: &impl Abort, way: Way) {
+    // Whether each queue on the run list is held back.
+    fn is_at_rest(&self, way: Way) -> bool {
+        for queue in &self.run {
+            if !self.holds_back(*queue, way) {
+                return false;
+            }
+        }
+        true
+    }
+
+    // Serves the queues on the run list until each one is held back. Says whether there are any.
+    pub(super) fn run(&mut self, rt: &impl Abort, way: Way) -> bool {
         for _service in 0..SERVICES {
+            if self.is_at_rest(way) {
+                return !self.run.is_empty();
+            }
             if self.run.is_empty() {
-                return;
+                return false;
             }
             let queue = self.run.remove(0);
             self.serve(rt, queue, way);

@@ -1,9 +1,9 @@
-//! Compares lines with plain lists: each queue with its messages and marks, and the run list.
+//! Compares sides with plain lists: each queue with its messages and marks, and the run list.
 use super::making::kind_of;
 use super::plain::{Plain, Queue, Standing};
 use std::process::Abort;
 use strm_pool::{BandInfo, Pool, QueueInfo, QueuedInfo};
-use strm_scheduler::Lines;
+use strm_scheduler::Sides;
 
 // The message at a place of a queue is this one.
 fn assert_message(rt: &impl Abort, pool: &Pool, queue: u8, place: u32, wanted: &Standing) {
@@ -61,9 +61,9 @@ fn assert_run(rt: &impl Abort, pool: &Pool, run: &[u8]) {
     }
 }
 
-// Lines are as in the plain lists; of the bands, those up to the last one that is named are compared.
-pub(super) fn assert_same(rt: &impl Abort, lines: &Lines, plain: &Plain, last: u8) {
-    let pool = lines.pool();
+// Sides are as in the plain lists; of the bands, those up to the last one that is named are compared.
+pub(super) fn assert_same(rt: &impl Abort, sides: &Sides, plain: &Plain, last: u8) {
+    let pool = sides.pool();
     for (number, queue) in (0..u8::MAX).zip(plain.queues()) {
         let enabled = plain.enabled().contains(&number);
         assert_queue(rt, pool, number, queue, enabled);

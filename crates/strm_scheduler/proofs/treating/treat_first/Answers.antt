@@ -1,57 +1,74 @@
--- The first queue of the run list is there, and has a next queue. Its service keeps all queues awake, and leaves less work.
-use Rattle.std.proofs.Common.{subst}
+-- A service keeps all queues awake, and leaves less work. A queue that is held back is enabled again.
+use Rattle.std.proofs.Common.{ap, arith, inr, length, refl, subst, sym, zero, ◌∙◌}
 use Rattle.strm_pool.specs.PoolValue.{PoolValue}
+use Rattle.strm_scheduler.specs.Laws.{AreKeptAwake}
 use Rattle.strm_scheduler.specs.Modules.{IsQueueTreated}
-use Rattle.strm_scheduler.proofs.Finding.{answer_is, goes_on, next_is, refused_not}
-use Rattle.strm_scheduler.proofs.Treated.{falls_treated, serving_begun}
+use Rattle.strm_scheduler.proofs.Beginning.{falls_begun}
+use Rattle.strm_scheduler.proofs.Holding.{enabled_specs, kept_enabled, turned}
 use Rattle.strm_scheduler.proofs.treating.treat_first.Goals as goal
 
 pub unreachable-requires : goal.unreachable-requires
-unreachable-requires g c =
-    let first = answer_is _ _ _ c.next_service.ensures.answer c.in-Some.is in
-    refused_not c.args.pool.now c.next_service.new.self c.in-Some.queue c.next_service.ensures.after first c.lawful.ensures c.requires.lines c.queue_spec.result c.queue_spec.ensures
-    c.in_default-queue_spec.field-0 c.in_default-queue_spec.is
+unreachable-requires g c = omega (arith, c.requires.some, ap length (c.begin.ensures.idle c.in_default.is))
 
-pub unreachable-requires-in_default-next : goal.unreachable-requires-in_default-next
-unreachable-requires-in_default-next g c =
-    let first = answer_is _ _ _ c.next_service.ensures.answer c.in-Some.is in
-    goes_on c.args.pool.now c.next_service.new.self c.in-Some.queue c.next_service.ensures.after first c.lawful.ensures c.requires.lines c.in-Ok.spec c.in-Ok.ensures c.in_default-next.is
+-- ---- the queue is held back
+
+pub enable-requires : goal.enable-requires
+enable-requires g c = c.in-Some.ensures.begun.behind
+
+pub returns-then-is_held_back-clause-awake : goal.returns-then-is_held_back-clause-awake
+returns-then-is_held_back-clause-awake g c = subst AreKeptAwake (sym c.enable.ensures) (kept_enabled c.in-Some.queue c.in-Some.next c.begin.new.pool c.in-Some.ensures.begun.serving)
+
+pub returns-then-is_held_back-clause-treated : goal.returns-then-is_held_back-clause-treated
+returns-then-is_held_back-clause-treated g c =
+    let begun = c.in-Some.ensures.begun in
+    let m = c.args.handler.now in
+    let x = c.begin.new.pool in
+    let w = c.enable.new.pool in
+    record {
+      queue = c.in-Some.queue;
+      next = c.in-Some.next;
+      first = begun.first;
+      goes_on = begun.next;
+      treated = subst (λ (p : PoolValue). IsQueueTreated g.M.Module.needs g.M.Module.treats c.in-Some.queue c.in-Some.next m p m w) begun.after
+          (record {
+            count = zero;
+            last = x;
+            treated = (refl, refl);
+            ends = inr (c.is_held_back.ensures.held c.if-is_held_back.true, c.enable.ensures);
+            wishes = ap (λ (p : PoolValue). p.wishes) c.enable.ensures;
+          });
+    }
+
+pub returns-then-is_held_back-clause-turned : goal.returns-then-is_held_back-clause-turned
+returns-then-is_held_back-clause-turned g c =
+    λ none. turned g.M.Module.needs c.args.handler.now c.in-Some.queue c.in-Some.next c.args.pool.now c.begin.new.pool c.enable.new.pool c.in-Some.ensures.begun
+    (c.is_held_back.ensures.held c.if-is_held_back.true) c.enable.ensures
+
+pub returns-then-is_held_back-clause-specs : goal.returns-then-is_held_back-clause-specs
+returns-then-is_held_back-clause-specs g c =
+    ap (λ (p : PoolValue). p.queues.specs) c.enable.ensures ∙ enabled_specs c.in-Some.queue c.begin.new.pool ∙ ap (λ (p : PoolValue). p.queues.specs) c.in-Some.ensures.begun.after
+
+-- ---- it is served
 
 pub treat_queue-requires : goal.treat_queue-requires
-treat_queue-requires g c =
-    let v = c.args.pool.now in
-    let x = c.next_service.new.self in
-    let q = c.in-Some.queue in
-    let n = c.in-Some-next.next in
-    let after = c.next_service.ensures.after in
-    let first = answer_is _ _ _ c.next_service.ensures.answer c.in-Some.is in
-    let next = next_is v x q after first c.lawful.ensures c.requires.lines c.in-Ok.spec c.in-Ok.ensures n c.in-Some-next.is in
-    serving_begun v x q n after first c.lawful-2.ensures c.requires.lines c.requires.awake next
+treat_queue-requires g c = record {
+  serving = c.in-Some.ensures.begun.serving;
+  behind = c.in-Some.ensures.begun.behind;
+  met = c.is_held_back.ensures.met c.if-is_held_back.false;
+}
 
 pub returns-clause-falls : goal.returns-clause-falls
 returns-clause-falls g c =
-    let v = c.args.pool.now in
-    let x = c.next_service.new.self in
-    let q = c.in-Some.queue in
-    let n = c.in-Some-next.next in
-    let after = c.next_service.ensures.after in
-    let first = answer_is _ _ _ c.next_service.ensures.answer c.in-Some.is in
-    let next = next_is v x q after first c.lawful.ensures c.requires.lines c.in-Ok.spec c.in-Ok.ensures n c.in-Some-next.is in
-    λ some. falls_treated v x q n after first c.lawful-2.ensures c.requires.lines c.requires.awake next c.treat_queue.new.pool c.treat_queue.ensures.specs c.lawful-3.ensures c.treat_queue.ensures.falls
+    λ some. falls_begun c.args.pool.now c.begin.new.pool c.in-Some.queue c.in-Some.next c.in-Some.ensures.begun c.treat_queue.new.pool c.treat_queue.ensures.specs c.lawful.ensures c.treat_queue.ensures.falls
 
 pub returns-clause-treated : goal.returns-clause-treated
 returns-clause-treated g c =
-    let v = c.args.pool.now in
-    let x = c.next_service.new.self in
-    let q = c.in-Some.queue in
-    let n = c.in-Some-next.next in
-    let after = c.next_service.ensures.after in
-    let first = answer_is _ _ _ c.next_service.ensures.answer c.in-Some.is in
-    let next = next_is v x q after first c.lawful.ensures c.requires.lines c.in-Ok.spec c.in-Ok.ensures n c.in-Some-next.is in
-    λ some. record {
-      queue = q;
-      next = n;
-      first = first;
-      goes_on = next;
-      treated = subst (λ (p : PoolValue). IsQueueTreated g.M.Module.treats q n c.args.handler.now p c.treat_queue.new.handler c.treat_queue.new.pool) after c.treat_queue.ensures.treated;
+    let begun = c.in-Some.ensures.begun in
+    record {
+      queue = c.in-Some.queue;
+      next = c.in-Some.next;
+      first = begun.first;
+      goes_on = begun.next;
+      treated = subst (λ (p : PoolValue). IsQueueTreated g.M.Module.needs g.M.Module.treats c.in-Some.queue c.in-Some.next c.args.handler.now p c.treat_queue.new.handler c.treat_queue.new.pool) begun.after
+          c.treat_queue.ensures.treated;
     }

@@ -4,29 +4,29 @@ use Rattle.strm_scheduler.proofs.Treated.{awake_ended, less_taken, next_there, q
 use Rattle.strm_scheduler.proofs.treating.treat_one.Goals as goal
 
 pub take_allowed-requires-clause-apart : goal.take_allowed-requires-clause-apart
-take_allowed-requires-clause-apart g c = q_apart c.args.queue c.args.next c.args.pool.now c.lawful.ensures c.requires
+take_allowed-requires-clause-apart g c = q_apart c.args.queue c.args.next c.args.pool.now c.lawful.ensures c.requires.serving
 
 pub take_allowed-requires-clause-ahead : goal.take_allowed-requires-clause-ahead
-take_allowed-requires-clause-ahead g c = next_there c.args.queue c.args.next c.args.pool.now c.lawful.ensures c.requires
+take_allowed-requires-clause-ahead g c = next_there c.args.queue c.args.next c.args.pool.now c.lawful.ensures c.requires.serving
 
 pub returns-in_default-clause-awake : goal.returns-in_default-clause-awake
 returns-in_default-clause-awake g c =
-    λ none. awake_ended c.args.queue c.args.next c.args.pool.now c.lawful.ensures c.requires c.take_allowed.new.pool c.in_default.ensures.takes c.take_allowed.ensures.rest.specs
+    λ none. awake_ended c.args.queue c.args.next c.args.pool.now c.lawful.ensures c.requires.serving c.take_allowed.new.pool c.in_default.ensures.takes c.take_allowed.ensures.rest.specs
 
 pub returns-in_default-clause-same : goal.returns-in_default-clause-same
-returns-in_default-clause-same g c = λ none. weigh_ended c.args.queue c.args.next c.args.pool.now c.lawful.ensures c.requires c.take_allowed.new.pool c.in_default.ensures.takes
+returns-in_default-clause-same g c = λ none. weigh_ended c.args.queue c.args.next c.args.pool.now c.lawful.ensures c.requires.serving c.take_allowed.new.pool c.in_default.ensures.takes
 
 pub returns-in_default-clause-run : goal.returns-in_default-clause-run
-returns-in_default-clause-run g c = λ none. run_ended c.args.queue c.args.next c.args.pool.now c.lawful.ensures c.requires c.take_allowed.new.pool c.in_default.ensures.takes
+returns-in_default-clause-run g c = λ none. run_ended c.args.queue c.args.next c.args.pool.now c.lawful.ensures c.requires.serving c.take_allowed.new.pool c.in_default.ensures.takes
 
 pub pass_on-requires-clause-serving : goal.pass_on-requires-clause-serving
 pass_on-requires-clause-serving g c =
-    serving_taken c.args.queue c.args.next c.args.pool.now c.lawful.ensures c.requires c.in-Some.token c.take_allowed.new.pool c.in-Some.ensures.takes
+    serving_taken c.args.queue c.args.next c.args.pool.now c.lawful.ensures c.requires.serving c.in-Some.token c.take_allowed.new.pool c.in-Some.ensures.takes
 
 pub returns-clause-less : goal.returns-clause-less
 returns-clause-less g c =
-    λ some. less_taken c.args.queue c.args.next c.args.pool.now c.lawful.ensures c.requires c.in-Some.token c.take_allowed.new.pool c.in-Some.ensures.takes _ c.pass_on.ensures.more
+    λ some. less_taken c.args.queue c.args.next c.args.pool.now c.lawful.ensures c.requires.serving c.in-Some.token c.take_allowed.new.pool c.in-Some.ensures.takes _ c.pass_on.ensures.more
 
 pub pass_on-requires-clause-ahead : goal.pass_on-requires-clause-ahead
 pass_on-requires-clause-ahead g c =
-    there_still c.args.pool.now c.take_allowed.new.pool c.args.next c.take_allowed.ensures.rest (next_there c.args.queue c.args.next c.args.pool.now c.lawful.ensures c.requires)
+    there_still c.args.pool.now c.take_allowed.new.pool c.args.next c.take_allowed.ensures.rest (next_there c.args.queue c.args.next c.args.pool.now c.lawful.ensures c.requires.serving)

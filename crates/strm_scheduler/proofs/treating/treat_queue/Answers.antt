@@ -1,35 +1,71 @@
 -- One more message was treated. Where the service ends, messages have moved, or nothing has changed before.
-use Rattle.std.proofs.Common.{suc, zero, refl, sym, ◌∙◌, inl, inr, subst}
-use Rattle.strm_scheduler.specs.Modules.{AreTreated}
+use Rattle.std.proofs.Common.{ap, arith, inl, inr, refl, subst, suc, sym, zero, ◌∙◌}
+use Rattle.strm_pool.specs.PoolValue.{PoolValue}
+use Rattle.strm_scheduler.specs.Laws.{AreKeptAwake}
+use Rattle.strm_scheduler.specs.Modules.{AreTreated, IsMet}
+use Rattle.strm_scheduler.specs.Work.{weigh}
+use Rattle.strm_scheduler.proofs.Holding.{enabled_specs, kept_enabled, there_same}
 use Rattle.strm_scheduler.proofs.Treated.{falls_ended, moved_more}
 use Rattle.strm_scheduler.proofs.treating.treat_queue.Goals as goal
 
-pub loop-init : goal.loop-init
-loop-init g c = record { serving = c.requires; treated = (zero, (refl, refl)); moved = inl refl; specs = refl }
+pub loop-pool-init : goal.loop-pool-init
+loop-pool-init g c = record { serving = c.requires.serving; met = c.requires.met; treated = (zero, (refl, refl)); moved = inl refl; specs = refl }
 
-pub loop-preserved : goal.loop-preserved
-loop-preserved g c =
-    let before = c.loop.invariant in
-    let step = c.loop-test.ensures in
+pub loop-pool-preserved : goal.loop-pool-preserved
+loop-pool-preserved g c =
+    let before = c.loop-pool.invariant in
+    let step = c.loop-pool-test.ensures in
     record {
       serving = step.serving refl;
-      treated = (suc before.treated.0, (c.loop.handler, c.loop.pool, before.treated.1, step.treated refl));
-      moved = inr (moved_more c.args.pool.now c.loop.pool c.treat_one.new.pool before.moved (step.less refl));
+      met = c.is_held_back.ensures.met c.if-is_held_back.false;
+      treated = (suc before.treated.0, (c.loop-pool.handler, c.loop-pool.pool, before.treated.1, step.treated refl));
+      moved = inr (moved_more c.args.pool.now c.loop-pool.pool c.treat_one.new.pool before.moved (step.less refl));
       specs = step.specs ∙ before.specs;
     }
 
+-- ---- a message is held back
+
+pub enable-requires : goal.enable-requires
+enable-requires g c = there_same c.args.queue c.args.pool.now c.treat_one.new.pool (c.loop-pool-test.ensures.specs ∙ c.loop-pool.invariant.specs) c.requires.behind
+
+pub returns-then-is_held_back-clause-awake : goal.returns-then-is_held_back-clause-awake
+returns-then-is_held_back-clause-awake g c = subst AreKeptAwake (sym c.enable.ensures) (kept_enabled c.args.queue c.args.next c.treat_one.new.pool (c.loop-pool-test.ensures.serving refl))
+
+pub returns-then-is_held_back-clause-treated : goal.returns-then-is_held_back-clause-treated
+returns-then-is_held_back-clause-treated g c =
+    let before = c.loop-pool.invariant in
+    record {
+      count = suc before.treated.0;
+      last = c.treat_one.new.pool;
+      treated = (c.loop-pool.handler, c.loop-pool.pool, before.treated.1, c.loop-pool-test.ensures.treated refl);
+      ends = inr (c.is_held_back.ensures.held c.if-is_held_back.true, c.enable.ensures);
+      wishes = ap (λ (p : PoolValue). p.wishes) c.enable.ensures;
+    }
+
+pub returns-then-is_held_back-clause-falls : goal.returns-then-is_held_back-clause-falls
+returns-then-is_held_back-clause-falls g c =
+    let less = moved_more c.args.pool.now c.loop-pool.pool c.treat_one.new.pool c.loop-pool.invariant.moved (c.loop-pool-test.ensures.less refl) in
+    inl (omega (arith, less, ap (λ (p : PoolValue). weigh p.arena.shelves) c.enable.ensures))
+
+pub returns-then-is_held_back-clause-specs : goal.returns-then-is_held_back-clause-specs
+returns-then-is_held_back-clause-specs g c =
+    ap (λ (p : PoolValue). p.queues.specs) c.enable.ensures ∙ enabled_specs c.args.queue c.treat_one.new.pool ∙ c.loop-pool-test.ensures.specs ∙ c.loop-pool.invariant.specs
+
+-- ---- none is left, or one may not go
+
 pub returns-clause-treated : goal.returns-clause-treated
 returns-clause-treated g c =
-    let before = c.loop.invariant in
-    let step = c.loop-test.ensures in
+    let before = c.loop-pool.invariant in
+    let step = c.loop-pool-test.ensures in
+    let same = sym (step.rest refl).0 in
     record {
       count = before.treated.0;
-      last = c.loop.pool;
-      treated = subst (λ k. AreTreated g.M.Module.treats c.args.queue c.args.next before.treated.0 c.args.handler.now c.args.pool.now k c.loop.pool) (sym (step.rest refl).0) before.treated.1;
-      ends = step.ends refl;
+      last = c.loop-pool.pool;
+      treated = subst (λ k. AreTreated g.M.Module.needs g.M.Module.treats c.args.queue c.args.next before.treated.0 c.args.handler.now c.args.pool.now k c.loop-pool.pool) same before.treated.1;
+      ends = inl (subst (λ k. IsMet g.M.Module.needs k c.args.queue c.loop-pool.pool) same before.met, step.ends refl);
       wishes = (step.rest refl).1;
     }
 
 pub returns-clause-falls : goal.returns-clause-falls
 returns-clause-falls g c =
-    falls_ended c.args.queue c.args.pool.now c.loop.pool c.treat_one.new.pool c.loop.invariant.moved (c.loop-test.ensures.same refl) (c.loop-test.ensures.run refl)
+    falls_ended c.args.queue c.args.pool.now c.loop-pool.pool c.treat_one.new.pool c.loop-pool.invariant.moved (c.loop-pool-test.ensures.same refl) (c.loop-pool-test.ensures.run refl)

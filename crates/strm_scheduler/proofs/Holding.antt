@@ -1,0 +1,169 @@
+-- Queues that are held back: each is enabled again, so all queues stay awake, and a run ends once all on the run list are held back.
+use Rattle.std.proofs.Common.{◌≡◌, ℕ, zero, suc, ◌+◌, ◌<◌, ◌≤◌, inl, inr, true, false, not, ◌&&◌, List, [], ◌∷◌, ◌++◌, drop, length, Some, refl, sym, ap, ◌∙◌, subst, arith, append-nil, append_assoc, length-append, if◌then◌else◌}
+use Rattle.std.specs.Prelude.{is_some, nat_lt, slice_get}
+use Rattle.std.specs.List.{All}
+use Rattle.std.proofs.lemmas.Bool.{cases_eq, false≢true}
+use Rattle.std.proofs.lemmas.List.Elements.{All-nil, All-push, All-same, All-weaker}
+use Rattle.strm_links.specs.Rows as rows
+use Rattle.strm_mblk.specs.BlockCalls.{testb}
+use Rattle.strm_pool.specs.PoolValue.{PoolValue, has_queue, queued_blocks_of}
+use Rattle.strm_queue.specs.declared.queue_spec.QueueSpec.{QueueSpec}
+use Rattle.strm_queue.specs.Flow.{QueueState, flags_at, spec_at, with_enabled}
+use Rattle.strm_queue.specs.Limits.{most_queues}
+use Rattle.strm_queue.specs.QueueLooks.{queued_at}
+use Rattle.strm_scheduler.specs.Awake.{is_awake}
+use Rattle.strm_scheduler.specs.Holding.{AreLastHeldBack, IsTurned, with_run, work_left}
+use Rattle.strm_scheduler.specs.Laws.{AreKeptAwake}
+use Rattle.strm_scheduler.specs.Modules.{AreHeldBack, IsHeldBack, Needs, with_queue_enabled}
+use Rattle.strm_scheduler.specs.Serving.{IsBegun, IsServing}
+use Rattle.strm_scheduler.specs.Sides.{AreSides, next_of}
+use Rattle.strm_scheduler.specs.Work.{most_powers, powers, times_of, weigh, work}
+use Rattle.strm_scheduler.proofs.Falling.{powers-append, times_of_le}
+use Rattle.strm_scheduler.proofs.Keeping.{awake_grown, awake_on_run}
+use Rattle.strm_scheduler.proofs.Waking.{enabled_grows, enabled_on}
+
+-- ---- a queue is enabled
+
+-- queues with the same specs exist alike
+pub there_same : (q : ℕ) (v w : PoolValue) → w.queues.specs ≡ v.queues.specs → has_queue v q ≡ true → has_queue w q ≡ true
+there_same q v w specs there = ap (λ (s : List QueueSpec). nat_lt q (length s)) specs ∙ there
+
+pub enabled_specs : (q : ℕ) (v : PoolValue) → (with_queue_enabled q v).queues.specs ≡ v.queues.specs
+enabled_specs q v = ap (λ (s : QueueState). s.specs) (enabled_grows q v.queues).alone
+
+-- the queue that is being served is enabled
+module _ (q n : ℕ) (v : PoolValue) (s : IsServing q n v) where
+  serves : (spec_at v.queues.specs q).service ≡ true
+  serves = s.sides q ∙ ap is_some s.next
+
+  pub kept_enabled : AreKeptAwake (with_queue_enabled q v)
+  kept_enabled =
+      let grows = enabled_grows q v.queues in
+      record {
+        sides = subst AreSides (sym (enabled_specs q v)) s.sides;
+        awake = λ p t is.
+            let next : next_of v.queues.specs p ≡ Some t = sym (ap (λ (u : QueueState). next_of u.specs p) grows.alone) ∙ is in
+            elim (cases_eq p q) [
+              | inl same ↦
+                  subst (λ k. is_awake (queued_blocks_of (with_queue_enabled q v)) k t ≡ true) (sym same)
+                  (awake_on_run (queued_blocks_of (with_queue_enabled q v)) q t (ap (λ (u : QueueState). (flags_at u q).noenable) grows.alone ∙ s.off) (enabled_on q v.queues serves))
+              | inr other ↦ awake_grown (queued_blocks_of v) (with_enabled q v.queues) grows p t (s.others p t other next)
+            ];
+      }
+
+  -- it is the last one of the run list then
+  pub enabled_last : rows.has q v.queues.run ≡ false → with_queue_enabled q v ≡ with_run (v.queues.run ++ q ∷ []) v
+  enabled_last once = λ i.
+      let t : QueueState = if serves i && not (once i) then record v.queues { run = v.queues.run ++ q ∷ [] } else v.queues in
+      record v { queues = t }
+
+-- ---- what is held back stays so while only the run list changes
+
+module _ {M : Type 0} (needs : Needs M) (m : M) where
+  pub held_alike : (q : ℕ) (v w : PoolValue) → w.queues.specs ≡ v.queues.specs → w.arena ≡ v.arena → IsHeldBack needs m q v → IsHeldBack needs m q w
+  held_alike q v w specs arena held = record {
+    first = held.first;
+    found = (λ i. queued_at q 0 (record { queues = record w.queues { specs = specs i }; arena = arena i })) ∙ held.found;
+    size = held.size;
+    needed = held.needed;
+    none = ap (testb held.size) arena ∙ held.none;
+  }
+
+  -- the first queue of the run list of v left it, is held back, and was enabled again
+  pub turned : (q n : ℕ) (v x w : PoolValue) → IsBegun q n v x → IsHeldBack needs m q x → w ≡ with_queue_enabled q x → IsTurned needs m v m w
+  turned q n v x w begun held after =
+      let last : w ≡ with_run (x.queues.run ++ q ∷ []) x = after ∙ enabled_last q n x begun.serving begun.once in
+      record {
+        queue = q;
+        rest = x.queues.run;
+        run = begun.run;
+        after = last ∙ ap (with_run (x.queues.run ++ q ∷ [])) begun.after;
+        held = held_alike q x w (ap (λ (p : PoolValue). p.queues.specs) last) (ap (λ (p : PoolValue). p.arena) last) held;
+        same = refl;
+      }
+
+  -- ---- the last queues of the run list
+
+  pub last_none : (v : PoolValue) → AreLastHeldBack needs m 0 v
+  last_none v = record {
+    front = v.queues.run;
+    back = [];
+    run = sym (append-nil v.queues.run);
+    count_is = refl;
+    held = All-nil (λ q. IsHeldBack needs m q v);
+  }
+
+  -- one more is held back
+  pub last_more : (k : M) (v w : PoolValue) (count : ℕ) → count < length v.queues.run → AreLastHeldBack needs m count v → IsTurned needs m v k w → AreLastHeldBack needs k (count + 1) w
+  last_more k v w count few before step = subst (λ (l : M). AreLastHeldBack needs l (count + 1) w) (sym step.same) (by_front before.front before.run)
+    where
+      here : IsHeldBack needs m step.queue w
+      here = subst (λ (l : M). IsHeldBack needs l step.queue w) step.same step.held
+
+      all : All (λ q. IsHeldBack needs m q w) (before.back ++ step.queue ∷ [])
+      all =
+          All-push (λ q. IsHeldBack needs m q w) before.back step.queue
+          (All-weaker (λ q. IsHeldBack needs m q v) (λ q. IsHeldBack needs m q w)
+          (λ q held. held_alike q v w (ap (λ (p : PoolValue). p.queues.specs) step.after) (ap (λ (p : PoolValue). p.arena) step.after) held) before.back before.held)
+          here
+
+      by_front : (front : List ℕ) → v.queues.run ≡ front ++ before.back → AreLastHeldBack needs m (count + 1) w
+      by_front [] is = absurd (omega (arith, few, ap length is, before.count_is))
+      by_front (p ∷ front) is =
+          let rest : step.rest ≡ front ++ before.back = ap (drop 1) (sym step.run ∙ is) in
+          record {
+            front = front;
+            back = before.back ++ step.queue ∷ [];
+            run = ap (λ (x : PoolValue). x.queues.run) step.after ∙ ap (λ (qs : List ℕ). qs ++ step.queue ∷ []) rest ∙ append_assoc front before.back (step.queue ∷ []);
+            count_is = omega (arith, length-append before.back (step.queue ∷ []), before.count_is);
+            held = all;
+          }
+
+  -- if there are no others, each queue on the run list is held back
+  pub last_all : (v : PoolValue) (count : ℕ) → length v.queues.run ≤ count → AreLastHeldBack needs m count v → AreHeldBack needs m v × (length v.queues.run ≡ count)
+  last_all v count few last = by_front last.front last.run
+    where
+      by_front : (front : List ℕ) → v.queues.run ≡ front ++ last.back → AreHeldBack needs m v × (length v.queues.run ≡ count)
+      by_front [] is = (All-same (λ q. IsHeldBack needs m q v) v.queues.run last.back is last.held, ap length is ∙ last.count_is)
+      by_front (p ∷ front) is = absurd (omega (arith, few, ap length is, length-append front last.back, last.count_is))
+
+-- ---- places of the run list
+
+pub place_within : (xs : List ℕ) (k : ℕ) → is_some (slice_get xs k) ≡ true → k < length xs
+place_within [] k there = absurd (false≢true there)
+place_within (x ∷ xs) zero there = omega arith
+place_within (x ∷ xs) (suc k) there = let rest = place_within xs k there in omega (arith, rest)
+
+pub place_past : (xs : List ℕ) (k : ℕ) → is_some (slice_get xs k) ≡ false → length xs ≤ k
+place_past [] k past = omega arith
+place_past (x ∷ xs) zero past = absurd (false≢true (sym past))
+place_past (x ∷ xs) (suc k) past = let rest = place_past xs k past in omega (arith, rest)
+
+pub none_long : (xs : List ℕ) → length xs ≡ 0 → xs ≡ []
+none_long [] is = refl
+none_long (x ∷ xs) is = absurd (omega (arith, is))
+
+-- ---- the work falls
+
+-- the run list is turned: the work is the same, and one queue fewer is left to find held back
+turned_work : {M : Type 0} (needs : Needs M) (m k : M) (v w : PoolValue) → IsTurned needs m v k w → work (queued_blocks_of w) ≡ work (queued_blocks_of v)
+unfolding work
+turned_work needs m k v w step =
+    let joined = powers-append step.rest (step.queue ∷ []) in
+    let same : powers (step.rest ++ step.queue ∷ []) ≡ powers (step.queue ∷ step.rest) = omega (arith, joined) in
+    ap (λ (p : PoolValue). work (queued_blocks_of p)) step.after
+    ∙ ap (λ k. times_of (weigh v.arena.shelves) (most_powers (length v.queues.specs)) + k) (same ∙ ap powers (sym step.run))
+
+pub turned_left : {M : Type 0} (needs : Needs M) (m k : M) (v w : PoolValue) (held : ℕ) → IsTurned needs m v k w → held < length v.queues.run → work_left w (held + 1) < work_left v held
+turned_left needs m k v w held step few =
+    let same = ap (λ left. times_of left (suc most_queues)) (turned_work needs m k v w step) in
+    let long = ap (λ (p : PoolValue). length p.queues.run) step.after in
+    let joined = length-append step.rest (step.queue ∷ []) in
+    let before = ap length step.run in
+    omega (arith, few, same, long, joined, before)
+
+-- a queue was served
+pub served_left : (v w : PoolValue) (held : ℕ) → work (queued_blocks_of w) < work (queued_blocks_of v) → length w.queues.run ≤ most_queues → work_left w 0 < work_left v held
+served_left v w held less short =
+    let fewer = times_of_le (suc (work (queued_blocks_of w))) (work (queued_blocks_of v)) (suc most_queues) less in
+    omega (arith, short, fewer)

@@ -1,7 +1,0 @@
--- The queue is the last of its line.
-use Rattle.strm_scheduler.proofs.Kept.{getq_kept}
-use Rattle.strm_scheduler.proofs.lines.Lines.take.Goals as goal
-
-pub invariant_of-self : goal.invariant_of-self
-invariant_of-self c =
-    getq_kept c.self.inside.pool c.lawful.ensures c.self.invariant c.args.queue c.in_ok-spec.spec c.in_ok-spec.ensures c.if-is_some.ensures c.getq.new.self c.getq.ensures.after
