@@ -14,8 +14,10 @@
 static union {
 	uint8_t byte;
 	struct strm_block_info block;
+	struct strm_class_spec class_spec;
 	struct strm_iov iov;
 	struct strm_msg msg;
+	struct strm_queue_spec queue_spec;
 } nothing;
 
 /* The text of each code, as the crate has it. tests/c/each.c compares them. */
@@ -95,6 +97,24 @@ static int is_count(const size_t *count, const void *items, size_t length)
 	return count != NULL && (length == 0 || items != (const void *)count);
 }
 
+/* Whether a configuration has arrays of no more classes and queues than a pool can have. */
+static int is_config(const struct strm_config *config)
+{
+	return config != NULL && config->class_count <= STRM_MOST_CLASSES && config->queue_count <= STRM_MOST_QUEUES
+		&& is_array(config->classes, config->class_count, sizeof *config->classes)
+		&& is_array(config->queues, config->queue_count, sizeof *config->queues);
+}
+
+static const struct strm_class_spec *classes_of(const struct strm_config *config)
+{
+	return config->class_count == 0 ? &nothing.class_spec : config->classes;
+}
+
+static const struct strm_queue_spec *queues_of(const struct strm_config *config)
+{
+	return config->queue_count == 0 ? &nothing.queue_spec : config->queues;
+}
+
 /* Puts a 0 after what was copied of a text, or over the last byte of a full buffer. Returns the length of the whole text. */
 static size_t ended(char *text, size_t length, size_t whole)
 {
@@ -110,20 +130,22 @@ int strm_is_open(const struct strm_pool *pool)
 
 int strm_open(struct strm_pool *pool, const struct strm_config *config)
 {
-	/* addresses for slices without items */
-	static const struct strm_class_spec no_class = { 0, 0 };
-	static const struct strm_queue_spec no_queue = { 0, 0, 0, 0 };
-
 	if (pool == NULL)
 		return STRM_NOT_OPEN;
 	if (is_open(pool))
 		return STRM_IS_OPEN;
-	if (config == NULL || config->class_count > STRM_MOST_CLASSES || config->queue_count > STRM_MOST_QUEUES
-	    || !is_buffer(config->classes, config->class_count) || !is_buffer(config->queues, config->queue_count))
+	if (!is_config(config))
 		return STRM_BAD_ARGUMENT;
-	return strm_c_open(pool, config->id, config->mblks, config->class_count == 0 ? &no_class : config->classes,
-		config->class_count, config->queue_count == 0 ? &no_queue : config->queues, config->queue_count, config->bufcalls,
-		config->first_id);
+	return strm_c_open(pool, config->id, config->mblks, classes_of(config), config->class_count, queues_of(config),
+		config->queue_count, config->bufcalls, config->first_id);
+}
+
+int strm_memory(const struct strm_config *config, size_t *bytes)
+{
+	if (!is_config(config) || bytes == NULL)
+		return STRM_BAD_ARGUMENT;
+	return strm_c_memory(config->id, config->mblks, classes_of(config), config->class_count, queues_of(config),
+		config->queue_count, config->bufcalls, config->first_id, bytes);
 }
 
 int strm_close(struct strm_pool *pool)

@@ -123,14 +123,18 @@
  *     else writes to these objects. Where the call writes, nothing else reads, and what it writes
  *     overlaps nothing else that it is given.
  *   - A call may write to its handle, even a look. So a handle is passed to one call at a time.
- *     Threads that share a pool hold a lock of their own during each call. Different pools may be
- *     used at the same time.
+ *     Threads that share a pool hold a lock of their own during each call. Without it, calls that
+ *     meet often end the program by SIGILL, or they damage the pool unnoticed. ThreadSanitizer
+ *     seldom reports them, since the library has no instrumentation. Different pools may be used at
+ *     the same time.
  *   - Nothing is written through a pointer that strm_bytes or strm_iov returns. Nothing is read
  *     through it once a call that is no look was made with that pool; a look leaves it good. It is
  *     passed to no call with the same pool, such as strm_write: copy the bytes by strm_read first.
  *     A call with another pool may get it.
  *   - No call is made from a signal handler. An interrupt handler makes calls only while no other
  *     call runs.
+ *   - Calls use SSE registers. Code that may not, as in most kernels, saves these before a call and
+ *     restores them after it.
  *   - A call runs to its end. No signal handler leaves it by siglongjmp, and no thread in it is
  *     cancelled.
  *   - A handle is not in memory that processes share.
@@ -417,7 +421,7 @@ int strm_iov_(struct strm_pool *pool, struct strm_msg msg, uint32_t from, struct
 
 /*
  * Opens a pool, with all blocks free and all queues empty. It allocates all memory, 68 MB for the
- * largest pool, and copies the configuration. It uses 11 KB of stack, far more than other calls.
+ * largest pool, and copies the configuration. It uses 13 KB of stack, far more than other calls.
  * The fields `classes` and `queues` may be null if their count is 0. A count of 0 is refused as
  * STRM_BAD_CLASSES or STRM_BAD_QUEUES, a count above its limit as STRM_BAD_ARGUMENT. The first id
  * must be above 0 even if `bufcalls` is 0.
@@ -426,6 +430,15 @@ int strm_iov_(struct strm_pool *pool, struct strm_msg msg, uint32_t from, struct
  * open handle is unchanged, and any other stays closed.
  */
 int strm_open(struct strm_pool *pool, const struct strm_config *config);
+
+/*
+ * Sets *bytes to the number of bytes that strm_open allocates for this configuration: the sum of
+ * what it asks of malloc, in at most 32 calls of it. What malloc itself adds is not counted. This
+ * call allocates nothing.
+ * Refused as STRM_BAD_ARGUMENT, or the first fault from STRM_BAD_MBLKS to STRM_BAD_FIRST_ID, as by
+ * strm_open.
+ */
+int strm_memory(const struct strm_config *config, size_t *bytes);
 
 /*
  * Closes a pool, and frees its memory, messages and wishes. It does not report messages that are

@@ -85,6 +85,8 @@ STRM_CALLS(STRM_DECLARE)
 /* The calls that strm.c writes out. */
 int32_t strm_c_open(struct strm_pool *pool, uint32_t id, uint32_t mblks, const struct strm_class_spec *classes, size_t class_count,
 	const struct strm_queue_spec *queues, size_t queue_count, uint32_t bufcalls, uint32_t first_id);
+int32_t strm_c_memory(uint32_t id, uint32_t mblks, const struct strm_class_spec *classes, size_t class_count,
+	const struct strm_queue_spec *queues, size_t queue_count, uint32_t bufcalls, uint32_t first_id, size_t *bytes);
 int32_t strm_c_close(struct strm_pool *pool);
 int32_t strm_c_freeb(struct strm_pool *pool, struct strm_msg msg, struct strm_msg *rest);
 int32_t strm_c_unlinkb(struct strm_pool *pool, struct strm_msg msg, struct strm_msg *rest);

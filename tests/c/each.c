@@ -35,10 +35,11 @@ static struct strm_pool opened(uint32_t mblks)
 
 /* ---- opening */
 
-/* A configuration is refused, and the handle is not open then, whatever it was before. */
+/* A configuration is refused, also by strm_memory, and the handle is not open then, whatever it was before. */
 static void refuse(const struct strm_config *config, int code)
 {
 	struct strm_pool pool = STRM_POOL_INIT, unset;
+	size_t bytes = 77;
 
 	ANSWERS(strm_open(&pool, config), code);
 	CHECK(!strm_is_open(&pool));
@@ -46,6 +47,8 @@ static void refuse(const struct strm_config *config, int code)
 	memset(&unset, 0xA5, sizeof unset);
 	ANSWERS(strm_open(&unset, config), code);
 	CHECK(!strm_is_open(&unset));
+	ANSWERS(strm_memory(config, &bytes), code);
+	CHECK(bytes == 77);
 }
 
 static void refuse_classes(uint32_t size, uint32_t count, uint32_t size_behind, uint32_t count_behind, int code)
@@ -142,6 +145,7 @@ static void test_largest(void)
 	struct strm_config config = config_of(STRM_MOST_MBLKS);
 	struct strm_msg msg;
 	uint32_t i;
+	size_t bytes;
 
 	for (i = 0; i < STRM_MOST_CLASSES; i++) {
 		eight[i].size = STRM_MOST_DATA_BYTES - 7 + i;
@@ -159,6 +163,9 @@ static void test_largest(void)
 	config.queue_count = STRM_MOST_QUEUES;
 	config.bufcalls = STRM_MOST_WISHES;
 	config.first_id = 0xFFFFFFFFu;
+	/* which the pages call 68 MB; refused.c compares smaller ones with what malloc is asked for */
+	ANSWERS(strm_memory(&config, &bytes), STRM_OK);
+	CHECK(67500000 < bytes && bytes < 68500000);
 	ANSWERS(strm_open(&pool, &config), STRM_OK);
 	for (i = 0; i < STRM_MOST_MBLKS; i++) {
 		if (strm_allocb(&pool, 1, &msg) != STRM_OK || (i % 2 == 0 && strm_putq(&pool, i % STRM_MOST_QUEUES, msg) != STRM_OK))

@@ -8,7 +8,7 @@
 
 /* All memory that there is, which malloc hands out once from front to back. */
 static unsigned char memory[1 << 18] __attribute__((aligned(16)));
-static size_t taken;
+static size_t taken, calls;
 
 void *malloc(size_t size);
 void *realloc(void *block, size_t size);
@@ -24,6 +24,7 @@ void *malloc(size_t size)
 
 	if (size > sizeof memory - at)
 		return NULL;
+	calls++;
 	taken = at + size;
 	return (unsigned char *)memory + at;
 }
@@ -89,6 +90,9 @@ static int run(void)
 	config.queues = queues;
 	if (strm_open(&pool, &config) != STRM_OK)
 		return 1;
+	/* what this malloc adds is at most 15 bytes for each call */
+	if (strm_memory(&config, &count) != STRM_OK || taken < count || taken > count + 15 * calls || calls > 32)
+		return 9;
 	if (strm_allocb(&pool, 4, &msg) != STRM_OK || strm_write(&pool, msg, 0, "lion", 4) != STRM_OK)
 		return 2;
 	if (strm_putq(&pool, 0, msg) != STRM_OK || strm_getq(&pool, 0, &msg) != STRM_OK)

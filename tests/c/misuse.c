@@ -579,28 +579,38 @@ static void test_arguments(void)
 	ANSWERS(strm_close(pool), STRM_OK);
 }
 
-static void test_configurations(void)
+/* A configuration is refused by both calls that take one. */
+static void refuse(const struct strm_config *config, int code)
 {
 	struct strm_pool pool = STRM_POOL_INIT;
+	size_t bytes = 77;
+
+	ANSWERS(strm_open(&pool, config), code);
+	ANSWERS(strm_memory(config, &bytes), code);
+	ANSWERS(strm_memory(config, NULL), STRM_BAD_ARGUMENT);
+	CHECK(!strm_is_open(&pool) && bytes == 77);
+}
+
+static void test_configurations(void)
+{
 	struct strm_config config;
 
-	ANSWERS(strm_open(&pool, NULL), STRM_BAD_ARGUMENT);
+	refuse(NULL, STRM_BAD_ARGUMENT);
 	memset(&config, 0, sizeof config);
 	config.class_count = 1;
-	ANSWERS(strm_open(&pool, &config), STRM_BAD_ARGUMENT);
+	refuse(&config, STRM_BAD_ARGUMENT);
 	config.classes = classes;
 	config.queue_count = 1;
-	ANSWERS(strm_open(&pool, &config), STRM_BAD_ARGUMENT);
+	refuse(&config, STRM_BAD_ARGUMENT);
 	config.queues = queues;
-	ANSWERS(strm_open(&pool, &config), STRM_BAD_MBLKS);
+	refuse(&config, STRM_BAD_MBLKS);
 	config.class_count = STRM_MOST_CLASSES + 1;
-	ANSWERS(strm_open(&pool, &config), STRM_BAD_ARGUMENT);
+	refuse(&config, STRM_BAD_ARGUMENT);
 	config.class_count = (size_t)-1;
-	ANSWERS(strm_open(&pool, &config), STRM_BAD_ARGUMENT);
+	refuse(&config, STRM_BAD_ARGUMENT);
 	config.class_count = 1;
 	config.queue_count = STRM_MOST_QUEUES + 1;
-	ANSWERS(strm_open(&pool, &config), STRM_BAD_ARGUMENT);
-	CHECK(!strm_is_open(&pool));
+	refuse(&config, STRM_BAD_ARGUMENT);
 }
 
 int main(void)

@@ -1,7 +1,7 @@
 /*
  * strm_open, if one of its allocations is refused, each in turn: it answers STRM_NO_MEMORY and keeps no memory. No other call allocates, and
- * strm_close frees all memory. The linker puts the three functions below between the library and malloc, realloc and free. The last line is
- * as in each.c.
+ * strm_close frees all memory. strm_open allocates as many bytes as strm_memory returns. The linker puts the three functions below between
+ * the library and malloc, realloc and free. The last line is as in each.c.
  */
 #include "check.h"
 
@@ -9,6 +9,9 @@
 
 /* How many blocks of memory were asked for, which of them is refused, counted from 1, and how many are not freed. */
 static long asked, refused, kept;
+
+/* How many bytes were asked of malloc. */
+static size_t asked_bytes;
 
 #ifdef __cplusplus
 extern "C" {
@@ -27,6 +30,7 @@ void *__wrap_malloc(size_t size)
 {
 	void *block = ++asked == refused ? NULL : __real_malloc(size);
 
+	asked_bytes += size;
 	kept += block != NULL;
 	return block;
 }
@@ -49,10 +53,12 @@ void __wrap_free(void *block)
 static struct strm_pool opened(const struct strm_config *config)
 {
 	struct strm_pool pool = STRM_POOL_INIT;
+	size_t bytes;
 	int code;
 
 	for (refused = 1; refused < 100; refused++) {
 		asked = 0;
+		asked_bytes = 0;
 		code = strm_open(&pool, config);
 		if (code == STRM_OK)
 			break;
@@ -60,7 +66,49 @@ static struct strm_pool opened(const struct strm_config *config)
 		CHECK(asked == refused && kept == 0);
 	}
 	CHECK(asked == refused - 1 && 0 < asked && 0 < kept);
+	ANSWERS(strm_memory(config, &bytes), STRM_OK);
+	CHECK(bytes == asked_bytes);
 	return pool;
+}
+
+/* The bytes of pools with each number of classes and of queues, and with other numbers of blocks, sizes and wishes; and in how many calls. */
+static void count_bytes(void)
+{
+	struct strm_class_spec classes[STRM_MOST_CLASSES];
+	struct strm_queue_spec queues[STRM_MOST_QUEUES];
+	struct strm_config config;
+	struct strm_pool pool = STRM_POOL_INIT;
+	size_t i, bytes;
+	long before;
+
+	for (i = 0; i < STRM_MOST_CLASSES; i++) {
+		classes[i].size = (uint32_t)(1 + 585 * i);
+		classes[i].count = (uint32_t)(23 - 2 * i);
+	}
+	for (i = 0; i < STRM_MOST_QUEUES; i++) {
+		queues[i].hiwat = 2;
+		queues[i].lowat = 1;
+		queues[i].service = 0;
+		queues[i].next = STRM_NO_QUEUE;
+	}
+	config.id = 7;
+	config.classes = classes;
+	config.queues = queues;
+	config.first_id = 1;
+	refused = 0;
+	for (i = 0; i < STRM_MOST_CLASSES * STRM_MOST_QUEUES; i++) {
+		config.mblks = (uint32_t)(1 + 128 * i);
+		config.class_count = 1 + i % STRM_MOST_CLASSES;
+		config.queue_count = 1 + i / STRM_MOST_CLASSES;
+		config.bufcalls = (uint32_t)(i % (STRM_MOST_WISHES + 1));
+		before = asked;
+		ANSWERS(strm_memory(&config, &bytes), STRM_OK);
+		CHECK(asked == before);
+		asked_bytes = 0;
+		ANSWERS(strm_open(&pool, &config), STRM_OK);
+		CHECK(bytes == asked_bytes && asked - before <= 32);
+		ANSWERS(strm_close(&pool), STRM_OK);
+	}
 }
 
 /* Makes each call on messages, with what it needs, and leaves no message. */
@@ -207,6 +255,7 @@ int main(void)
 	CHECK(asked == asked_to_open);
 	ANSWERS(strm_close(&pool), STRM_OK);
 	ANSWERS(strm_close(&other), STRM_OK);
+	count_bytes();
 	CHECK(kept == 0);
 	return summary();
 }

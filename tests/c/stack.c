@@ -38,12 +38,12 @@ static size_t depth_of(void (*function)(void))
 	return (size_t)(begun - (stack + low));
 }
 
+static const struct strm_class_spec classes[] = { { 16, 8 }, { 64, 8 } };
+static const struct strm_queue_spec queues[] = { { 10, 4, 1, 1 }, { 10, 4, 1, STRM_NO_QUEUE } };
+static const struct strm_config config = { 1, 16, classes, 2, queues, 2, 2, 1 };
+
 static void open_pool(void)
 {
-	static const struct strm_class_spec classes[] = { { 16, 8 }, { 64, 8 } };
-	static const struct strm_queue_spec queues[] = { { 10, 4, 1, 1 }, { 10, 4, 1, STRM_NO_QUEUE } };
-	static const struct strm_config config = { 1, 16, classes, 2, queues, 2, 2, 1 };
-
 	ANSWERS(strm_open(&pool, &config), STRM_OK);
 	ANSWERS(strm_open(&other, &config), STRM_OK);
 }
@@ -116,6 +116,7 @@ static void make_calls(void)
 	strm_bufcall(&pool, 16, &number);
 	strm_take_ready(&pool, &wish);
 	strm_error(STRM_OK);
+	strm_memory(&config, &count);
 	ANSWERS(strm_close(&pool), STRM_OK);
 	ANSWERS(strm_close(&other), STRM_OK);
 }
@@ -124,7 +125,7 @@ int main(void)
 {
 	size_t opening = depth_of(open_pool), in_place = depth_of(make_calls_in_place), others = depth_of(make_calls);
 
-	CHECK(1000 < opening && opening <= 11000);
+	CHECK(1000 < opening && opening <= 13000);
 	CHECK(0 < in_place && in_place < 1000);
 	CHECK(0 < others && others < 1000);
 	printf("strm_open %lu, calls in place %lu, others %lu bytes\n", (unsigned long)opening, (unsigned long)in_place, (unsigned long)others);

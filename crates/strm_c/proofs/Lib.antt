@@ -6,3 +6,4 @@ pub mod Words
 pub mod Reading
 pub mod BlockArrays
 pub mod Serial
+pub mod Measuring

@@ -4,6 +4,7 @@ pub mod Holding
 pub mod InC
 pub mod InPlace
 pub mod Lending
+pub mod Memory
 pub mod Opening
 pub mod Series
 pub mod Texts

@@ -18,6 +18,7 @@ mod joining;
 mod layout;
 mod looks;
 mod making;
+mod memory;
 mod numbers;
 mod opening;
 mod parts;

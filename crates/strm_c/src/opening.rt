@@ -48,7 +48,7 @@ fn queues_of(queues: &[StrmQueueSpec]) -> QueueSpecs
 }
 
 // The configuration, if there are no more classes and queues than a pool can have.
-fn config_of(
+pub(crate) fn config_of(
     id: u32,
     mblks: u32,
     classes: &[StrmClassSpec],
