@@ -14,10 +14,13 @@ import tempfile
 from typing import NamedTuple
 
 import library
+import peers
+from c_functions import functions
 from programs import rewrite
 
 TOP = os.path.dirname(os.path.dirname(os.path.abspath(__file__)))
 SOURCES = [os.path.join(TOP, "bench", "c", name) for name in ("rounds.c", "plain.c")]
+OPENING = os.path.join(TOP, "bench", "c", "open.c")
 
 
 class Round(NamedTuple):
@@ -56,7 +59,7 @@ ROUNDS = {
     "read_queued": Round("`strm_read_queued` 64 bytes of the first", 1, "read_queued"),
     "queue_spec": Round("`strm_queue_spec`", 1, "queue_spec"),
 }
-# The way of a packet, which has one block: its bytes, how it comes in, and how it is looked at and goes out.
+# The way of a packet, by its name in peers/peer.h: its bytes, how it comes in, and how it is looked at and goes out.
 WAYS = {
     "copies_short": ("64", "`strm_write`", "`strm_read`"),
     "in_place_short": ("64", "`strm_write`", "`strm_bytes`"),
@@ -64,16 +67,26 @@ WAYS = {
     "in_place_long": ("1,500", "`strm_write`", "`strm_bytes`"),
     "no_copy_long": ("1,500", "`strm_place`, `strm_advance`", "`strm_place`"),
 }
+# The ways to take memory, by their names in open.c, and how often each is tried.
+TAKEN = {
+    "strm": "`strm_open`, `strm_close` of the largest pool",
+    "cleared": "`malloc`, `memset`, `free` of its bytes",
+    "zeroed": "`calloc`, `free` of its bytes",
+    "touched": "`calloc`, a write to each page, `free` of its bytes",
+}
+OPENED = 20
+# What has the system's allocator take large pages, where Linux has some to give.
+LARGE_PAGES = {"GLIBC_TUNABLES": "glibc.malloc.hugetlb=1"}
 TIMED = 5_000_000
 COUNTED = 100_000
 # The status of the program of rounds if the plain pool has no such round.
 NO_ROUND = 3
 
 
-def built(archive, room):
-    """Compiles the program of rounds over the library for C, and returns its path."""
-    program = os.path.join(room, "rounds")
-    subprocess.run([os.environ.get("CC", "cc"), "-O2", "-I" + os.path.join(TOP, "c"), *SOURCES, archive, "-o", program], check=True)
+def built(name, sources, archive, room):
+    """Compiles a program over the library for C, and returns its path."""
+    program = os.path.join(room, name)
+    subprocess.run([os.environ.get("CC", "cc"), "-O2", "-I" + os.path.join(TOP, "c"), *sources, archive, "-o", program], check=True)
     return program
 
 
@@ -135,13 +148,29 @@ def table(program, pools, rounds):
         yield f"| {' | '.join(cells)} |"
 
 
-def ways(program, rounds):
+def ways(archive, room, rounds):
     """The way of a packet, in markdown."""
+    programs = {name: peers.built(name, archive, room) for name in ("plain", "strm")}
+    times, steps = peers.fastest(programs, peers.WAYS, rounds), peers.counted(programs, peers.WAYS)
     yield "| Bytes | Comes in by | Is looked at, and goes out, by | plain, ns | strm.h, ns | plain, instructions | strm.h |"
     yield "|---|---|---|---|---|---|---|"
     for name, told in WAYS.items():
-        times, steps = beside(program, name, rounds)
-        yield f"| {' | '.join([*told, *(shown(cost, 1) for cost in times), *(shown(cost, 0) for cost in steps)])} |"
+        costs = [shown(of[name, over], places) for of, places in ((times, 1), (steps, 0)) for over in programs]
+        yield f"| {' | '.join([*told, *costs])} |"
+
+
+def opening(archive, room):
+    """What it costs to take the memory of the largest pool, in markdown."""
+    program = built("open", [OPENING], archive, room)
+    yield "| What is done | ms | page faults | ms with large pages | page faults |"
+    yield "|---|---|---|---|---|"
+    for name, told in TAKEN.items():
+        cells = [told]
+        for more in ({}, LARGE_PAGES):
+            ran = subprocess.run([program, name, str(OPENED)], check=True, capture_output=True, text=True, env={**os.environ, **more})
+            microseconds, faults = ran.stdout.split()
+            cells += [f"{float(microseconds) / 1000:,.2f}", f"{int(faults):,}"]
+        yield f"| {' | '.join(cells)} |"
 
 
 def main():
@@ -156,12 +185,15 @@ def main():
     if not shutil.which("valgrind"):
         sys.exit("valgrind is not installed")
     with tempfile.TemporaryDirectory() as room:
-        program = built(given.library, room)
+        program = built("rounds", SOURCES, given.library, room)
         lines = list(table(program, given.program and os.path.abspath(given.program), given.rounds))
-        lines += ["", "The way of a packet of one block, which waits on a queue between the two looks:", "", *ways(program, given.rounds)]
-    print("\n".join(lines))
+        lines += ["", "The way of a packet of one block, which waits on a queue between the two looks:", "", *ways(given.library, room, given.rounds)]
+        lines += ["", "Where these instructions are, an export with all that is inlined into it:", "", *functions(program, peers.built(peers.OURS, given.library, room))]
+        opened = list(opening(given.library, room))
+    print("\n".join([*lines, "", *opened]))
     if given.write:
         rewrite("c", lines)
+        rewrite("open", opened)
 
 
 if __name__ == "__main__":

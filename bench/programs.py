@@ -1,4 +1,4 @@
-"""Runs the small programs that are measured, and puts tables into docs/COST.md. library.py, census.py and c.py use it."""
+"""Runs the small programs that are measured, and puts tables into pages of docs. library.py, census.py, c.py and peers.py use it."""
 import os
 import re
 import statistics
@@ -6,7 +6,7 @@ import subprocess
 import sys
 import time
 
-PAGE = os.path.join(os.path.dirname(os.path.abspath(__file__)), "..", "docs", "COST.md")
+DOCS = os.path.join(os.path.dirname(os.path.abspath(__file__)), "..", "docs")
 
 
 class Running:
@@ -56,11 +56,12 @@ def collected(program, lines, within=None):
     return int(re.search(r"Collected : (\d+)", ran.stderr)[1]), ran.stdout.split()
 
 
-def rewrite(name, lines):
-    """Puts tables between their two marks in docs/COST.md."""
+def rewrite(name, lines, page="COST.md"):
+    """Puts tables between their two marks in a page of docs."""
     begin, end = f"<!-- {name}: begin -->\n", f"<!-- {name}: end -->\n"
-    with open(PAGE) as text:
+    path = os.path.join(DOCS, page)
+    with open(path) as text:
         before, rest = text.read().split(begin)
     written = "\n".join(lines)
-    with open(PAGE, "w") as text:
+    with open(path, "w") as text:
         text.write(f"{before}{begin}\n{written}\n\n{end}{rest.split(end)[1]}")

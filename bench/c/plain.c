@@ -149,6 +149,58 @@ int plain_advance(struct plain_block *block, uint32_t count)
 	return 1;
 }
 
+void plain_linkb(struct plain_block *block, struct plain_block *tail)
+{
+	block->bytes += tail->bytes;
+	while (block->cont != NULL)
+		block = block->cont;
+	block->cont = tail;
+}
+
+struct plain_block *plain_copymsg(struct plain_pool *pool, const struct plain_block *block)
+{
+	struct plain_block *first = NULL, **at = &first;
+
+	for (; block != NULL; block = block->cont) {
+		struct plain_block *copy = plain_allocb(pool, block->data->capacity);
+
+		if (copy == NULL) {
+			plain_freemsg(pool, first);
+			return NULL;
+		}
+		memcpy(copy->data->bytes + block->read, block->data->bytes + block->read, block->write - block->read);
+		copy->data->type = block->data->type;
+		copy->read = block->read;
+		copy->write = block->write;
+		copy->bytes = block->bytes;
+		copy->band = block->band;
+		*at = copy;
+		at = &copy->cont;
+	}
+	return first;
+}
+
+/* The new data block comes with a block of its own, which takes the old data block and the other blocks, and is freed with them. */
+int plain_pullupmsg(struct plain_pool *pool, struct plain_block *block)
+{
+	struct plain_block *rest = plain_allocb(pool, block->bytes);
+	struct plain_data *data;
+
+	if (rest == NULL)
+		return 0;
+	data = rest->data;
+	data->type = block->data->type;
+	plain_read(block, 0, data->bytes, block->bytes);
+	rest->data = block->data;
+	rest->cont = block->cont;
+	block->data = data;
+	block->cont = NULL;
+	block->read = 0;
+	block->write = block->bytes;
+	plain_freemsg(pool, rest);
+	return 1;
+}
+
 void plain_putq(struct plain_pool *pool, struct plain_block *block)
 {
 	struct plain_queue *queue = &pool->queue;

@@ -65,6 +65,11 @@ unsigned char *plain_bytes(const struct plain_block *block, uint32_t *length);
 int plain_overwrite(struct plain_block *block, uint32_t at, const void *bytes, uint32_t length);
 int plain_advance(struct plain_block *block, uint32_t count);
 
+/* Appends the blocks of `tail`; copies all blocks; gathers all bytes in the first block. */
+void plain_linkb(struct plain_block *block, struct plain_block *tail);
+struct plain_block *plain_copymsg(struct plain_pool *pool, const struct plain_block *block);
+int plain_pullupmsg(struct plain_pool *pool, struct plain_block *block);
+
 void plain_putq(struct plain_pool *pool, struct plain_block *block);
 struct plain_block *plain_getq(struct plain_pool *pool);
 

@@ -14,7 +14,6 @@
 
 #define BLOCKS 4095
 #define SIZE 64
-#define LONG 1500
 /* Data blocks of the three classes. */
 #define SHORTS (BLOCKS - 40)
 #define MIDDLES 32
@@ -30,8 +29,8 @@ static struct strm_msg kept, full, four;
 static uint32_t first;
 static struct plain_pool plain;
 static struct plain_block *plain_kept, *plain_full;
-/* What comes in, where it is copied to, and memory of the program's own for each data block of the last class. */
-static unsigned char bytes[FRAME], copied[FRAME], frames[FRAMES][FRAME];
+/* What is written, and where it is copied to. */
+static unsigned char bytes[SIZE], copied[SIZE];
 
 static int strm_filled(struct strm_msg *msg)
 {
@@ -286,115 +285,6 @@ static int strm_several_queues(void)
 	    && count == SEVERAL;
 }
 
-/* ---- the way of a packet: it comes in, its header is looked at, it waits on the queue, and it goes out */
-
-/* What is done with a header, and with bytes that go out from where they are. */
-static volatile unsigned seen;
-
-static int sees(const unsigned char *header)
-{
-	seen = header[0];
-	return 1;
-}
-
-/* Bytes are copied each time. */
-static int strm_copies(uint32_t size)
-{
-	struct strm_msg msg;
-	size_t count;
-
-	return strm_allocb(&pool, size, &msg) == STRM_OK && strm_write(&pool, msg, 0, bytes, size) == STRM_OK
-	    && strm_read(&pool, msg, 0, copied, size, &count) == STRM_OK && sees(copied) && strm_putq(&pool, 0, msg) == STRM_OK
-	    && strm_getq(&pool, 0, &msg) == STRM_OK && strm_read(&pool, msg, 0, copied, size, &count) == STRM_OK && count == size
-	    && strm_freemsg(&pool, msg) == STRM_OK;
-}
-
-static int plain_copies(uint32_t size)
-{
-	struct plain_block *msg = plain_allocb(&plain, size);
-
-	if (msg == NULL || !plain_write(msg, bytes, size) || plain_read(msg, 0, copied, size) != size || !sees(copied))
-		return 0;
-	plain_putq(&plain, msg);
-	msg = plain_getq(&plain);
-	if (msg == NULL || plain_read(msg, 0, copied, size) != size)
-		return 0;
-	plain_freemsg(&plain, msg);
-	return 1;
-}
-
-/* Bytes are copied in, and then read where they are. */
-static int strm_reads_in_place(uint32_t size)
-{
-	struct strm_msg msg;
-	const uint8_t *lent;
-	size_t length;
-
-	return strm_allocb(&pool, size, &msg) == STRM_OK && strm_write(&pool, msg, 0, bytes, size) == STRM_OK
-	    && strm_bytes(&pool, msg, 0, &lent, &length) == STRM_OK && sees(lent) && strm_putq(&pool, 0, msg) == STRM_OK
-	    && strm_getq(&pool, 0, &msg) == STRM_OK && strm_bytes(&pool, msg, 0, &lent, &length) == STRM_OK && length == size
-	    && sees(lent) && strm_freemsg(&pool, msg) == STRM_OK;
-}
-
-static int plain_reads_in_place(uint32_t size)
-{
-	struct plain_block *msg = plain_allocb(&plain, size);
-	uint32_t length;
-
-	if (msg == NULL || !plain_write(msg, bytes, size) || !sees(plain_bytes(msg, &length)))
-		return 0;
-	plain_putq(&plain, msg);
-	msg = plain_getq(&plain);
-	if (msg == NULL || !sees(plain_bytes(msg, &length)) || length != size)
-		return 0;
-	plain_freemsg(&plain, msg);
-	return 1;
-}
-
-/* No byte is copied: the packet is in memory of the program's own, or in the plain pool's, when it comes in. */
-static unsigned char *frame_of(const struct strm_block_place *where)
-{
-	return frames[where->data - SHORTS - MIDDLES] + where->at;
-}
-
-static int strm_copies_nothing(uint32_t size)
-{
-	struct strm_msg msg;
-	struct strm_block_place where;
-
-	return strm_allocb(&pool, size, &msg) == STRM_OK && strm_place(&pool, msg, 0, &where) == STRM_OK
-	    && strm_advance(&pool, msg, 0, size) == STRM_OK && sees(frame_of(&where)) && strm_putq(&pool, 0, msg) == STRM_OK
-	    && strm_getq(&pool, 0, &msg) == STRM_OK && strm_place(&pool, msg, 0, &where) == STRM_OK && where.length == size
-	    && sees(frame_of(&where)) && strm_freemsg(&pool, msg) == STRM_OK;
-}
-
-static int plain_copies_nothing(uint32_t size)
-{
-	struct plain_block *msg = plain_allocb(&plain, size);
-	uint32_t length;
-
-	if (msg == NULL || !plain_advance(msg, size) || !sees(plain_bytes(msg, &length)))
-		return 0;
-	plain_putq(&plain, msg);
-	msg = plain_getq(&plain);
-	if (msg == NULL || !sees(plain_bytes(msg, &length)) || length != size)
-		return 0;
-	plain_freemsg(&plain, msg);
-	return 1;
-}
-
-#define WAY(over, way, size, name) static int over##_##way##_##name(void) { return over##_##way(size); }
-WAY(strm, copies, SIZE, short)
-WAY(plain, copies, SIZE, short)
-WAY(strm, reads_in_place, SIZE, short)
-WAY(plain, reads_in_place, SIZE, short)
-WAY(strm, copies, LONG, long)
-WAY(plain, copies, LONG, long)
-WAY(strm, reads_in_place, LONG, long)
-WAY(plain, reads_in_place, LONG, long)
-WAY(strm, copies_nothing, LONG, long)
-WAY(plain, copies_nothing, LONG, long)
-
 /* ---- rounds by name */
 
 static const struct {
@@ -424,11 +314,6 @@ static const struct {
 	{ "queue_spec", strm_specs, NULL },
 	{ "allocb_n", strm_several_allocs, NULL },
 	{ "putq_n", strm_several_queues, NULL },
-	{ "copies_short", strm_copies_short, plain_copies_short },
-	{ "in_place_short", strm_reads_in_place_short, plain_reads_in_place_short },
-	{ "copies_long", strm_copies_long, plain_copies_long },
-	{ "in_place_long", strm_reads_in_place_long, plain_reads_in_place_long },
-	{ "no_copy_long", strm_copies_nothing_long, plain_copies_nothing_long },
 };
 
 /* Finds the round with this name over one of the two pools, and returns 2 if there is no such name, or 3 if the plain pool lacks it. */
