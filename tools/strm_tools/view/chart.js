@@ -111,7 +111,7 @@ function drawChart(frame) {
 function showChart(chart, lines, range, most, at) {
     const {height, bottom} = CHART;
     chart.setAttribute("height", height);
-    chart.replaceChildren(
+    const drawn = [
         ...level(0, at, range),
         ...level(most, at, range),
         element("text", {class: "faint", x: at.x(range[0]), y: height - 2}, `frame ${range[0]}`),
@@ -119,7 +119,8 @@ function showChart(chart, lines, range, most, at) {
         ...lines.map(([, style, steps]) => element("path", {class: `series ${style}`, d: curve(steps, range[1], at)})),
         ...ticks(framesOf("refused"), range, at, height - bottom + 13, "✗", "refusal"),
         element("line", {id: "cursor", y1: at.y(most) - 6, y2: at.y(0) + 6}),
-    );
+    ];
+    chart.replaceChildren(...drawn.map(nodeOf));
 }
 
 // The name, the style and the value of each line at a frame.

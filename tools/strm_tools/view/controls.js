@@ -36,6 +36,8 @@ function show(frame, row) {
     current = Math.max(0, Math.min(LAST, Math.trunc(frame) || 0));
     foundRow = row;
     hits.end = "";
+    // To scroll the list, the browser lays out what changed before. So this comes first.
+    showInList(row ?? rowOf(current));
     const line = lineAt(current);
     const before = poolAt(Math.max(0, current - 1));
     const pool = poolAt(current);
@@ -44,7 +46,6 @@ function show(frame, row) {
     const marks = marksOf(before, pool, old, panels);
     tellLine(current, line);
     byId("changes").replaceChildren(...sentencesOf(current, line, before, pool, marks, old, panels).map(sentenceNode));
-    showInList(row ?? rowOf(current));
     showBlock(pool);
     draw(line, pool, panels, marks, chosenIn(pool));
     drawChart(current);

@@ -46,14 +46,27 @@ function cellsOfRow(row) {
     return cells.filter(([, text]) => text !== "");
 }
 
-function rowNode(place) {
+// A new row, which is still empty.
+function emptyRow() {
+    const node = made("div", "");
+    for (const [name, value] of Object.entries({role: "option", "aria-setsize": ROW_COUNT, "aria-selected": false})) node.setAttribute(name, value);
+    return node;
+}
+
+// Shows in a row what is at a place of the list. Its cells stay, as a browser lays out changed texts faster than new elements.
+function fillRow(node, place) {
     const row = rowAt(place);
     const cells = cellsOfRow(row);
-    const node = made("div", "", {className: `row ${row.kind}`, title: cells.map(([, text]) => text).join("  ")});
-    node.append(...cells.map(([kind, text]) => made("span", text, {className: kind})));
-    const attributes = {role: "option", "aria-posinset": place + 1, "aria-setsize": ROW_COUNT, "aria-selected": false};
-    for (const [name, value] of Object.entries(attributes)) node.setAttribute(name, value);
-    if (row.frame !== undefined) node.dataset.frame = row.frame;
+    Object.assign(node, {className: `row ${row.kind}`, title: cells.map(([, text]) => text).join("  ")});
+    node.setAttribute("aria-posinset", place + 1);
+    if (row.frame === undefined) delete node.dataset.frame;
+    else node.dataset.frame = row.frame;
+    cells.forEach(([kind, text], at) => {
+        const cell = node.children[at] ?? node.appendChild(made("span", " "));
+        if (cell.className !== kind) cell.className = kind;
+        if (cell.firstChild.data !== String(text)) cell.firstChild.data = text;
+    });
+    while (node.children.length > cells.length) node.lastChild.remove();
     return node;
 }
 
@@ -66,11 +79,22 @@ const markedRows = {selected: undefined, found: undefined};
 // How far the list is scrolled. The list itself says it too, but then the browser lays out the whole page.
 let scrolled = 0;
 
+// Shows other rows, none of which is there yet, in the nodes that are there.
+function refill(first, last) {
+    const nodes = Array.from(listRows.children);
+    shownRows.clear();
+    nodes.forEach((node, at) => {
+        if (first + at < last) shownRows.set(first + at, fillRow(node, first + at));
+        else node.remove();
+    });
+}
+
 // Puts the rows that are in view into the page. Those that are there already stay as they are.
 function drawList() {
     const top = scrolled * scrollScale();
     const first = Math.max(0, Math.floor(top / ROW_HEIGHT) - 5);
     const last = Math.min(ROW_COUNT, first + Math.ceil(sizes.list / ROW_HEIGHT) + 10);
+    if (Array.from(shownRows.keys()).every((place) => place < first || place >= last)) refill(first, last);
     for (const [place, node] of shownRows) {
         if (place >= first && place < last) continue;
         node.remove();
@@ -78,7 +102,7 @@ function drawList() {
     }
     let following = null;
     for (let place = last - 1; place >= first; place--) {
-        if (!shownRows.has(place)) shownRows.set(place, listRows.insertBefore(rowNode(place), following));
+        if (!shownRows.has(place)) shownRows.set(place, listRows.insertBefore(fillRow(emptyRow(), place), following));
         following = shownRows.get(place);
     }
     listRows.style.paddingTop = `${scrolled - (top - first * ROW_HEIGHT)}px`;

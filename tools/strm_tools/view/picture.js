@@ -170,14 +170,15 @@ function placeAll(pieces, columns, width) {
         heights.fill(top + piece.height + GAP, column, column + among.span);
         return moved(piece, column * (width + GAP), top);
     });
-    byId("picture").replaceChildren(definitions(), ...drawn);
+    byId("picture").replaceChildren(...[definitions(), ...drawn].map(nodeOf));
     byId("picture").setAttribute("height", Math.max(...heights) - GAP);
+    drawnPicture.nodes = new Map(Array.from(byId("picture").querySelectorAll(".panel"), (node) => [node.dataset.panel, node]));
 }
 
-// What is in the picture: the sizes of all panels, and their nodes.
-const drawnPicture = {sizes: "", nodes: new Map()};
+// What is in the picture: the sizes of all panels, what was drawn of each, and its node.
+const drawnPicture = {sizes: "", drawn: new Map(), nodes: new Map()};
 
-// Draws the panels of a pool. If all of them have the size that they had, only those are replaced that show something else.
+// Draws the panels of a pool. If all of them have the size that they had, only what differs in them is changed.
 function draw(line, pool, panels, marks, chosen) {
     const columns = Math.max(1, Math.floor((sizes.picture + GAP) / (COLUMN + GAP)));
     const width = (sizes.picture - GAP * (columns - 1)) / columns;
@@ -187,10 +188,10 @@ function draw(line, pool, panels, marks, chosen) {
         return [panel.key, pieceOf(panel, drawing, kind === "queue" ? widthOfQueue(Number(number), width) : width)];
     }));
     const all = JSON.stringify([columns, width, ...Array.from(pieces.values(), ({width: wide, height}) => [wide, height])]);
-    if (all === drawnPicture.sizes) replacePanels(pieces);
+    if (all === drawnPicture.sizes) changePanels(pieces);
     else placeAll(pieces, columns, width);
     drawnPicture.sizes = all;
-    drawnPicture.nodes = new Map(Array.from(pieces, ([key, {drawn}]) => [key, drawn]));
+    drawnPicture.drawn = new Map(Array.from(pieces, ([key, {drawn}]) => [key, drawn]));
     lightArrows(line);
     byId("picture").setAttribute("aria-label", `The pool at frame ${current}`);
 }
@@ -229,11 +230,12 @@ function showChanged(line, marks) {
     if (about || !isOneSeen) byId("pool").scrollTop += offsetTo(about ? spans : spans.slice(0, 1), seen);
 }
 
-function replacePanels(pieces) {
+// Changes the nodes of panels that show something else. They stay where they are.
+function changePanels(pieces) {
     for (const [key, {drawn}] of pieces) {
-        const old = drawnPicture.nodes.get(key);
+        const old = drawnPicture.drawn.get(key);
         if (old === drawn) continue;
-        drawn.setAttribute("transform", old.getAttribute("transform"));
-        old.replaceWith(drawn);
+        drawn.attributes.transform = old.attributes.transform;
+        patch(drawnPicture.nodes.get(key), old, drawn);
     }
 }

@@ -5,15 +5,21 @@ const LETTER = 7.4;
 const ROW = 16;
 const BESIDE = 3;
 
-function element(name, attributes, ...children) {
-    const made = document.createElementNS("http://www.w3.org/2000/svg", name);
-    for (const [key, value] of Object.entries(attributes)) made.setAttribute(key, value);
-    made.append(...children);
-    return made;
+// An element to be drawn: its name, its attributes, and its children, which are such elements or texts. It costs less than one of the page.
+class Drawn {
+    constructor(name, attributes, children) {
+        Object.assign(this, {name, attributes, children});
+    }
+
+    append(...children) {
+        this.children.push(...children);
+    }
 }
 
+const element = (name, attributes, ...children) => new Drawn(name, {...attributes}, children);
+
 function moved(piece, x, y) {
-    piece.drawn.setAttribute("transform", `translate(${x} ${y})`);
+    piece.drawn.attributes.transform = `translate(${x} ${y})`;
     return piece.drawn;
 }
 
@@ -116,4 +122,62 @@ function definitions() {
     const hatched = element("pattern", {id: "hatched", ...size}, element("path", {d: "M0 4L4 0"}));
     const head = element("marker", {id: "head", viewBox: "0 0 8 8", refX: 7, refY: 4, markerWidth: 9, markerHeight: 9, markerUnits: "userSpaceOnUse", orient: "auto-start-reverse"}, element("path", {d: "M0 0L8 4L0 8z"}));
     return element("defs", {}, hatched, head);
+}
+
+// ---- Into the page -------------------------------------------------------------------------------------------------------------------
+
+// The node of an element, with all that is in it, or of a text.
+function nodeOf(drawn) {
+    if (!(drawn instanceof Drawn)) return document.createTextNode(drawn);
+    const node = document.createElementNS("http://www.w3.org/2000/svg", drawn.name);
+    for (const [key, value] of Object.entries(drawn.attributes)) node.setAttribute(key, value);
+    node.append(...drawn.children.map(nodeOf));
+    return node;
+}
+
+// Whether the node of one can become that of another: both are texts, or elements of a name with the same attributes in the same order.
+function isAlike(before, after) {
+    if (!(before instanceof Drawn) || !(after instanceof Drawn)) return !(before instanceof Drawn) && !(after instanceof Drawn);
+    const [old, now] = [before, after].map(({attributes}) => Object.keys(attributes));
+    return before.name === after.name && old.length === now.length && old.every((key, place) => key === now[place]);
+}
+
+// Makes the node of one that of another, which is alike. What is the same stays, as a browser lays out anew only what changes.
+function patch(node, before, after) {
+    if (!(after instanceof Drawn)) {
+        if (String(before) !== String(after)) node.data = after;
+        return;
+    }
+    for (const [key, value] of Object.entries(after.attributes)) {
+        if (before.attributes[key] !== value) node.setAttribute(key, value);
+    }
+    patchChildren(node, before.children, after.children);
+}
+
+// Of children that are not alike, those go that are too many; those come that are missing; others are replaced.
+function patchChildren(node, before, after) {
+    let [place, child] = [0, node.firstChild];
+    const goOn = () => {
+        place++;
+        child = child.nextSibling;
+    };
+    after.forEach((one, at) => {
+        const surplus = () => before.length - place - (after.length - at);
+        while (surplus() > 0 && !isAlike(before[place], one)) {
+            const gone = child;
+            goOn();
+            gone.remove();
+        }
+        if (place < before.length && isAlike(before[place], one)) {
+            patch(child, before[place], one);
+            goOn();
+        } else {
+            const come = node.insertBefore(nodeOf(one), child);
+            if (surplus() < 0) return;
+            child.remove();
+            child = come;
+            goOn();
+        }
+    });
+    for (; place < before.length; place++) node.lastChild.remove();
 }
