@@ -7,6 +7,7 @@
 passed=0
 failed=0
 begun=()
+in_turn=()
 left_out=()
 
 # Adds up what the command $1 reported, in the file $2, with the exit status $3, and shows the report if anything failed. Three kinds of
@@ -29,14 +30,53 @@ add_report() {
     [ "$lost" -eq 0 ] || { echo "$command FAILED (status $status):"; sed 's/^/  /' "$report"; }
 }
 
-# Starts a job beside the others, once fewer than `processors` run.
-begin() {
-    local report=$room/report${#begun[@]} from
+# Runs the job with the number $1, which is the command behind it, and leaves its report, its status and how long it took.
+run_job() {
+    local report=$room/report$1 from=$SECONDS
+    shift
+    "$@" >"$report" 2>&1 </dev/null
+    echo $? >"$report.status"
+    echo $((SECONDS - from)) >"$report.seconds"
+}
+
+# Waits until fewer than `processors` jobs run.
+await_processor() {
     while [ "$(jobs -rp | wc -l)" -ge "$processors" ]; do
         wait -n
     done
+}
+
+# Starts a job beside the others.
+begin() {
+    await_processor
     begun+=("$*")
-    { from=$SECONDS; "$@" >"$report" 2>&1 </dev/null; echo $? >"$report.status"; echo $((SECONDS - from)) >"$report.seconds"; } &
+    run_job $((${#begun[@]} - 1)) "$@" &
+}
+
+# Takes the job with the number $1 for whoever calls first, and sets `words` to its command.
+take_job() {
+    mkdir "$room/taken$1" 2>/dev/null && read -ra words <<<"${begun[$1]}"
+}
+
+# Starts jobs that run one after another, beside all others.
+begin_in_turn() {
+    local job number words
+    for job in "$@"; do
+        in_turn+=("${#begun[@]}")
+        begun+=("$job")
+    done
+    for number in "${in_turn[@]}"; do
+        take_job "$number" && (run_job "$number" "${words[@]}")
+    done &
+}
+
+# Starts those of these jobs that have not begun beside each other.
+begin_at_once() {
+    local number words
+    for number in "${in_turn[@]}"; do
+        await_processor
+        take_job "$number" && run_job "$number" "${words[@]}" &
+    done
 }
 
 # Waits for the jobs that were started, says how long each took, and adds up what each reported.
