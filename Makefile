@@ -1,5 +1,5 @@
 # Builds, runs, tests and installs the program strm, the library for C, and the tools in Python. Rattle's command `rt` builds the program and the
-# library; it needs Python 3, and for the library also `cc` and `ar`. docs/GATE.md says what the tests need.
+# library; it needs Python 3, and for the library also `cc` and binutils. docs/GATE.md says what the tests need.
 #
 # Without `rt`, which comes in the toolchain's kit (README.md): the archive and the Debian package of a release have the program and the
 # library, built (docs/PACKAGE.md). The tools need Python 3.8 or later alone, and `make install-tools` installs them. The rules lint,
@@ -39,7 +39,7 @@ MODULES := $(shell cd tools && find strm_tools -name __pycache__ -prune -o -type
 # Stops make with one line if there is no `rt`.
 NEEDS_RT = $(if $(shell command -v rt 2>/dev/null),,$(error no rt on PATH, so nothing is proved or built; the archive of a release has strm and libstrm.a, and make install-tools installs the tools that need Python alone (README.md, "Without rt")))
 
-.PHONY: run try test cases planted edits lint soak field view-test pictures bench bench-lines bench-library bench-census bench-header bench-c strm install install-pages install-tools install-docs lib install-lib dist vendor
+.PHONY: run try test cases planted edits lint soak field view-test pictures bench bench-lines bench-library bench-census bench-header bench-lock bench-c bench-peers strm install install-pages install-tools install-docs lib install-lib dist vendor
 
 # Runs examples/first_run.strm on the proved program.
 run: $(BUILT)
@@ -93,9 +93,9 @@ pictures:
 	@tools/strm-view examples/recorded/ppp.strm examples/recorded/ppp.text --output docs/example.html
 	@for picture in docs/pictures/*.svg; do tools/strm-view $$(sed -n 's:^<desc>\(.*\)</desc>$$:\1:p' $$picture) --output $$picture || exit 1; done
 
-# Prints what a line, a call of the libraries, a look at the census, a header and a call from C cost. OPTIONS are those of all, as --write for
-# docs/.
-bench: bench-lines bench-library bench-census bench-header bench-c
+# Prints what a line, a call of the libraries, a look at the census, a header, a lock and a call from C cost. OPTIONS are those of all, as --write for
+# docs/. With PEERS=1, also what bench-peers prints.
+bench: bench-lines bench-library bench-census bench-header bench-lock bench-c
 
 # Prints what a line and a call of each word cost. OPTIONS are those of bench/run.py, as --instructions, or --write for docs/.
 bench-lines: $(BUILT)
@@ -116,10 +116,20 @@ bench-header: $(BUILT)
 	$(NEEDS_RT)
 	@python3 bench/header.py $(OPTIONS)
 
+# Prints what a line by four workers costs, beside the floor of one lock. OPTIONS are those of bench/lock.py.
+bench-lock: $(BUILT)
+	@python3 bench/lock.py $(OPTIONS) $(BUILT)
+
 # Prints what calls of strm.h cost, beside the calls that they make and those of a pool in C. OPTIONS are those of bench/c.py, as --write for
-# docs/.
+# docs/. With PEERS=1, also what bench-peers prints.
 bench-c: build/libstrm.a $(ROUNDS)
 	@python3 bench/c.py $(OPTIONS) build/libstrm.a $(ROUNDS)
+	@$(if $(PEERS),python3 bench/peers.py $(OPTIONS) build/libstrm.a)
+
+# Prints what the same work costs over strm.h, a pool in C, DPDK, lwIP and GLib, and names those whose Debian package is not installed. OPTIONS
+# are those of bench/peers.py, as --write for docs/.
+bench-peers: build/libstrm.a
+	@python3 bench/peers.py $(OPTIONS) build/libstrm.a
 
 # Puts the proved program at build/strm.
 strm: build/strm
@@ -157,6 +167,10 @@ install-docs:
 # Puts the library for C at build/libstrm.a, the shared library at build/libstrm.so, and the pkg-config file at build/strm.pc.
 lib: build/libstrm.a build/libstrm.so build/strm.pc
 
+# The functions of the toolchain's heap, which get names that begin with strm_.
+HEAP := rattle_alloc rattle_realloc rattle_dealloc
+OBJCOPY ?= objcopy
+
 # The library is the proved part with tables for backtraces, c/strm.c, which checks pointers, and the toolchain's heap over malloc.
 build/libstrm.a: $(PROVED) c/strm.c c/strm_c.h c/strm.h tools/unwind_tables
 	$(NEEDS_RT)
@@ -164,7 +178,9 @@ build/libstrm.a: $(PROVED) c/strm.c c/strm_c.h c/strm.h tools/unwind_tables
 	$(CC) -std=c89 -O2 -fPIC -Wall -Wextra -pedantic -Ic -c c/strm.c -o build/strm.o
 	cp $(PROVED) build/libstrm.a
 	cd build && $(AR) x libstrm.a strm_c.o && { ../tools/unwind_tables strm_c.o strm_c.o || echo "no backtraces from inside libstrm.a" >&2; }
-	cd build && $(AR) x "$$(dirname "$$(rt doc)")/c/liblibc_c.a" heap.pic.o && $(AR) rD libstrm.a strm_c.o strm.o heap.pic.o
+	cd build && $(AR) x "$$(dirname "$$(rt doc)")/c/liblibc_c.a" heap.pic.o
+	cd build && for object in strm_c.o heap.pic.o; do $(OBJCOPY) $(foreach name,$(HEAP),--redefine-sym $(name)=strm_$(name)) $$object || exit; done
+	cd build && $(AR) rD libstrm.a strm_c.o strm.o heap.pic.o
 
 # The shared library has the same parts, and exports the names of c/libstrm.map alone.
 build/libstrm.so: build/libstrm.a c/libstrm.map
