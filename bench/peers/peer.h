@@ -1,6 +1,6 @@
 /*
  * What each peer has: a pool of messages with a queue, and works on them by name. A work leaves the pool as it was, and returns 0 if a call
- * failed. main.c makes rounds of a work.
+ * failed. main.c makes rounds of a work. Each of these works has one thread.
  *
  *     allocb          allocates a message for SIZE bytes, and frees it
  *     dupb            makes a second message, or a second reference, over the bytes of a kept message, and frees it

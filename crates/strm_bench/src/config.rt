@@ -89,11 +89,11 @@ pub(crate) fn opened(alloc: Global, blocks: u32) -> Option<Pool> {
     Pool::new(alloc, configured(blocks)).ok()
 }
 
-/// Starts sharing such a pool, with one desk.
-pub(crate) fn start(alloc: Global, blocks: u32, trace: Trace) -> Option<Start> {
+/// Starts sharing such a pool, with this number of desks.
+pub(crate) fn start(alloc: Global, blocks: u32, desks: u8, trace: Trace) -> Option<Start> {
     let pool = Pool::new(alloc, configured(blocks)).ok()?;
     let setup = Setup {
-        desks: 1,
+        desks,
         trace,
         first_stamp: 0,
     };

@@ -5,6 +5,7 @@
 #![tactic(auto)]
 
 mod applied;
+mod batches;
 mod calls;
 mod config;
 mod direct;
@@ -20,6 +21,7 @@ mod served;
 mod transfers;
 
 use applied::applied_rounds;
+use batches::{THREADS, rounds_of_threads};
 use config::{opened, start};
 use direct::direct_rounds;
 use order::Order;
@@ -27,6 +29,7 @@ use row::Form;
 use served::served_rounds;
 use std::io;
 use std::sync::Wait;
+use std::thread::Threads;
 use strm_shared::{Brand, Trace};
 
 // What the next line of standard input asks for, if anything.
@@ -38,14 +41,30 @@ fn next_order(rt: &(impl AllocGlobal + Input)) -> io::Result<Option<Order>> {
 
 // Shares a pool with one desk, and runs the rounds on it.
 fn share(rt: &(impl AllocGlobal + Wait), order: Order, trace: Trace) -> u64 {
-    match start(rt.alloc(), order.blocks, trace) {
+    match start(rt.alloc(), order.blocks, 1, trace) {
         Some(start) => served_rounds::<Brand>(rt, start, order.row, order.times),
         None => 0,
     }
 }
 
+// Shares a pool with this number of desks, and runs the rounds on each desk, on a thread of its own.
+fn spread<R: AllocGlobal + Threads + Wait + Sync>(
+    rt: &R,
+    order: Order,
+    desks: u8,
+    in_batches: bool,
+) -> u64 {
+    let alloc = rt.alloc();
+    match start(alloc, order.blocks, desks, Trace::Off) {
+        Some(start) => {
+            rounds_of_threads::<Brand, R>(rt, alloc, start, order.row, order.times, in_batches)
+        }
+        None => 0,
+    }
+}
+
 // Runs the rounds, and returns their sum.
-fn done(rt: &(impl AllocGlobal + Wait), order: Order) -> u64 {
+fn done<R: AllocGlobal + Threads + Wait + Sync>(rt: &R, order: Order) -> u64 {
     match order.form {
         Form::Direct => direct_rounds(rt.alloc(), order),
         Form::Apply => match opened(rt.alloc(), order.blocks) {
@@ -54,6 +73,9 @@ fn done(rt: &(impl AllocGlobal + Wait), order: Order) -> u64 {
         },
         Form::Serve => share(rt, order, Trace::Off),
         Form::Trace => share(rt, order, order.trace()),
+        Form::Batch => spread(rt, order, 1, true),
+        Form::Four => spread(rt, order, THREADS, false),
+        Form::FourBatches => spread(rt, order, THREADS, true),
     }
 }
 

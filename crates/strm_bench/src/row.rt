@@ -11,6 +11,12 @@ pub(crate) enum Form {
     Serve,
     /// By `serve_into`, on one desk, with a trace.
     Trace,
+    /// By `serve_all`, on one desk.
+    Batch,
+    /// By `serve_into`, on four desks, each with a thread of its own.
+    Four,
+    /// By `serve_all`, on four desks, each with a thread of its own.
+    FourBatches,
 }
 
 /// What a round does; README.md describes each.
@@ -153,6 +159,9 @@ impl Form {
             "apply" => Some(Form::Apply),
             "serve" => Some(Form::Serve),
             "trace" => Some(Form::Trace),
+            "batch" => Some(Form::Batch),
+            "four" => Some(Form::Four),
+            "four_batches" => Some(Form::FourBatches),
             _ => None,
         }
     }

@@ -20,8 +20,8 @@ fn serve_call<N: Name>(
     shared.serve_into(rt, desk, 1, call, reply)
 }
 
-// Serves the calls this number of times, all with one `Reply`, and returns how many were done.
-fn serve_all<N: Name>(
+/// Serves the calls this number of times, all with one `Reply`, and returns how many were done.
+pub(crate) fn serve_often<N: Name>(
     rt: &impl Wait,
     shared: &Shared<N>,
     desk: &mut Desk<N>,
@@ -70,8 +70,8 @@ fn desk_rounds<N: Name>(
     let (Some(opening), Some(calls)) = (opening_calls(), calls_of(row)) else {
         return 0;
     };
-    let _ = serve_all(rt, shared, desk, &opening, 1);
-    serve_all(rt, shared, desk, calls.items(), times)
+    let _ = serve_often(rt, shared, desk, &opening, 1);
+    serve_often(rt, shared, desk, calls.items(), times)
 }
 
 /// Shares a pool with one desk, serves the calls of a row on it this number of times, and returns how many were done.

@@ -1,7 +1,7 @@
 -- The constants of the code are the numbers of the definitions.
 use Rattle.std.proofs.Common.{◌≡◌, refl}
-use Rattle.strm_shared.specs.declared.limits.TheConstants.{MOST_STAMP, MOST_TRACE, MOST_WORKERS}
-use Rattle.strm_shared.specs.Limits.{most_stamp, most_trace, most_workers}
+use Rattle.strm_shared.specs.declared.limits.TheConstants.{MOST_BATCH, MOST_STAMP, MOST_TRACE, MOST_WORKERS}
+use Rattle.strm_shared.specs.Limits.{most_batch, most_stamp, most_trace, most_workers}
 
 pub workers : MOST_WORKERS ≡ most_workers
 workers = refl
@@ -11,3 +11,6 @@ stamp = refl
 
 pub trace : MOST_TRACE ≡ most_trace
 trace = refl
+
+pub batch : MOST_BATCH ≡ most_batch
+batch = refl

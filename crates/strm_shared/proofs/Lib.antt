@@ -6,6 +6,7 @@ mod Weighing
 mod Turning
 mod Telling
 mod Tracing
+mod Batching
 mod Crews
 mod Gathering
 mod seats

@@ -59,6 +59,11 @@ end_seen n d line call e why after =
     (sym (ap stamp_seen after.4.2 ∙ ap (λ (p : Pair). p.0) (last_pair-push d.pairs (pair_in after.0))))
     (end_at n after.0 after.2.lawful why after.4.0)
 
+-- so of a desk that a refused batch shows the pair of such a book
+pub end_shown : {N : Type 0} (n : Ghosts N) (b : BookValue) (d e : DeskValue) (why : Refusal) → IsLawfulBook n b → end_of b ≡ Some why → e ≡ with_pair_seen (pair_in b) d → IsEnd n why (stamp_seen e)
+end_shown n b d e why lawful is seen =
+    subst (IsEnd n why) (sym (ap stamp_seen seen ∙ ap (λ (p : Pair). p.0) (last_pair-push d.pairs (pair_in b)))) (end_at n b lawful why is)
+
 -- where an end by the trace comes before the last stamp, whoever is refused has seen the stamp of a full trace
 pub full_shown : {N : Type 0} (n : Ghosts N) (most : ℕ) → n.kept ≡ Some most → n.first + most < most_stamp
     → (d : DeskValue) (line : ℕ) (call : Call) (e : DeskValue) (why : Refusal) → IsAfter n d line call e (Err why) → (p : Pair) × (e ≡ with_pair_seen p d) × (p.0 ≡ n.first + most)

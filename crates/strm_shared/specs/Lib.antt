@@ -10,6 +10,7 @@ pub mod DesksLayout
 pub mod Ledger
 pub mod LedgerLayout
 pub mod Books
+pub mod Batches
 pub mod SeatsLayout
 pub mod Starts
 pub mod StartsLayout

@@ -1,4 +1,4 @@
--- The limits of this crate: workers, stamps and trace entries. src/limits.rt has a constant of each name.
+-- The limits of this crate: workers, stamps, trace entries and batches. src/limits.rt has a constant of each name.
 use Rattle.std.specs.Prelude.{ℕ}
 
 -- the greatest number of workers, and so of desks
@@ -12,3 +12,7 @@ most_stamp = 68719476735
 -- the greatest number of entries of a trace
 abbrev pub most_trace : ℕ
 most_trace = 1048576
+
+-- the greatest number of lines that are served while the lock is taken once
+abbrev pub most_batch : ℕ
+most_batch = 256

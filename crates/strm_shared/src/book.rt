@@ -1,6 +1,7 @@
 //! The book: what the lock of a shared pool guards, and how a call is served by it.
-ghost use Rattle.std.specs.Prelude.{◌≡◌, ◌+◌, ◌<◌, ◌≤◌, IfErr, length};
+ghost use Rattle.std.specs.Prelude.{◌≡◌, ◌+◌, ◌<◌, ◌≤◌, IfErr, drop, length};
 ghost use Rattle.strm_mblk.specs.Given.{answer_map};
+ghost use Rattle.strm_shared.specs.Batches.{AnswersAll};
 ghost use Rattle.strm_shared.specs.Books.{Answers, IsLawfulBook, end_of, pair_in};
 ghost use Rattle.strm_shared.specs.Desks.{with_pair_seen};
 
@@ -10,6 +11,7 @@ use crate::entry::Told;
 use crate::held::Held;
 use crate::kept_trace::KeptTrace;
 use crate::limits::MOST_STAMP;
+use crate::line::Line;
 use crate::name::Name;
 use crate::shared::Shared;
 use crate::views::View;
@@ -111,6 +113,8 @@ impl<N: Name> Book<N> {
 
     /// Serves a call as [`Book::turn`] does, and writes the reply into `reply`, which stays unchanged if the call is refused.
     /// `Shared` serves calls this way.
+    // Inlined into its callers, so that a line of a batch costs no call more than it does alone.
+    #[inline(always)]
     pub fn turn_into(
         &mut self,
         shared: &Shared<N>,
@@ -151,6 +155,33 @@ impl<N: Name> Book<N> {
         desk.seat = Some(seat);
         desk.seen = self.stamp;
         desk.calls += 1;
+        Ok(())
+    }
+
+    /// Serves lines one after another, each as [`Book::turn_into`] does, and writes each reply at its line's place. There must be
+    /// as many replies as lines. `Shared` serves batches this way.
+    ///
+    /// If a line is refused, later lines would be too: returns why, and the number of lines that were served. Replies from this
+    /// place on stay unchanged.
+    pub fn turn_all(
+        &mut self,
+        shared: &Shared<N>,
+        desk: &mut Desk<N>,
+        lines: &[Line],
+        replies: &mut [Reply],
+    ) -> Result<(), (Refusal, usize)>
+        requires { length lines.now ≡ length replies.old }
+        ensures answer { AnswersAll self.old desk.old lines.now replies.new self.new desk.new result }
+        ensures kept { IfErr result (λ e. drop e.1 replies.new ≡ drop e.1 replies.old) }
+    {
+        for place in 0..lines.len() {
+            let line = &lines[place];
+            let reply = &mut replies[place];
+            match self.turn_into(shared, desk, line.number, &line.call, reply) {
+                Ok(()) => {}
+                Err(why) => return Err((why, place)),
+            }
+        }
         Ok(())
     }
 }

@@ -30,7 +30,7 @@ pub use desk::Desk;
 pub use desks::Desks;
 pub use entry::Entry;
 pub use gate::{Gate, OpenGate};
-pub use limits::{MOST_STAMP, MOST_TRACE, MOST_WORKERS};
+pub use limits::{MOST_BATCH, MOST_STAMP, MOST_TRACE, MOST_WORKERS};
 pub use line::Line;
 pub use listed::{AllReplies, Ends, Lines, Listed, Parts, Replies, TraceEntries};
 pub use name::{Brand, Name};

@@ -1,4 +1,4 @@
-//! The limits of this crate: workers, stamps and trace entries.
+//! The limits of this crate: workers, stamps, trace entries and batches.
 
 /// The greatest number of workers, and so of desks.
 pub const MOST_WORKERS: usize = 16;
@@ -8,3 +8,6 @@ pub const MOST_STAMP: u64 = 68_719_476_735;
 
 /// The greatest number of entries of a trace.
 pub const MOST_TRACE: u32 = 1_048_576;
+
+/// The greatest number of lines that `Shared::serve_all` serves before it lets the lock go.
+pub const MOST_BATCH: usize = 256;

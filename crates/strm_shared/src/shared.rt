@@ -1,10 +1,11 @@
 //! Shared pools: calls under a lock, looks at the census without it, and the end of sharing.
-ghost use Rattle.std.specs.Prelude.{◌≡◌, ◌≤◌, ◌<◌, ℕ, All, IsTrue, length, map, slice_index_or, IfErr, IfOk, OnOk};
+ghost use Rattle.std.specs.Prelude.{◌≡◌, ◌≤◌, ◌<◌, ℕ, All, IsTrue, drop, length, map, slice_index_or, IfErr, IfOk, OnOk};
 ghost use Rattle.std.specs.List.Sorted.{IsNonDecreasingBy};
 ghost use Rattle.strm_data.specs.declared.refusal.Refusal.TheVariants.{DeskMissing};
 ghost use Rattle.strm_mblk.specs.Given.{answer_map};
 ghost use Rattle.strm_pool.specs.PoolValue.{owns};
 ghost use Rattle.strm_pool.specs.Registers.{AreAccounted, entries_of};
+ghost use Rattle.strm_shared.specs.Batches.{AreAfter, IsAfterBatch};
 ghost use Rattle.strm_shared.specs.Books.{AreShown, IsAfter, IsEnd, IsWholeUnder, TellsNewest};
 ghost use Rattle.strm_shared.specs.Desks.{DeskValue, no_desk, with_pair_seen, stamp_seen};
 ghost use Rattle.strm_shared.specs.Ledger.{AreAll};
@@ -14,6 +15,8 @@ use crate::book::Book;
 use crate::desk::Desk;
 use crate::desk_count::DeskCount;
 use crate::desks::Desks;
+use crate::limits::MOST_BATCH;
+use crate::line::Line;
 use crate::listed::TraceEntries;
 use crate::name::Name;
 use std::hint::spin_loop;
@@ -85,6 +88,58 @@ impl<N: Name> Shared<N> {
         let book = &mut *lock;
         book.lawful();
         let answer = book.turn_into(self, desk, line, call, reply);
+        book.lawful();
+        answer
+    }
+
+    /// Serves lines one after another on the desk's registers, each as [`Shared::serve`] does, and writes each reply at its line's
+    /// place. There must be as many replies as lines. The lock is taken once for up to `MOST_BATCH` lines, among which no other
+    /// thread is served. For more lines it is let go after each `MOST_BATCH`, and others may come in between. Each line raises
+    /// the stamp by 1 and stores the word, and a trace that is kept gets its entry. It waits for the lock; allocates nothing.
+    ///
+    /// Stops at the first line that is refused, as `Worn` or `TraceFull`, since later lines would be refused too. Returns why, and
+    /// the number of lines that were served. Replies from this place on stay unchanged. The desk has seen the stamp that shows it,
+    /// as after [`Shared::serve`]. Like there, the replies `Refused`, `Empty` and `Taken` are those of served lines.
+    pub fn serve_all(
+        &self,
+        rt: &impl Wait,
+        desk: &mut Desk<N>,
+        lines: &[Line],
+        replies: &mut [Reply],
+    ) -> Result<(), (Refusal, usize)>
+        requires { length lines.now ≡ length replies.old }
+        ensures after { AreAfter N.Name desk.old lines.now replies.new desk.new result }
+        ensures refused { IfErr result (λ e. IsEnd N.Name e.0 (stamp_seen desk.new)) }
+        ensures kept { IfErr result (λ e. drop e.1 replies.new ≡ drop e.1 replies.old) }
+    {
+        for batch in 0..lines.len().div_ceil(MOST_BATCH) {
+            let from = batch * MOST_BATCH;
+            let until = lines.len().min(from + MOST_BATCH);
+            match self.serve_batch(rt, desk, &lines[from..until], &mut replies[from..until]) {
+                Ok(()) => {}
+                Err((why, served)) => return Err((why, from + served)),
+            }
+        }
+        Ok(())
+    }
+
+    // Serves a batch: these lines, while the lock is taken once.
+    fn serve_batch(
+        &self,
+        rt: &impl Wait,
+        desk: &mut Desk<N>,
+        lines: &[Line],
+        replies: &mut [Reply],
+    ) -> Result<(), (Refusal, usize)>
+        requires { length lines.now ≡ length replies.old }
+        ensures after { IsAfterBatch N.Name desk.old lines.now replies.new desk.new result }
+        ensures refused { IfErr result (λ e. IsEnd N.Name e.0 (stamp_seen desk.new)) }
+        ensures kept { IfErr result (λ e. drop e.1 replies.new ≡ drop e.1 replies.old) }
+    {
+        let mut guard = self.wait_for_book(rt);
+        let book = &mut *guard;
+        book.lawful();
+        let answer = book.turn_all(self, desk, lines, replies);
         book.lawful();
         answer
     }
