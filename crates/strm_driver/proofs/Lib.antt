@@ -1,8 +1,1 @@
-mod Faults
-mod Stopping
-mod Merges
-mod Texts
-mod Totals
-mod Holding
-mod Working
-mod Serving
+mod Statuses

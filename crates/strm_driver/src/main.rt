@@ -4,56 +4,29 @@
 ghost use Rattle.std.specs.Prelude.{◌≡◌, ◌≤◌};
 ghost use Rattle.std.specs.Process.{exit_status};
 ghost use Rattle.strm_script.specs.Limits.{most_script_bytes};
-ghost use Rattle.strm_driver.specs.Told.{status_of};
+ghost use Rattle.strm_run.specs.Told.{status_of};
 
-mod by_workers;
-mod fault;
-#[cfg(test)]
-mod faulty;
-mod input;
-mod output;
-#[cfg(test)]
-mod refused;
-mod run;
-mod serial;
-#[cfg(test)]
-mod tests;
-mod watched;
 mod words;
 
 use clap::error::ErrorKind;
-use fault::RunFault;
-use run::run;
 use std::process::ExitCode;
 use std::rt::Env;
 use std::sync::Wait;
 use std::thread::Threads;
 use std::{env, io};
+use strm_run::{RunFault, Watched, run};
 use strm_shared::OpenGate;
-use watched::Watched;
 use words::{Options, options_of};
 
 // The exit status after a bad command line.
 const USAGE: u8 = 64;
-
-// The exit status after a fault.
-fn status_of(fault: RunFault) -> u8
-    ensures { result ≡ status_of fault }
-{
-    match fault {
-        RunFault::Read | RunFault::Write | RunFault::TooLong => 1,
-        RunFault::Script(_) | RunFault::Config(_) => 2,
-        RunFault::Memory => 3,
-        RunFault::Refused(_) => 4,
-    }
-}
 
 // Writes the fault to standard error. If that fails, nothing more can be reported.
 fn failed(rt: &impl Eprint, fault: RunFault) -> ExitCode
     ensures { exit_status result ≡ status_of fault }
 {
     let _ = eprintln!(rt; "strm: {fault}");
-    ExitCode::from(status_of(fault))
+    ExitCode::from(fault.status())
 }
 
 // Shows the help, or what is wrong with the command line.

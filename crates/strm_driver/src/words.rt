@@ -2,9 +2,9 @@
 ghost use Rattle.std.specs.Prelude.{◌≤◌, IfOk};
 ghost use Rattle.strm_script.specs.Limits.{most_script_bytes};
 
-use crate::run::Mode;
 use clap::{Arg, ArgAction, Command, Error, value_parser};
 use std::alloc::Global;
+use strm_run::Mode;
 use strm_script::MOST_SCRIPT_BYTES;
 
 // The greatest number of bytes of the input, if no word says otherwise.
@@ -91,6 +91,3 @@ pub fn options_of(alloc: Global, words: &[String]) -> Result<Options, Error>
         max: max.clamp(1, MOST_SCRIPT_BYTES),
     })
 }
-
-#[cfg(test)]
-mod tests;

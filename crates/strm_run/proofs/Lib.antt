@@ -1,0 +1,8 @@
+mod Faults
+mod Stopping
+mod Merges
+mod Texts
+mod Totals
+mod Holding
+mod Working
+mod Serving
